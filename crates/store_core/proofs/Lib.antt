@@ -1,2 +1,4 @@
 pub mod Names
 pub mod Growing
+pub mod Adding
+pub mod Bodies

@@ -1,5 +1,5 @@
 -- Places of names in a list, and names that stand once.
-use Rattle.std.proofs.Common.{◌≡◌, ℕ, zero, suc, ◌+◌, ◌<◌, ◌≤◌, Bool, true, false, cond, not, List, [], ◌∷◌, ◌++◌, length, map, Option, Some, None, position, refl, sym, ap, ◌∙◌, subst, arith, slice_get, true≢false, nat_lt, nat_eq}
+use Rattle.std.proofs.Common.{◌≡◌, ℕ, zero, suc, ◌+◌, ◌<◌, ◌≤◌, Bool, true, false, cond, not, List, [], ◌∷◌, ◌++◌, length, map, Option, Some, None, position, refl, sym, ap, ◌∙◌, subst, arith, slice_get, true≢false, nat_lt, nat_eq, Result, Ok, Err, OnErr}
 use Rattle.std.specs.Option.{option_map}
 use Rattle.std.specs.Str.{bytes_eq}
 use Rattle.std.specs.Cmp.Lexicographic.{same_text}
@@ -95,3 +95,18 @@ place_of-at (first ∷ names) (suc i) name distinct at =
   where
     apart : bytes_eq name first ≡ false
     apart = nat_list_eq_equiv.symm name first ∙ position_none-at (bytes_eq first) names i name distinct.0 at
+
+-- a number that was not found was not found before it got its type
+pub none_found : {X Y : Type 0} (f : X → Y) (o : Option X) → option_map f o ≡ None → o ≡ None
+none_found f None e = refl
+none_found f (Some x) e = absurd (cc)
+
+-- a name that is not among the names that the keys show is no key
+pub no_key : {B : Type 0} (name : List ℕ) (es : List (Vec ℕ Global × B)) → place_of name (map (λ e. e.0.items) es) ≡ None → position (λ k. bytes_eq name k.items) (keys_of es) ≡ None
+no_key {B = B} name es none =
+    position-map (λ k. bytes_eq name k.items) (λ (e : Vec ℕ Global × B). e.0) es ∙ sym (position-map (bytes_eq name) (λ (e : Vec ℕ Global × B). e.0.items) es) ∙ none
+
+-- what holds anyway holds where there is an error
+pub always_OnErr : {X E P : Type 0} (r : Result X E) → P → OnErr r P
+always_OnErr (Ok x) p = tt
+always_OnErr (Err e) p = p

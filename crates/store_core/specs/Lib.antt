@@ -1,2 +1,3 @@
 pub mod Tables
 pub mod TypeBodies
+pub mod VarBodies

@@ -3,7 +3,7 @@
 ghost use Rattle.std.specs.Prelude.{◌≡◌, ◌+◌, ◌<◌, ◌≤◌, ◌↔◌, [], ◌∷◌, ◌++◌, length, Option, Some, None, IsTrue, IfOk, IfSome, IfNone, OnOk, OnErr, map, slice_get, option_map};
 ghost use Rattle.std.specs.Option.{option_map_or, option_copied, option_and_then};
 ghost use Rattle.store_core.specs.Tables as tables;
-ghost use Rattle.store_core.specs.Tables.{type_at, fields_of, variants_of, field_at, type_named, field_named, type_names, field_names, place_of, variant_count, unnamed_of, owner_of, owner_type, has_field, KnowsType, KnowsOwner, KnowsKind, IsTypeTable};
+ghost use Rattle.store_core.specs.Tables.{type_at, fields_of, variants_of, field_at, type_named, field_named, type_names, field_names, place_of, variant_count, unnamed_of, owner_of, owner_type, owner_only, has_field, KnowsType, KnowsOwner, KnowsKind, IsTypeTable};
 
 use crate::ids::{FieldId, TypeId, VariantId};
 use crate::kind::{FieldKind, Owner};
@@ -51,6 +51,26 @@ impl Model for TypeTable {
     ghost view = { λ t. entries_of t.types.entries };
 
     ghost invariant = { λ t. IsTypeTable (entries_of t.types.entries) };
+}
+
+/// The type that an owner is, or is a variant of.
+fn type_of(owner: Owner) -> TypeId
+    ensures { result ≡ owner_type owner }
+{
+    match owner {
+        Owner::Common(ty) => ty,
+        Owner::Variant(variant) => variant.ty,
+    }
+}
+
+/// The index of the one variant that an owner is.
+fn variant_of(owner: Owner) -> Option<u32>
+    ensures { result ≡ owner_only owner }
+{
+    match owner {
+        Owner::Common(_) => None,
+        Owner::Variant(variant) => Some(variant.index),
+    }
 }
 
 impl TypeTable {
@@ -150,10 +170,8 @@ impl TypeTable {
         ensures added { OnOk result (self.new ≡ tables.add_field self.old owner name.now kind) }
         ensures err { OnErr result (self.new ≡ self.old) }
     {
-        let (ty, only) = match owner {
-            Owner::Common(ty) => (ty, None),
-            Owner::Variant(variant) => (variant.ty, Some(variant.index)),
-        };
+        let ty = type_of(owner);
+        let only = variant_of(owner);
         let key = Vec::from_slice(*self.types.allocator(), name)?;
         let Some(body) = self.types.get_index_mut(ty.0 as usize) else {
             unreachable!()
