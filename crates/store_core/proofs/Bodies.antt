@@ -13,7 +13,7 @@ use Rattle.std.proofs.lemmas.Option.{slice_get-map}
 use Rattle.std.proofs.lemmas.List.{length-map, map_push}
 use Rattle.store_core.specs.declared.ids.TypeId.{TypeId}
 use Rattle.store_core.specs.declared.types.TypeBody.{TypeBody}
-use Rattle.store_core.specs.Tables.{TypeEntry, FieldEntry, type_at, fields_of, variants_of, type_names, place_of, with_type, add_type,  IsTypeTable, IsTypeEntry}
+use Rattle.store_core.specs.Tables.{TypeEntry, FieldEntry, type_at, fields_of, variants_of, type_names, place_of, with_type, add_type, IsTypeTable, IsTypeEntry}
 use Rattle.store_core.specs.TypeBodies.{body_entry, type_entry, field_entry, entries_of, IsBodyOf}
 
 -- what holds of each element holds of the one at a place
@@ -80,6 +80,7 @@ entries_of-set es ty body after change at same = by es ty.0 at
     under : (t : TypeEntry) (o : Option TypeEntry) (f : TypeEntry → List TypeEntry) (d : List TypeEntry) → t ∷ option_map_or f o d ≡ option_map_or (λ u. t ∷ f u) o (t ∷ d)
     under t None f d = refl
     under t (Some u) f d = refl
+
     by : (es : List (Vec ℕ Global × TypeBody)) (i : ℕ) → slice_get (values_of es) i ≡ Some body
         → entries_of (set_value_at es i after) ≡ option_map_or (λ t. set (entries_of es) i (change t)) (slice_get (entries_of es) i) (entries_of es)
     by [] i at = absurd (cc)
