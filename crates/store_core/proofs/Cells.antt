@@ -1,6 +1,6 @@
 -- The kept cells against the finite map that they stand for.
-use Rattle.std.proofs.Common.{◌≡◌, ◌≢◌, ℕ, zero, suc, ◌+◌, ◌<◌, ◌≤◌, Bool, true, false, cond, T, List, [], ◌∷◌, ◌++◌, length, map, set, Option, Some, None, Result, Ok, Err, IfSome, IfNone, refl, sym, ap, ◌∙◌, subst, arith, slice_get, get_or, ◌&&◌, inl, inr}
-use Rattle.std.specs.Option.{option_map, option_and_then}
+use Rattle.std.proofs.Common.{◌≡◌, ◌≢◌, ℕ, zero, suc, ◌+◌, ◌<◌, ◌≤◌, Bool, true, false, cond, T, List, [], ◌∷◌, ◌++◌, length, map, set, Option, Some, None, Result, Ok, Err, IfSome, IfNone, refl, sym, ap, ◌∙◌, subst, arith, slice_get, get_or, ◌&&◌, inl, inr, Bor}
+use Rattle.std.specs.Option.{option_map, option_and_then, option_copied}
 use Rattle.std.specs.Result.{result_ok}
 use Rattle.std.specs.List.{AllByRecursion, remove}
 use Rattle.std.specs.List.Sorted.{IsSearchInRange, IsBinarySearchResult, IsNonDecreasingBy}
@@ -15,11 +15,11 @@ use Rattle.std.proofs.lemmas.Option.{slice_get-map, slice_get_within, get_or_fro
 use Rattle.std.proofs.lemmas.List.{length-map}
 use Rattle.std.proofs.lemmas.Bool.{cases_lt}
 use Rattle.std.specs.FinMap.Entries.{below_all}
-use Rattle.std.specs.FinMap.{FinMap, get, entries, keys, insert, from_sorted, is_sorted, find, put, entries-from_sorted, get-from_sorted, entries-insert, same_entries_map}
+use Rattle.std.specs.FinMap.{FinMap, get, entries, keys, insert, from_sorted, is_sorted, find, put, entries-from_sorted, get-from_sorted, entries-insert, same_entries_map, empty, empty_of_len, len-entries}
 use Rattle.store_core.specs.declared.ids.CellId.{CellId}
 use Rattle.store_core.specs.declared.store.CellBody.{CellBody}
 use Rattle.store_core.specs.declared.value.Value.{Value}
-use Rattle.store_core.specs.Stores.{StoreMap, CellEntry, cell_of}
+use Rattle.store_core.specs.Stores.{StoreMap, CellEntry, cell_of, IsAbove}
 use Rattle.store_core.specs.StoreBodies.{cell_entry, cells_of, AreInOrder, store_of, IsKept}
 use Rattle.store_core.proofs.Bodies.{AllByRecursion-at}
 use Rattle.store_core.proofs.Adding.{at_known}
@@ -119,3 +119,44 @@ module _ (bodies : List CellBody) (order : AreInOrder bodies) (vars : List Value
         | inl before ↦ omega (arith, ranked _ c.0 _ (sym ((parted comparisons_rise).0 k d (omega arith) before)))
         | inr after ↦ omega (arith, ranked _ c.0 _ (sym ((parted comparisons_rise).1 k d after within)))
       ]
+
+-- what the kept cells show at a place
+pub slice_get-cells : (bodies : List CellBody) (order : AreInOrder bodies) (vars : List Value) (next : ℕ) (s : StoreMap) → store_of bodies vars next ≡ s → (place : ℕ)
+    → slice_get (entries s.cells) place ≡ option_map cell_entry (slice_get bodies place)
+slice_get-cells bodies order vars next s is place =
+    ap (λ (t : StoreMap). slice_get (entries t.cells) place) (sym is) ∙ ap (λ es. slice_get es place) (entries_of-cells bodies order) ∙ slice_get-map cell_entry bodies place
+
+-- the numbers of the live cells are below the next
+pub IsAbove-cells : (bodies : List CellBody) (vars : List Value) (next : ℕ) (s : StoreMap) → store_of bodies vars next ≡ s → IsKept bodies next → IsAbove s
+IsAbove-cells bodies vars next s is kept =
+    subst IsAbove is (subst (λ es. AllByRecursion (λ n. n < next) (map (λ e. e.0) es)) (sym (entries_of-cells bodies kept.rising)) (numbers bodies kept.below))
+  where
+    numbers : (bodies : List CellBody) → AllByRecursion (λ b. b.number < next) bodies → AllByRecursion (λ n. n < next) (map (λ e. e.0) (cells_of bodies))
+    numbers [] all = tt
+    numbers (b ∷ bodies) all = (all.0, numbers bodies all.1)
+
+abbrev cell_id : ℕ → CellId
+cell_id n = record { 0 = n }
+
+abbrev first : ℕ × CellEntry → ℕ
+first e = e.0
+
+numbered : (o : Option CellBody) → option_map (λ (b : CellBody). cell_id b.number) o ≡ option_map cell_id (option_map first (option_map cell_entry o))
+numbered None = refl
+numbered (Some b) = refl
+
+-- the live cell at a place by number
+pub number_at : (bodies : List CellBody) (order : AreInOrder bodies) (vars : List Value) (next : ℕ) (s : StoreMap) → store_of bodies vars next ≡ s → (place : ℕ) (o : Option CellBody)
+    → slice_get bodies place ≡ o → option_map (λ (b : CellBody). cell_id b.number) o ≡ option_map cell_id (slice_get (keys s.cells) place)
+number_at bodies order vars next s is place o at =
+    numbered o ∙ ap (λ p. option_map cell_id (option_map first p)) (sym (slice_get-cells bodies order vars next s is place ∙ ap (option_map cell_entry) at))
+    ∙ ap (option_map cell_id) (sym (slice_get-map first (entries s.cells) place))
+
+-- what is read through references is what they point to
+pub shown : (o : Option (Bor CellBody)) → option_map (λ b. cell_entry b.now) o ≡ option_map cell_entry (option_copied o)
+shown None = refl
+shown (Some b) = refl
+
+-- no cell
+pub no_cells : from_sorted {R = nat_cmp} (cells_of []) ≡ empty
+no_cells = empty_of_len _ (len-entries _ ∙ ap length (entries_of-cells [] tt))

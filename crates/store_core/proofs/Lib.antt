@@ -5,3 +5,4 @@ pub mod Bodies
 pub mod Rising
 pub mod Cells
 pub mod Changes
+pub mod Steps

@@ -12,7 +12,7 @@ use crate::kind::{FieldKind, VarKind};
 use crate::types::TypeTable;
 use crate::value::{CellList, Value};
 use crate::vars::VarTable;
-use sqlite_items::Items;
+use sqlite_items::{Items, at};
 use std::alloc::{AllocError, Global};
 use std::marker::Model;
 
@@ -110,9 +110,10 @@ impl Store {
     {
         let mut values = Items::new(alloc);
         for index in 0..vars.vars() {
-            if let Some(kind) = vars.kind(VarId(index)) {
-                values.push(blank_var(alloc, *kind))?;
-            }
+            let Some(kind) = vars.kind(VarId(index)) else {
+                unreachable!()
+            };
+            values.push(blank_var(alloc, *kind))?;
         }
         Ok(Store {
             cells: Vec::new(alloc),
@@ -137,7 +138,7 @@ impl Store {
         ensures { option_map (λ cell. cell_entry cell.now) result ≡ option_map (λ cell. (c.0, cell)) (cell_of self.now c) }
     {
         let place = self.place(c)?;
-        self.cells.get(place)
+        at(self.cells.as_slice(), place)
     }
 
     /// The type of a cell; `None` exactly for a cell that isn't live. Takes no memory.
@@ -184,7 +185,7 @@ impl Store {
     pub fn cell_at(&self, place: usize) -> Option<CellId>
         ensures { result ≡ option_map (λ number. record { 0 = number }) (slice_get (keys self.now.cells) place) }
     {
-        let cell = self.cells.get(place)?;
+        let cell = at(self.cells.as_slice(), place)?;
         Some(CellId(cell.number))
     }
 
