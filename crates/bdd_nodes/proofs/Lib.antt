@@ -1,0 +1,3 @@
+pub mod RefLemmas
+pub mod NodesLemmas
+pub mod CanonicalLemmas

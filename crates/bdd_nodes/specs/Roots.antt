@@ -1,0 +1,25 @@
+-- Tables of roots, each registered under a number of its own.
+use Rattle.std.specs.Prelude.{◌≡◌, ℕ, ◌<◌, List, [], ◌∷◌, length, Option, Some, None, nat_eq, slice_index_or, if◌then◌else◌}
+use Rattle.bdd_nodes.specs.declared.node_ref.NodeRef.{NodeRef}
+use Rattle.bdd_nodes.specs.declared.roots.RootTable.{RootTable}
+
+-- the registered tables, and how many were added so far
+pub record Registered : Type 0 where
+  pub tables : List RootTable
+  pub added : ℕ
+
+-- the roots of the table with this number
+abbrev pub roots_under : List RootTable → ℕ → Option (List NodeRef)
+roots_under [] number = None
+roots_under (table ∷ tables) number =
+    if nat_eq table.id.0 number then Some table.roots else roots_under tables number
+
+-- the table's number at a place, and 0 past the end
+abbrev pub number_at : List RootTable → ℕ → ℕ
+number_at tables place =
+    (slice_index_or tables place (record { id = record { 0 = 0 }; roots = [] })).id.0
+
+-- the numbers rise, and each was given before
+pub record AreNumbered (tables : List RootTable) (added : ℕ) : Type 0 where
+  pub rise : (i j : ℕ) → i < j → j < length tables → number_at tables i < number_at tables j
+  pub given : (i : ℕ) → i < length tables → number_at tables i < added
