@@ -3,23 +3,25 @@ use Rattle.std.proofs.Common.{◌≡◌, ◌≢◌, ℕ, suc, zero, ◌+◌, ◌
 use Rattle.std.proofs.lemmas.Bool.Decides.{nat_tests}
 use Rattle.std.proofs.lemmas.Bool.{cases_lt}
 use Rattle.bdd_nodes.specs.declared.node_ref.NodeRef.{NodeRef}
+use Rattle.bdd_nodes.specs.declared.node_ref.Named.{Named}
+use Rattle.bdd_nodes.specs.declared.node_ref.Named.TheVariants.{Leaf, Inner}
 use Rattle.bdd_nodes.specs.declared.node.Node.{Node}
-use Rattle.bdd_nodes.specs.Nodes.{Label, Function, Named, leaf, inner, node_of, rank, node_at, state_named, IsNamedIn, AsksNoneBelow, IsSide, AreCanonical}
+use Rattle.bdd_nodes.specs.Nodes.{Label, Function, node_of, rank, node_at, state_named, IsNamedIn, AsksNoneBelow, IsSide, AreCanonical}
 use Rattle.bdd_nodes.proofs.RefLemmas.{node_of-injective}
 use Rattle.bdd_nodes.proofs.NodesLemmas.{state_named-leaf, state_named-inner, if_same}
 
 -- what looks back over no more than the nodes is valid
 pub IsNamedIn-rank : (nodes : List Node) (named : Named) → rank named ≤ length nodes → IsNamedIn nodes named
-IsNamedIn-rank nodes (leaf state) within = tt
-IsNamedIn-rank nodes (inner place) within = within
+IsNamedIn-rank nodes (Leaf state) within = tt
+IsNamedIn-rank nodes (Inner place) within = within
 
 pub rank-IsNamedIn : (nodes : List Node) (named : Named) → IsNamedIn nodes named → rank named ≤ length nodes
-rank-IsNamedIn nodes (leaf state) valid = omega arith
-rank-IsNamedIn nodes (inner place) valid = valid
+rank-IsNamedIn nodes (Leaf state) valid = omega arith
+rank-IsNamedIn nodes (Inner place) valid = valid
 
 pub AsksNoneBelow-weaker : (nodes : List Node) (s t : ℕ) (named : Named) → s ≤ t → AsksNoneBelow nodes t named → AsksNoneBelow nodes s named
-AsksNoneBelow-weaker nodes s t (leaf state) below asks = tt
-AsksNoneBelow-weaker nodes s t (inner place) below asks = omega arith
+AsksNoneBelow-weaker nodes s t (Leaf state) below asks = tt
+AsksNoneBelow-weaker nodes s t (Inner place) below asks = omega arith
 
 -- the label with the track set or unset
 pub with_track : Label → ℕ → Bool → Label
@@ -72,14 +74,14 @@ module _ (nodes : List Node) (canonical : AreCanonical nodes) where
   unfolding high_at
   high_later i within = (canonical.high i within).later
 
-  inner_states : (i : ℕ) (label : Label) → i < length nodes → state_named nodes (inner i) label ≡ (if label (node_at nodes i).track then state_named nodes (high_at i) label else state_named nodes (low_at i) label)
+  inner_states : (i : ℕ) (label : Label) → i < length nodes → state_named nodes (Inner i) label ≡ (if label (node_at nodes i).track then state_named nodes (high_at i) label else state_named nodes (low_at i) label)
   unfolding low_at high_at
   inner_states i label within = state_named-inner nodes i label within (low_rank i within) (high_rank i within)
 
   unasked_up_to : (k : ℕ) (named : Named) (t : ℕ) (l m : Label) → rank named ≤ k → IsNamedIn nodes named → AsksNoneBelow nodes t named → ((u : ℕ) → t ≤ u → l u ≡ m u) → state_named nodes named l ≡ state_named nodes named m
-  unasked_up_to k (leaf state) t l m below valid asks agree = state_named-leaf nodes state l ∙ sym (state_named-leaf nodes state m)
-  unasked_up_to zero (inner i) t l m below valid asks agree = absurd (omega arith)
-  unasked_up_to (suc k) (inner i) t l m below valid asks agree =
+  unasked_up_to k (Leaf state) t l m below valid asks agree = state_named-leaf nodes state l ∙ sym (state_named-leaf nodes state m)
+  unasked_up_to zero (Inner i) t l m below valid asks agree = absurd (omega arith)
+  unasked_up_to (suc k) (Inner i) t l m below valid asks agree =
       let track = (node_at nodes i).track in
       inner_states i l valid
       ∙ ap (λ (b : Bool). if b then state_named nodes (high_at i) l else state_named nodes (low_at i) l) (agree track asks)
@@ -95,7 +97,7 @@ module _ (nodes : List Node) (canonical : AreCanonical nodes) where
   pick : ℕ → Bool → Named
   pick i bit = if bit then high_at i else low_at i
 
-  side_states : (i : ℕ) (bit : Bool) (label : Label) → i < length nodes → state_named nodes (pick i bit) label ≡ state_named nodes (inner i) (with_track label (node_at nodes i).track bit)
+  side_states : (i : ℕ) (bit : Bool) (label : Label) → i < length nodes → state_named nodes (pick i bit) label ≡ state_named nodes (Inner i) (with_track label (node_at nodes i).track bit)
   unfolding pick
   side_states i true label within =
       let t = (node_at nodes i).track in
@@ -108,11 +110,11 @@ module _ (nodes : List Node) (canonical : AreCanonical nodes) where
       ∙ ap (λ (b : Bool). if b then state_named nodes (high_at i) (with_track label t false) else state_named nodes (low_at i) (with_track label t false)) (sym (with_track-same label t false))
       ∙ sym (inner_states i (with_track label t false) within)
 
-  low_states : (i : ℕ) (label : Label) → i < length nodes → state_named nodes (low_at i) label ≡ state_named nodes (inner i) (with_track label (node_at nodes i).track false)
+  low_states : (i : ℕ) (label : Label) → i < length nodes → state_named nodes (low_at i) label ≡ state_named nodes (Inner i) (with_track label (node_at nodes i).track false)
   unfolding pick
   low_states i label within = side_states i false label within
 
-  high_states : (i : ℕ) (label : Label) → i < length nodes → state_named nodes (high_at i) label ≡ state_named nodes (inner i) (with_track label (node_at nodes i).track true)
+  high_states : (i : ℕ) (label : Label) → i < length nodes → state_named nodes (high_at i) label ≡ state_named nodes (Inner i) (with_track label (node_at nodes i).track true)
   unfolding pick
   high_states i label within = side_states i true label within
 
@@ -126,7 +128,7 @@ module _ (nodes : List Node) (canonical : AreCanonical nodes) where
       canonical.once i j i_in j_in (same_node _ _ tracks (node_of-injective _ _ lows) (node_of-injective _ _ highs))
 
   -- a function that doesn't ask the track of node i isn't node i's, as the sides would be equal
-  sides_same_where_unasked : (i : ℕ) (named : Named) → i < length nodes → IsNamedIn nodes named → AsksNoneBelow nodes (suc (node_at nodes i).track) named → ((label : Label) → state_named nodes (inner i) label ≡ state_named nodes named label) → (label : Label) → state_named nodes (low_at i) label ≡ state_named nodes (high_at i) label
+  sides_same_where_unasked : (i : ℕ) (named : Named) → i < length nodes → IsNamedIn nodes named → AsksNoneBelow nodes (suc (node_at nodes i).track) named → ((label : Label) → state_named nodes (Inner i) label ≡ state_named nodes named label) → (label : Label) → state_named nodes (low_at i) label ≡ state_named nodes (high_at i) label
   sides_same_where_unasked i named within valid asks same label =
       let t = (node_at nodes i).track in
       low_states i label within
@@ -136,37 +138,37 @@ module _ (nodes : List Node) (canonical : AreCanonical nodes) where
       ∙ sym (high_states i label within)
 
   equal_up_to : (k : ℕ) (a b : Named) → rank a ≤ k → rank b ≤ k → IsNamedIn nodes a → IsNamedIn nodes b → ((label : Label) → state_named nodes a label ≡ state_named nodes b label) → a ≡ b
-  equal_up_to k (leaf s) (leaf u) a_below b_below a_valid b_valid same =
-      ap leaf (sym (state_named-leaf nodes s (λ _. false)) ∙ same (λ _. false) ∙ state_named-leaf nodes u (λ _. false))
-  equal_up_to zero (leaf s) (inner j) a_below b_below a_valid b_valid same = absurd (omega arith)
-  equal_up_to zero (inner i) (leaf u) a_below b_below a_valid b_valid same = absurd (omega arith)
-  equal_up_to zero (inner i) (inner j) a_below b_below a_valid b_valid same = absurd (omega arith)
-  equal_up_to (suc k) (leaf s) (inner j) a_below b_below a_valid b_valid same =
+  equal_up_to k (Leaf s) (Leaf u) a_below b_below a_valid b_valid same =
+      ap Leaf (sym (state_named-leaf nodes s (λ _. false)) ∙ same (λ _. false) ∙ state_named-leaf nodes u (λ _. false))
+  equal_up_to zero (Leaf s) (Inner j) a_below b_below a_valid b_valid same = absurd (omega arith)
+  equal_up_to zero (Inner i) (Leaf u) a_below b_below a_valid b_valid same = absurd (omega arith)
+  equal_up_to zero (Inner i) (Inner j) a_below b_below a_valid b_valid same = absurd (omega arith)
+  equal_up_to (suc k) (Leaf s) (Inner j) a_below b_below a_valid b_valid same =
       absurd (sides_differ j b_valid (equal_up_to k (low_at j) (high_at j)
         (let r = low_rank j b_valid in omega arith) (let r = high_rank j b_valid in omega arith) (low_valid j b_valid) (high_valid j b_valid)
-        (sides_same_where_unasked j (leaf s) b_valid tt tt (λ l. sym (same l)))))
-  equal_up_to (suc k) (inner i) (leaf u) a_below b_below a_valid b_valid same =
+        (sides_same_where_unasked j (Leaf s) b_valid tt tt (λ l. sym (same l)))))
+  equal_up_to (suc k) (Inner i) (Leaf u) a_below b_below a_valid b_valid same =
       absurd (sides_differ i a_valid (equal_up_to k (low_at i) (high_at i)
         (let r = low_rank i a_valid in omega arith) (let r = high_rank i a_valid in omega arith) (low_valid i a_valid) (high_valid i a_valid)
-        (sides_same_where_unasked i (leaf u) a_valid tt tt same)))
-  equal_up_to (suc k) (inner i) (inner j) a_below b_below a_valid b_valid same =
+        (sides_same_where_unasked i (Leaf u) a_valid tt tt same)))
+  equal_up_to (suc k) (Inner i) (Inner j) a_below b_below a_valid b_valid same =
       let t = (node_at nodes i).track in
       let u = (node_at nodes j).track in
       elim (cases_lt t u) [
         inl below ↦ absurd (sides_differ i a_valid (equal_up_to k (low_at i) (high_at i)
           (let r = low_rank i a_valid in omega arith) (let r = high_rank i a_valid in omega arith) (low_valid i a_valid) (high_valid i a_valid)
-          (sides_same_where_unasked i (inner j) a_valid b_valid below same)))
+          (sides_same_where_unasked i (Inner j) a_valid b_valid below same)))
       | inr not_below ↦ elim (cases_lt u t) [
           inl above ↦ absurd (sides_differ j b_valid (equal_up_to k (low_at j) (high_at j)
             (let r = low_rank j b_valid in omega arith) (let r = high_rank j b_valid in omega arith) (low_valid j b_valid) (high_valid j b_valid)
-            (sides_same_where_unasked j (inner i) b_valid a_valid above (λ l. sym (same l)))))
+            (sides_same_where_unasked j (Inner i) b_valid a_valid above (λ l. sym (same l)))))
         | inr not_above ↦
             let tracks : t ≡ u = omega arith in
-            ap inner (same_place i j a_valid b_valid tracks
+            ap Inner (same_place i j a_valid b_valid tracks
               (equal_up_to k (low_at i) (low_at j) (let r = low_rank i a_valid in omega arith) (let r = low_rank j b_valid in omega arith) (low_valid i a_valid) (low_valid j b_valid)
-                (λ l. low_states i l a_valid ∙ same (with_track l t false) ∙ ap (λ (v : ℕ). state_named nodes (inner j) (with_track l v false)) tracks ∙ sym (low_states j l b_valid)))
+                (λ l. low_states i l a_valid ∙ same (with_track l t false) ∙ ap (λ (v : ℕ). state_named nodes (Inner j) (with_track l v false)) tracks ∙ sym (low_states j l b_valid)))
               (equal_up_to k (high_at i) (high_at j) (let r = high_rank i a_valid in omega arith) (let r = high_rank j b_valid in omega arith) (high_valid i a_valid) (high_valid j b_valid)
-                (λ l. high_states i l a_valid ∙ same (with_track l t true) ∙ ap (λ (v : ℕ). state_named nodes (inner j) (with_track l v true)) tracks ∙ sym (high_states j l b_valid))))
+                (λ l. high_states i l a_valid ∙ same (with_track l t true) ∙ ap (λ (v : ℕ). state_named nodes (Inner j) (with_track l v true)) tracks ∙ sym (high_states j l b_valid))))
         ]
       ]
 

@@ -1,3 +1,4 @@
 pub mod RefLemmas
 pub mod NodesLemmas
 pub mod CanonicalLemmas
+pub mod IndexLemmas

@@ -3,8 +3,10 @@ use Rattle.std.proofs.Common.{◌≡◌, ℕ, suc, zero, ◌+◌, ◌-◌, ◌^�
 use Rattle.std.proofs.Math.ListN.{get_or-append}
 use Rattle.std.proofs.Math.Seq.{get_or-append_seam}
 use Rattle.bdd_nodes.specs.declared.node_ref.NodeRef.{NodeRef}
+use Rattle.bdd_nodes.specs.declared.node_ref.Named.{Named}
+use Rattle.bdd_nodes.specs.declared.node_ref.Named.TheVariants.{Leaf, Inner}
 use Rattle.bdd_nodes.specs.declared.node.Node.{Node}
-use Rattle.bdd_nodes.specs.Nodes.{Label, Function, Named, leaf, inner, node_of, rank, node_at, function_named, node_function, with_next, functions_of, state_named, IsSide}
+use Rattle.bdd_nodes.specs.Nodes.{Label, Function, node_of, rank, node_at, function_named, node_function, with_next, functions_of, state_named, IsSide}
 
 constant : Function
 constant = λ _. 0
@@ -18,8 +20,8 @@ get_or-with_all before (n ∷ nodes) i f in_range =
 
 -- what is named among the functions before stays
 function_named-with_all : (before : List Function) (nodes : List Node) (named : Named) (label : Label) → rank named ≤ length before → function_named (fold with_next before nodes) named label ≡ function_named before named label
-function_named-with_all before nodes (leaf state) label in_range = refl
-function_named-with_all before nodes (inner place) label in_range =
+function_named-with_all before nodes (Leaf state) label in_range = refl
+function_named-with_all before nodes (Inner place) label in_range =
     ap (λ (f : Function). f label) (get_or-with_all before nodes place (λ _. 0) in_range)
 
 -- both sides of a choice are replaced
@@ -43,12 +45,12 @@ function-at_place before (n ∷ nodes) (suc i) label in_range low high =
     ∙ function-at_place (with_next before n) nodes i label (omega arith) (omega arith) (omega arith)
 
 -- a leaf gives its state
-pub state_named-leaf : (nodes : List Node) (state : ℕ) (label : Label) → state_named nodes (leaf state) label ≡ state
+pub state_named-leaf : (nodes : List Node) (state : ℕ) (label : Label) → state_named nodes (Leaf state) label ≡ state
 unfolding state_named
 state_named-leaf nodes state label = refl
 
 -- an inner node gives what the side gives that its track picks
-pub state_named-inner : (nodes : List Node) (i : ℕ) (label : Label) → i < length nodes → rank (node_of (node_at nodes i).low) ≤ i → rank (node_of (node_at nodes i).high) ≤ i → state_named nodes (inner i) label ≡ (if label (node_at nodes i).track then state_named nodes (node_of (node_at nodes i).high) label else state_named nodes (node_of (node_at nodes i).low) label)
+pub state_named-inner : (nodes : List Node) (i : ℕ) (label : Label) → i < length nodes → rank (node_of (node_at nodes i).low) ≤ i → rank (node_of (node_at nodes i).high) ≤ i → state_named nodes (Inner i) label ≡ (if label (node_at nodes i).track then state_named nodes (node_of (node_at nodes i).high) label else state_named nodes (node_of (node_at nodes i).low) label)
 unfolding state_named functions_of
 state_named-inner nodes i label in_range low high =
     ap (λ k. get_or (fold with_next [] nodes) k (λ _. 0) label) (omega arith)

@@ -1,8 +1,10 @@
 -- What a call leaves of a shelf.
 use Rattle.std.specs.Prelude.{◌≡◌, ℕ, Bool, true, List, length, Option, Some, option_map, slice_get, nat_lt, ◌⊎◌, ◌↔◌, Contains}
 use Rattle.bdd_nodes.specs.declared.node_ref.NodeRef.{NodeRef}
+use Rattle.bdd_nodes.specs.declared.node_ref.Named.{Named}
+use Rattle.bdd_nodes.specs.declared.node_ref.Named.TheVariants.{Leaf, Inner}
 use Rattle.bdd_nodes.specs.declared.node.Node.{Node}
-use Rattle.bdd_nodes.specs.Nodes.{Label, Named, leaf, inner, node_of}
+use Rattle.bdd_nodes.specs.Nodes.{Label, node_of}
 use Rattle.bdd_nodes.specs.Shelf.{Contents, count_of, limit_of, IsValid, state_of, top_of, low_of, high_of, AsksFrom, roots_of, root_of, tables_added}
 
 -- every valid reference stays valid, with its function and with what it is under its first track
@@ -24,8 +26,8 @@ SameTables old new = new.roots ≡ old.roots
 
 -- whether the shelf has what the reference names
 abbrev pub is_named_in : List Node → Named → Bool
-is_named_in nodes (leaf state) = true
-is_named_in nodes (inner place) = nat_lt place (length nodes)
+is_named_in nodes (Leaf state) = true
+is_named_in nodes (Inner place) = nat_lt place (length nodes)
 
 -- whether the reference is valid
 unfoldable pub is_valid : Contents → NodeRef → Bool

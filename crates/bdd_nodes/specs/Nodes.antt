@@ -2,6 +2,8 @@
 -- (Shared, reduced and ordered decision diagrams with many leaves: Bryant 1986; Klarlund and Schwartzbach 1993.)
 use Rattle.std.specs.Prelude.{◌≡◌, ◌≢◌, ℕ, suc, ◌-◌, ◌^◌, ◌<◌, ◌≤◌, Bool, List, [], ◌∷◌, ◌++◌, length, fold, Option, Some, None, MatchOption, slice_index_or, nat_lt, if◌then◌else◌}
 use Rattle.bdd_nodes.specs.declared.node_ref.NodeRef.{NodeRef}
+use Rattle.bdd_nodes.specs.declared.node_ref.Named.{Named}
+use Rattle.bdd_nodes.specs.declared.node_ref.Named.TheVariants.{Leaf, Inner}
 use Rattle.bdd_nodes.specs.declared.node.Node.{Node}
 
 -- which tracks are set
@@ -12,19 +14,14 @@ Label = ℕ → Bool
 abbrev pub Function : Type 0
 Function = Label → ℕ
 
--- what a reference names: a leaf by its state, or the inner node at a place
-pub data Named : Type 0 where
-  leaf : ℕ → Named
-  inner : ℕ → Named
-
 -- what the reference names: the words below 2 ^ 31 are the leaves
 unfoldable pub node_of : NodeRef → Named
-node_of r = if nat_lt r.word (2 ^ 31) then leaf r.word else inner (r.word - 2 ^ 31)
+node_of r = if nat_lt r.word (2 ^ 31) then Leaf r.word else Inner (r.word - 2 ^ 31)
 
 -- how many places the reference looks back over: a node's references have lower ranks than the node
 abbrev pub rank : Named → ℕ
-rank (leaf state) = 0
-rank (inner place) = suc place
+rank (Leaf state) = 0
+rank (Inner place) = suc place
 
 -- the node at a place, and a node of no use past the end
 abbrev pub node_at : List Node → ℕ → Node
@@ -33,8 +30,8 @@ node_at nodes place =
 
 -- the function that is named, over the functions of the nodes
 abbrev pub function_named : List Function → Named → Function
-function_named functions (leaf state) = λ _. state
-function_named functions (inner place) = slice_index_or functions place (λ _. 0)
+function_named functions (Leaf state) = λ _. state
+function_named functions (Inner place) = slice_index_or functions place (λ _. 0)
 
 -- a node's function picks the high side where its track is set, over the functions of the nodes before
 abbrev pub node_function : List Function → Node → Function
@@ -56,13 +53,13 @@ state_named nodes = function_named (functions_of nodes)
 
 -- the reference names a leaf or one of the nodes
 abbrev pub IsNamedIn : List Node → Named → Type 0
-IsNamedIn nodes (leaf state) = Unit {0}
-IsNamedIn nodes (inner place) = place < length nodes
+IsNamedIn nodes (Leaf state) = Unit {0}
+IsNamedIn nodes (Inner place) = place < length nodes
 
 -- the track that is asked first
 abbrev pub first_track : List Node → Named → Option ℕ
-first_track nodes (leaf state) = None
-first_track nodes (inner place) = Some (node_at nodes place).track
+first_track nodes (Leaf state) = None
+first_track nodes (Inner place) = Some (node_at nodes place).track
 
 -- no track below t is asked: nodes ask their tracks in order, so the first one tells
 abbrev pub AsksNoneBelow : List Node → ℕ → Named → Type 0

@@ -3,8 +3,10 @@
 use Rattle.std.specs.Prelude.{◌≡◌, ◌≢◌, ℕ, suc, ◌<◌, ◌≤◌, Bool, true, List, [], length, Option, Some, None, option_and_then, slice_get, nat_lt, if◌then◌else◌, nat_eq}
 use Rattle.std.specs.List.{list_any}
 use Rattle.bdd_nodes.specs.declared.node_ref.NodeRef.{NodeRef}
+use Rattle.bdd_nodes.specs.declared.node_ref.Named.{Named}
+use Rattle.bdd_nodes.specs.declared.node_ref.Named.TheVariants.{Leaf, Inner}
 use Rattle.bdd_nodes.specs.declared.node.Node.{Node}
-use Rattle.bdd_nodes.specs.Nodes.{Label, Function, Named, leaf, inner, node_of, rank, node_at, state_named, IsNamedIn, first_track, AsksNoneBelow, AreCanonical}
+use Rattle.bdd_nodes.specs.Nodes.{Label, Function, node_of, rank, node_at, state_named, IsNamedIn, first_track, AsksNoneBelow, AreCanonical}
 use Rattle.bdd_nodes.specs.Roots.{Registered, roots_under, AreNumbered}
 
 -- what a shelf has: its nodes, the most that it may have, and its tables of roots
@@ -39,13 +41,13 @@ top_of shelf r = first_track shelf.nodes (node_of r)
 
 -- the side of what is named that is taken where its first track is unset; a leaf is its own side
 abbrev pub low_named : List Node → NodeRef → Named → NodeRef
-low_named nodes r (leaf state) = r
-low_named nodes r (inner place) = (node_at nodes place).low
+low_named nodes r (Leaf state) = r
+low_named nodes r (Inner place) = (node_at nodes place).low
 
 -- the side that is taken where it is set
 abbrev pub high_named : List Node → NodeRef → Named → NodeRef
-high_named nodes r (leaf state) = r
-high_named nodes r (inner place) = (node_at nodes place).high
+high_named nodes r (Leaf state) = r
+high_named nodes r (Inner place) = (node_at nodes place).high
 
 -- the reference where the first track is unset
 abbrev pub low_of : Contents → NodeRef → NodeRef

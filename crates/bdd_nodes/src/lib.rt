@@ -4,11 +4,14 @@
 //! a plain number. No crate above looks at a node's place.
 #![tactic(auto)]
 
+mod index;
 mod laws;
 mod node;
 mod node_ref;
 mod roots;
+mod shelf;
 
 pub use laws::{equal_references, unasked_tracks};
 pub use node_ref::NodeRef;
 pub use roots::{RefList, TableId};
+pub use shelf::{Full, Shelf};

@@ -1,33 +1,63 @@
 //! References to functions.
 
-ghost use Rattle.std.specs.Prelude.{◌≡◌, ◌+◌, ◌<◌, ◌^◌, ◌↔◌, IsTrue};
+ghost use Rattle.std.specs.Prelude.{◌≡◌, ◌+◌, ◌<◌, ◌^◌};
 
 /// Where a function is kept: a leaf with its state, or the place of an inner node. One word.
 #[derive(Clone, Copy, Debug, PartialEq, Eq, PartialOrd, Ord, Hash)]
 pub struct NodeRef {
-    /// A state below `INNER`, or a place plus `INNER`.
+    /// A state below `INNER`, or `INNER` and a place.
     word: u32,
 }
 
-/// The first word that names an inner node.
+/// What a reference names: a leaf by its state, or an inner node by its place.
+#[derive(Clone, Copy, Debug)]
+pub(crate) enum Named {
+    Leaf(u32),
+    Inner(u32),
+}
+
+/// The least word of an inner node.
 const INNER: u32 = 0x8000_0000;
 
 impl NodeRef {
-    ghost use Rattle.bdd_nodes.specs.Nodes.{node_of, leaf, inner};
+    ghost use Rattle.bdd_nodes.specs.Nodes.{node_of};
 
+    #[inline(always)]
     #[tactic(auto, unfolding(crate::specs::Nodes::node_of), using(std::proofs::lemmas::Bool::Decides::nat_tests))]
     pub(crate) fn leaf(state: u32) -> NodeRef
         requires { state < 2 ^ 31 }
-        ensures { node_of result ≡ leaf state }
+        ensures { node_of result ≡ Named.Leaf state }
     {
         NodeRef { word: state }
     }
 
+    #[inline(always)]
     #[tactic(auto, unfolding(crate::specs::Nodes::node_of), using(std::proofs::lemmas::Bool::Decides::nat_tests))]
     pub(crate) fn inner(place: u32) -> NodeRef
         requires { place < 2 ^ 31 }
-        ensures { node_of result ≡ inner place }
+        ensures { node_of result ≡ Named.Inner place }
     {
-        NodeRef { word: place + INNER }
+        NodeRef {
+            word: place + INNER,
+        }
+    }
+
+    #[inline(always)]
+    #[tactic(auto, unfolding(crate::specs::Nodes::node_of), using(std::proofs::lemmas::Bool::Decides::nat_tests))]
+    pub(crate) fn named(self) -> Named
+        ensures { result ≡ node_of self }
+    {
+        if self.word < INNER {
+            Named::Leaf(self.word)
+        } else {
+            Named::Inner(self.word - INNER)
+        }
+    }
+
+    #[inline(always)]
+    pub(crate) fn word(self) -> u32
+        ensures { result ≡ self.word }
+    {
+        self.word
     }
 }
