@@ -2,3 +2,5 @@ pub mod RefLemmas
 pub mod NodesLemmas
 pub mod CanonicalLemmas
 pub mod IndexLemmas
+pub mod GrowLemmas
+pub mod MakeLemmas
