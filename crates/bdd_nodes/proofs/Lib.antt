@@ -4,3 +4,4 @@ pub mod CanonicalLemmas
 pub mod IndexLemmas
 pub mod GrowLemmas
 pub mod MakeLemmas
+pub mod ReadLemmas

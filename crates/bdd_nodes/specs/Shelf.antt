@@ -1,6 +1,6 @@
 -- The words on a shelf that contracts cite: functions, counts and tables. What stands in a shelf's records, and at
 -- which place, is for the proofs of this crate alone.
-use Rattle.std.specs.Prelude.{◌≡◌, ◌≢◌, ℕ, suc, ◌<◌, ◌≤◌, Bool, true, List, [], length, Option, Some, None, option_and_then, slice_get, nat_lt, if◌then◌else◌, nat_eq}
+use Rattle.std.specs.Prelude.{◌≡◌, ◌≢◌, ℕ, suc, ◌^◌, ◌<◌, ◌≤◌, Bool, true, List, [], length, Option, Some, None, option_and_then, slice_get, nat_lt, if◌then◌else◌, nat_eq}
 use Rattle.std.specs.List.{list_any}
 use Rattle.bdd_nodes.specs.declared.node_ref.NodeRef.{NodeRef}
 use Rattle.bdd_nodes.specs.declared.node_ref.Named.{Named}
@@ -123,3 +123,11 @@ pub record IsShelf (shelf : Contents) : Type 0 where
 -- a shelf with room for `limit` nodes, without nodes and tables
 abbrev pub empty_shelf : ℕ → Contents
 empty_shelf limit = record { nodes = []; limit = limit; roots = record { tables = []; added = 0 } }
+
+-- the reference is the leaf of a state: it gives that state for every label in every shelf, and asks nothing
+pub record IsLeaf (r : NodeRef) (state : ℕ) : Type 0 where
+  pub small : state < 2 ^ 31
+  pub valid : (shelf : Contents) → IsValid shelf r
+  pub states : (shelf : Contents) (label : Label) → state_of shelf r label ≡ state
+  pub asks : (shelf : Contents) (t : ℕ) → AsksFrom shelf t r
+  pub top : (shelf : Contents) → top_of shelf r ≡ None

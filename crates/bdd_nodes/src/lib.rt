@@ -14,4 +14,5 @@ mod shelf;
 pub use laws::{equal_references, unasked_tracks};
 pub use node_ref::NodeRef;
 pub use roots::{RefList, TableId};
+pub use shelf::read::Label;
 pub use shelf::{Full, Shelf};

@@ -1,6 +1,6 @@
 //! References to functions.
 
-ghost use Rattle.std.specs.Prelude.{◌≡◌, ◌+◌, ◌<◌, ◌^◌};
+ghost use Rattle.std.specs.Prelude.{◌≡◌, ◌+◌, ◌<◌, ◌^◌, IfSome, IfNone, IsSome};
 
 /// Where a function is kept: a leaf with its state, or the place of an inner node. One word.
 #[derive(Clone, Copy, Debug, PartialEq, Eq, PartialOrd, Ord, Hash)]
@@ -21,6 +21,7 @@ const INNER: u32 = 0x8000_0000;
 
 impl NodeRef {
     ghost use Rattle.bdd_nodes.specs.Nodes.{node_of};
+    ghost use Rattle.bdd_nodes.specs.Shelf.{Contents, IsLeaf, top_of};
 
     #[inline(always)]
     #[tactic(auto, unfolding(crate::specs::Nodes::node_of), using(std::proofs::lemmas::Bool::Decides::nat_tests))]
@@ -59,5 +60,17 @@ impl NodeRef {
         ensures { result ≡ self.word }
     {
         self.word
+    }
+
+    /// The state of a leaf; `None` exactly for an inner node.
+    #[inline(always)]
+    pub fn state(self) -> Option<u32>
+        ensures leaf { IfSome result (IsLeaf self) }
+        ensures inner { IfNone result ((shelf : Contents) → IsSome (top_of shelf self)) }
+    {
+        match self.named() {
+            Named::Leaf(state) => Some(state),
+            Named::Inner(_) => None,
+        }
     }
 }

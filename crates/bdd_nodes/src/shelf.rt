@@ -1,5 +1,7 @@
 //! A shelf of decision nodes.
 
+pub(crate) mod read;
+
 ghost use Rattle.std.specs.Prelude.{◌≡◌, ◌+◌, ◌<◌, ◌≤◌, ◌^◌, ◌↔◌, IfOk, OnErr, IsErr, IfSome, IfNone, if◌then◌else◌, vec_len, vec_capacity, ◌++◌, ◌∷◌, []};
 ghost use Rattle.bdd_nodes.specs.Nodes.{Label, node_of};
 ghost use Rattle.bdd_nodes.specs.Shelf.{IsShelf, IsValid, IsSideFor, IsFullFor, Splits, AsksFrom, empty_shelf, count_of, limit_of, state_of, choice_of, top_of, low_of, high_of, label_of};
@@ -10,7 +12,7 @@ use std::marker::Model;
 
 use crate::index::Index;
 use crate::node::Node;
-use crate::node_ref::{Named, NodeRef};
+use crate::node_ref::NodeRef;
 use crate::roots::RootSet;
 
 /// There is no room for a node that isn't there.
@@ -57,22 +59,6 @@ impl Shelf {
             },
             roots: RootSet::new(alloc),
         })
-    }
-
-    /// The leaf of a state: it gives that state for every label, in every shelf.
-    pub fn leaf(state: u32) -> NodeRef
-        requires { state < 2 ^ 31 }
-        ensures { node_of result ≡ Named.Leaf state }
-    {
-        NodeRef::leaf(state)
-    }
-
-    /// How many inner nodes there are.
-    pub fn count(&self) -> u32
-        ensures value { result ≡ count_of self.now }
-        ensures shelf { IsShelf self.now }
-    {
-        self.nodes.len() as u32
     }
 
     /// The function that is `low`'s where the track is unset, and `high`'s where it is set. Takes no memory.
