@@ -5,3 +5,4 @@ pub mod IndexLemmas
 pub mod GrowLemmas
 pub mod MakeLemmas
 pub mod ReadLemmas
+pub mod RootsLemmas
