@@ -6,3 +6,4 @@ pub mod GrowLemmas
 pub mod MakeLemmas
 pub mod ReadLemmas
 pub mod RootsLemmas
+pub mod TablesLemmas

@@ -1,5 +1,5 @@
 -- What a call leaves of a shelf.
-use Rattle.std.specs.Prelude.{◌≡◌, ℕ, Bool, true, List, length, Option, Some, option_map, slice_get, nat_lt, ◌⊎◌, ◌↔◌, Contains}
+use Rattle.std.specs.Prelude.{◌≡◌, ◌≢◌, ◌+◌, None, ℕ, Bool, true, List, length, Option, Some, option_map, slice_get, nat_lt, ◌⊎◌, ◌↔◌, Contains}
 use Rattle.bdd_nodes.specs.declared.node_ref.NodeRef.{NodeRef}
 use Rattle.bdd_nodes.specs.declared.node_ref.Named.{Named}
 use Rattle.bdd_nodes.specs.declared.node_ref.Named.TheVariants.{Leaf, Inner}
@@ -23,6 +23,21 @@ pub record SameNodes (old new : Contents) : Type 0 where
 -- the tables are the same, and as many were added
 abbrev pub SameTables : Contents → Contents → Type 0
 SameTables old new = new.roots ≡ old.roots
+
+-- a table is registered under a number of its own, and nothing else changes
+pub record AddsTable (old new : Contents) (table : ℕ) (list : List NodeRef) : Type 0 where
+  pub number : table ≡ tables_added old
+  pub added : tables_added new ≡ tables_added old + 1
+  pub roots : roots_of new table ≡ Some list
+  pub others : (other : ℕ) → other ≢ table → roots_of new other ≡ roots_of old other
+  pub nodes : SameNodes old new
+
+-- a table is no longer registered, and nothing else changes
+pub record DropsTable (old new : Contents) (number : ℕ) : Type 0 where
+  pub gone : roots_of new number ≡ None
+  pub others : (other : ℕ) → other ≢ number → roots_of new other ≡ roots_of old other
+  pub added : tables_added new ≡ tables_added old
+  pub nodes : SameNodes old new
 
 -- whether the shelf has what the reference names
 abbrev pub is_named_in : List Node → Named → Bool

@@ -1,7 +1,7 @@
 //! Tables of roots.
 
 ghost use Rattle.std.specs.Prelude.{◌≡◌, ◌≢◌, ◌+◌, ◌<◌, ℕ, [], ◌∷◌, ◌++◌, length, IfOk, OnErr, IfSome, IfNone, IsSome, None, option_and_then, slice_get};
-ghost use Rattle.bdd_nodes.specs.Roots.{number_at, number_of, roots_under};
+ghost use Rattle.bdd_nodes.specs.Roots.{number_at, number_of, roots_under, AreNumbered};
 
 use std::alloc::{AllocError, Global};
 use std::marker::Model;
@@ -57,6 +57,7 @@ impl RootSet {
         ensures id { IfOk result (λ id. number_of id ≡ self.old.added) }
         ensures added { IfOk result (λ id. self.new ≡
             record { tables = self.old.tables ++ record { id = id; roots = roots } ∷ []; added = self.old.added + 1 }) }
+        ensures numbered { AreNumbered self.new.tables self.new.added }
         ensures err { OnErr result (self.new ≡ self.old) }
     {
         let id = TableId(self.added);
@@ -71,6 +72,7 @@ impl RootSet {
         ensures others { (number : ℕ) → number ≢ number_of id
             → roots_under self.new.tables number ≡ roots_under self.old.tables number }
         ensures added { self.new.added ≡ self.old.added }
+        ensures numbered { AreNumbered self.new.tables self.new.added }
     {
         if let Some(place) = place_of(&self.tables, id) {
             self.tables.remove(place);
