@@ -7,3 +7,6 @@ pub mod MakeLemmas
 pub mod ReadLemmas
 pub mod RootsLemmas
 pub mod TablesLemmas
+pub mod MarksLemmas
+pub mod MovesLemmas
+pub mod PlacesLemmas

@@ -4,6 +4,7 @@
 //! a plain number. No crate above looks at a node's place.
 #![tactic(auto)]
 
+mod collecting;
 mod index;
 mod laws;
 mod node;

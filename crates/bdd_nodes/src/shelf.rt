@@ -1,6 +1,7 @@
 //! A shelf of decision nodes.
 
 pub(crate) mod read;
+mod collect;
 mod tables;
 
 ghost use Rattle.std.specs.Prelude.{◌≡◌, ◌+◌, ◌<◌, ◌≤◌, ◌^◌, ◌↔◌, IfOk, OnErr, IsErr, IfSome, IfNone, if◌then◌else◌, vec_len, vec_capacity, ◌++◌, ◌∷◌, []};
