@@ -114,3 +114,14 @@ IsIndexed-grown nodes n buckets chain bucket place at_end indexed its bucket_in 
       (IsIndexed-put (nodes ++ n ∷ []) buckets chain bucket place
         (subst (IsIndexed (nodes ++ n ∷ []) buckets chain) (sym at_end) (IsIndexed-same nodes (nodes ++ n ∷ []) buckets chain (length nodes) (λ i within. get_or-append nodes (n ∷ []) _ i within) indexed))
         (its ∙ ap (λ (m : Node). bucket_of m (length buckets)) (sym last)) bucket_in (omega arith))
+
+-- no node is in an empty index
+pub IsIndexed-none : (nodes : List Node) (buckets chain : List ℕ) → ((i : ℕ) → get_or buckets i 0 ≡ 0) → IsIndexed nodes buckets chain 0
+IsIndexed-none nodes buckets chain zero_all = record {
+    latest = λ bucket within. record {
+      within = (let z = zero_all bucket in omega arith);
+      belongs = λ place e. absurd (let z = zero_all bucket in omega arith);
+      none_since = λ i past early its. omega arith;
+    };
+    before = λ i early. absurd (omega arith);
+  }

@@ -10,3 +10,5 @@ pub mod TablesLemmas
 pub mod MarksLemmas
 pub mod MovesLemmas
 pub mod PlacesLemmas
+pub mod HeldLemmas
+pub mod CollectLemmas

@@ -1,5 +1,6 @@
 -- Elements of lists by their places.
-use Rattle.std.proofs.Common.{◌≡◌, ℕ, suc, zero, ◌<◌, List, [], ◌∷◌, ◌++◌, length, get_or, take, drop, refl, arith}
+use Rattle.std.proofs.Common.{◌≡◌, ℕ, suc, zero, ◌<◌, List, [], ◌∷◌, ◌++◌, length, get_or, take, drop, ◌∙◌, refl, arith}
+use Rattle.std.proofs.lemmas.List.{take-append-le, take_all}
 use Rattle.std.specs.Prelude.{map}
 
 -- an element that is there doesn't depend on the default
@@ -19,3 +20,8 @@ pub get_or-map_over : {A : Type 0} (f : A → A) (xs : List A) (i : ℕ) (d : A)
 get_or-map_over f [] i d within = absurd (omega arith)
 get_or-map_over f (x ∷ xs) zero d within = refl
 get_or-map_over f (x ∷ xs) (suc i) d within = get_or-map_over f xs i d (omega arith)
+
+-- what a slice of a whole list leaves of the list is what was written
+pub take-written : {A : Type 0} (new old : List A) (n : ℕ) → n ≡ length old → length new ≡ length old → take n (new ++ drop (length new) old) ≡ new
+take-written new old n whole same =
+    take-append-le n new (drop (length new) old) (omega arith) ∙ take_all n new (omega arith)
