@@ -152,17 +152,17 @@ module _ (marks : List ℕ) where
     ]
 
   -- a marked place's reference
-  record IsPlace (n : ℕ) (r : NodeRef) : Type 0 where
-    place : ℕ
-    within : place < n
-    marked : get_or marks place 0 ≡ 1
-    names : r ≡ reference_to place
+  pub record IsPlace (n : ℕ) (r : NodeRef) : Type 0 where
+    pub place : ℕ
+    pub within : place < n
+    pub marked : get_or marks place 0 ≡ 1
+    pub names : r ≡ reference_to place
 
   cons_cases : (x r : NodeRef) (xs : List NodeRef) (k : ℕ) → k < length (x ∷ xs) → get_or (x ∷ xs) k r ≡ r → (x ≡ r) ⊎ Contains xs r
   cons_cases x r xs zero within there = inl there
   cons_cases x r xs (suc k) within there = inr (k, omega arith, there)
 
-  IsPlace-held : (n : ℕ) (r : NodeRef) → Contains (held_below marks n) r → IsPlace n r
+  pub IsPlace-held : (n : ℕ) (r : NodeRef) → Contains (held_below marks n) r → IsPlace n r
   unfolding held_below
   IsPlace-held zero r there = let w = there.1 in absurd (omega arith)
   IsPlace-held (suc n) r there = elim (is_or_other (get_or marks n 0) 1) [

@@ -12,3 +12,4 @@ pub mod MovesLemmas
 pub mod PlacesLemmas
 pub mod HeldLemmas
 pub mod CollectLemmas
+pub mod CollectedLemmas
