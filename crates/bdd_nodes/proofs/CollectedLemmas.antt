@@ -1,6 +1,6 @@
 -- The shelf after a collection.
 use Rattle.std.proofs.Common.{◌≡◌, ◌≢◌, ◌⊎◌, ◌↔◌, ℕ, suc, zero, ◌+◌, ◌-◌, ◌^◌, ◌<◌, ◌≤◌, Bool, true, false, List, [], ◌∷◌, ◌++◌, length, eqb, get_or, take, if◌then◌else◌, Option, Some, None, sym, ◌∙◌, ap, refl, subst, inl, inr, arith}
-use Rattle.std.specs.Prelude.{All, Contains, map, slice_get, option_and_then, option_map}
+use Rattle.std.specs.Prelude.{All, Contains, map, slice_get, option_and_then, option_map, IsSome}
 use Rattle.std.proofs.lemmas.List.{length-map}
 use Rattle.std.proofs.lemmas.Option.{slice_get-map}
 use Rattle.bdd_nodes.specs.declared.node_ref.NodeRef.{NodeRef}
@@ -38,6 +38,11 @@ lengths-map : (links : List ℕ) (tables : List RootTable) (number : ℕ) → op
 lengths-map links [] number = refl
 lengths-map links (t ∷ tables) number =
     length-if (linked links) (eqb (number_of t.id) number) t.roots (roots_under tables number) (roots_under (map (linked_table links) tables) number) (lengths-map links tables number)
+
+IsSome-length : (o new : Option (List NodeRef)) → option_map length new ≡ option_map length o → IsSome o → IsSome new
+IsSome-length o (Some roots) same is_there = refl
+IsSome-length (Some roots) None same is_there = absurd (let e : ◌≡◌ {A = Option ℕ} None (Some (length roots)) = same in cc)
+IsSome-length None None same is_there = is_there
 
 -- a mapped option that has a value has it from one
 record CameFrom (f : NodeRef → NodeRef) (o : Option NodeRef) (now : NodeRef) : Type 0 where
@@ -175,6 +180,7 @@ module _ (shelf : Contents) (is_shelf : IsShelf shelf) (zeros first marks : List
     MovesRoots-collected = record {
         added = refl;
         lengths = lengths-map links shelf.roots.tables;
+        registered = λ number is_there. IsSome-length _ _ (lengths-map links shelf.roots.tables number) is_there;
         moved = λ number index was now_root had has.
           let from = IsFrom-root number index now_root has in
           let same : from.was ≡ was = same_some (root_of shelf number index) from.was was from.had had in

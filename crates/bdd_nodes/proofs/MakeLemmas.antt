@@ -84,6 +84,7 @@ module _ (shelf : Contents) (is_shelf : IsShelf shelf) (n : Node) (low : IsSideF
       top = λ r valid. first_track-grown shelf.nodes n (node_of r) valid;
       low = λ r valid. low_named-grown r (node_of r) valid;
       high = λ r valid. high_named-grown r (node_of r) valid;
+      asks = λ r t valid asks. AsksNoneBelow-grown shelf.nodes n t (node_of r) valid asks;
     }
 
   module _ (made : NodeRef) (named : node_of made ≡ Inner (length shelf.nodes)) where

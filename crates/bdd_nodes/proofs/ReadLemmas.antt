@@ -25,6 +25,10 @@ IsLeaf-named r state named = record {
     states = λ shelf label. ap (λ (m : Named). state_named shelf.nodes m label) named ∙ state_named-leaf shelf.nodes state label;
     asks = λ shelf t. subst (AsksNoneBelow shelf.nodes t) (sym named) tt;
     top = λ shelf. ap (first_track shelf.nodes) named;
+    side = λ shelf track. record {
+      valid = subst (IsNamedIn shelf.nodes) (sym named) tt;
+      later = subst (AsksNoneBelow shelf.nodes (suc track)) (sym named) tt;
+    };
   }
 
 -- an inner node under its track

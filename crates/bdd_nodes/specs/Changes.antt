@@ -1,5 +1,5 @@
 -- What a call leaves of a shelf.
-use Rattle.std.specs.Prelude.{◌≡◌, ◌≢◌, ◌+◌, None, ℕ, Bool, true, List, length, Option, Some, option_map, slice_get, nat_lt, ◌⊎◌, ◌↔◌, Contains}
+use Rattle.std.specs.Prelude.{◌≡◌, ◌≢◌, ◌+◌, None, ℕ, Bool, true, List, length, Option, Some, option_map, IsSome, slice_get, nat_lt, ◌⊎◌, ◌↔◌, Contains}
 use Rattle.bdd_nodes.specs.declared.node_ref.NodeRef.{NodeRef}
 use Rattle.bdd_nodes.specs.declared.node_ref.Named.{Named}
 use Rattle.bdd_nodes.specs.declared.node_ref.Named.TheVariants.{Leaf, Inner}
@@ -16,6 +16,7 @@ pub record Keeps (old new : Contents) : Type 0 where
   pub top : (r : NodeRef) → IsValid old r → top_of new r ≡ top_of old r
   pub low : (r : NodeRef) → IsValid old r → low_of new r ≡ low_of old r
   pub high : (r : NodeRef) → IsValid old r → high_of new r ≡ high_of old r
+  pub asks : (r : NodeRef) (t : ℕ) → IsValid old r → AsksFrom old t r → AsksFrom new t r
 
 -- the nodes and the limit are the same
 pub record SameNodes (old new : Contents) : Type 0 where
@@ -90,4 +91,5 @@ pub record IsMoved (old new : Contents) (was now : NodeRef) : Type 0 where
 pub record MovesRoots (old new : Contents) : Type 0 where
   pub added : tables_added new ≡ tables_added old
   pub lengths : (number : ℕ) → option_map length (roots_of new number) ≡ option_map length (roots_of old number)
+  pub registered : (number : ℕ) → IsSome (roots_of old number) → IsSome (roots_of new number)
   pub moved : (number index : ℕ) (was now : NodeRef) → root_of old number index ≡ Some was → root_of new number index ≡ Some now → IsMoved old new was now

@@ -131,3 +131,4 @@ pub record IsLeaf (r : NodeRef) (state : ℕ) : Type 0 where
   pub states : (shelf : Contents) (label : Label) → state_of shelf r label ≡ state
   pub asks : (shelf : Contents) (t : ℕ) → AsksFrom shelf t r
   pub top : (shelf : Contents) → top_of shelf r ≡ None
+  pub side : (shelf : Contents) (track : ℕ) → IsSideFor shelf track r

@@ -11,6 +11,8 @@ mod node;
 mod node_ref;
 mod roots;
 mod shelf;
+#[cfg(test)]
+mod tests;
 
 pub use laws::{equal_references, unasked_tracks};
 pub use node_ref::NodeRef;
