@@ -13,3 +13,4 @@ pub mod PlacesLemmas
 pub mod HeldLemmas
 pub mod CollectLemmas
 pub mod CollectedLemmas
+pub mod CallerLemmas

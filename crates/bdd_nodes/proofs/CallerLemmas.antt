@@ -1,0 +1,57 @@
+-- What callers of a shelf cite.
+use Rattle.std.proofs.Common.{◌≡◌, ◌⊎◌, ℕ, suc, ◌+◌, ◌≤◌, Bool, true, false, ltb, List, length, Option, Some, None, sym, ◌∙◌, ap, refl, subst, inl, inr, arith}
+use Rattle.std.proofs.lemmas.Bool.Decides.{nat_tests}
+use Rattle.std.proofs.lemmas.Bool.{cases_lt}
+use Rattle.bdd_nodes.specs.declared.node_ref.NodeRef.{NodeRef}
+use Rattle.bdd_nodes.specs.declared.node_ref.Named.{Named}
+use Rattle.bdd_nodes.specs.declared.node_ref.Named.TheVariants.{Leaf, Inner}
+use Rattle.bdd_nodes.specs.declared.node.Node.{Node}
+use Rattle.bdd_nodes.specs.Nodes.{Label, node_of, IsNamedIn}
+use Rattle.bdd_nodes.specs.Shelf.{Contents, IsShelf, IsValid, IsSideFor, AsksFrom, state_of, top_of, low_of, high_of}
+use Rattle.bdd_nodes.specs.Changes.{Keeps, AddsOnly, SameNodes, is_valid, is_named_in}
+
+-- nothing changes
+pub Keeps-refl : (shelf : Contents) → Keeps shelf shelf
+Keeps-refl shelf = record {
+    valid = λ r valid. valid;
+    states = λ r label valid. refl;
+    top = λ r valid. refl;
+    low = λ r valid. refl;
+    high = λ r valid. refl;
+    asks = λ r t valid asks. asks;
+  }
+
+-- one change after the other
+pub Keeps-trans : (old middle new : Contents) → Keeps old middle → Keeps middle new → Keeps old new
+Keeps-trans old middle new first second = record {
+    valid = λ r valid. second.valid r (first.valid r valid);
+    states = λ r label valid. second.states r label (first.valid r valid) ∙ first.states r label valid;
+    top = λ r valid. second.top r (first.valid r valid) ∙ first.top r valid;
+    low = λ r valid. second.low r (first.valid r valid) ∙ first.low r valid;
+    high = λ r valid. second.high r (first.valid r valid) ∙ first.high r valid;
+    asks = λ r t valid asks. second.asks r t (first.valid r valid) (first.asks r t valid asks);
+  }
+
+-- a side stays a side
+pub IsSideFor-kept : (old new : Contents) (track : ℕ) (r : NodeRef) → Keeps old new → IsSideFor old track r → IsSideFor new track r
+IsSideFor-kept old new track r kept side = record {
+    valid = kept.valid r side.valid;
+    later = kept.asks r (suc track) side.valid side.later;
+  }
+
+-- what is valid now was valid before, or is the reference that was made
+pub AddsOnly-cases : (old new : Contents) (made r : NodeRef) → AddsOnly old new made → IsValid new r → IsValid old r ⊎ (r ≡ made)
+unfolding AddsOnly
+AddsOnly-cases old new made r only valid = only r valid
+
+is_named_in-cases : (nodes : List Node) (named : Named) → ((is_named_in nodes named ≡ true) × IsNamedIn nodes named) ⊎ ((is_named_in nodes named ≡ false) × (IsNamedIn nodes named → ⊥))
+is_named_in-cases nodes (Leaf state) = inl (refl, tt)
+is_named_in-cases nodes (Inner place) = elim (cases_lt place (length nodes)) [
+    inl within ↦ inl ((let e : ltb place (length nodes) ≡ true = grind (arith, nat_tests) in e), within)
+  | inr past ↦ inr ((let e : ltb place (length nodes) ≡ false = grind (arith, nat_tests) in e), λ within. omega arith)
+  ]
+
+-- a reference is valid or isn't
+pub is_valid-cases : (shelf : Contents) (r : NodeRef) → ((is_valid shelf r ≡ true) × IsValid shelf r) ⊎ ((is_valid shelf r ≡ false) × (IsValid shelf r → ⊥))
+unfolding is_valid
+is_valid-cases shelf r = is_named_in-cases shelf.nodes (node_of r)
