@@ -14,3 +14,4 @@ pub mod HeldLemmas
 pub mod CollectLemmas
 pub mod CollectedLemmas
 pub mod CallerLemmas
+pub mod UnderLemmas

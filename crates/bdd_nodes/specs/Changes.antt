@@ -5,7 +5,7 @@ use Rattle.bdd_nodes.specs.declared.node_ref.Named.{Named}
 use Rattle.bdd_nodes.specs.declared.node_ref.Named.TheVariants.{Leaf, Inner}
 use Rattle.bdd_nodes.specs.declared.node.Node.{Node}
 use Rattle.bdd_nodes.specs.declared.roots.RootTable.{RootTable}
-use Rattle.bdd_nodes.specs.Nodes.{Label, node_of, first_track}
+use Rattle.bdd_nodes.specs.Nodes.{Label, Function, node_of, first_track}
 use Rattle.bdd_nodes.specs.Roots.{root_under}
 use Rattle.bdd_nodes.specs.Shelf.{Contents, count_of, limit_of, IsValid, state_of, top_of, low_of, high_of, low_named, high_named, AsksFrom, roots_of, root_of, tables_added}
 
@@ -60,6 +60,13 @@ pub data Reaches (nodes : List Node) (from : NodeRef) : NodeRef → Type 0 where
   itself : Reaches nodes from from
   by_low : (r : NodeRef) → Reaches nodes from r → Reaches nodes from (low_named nodes r (node_of r))
   by_high : (r : NodeRef) → Reaches nodes from r → Reaches nodes from (high_named nodes r (node_of r))
+
+-- a reached reference that stands for the function
+pub record ReachesFunction (shelf : Contents) (from : NodeRef) (function : Function) : Type 0 where
+  pub at : NodeRef
+  pub valid : IsValid shelf at
+  pub reached : Reaches shelf.nodes from at
+  pub states : (label : Label) → state_of shelf at label ≡ function label
 
 -- an inner node under a root of a table
 pub record IsUnder (nodes : List Node) (tables : List RootTable) (r : NodeRef) : Type 0 where

@@ -132,3 +132,13 @@ pub record IsLeaf (r : NodeRef) (state : ℕ) : Type 0 where
   pub asks : (shelf : Contents) (t : ℕ) → AsksFrom shelf t r
   pub top : (shelf : Contents) → top_of shelf r ≡ None
   pub side : (shelf : Contents) (track : ℕ) → IsSideFor shelf track r
+
+-- the label with the tracks below k set as in another one
+abbrev pub with_first : ℕ → Label → Label → Label
+with_first k other label = λ track. if nat_lt track k then other track else label track
+
+-- the second function is under the first: it is what the first becomes where the tracks below some number are fixed
+pub record IsUnderFunction (f g : Function) : Type 0 where
+  pub below : ℕ
+  pub fixed : Label
+  pub states : (label : Label) → g label ≡ f (with_first below fixed label)

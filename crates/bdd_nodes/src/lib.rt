@@ -14,7 +14,7 @@ mod shelf;
 #[cfg(test)]
 mod tests;
 
-pub use laws::{equal_references, unasked_tracks};
+pub use laws::{equal_references, reached_functions, small_states, unasked_tracks, unused_numbers};
 pub use node_ref::NodeRef;
 pub use roots::{RefList, TableId};
 pub use shelf::read::Label;

@@ -83,7 +83,8 @@ impl Shelf {
         ensures shelf { IsShelf self.new }
     {
         let limit = self.limit;
-        if low == high {
+        let is_same = low == high;
+        if is_same {
             return Ok(low);
         }
         let node = Node { track, low, high };
@@ -92,7 +93,8 @@ impl Shelf {
             return Ok(NodeRef::inner(place));
         }
         let place = self.nodes.len() as u32;
-        if place == limit {
+        let is_full = place == limit;
+        if is_full {
             return Err(Full);
         }
         push_within(&mut self.nodes, node);

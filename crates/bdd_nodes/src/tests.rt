@@ -79,7 +79,7 @@ fn tables_outlive_collections(rt: HostRuntime) -> Result<(), Fail> {
     let n2 = shelf.make(0, n1, zero)?;
     let n3 = shelf.make(0, two, n1)?;
     assert_eq!(rt; states(alloc, &shelf, unused)?, [2, 2, 0, 0]);
-    let first = shelf.add_table(Items::from_slice(alloc, &[n2, zero])?)?;
+    let first = shelf.add_table(Items::from_slice(alloc, &[n2, n1])?)?;
     let second = shelf.add_table(Items::from_slice(alloc, &[n3])?)?;
     let third = shelf.add_table(Items::from_slice(alloc, &[n1])?)?;
     shelf.collect();
@@ -90,7 +90,7 @@ fn tables_outlive_collections(rt: HostRuntime) -> Result<(), Fail> {
     assert_eq!(rt; shelf.root(second, 0), None);
     for (table, index, want) in [
         (first, 0, [0, 0, 2, 0]),
-        (first, 1, [0, 0, 0, 0]),
+        (first, 1, [0, 0, 2, 2]),
         (third, 0, [0, 0, 2, 2]),
     ] {
         let root = shelf.root(table, index).ok_or("no root")?;

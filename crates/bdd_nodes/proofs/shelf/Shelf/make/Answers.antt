@@ -15,11 +15,11 @@ use Rattle.bdd_nodes.proofs.MakeLemmas.{count-valid, AddsOnly-valid, valid-place
 use Rattle.bdd_nodes.proofs.shelf.Shelf.make.Goals as goal
 use Rattle.bdd_nodes.proofs.shelf.Shelf.make.Goals.{After-inner, After-inner-2}
 
-pub returns-then-eq-clause-only : goal.returns-then-eq-clause-only
-returns-then-eq-clause-only c = AddsOnly-valid _ _
+pub returns-then-is_same-clause-only : goal.returns-then-is_same-clause-only
+returns-then-is_same-clause-only c = AddsOnly-valid _ _
 
-pub returns-then-eq-clause-count : goal.returns-then-eq-clause-count
-returns-then-eq-clause-count c = count-valid _ _ c.requires.low.valid
+pub returns-then-is_same-clause-count : goal.returns-then-is_same-clause-count
+returns-then-is_same-clause-count c = count-valid _ _ c.requires.low.valid
 
 -- what was opened is the shelf
 is_shelf : (c : After-inner) → IsShelf c.args.self.now
@@ -54,8 +54,8 @@ returns-in-Some-clause-full c =
       Has-place c.args.self.now (is_shelf c) c.inner.result c.in-Some.place c.inner.ensures (within c) (wanted c) (found c) in
     (λ e. absurd (let no : ◌≡◌ {A = Bool} false true → ⊥ = λ f. cc in no e), λ full. absurd (full.absent has))
 
-pub returns-then-place-limit-clause-full : goal.returns-then-place-limit-clause-full
-returns-then-place-limit-clause-full c =
+pub returns-then-is_full-clause-full : goal.returns-then-is_full-clause-full
+returns-then-is_full-clause-full c =
     let opened : c.deref.result.now ≡ c.args.self.now.nodes = c.deref.ensures.value ∙ ap (λ (s : Contents). s.nodes) c.self.view_is in
     let limit : c.self.inside.limit ≡ c.args.self.now.limit = ap (λ (s : Contents). s.limit) c.self.view_is in
     let count : length c.self.inside.nodes.items ≡ length c.args.self.now.nodes = ap (λ (s : Contents). length s.nodes) c.self.view_is in
