@@ -7,8 +7,10 @@ use Rattle.bdd_nodes.specs.declared.node_ref.Named.{Named}
 use Rattle.bdd_nodes.specs.declared.node_ref.Named.TheVariants.{Leaf, Inner}
 use Rattle.bdd_nodes.specs.declared.node.Node.{Node}
 use Rattle.bdd_nodes.specs.Nodes.{Label, node_of, IsNamedIn}
-use Rattle.bdd_nodes.specs.Shelf.{Contents, IsShelf, IsValid, IsSideFor, AsksFrom, state_of, top_of, low_of, high_of}
-use Rattle.bdd_nodes.specs.Changes.{Keeps, AddsOnly, SameNodes, is_valid, is_named_in}
+use Rattle.bdd_nodes.specs.Shelf.{Contents, IsShelf, IsValid, IsSideFor, Has, state_of}
+use Rattle.bdd_nodes.specs.Changes.{Keeps, AddsOnly, is_valid, is_named_in}
+use Rattle.bdd_nodes.proofs.RefLemmas.{node_of-injective}
+use Rattle.bdd_nodes.proofs.CanonicalLemmas.{equal_named}
 
 -- nothing changes
 pub Keeps-refl : (shelf : Contents) → Keeps shelf shelf
@@ -55,3 +57,11 @@ is_named_in-cases nodes (Inner place) = elim (cases_lt place (length nodes)) [
 pub is_valid-cases : (shelf : Contents) (r : NodeRef) → ((is_valid shelf r ≡ true) × IsValid shelf r) ⊎ ((is_valid shelf r ≡ false) × (IsValid shelf r → ⊥))
 unfolding is_valid
 is_valid-cases shelf r = is_named_in-cases shelf.nodes (node_of r)
+
+-- what wasn't valid before stands for a function that nothing stood for
+pub Has-before : (old new : Contents) (made : NodeRef) → IsShelf new → Keeps old new → IsValid new made → (IsValid old made → ⊥) → Has old (state_of new made) → ⊥
+Has-before old new made is_shelf kept valid unknown has =
+    let same : has.at ≡ made = node_of-injective has.at made
+      (equal_named new.nodes is_shelf.canonical (node_of has.at) (node_of made) (kept.valid has.at has.valid) valid
+        (λ label. kept.states has.at label has.valid ∙ has.states label)) in
+    unknown (subst (IsValid old) same has.valid)
