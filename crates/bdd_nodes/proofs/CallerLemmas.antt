@@ -15,31 +15,31 @@ use Rattle.bdd_nodes.proofs.CanonicalLemmas.{equal_named}
 -- nothing changes
 pub Keeps-refl : (shelf : Contents) → Keeps shelf shelf
 Keeps-refl shelf = record {
-    valid = λ r valid. valid;
-    states = λ r label valid. refl;
-    top = λ r valid. refl;
-    low = λ r valid. refl;
-    high = λ r valid. refl;
-    asks = λ r t valid asks. asks;
-  }
+  valid = λ r valid. valid;
+  states = λ r label valid. refl;
+  top = λ r valid. refl;
+  low = λ r valid. refl;
+  high = λ r valid. refl;
+  asks = λ r t valid asks. asks;
+}
 
 -- one change after the other
 pub Keeps-trans : (old middle new : Contents) → Keeps old middle → Keeps middle new → Keeps old new
 Keeps-trans old middle new first second = record {
-    valid = λ r valid. second.valid r (first.valid r valid);
-    states = λ r label valid. second.states r label (first.valid r valid) ∙ first.states r label valid;
-    top = λ r valid. second.top r (first.valid r valid) ∙ first.top r valid;
-    low = λ r valid. second.low r (first.valid r valid) ∙ first.low r valid;
-    high = λ r valid. second.high r (first.valid r valid) ∙ first.high r valid;
-    asks = λ r t valid asks. second.asks r t (first.valid r valid) (first.asks r t valid asks);
-  }
+  valid = λ r valid. second.valid r (first.valid r valid);
+  states = λ r label valid. second.states r label (first.valid r valid) ∙ first.states r label valid;
+  top = λ r valid. second.top r (first.valid r valid) ∙ first.top r valid;
+  low = λ r valid. second.low r (first.valid r valid) ∙ first.low r valid;
+  high = λ r valid. second.high r (first.valid r valid) ∙ first.high r valid;
+  asks = λ r t valid asks. second.asks r t (first.valid r valid) (first.asks r t valid asks);
+}
 
 -- a side stays a side
 pub IsSideFor-kept : (old new : Contents) (track : ℕ) (r : NodeRef) → Keeps old new → IsSideFor old track r → IsSideFor new track r
 IsSideFor-kept old new track r kept side = record {
-    valid = kept.valid r side.valid;
-    later = kept.asks r (suc track) side.valid side.later;
-  }
+  valid = kept.valid r side.valid;
+  later = kept.asks r (suc track) side.valid side.later;
+}
 
 -- what is valid now was valid before, or is the reference that was made
 pub AddsOnly-cases : (old new : Contents) (made r : NodeRef) → AddsOnly old new made → IsValid new r → IsValid old r ⊎ (r ≡ made)
@@ -49,9 +49,9 @@ AddsOnly-cases old new made r only valid = only r valid
 is_named_in-cases : (nodes : List Node) (named : Named) → ((is_named_in nodes named ≡ true) × IsNamedIn nodes named) ⊎ ((is_named_in nodes named ≡ false) × (IsNamedIn nodes named → ⊥))
 is_named_in-cases nodes (Leaf state) = inl (refl, tt)
 is_named_in-cases nodes (Inner place) = elim (cases_lt place (length nodes)) [
-    inl within ↦ inl ((let e : ltb place (length nodes) ≡ true = grind (arith, nat_tests) in e), within)
+  | inl within ↦ inl ((let e : ltb place (length nodes) ≡ true = grind (arith, nat_tests) in e), within)
   | inr past ↦ inr ((let e : ltb place (length nodes) ≡ false = grind (arith, nat_tests) in e), λ within. omega arith)
-  ]
+]
 
 -- a reference is valid or isn't
 pub is_valid-cases : (shelf : Contents) (r : NodeRef) → ((is_valid shelf r ≡ true) × IsValid shelf r) ⊎ ((is_valid shelf r ≡ false) × (IsValid shelf r → ⊥))
@@ -62,6 +62,6 @@ is_valid-cases shelf r = is_named_in-cases shelf.nodes (node_of r)
 pub Has-before : (old new : Contents) (made : NodeRef) → IsShelf new → Keeps old new → IsValid new made → (IsValid old made → ⊥) → Has old (state_of new made) → ⊥
 Has-before old new made is_shelf kept valid unknown has =
     let same : has.at ≡ made = node_of-injective has.at made
-      (equal_named new.nodes is_shelf.canonical (node_of has.at) (node_of made) (kept.valid has.at has.valid) valid
-        (λ label. kept.states has.at label has.valid ∙ has.states label)) in
+    (equal_named new.nodes is_shelf.canonical (node_of has.at) (node_of made) (kept.valid has.at has.valid) valid
+    (λ label. kept.states has.at label has.valid ∙ has.states label)) in
     unknown (subst (IsValid old) same has.valid)

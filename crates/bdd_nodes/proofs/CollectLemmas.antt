@@ -43,7 +43,7 @@ moved_to-injective marks (Inner i) (Inner j) a_marked b_marked same =
 moved-injective : (marks : List ℕ) (a b : NodeRef) → IsMarked marks (node_of a) → IsMarked marks (node_of b) → moved marks a ≡ moved marks b → a ≡ b
 moved-injective marks a b a_marked b_marked same =
     node_of-injective a b (moved_to-injective marks (node_of a) (node_of b) a_marked b_marked
-      (sym (node_of-moved marks a) ∙ ap node_of same ∙ node_of-moved marks b))
+    (sym (node_of-moved marks a) ∙ ap node_of same ∙ node_of-moved marks b))
 
 -- a list of nodes that the marked ones have moved to
 pub record HasMoved (nodes : List Node) (marks : List ℕ) (left : List Node) : Type 0 where
@@ -52,9 +52,9 @@ pub record HasMoved (nodes : List Node) (marks : List ℕ) (left : List Node) : 
 
 pub HasMoved-take : (nodes : List Node) (marks : List ℕ) (now : List Node) (links : List ℕ) → ((i : ℕ) → get_or marks i 0 ≤ 1) → MovesBelow nodes marks now links (length nodes) → HasMoved nodes marks (take (marked_below marks (length nodes)) now)
 HasMoved-take nodes marks now links bits moves = record {
-    len = length-take-le (marked_below marks (length nodes)) now (let b = marked_below-le marks (length nodes) bits in let l = moves.len in omega arith);
-    at = λ i within marked. get_or-take (marked_below marks (length nodes)) now (marked_below marks i) _ (marked_below-lt marks i (length nodes) within marked) ∙ moves.moved i within marked;
-  }
+  len = length-take-le (marked_below marks (length nodes)) now (let b = marked_below-le marks (length nodes) bits in let l = moves.len in omega arith);
+  at = λ i within marked. get_or-take (marked_below marks (length nodes)) now (marked_below marks i) _ (marked_below-lt marks i (length nodes) within marked) ∙ moves.moved i within marked;
+}
 
 module _ (nodes : List Node) (canonical : AreCanonical nodes) (marks : List ℕ) (closed : AreClosed nodes marks) (left : List Node) (has_moved : HasMoved nodes marks left) where
   rank-moved_to : (named : Named) (n : ℕ) → IsMarked marks named → rank named ≤ n → rank (moved_to marks named) ≤ marked_below marks n
@@ -89,28 +89,28 @@ module _ (nodes : List Node) (canonical : AreCanonical nodes) (marks : List ℕ)
   each_left P each j within =
       let from = MovesTo-below marks (length nodes) j closed.bits (let l = has_moved.len in omega arith) in
       subst (λ (k : ℕ). P k (node_at left k)) from.there
-        (subst (P (marked_below marks from.at)) (sym (has_moved.at from.at from.within from.marked)) (each from.at from.within from.marked))
+      (subst (P (marked_below marks from.at)) (sym (has_moved.at from.at from.within from.marked)) (each from.at from.within from.marked))
 
   once_left : (j k : ℕ) → j < length left → k < length left → node_at left j ≡ node_at left k → j ≡ k
   once_left j k j_in k_in same =
       let from = MovesTo-below marks (length nodes) j closed.bits (let l = has_moved.len in omega arith) in
       let to = MovesTo-below marks (length nodes) k closed.bits (let l = has_moved.len in omega arith) in
       let nodes_same : moved_node marks (node_at nodes from.at) ≡ moved_node marks (node_at nodes to.at) =
-        sym (has_moved.at from.at from.within from.marked) ∙ ap (node_at left) from.there ∙ same ∙ ap (node_at left) (sym to.there) ∙ has_moved.at to.at to.within to.marked in
+      sym (has_moved.at from.at from.within from.marked) ∙ ap (node_at left) from.there ∙ same ∙ ap (node_at left) (sym to.there) ∙ has_moved.at to.at to.within to.marked in
       let places : from.at ≡ to.at = canonical.once from.at to.at from.within to.within
-        (same_node (node_at nodes from.at) (node_at nodes to.at) (ap (λ (n : Node). n.track) nodes_same)
-          (moved-injective marks _ _ (closed.low from.at from.within from.marked) (closed.low to.at to.within to.marked) (ap (λ (n : Node). n.low) nodes_same))
-          (moved-injective marks _ _ (closed.high from.at from.within from.marked) (closed.high to.at to.within to.marked) (ap (λ (n : Node). n.high) nodes_same))) in
+      (same_node (node_at nodes from.at) (node_at nodes to.at) (ap (λ (n : Node). n.track) nodes_same)
+      (moved-injective marks _ _ (closed.low from.at from.within from.marked) (closed.low to.at to.within to.marked) (ap (λ (n : Node). n.low) nodes_same))
+      (moved-injective marks _ _ (closed.high from.at from.within from.marked) (closed.high to.at to.within to.marked) (ap (λ (n : Node). n.high) nodes_same))) in
       sym from.there ∙ ap (marked_below marks) places ∙ to.there
 
   pub AreCanonical-left : AreCanonical left
   AreCanonical-left = record {
-      low = each_left (λ j n. IsSide left j n.track n.low) (λ i within marked. IsSide-moved i _ _ within (closed.low i within marked) (canonical.low i within));
-      high = each_left (λ j n. IsSide left j n.track n.high) (λ i within marked. IsSide-moved i _ _ within (closed.high i within marked) (canonical.high i within));
-      differ = each_left (λ j n. n.low ≢ n.high) (λ i within marked same.
+    low = each_left (λ j n. IsSide left j n.track n.low) (λ i within marked. IsSide-moved i _ _ within (closed.low i within marked) (canonical.low i within));
+    high = each_left (λ j n. IsSide left j n.track n.high) (λ i within marked. IsSide-moved i _ _ within (closed.high i within marked) (canonical.high i within));
+    differ = each_left (λ j n. n.low ≢ n.high) (λ i within marked same.
         canonical.differ i within (moved-injective marks _ _ (closed.low i within marked) (closed.high i within marked) same));
-      once = once_left;
-    }
+    once = once_left;
+  }
 
   states_up_to : (k : ℕ) (named : Named) (label : Label) → rank named ≤ k → IsNamedIn nodes named → IsMarked marks named → state_named left (moved_to marks named) label ≡ state_named nodes named label
   states_up_to k (Leaf state) label below valid marked = state_named-leaf left state label ∙ sym (state_named-leaf nodes state label)
@@ -123,10 +123,10 @@ module _ (nodes : List Node) (canonical : AreCanonical nodes) (marks : List ℕ)
       state_named-inner left (marked_below marks p) label in_left (AreCanonical-left.low (marked_below marks p) in_left).before (AreCanonical-left.high (marked_below marks p) in_left).before
       ∙ ap (λ (m : Node). if label m.track then state_named left (node_of m.high) label else state_named left (node_of m.low) label) (has_moved.at p valid marked)
       ∙ if_same (label n.track) _ _ _ _
-        (ap (λ (m : Named). state_named left m label) (node_of-moved marks n.high)
-          ∙ states_up_to k (node_of n.high) label (let b = high.before in omega arith) (IsNamedIn-rank nodes _ (let b = high.before in omega arith)) (closed.high p valid marked))
-        (ap (λ (m : Named). state_named left m label) (node_of-moved marks n.low)
-          ∙ states_up_to k (node_of n.low) label (let b = low.before in omega arith) (IsNamedIn-rank nodes _ (let b = low.before in omega arith)) (closed.low p valid marked))
+      (ap (λ (m : Named). state_named left m label) (node_of-moved marks n.high)
+      ∙ states_up_to k (node_of n.high) label (let b = high.before in omega arith) (IsNamedIn-rank nodes _ (let b = high.before in omega arith)) (closed.high p valid marked))
+      (ap (λ (m : Named). state_named left m label) (node_of-moved marks n.low)
+      ∙ states_up_to k (node_of n.low) label (let b = low.before in omega arith) (IsNamedIn-rank nodes _ (let b = low.before in omega arith)) (closed.low p valid marked))
       ∙ sym (state_named-inner nodes p label valid low.before high.before)
 
   -- what is marked stands for the function that it stood for

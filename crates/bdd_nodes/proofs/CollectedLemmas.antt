@@ -80,22 +80,23 @@ module _ (shelf : Contents) (is_shelf : IsShelf shelf) (zeros first marks : List
       subst (Contains (held_below marks (length shelf.nodes))) (sym (reference_to-named r p names)) (Contains-held marks (length shelf.nodes) p valid marked)
 
   held_each : (r : NodeRef) → Contains (held_below marks (length shelf.nodes)) r ↔ IsHeld shelf r
-  held_each r =
-      (λ there.
+  held_each r = (
+    λ there.
         let p = IsPlace-held marks (length shelf.nodes) r there in
         subst (IsHeld shelf) (sym p.names) (IsUnder-marked shelf.nodes is_shelf.canonical shelf.roots.tables is_shelf.numbered.rise is_shelf.roots zeros first marks zero_all roots sides p.place p.marked),
-       λ under.
+    λ under.
         let m = marked-IsUnder shelf.nodes is_shelf.canonical shelf.roots.tables is_shelf.numbered.rise is_shelf.roots zeros first marks zero_all roots sides r under in
-        Contains-inner r (node_of r) under.track refl under.inner m.0 m.1)
+        Contains-inner r (node_of r) under.track refl under.inner m.0 m.1,
+  )
 
   -- the marked places are as many as the nodes that are held
   pub CountsHeld-marks : CountsHeld shelf (marked_below marks (length shelf.nodes))
   CountsHeld-marks = record {
-      held = held_below marks (length shelf.nodes);
-      each = held_each;
-      once = once-held marks (length shelf.nodes);
-      length = length-held_below marks closed-marks.bits (length shelf.nodes);
-    }
+    held = held_below marks (length shelf.nodes);
+    each = held_each;
+    once = once-held marks (length shelf.nodes);
+    length = length-held_below marks closed-marks.bits (length shelf.nodes);
+  }
 
   module _ (now : List Node) (links : List ℕ) (moves : MovesBelow shelf.nodes marks now links (length shelf.nodes)) where
     linked_named-root : (r : NodeRef) (named : Named) → IsNamedIn shelf.nodes named → IsMarked marks named → linked_named links r named ≡ moved_named marks r named
@@ -120,10 +121,10 @@ module _ (shelf : Contents) (is_shelf : IsShelf shelf) (zeros first marks : List
 
     abbrev pub collected : Contents
     collected = record {
-        nodes = take (marked_below marks (length shelf.nodes)) now;
-        limit = shelf.limit;
-        roots = record { tables = map (linked_table links) shelf.roots.tables; added = shelf.roots.added };
-      }
+      nodes = take (marked_below marks (length shelf.nodes)) now;
+      limit = shelf.limit;
+      roots = record { tables = map (linked_table links) shelf.roots.tables; added = shelf.roots.added };
+    }
 
     has_moved : HasMoved shelf.nodes marks collected.nodes
     has_moved = HasMoved-take shelf.nodes marks now links closed-marks.bits moves
@@ -155,38 +156,38 @@ module _ (shelf : Contents) (is_shelf : IsShelf shelf) (zeros first marks : List
 
     pub IsShelf-collected : IsShelf collected
     IsShelf-collected = record {
-        canonical = AreCanonical-left shelf.nodes is_shelf.canonical marks closed-marks collected.nodes has_moved;
-        within = let l = has_moved.len in let m = marked_below-le marks (length shelf.nodes) closed-marks.bits in let w = is_shelf.within in omega arith;
-        some = is_shelf.some;
-        small = is_shelf.small;
-        numbered = AreNumbered-map (linked_table links) shelf.roots.tables shelf.roots.added (λ t. refl) is_shelf.numbered;
-        roots = λ number index root there.
+      canonical = AreCanonical-left shelf.nodes is_shelf.canonical marks closed-marks collected.nodes has_moved;
+      within = let l = has_moved.len in let m = marked_below-le marks (length shelf.nodes) closed-marks.bits in let w = is_shelf.within in omega arith;
+      some = is_shelf.some;
+      small = is_shelf.small;
+      numbered = AreNumbered-map (linked_table links) shelf.roots.tables shelf.roots.added (λ t. refl) is_shelf.numbered;
+      roots = λ number index root there.
           let from = IsFrom-root number index root there in
           subst (IsValid collected) from.became (moved_valid from.was from.valid from.marked);
-      }
+    }
 
     IsMoved-root : (was : NodeRef) → IsNamedIn shelf.nodes (node_of was) → IsMarked marks (node_of was) → IsMoved shelf collected was (moved marks was)
     IsMoved-root was valid marked = record {
-        states = λ label. ap (λ (m : Named). state_named collected.nodes m label) (node_of-moved marks was)
+      states = λ label. ap (λ (m : Named). state_named collected.nodes m label) (node_of-moved marks was)
           ∙ state_named-moved_to shelf.nodes is_shelf.canonical marks closed-marks collected.nodes has_moved (node_of was) label valid marked;
-        top = ap (first_track collected.nodes) (node_of-moved marks was)
+      top = ap (first_track collected.nodes) (node_of-moved marks was)
           ∙ first_track-moved_to shelf.nodes is_shelf.canonical marks closed-marks collected.nodes has_moved (node_of was) valid marked;
-      }
+    }
 
     same_some : (o : Option NodeRef) (a b : NodeRef) → o ≡ Some a → o ≡ Some b → a ≡ b
     same_some o a b is_a is_b = let e : ◌≡◌ {A = Option NodeRef} (Some a) (Some b) = sym is_a ∙ is_b in cc
 
     pub MovesRoots-collected : MovesRoots shelf collected
     MovesRoots-collected = record {
-        added = refl;
-        lengths = lengths-map links shelf.roots.tables;
-        registered = λ number is_there. IsSome-length _ _ (lengths-map links shelf.roots.tables number) is_there;
-        moved = λ number index was now_root had has.
+      added = refl;
+      lengths = lengths-map links shelf.roots.tables;
+      registered = λ number is_there. IsSome-length _ _ (lengths-map links shelf.roots.tables number) is_there;
+      moved = λ number index was now_root had has.
           let from = IsFrom-root number index now_root has in
           let same : from.was ≡ was = same_some (root_of shelf number index) from.was was from.had had in
           subst (λ (r : NodeRef). IsMoved shelf collected was r) (ap (moved marks) (sym same) ∙ from.became)
-            (IsMoved-root was (subst (λ (r : NodeRef). IsNamedIn shelf.nodes (node_of r)) same from.valid) (subst (λ (r : NodeRef). IsMarked marks (node_of r)) same from.marked));
-      }
+          (IsMoved-root was (subst (λ (r : NodeRef). IsNamedIn shelf.nodes (node_of r)) same from.valid) (subst (λ (r : NodeRef). IsMarked marks (node_of r)) same from.marked));
+    }
 
     pub CountsHeld-collected : CountsHeld shelf (count_of collected)
     CountsHeld-collected = subst (CountsHeld shelf) (sym has_moved.len) CountsHeld-marks

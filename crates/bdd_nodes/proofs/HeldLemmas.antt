@@ -32,9 +32,9 @@ slice_get-Contains roots r there = slice_get-get_or roots there.0 r there.1 ∙ 
 IsAt-Contains : (tables : List RootTable) (r : NodeRef) → Contains (all_roots tables) r → IsAt tables r
 IsAt-Contains [] r there = let w = there.1 in absurd (omega arith)
 IsAt-Contains (t ∷ tables) r there = elim (Contains-append_cases t.roots (all_roots tables) r there) [
-    inl first ↦ record { place = 0; within = omega arith; index = first.0; there = slice_get-Contains t.roots r first }
+  | inl first ↦ record { place = 0; within = omega arith; index = first.0; there = slice_get-Contains t.roots r first }
   | inr later ↦ (let at = IsAt-Contains tables r later in record { place = suc at.place; within = (let w = at.within in omega arith); index = at.index; there = at.there })
-  ]
+]
 
 -- a root among all is registered
 pub record IsRoot (tables : List RootTable) (r : NodeRef) : Type 0 where
@@ -56,19 +56,19 @@ Contains-slice_get roots index r there = (index, slice_get_within roots index r 
 
 is_or_other : (a b : ℕ) → (a ≡ b) ⊎ (a ≢ b)
 is_or_other a b = elim (cases_lt a b) [
-    inl below ↦ inr (λ e. omega arith)
+  | inl below ↦ inr (λ e. omega arith)
   | inr not_below ↦ elim (cases_lt b a) [ inl above ↦ inr (λ e. omega arith) | inr not_above ↦ inl (omega arith) ]
-  ]
+]
 
 -- a registered root is among all
 pub Contains-root_under : (tables : List RootTable) (number index : ℕ) (r : NodeRef) → root_under tables number index ≡ Some r → Contains (all_roots tables) r
 Contains-root_under [] number index r there = absurd (let e : ◌≡◌ {A = Option NodeRef} None (Some r) = there in cc)
 Contains-root_under (t ∷ tables) number index r there = elim (is_or_other (number_of t.id) number) [
-    inl same ↦ Contains-append_left t.roots (all_roots tables) r (Contains-slice_get t.roots index r
+  | inl same ↦ Contains-append_left t.roots (all_roots tables) r (Contains-slice_get t.roots index r
       (ap (λ (o : Option (List NodeRef)). option_and_then (λ roots. slice_get roots index) o) (sym (pick-same t (roots_under tables number) number same)) ∙ there))
   | inr other ↦ Contains-append_right t.roots (all_roots tables) r (Contains-root_under tables number index r
       (ap (λ (o : Option (List NodeRef)). option_and_then (λ roots. slice_get roots index) o) (sym (pick-other t (roots_under tables number) number other)) ∙ there))
-  ]
+]
 
 -- the first step marks the roots, and the second what is reached from them
 module _ (nodes : List Node) (canonical : AreCanonical nodes) (tables : List RootTable) (rise : (i j : ℕ) → i < j → j < length tables → number_at tables i < number_at tables j) (valid : (number index : ℕ) (root : NodeRef) → root_under tables number index ≡ Some root → IsNamedIn nodes (node_of root)) (zeros first marks : List ℕ) (zero_all : (i : ℕ) → get_or zeros i 0 ≡ 0) (roots : MarksList (all_roots tables) zeros first) (sides : MarksSides nodes first marks 0) where
@@ -78,10 +78,10 @@ module _ (nodes : List Node) (canonical : AreCanonical nodes) (tables : List Roo
   -- a move may go by them
   pub AreClosed-marks : AreClosed nodes marks
   AreClosed-marks = record {
-      bits = bits_all;
-      low = λ i within marked. sides.low i (omega arith) within marked;
-      high = λ i within marked. sides.high i (omega arith) within marked;
-    }
+    bits = bits_all;
+    low = λ i within marked. sides.low i (omega arith) within marked;
+    high = λ i within marked. sides.high i (omega arith) within marked;
+  }
 
   pub IsMarked-root : (r : NodeRef) → Contains (all_roots tables) r → IsMarked marks (node_of r)
   IsMarked-root r there = IsMarked-kept first marks (node_of r) sides.kept (roots.marked r there)
@@ -123,7 +123,7 @@ module _ (nodes : List Node) (canonical : AreCanonical nodes) (tables : List Roo
   pub marked-IsUnder : (r : NodeRef) → IsUnder nodes tables r → IsNamedIn nodes (node_of r) × IsMarked marks (node_of r)
   marked-IsUnder r under =
       reached_marked under.root r (valid under.number under.index under.root under.registered)
-        (IsMarked-root under.root (Contains-root_under tables under.number under.index under.root under.registered)) under.reached
+      (IsMarked-root under.root (Contains-root_under tables under.number under.index under.root under.registered)) under.reached
 
 -- the references to the marked places below a place, the last one first
 pub held_below : List ℕ → ℕ → List NodeRef
@@ -146,10 +146,10 @@ module _ (marks : List ℕ) where
   unfolding held_below
   length-held_below bits zero = refl
   length-held_below bits (suc n) = elim (is_or_other (get_or marks n 0) 1) [
-      inl marked ↦ ap length (marked-step n marked) ∙ (let r = length-held_below bits n in omega arith)
+    | inl marked ↦ ap length (marked-step n marked) ∙ (let r = length-held_below bits n in omega arith)
     | inr unmarked ↦ ap length (unmarked-step n unmarked) ∙ (let r = length-held_below bits n in let b = bits n in
         let z : get_or marks n 0 ≡ 0 = (elim (cases_lt (get_or marks n 0) 1) [ inl below ↦ omega arith | inr not_below ↦ absurd (unmarked (omega arith)) ]) in omega arith)
-    ]
+  ]
 
   -- a marked place's reference
   pub record IsPlace (n : ℕ) (r : NodeRef) : Type 0 where
@@ -166,31 +166,31 @@ module _ (marks : List ℕ) where
   unfolding held_below
   IsPlace-held zero r there = let w = there.1 in absurd (omega arith)
   IsPlace-held (suc n) r there = elim (is_or_other (get_or marks n 0) 1) [
-      inl marked ↦
+    | inl marked ↦
         let here = subst (λ (rs : List NodeRef). Contains rs r) (marked-step n marked) there in
         elim (cons_cases (reference_to n) r (held_below marks n) here.0 here.1 here.2) [
-          inl last ↦ record { place = n; within = omega arith; marked = marked; names = sym last }
-        | inr before ↦ (let p = IsPlace-held n r before in record { place = p.place; within = (let w = p.within in omega arith); marked = p.marked; names = p.names })
+          | inl last ↦ record { place = n; within = omega arith; marked = marked; names = sym last }
+          | inr before ↦ (let p = IsPlace-held n r before in record { place = p.place; within = (let w = p.within in omega arith); marked = p.marked; names = p.names })
         ]
     | inr unmarked ↦
         (let p = IsPlace-held n r (subst (λ (rs : List NodeRef). Contains rs r) (unmarked-step n unmarked) there) in
-          record { place = p.place; within = (let w = p.within in omega arith); marked = p.marked; names = p.names })
-    ]
+        record { place = p.place; within = (let w = p.within in omega arith); marked = p.marked; names = p.names })
+  ]
 
   pub Contains-held : (n i : ℕ) → i < n → get_or marks i 0 ≡ 1 → Contains (held_below marks n) (reference_to i)
   Contains-held zero i within marked = absurd (omega arith)
   Contains-held (suc n) i within marked = elim (cases_lt i n) [
-      inl earlier ↦ elim (is_or_other (get_or marks n 0) 1) [
-        inl last_marked ↦
+    | inl earlier ↦ elim (is_or_other (get_or marks n 0) 1) [
+      | inl last_marked ↦
           let there = Contains-held n i earlier marked in
           subst (λ (rs : List NodeRef). Contains rs (reference_to i)) (sym (marked-step n last_marked)) (suc there.0, (let w = there.1 in omega arith), there.2)
       | inr unmarked ↦ subst (λ (rs : List NodeRef). Contains rs (reference_to i)) (sym (unmarked-step n unmarked)) (Contains-held n i earlier marked)
-      ]
+    ]
     | inr here ↦
         let e : n ≡ i = omega arith in
         subst (λ (k : ℕ). Contains (held_below marks (suc n)) (reference_to k)) e
-          (subst (λ (rs : List NodeRef). Contains rs (reference_to n)) (sym (marked-step n (ap (λ (k : ℕ). get_or marks k 0) e ∙ marked))) (0, omega arith, refl))
-    ]
+        (subst (λ (rs : List NodeRef). Contains rs (reference_to n)) (sym (marked-step n (ap (λ (k : ℕ). get_or marks k 0) e ∙ marked))) (0, omega arith, refl))
+  ]
 
   not_later : (n k : ℕ) (r : NodeRef) → r ≡ reference_to n → slice_get (held_below marks n) k ≡ Some r → ⊥
   not_later n k r names there =
@@ -208,10 +208,10 @@ module _ (marks : List ℕ) where
   unfolding held_below
   once-held zero i j r at_i at_j = absurd (let e : ◌≡◌ {A = Option NodeRef} None (Some r) = at_i in cc)
   once-held (suc n) i j r at_i at_j = elim (is_or_other (get_or marks n 0) 1) [
-      inl marked ↦ cons_once n i j r (once-held n)
+    | inl marked ↦ cons_once n i j r (once-held n)
         (ap (λ (rs : List NodeRef). slice_get rs i) (sym (marked-step n marked)) ∙ at_i)
         (ap (λ (rs : List NodeRef). slice_get rs j) (sym (marked-step n marked)) ∙ at_j)
     | inr unmarked ↦ once-held n i j r
         (ap (λ (rs : List NodeRef). slice_get rs i) (sym (unmarked-step n unmarked)) ∙ at_i)
         (ap (λ (rs : List NodeRef). slice_get rs j) (sym (unmarked-step n unmarked)) ∙ at_j)
-    ]
+  ]

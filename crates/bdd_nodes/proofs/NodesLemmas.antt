@@ -34,11 +34,11 @@ function-at_place : (before : List Function) (nodes : List Node) (i : ℕ) (labe
 function-at_place before [] i label in_range low high = absurd (omega arith)
 function-at_place before (n ∷ nodes) zero label in_range low high =
     ap (λ (f : Function). f label) (ap (λ k. get_or (fold with_next (with_next before n) nodes) k (λ _. 0)) (omega arith)
-      ∙ get_or-with_all (with_next before n) nodes (length before) (λ _. 0) (let e = length-append before (node_function before n ∷ []) in omega arith)
-      ∙ get_or-append_seam before (node_function before n) [] (λ _. 0))
+    ∙ get_or-with_all (with_next before n) nodes (length before) (λ _. 0) (let e = length-append before (node_function before n ∷ []) in omega arith)
+    ∙ get_or-append_seam before (node_function before n) [] (λ _. 0))
     ∙ sym (if_same (label n.track) _ _ _ _
-      (function_named-with_all before (n ∷ nodes) (node_of n.high) label (omega arith))
-      (function_named-with_all before (n ∷ nodes) (node_of n.low) label (omega arith)))
+    (function_named-with_all before (n ∷ nodes) (node_of n.high) label (omega arith))
+    (function_named-with_all before (n ∷ nodes) (node_of n.low) label (omega arith)))
 function-at_place before (n ∷ nodes) (suc i) label in_range low high =
     let e : length (with_next before n) ≡ length before + 1 = length-append before (node_function before n ∷ []) in
     ap (λ k. get_or (fold with_next (with_next before n) nodes) k (λ _. 0) label) (omega arith)

@@ -60,45 +60,45 @@ module _ (shelf : Contents) (is_shelf : IsShelf shelf) where
 
   stays : (from r : NodeRef) (named : Named) (k : ℕ) (fixed : Label) → node_of r ≡ named → Reaches shelf.nodes from r → IsNamedIn shelf.nodes named → AsksNoneBelow shelf.nodes k named → IsReachedFrom from named k fixed
   stays from r named k fixed names reached valid asks = record {
-      at = r;
-      valid = subst (IsNamedIn shelf.nodes) (sym names) valid;
-      reached = reached;
-      states = λ label. ap (λ (m : Named). state_named shelf.nodes m label) names
+    at = r;
+    valid = subst (IsNamedIn shelf.nodes) (sym names) valid;
+    reached = reached;
+    states = λ label. ap (λ (m : Named). state_named shelf.nodes m label) names
         ∙ state_named-unasked shelf.nodes is_shelf.canonical named k label (with_first k fixed label) valid asks (λ u above. sym (with_first-above k u fixed label above));
-    }
+  }
 
   reach : (n : ℕ) (from r : NodeRef) (named : Named) (k : ℕ) (fixed : Label) → node_of r ≡ named → rank named ≤ n → Reaches shelf.nodes from r → IsNamedIn shelf.nodes named → IsReachedFrom from named k fixed
   reach n from r (Leaf state) k fixed names below reached valid = stays from r (Leaf state) k fixed names reached valid tt
   reach zero from r (Inner p) k fixed names below reached valid = absurd (omega arith)
   reach (suc n) from r (Inner p) k fixed names below reached valid = elim (cases_lt (node_at shelf.nodes p).track k) [
-      inr not_below ↦ stays from r (Inner p) k fixed names reached valid not_below
+    | inr not_below ↦ stays from r (Inner p) k fixed names reached valid not_below
     | inl asked ↦
         let t = (node_at shelf.nodes p).track in
         let low = is_shelf.canonical.low p valid in
         let high = is_shelf.canonical.high p valid in
         elim (true_or_false (fixed t)) [
-          inl set ↦
-            let further = reach n from (node_at shelf.nodes p).high (node_of (node_at shelf.nodes p).high) k fixed refl (let b = high.before in omega arith)
+          | inl set ↦
+              let further = reach n from (node_at shelf.nodes p).high (node_of (node_at shelf.nodes p).high) k fixed refl (let b = high.before in omega arith)
               (subst (Reaches shelf.nodes from) (ap (high_named shelf.nodes r) names) (by_high r reached)) (IsNamedIn-rank shelf.nodes _ (let b = high.before in omega arith)) in
-            record {
-              at = further.at;
-              valid = further.valid;
-              reached = further.reached;
-              states = λ label. further.states label ∙ sym (state_named-inner shelf.nodes p (with_first k fixed label) valid low.before high.before
-                ∙ pick-if (with_first k fixed label t) true _ _ (with_first-below k t fixed label asked ∙ set));
-            }
-        | inr unset ↦
-            let further = reach n from (node_at shelf.nodes p).low (node_of (node_at shelf.nodes p).low) k fixed refl (let b = low.before in omega arith)
+              record {
+                at = further.at;
+                valid = further.valid;
+                reached = further.reached;
+                states = λ label. further.states label ∙ sym (state_named-inner shelf.nodes p (with_first k fixed label) valid low.before high.before
+                    ∙ pick-if (with_first k fixed label t) true _ _ (with_first-below k t fixed label asked ∙ set));
+              }
+          | inr unset ↦
+              let further = reach n from (node_at shelf.nodes p).low (node_of (node_at shelf.nodes p).low) k fixed refl (let b = low.before in omega arith)
               (subst (Reaches shelf.nodes from) (ap (low_named shelf.nodes r) names) (by_low r reached)) (IsNamedIn-rank shelf.nodes _ (let b = low.before in omega arith)) in
-            record {
-              at = further.at;
-              valid = further.valid;
-              reached = further.reached;
-              states = λ label. further.states label ∙ sym (state_named-inner shelf.nodes p (with_first k fixed label) valid low.before high.before
-                ∙ pick-if (with_first k fixed label t) false _ _ (with_first-below k t fixed label asked ∙ unset));
-            }
+              record {
+                at = further.at;
+                valid = further.valid;
+                reached = further.reached;
+                states = λ label. further.states label ∙ sym (state_named-inner shelf.nodes p (with_first k fixed label) valid low.before high.before
+                    ∙ pick-if (with_first k fixed label t) false _ _ (with_first-below k t fixed label asked ∙ unset));
+              }
         ]
-    ]
+  ]
 
   -- what a function becomes where its first tracks are fixed is reached
   pub ReachesFunction-fixed : (from : NodeRef) (k : ℕ) (fixed : Label) → IsValid shelf from → ReachesFunction shelf from (λ label. state_of shelf from (with_first k fixed label))
@@ -120,19 +120,19 @@ module _ (shelf : Contents) (is_shelf : IsShelf shelf) where
   agree : (k : ℕ) (fixed : Label) (t : ℕ) (bit : Bool) (label : Label) (u : ℕ) → with_first k fixed (with_first (suc t) (λ v. if eqb v t then bit else false) label) u ≡ with_first (max k (suc t)) (both k fixed t bit) label u
   unfolding both
   agree k fixed t bit label u =
-    let only : Label = λ v. if eqb v t then bit else false in
-    let second_label : Label = with_first (suc t) only label in
-    elim (cases_lt u k) [
-      inl first ↦ with_first-below k u fixed second_label first ∙ sym (with_first-below (max k (suc t)) u (both k fixed t bit) label (omega arith) ∙ pick-first k fixed t bit u first)
-    | inr not_first ↦ with_first-above k u fixed second_label not_first ∙ elim (cases_lt u (suc t)) [
-        inl second ↦ with_first-below (suc t) u only label second ∙ sym (with_first-below (max k (suc t)) u (both k fixed t bit) label (omega arith) ∙ pick-second k fixed t bit u not_first)
-      | inr later ↦ with_first-above (suc t) u only label later ∙ sym (with_first-above (max k (suc t)) u (both k fixed t bit) label (omega arith))
+      let only : Label = λ v. if eqb v t then bit else false in
+      let second_label : Label = with_first (suc t) only label in
+      elim (cases_lt u k) [
+        | inl first ↦ with_first-below k u fixed second_label first ∙ sym (with_first-below (max k (suc t)) u (both k fixed t bit) label (omega arith) ∙ pick-first k fixed t bit u first)
+        | inr not_first ↦ with_first-above k u fixed second_label not_first ∙ elim (cases_lt u (suc t)) [
+          | inl second ↦ with_first-below (suc t) u only label second ∙ sym (with_first-below (max k (suc t)) u (both k fixed t bit) label (omega arith) ∙ pick-second k fixed t bit u not_first)
+          | inr later ↦ with_first-above (suc t) u only label later ∙ sym (with_first-above (max k (suc t)) u (both k fixed t bit) label (omega arith))
+        ]
       ]
-    ]
 
   bit_at : (t : ℕ) (bit : Bool) (label : Label) → with_first (suc t) (λ v. if eqb v t then bit else false) label t ≡ bit
   bit_at t bit label = with_first-below (suc t) t (λ v. if eqb v t then bit else false) label (omega arith)
-    ∙ ap (λ (b : Bool). if b then bit else false) (let e : eqb t t ≡ true = grind (arith, nat_tests) in e) ∙ if_true bit
+      ∙ ap (λ (b : Bool). if b then bit else false) (let e : eqb t t ≡ true = grind (arith, nat_tests) in e) ∙ if_true bit
 
   -- one side further
   module _ (from : NodeRef) (p : ℕ) (so_far : IsUnderAt from (Inner p)) (from_valid : IsNamedIn shelf.nodes (node_of from)) where
@@ -160,7 +160,7 @@ module _ (shelf : Contents) (is_shelf : IsShelf shelf) where
           below = max so_far.below (suc (node_at shelf.nodes p).track);
           fixed = both so_far.below so_far.fixed (node_at shelf.nodes p).track false;
           states = side_states false (node_of (node_at shelf.nodes p).low) valid low.later (λ label unset.
-            state_named-inner shelf.nodes p label so_far.valid low.before high.before ∙ pick-if (label (node_at shelf.nodes p).track) false _ _ unset);
+              state_named-inner shelf.nodes p label so_far.valid low.before high.before ∙ pick-if (label (node_at shelf.nodes p).track) false _ _ unset);
         }
 
     under_high : IsUnderAt from (node_of (node_at shelf.nodes p).high)
@@ -173,7 +173,7 @@ module _ (shelf : Contents) (is_shelf : IsShelf shelf) where
           below = max so_far.below (suc (node_at shelf.nodes p).track);
           fixed = both so_far.below so_far.fixed (node_at shelf.nodes p).track true;
           states = side_states true (node_of (node_at shelf.nodes p).high) valid high.later (λ label set.
-            state_named-inner shelf.nodes p label so_far.valid low.before high.before ∙ pick-if (label (node_at shelf.nodes p).track) true _ _ set);
+              state_named-inner shelf.nodes p label so_far.valid low.before high.before ∙ pick-if (label (node_at shelf.nodes p).track) true _ _ set);
         }
 
   under_low_named : (from q : NodeRef) (named : Named) → node_of q ≡ named → IsNamedIn shelf.nodes (node_of from) → IsUnderAt from named → IsUnderAt from (node_of (low_named shelf.nodes q named))
@@ -186,11 +186,11 @@ module _ (shelf : Contents) (is_shelf : IsShelf shelf) where
 
   under : (from r : NodeRef) → IsNamedIn shelf.nodes (node_of from) → Reaches shelf.nodes from r → IsUnderAt from (node_of r)
   under from r valid itself = record {
-      valid = valid;
-      below = 0;
-      fixed = λ t. false;
-      states = λ label. same_label (node_of from) label (with_first 0 (λ t. false) label) valid (λ u. sym (with_first-above 0 u (λ t. false) label (omega arith)));
-    }
+    valid = valid;
+    below = 0;
+    fixed = λ t. false;
+    states = λ label. same_label (node_of from) label (with_first 0 (λ t. false) label) valid (λ u. sym (with_first-above 0 u (λ t. false) label (omega arith)));
+  }
   under from r valid (by_low q reached) = under_low_named from q (node_of q) refl valid (under from q valid reached)
   under from r valid (by_high q reached) = under_high_named from q (node_of q) refl valid (under from q valid reached)
 
@@ -209,9 +209,9 @@ module _ (shelf : Contents) (is_shelf : IsShelf shelf) where
       let low = is_shelf.canonical.low p valid in
       let high = is_shelf.canonical.high p valid in
       subst (λ (s : ℕ). s < 2 ^ 31) (sym (state_named-inner shelf.nodes p label valid low.before high.before))
-        (if_small (label (node_at shelf.nodes p).track) _ _
-          (small_up_to n (node_at shelf.nodes p).high (node_of (node_at shelf.nodes p).high) label refl (let b = high.before in omega arith) (IsNamedIn-rank shelf.nodes _ (let b = high.before in omega arith)))
-          (small_up_to n (node_at shelf.nodes p).low (node_of (node_at shelf.nodes p).low) label refl (let b = low.before in omega arith) (IsNamedIn-rank shelf.nodes _ (let b = low.before in omega arith))))
+      (if_small (label (node_at shelf.nodes p).track) _ _
+      (small_up_to n (node_at shelf.nodes p).high (node_of (node_at shelf.nodes p).high) label refl (let b = high.before in omega arith) (IsNamedIn-rank shelf.nodes _ (let b = high.before in omega arith)))
+      (small_up_to n (node_at shelf.nodes p).low (node_of (node_at shelf.nodes p).low) label refl (let b = low.before in omega arith) (IsNamedIn-rank shelf.nodes _ (let b = low.before in omega arith))))
 
   pub small-state : (r : NodeRef) (label : Label) → IsValid shelf r → state_of shelf r label < 2 ^ 31
   small-state r label valid = small_up_to (rank (node_of r)) r (node_of r) label refl (omega arith) valid

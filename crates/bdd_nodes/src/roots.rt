@@ -5,13 +5,11 @@ ghost use Rattle.bdd_nodes.specs.Nodes.{node_of, rank};
 ghost use Rattle.bdd_nodes.specs.Collecting.{all_roots, linked_table, IsLinked, MarksList};
 ghost use Rattle.bdd_nodes.specs.Roots.{number_at, number_of, roots_under, root_under, AreNumbered};
 
-use std::alloc::{AllocError, Global};
-use std::marker::Model;
-
-use sqlite_items::Items;
-
 use crate::collecting;
 use crate::node_ref::NodeRef;
+use sqlite_items::Items;
+use std::alloc::{AllocError, Global};
+use std::marker::Model;
 
 /// References in order.
 pub type RefList = Items<NodeRef>;

@@ -1,7 +1,7 @@
 //! A shelf of decision nodes.
 
-pub(crate) mod read;
 mod collect;
+pub(crate) mod read;
 mod tables;
 
 ghost use Rattle.std.specs.Prelude.{◌≡◌, ◌+◌, ◌<◌, ◌≤◌, ◌^◌, ◌↔◌, IfOk, OnErr, IsErr, IfSome, IfNone, if◌then◌else◌, vec_len, vec_capacity, ◌++◌, ◌∷◌, []};
@@ -9,16 +9,17 @@ ghost use Rattle.bdd_nodes.specs.Nodes.{Label, node_of};
 ghost use Rattle.bdd_nodes.specs.Shelf.{IsShelf, IsValid, IsSideFor, IsFullFor, Splits, AsksFrom, empty_shelf, count_of, limit_of, state_of, choice_of, top_of, low_of, high_of, label_of};
 ghost use Rattle.bdd_nodes.specs.Changes.{Keeps, SameTables, AddsOnly, is_valid};
 
-use std::alloc::{AllocError, Global};
-use std::marker::Model;
-
 use crate::index::Index;
 use crate::node::Node;
 use crate::node_ref::NodeRef;
 use crate::roots::RootSet;
+use std::alloc::{AllocError, Global};
+use std::marker::Model;
+use thiserror::Error;
 
 /// There is no room for a node that isn't there.
-#[derive(Clone, Copy, Debug, PartialEq, Eq)]
+#[derive(Clone, Copy, Debug, PartialEq, Eq, Error)]
+#[error("the shelf is full")]
 pub struct Full;
 
 /// Decision nodes of one owner, up to a limit, and the tables of roots that `collect` keeps.

@@ -3,13 +3,11 @@
 ghost use Rattle.std.specs.Prelude.{◌≤◌};
 ghost use Rattle.bdd_nodes.specs.Shelf.{IsValid};
 
+use super::*;
+use sqlite_items::Items;
 use std::alloc::{AllocError, Global};
 use std::process::Abort;
 use std::test::Fail;
-
-use sqlite_items::Items;
-
-use super::*;
 
 /// The states where no track, track 0, track 1 and both are set.
 fn states(alloc: Global, shelf: &Shelf, n: NodeRef) -> Result<[u32; 4], AllocError>
@@ -61,8 +59,14 @@ fn a_full_shelf_finds_what_it_has(rt: HostRuntime) -> Result<(), Fail> {
     assert_eq!(rt; shelf.make(0, n1, one), Err(Full));
     assert_eq!(rt; shelf.make(1, zero, one), Ok(n1));
     assert_eq!(rt; shelf.make(0, n1, n1), Ok(n1));
-    assert_eq!(rt; (shelf.top(n2), shelf.low(n2), shelf.high(n2)), (Some(0), zero, n1));
-    assert_eq!(rt; (shelf.top(one), shelf.low(one), shelf.high(one)), (None, one, one));
+    assert_eq!(rt;
+        (shelf.top(n2), shelf.low(n2), shelf.high(n2)),
+        (Some(0), zero, n1)
+    );
+    assert_eq!(rt;
+        (shelf.top(one), shelf.low(one), shelf.high(one)),
+        (None, one, one)
+    );
     assert_eq!(rt; (shelf.count(), shelf.limit()), (2, 2));
     Ok(())
 }

@@ -4,11 +4,10 @@ ghost use Rattle.std.specs.Prelude.{◌≡◌, ◌<◌, ◌^◌, ℕ, IfSome, If
 ghost use Rattle.bdd_nodes.specs.Nodes.{state_named, node_of, rank, AreCanonical, IsNamedIn};
 ghost use Rattle.bdd_nodes.specs.Shelf.{Contents, IsShelf, IsLeaf, IsValid, Splits, state_of, top_of, low_of, high_of, label_of, count_of, limit_of};
 
-use sqlite_items::Items;
-
 use crate::node::Node;
 use crate::node_ref::{Named, NodeRef};
 use crate::shelf::Shelf;
+use sqlite_items::Items;
 
 /// Which tracks are set: their numbers.
 pub type Label = Items<u32>;

@@ -5,11 +5,10 @@ ghost use Rattle.bdd_nodes.specs.Roots.{number_of};
 ghost use Rattle.bdd_nodes.specs.Shelf.{IsShelf, IsValid, roots_of, root_of};
 ghost use Rattle.bdd_nodes.specs.Changes.{AddsTable, DropsTable};
 
-use std::alloc::AllocError;
-
 use crate::node_ref::NodeRef;
 use crate::roots::{RefList, TableId};
 use crate::shelf::Shelf;
+use std::alloc::AllocError;
 
 impl Shelf {
     /// A root of a registered table as it stands now; `None` exactly for an unknown table or index. Takes no memory.

@@ -18,7 +18,7 @@ loop-place-preserved-then-index-eq1 c =
     let within : place < length nodes = omega arith in
     let so_far : MarksSides nodes c.args.marks.now.items marks (suc place) = subst (MarksSides nodes c.args.marks.now.items marks) here c.loop-place.invariant in
     let both : c.mark-then-index-eq1.new.marks.items ≡ with_mark (with_mark marks (node_of (node_at nodes place).low)) (node_of (node_at nodes place).high) =
-      c.mark-then-index-eq1.ensures ∙ ap (λ (ms : List ℕ). with_mark ms (node_of (node_at nodes place).high)) c.mark.ensures in
+    c.mark-then-index-eq1.ensures ∙ ap (λ (ms : List ℕ). with_mark ms (node_of (node_at nodes place).high)) c.mark.ensures in
     subst (λ (ms : List ℕ). MarksSides nodes c.args.marks.now.items ms place) (sym both)
-      (MarksSides-marked nodes c.requires.canonical c.args.marks.now.items marks place so_far within (let f = c.requires.fits in let v = c.args.marks.now.ok.0 in omega arith)
-        (sym (get_or_read marks place c.index.result.now (let f = c.requires.fits in let v = c.args.marks.now.ok.0 in let l = c.loop-place.invariant.len in omega arith) c.index.ensures 0) ∙ c.if-index-eq1.true))
+    (MarksSides-marked nodes c.requires.canonical c.args.marks.now.items marks place so_far within (let f = c.requires.fits in let v = c.args.marks.now.ok.0 in omega arith)
+    (sym (get_or_read marks place c.index.result.now (let f = c.requires.fits in let v = c.args.marks.now.ok.0 in let l = c.loop-place.invariant.len in omega arith) c.index.ensures 0) ∙ c.if-index-eq1.true))

@@ -21,8 +21,8 @@ pub mark_list-requires : goal.mark_list-requires
 mark_list-requires c =
     let d = (goal.at.mark_list-requires c).After-as_slice in
     subst (All (λ r. rank (node_of r) ≤ vec_len c.loop-table.marks)) (sym (roots-are d))
-      (All-table (λ r. rank (node_of r) ≤ vec_len c.loop-table.marks) c.args.tables.now c.loop-table.table-index c.loop-table-test.true
-        (subst (λ (n : ℕ). All (λ r. rank (node_of r) ≤ n) (all_roots c.args.tables.now)) (len-same d) c.requires))
+    (All-table (λ r. rank (node_of r) ≤ vec_len c.loop-table.marks) c.args.tables.now c.loop-table.table-index c.loop-table-test.true
+    (subst (λ (n : ℕ). All (λ r. rank (node_of r) ≤ n) (all_roots c.args.tables.now)) (len-same d) c.requires))
 
 pub loop-table-preserved : goal.loop-table-preserved
 loop-table-preserved c =
@@ -30,6 +30,6 @@ loop-table-preserved c =
     let tables = c.args.tables.now in
     let index = c.loop-table.table-index in
     subst (λ (rs : List NodeRef). MarksList rs c.args.marks.now.items c.mark_list.new.marks.items)
-      (sym (ap all_roots (take_more tables index (table_at [] 0) c.loop-table-test.true) ∙ all_roots-push (take index tables) (table_at tables index)))
-      (MarksList-append (all_roots (take index tables)) (table_at tables index).roots c.args.marks.now.items c.loop-table.marks.items c.mark_list.new.marks.items c.loop-table.invariant
-        (subst (λ (rs : List NodeRef). MarksList rs c.loop-table.marks.items c.mark_list.new.marks.items) (roots-are d) c.mark_list.ensures))
+    (sym (ap all_roots (take_more tables index (table_at [] 0) c.loop-table-test.true) ∙ all_roots-push (take index tables) (table_at tables index)))
+    (MarksList-append (all_roots (take index tables)) (table_at tables index).roots c.args.marks.now.items c.loop-table.marks.items c.mark_list.new.marks.items c.loop-table.invariant
+    (subst (λ (rs : List NodeRef). MarksList rs c.loop-table.marks.items c.mark_list.new.marks.items) (roots-are d) c.mark_list.ensures))

@@ -57,29 +57,31 @@ loop-place-preserved c =
     let ahead : node_at now place ≡ node_at nodes place = so_far.ahead place (omega arith) in
     let read : get_or marks place 0 ≡ c.index.result.now = sym (so_far.marks_ahead place (omega arith)) ∙ sym (get_or_read links place c.index.result.now in_links c.index.ensures 0) in
     subst (λ (p : ℕ). (c.if-index-eq1.kept ≡ marked_below marks p) × MovesBelow nodes marks c.if-index-eq1.nodes c.if-index-eq1.marks.items p) next
-      (elim c.if-index-eq1.branch [
-        then-index-eq1 w ↦
+    (elim c.if-index-eq1.branch [
+      | then-index-eq1 w ↦
           let is_marked : get_or marks place 0 ≡ 1 = read ∙ w.if-index-eq1.true in
           let small : length nodes < 2 ^ 31 = c.requires.small in
           let fits : length nodes ≤ length marks = (let v = c.args.marks.now.ok.0 in let f = c.requires.fits in omega arith) in
           let n : Node = record { track = (node_at now place).track; low = w.linked.result; high = w.linked-then-index-eq1.result } in
           let node : n ≡ moved_node marks (node_at nodes place) =
-            node-moved nodes c.requires.canonical marks c.requires.closed now links place so_far within is_marked fits small n (ap (λ (m : Node). m.track) ahead)
-              (w.linked.ensures ∙ ap (λ (ls : List ℕ). linked ls (node_at now place).low) w.deref.ensures.value ∙ ap (λ (m : Node). linked links m.low) ahead)
-              (w.linked-then-index-eq1.ensures ∙ ap (λ (ls : List ℕ). linked ls (node_at now place).high) w.deref-then-index-eq1.ensures.value ∙ ap (λ (m : Node). linked links m.high) ahead) in
+          node-moved nodes c.requires.canonical marks c.requires.closed now links place so_far within is_marked fits small n (ap (λ (m : Node). m.track) ahead)
+          (w.linked.ensures ∙ ap (λ (ls : List ℕ). linked ls (node_at now place).low) w.deref.ensures.value ∙ ap (λ (m : Node). linked links m.low) ahead)
+          (w.linked-then-index-eq1.ensures ∙ ap (λ (ls : List ℕ). linked ls (node_at now place).high) w.deref-then-index-eq1.ensures.value ∙ ap (λ (m : Node). linked links m.high) ahead) in
           let nodes-are : c.if-index-eq1.nodes ≡ set now (marked_below marks place) (moved_node marks (node_at nodes place)) =
-            w.nodes-is ∙ ap (λ (k : ℕ). set now k n) kept ∙ ap (set now (marked_below marks place)) node in
+          w.nodes-is ∙ ap (λ (k : ℕ). set now k n) kept ∙ ap (set now (marked_below marks place)) node in
           let marks-are : c.if-index-eq1.marks.items ≡ set links place (marked_below marks place + 1) =
-            ap (λ (v : Vec ℕ Global). v.items) w.marks-is ∙ ap (λ (k : ℕ). set links place (k + 1)) kept in
-          ((let k = w.kept-is in omega arith),
-           subst (λ (ms : List ℕ). MovesBelow nodes marks c.if-index-eq1.nodes ms (suc place)) (sym marks-are)
-            (subst (λ (ns : List Node). MovesBelow nodes marks ns (set links place (marked_below marks place + 1)) (suc place)) (sym nodes-are)
-              (MovesBelow-marked nodes c.requires.canonical marks c.requires.closed now links place so_far within is_marked fits small)))
+          ap (λ (v : Vec ℕ Global). v.items) w.marks-is ∙ ap (λ (k : ℕ). set links place (k + 1)) kept in (
+            (let k = w.kept-is in omega arith),
+            subst (λ (ms : List ℕ). MovesBelow nodes marks c.if-index-eq1.nodes ms (suc place)) (sym marks-are)
+                (subst (λ (ns : List Node). MovesBelow nodes marks ns (set links place (marked_below marks place + 1)) (suc place)) (sym nodes-are)
+                (MovesBelow-marked nodes c.requires.canonical marks c.requires.closed now links place so_far within is_marked fits small)),
+          )
       | else-index-eq1 w ↦
-          let unmarked : get_or marks place 0 ≡ 1 → ⊥ = λ e. w.if-index-eq1.false (sym read ∙ e) in
-          ((let k = w.kept-is in let b = c.requires.closed.bits place in
-            let z : get_or marks place 0 ≡ 0 = not_one _ b unmarked in omega arith),
-           subst (λ (v : Vec ℕ Global). MovesBelow nodes marks c.if-index-eq1.nodes v.items (suc place)) (sym w.marks-is)
-            (subst (λ (ns : List Node). MovesBelow nodes marks ns links (suc place)) (sym w.nodes-is)
-              (MovesBelow-unmarked nodes c.requires.canonical marks c.requires.closed now links place so_far within unmarked)))
-      ])
+          let unmarked : get_or marks place 0 ≡ 1 → ⊥ = λ e. w.if-index-eq1.false (sym read ∙ e) in (
+            (let k = w.kept-is in let b = c.requires.closed.bits place in
+                let z : get_or marks place 0 ≡ 0 = not_one _ b unmarked in omega arith),
+            subst (λ (v : Vec ℕ Global). MovesBelow nodes marks c.if-index-eq1.nodes v.items (suc place)) (sym w.marks-is)
+                (subst (λ (ns : List Node). MovesBelow nodes marks ns links (suc place)) (sym w.nodes-is)
+                (MovesBelow-unmarked nodes c.requires.canonical marks c.requires.closed now links place so_far within unmarked)),
+          )
+    ])

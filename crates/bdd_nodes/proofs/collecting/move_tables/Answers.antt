@@ -16,11 +16,11 @@ move_list-requires c =
     let at = c.loop-at.at in
     let within : at < length tables = c.loop-at-test.true in
     let here : get_or c.loop-at.tables at c.index-tables-at.result ≡ table_at tables at =
-      ap (λ (ts : List RootTable). get_or ts at c.index-tables-at.result) c.loop-at.invariant
-      ∙ get_or-map_over (linked_table c.args.links.now) tables at c.index-tables-at.result within
-      ∙ get_or-any tables at _ _ within in
+    ap (λ (ts : List RootTable). get_or ts at c.index-tables-at.result) c.loop-at.invariant
+    ∙ get_or-map_over (linked_table c.args.links.now) tables at c.index-tables-at.result within
+    ∙ get_or-any tables at _ _ within in
     subst (λ (t : RootTable). All (λ r. IsLinked c.args.links.now (node_of r)) t.roots) (sym here)
-      (All-table (λ r. IsLinked c.args.links.now (node_of r)) tables at within c.requires)
+    (All-table (λ r. IsLinked c.args.links.now (node_of r)) tables at within c.requires)
 
 abbrev with_roots : RootTable → List NodeRef → RootTable
 with_roots t roots = record { id = t.id; roots = roots }
@@ -29,6 +29,6 @@ pub loop-at-preserved : goal.loop-at-preserved
 loop-at-preserved c =
     let x = c.index-tables-at.result in
     ap (set c.loop-at.tables c.loop-at.at)
-      (ap (with_roots (get_or c.loop-at.tables c.loop-at.at x)) c.move_list.ensures
-        ∙ ap (linked_table c.args.links.now) (sym c.index-tables-at.is))
+    (ap (with_roots (get_or c.loop-at.tables c.loop-at.at x)) c.move_list.ensures
+    ∙ ap (linked_table c.args.links.now) (sym c.index-tables-at.is))
     ∙ map_over_more (linked_table c.args.links.now) c.args.tables.now c.loop-at.tables c.loop-at.at x c.loop-at-test.true c.loop-at.invariant c.index-tables-at.is

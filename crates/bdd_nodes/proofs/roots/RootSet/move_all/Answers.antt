@@ -12,7 +12,7 @@ pub invariant_of-self : goal.invariant_of-self
 invariant_of-self c =
     let tables = c.self.inside.tables.items in
     let moved : c.move_tables.new.tables ≡ map (linked_table c.args.links.now) tables =
-      c.move_tables.ensures ∙ ap (map (linked_table c.args.links.now)) c.deref_mut.ensures.value in
+    c.move_tables.ensures ∙ ap (map (linked_table c.args.links.now)) c.deref_mut.ensures.value in
     subst (λ (ts : List RootTable). AreNumbered ts c.self.inside.added)
-      (sym (take-written c.move_tables.new.tables tables c.self.inside.tables.len c.self.inside.tables.ok.0 (ap length moved ∙ simp length-map) ∙ moved))
-      (AreNumbered-map (linked_table c.args.links.now) tables c.self.inside.added (λ t. refl) c.self.invariant)
+    (sym (take-written c.move_tables.new.tables tables c.self.inside.tables.len c.self.inside.tables.ok.0 (ap length moved ∙ simp length-map) ∙ moved))
+    (AreNumbered-map (linked_table c.args.links.now) tables c.self.inside.added (λ t. refl) c.self.invariant)

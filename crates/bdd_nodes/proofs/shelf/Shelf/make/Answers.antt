@@ -51,7 +51,7 @@ returns-in-Some-clause-count c =
 pub returns-in-Some-clause-full : goal.returns-in-Some-clause-full
 returns-in-Some-clause-full c =
     let has : Has c.args.self.now (choice_of c.args.self.now c.args.track c.args.low c.args.high) =
-      Has-place c.args.self.now (is_shelf c) c.inner.result c.in-Some.place c.inner.ensures (within c) (wanted c) (found c) in
+    Has-place c.args.self.now (is_shelf c) c.inner.result c.in-Some.place c.inner.ensures (within c) (wanted c) (found c) in
     (λ e. absurd (let no : ◌≡◌ {A = Bool} false true → ⊥ = λ f. cc in no e), λ full. absurd (full.absent has))
 
 pub returns-then-is_full-clause-full : goal.returns-then-is_full-clause-full
@@ -60,14 +60,16 @@ returns-then-is_full-clause-full c =
     let limit : c.self.inside.limit ≡ c.args.self.now.limit = ap (λ (s : Contents). s.limit) c.self.view_is in
     let count : length c.self.inside.nodes.items ≡ length c.args.self.now.nodes = ap (λ (s : Contents). length s.nodes) c.self.view_is in
     let vec : vec_len c.self.inside.nodes ≡ length c.self.inside.nodes.items = c.self.inside.nodes.ok.0 in
-    let differ : c.args.low ≢ c.args.high = search rules in
-    (λ e. record {
-      differ = differ;
-      full = omega arith;
-      absent = Has-absent c.args.self.now (subst IsShelf c.self.view_is c.self.invariant.shelf)
-        (record { track = c.args.track; low = c.args.low; high = c.args.high }) c.requires.low c.requires.high differ
-        (subst (λ (ns : List Node). (i : ℕ) → i < length ns → node_at ns i ≢ record { track = c.args.track; low = c.args.low; high = c.args.high }) opened c.in_default.ensures.absent);
-    }, λ full. refl)
+    let differ : c.args.low ≢ c.args.high = search rules in (
+      λ e. record {
+        differ = differ;
+        full = omega arith;
+        absent = Has-absent c.args.self.now (subst IsShelf c.self.view_is c.self.invariant.shelf)
+            (record { track = c.args.track; low = c.args.low; high = c.args.high }) c.requires.low c.requires.high differ
+            (subst (λ (ns : List Node). (i : ℕ) → i < length ns → node_at ns i ≢ record { track = c.args.track; low = c.args.low; high = c.args.high }) opened c.in_default.ensures.absent);
+      },
+      λ full. refl,
+    )
 
 -- the new node's shelf
 abbrev node : (c : After-inner-2) → Node
@@ -115,7 +117,7 @@ invariant_of-self c =
     record {
       shelf = subst IsShelf (sym (grown-view c)) (IsShelf-with_node c.args.self.now (shelf-opened c) (node c) c.requires.low c.requires.high (differ c) (absent c) space);
       indexed = rw (items, c.put.ensures.bucket, c.put.ensures.before)
-        (IsIndexed-grown c.self.inside.nodes.items (node c) c.self.inside.index.buckets.items c.self.inside.index.chain.items c.bucket-bucket.result c.len-place.result place stored.indexed
+          (IsIndexed-grown c.self.inside.nodes.items (node c) c.self.inside.index.buckets.items c.self.inside.index.chain.items c.bucket-bucket.result c.len-place.result place stored.indexed
           (c.bucket-bucket.ensures.value ∙ ap (bucket_of (node c)) (sym stored.buckets_len))
           (let b = c.bucket-bucket.ensures.within in let l = stored.buckets_len in omega arith)
           (let l = stored.chain_len in omega arith));
@@ -127,24 +129,24 @@ invariant_of-self c =
 pub returns-clause-value : goal.returns-clause-value
 returns-clause-value c =
     subst (λ (s : Contents). (label : Label) → state_of s c.inner-2.result label ≡ choice_of c.args.self.now c.args.track c.args.low c.args.high label) (sym (grown-view c))
-      (states-made c.args.self.now (shelf-opened c) (node c) c.requires.low c.requires.high (differ c) (absent c) c.inner-2.result (named c))
+    (states-made c.args.self.now (shelf-opened c) (node c) c.requires.low c.requires.high (differ c) (absent c) c.inner-2.result (named c))
 
 pub returns-clause-kept : goal.returns-clause-kept
 returns-clause-kept c =
     subst (Keeps c.args.self.now) (sym (grown-view c))
-      (Keeps-with_node c.args.self.now (shelf-opened c) (node c) c.requires.low c.requires.high (differ c) (absent c))
+    (Keeps-with_node c.args.self.now (shelf-opened c) (node c) c.requires.low c.requires.high (differ c) (absent c))
 
 pub returns-clause-only : goal.returns-clause-only
 returns-clause-only c =
     subst (λ (s : Contents). AddsOnly c.args.self.now s c.inner-2.result) (sym (grown-view c))
-      (AddsOnly-made c.args.self.now (shelf-opened c) (node c) c.requires.low c.requires.high (differ c) (absent c) c.inner-2.result (named c))
+    (AddsOnly-made c.args.self.now (shelf-opened c) (node c) c.requires.low c.requires.high (differ c) (absent c) c.inner-2.result (named c))
 
 pub returns-clause-count : goal.returns-clause-count
 returns-clause-count c =
     subst (λ (s : Contents). count_of s ≡ (if is_valid c.args.self.now c.inner-2.result then count_of c.args.self.now else count_of c.args.self.now + 1)) (sym (grown-view c))
-      (count-made c.args.self.now (shelf-opened c) (node c) c.requires.low c.requires.high (differ c) (absent c) c.inner-2.result (named c))
+    (count-made c.args.self.now (shelf-opened c) (node c) c.requires.low c.requires.high (differ c) (absent c) c.inner-2.result (named c))
 
 pub returns-clause-shelf : goal.returns-clause-shelf
 returns-clause-shelf c =
     subst IsShelf (sym (grown-view c))
-      (IsShelf-with_node c.args.self.now (shelf-opened c) (node c) c.requires.low c.requires.high (differ c) (absent c) (room c))
+    (IsShelf-with_node c.args.self.now (shelf-opened c) (node c) c.requires.low c.requires.high (differ c) (absent c) (room c))
