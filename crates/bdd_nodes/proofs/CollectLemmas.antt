@@ -1,25 +1,17 @@
 -- What a collection leaves: the marked nodes, moved to the front, stand for the functions that they stood for.
-use Rattle.std.proofs.Common.{◌≡◌, ◌≢◌, ◌⊎◌, ◌↔◌, ℕ, suc, zero, ◌+◌, ◌-◌, ◌^◌, ◌<◌, ◌≤◌, Bool, true, false, List, [], ◌∷◌, ◌++◌, length, eqb, get_or, take, if◌then◌else◌, Option, Some, None, sym, ◌∙◌, ap, refl, subst, inl, inr, arith}
-use Rattle.std.specs.Prelude.{All, Contains, map, slice_get, option_and_then, option_map}
-use Rattle.std.proofs.lemmas.Bool.{cases_lt}
-use Rattle.std.proofs.lemmas.List.{get_or-take, length-take-le, length-map}
-use Rattle.std.proofs.lemmas.Option.{slice_get-map}
+use Rattle.std.proofs.Common.{◌≡◌, ◌≢◌, ℕ, suc, zero, ◌<◌, ◌≤◌, List, length, get_or, take, if◌then◌else◌, Some, sym, ◌∙◌, ap, refl, subst, arith}
+use Rattle.std.proofs.lemmas.List.{get_or-take, length-take-le}
 use Rattle.bdd_nodes.specs.declared.node_ref.NodeRef.{NodeRef}
 use Rattle.bdd_nodes.specs.declared.node_ref.Named.{Named}
 use Rattle.bdd_nodes.specs.declared.node_ref.Named.TheVariants.{Leaf, Inner}
 use Rattle.bdd_nodes.specs.declared.node.Node.{Node}
-use Rattle.bdd_nodes.specs.declared.roots.RootTable.{RootTable}
 use Rattle.bdd_nodes.specs.Nodes.{Label, node_of, rank, node_at, state_named, first_track, IsNamedIn, AsksNoneBelow, IsSide, AreCanonical}
-use Rattle.bdd_nodes.specs.Roots.{Registered, number_of, number_at, roots_under, root_under, table_at, AreNumbered}
-use Rattle.bdd_nodes.specs.Shelf.{Contents, IsShelf, IsValid, root_of}
-use Rattle.bdd_nodes.specs.Changes.{IsUnder, IsHeld, CountsHeld, IsMoved, MovesRoots}
-use Rattle.bdd_nodes.specs.Collecting.{reference_to, all_roots, IsMarked, AreClosed, marked_below, moved_named, moved, moved_node, MovesBelow, MarksList, MarksSides, linked_named, linked, linked_table, IsLinked}
+use Rattle.bdd_nodes.specs.Collecting.{IsMarked, AreClosed, marked_below, moved_named, moved, moved_node, MovesBelow}
 use Rattle.bdd_nodes.proofs.RefLemmas.{node_of-injective}
 use Rattle.bdd_nodes.proofs.NodesLemmas.{state_named-leaf, state_named-inner, if_same}
-use Rattle.bdd_nodes.proofs.CanonicalLemmas.{IsNamedIn-rank, rank-IsNamedIn, same_node}
-use Rattle.bdd_nodes.proofs.RootsLemmas.{AreNumbered-map}
-use Rattle.bdd_nodes.proofs.MarksLemmas.{node_of-reference_to, reference_to-named}
-use Rattle.bdd_nodes.proofs.MovesLemmas.{marked_below-le, marked_below-mono, marked_below-lt, marked_below-injective, MovesTo, MovesTo-below}
+use Rattle.bdd_nodes.proofs.CanonicalLemmas.{IsNamedIn-rank, same_node}
+use Rattle.bdd_nodes.proofs.MarksLemmas.{node_of-reference_to}
+use Rattle.bdd_nodes.proofs.MovesLemmas.{marked_below-le, marked_below-lt, marked_below-injective, MovesTo-below}
 
 -- what becomes of what is named
 abbrev pub moved_to : List ℕ → Named → Named

@@ -1,5 +1,5 @@
 -- The shelf after a collection.
-use Rattle.std.proofs.Common.{◌≡◌, ◌≢◌, ◌⊎◌, ◌↔◌, ℕ, suc, zero, ◌+◌, ◌-◌, ◌^◌, ◌<◌, ◌≤◌, Bool, true, false, List, [], ◌∷◌, ◌++◌, length, eqb, get_or, take, if◌then◌else◌, Option, Some, None, sym, ◌∙◌, ap, refl, subst, inl, inr, arith}
+use Rattle.std.proofs.Common.{◌≡◌, ◌↔◌, ℕ, ◌≤◌, Bool, true, false, List, [], ◌∷◌, length, eqb, get_or, take, if◌then◌else◌, Option, Some, None, sym, ◌∙◌, ap, refl, subst, arith}
 use Rattle.std.specs.Prelude.{All, Contains, map, slice_get, option_and_then, option_map, IsSome}
 use Rattle.std.proofs.lemmas.List.{length-map}
 use Rattle.std.proofs.lemmas.Option.{slice_get-map}
@@ -8,17 +8,17 @@ use Rattle.bdd_nodes.specs.declared.node_ref.Named.{Named}
 use Rattle.bdd_nodes.specs.declared.node_ref.Named.TheVariants.{Leaf, Inner}
 use Rattle.bdd_nodes.specs.declared.node.Node.{Node}
 use Rattle.bdd_nodes.specs.declared.roots.RootTable.{RootTable}
-use Rattle.bdd_nodes.specs.Nodes.{Label, node_of, rank, node_at, state_named, first_track, IsNamedIn}
-use Rattle.bdd_nodes.specs.Roots.{Registered, number_of, roots_under, root_under}
-use Rattle.bdd_nodes.specs.Shelf.{Contents, IsShelf, IsValid, count_of, limit_of, root_of, roots_of}
-use Rattle.bdd_nodes.specs.Changes.{IsUnder, IsHeld, CountsHeld, IsMoved, MovesRoots}
+use Rattle.bdd_nodes.specs.Nodes.{node_of, rank, state_named, first_track, IsNamedIn}
+use Rattle.bdd_nodes.specs.Roots.{number_of, roots_under, root_under}
+use Rattle.bdd_nodes.specs.Shelf.{Contents, IsShelf, IsValid, count_of, root_of}
+use Rattle.bdd_nodes.specs.Changes.{IsHeld, CountsHeld, IsMoved, MovesRoots}
 use Rattle.bdd_nodes.specs.Collecting.{reference_to, all_roots, IsMarked, AreClosed, marked_below, moved_named, moved, MovesBelow, MarksList, MarksSides, linked_named, linked, linked_table, IsLinked}
 use Rattle.bdd_nodes.proofs.CanonicalLemmas.{rank-IsNamedIn}
 use Rattle.bdd_nodes.proofs.RootsLemmas.{AreNumbered-map}
 use Rattle.bdd_nodes.proofs.MarksLemmas.{reference_to-named, Contains-at}
 use Rattle.bdd_nodes.proofs.MovesLemmas.{marked_below-le}
-use Rattle.bdd_nodes.proofs.HeldLemmas.{IsRoot-Contains, Contains-root_under, AreClosed-marks, IsMarked-root, IsUnder-marked, marked-IsUnder, held_below, length-held_below, IsPlace, IsPlace-held, Contains-held, once-held}
-use Rattle.bdd_nodes.proofs.CollectLemmas.{moved_to, node_of-moved, HasMoved, HasMoved-take, IsNamedIn-moved_to, first_track-moved_to, AreCanonical-left, state_named-moved_to}
+use Rattle.bdd_nodes.proofs.HeldLemmas.{IsRoot-Contains, Contains-root_under, AreClosed-marks, IsMarked-root, IsUnder-marked, marked-IsUnder, held_below, length-held_below, IsPlace-held, Contains-held, once-held}
+use Rattle.bdd_nodes.proofs.CollectLemmas.{node_of-moved, HasMoved, HasMoved-take, IsNamedIn-moved_to, first_track-moved_to, AreCanonical-left, state_named-moved_to}
 
 -- what is found in tables whose roots were replaced
 root_under-if : (f : NodeRef → NodeRef) (b : Bool) (roots : List NodeRef) (index : ℕ) (rest new_rest : Option (List NodeRef)) → option_and_then (λ rs. slice_get rs index) new_rest ≡ option_map f (option_and_then (λ rs. slice_get rs index) rest) → option_and_then (λ rs. slice_get rs index) (if b then Some (map f roots) else new_rest) ≡ option_map f (option_and_then (λ rs. slice_get rs index) (if b then Some roots else rest))

@@ -1,6 +1,6 @@
 -- The marks are those of the nodes that registered roots hold.
-use Rattle.std.proofs.Common.{◌≡◌, ◌≢◌, ◌⊎◌, ◌↔◌, ℕ, suc, zero, ◌+◌, ◌-◌, ◌^◌, ◌<◌, ◌≤◌, Bool, true, false, List, [], ◌∷◌, ◌++◌, length, eqb, get_or, if◌then◌else◌, Option, Some, None, sym, ◌∙◌, ap, refl, subst, inl, inr, arith}
-use Rattle.std.specs.Prelude.{All, Contains, slice_get, option_and_then}
+use Rattle.std.proofs.Common.{◌≡◌, ◌≢◌, ◌⊎◌, ℕ, suc, zero, ◌<◌, ◌≤◌, Bool, true, false, List, [], ◌∷◌, length, eqb, get_or, if◌then◌else◌, Option, Some, None, sym, ◌∙◌, ap, refl, subst, inl, inr, arith}
+use Rattle.std.specs.Prelude.{Contains, slice_get, option_and_then}
 use Rattle.std.proofs.lemmas.Bool.{cases_lt}
 use Rattle.std.proofs.lemmas.Bool.Decides.{nat_tests}
 use Rattle.std.proofs.lemmas.Option.{slice_get_within, slice_get-get_or, get_or_from_slice_get}
@@ -10,11 +10,11 @@ use Rattle.bdd_nodes.specs.declared.node_ref.Named.{Named}
 use Rattle.bdd_nodes.specs.declared.node_ref.Named.TheVariants.{Leaf, Inner}
 use Rattle.bdd_nodes.specs.declared.node.Node.{Node}
 use Rattle.bdd_nodes.specs.declared.roots.RootTable.{RootTable}
-use Rattle.bdd_nodes.specs.Nodes.{node_of, rank, node_at, first_track, IsNamedIn, AreCanonical}
+use Rattle.bdd_nodes.specs.Nodes.{node_of, node_at, first_track, IsNamedIn, AreCanonical}
 use Rattle.bdd_nodes.specs.Roots.{number_of, number_at, roots_under, root_under, table_at}
 use Rattle.bdd_nodes.specs.Shelf.{low_named, high_named}
 use Rattle.bdd_nodes.specs.Changes.{Reaches, by_low, by_high, itself, IsUnder}
-use Rattle.bdd_nodes.specs.Collecting.{reference_to, all_roots, IsMarked, SomeNames, MarksList, FromMarked, MarksSides, AreClosed, marked_below}
+use Rattle.bdd_nodes.specs.Collecting.{reference_to, all_roots, IsMarked, MarksList, MarksSides, AreClosed, marked_below}
 use Rattle.bdd_nodes.proofs.CanonicalLemmas.{IsNamedIn-rank}
 use Rattle.bdd_nodes.proofs.RootsLemmas.{roots_under-at, pick-same, pick-other}
 use Rattle.bdd_nodes.proofs.MarksLemmas.{node_of-reference_to, reference_to-named, IsMarked-kept}

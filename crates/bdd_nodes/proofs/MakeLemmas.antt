@@ -1,13 +1,13 @@
 -- What `make` finds or adds.
-use Rattle.std.proofs.Common.{◌≡◌, ◌≢◌, ◌⊎◌, ℕ, suc, ◌+◌, ◌<◌, ◌≤◌, Bool, true, false, List, [], ◌∷◌, ◌++◌, length, ltb, if◌then◌else◌, Option, sym, ◌∙◌, ap, refl, subst, inl, inr, arith, length-append}
+use Rattle.std.proofs.Common.{◌≡◌, ◌≢◌, ◌⊎◌, ℕ, suc, ◌+◌, ◌<◌, ◌≤◌, Bool, true, false, List, [], ◌∷◌, length, ltb, if◌then◌else◌, sym, ◌∙◌, ap, refl, subst, inl, inr, arith}
 use Rattle.std.proofs.lemmas.Bool.{cases_lt}
 use Rattle.std.proofs.lemmas.Bool.Decides.{nat_tests}
 use Rattle.bdd_nodes.specs.declared.node_ref.NodeRef.{NodeRef}
 use Rattle.bdd_nodes.specs.declared.node_ref.Named.{Named}
 use Rattle.bdd_nodes.specs.declared.node_ref.Named.TheVariants.{Leaf, Inner}
 use Rattle.bdd_nodes.specs.declared.node.Node.{Node}
-use Rattle.bdd_nodes.specs.Nodes.{Label, node_of, rank, node_at, state_named, IsNamedIn, first_track, AsksNoneBelow, IsSide, AreCanonical}
-use Rattle.bdd_nodes.specs.Shelf.{Contents, IsShelf, IsValid, IsSideFor, IsFullFor, Has, AsksFrom, count_of, limit_of, state_of, choice_of, top_of, low_of, high_of, low_named, high_named}
+use Rattle.bdd_nodes.specs.Nodes.{Label, node_of, node_at, state_named, IsNamedIn, AsksNoneBelow, IsSide}
+use Rattle.bdd_nodes.specs.Shelf.{Contents, IsShelf, IsValid, IsSideFor, Has, AsksFrom, count_of, limit_of, state_of, choice_of, low_named, high_named}
 use Rattle.bdd_nodes.specs.Changes.{Keeps, AddsOnly, is_valid, is_named_in}
 use Rattle.bdd_nodes.proofs.RefLemmas.{node_of-injective}
 use Rattle.bdd_nodes.proofs.NodesLemmas.{state_named-inner, state_named-append}

@@ -1,5 +1,5 @@
 -- Moving marked nodes to the front.
-use Rattle.std.proofs.Common.{◌≡◌, ◌≢◌, ℕ, suc, zero, ◌+◌, ◌-◌, ◌*◌, ◌^◌, ◌<◌, ◌≤◌, List, [], ◌∷◌, ◌++◌, length, get_or, set, sym, ◌∙◌, ap, refl, subst, inl, inr, arith}
+use Rattle.std.proofs.Common.{◌≡◌, ℕ, suc, zero, ◌+◌, ◌^◌, ◌<◌, ◌≤◌, List, length, get_or, set, ◌∙◌, ap, refl, subst, inl, inr, arith}
 use Rattle.std.proofs.lemmas.Bool.{cases_lt}
 use Rattle.std.proofs.lemmas.List.{get_or-set_other, get_or-set_same, length-set}
 use Rattle.bdd_nodes.specs.declared.node_ref.NodeRef.{NodeRef}
@@ -7,7 +7,7 @@ use Rattle.bdd_nodes.specs.declared.node_ref.Named.{Named}
 use Rattle.bdd_nodes.specs.declared.node_ref.Named.TheVariants.{Leaf, Inner}
 use Rattle.bdd_nodes.specs.declared.node.Node.{Node}
 use Rattle.bdd_nodes.specs.Nodes.{node_of, rank, node_at, AreCanonical}
-use Rattle.bdd_nodes.specs.Collecting.{reference_to, IsMarked, marked_below, moved_named, moved, moved_node, AreLinks, MovesBelow, linked_named, linked, IsLinked, AreClosed}
+use Rattle.bdd_nodes.specs.Collecting.{reference_to, IsMarked, marked_below, moved_named, moved, moved_node, MovesBelow, linked_named, linked, IsLinked, AreClosed}
 use Rattle.bdd_nodes.proofs.CanonicalLemmas.{same_node}
 
 -- no more are marked than there are

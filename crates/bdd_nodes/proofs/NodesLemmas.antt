@@ -1,12 +1,11 @@
 -- The functions that references stand for.
-use Rattle.std.proofs.Common.{◌≡◌, ℕ, suc, zero, ◌+◌, ◌-◌, ◌^◌, ◌<◌, ◌≤◌, Bool, true, false, List, [], ◌∷◌, ◌++◌, length, get_or, fold, if◌then◌else◌, sym, ◌∙◌, ap, refl, subst, arith, rules, length-append, append_assoc}
+use Rattle.std.proofs.Common.{◌≡◌, ℕ, suc, zero, ◌+◌, ◌<◌, ◌≤◌, Bool, true, false, List, [], ◌∷◌, ◌++◌, length, get_or, fold, if◌then◌else◌, sym, ◌∙◌, ap, refl, arith, length-append}
 use Rattle.std.proofs.Math.ListN.{get_or-append}
 use Rattle.std.proofs.Math.Seq.{get_or-append_seam}
-use Rattle.bdd_nodes.specs.declared.node_ref.NodeRef.{NodeRef}
 use Rattle.bdd_nodes.specs.declared.node_ref.Named.{Named}
 use Rattle.bdd_nodes.specs.declared.node_ref.Named.TheVariants.{Leaf, Inner}
 use Rattle.bdd_nodes.specs.declared.node.Node.{Node}
-use Rattle.bdd_nodes.specs.Nodes.{Label, Function, node_of, rank, node_at, function_named, node_function, with_next, functions_of, state_named, IsSide}
+use Rattle.bdd_nodes.specs.Nodes.{Label, Function, node_of, rank, node_at, function_named, node_function, with_next, functions_of, state_named}
 
 constant : Function
 constant = λ _. 0

@@ -1,12 +1,12 @@
 -- What references are, as the getters say it.
-use Rattle.std.proofs.Common.{◌≡◌, ◌≢◌, ℕ, suc, ◌+◌, ◌-◌, ◌^◌, ◌<◌, ◌≤◌, List, length, Bool, true, false, if◌then◌else◌, sym, ◌∙◌, ap, refl, subst, inl, inr, arith}
+use Rattle.std.proofs.Common.{◌≡◌, ℕ, suc, ◌-◌, ◌^◌, ◌<◌, List, length, Bool, true, false, if◌then◌else◌, sym, ◌∙◌, ap, subst, inl, inr, arith}
 use Rattle.std.proofs.lemmas.Bool.{cases_lt}
 use Rattle.bdd_nodes.specs.declared.node_ref.NodeRef.{NodeRef}
 use Rattle.bdd_nodes.specs.declared.node_ref.Named.{Named}
 use Rattle.bdd_nodes.specs.declared.node_ref.Named.TheVariants.{Leaf, Inner}
 use Rattle.bdd_nodes.specs.declared.node.Node.{Node}
 use Rattle.bdd_nodes.specs.Nodes.{Label, node_of, rank, node_at, state_named, IsNamedIn, first_track, AsksNoneBelow, AreCanonical}
-use Rattle.bdd_nodes.specs.Shelf.{Contents, IsShelf, IsSideFor, IsLeaf, Splits, state_of, choice_of, low_of, high_of, low_named, high_named, rank_of}
+use Rattle.bdd_nodes.specs.Shelf.{Contents, IsShelf, IsSideFor, IsLeaf, Splits, choice_of, low_of, high_of, low_named, high_named, rank_of}
 use Rattle.bdd_nodes.proofs.RefLemmas.{node_of-leaf, node_of-inner}
 use Rattle.bdd_nodes.proofs.NodesLemmas.{state_named-leaf, state_named-inner}
 use Rattle.bdd_nodes.proofs.CanonicalLemmas.{IsNamedIn-rank}

@@ -1,11 +1,11 @@
 -- A shelf with one table more.
-use Rattle.std.proofs.Common.{◌≡◌, ◌≢◌, ℕ, suc, ◌+◌, ◌<◌, ◌≤◌, List, [], ◌∷◌, ◌++◌, length, get_or, Option, Some, None, sym, ◌∙◌, ap, refl, subst, inl, inr, arith}
+use Rattle.std.proofs.Common.{◌≡◌, ◌≢◌, ℕ, ◌+◌, List, [], ◌∷◌, ◌++◌, Option, Some, None, sym, ◌∙◌, ap, refl, subst, inl, inr, arith}
 use Rattle.std.specs.Prelude.{All, IfSome, slice_get, option_and_then}
 use Rattle.std.proofs.lemmas.Bool.{cases_lt}
 use Rattle.std.proofs.lemmas.Option.{slice_get_within, get_or_from_slice_get}
 use Rattle.bdd_nodes.specs.declared.node_ref.NodeRef.{NodeRef}
 use Rattle.bdd_nodes.specs.declared.roots.RootTable.{RootTable}
-use Rattle.bdd_nodes.specs.Roots.{Registered, number_of, roots_under, number_at, AreNumbered}
+use Rattle.bdd_nodes.specs.Roots.{number_of, AreNumbered}
 use Rattle.bdd_nodes.specs.Shelf.{Contents, IsShelf, IsValid, root_of, roots_of}
 use Rattle.bdd_nodes.specs.Changes.{AddsTable}
 use Rattle.bdd_nodes.proofs.RootsLemmas.{roots_under-push_other, roots_under-push_same}

@@ -1,17 +1,16 @@
 -- The functions under a function are those of the references that are reached.
-use Rattle.std.proofs.Common.{◌≡◌, ◌≢◌, ◌⊎◌, ℕ, suc, zero, ◌+◌, ◌^◌, ◌<◌, ◌≤◌, Bool, true, false, List, length, eqb, ltb, max, if◌then◌else◌, Option, Some, None, sym, ◌∙◌, ap, refl, subst, inl, inr, arith}
+use Rattle.std.proofs.Common.{◌≡◌, ◌⊎◌, ℕ, suc, zero, ◌^◌, ◌<◌, ◌≤◌, Bool, true, false, List, eqb, ltb, max, if◌then◌else◌, None, sym, ◌∙◌, ap, refl, subst, inl, inr, arith}
 use Rattle.std.proofs.lemmas.Bool.{cases_lt}
 use Rattle.std.proofs.lemmas.Bool.Decides.{nat_tests}
 use Rattle.bdd_nodes.specs.declared.node_ref.NodeRef.{NodeRef}
 use Rattle.bdd_nodes.specs.declared.node_ref.Named.{Named}
 use Rattle.bdd_nodes.specs.declared.node_ref.Named.TheVariants.{Leaf, Inner}
 use Rattle.bdd_nodes.specs.declared.node.Node.{Node}
-use Rattle.bdd_nodes.specs.Nodes.{Label, Function, node_of, rank, node_at, state_named, IsNamedIn, first_track, AsksNoneBelow, AreCanonical}
-use Rattle.bdd_nodes.specs.Roots.{roots_under, number_at}
+use Rattle.bdd_nodes.specs.Nodes.{Label, node_of, rank, node_at, state_named, IsNamedIn, AsksNoneBelow}
 use Rattle.bdd_nodes.specs.Shelf.{Contents, IsShelf, IsValid, state_of, low_named, high_named, with_first, IsUnderFunction, roots_of, tables_added}
 use Rattle.bdd_nodes.specs.Changes.{Reaches, itself, by_low, by_high, ReachesFunction}
 use Rattle.bdd_nodes.proofs.NodesLemmas.{state_named-leaf, state_named-inner}
-use Rattle.bdd_nodes.proofs.CanonicalLemmas.{IsNamedIn-rank, AsksNoneBelow-weaker, state_named-unasked}
+use Rattle.bdd_nodes.proofs.CanonicalLemmas.{IsNamedIn-rank, state_named-unasked}
 use Rattle.bdd_nodes.proofs.ReadLemmas.{small-leaf}
 use Rattle.bdd_nodes.proofs.RootsLemmas.{roots_under-none}
 

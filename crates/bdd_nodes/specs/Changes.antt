@@ -1,5 +1,5 @@
 -- What a call leaves of a shelf.
-use Rattle.std.specs.Prelude.{◌≡◌, ◌≢◌, ◌+◌, None, ℕ, Bool, true, List, length, Option, Some, option_map, IsSome, slice_get, nat_lt, ◌⊎◌, ◌↔◌, Contains}
+use Rattle.std.specs.Prelude.{◌≡◌, ◌≢◌, ◌+◌, None, ℕ, Bool, true, List, length, Some, option_map, IsSome, slice_get, nat_lt, ◌⊎◌, ◌↔◌, Contains}
 use Rattle.bdd_nodes.specs.declared.node_ref.NodeRef.{NodeRef}
 use Rattle.bdd_nodes.specs.declared.node_ref.Named.{Named}
 use Rattle.bdd_nodes.specs.declared.node_ref.Named.TheVariants.{Leaf, Inner}
@@ -7,7 +7,7 @@ use Rattle.bdd_nodes.specs.declared.node.Node.{Node}
 use Rattle.bdd_nodes.specs.declared.roots.RootTable.{RootTable}
 use Rattle.bdd_nodes.specs.Nodes.{Label, Function, node_of, first_track}
 use Rattle.bdd_nodes.specs.Roots.{root_under}
-use Rattle.bdd_nodes.specs.Shelf.{Contents, count_of, limit_of, IsValid, state_of, top_of, low_of, high_of, low_named, high_named, AsksFrom, roots_of, root_of, tables_added}
+use Rattle.bdd_nodes.specs.Shelf.{Contents, limit_of, IsValid, state_of, top_of, low_of, high_of, low_named, high_named, AsksFrom, roots_of, root_of, tables_added}
 
 -- every valid reference stays valid, with its function and with what it is under its first track
 pub record Keeps (old new : Contents) : Type 0 where

@@ -6,7 +6,7 @@ use Rattle.bdd_nodes.specs.declared.node_ref.Named.{Named}
 use Rattle.bdd_nodes.specs.declared.node_ref.Named.TheVariants.{Leaf, Inner}
 use Rattle.bdd_nodes.specs.declared.node.Node.{Node}
 use Rattle.bdd_nodes.specs.declared.roots.RootTable.{RootTable}
-use Rattle.bdd_nodes.specs.Nodes.{node_of, rank, node_at}
+use Rattle.bdd_nodes.specs.Nodes.{node_of, node_at}
 use Rattle.bdd_nodes.specs.Changes.{Reaches}
 
 -- the reference of the inner node at a place

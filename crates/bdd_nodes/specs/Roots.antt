@@ -1,5 +1,5 @@
 -- Tables of roots, each registered under a number of its own.
-use Rattle.std.specs.Prelude.{◌≡◌, ℕ, ◌<◌, List, [], ◌∷◌, length, Option, Some, None, nat_eq, option_and_then, slice_get, slice_index_or, if◌then◌else◌}
+use Rattle.std.specs.Prelude.{ℕ, ◌<◌, List, [], ◌∷◌, length, Option, Some, None, nat_eq, option_and_then, slice_get, slice_index_or, if◌then◌else◌}
 use Rattle.bdd_nodes.specs.declared.node_ref.NodeRef.{NodeRef}
 use Rattle.bdd_nodes.specs.declared.roots.RootTable.{RootTable}
 use Rattle.bdd_nodes.specs.declared.roots.TableId.{TableId}

@@ -1,6 +1,5 @@
-use Rattle.std.proofs.Common.{◌≡◌, ◌∙◌, sym, ap, ℕ}
-use Rattle.bdd_nodes.specs.declared.node_ref.Named.{Named}
-use Rattle.bdd_nodes.specs.Collecting.{linked_named, reference_to}
+use Rattle.std.proofs.Common.{◌∙◌, ap}
+use Rattle.bdd_nodes.specs.Collecting.{linked_named}
 use Rattle.bdd_nodes.proofs.MarksLemmas.{reference_to-named}
 use Rattle.bdd_nodes.proofs.collecting.linked.Goals as goal
 

@@ -1,9 +1,8 @@
-use Rattle.std.proofs.Common.{◌≡◌, ℕ, ◌+◌, ◌<◌, List, length, get_or, set, take, drop, ◌++◌, sym, ◌∙◌, ap, arith}
-use Rattle.std.specs.Prelude.{map}
+use Rattle.std.proofs.Common.{◌<◌, List, length, get_or, set, ◌∙◌, ap, arith}
 use Rattle.std.proofs.lemmas.List.Edits.{map_over_more}
 use Rattle.bdd_nodes.specs.declared.node_ref.NodeRef.{NodeRef}
 use Rattle.bdd_nodes.specs.Collecting.{linked}
-use Rattle.bdd_nodes.proofs.PlacesLemmas.{get_or-self, get_or-map_over}
+use Rattle.bdd_nodes.proofs.PlacesLemmas.{get_or-self}
 use Rattle.bdd_nodes.proofs.collecting.move_list.Goals as goal
 
 pub loop-index-preserved : goal.loop-index-preserved

@@ -4,7 +4,7 @@ use Rattle.std.proofs.lemmas.Bool.{cases_lt}
 use Rattle.bdd_nodes.specs.declared.node.Node.{Node}
 use Rattle.bdd_nodes.specs.Nodes.{node_at}
 use Rattle.bdd_nodes.specs.Collecting.{marked_below, moved_node, linked, MovesBelow}
-use Rattle.bdd_nodes.proofs.MovesLemmas.{MovesBelow-none, MovesBelow-marked, MovesBelow-unmarked, marked_below-le, low-linked, high-linked, node-moved}
+use Rattle.bdd_nodes.proofs.MovesLemmas.{MovesBelow-none, MovesBelow-marked, MovesBelow-unmarked, marked_below-le, node-moved}
 use Rattle.bdd_nodes.proofs.collecting.move_nodes.Goals as goal
 use Rattle.bdd_nodes.proofs.collecting.move_nodes.Goals.{then-index-eq1, else-index-eq1}
 

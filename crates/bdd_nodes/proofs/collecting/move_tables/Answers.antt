@@ -1,13 +1,13 @@
-use Rattle.std.proofs.Common.{◌≡◌, ℕ, ◌+◌, ◌<◌, List, [], length, get_or, set, take, drop, ◌++◌, sym, ◌∙◌, ap, subst, arith}
-use Rattle.std.specs.Prelude.{All, map}
+use Rattle.std.proofs.Common.{◌≡◌, ◌<◌, List, length, get_or, set, sym, ◌∙◌, ap, subst}
+use Rattle.std.specs.Prelude.{All}
 use Rattle.std.proofs.lemmas.List.Edits.{map_over_more}
 use Rattle.bdd_nodes.specs.declared.node_ref.NodeRef.{NodeRef}
 use Rattle.bdd_nodes.specs.declared.roots.RootTable.{RootTable}
 use Rattle.bdd_nodes.specs.Nodes.{node_of}
 use Rattle.bdd_nodes.specs.Roots.{table_at}
-use Rattle.bdd_nodes.specs.Collecting.{linked, linked_table, IsLinked}
+use Rattle.bdd_nodes.specs.Collecting.{linked_table, IsLinked}
 use Rattle.bdd_nodes.proofs.MarksLemmas.{All-table}
-use Rattle.bdd_nodes.proofs.PlacesLemmas.{get_or-self, get_or-map_over, get_or-any}
+use Rattle.bdd_nodes.proofs.PlacesLemmas.{get_or-map_over, get_or-any}
 use Rattle.bdd_nodes.proofs.collecting.move_tables.Goals as goal
 
 pub move_list-requires : goal.move_list-requires

@@ -1,5 +1,5 @@
 use Rattle.std.proofs.Common.{ap}
-use Rattle.bdd_nodes.specs.Nodes.{Label, node_of}
+use Rattle.bdd_nodes.specs.Nodes.{node_of}
 use Rattle.bdd_nodes.specs.declared.node_ref.NodeRef.{NodeRef}
 use Rattle.bdd_nodes.specs.Shelf.{state_of}
 use Rattle.bdd_nodes.proofs.RefLemmas.{node_of-injective}

@@ -1,9 +1,8 @@
 use Rattle.std.proofs.Common.{◌≡◌, ℕ, ◌+◌, List, [], ◌∷◌, ◌++◌, sym, ◌∙◌, ap, subst}
-use Rattle.std.specs.Prelude.{All}
 use Rattle.bdd_nodes.specs.declared.node.Node.{Node}
 use Rattle.bdd_nodes.specs.declared.roots.RootTable.{RootTable}
 use Rattle.bdd_nodes.specs.Roots.{Registered, number_of, AreNumbered}
-use Rattle.bdd_nodes.specs.Shelf.{Contents, IsShelf, IsValid, root_of}
+use Rattle.bdd_nodes.specs.Shelf.{Contents, IsShelf}
 use Rattle.bdd_nodes.specs.Changes.{AddsTable}
 use Rattle.bdd_nodes.proofs.TablesLemmas.{with_table, IsShelf-with_table, AddsTable-with_table}
 use Rattle.bdd_nodes.proofs.shelf.Shelf.add_table.Goals as goal

@@ -1,15 +1,15 @@
-use Rattle.std.proofs.Common.{◌≡◌, ℕ, ◌+◌, ◌<◌, ◌≤◌, ◌++◌, List, length, get_or, take, drop, vec_len, vec_capacity, sym, ◌∙◌, ap, subst, arith}
+use Rattle.std.proofs.Common.{◌≡◌, ℕ, ◌≤◌, List, length, take, vec_len, sym, ◌∙◌, ap, subst, arith}
 use Rattle.std.specs.Prelude.{All, map}
 use Rattle.bdd_nodes.specs.declared.node.Node.{Node}
 use Rattle.bdd_nodes.specs.declared.roots.RootTable.{RootTable}
-use Rattle.bdd_nodes.specs.Nodes.{node_of, rank}
+use Rattle.bdd_nodes.specs.Nodes.{node_of}
 use Rattle.bdd_nodes.specs.Roots.{Registered}
 use Rattle.bdd_nodes.specs.Shelf.{Contents, IsShelf, count_of}
 use Rattle.bdd_nodes.specs.Changes.{MovesRoots, CountsHeld}
-use Rattle.bdd_nodes.specs.Collecting.{all_roots, marked_below, linked_table, IsLinked, MarksList, MarksSides, MovesBelow}
+use Rattle.bdd_nodes.specs.Collecting.{all_roots, marked_below, linked_table, IsLinked, MarksSides, MovesBelow}
 use Rattle.bdd_nodes.specs.Index.{IsIndexed}
 use Rattle.bdd_nodes.proofs.PlacesLemmas.{take-written}
-use Rattle.bdd_nodes.proofs.CollectedLemmas.{All-rank, closed-marks, All-linked, collected, IsShelf-collected, MovesRoots-collected, CountsHeld-collected}
+use Rattle.bdd_nodes.proofs.CollectedLemmas.{All-rank, All-linked, collected, IsShelf-collected, MovesRoots-collected, CountsHeld-collected}
 use Rattle.bdd_nodes.proofs.shelf.Shelf.collect.Goals as goal
 use Rattle.bdd_nodes.proofs.shelf.Shelf.collect.Goals.{After-rebuild}
 

@@ -1,15 +1,13 @@
-use Rattle.std.proofs.Common.{◌≡◌, ◌≢◌, ◌↔◌, ℕ, suc, ◌+◌, ◌<◌, ◌≤◌, List, length, get_or, set, if◌then◌else◌, sym, ◌∙◌, ap, subst, refl, Bool, true, false, vec_len, arith, rules}
+use Rattle.std.proofs.Common.{◌≡◌, ◌≢◌, ℕ, ◌+◌, ◌<◌, List, length, if◌then◌else◌, sym, ◌∙◌, ap, subst, refl, Bool, true, false, vec_len, arith, rules}
 use Rattle.std.proofs.lemmas.List.{length-set}
 use Rattle.bdd_nodes.specs.declared.node.Node.{Node}
 use Rattle.bdd_nodes.specs.declared.node_ref.Named.TheVariants.{Inner}
 use Rattle.bdd_nodes.specs.Roots.{Registered}
 use Rattle.bdd_nodes.specs.Nodes.{Label, node_at, node_of}
 use Rattle.bdd_nodes.specs.Hash.{bucket_of}
-use Rattle.bdd_nodes.specs.Index.{IsIndexed}
-use Rattle.bdd_nodes.specs.Shelf.{Contents, IsShelf, IsSideFor, IsFullFor, Has, choice_of, state_of, count_of, limit_of, IsValid}
+use Rattle.bdd_nodes.specs.Shelf.{Contents, IsShelf, Has, choice_of, state_of, count_of, limit_of}
 use Rattle.bdd_nodes.specs.Changes.{Keeps, AddsOnly, is_valid}
-use Rattle.bdd_nodes.specs.Stored.{IsStored}
-use Rattle.bdd_nodes.proofs.GrowLemmas.{grown, length-grown, node_at-grown, node_at-last}
+use Rattle.bdd_nodes.proofs.GrowLemmas.{grown}
 use Rattle.bdd_nodes.proofs.IndexLemmas.{IsIndexed-grown}
 use Rattle.bdd_nodes.proofs.MakeLemmas.{count-valid, AddsOnly-valid, valid-place, states-place, Has-place, Has-absent, with_node, IsShelf-with_node, Keeps-with_node, states-made, AddsOnly-made, count-made}
 use Rattle.bdd_nodes.proofs.shelf.Shelf.make.Goals as goal
