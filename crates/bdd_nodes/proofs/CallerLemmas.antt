@@ -1,14 +1,15 @@
 -- What callers of a shelf cite.
-use Rattle.std.proofs.Common.{◌≡◌, ◌⊎◌, ℕ, suc, true, false, ltb, List, length, ◌∙◌, refl, subst, inl, inr, arith}
+use Rattle.std.proofs.Common.{◌≡◌, ◌⊎◌, ◌≤◌, ℕ, suc, true, false, ltb, List, length, Option, sym, ◌∙◌, ap, refl, subst, inl, inr, arith}
+use Rattle.std.specs.Prelude.{MatchOption}
 use Rattle.std.proofs.lemmas.Bool.Decides.{nat_tests}
 use Rattle.std.proofs.lemmas.Bool.{cases_lt}
 use Rattle.bdd_nodes.specs.declared.node_ref.NodeRef.{NodeRef}
 use Rattle.bdd_nodes.specs.declared.node_ref.Named.{Named}
 use Rattle.bdd_nodes.specs.declared.node_ref.Named.TheVariants.{Leaf, Inner}
 use Rattle.bdd_nodes.specs.declared.node.Node.{Node}
-use Rattle.bdd_nodes.specs.Nodes.{node_of, IsNamedIn}
-use Rattle.bdd_nodes.specs.Shelf.{Contents, IsShelf, IsValid, IsSideFor, Has, state_of}
-use Rattle.bdd_nodes.specs.Changes.{Keeps, AddsOnly, is_valid, is_named_in}
+use Rattle.bdd_nodes.specs.Nodes.{node_of, state_named, first_track, IsNamedIn, AsksNoneBelow}
+use Rattle.bdd_nodes.specs.Shelf.{Contents, IsShelf, IsValid, IsSideFor, Has, AsksFrom, state_of, top_of, low_named, high_named}
+use Rattle.bdd_nodes.specs.Changes.{Keeps, AddsOnly, SameNodes, is_valid, is_named_in}
 use Rattle.bdd_nodes.proofs.RefLemmas.{node_of-injective}
 use Rattle.bdd_nodes.proofs.CanonicalLemmas.{equal_named}
 
@@ -65,3 +66,18 @@ Has-before old new made is_shelf kept valid unknown has =
     (equal_named new.nodes is_shelf.canonical (node_of has.at) (node_of made) (kept.valid has.at has.valid) valid
     (λ label. kept.states has.at label has.valid ∙ has.states label)) in
     unknown (subst (IsValid old) same has.valid)
+
+-- the same nodes keep everything
+pub Keeps-same : (old new : Contents) → SameNodes old new → Keeps old new
+Keeps-same old new same = record {
+  valid = λ r valid. subst (λ (nodes : List Node). IsNamedIn nodes (node_of r)) (sym same.nodes) valid;
+  states = λ r label valid. ap (λ (nodes : List Node). state_named nodes (node_of r) label) same.nodes;
+  top = λ r valid. ap (λ (nodes : List Node). first_track nodes (node_of r)) same.nodes;
+  low = λ r valid. ap (λ (nodes : List Node). low_named nodes r (node_of r)) same.nodes;
+  high = λ r valid. ap (λ (nodes : List Node). high_named nodes r (node_of r)) same.nodes;
+  asks = λ r t valid asks. subst (λ (nodes : List Node). AsksNoneBelow nodes t (node_of r)) (sym same.nodes) asks;
+}
+
+-- the first track tells which tracks are asked, in another shelf too
+pub AsksFrom-top : (old new : Contents) (was now : NodeRef) (t : ℕ) → top_of new now ≡ top_of old was → AsksFrom old t was → AsksFrom new t now
+AsksFrom-top old new was now t same asks = subst (λ (first : Option ℕ). MatchOption first (Unit {0}) (λ u. t ≤ u)) (sym same) asks

@@ -46,7 +46,8 @@ impl Model for Shelf {
 }
 
 impl Shelf {
-    /// A shelf without nodes and tables, with all the memory for `limit` nodes and for collecting them.
+    /// A shelf without nodes and tables, with all the memory for `limit` nodes and for collecting them: 20 bytes a node.
+    /// `AllocError` for want of that memory.
     pub fn open(alloc: Global, limit: u32) -> Result<Shelf, AllocError>
         requires some { 1 ≤ limit }
         requires small { limit ≤ 16000000 }
@@ -64,7 +65,8 @@ impl Shelf {
         })
     }
 
-    /// The function that is `low`'s where the track is unset, and `high`'s where it is set. Takes no memory.
+    /// The function that is `low`'s where the track is unset, and `high`'s where it is set. `Full` exactly where the
+    /// sides differ, the limit is reached and nothing in the shelf stands for the function. Takes no memory.
     #[inline]
     pub fn make(&mut self, track: u32, low: NodeRef, high: NodeRef) -> Result<NodeRef, Full>
         requires low { IsSideFor self.old track low }

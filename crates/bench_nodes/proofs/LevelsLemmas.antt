@@ -14,9 +14,11 @@ pub IsLevel-push : (shelf : Contents) (t : ℕ) (level : List NodeRef) (r : Node
 IsLevel-push shelf t level r is_level from = record { each = All-push (IsFrom shelf t) level r is_level.each from }
 
 pub IsLevel-kept : (old new : Contents) (t : ℕ) (level : List NodeRef) → Keeps old new → IsLevel old t level → IsLevel new t level
-IsLevel-kept old new t level kept is_level = record { each = λ k d within.
-    let from = is_level.each k d within in
-    record { valid = kept.valid _ from.valid; asks = kept.asks _ t from.valid from.asks } }
+IsLevel-kept old new t level kept is_level = record {
+  each = λ k d within.
+      let from = is_level.each k d within in
+      record { valid = kept.valid _ from.valid; asks = kept.asks _ t from.valid from.asks };
+}
 
 pub IsFrom-leaf : (shelf : Contents) (t : ℕ) (r : NodeRef) (state : ℕ) → IsLeaf r state → IsFrom shelf t r
 IsFrom-leaf shelf t r state is_leaf = record { valid = is_leaf.valid shelf; asks = is_leaf.asks shelf t }

@@ -3,9 +3,8 @@
 ghost use Rattle.std.specs.Prelude.{◌≡◌, ◌<◌, ◌≤◌, suc, IfOk, length, vec_len};
 ghost use Rattle.bench_nodes.specs.Levels.{IsLevel};
 
-use std::alloc::{AllocError, Global};
-
 use bdd_nodes::{NodeRef, RefList, Shelf};
+use std::alloc::{AllocError, Global};
 
 /// A shift register: the same numbers in each round.
 #[derive(Drop)]
@@ -29,7 +28,12 @@ impl Numbers {
 }
 
 /// The leaves of the states below the width.
-fn make_leaves(alloc: Global, shelf: &Shelf, width: u32, track: u32) -> Result<Vec<NodeRef>, AllocError>
+fn make_leaves(
+    alloc: Global,
+    shelf: &Shelf,
+    width: u32,
+    track: u32,
+) -> Result<Vec<NodeRef>, AllocError>
     requires { width < 1000000 }
     ensures level { IfOk result (λ leaves. IsLevel shelf.now track leaves.items) }
     ensures len { IfOk result (λ leaves. vec_len leaves ≡ width) }
@@ -65,7 +69,12 @@ fn make_level(
 }
 
 /// One round: the top level over all the others.
-fn make_all(alloc: Global, shelf: &mut Shelf, width: u32, levels: u32) -> Result<Vec<NodeRef>, AllocError>
+fn make_all(
+    alloc: Global,
+    shelf: &mut Shelf,
+    width: u32,
+    levels: u32,
+) -> Result<Vec<NodeRef>, AllocError>
     requires some { 0 < width }
     requires fits { width < 1000000 }
     ensures { IfOk result (λ level. IsLevel shelf.new 0 level.items) }
@@ -88,14 +97,14 @@ pub struct Report {
     pub left: u32,
 }
 
-/// Makes the nodes, makes the same nodes again, and collects all but those under the top level.
+/// Makes the nodes, makes the same nodes again and once more, and collects all but those under the top level.
 pub fn run(
     alloc: Global,
     limit: u32,
     width: u32,
     levels: u32,
     rounds: u32,
-    collects: bool,
+    collections: u32,
 ) -> Result<Report, AllocError>
     requires some { 0 < width }
     requires fits { width < 1000000 }
@@ -109,9 +118,9 @@ pub fn run(
         make_all(alloc, &mut shelf, width, levels)?;
     }
     let again = shelf.count();
-    if collects {
-        let level = make_all(alloc, &mut shelf, width, levels)?;
-        shelf.add_table(RefList::from_vec(level))?;
+    let level = make_all(alloc, &mut shelf, width, levels)?;
+    shelf.add_table(RefList::from_vec(level))?;
+    for _collection in 0..collections {
         shelf.collect();
     }
     Ok(Report {

@@ -1,12 +1,12 @@
 //! Makes random nodes level by level, makes the same ones again in rounds, and collects them; prints counts alone.
-//! Its words: the shelf's limit, how many nodes a level, how many levels, how many rounds, and 1 for a collection or 0.
+//! Its words: the shelf's limit, how many nodes a level, how many levels, how many rounds, and how many
+//! collections.
 #![tactic(auto)]
 
 mod levels;
 
-use std::env;
-
 use anyhow::{Context, Result, ensure};
+use std::env;
 
 fn number(words: &mut env::Args, name: &str) -> Result<u32> {
     let word = words.next().context(format_args!("no {name}"))?;
@@ -23,7 +23,7 @@ fn main(rt: HostRuntime) -> Result<()> {
     let collections = number(&mut words, "collections")?;
     ensure!(0 < limit && limit <= 16_000_000, "{limit} nodes");
     ensure!(0 < width && width < 1_000_000, "{width} nodes a level");
-    let report = levels::run(rt.alloc(), limit, width, levels, rounds, collections == 1)?;
+    let report = levels::run(rt.alloc(), limit, width, levels, rounds, collections)?;
     let made = report.made;
     let again = report.again;
     let left = report.left;

@@ -19,7 +19,8 @@ impl Shelf {
         self.roots.root(id, index)
     }
 
-    /// Registers the roots under the number of the tables that were added before.
+    /// Registers the roots under the number of the tables that were added before. `AllocError` for want of memory, and
+    /// also where no number is left.
     pub fn add_table(&mut self, roots: RefList) -> Result<TableId, AllocError>
         requires { All (IsValid self.old) roots }
         ensures ok { IfOk result (λ id. AddsTable self.old self.new (number_of id) roots) }
