@@ -1,14 +1,14 @@
 -- The mask of a procedure stands for what its triple says of the values at entry.
-use Rattle.std.proofs.Common.{inl, inr, Option, Some, None, ◌≡◌, ℕ, zero, suc, ◌+◌, ◌-◌, ◌^◌, ◌<◌, ◌≤◌, Bool, true, false, List, [], ◌∷◌, length, get_or, refl, ap, sym, ◌∙◌, arith, subst}
+use Rattle.std.proofs.Common.{inl, inr, Option, Some, None, ◌≡◌, ℕ, zero, suc, ◌-◌, ◌^◌, ◌<◌, ◌≤◌, Bool, true, false, List, [], ◌∷◌, length, get_or, refl, ap, sym, ◌∙◌, arith, subst}
 use Rattle.std.proofs.lemmas.Bool.Decides.{nat_tests}
-use Rattle.std.specs.Prelude.{MatchOption, replicate, nat_lt, nat_le, ◌||◌}
+use Rattle.std.specs.Prelude.{MatchOption, replicate}
 use Rattle.std.proofs.lemmas.Option.{unwrap_or-slice_get}
 use Rattle.std.proofs.lemmas.List.{get_or-replicate, length-replicate}
 use Rattle.std.proofs.Math.Nat.{eq-or-lt_of_le}
 use Rattle.bool_path.specs.declared.program.BoolProc.{BoolProc}
 use Rattle.bool_path.specs.Counting.{Breaks, FitsMask, IsMaskOf, is_free, next_values, number_of}
 use Rattle.bool_path.proofs.CountingLemmas.{IsNext, next_values-is, number_of-below, number_of-injective}
-use Rattle.bool_path.specs.Meaning.{Fails, IsResultOrLocal, Meets, value_at, value_of}
+use Rattle.bool_path.specs.Meaning.{Fails, IsResultOrLocal, Meets, value_of}
 
 -- values fit where each that isn't free is false
 pub FitsMask-from_each : (mask values : List Bool) → length values ≡ length mask

@@ -1,5 +1,5 @@
-use Rattle.std.proofs.Common.{◌≡◌, length, arith, true, false, refl, ◌∙◌, add-one}
-use Rattle.bool_path.proofs.CountingLemmas.{next_from, next_from-found, next_from-carry, next_from-skip, next_from-past}
+use Rattle.std.proofs.Common.{◌≡◌, length, arith, refl, ◌∙◌, add-one}
+use Rattle.bool_path.proofs.CountingLemmas.{next_from-found, next_from-carry, next_from-skip, next_from-past}
 use Rattle.bool_path.proofs.judge.advance.Goals as goal
 use Rattle.bool_path.proofs.judge.advance.Goals.{then-mask-k+else-not-values-k, else-mask-k}
 

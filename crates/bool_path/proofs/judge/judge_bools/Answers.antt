@@ -1,6 +1,6 @@
-use Rattle.std.proofs.Common.{◌≡◌, ◌∙◌, ◌<◌, ◌-◌, ◌^◌, ℕ, Bool, List, length, arith, sym, ap, refl, rules, subst, false, Some, None}
+use Rattle.std.proofs.Common.{◌≡◌, ◌∙◌, ℕ, length, sym, ap, subst, false, Some, None}
 use Rattle.std.specs.Prelude.{IsTrue, replicate}
-use Rattle.bool_path.specs.Counting.{Breaks, FitsMask, IsMaskOf, next_values, number_of}
+use Rattle.bool_path.specs.Counting.{Breaks, next_values, number_of}
 use Rattle.std.proofs.lemmas.List.{with_items_is}
 use Rattle.bool_path.proofs.MaskLemmas.{new_length, number_of-nearer, Advances-none, Advances-some, next-fits, FitsMask-first, FitsMask-length, Meets-from_FitsMask, none_before_next, none_fails, number_of-least}
 use Rattle.bool_path.proofs.judge.judge_bools.Goals as goal

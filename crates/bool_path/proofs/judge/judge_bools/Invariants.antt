@@ -1,4 +1,4 @@
-use Rattle.std.proofs.Common.{◌≡◌, ℕ, ◌<◌, ◌-◌, ◌^◌, List, Bool, length}
+use Rattle.std.proofs.Common.{◌<◌, ◌-◌, ◌^◌, List, Bool, length}
 use Rattle.bool_path.specs.Counting.{FitsMask, Breaks, number_of}
 use Rattle.bool_path.proofs.judge.judge_bools.Given as goal
 
