@@ -1,7 +1,7 @@
 -- What a clause reads of a source and a sink over std.
 use Rattle.std.specs.Prelude.{ℕ, List, Option, None}
-use Rattle.pale_io.specs.declared.edge.StdSource.{StdSource}
-use Rattle.pale_io.specs.declared.edge.StdSink.{StdSink}
+use Rattle.pale_io.specs.declared.std_source.StdSource.{StdSource}
+use Rattle.pale_io.specs.declared.std_sink.StdSink.{StdSink}
 
 -- the reader below the source
 abbrev pub source_reader : {R : Type 0} → StdSource R → R

@@ -34,11 +34,11 @@ abbrev pub first_plan : List ℕ → Plan
 first_plan failing = record { failing = failing; next = Some 1; faults = 0 }
 
 -- a source in memory: the bytes that it has left, and its plan
-pub record Stream : Type 0 where
+pub record SourceState : Type 0 where
   pub left : List ℕ
   pub plan : Plan
 
 -- a sink in memory: the bytes written to it, and its plan
-pub record Record : Type 0 where
+pub record SinkState : Type 0 where
   pub written : List ℕ
   pub plan : Plan

@@ -8,7 +8,7 @@ use std::alloc::Global;
 use std::marker::Model;
 
 /// A source in memory that never fails. A clause sees the bytes that it has left.
-#[derive(Drop)]
+#[derive(Debug, Drop)]
 pub struct CleanSource {
     text: Vec<u8>,
     /// How many of them were read.
@@ -81,7 +81,7 @@ fn move_front(left: &[u8], buf: &mut [u8]) -> usize
 }
 
 /// A sink in memory that never fails, and may want memory. A clause sees the bytes written to it.
-#[derive(Drop)]
+#[derive(Debug, Drop)]
 pub struct CleanSink {
     bytes: Vec<u8>,
 }

@@ -8,20 +8,22 @@
 #![tactic(auto)]
 
 mod clean;
-mod edge;
 mod plan;
 mod planned;
 mod reading;
 mod sink;
 mod source;
+mod std_sink;
+mod std_source;
 mod stops;
 mod writing;
 
 pub use clean::{CleanSink, CleanSource};
-pub use edge::{StdSink, StdSource};
 pub use planned::{MemSink, MemSource};
 pub use reading::read_all;
 pub use sink::Sink;
 pub use source::Source;
+pub use std_sink::StdSink;
+pub use std_source::StdSource;
 pub use stops::{Failed, ReadStop, WriteStop};
 pub use writing::write_all;

@@ -5,7 +5,7 @@ ghost use Rattle.std.specs.Bool.{OnTrue, OnFalse};
 use std::marker::Model;
 
 /// Counts calls, and fails those that it was told to. A clause sees it as a `Plan` of `specs/Plan.antt`.
-#[derive(Drop)]
+#[derive(Debug, Drop)]
 pub(crate) struct FaultPlan {
     failing: Vec<u64>,
     /// The number of the next call, where a u64 is left for it.

@@ -8,17 +8,17 @@ use crate::{CleanSink, CleanSource, Failed, Sink, Source, WriteStop};
 use std::alloc::Global;
 use std::marker::Model;
 
-/// A source in memory whose calls with listed numbers fail. A clause sees it as a `Stream` of `specs/Plan.antt`.
-#[derive(Drop)]
+/// A source in memory whose calls with listed numbers fail. A clause sees it as a `SourceState` of `specs/Plan.antt`.
+#[derive(Debug, Drop)]
 pub struct MemSource {
     bytes: CleanSource,
     calls: FaultPlan,
 }
 
 impl Model for MemSource {
-    ghost use Rattle.pale_io.specs.Plan.{Stream};
+    ghost use Rattle.pale_io.specs.Plan.{SourceState};
 
-    ghost Value = { Stream };
+    ghost Value = { SourceState };
 
     ghost view = { λ source. record { left = source.bytes; plan = source.calls } };
 }
@@ -82,17 +82,17 @@ impl Source for MemSource {
 }
 
 /// A sink in memory whose calls with listed numbers fail, and which may want memory. A clause sees it as a
-/// `Record` of `specs/Plan.antt`.
-#[derive(Drop)]
+/// `SinkState` of `specs/Plan.antt`.
+#[derive(Debug, Drop)]
 pub struct MemSink {
     bytes: CleanSink,
     calls: FaultPlan,
 }
 
 impl Model for MemSink {
-    ghost use Rattle.pale_io.specs.Plan.{Record};
+    ghost use Rattle.pale_io.specs.Plan.{SinkState};
 
-    ghost Value = { Record };
+    ghost Value = { SinkState };
 
     ghost view = { λ sink. record { written = sink.bytes; plan = sink.calls } };
 }
