@@ -1,3 +1,4 @@
 mod CommandLemmas
+mod ReportLemmas
 mod SameRulesLemmas
 mod SettingsLemmas

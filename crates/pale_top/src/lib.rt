@@ -1,8 +1,11 @@
-//! What the program `pale` does, over a source and a sink of bytes.
+//! What the program `pale` does with its words, over a source and a sink of bytes.
 #![tactic(auto)]
 
+mod report;
+mod status;
 mod words;
 
+pub use status::Status;
 pub use words::{Mode, Settings, WordsStop, read_words};
 
 #[cfg(test)]
