@@ -2,3 +2,5 @@ mod CommandLemmas
 mod ReportLemmas
 mod SameRulesLemmas
 mod SettingsLemmas
+mod TripleLemmas
+mod WrittenLemmas
