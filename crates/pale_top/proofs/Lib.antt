@@ -1,3 +1,4 @@
+mod CallLemmas
 mod CommandLemmas
 mod ReportLemmas
 mod SameRulesLemmas

@@ -1,10 +1,12 @@
 -- What two writes leave, one after the other.
-use Rattle.std.proofs.Common.{◌≡◌, ◌∙◌, ◌+◌, ◌<◌, ◌≤◌, ℕ, List, ◌++◌, length, take, refl, ap, sym, arith, Option, Some, None, append_assoc, length-append, Result, Ok, Err}
+use Rattle.std.proofs.Common.{◌≡◌, ◌∙◌, ◌+◌, ◌<◌, ◌≤◌, ℕ, List, ◌++◌, length, take, refl, ap, sym, arith, Option, Some, None, append_assoc, length-append, Result, Ok, Err, inl, inr}
 use Rattle.std.specs.Prelude.{OnErr}
 use Rattle.std.proofs.lemmas.List.{take-append-le}
 use Rattle.std.proofs.Math.Seq.{take-append_seam, take-append-add}
 use Rattle.pale_io.specs.Told.{appended}
 use Rattle.pale_io.specs.Whole.{WritesAll, WritesFront}
+use Rattle.pale_top.specs.declared.status.Status.{Status}
+use Rattle.pale_top.specs.Output.{Wrote, WroteAtMost}
 
 pub on_err : {T E P : Type 0} (r : Result T E) → P → OnErr r P
 on_err (Ok x) p = tt
@@ -49,3 +51,26 @@ front_of_second a b c xs ys first front =
       added = front.added ∙ (ap (λ told. appended told (take front.count ys)) first.added
           ∙ (appended-append a xs (take front.count ys) ∙ ap (appended a) (sym (take-append-add xs ys front.count))));
     }
+
+-- ---- outputs that are allowed
+
+pub line_written : (Allowed : List ℕ → Status → Type 0) (before after : Option (List ℕ)) (line : List ℕ) (status : Status)
+    → Allowed line status → WritesAll before after line → Wrote Allowed before after status
+line_written Allowed before after line status allowed written = record { output = line; allowed = allowed; written = written }
+
+pub line_begun : (Allowed : List ℕ → Status → Type 0) (before after : Option (List ℕ)) (line : List ℕ) (status : Status)
+    → Allowed line status → WritesFront before after line → WroteAtMost Allowed before after
+line_begun Allowed before after line status allowed written = inr (record { output = line; status = status; allowed = allowed; written = written })
+
+module _ (A B : List ℕ → Status → Type 0) (follows : (output : List ℕ) (status : Status) → A output status → B output status) (before after : Option (List ℕ)) where
+  pub Wrote-weaker : (status : Status) → Wrote A before after status → Wrote B before after status
+  Wrote-weaker status wrote = record { output = wrote.output; allowed = follows wrote.output status wrote.allowed; written = wrote.written }
+
+  pub WroteAtMost-weaker : WroteAtMost A before after → WroteAtMost B before after
+  WroteAtMost-weaker (inl nothing) = inl nothing
+  WroteAtMost-weaker (inr front) = inr (record {
+    output = front.output;
+    status = front.status;
+    allowed = follows front.output front.status front.allowed;
+    written = front.written;
+  })

@@ -1,12 +1,14 @@
 -- What a call of the program writes and how it ends, by its words and by the text that its source had left.
 -- The definitions speak of texts, programs and the values of variables, and of no step that the program makes.
-use Rattle.std.specs.Prelude.{◌≡◌, ◌⊎◌, ◌<◌, ◌≤◌, ℕ, List, ◌++◌, length, Option, Some, None, IfSome}
+use Rattle.std.specs.Prelude.{◌≡◌, ◌⊎◌, ◌<◌, ◌≤◌, ℕ, List, ◌++◌, length, Option, Some, None, IfSome, Result, Ok, Err}
 use Rattle.bool_path.specs.Reading.{Reads}
 use Rattle.bool_path.specs.Judging.{Says}
 use Rattle.bool_path.specs.declared.program.BoolProc.{BoolProc}
 use Rattle.bool_path.specs.declared.program.BoolProgram.{BoolProgram}
 use Rattle.bool_path.specs.declared.judge.BoolJudged.{BoolJudged}
 use Rattle.bool_path.specs.declared.judge.BoolJudged.TheVariants.{Valid, Invalid}
+use Rattle.pale_io.specs.declared.stops.WriteStop.{WriteStop}
+use Rattle.pale_io.specs.declared.stops.WriteStop.TheVariants.{Failed, NoMemory}
 use Rattle.pale_io.specs.Whole.{WritesAll, WritesFront}
 use Rattle.pale_top.specs.declared.status.Status.{Status}
 use Rattle.pale_top.specs.declared.status.Status.TheVariants.{Good, Bad, Words, Text, Limit, Memory, ReadFault, WriteFault}
@@ -74,6 +76,12 @@ abbrev pub IsCutShort : Status → Type 0
 IsCutShort Memory = Unit {0}
 IsCutShort WriteFault = Unit {0}
 IsCutShort status = ⊥
+
+-- the status of a call after this outcome at the sink
+abbrev pub EndsBy : Result Status WriteStop → Status → Type 0
+EndsBy (Ok answer) status = status ≡ answer
+EndsBy (Err Failed) status = status ≡ WriteFault
+EndsBy (Err NoMemory) status = status ≡ Memory
 
 -- By what a sink told before and after: an output was written that is allowed with this status.
 pub record Wrote (Allowed : List ℕ → Status → Type 0) (before after : Option (List ℕ)) (status : Status) : Type 0 where

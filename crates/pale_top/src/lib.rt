@@ -9,6 +9,7 @@ mod report;
 mod status;
 mod words;
 
+pub use call::pale_main;
 pub use status::Status;
 pub use words::{Mode, Settings, WordsStop, read_words};
 

@@ -31,9 +31,9 @@ returns-clause-ok g c =
     let report = subst (λ (piece : List ℕ). WritesAll before between piece) (c.as_slice.ensures.value ∙ c.in_ok-report.ensures) c.in_ok-write_all.ensures.whole in
     let line = c.as_slice-2.ensures.value ∙ c.in_ok-line.ensures in
     IfOk-weaker c.say.result _ _ (λ status said.
-        let totals = subst (λ (piece : List ℕ). WritesAll between after piece) line said.1 in
-        subst (λ (s : Status). Wrote (ReportsTriple p) before after s) (sym (said.0 ∙ c.status_of.ensures))
-        (totals_written p judged c.in_ok-judged.ensures before between report after totals)) c.say.ensures.ok
+    let totals = subst (λ (piece : List ℕ). WritesAll between after piece) line said.1 in
+    subst (λ (s : Status). Wrote (ReportsTriple p) before after s) (sym (said.0 ∙ c.status_of.ensures))
+    (totals_written p judged c.in_ok-judged.ensures before between report after totals)) c.say.ensures.ok
 
 pub returns-clause-err : goal.returns-clause-err
 returns-clause-err g c =
