@@ -1,0 +1,4 @@
+pub mod Lexing
+pub mod Places
+pub mod Refusals
+pub mod Spelling

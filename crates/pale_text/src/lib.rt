@@ -1,0 +1,12 @@
+//! Texts as tokens: the marks, names and numbers of program text and of WS2S text, each with its place.
+//! `specs/Spelling.antt` says what spells a token, and `specs/Lexing.antt` which tokens a text has and where it has none.
+//! The parsers of both languages stand on `lex` and on these types, and no crate above looks at how bytes are read.
+#![tactic(auto)]
+
+mod place;
+mod refusal;
+mod token;
+
+pub use place::{Pos, Span};
+pub use refusal::{Refusal, RefusalKind, TextStop};
+pub use token::{ByteList, Mark, Token, TokenKind, TokenList};
