@@ -9,6 +9,8 @@ mod lexer;
 mod piece;
 mod place;
 mod refusal;
+#[cfg(test)]
+mod tests;
 mod token;
 
 pub use laws::{stray_byte_is_one, tokens_are_one};

@@ -1,5 +1,5 @@
 use Rattle.std.proofs.Common.{length, ◌∙◌, ap, sym}
-use Rattle.pale_text.proofs.PieceLemmas.{name_is_piece, number_is_piece, mark_is_piece}
+use Rattle.pale_text.proofs.PieceLemmas.{name_is_piece, number_is_piece, mark_is_piece, no_mark_is_piece, nothing_is_piece}
 use Rattle.pale_text.proofs.piece.read_piece.Goals as goal
 
 pub returns-then-is_ascii_alphabetic : goal.returns-then-is_ascii_alphabetic
@@ -17,3 +17,12 @@ returns c =
     mark_is_piece c.args.text.now c.in-Some.first.now _ c.in-Some-mark_of.mark (sym c.in-Some.ensures.value)
     (sym c.is_ascii_alphabetic.ensures.value ∙ c.if-is_ascii_alphabetic.false) (sym c.is_ascii_digit.ensures.value ∙ c.if-is_ascii_digit.false)
     (sym c.in-Some-mark_of.ensures) (ap length c.bytes.ensures)
+
+pub returns-in_default : goal.returns-in_default
+returns-in_default c = nothing_is_piece c.args.text.now (sym c.in_default.ensures.value)
+
+pub returns-in_default-mark_of : goal.returns-in_default-mark_of
+returns-in_default-mark_of c =
+    no_mark_is_piece c.args.text.now c.in-Some.first.now (sym c.in-Some.ensures.value)
+    (sym c.is_ascii_alphabetic.ensures.value ∙ c.if-is_ascii_alphabetic.false) (sym c.is_ascii_digit.ensures.value ∙ c.if-is_ascii_digit.false)
+    (sym c.in_default-mark_of.ensures)
