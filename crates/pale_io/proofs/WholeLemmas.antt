@@ -1,10 +1,10 @@
 -- Laws of `specs/Whole.antt`: what a piece more makes of a whole read or write, and what several whole writes make.
-use Rattle.std.proofs.Common.{◌≡◌, ℕ, ◌+◌, ◌<◌, ◌≤◌, List, [], ◌++◌, take, drop, length, Option, Some, None, refl, sym, ap, ◌∙◌, arith, length-append}
+use Rattle.std.proofs.Common.{◌≡◌, ℕ, ◌+◌, ◌<◌, ◌≤◌, List, [], ◌++◌, take, length, Option, Some, None, refl, sym, ap, ◌∙◌, arith, length-append}
 use Rattle.std.proofs.lemmas.List.{append-nil, take-append-le}
 use Rattle.std.proofs.Math.Seq.{drop-append_seam, take-append_seam, take-append-add}
-use Rattle.pale_io.specs.Told.{prepended, appended, without_first, emptied, IsEmpty}
+use Rattle.pale_io.specs.Told.{prepended, appended, IsEmpty}
 use Rattle.pale_io.specs.Whole.{ReadsAll, ReadsTooMany, ReadsFront, WritesAll, WritesFront}
-use Rattle.pale_io.proofs.ToldLemmas.{prepended-prepended, appended-appended, without_first-prepended, appended-none}
+use Rattle.pale_io.proofs.ToldLemmas.{appended-appended, without_first-prepended, appended-none}
 
 -- bytes were taken off the front, and then nothing is left
 pub ReadsAll-at_end : (most : ℕ) (before after : Option (List ℕ)) (bytes : List ℕ) → length bytes ≤ most → before ≡ prepended bytes after → IsEmpty after → ReadsAll most before after bytes
