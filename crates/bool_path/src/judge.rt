@@ -6,7 +6,7 @@ ghost use Rattle.bool_path.specs.Judging.{Says};
 ghost use Rattle.bool_path.specs.Meaning.{after_body, after_statement, value_of};
 
 use crate::program::{BitList, BoolExpr, BoolProc, BoolStmt};
-use sqlite_items::{Items, at};
+use plain_data::{Items, at};
 use std::alloc::{AllocError, Global};
 
 /// What is known of a triple.
