@@ -1,4 +1,5 @@
-pub mod Fronts
 pub mod LexLemmas
+pub mod ListLemmas
+pub mod MarkLemmas
 pub mod PieceLemmas
 pub mod ReadingLemmas

@@ -1,3 +1,4 @@
+pub mod Fronts
 pub mod Lexing
 pub mod Places
 pub mod Refusals
