@@ -3,3 +3,4 @@ pub mod ListLemmas
 pub mod MarkLemmas
 pub mod PieceLemmas
 pub mod ReadingLemmas
+pub mod SpelledLemmas

@@ -2,4 +2,5 @@ pub mod Fronts
 pub mod Lexing
 pub mod Places
 pub mod Refusals
+pub mod Spelled
 pub mod Spelling
