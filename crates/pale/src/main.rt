@@ -7,9 +7,8 @@
 use pale_io::{StdSink, StdSource};
 use pale_top::{Status, pale_main};
 use std::alloc::AllocError;
-use std::env;
-use std::io;
 use std::process::ExitCode;
+use std::{env, io};
 
 /// The words of the process. Where they can't be had as text, there are none.
 fn words_of(rt: &HostRuntime) -> Result<Vec<String>, AllocError> {

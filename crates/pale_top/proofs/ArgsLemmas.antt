@@ -1,14 +1,14 @@
 -- The three arguments of a command whose shape is that of the definition.
-use Rattle.std.proofs.Common.{◌≡◌, ◌∙◌, ◌<◌, ◌≤◌, ◌⊎◌, ◌&&◌, ℕ, Bool, List, [], ◌∷◌, zero, suc, length, map, ap, refl, sym, subst, arith, Option, Some, None, is_some, true, false, not, true≢false, inl, inr, codes}
+use Rattle.std.proofs.Common.{◌≡◌, ◌∙◌, ◌<◌, ◌≤◌, ◌⊎◌, ℕ, List, [], ◌∷◌, zero, suc, length, map, ap, refl, sym, subst, arith, Option, Some, None, is_some, true, false, not, true≢false, inl, inr, codes}
 use Rattle.std.specs.Prelude.{slice_index}
-use Rattle.std.specs.List.{All, slice_index_or}
+use Rattle.std.specs.List.{slice_index_or}
 use Rattle.std.specs.Str.{bytes_eq}
 use Rattle.std.specs.Borrow.{Bor}
 use Rattle.clap.specs.Texts.{items_of}
-use Rattle.clap.specs.Facts.{WantsDefault, args_of, groups_of, least_values, unwrap_or_range}
-use Rattle.clap.specs.Built.{IsAuto, IsPlain, IsPlainArg}
+use Rattle.clap.specs.Facts.{WantsDefault, args_of, least_values, unwrap_or_range}
+use Rattle.clap.specs.Built.{IsPlain}
 use Rattle.clap.specs.Walk.{Rule, Text, is_free_arg, is_simple_arg, rule_of, texts}
-use Rattle.clap.specs.Simple.{App, app_of, shape_of}
+use Rattle.clap.specs.Simple.{App, app_of}
 use Rattle.clap.specs.declared.builder.arg.Arg.{Arg}
 use Rattle.clap.specs.declared.builder.command.Command.{Command}
 use Rattle.clap.specs.declared.builder.command.Command.TheViews.{out-Command}
@@ -172,6 +172,7 @@ module _ (old : Command) (p : ValueParser) (is : app_of old ≡ command_with p) 
   pub wants_default : (k : ℕ) (d : Arg) → k < 3 → 0 < length (slice_index_or (rules_of p) k (rule_of d)).defaults → WantsDefault (slice_index_or (args_of old) k d)
   wants_default k d lt some =
       let count : length (texts (items_of (slice_index_or (args_of old) k d).default_vals)) ≡ length (slice_index_or (rules_of p) k (rule_of d)).defaults =
-      ap (λ (r : Rule). length r.defaults) (at k d lt) in
-      ((simple_parts (slice_index_or (args_of old) k d) (simple k d lt)).1,
-      omega (arith, length-texts (items_of (slice_index_or (args_of old) k d).default_vals)))
+      ap (λ (r : Rule). length r.defaults) (at k d lt) in (
+        (simple_parts (slice_index_or (args_of old) k d) (simple k d lt)).1,
+        omega (arith, length-texts (items_of (slice_index_or (args_of old) k d).default_vals)),
+      )

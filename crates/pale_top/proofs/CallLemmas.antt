@@ -1,5 +1,5 @@
 -- What a call leaves, by what it read and wrote.
-use Rattle.std.proofs.Common.{◌≡◌, ◌∙◌, ◌+◌, ◌<◌, ◌≤◌, ℕ, List, [], ◌∷◌, length, replicate, drop, refl, ap, subst, sym, arith, inl, inr, Option, Some, None, Result, Ok, Err}
+use Rattle.std.proofs.Common.{◌≡◌, ◌∙◌, ◌+◌, ◌<◌, ◌≤◌, ℕ, List, [], length, replicate, refl, ap, subst, sym, arith, inr, Option, Some, None, Result, Ok, Err}
 use Rattle.std.specs.Prelude.{IfSome, IfOk, OnErr}
 use Rattle.std.proofs.Math.ListN.{drop_of_length-le}
 use Rattle.std.proofs.lemmas.List.{length-replicate}
@@ -11,13 +11,12 @@ use Rattle.pale_io.specs.Whole.{ReadsAll, WritesAll, WritesFront}
 use Rattle.pale_io.specs.declared.stops.WriteStop.{WriteStop}
 use Rattle.pale_io.specs.declared.stops.WriteStop.TheVariants.{Failed, NoMemory}
 use Rattle.pale_top.specs.declared.status.Status.{Status}
-use Rattle.pale_top.specs.declared.status.Status.TheVariants.{Good, Bad, Words, Text, Limit, Memory, ReadFault, WriteFault}
 use Rattle.pale_top.specs.declared.words.Mode.{Mode}
 use Rattle.pale_top.specs.declared.words.Mode.TheVariants.{Check}
 use Rattle.pale_top.specs.declared.words.Settings.{Settings}
 use Rattle.pale_top.specs.Words.{Gives, IsRefused}
 use Rattle.pale_top.proofs.WrittenLemmas.{Wrote-weaker, WroteAtMost-weaker}
-use Rattle.pale_top.specs.Output.{Answers, Begins, Checks, too_long, not_yet, report, EndsBy, IsAnswer, IsCutShort, Output, check, Reports, Wrote, WroteAtMost, most_bytes, status_of}
+use Rattle.pale_top.specs.Output.{Answers, Begins, Checks, too_long, not_yet, report, EndsBy, IsAnswer, IsCutShort, Output, check, Reports, Wrote, WroteAtMost, status_of}
 
 -- ---- the text that was read
 

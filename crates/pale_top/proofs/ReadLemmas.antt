@@ -1,5 +1,5 @@
 -- Where the command takes the words, its rows have a mode and two numbers.
-use Rattle.std.proofs.Common.{◌≡◌, ◌∙◌, ◌<◌, ◌^◌, ◌||◌, ℕ, Bool, List, [], ◌∷◌, zero, suc, length, map, cond, ap, refl, sym, subst, arith, Option, Some, None, is_some, true, false, true≢false, codes, lit<, option_map}
+use Rattle.std.proofs.Common.{◌≡◌, ◌∙◌, ◌<◌, ◌^◌, ◌||◌, ℕ, Bool, List, [], ◌∷◌, zero, suc, length, cond, ap, refl, sym, subst, arith, Some, is_some, true, false, true≢false, codes, lit<, option_map}
 use Rattle.std.specs.Prelude.{find, pos}
 use Rattle.std.specs.List.{list_any, slice_index_or}
 use Rattle.std.specs.Str.{bytes_eq}
@@ -7,7 +7,7 @@ use Rattle.std.specs.Borrow.{Bor}
 use Rattle.std.proofs.lemmas.Slice.Eq.{bytes_eq-Decides}
 use Rattle.clap.specs.Facts.{Entry, HasIn, args_of}
 use Rattle.clap.specs.Built.{IsParsedFrom}
-use Rattle.clap.specs.Matches.{first_value, found_of, matched_of, one_text}
+use Rattle.clap.specs.Matches.{first_value, found_of, one_text}
 use Rattle.clap.specs.Values.{Accepts, same_text}
 use Rattle.clap.specs.Lexer.{without_minus}
 use Rattle.clap.specs.Walk.{Text, rows_of, rule_of}
@@ -15,9 +15,8 @@ use Rattle.clap.specs.Simple.{app_of}
 use Rattle.clap.specs.declared.builder.arg.Arg.{Arg}
 use Rattle.clap.specs.declared.builder.command.Command.{Command}
 use Rattle.clap.specs.declared.builder.value_parser.ValueParser.{ValueParser}
-use Rattle.clap.specs.declared.builder.value_parser.ValueParser.TheVariants.{Names, Signed}
+use Rattle.clap.specs.declared.builder.value_parser.ValueParser.TheVariants.{Signed}
 use Rattle.clap.specs.declared.parser.matches.ArgMatches.{ArgMatches}
-use Rattle.clap.specs.declared.parser.matches.Found.{Found}
 use Rattle.clap.proofs.CallerLemmas.{default_present, present_has_entry, required_present}
 use Rattle.clap.proofs.WalkLemmas.{first_value-rows, list_any-map, one_text-rows}
 use Rattle.pale_top.specs.declared.words.Mode.{Mode}

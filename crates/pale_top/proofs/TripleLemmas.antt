@@ -1,12 +1,11 @@
 -- What is written for a triple.
-use Rattle.std.proofs.Common.{◌≡◌, ◌<◌, ℕ, List, length, refl, arith, inl, inr, Option, ◌++◌}
+use Rattle.std.proofs.Common.{◌<◌, ℕ, List, length, refl, arith, inr, Option, ◌++◌}
 use Rattle.bool_path.specs.Judging.{Says}
 use Rattle.bool_path.specs.declared.program.BoolProc.{BoolProc}
 use Rattle.bool_path.specs.declared.judge.BoolJudged.{BoolJudged}
 use Rattle.bool_path.specs.declared.judge.BoolJudged.TheVariants.{Valid, Invalid}
 use Rattle.pale_io.specs.Whole.{WritesAll, WritesFront}
-use Rattle.pale_top.specs.declared.status.Status.{Status}
-use Rattle.pale_top.specs.Output.{ReportsTriple, Wrote, WroteAtMost, WroteFront, status_of, totals_of, triple_report}
+use Rattle.pale_top.specs.Output.{ReportsTriple, Wrote, WroteAtMost, status_of, totals_of, triple_report}
 use Rattle.pale_top.proofs.WrittenLemmas.{both_written, first_written, front_of_first, front_of_second}
 
 -- the line of totals has bytes

@@ -11,7 +11,7 @@ use Rattle.pale_io.specs.declared.stops.WriteStop.{WriteStop}
 use Rattle.pale_io.specs.declared.stops.WriteStop.TheVariants.{Failed, NoMemory}
 use Rattle.pale_io.specs.Whole.{WritesAll, WritesFront}
 use Rattle.pale_top.specs.declared.status.Status.{Status}
-use Rattle.pale_top.specs.declared.status.Status.TheVariants.{Good, Bad, Words, Text, Limit, Memory, ReadFault, WriteFault}
+use Rattle.pale_top.specs.declared.status.Status.TheVariants.{Good, Bad, Words, Text, Memory, ReadFault, WriteFault}
 use Rattle.pale_top.specs.declared.words.Mode.TheVariants.{Check}
 use Rattle.pale_top.specs.declared.words.Settings.{Settings}
 use Rattle.pale_top.specs.Words.{Gives, IsRefused}

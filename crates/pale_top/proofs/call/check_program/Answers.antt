@@ -1,4 +1,4 @@
-use Rattle.std.proofs.Common.{◌≡◌, ◌∙◌, refl, subst, sym, List, ℕ, Option}
+use Rattle.std.proofs.Common.{◌∙◌, refl, subst, sym, List, ℕ, Option}
 use Rattle.std.proofs.lemmas.Result.{on_err_weaker}
 use Rattle.bool_path.specs.declared.program.BoolProc.{BoolProc}
 use Rattle.pale_io.specs.Whole.{WritesFront}

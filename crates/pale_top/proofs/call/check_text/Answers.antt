@@ -1,6 +1,5 @@
 use Rattle.std.proofs.Common.{rules, subst, sym}
 use Rattle.std.proofs.lemmas.Result.{IfOk-weaker, on_err_weaker}
-use Rattle.pale_io.specs.Whole.{WritesAll}
 use Rattle.pale_top.specs.declared.status.Status.{Status}
 use Rattle.pale_top.specs.declared.status.Status.TheVariants.{Text}
 use Rattle.pale_top.specs.Output.{Checks, Reports, Wrote}

@@ -1,8 +1,8 @@
-use Rattle.std.proofs.Common.{◌≡◌, ◌∙◌, sym, subst, List, ℕ}
+use Rattle.std.proofs.Common.{◌∙◌, sym, subst, List, ℕ}
 use Rattle.std.proofs.lemmas.Result.{IfOk-weaker, on_err_weaker}
 use Rattle.pale_io.specs.Whole.{WritesAll, WritesFront}
 use Rattle.pale_top.specs.declared.status.Status.{Status}
-use Rattle.pale_top.specs.Output.{ReportsTriple, Wrote, totals_of, triple_report}
+use Rattle.pale_top.specs.Output.{ReportsTriple, Wrote}
 use Rattle.pale_top.proofs.TripleLemmas.{report_begun, report_written, totals_begun, totals_written}
 use Rattle.pale_top.proofs.WrittenLemmas.{on_err}
 use Rattle.pale_top.proofs.call.check_triple.Goals as goal

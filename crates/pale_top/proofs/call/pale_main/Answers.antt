@@ -1,4 +1,4 @@
-use Rattle.std.proofs.Common.{◌≡◌, List, ℕ, rules, refl, inl, map}
+use Rattle.std.proofs.Common.{rules, refl, inl, map}
 use Rattle.std.specs.String.{string_bytes}
 use Rattle.pale_top.specs.declared.status.Status.TheVariants.{Words}
 use Rattle.pale_top.specs.Output.{Output, refused}

@@ -1,7 +1,7 @@
-use Rattle.std.proofs.Common.{◌≡◌, ◌∙◌, ap, map, sym, subst, List, ℕ}
+use Rattle.std.proofs.Common.{◌≡◌, ◌∙◌, ap, map, sym, subst, List}
 use Rattle.std.specs.String.{string_bytes}
 use Rattle.clap.specs.Words.{Row, app_of, fault_of, matches_of}
-use Rattle.pale_top.specs.Words.{Gives, HasSettings, IsRefused}
+use Rattle.pale_top.specs.Words.{HasSettings, IsRefused}
 use Rattle.pale_top.proofs.CommandLemmas.{command_faults, command_free, command_matches, command_simple}
 use Rattle.pale_top.proofs.ReadLemmas.{has_values}
 use Rattle.pale_top.proofs.SettingsLemmas.{some_fault}
