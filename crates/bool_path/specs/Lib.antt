@@ -1,3 +1,4 @@
 pub mod Judging
 pub mod Meaning
 pub mod Reading
+pub mod Steps

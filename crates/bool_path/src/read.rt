@@ -4,6 +4,8 @@ ghost use Rattle.std.specs.Prelude.{◌≡◌, ◌<◌, IfOk, IsErrOf, length};
 ghost use Rattle.bool_path.specs.Reading.{Reads};
 ghost use Rattle.bool_path.specs.declared.program.BoolProgram.{BoolProgram as Program};
 
+mod steps;
+
 use crate::program::{BoolProgram, BoolStop};
 use std::alloc::Global;
 

@@ -3,10 +3,12 @@
 //! The parsers of both languages stand on `lex` and on these types, and no crate above looks at how bytes are read.
 #![tactic(auto)]
 
+mod lexer;
 mod place;
 mod refusal;
 mod token;
 
+pub use lexer::lex;
 pub use place::{Pos, Span};
 pub use refusal::{Refusal, RefusalKind, TextStop};
 pub use token::{ByteList, Mark, Token, TokenKind, TokenList};
