@@ -1,6 +1,6 @@
 -- What the private readers give, from left to right: each takes a front of the tokens, seen as their kinds, and leaves
 -- the rest, or finds nothing. `specs/Reading.antt` says what is read in the subject's own words.
-use Rattle.std.specs.Prelude.{◌≡◌, ℕ, Bool, true, false, List, [], ◌∷◌, Option, Some, None, Result, Ok, Err, if◌then◌else◌}
+use Rattle.std.specs.Prelude.{◌≡◌, ℕ, Bool, true, false, List, [], ◌∷◌, Option, Some, None, Result, Ok, Err, if◌then◌else◌, length, ◌==◌}
 use Rattle.std.specs.List.{list_any}
 use Rattle.std.specs.Str.{bytes_eq}
 use denote.Enum.Bare.{sameb}
@@ -57,3 +57,7 @@ new_name_at [] = None
 new_name_at (kind.Name name ∷ rest) = if is_reserved name then None else Some (name, rest)
 new_name_at (kind.Number digits ∷ rest) = None
 new_name_at (kind.Mark mark ∷ rest) = None
+
+-- the value, where no tokens are left
+unfoldable pub ended : {X : Type 0} → X → List TokenKind → Option X
+ended x kinds = if length kinds == 0 then Some x else None

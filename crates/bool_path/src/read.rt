@@ -4,6 +4,9 @@ ghost use Rattle.std.specs.Prelude.{◌≡◌, ◌<◌, IfOk, IsErrOf, length};
 ghost use Rattle.bool_path.specs.Reading.{Reads};
 ghost use Rattle.bool_path.specs.declared.program.BoolProgram.{BoolProgram as Program};
 
+mod expr;
+mod names;
+mod place;
 mod steps;
 
 use crate::program::{BoolProgram, BoolStop};
