@@ -1,3 +1,6 @@
 pub mod StepsLemmas
 pub mod ChainLemmas
 pub mod ExprLemmas
+pub mod DeclaringLemmas
+pub mod PositionLemmas
+pub mod CutLemmas

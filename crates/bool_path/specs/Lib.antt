@@ -1,6 +1,8 @@
+pub mod Bodies
 pub mod Judging
 pub mod Meaning
 pub mod Names
+pub mod Parts
 pub mod Reading
 pub mod Steps
 pub mod Terms

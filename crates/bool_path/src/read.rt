@@ -5,6 +5,7 @@ ghost use Rattle.bool_path.specs.Reading.{Reads};
 ghost use Rattle.bool_path.specs.declared.program.BoolProgram.{BoolProgram as Program};
 
 mod expr;
+mod head;
 mod names;
 mod place;
 mod steps;

@@ -7,6 +7,9 @@ use crate::program::ByteList;
 use crate::read::place::Place;
 use sqlite_items::Items;
 
+/// How many variables a procedure may have.
+pub const MAX_NAMES: u32 = 12;
+
 fn place_among(names: &[ByteList], name: &[u8]) -> Option<usize>
     ensures value { result ≡ position (λ known. bytes_eq known name.now) names.now }
     ensures within { IfSome result (λ at. at < length names.now) }

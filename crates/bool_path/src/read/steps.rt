@@ -18,7 +18,7 @@ const RESERVED: [&[u8]; 29] = [
 ];
 
 #[tactic(auto, unfolding(crate::specs::Steps::is_mark))]
-fn is_mark_of(kind: &TokenKind, wanted: Mark) -> bool
+pub fn is_mark_of(kind: &TokenKind, wanted: Mark) -> bool
     ensures { result ≡ is_mark wanted kind.now }
 {
     match kind {
