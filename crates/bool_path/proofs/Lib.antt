@@ -4,3 +4,4 @@ pub mod ExprLemmas
 pub mod DeclaringLemmas
 pub mod PositionLemmas
 pub mod CutLemmas
+pub mod StatementsLemmas

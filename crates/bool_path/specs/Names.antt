@@ -1,7 +1,6 @@
 -- The names of a procedure's variables as the private readers look them up. `specs/Reading.antt` says which names
 -- may stand where.
-use Rattle.std.specs.Prelude.{ℕ, ◌+◌, Bool, true, false, not, ◌&&◌, ◌||◌, nat_lt, nat_le, List, [], ◌∷◌, length, position, Option, Some, None, if◌then◌else◌}
-use Rattle.std.specs.List.{list_any}
+use Rattle.std.specs.Prelude.{ℕ, ◌+◌, Bool, ◌&&◌, ◌||◌, nat_lt, nat_le, List, length, position, Option, Some, None, if◌then◌else◌}
 use Rattle.std.specs.Str.{bytes_eq}
 use Rattle.pale_text.specs.declared.token.Mark.{Mark}
 use Rattle.pale_text.specs.declared.token.Mark.TheVariants as mark
@@ -31,8 +30,3 @@ may_be place.Code t k = nat_lt (k + t.logics) (length t.all)
 -- the number of the variable of this name, which has to be one that may stand there
 unfoldable pub variable_at : Place → Table → List ℕ → Option ℕ
 variable_at at t name = position (λ known. bytes_eq known name) t.all >>= λ k. if may_be at t k then Some k else None
-
--- no name stands twice
-unfoldable pub are_distinct : List (List ℕ) → Bool
-are_distinct [] = true
-are_distinct (first ∷ others) = not (list_any (λ other. bytes_eq other first) others) && are_distinct others

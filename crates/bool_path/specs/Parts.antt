@@ -3,7 +3,8 @@
 use Rattle.std.specs.Prelude.{ℕ, zero, suc, ◌&&◌, nat_le, List, [], ◌∷◌, ◌++◌, length, codes, Option, Some, None, if◌then◌else◌}
 use Rattle.pale_text.specs.declared.token.Mark.TheVariants as mark
 use Rattle.pale_text.specs.declared.token.TokenKind.{TokenKind}
-use Rattle.bool_path.specs.Names.{Table, are_distinct}
+use Rattle.bool_path.specs.Distinct.{distinct_names}
+use Rattle.bool_path.specs.Names.{Table}
 use Rattle.bool_path.specs.Steps.{◌>>=◌, begins, after, is_mark, is_word, new_name_at}
 
 -- names, and the tokens after their declarations
@@ -84,6 +85,6 @@ head_at kinds = do
 unfoldable pub table_from : List (List ℕ) → List (List ℕ) → List (List ℕ) → List (List ℕ) → Option Table
 table_from params results locals logics =
     let all = params ++ results ++ locals ++ logics in
-    if nat_le (length all) 12 && are_distinct all then
+    if nat_le (length all) 12 && distinct_names all then
       Some (record { all = all; params = length params; results = length results; logics = length logics })
     else None

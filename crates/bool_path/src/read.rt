@@ -4,6 +4,7 @@ ghost use Rattle.std.specs.Prelude.{◌≡◌, ◌<◌, IfOk, IsErrOf, length};
 ghost use Rattle.bool_path.specs.Reading.{Reads};
 ghost use Rattle.bool_path.specs.declared.program.BoolProgram.{BoolProgram as Program};
 
+mod body;
 mod expr;
 mod head;
 mod names;

@@ -15,7 +15,7 @@ use sqlite_items::Boxed;
 use std::alloc::Global;
 
 /// How many levels may be open at once.
-const MAX_LEVELS: u32 = 200;
+pub const MAX_LEVELS: u32 = 200;
 /// How many nodes an assertion may have, each side of a `<=>` counted twice.
 const MAX_SIZE: usize = 65536;
 /// A chain of that many literals has more nodes.

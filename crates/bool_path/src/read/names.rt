@@ -1,9 +1,11 @@
 //! The names of a procedure's variables.
 
 ghost use Rattle.std.specs.Prelude.{◌≡◌, ◌<◌, ◌≤◌, length, position, IfSome};
+ghost use Rattle.std.specs.List.{list_any};
 ghost use Rattle.std.specs.Str.{bytes_eq};
+ghost use Rattle.bool_path.specs.Distinct.{distinct_names};
 
-use crate::program::ByteList;
+use crate::program::{BoolStop, ByteList};
 use crate::read::place::Place;
 use sqlite_items::Items;
 
@@ -15,6 +17,27 @@ fn place_among(names: &[ByteList], name: &[u8]) -> Option<usize>
     ensures within { IfSome result (λ at. at < length names.now) }
 {
     names.iter().position(|known| known.as_slice() == name)
+}
+
+fn is_known(names: &[ByteList], name: &[u8]) -> bool
+    ensures { result ≡ list_any (λ known. bytes_eq known name.now) names.now }
+{
+    names.iter().any(|known| known.as_slice() == name)
+}
+
+/// Whether no name stands twice.
+#[tactic(auto, unfolding(crate::specs::Distinct::distinct_names))]
+fn are_distinct(names: &[ByteList]) -> bool
+    ensures { result ≡ distinct_names names.now }
+{
+    let mut rest = names;
+    'names: while let Some((first, others)) = rest.split_first() {
+        if is_known(others, first.as_slice()) {
+            return false;
+        }
+        rest = others;
+    }
+    true
 }
 
 /// The names in order: parameters, results, locals, logic variables.
@@ -29,7 +52,35 @@ pub struct Names {
 
 impl Names {
     ghost use Rattle.bool_path.specs.Names.{may_be, variable_at};
+    ghost use Rattle.bool_path.specs.Parts.{table_from};
+    ghost use Rattle.bool_path.specs.Steps.{Gives};
     ghost use Rattle.bool_path.specs.Views.{table_of};
+
+    /// All the names of a procedure, if they are few and distinct.
+    #[tactic(auto, unfolding(crate::specs::Parts::table_from))]
+    pub fn gathered(
+        params: Items<ByteList>,
+        results: Items<ByteList>,
+        locals: Items<ByteList>,
+        logics: Items<ByteList>,
+    ) -> Result<Names, BoolStop>
+        ensures { Gives table_of result (table_from params results locals logics) }
+    {
+        let (param_count, result_count, logic_count) = (params.len(), results.len(), logics.len());
+        let mut all = params;
+        all.append(results)?;
+        all.append(locals)?;
+        all.append(logics)?;
+        if all.len() > MAX_NAMES as usize || !are_distinct(all.as_slice()) {
+            return Err(BoolStop::NotYet);
+        }
+        Ok(Names {
+            all,
+            params: param_count as u32,
+            results: result_count as u32,
+            logics: logic_count as u32,
+        })
+    }
 
     /// Whether the variable with this number may stand there.
     #[tactic(auto, unfolding(crate::specs::Names::may_be))]

@@ -1,6 +1,6 @@
 //! Single tokens at the front of those that are left.
 
-ghost use Rattle.std.specs.Prelude.{◌≡◌, ◌<◌};
+ghost use Rattle.std.specs.Prelude.{◌≡◌, ◌<◌, length, IfOk};
 ghost use Rattle.std.specs.List.{list_any};
 ghost use Rattle.std.specs.Str.{bytes_eq};
 ghost use Rattle.bool_path.specs.Reading.{kinds_of};
@@ -59,7 +59,8 @@ pub fn begins_with_word(tokens: &[Token], wanted: &[u8]) -> bool
 
 #[tactic(auto, unfolding(crate::specs::Steps::after))]
 pub fn after_mark(tokens: &[Token], wanted: Mark) -> Result<&[Token], BoolStop>
-    ensures { Gives (λ rest. kinds_of rest.now) result (after (is_mark wanted) (kinds_of tokens.now)) }
+    ensures value { Gives (λ rest. kinds_of rest.now) result (after (is_mark wanted) (kinds_of tokens.now)) }
+    ensures shorter { IfOk result (λ rest. length rest.now < length tokens.now) }
 {
     match tokens.split_first() {
         Some((token, rest)) if is_mark_of(&token.kind, wanted) => Ok(rest),
@@ -69,7 +70,8 @@ pub fn after_mark(tokens: &[Token], wanted: Mark) -> Result<&[Token], BoolStop>
 
 #[tactic(auto, unfolding(crate::specs::Steps::after))]
 pub fn after_word<'t>(tokens: &'t [Token], wanted: &[u8]) -> Result<&'t [Token], BoolStop>
-    ensures { Gives (λ rest. kinds_of rest.now) result (after (is_word wanted.now) (kinds_of tokens.now)) }
+    ensures value { Gives (λ rest. kinds_of rest.now) result (after (is_word wanted.now) (kinds_of tokens.now)) }
+    ensures shorter { IfOk result (λ rest. length rest.now < length tokens.now) }
 {
     match tokens.split_first() {
         Some((token, rest)) if is_word_of(&token.kind, wanted) => Ok(rest),

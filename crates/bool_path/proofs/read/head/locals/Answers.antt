@@ -20,13 +20,13 @@ returns-in_err-rest c =
     let n = c.in_ok-name in
     let p = err_from_is_err_and c.from_residual-in_err-rest.result c.from_residual-in_err-rest.ensures.1 in
     let turn = no_end c.declared.room c.declared.names (kinds_of c.declared.rest.now) (omega (arith, c.if-room-eq0.false)) (sym c.begins_with_word.ensures ∙ c.declared-test.true) in
-    rw (p.1, p.2) (Fails-whole c.in_err-rest.field-0.0 _ _ c.in_err-rest.ensures (λ none. sym c.declared.invariant ∙ turn (n.name, kinds_of n.after.now) n.ensures none))
+    rw (p.1, p.2) (Fails-whole c.in_err-rest.field-0.0 _ _ c.in_err-rest.ensures.value (λ none. sym c.declared.invariant ∙ turn (n.name, kinds_of n.after.now) n.ensures none))
 
 pub declared-preserved : goal.declared-preserved
 declared-preserved c =
     let n = c.in_ok-name in
     let turn = next_local c.declared.room c.declared.names (kinds_of c.declared.rest.now) (omega (arith, c.if-room-eq0.false)) (sym c.begins_with_word.ensures ∙ c.declared-test.true) in
-    rw c.in_ok-push.ensures.ok (sym (turn (n.name, kinds_of n.after.now) (kinds_of c.in_ok-rest.rest.now) n.ensures c.in_ok-rest.ensures) ∙ c.declared.invariant)
+    rw c.in_ok-push.ensures.ok (sym (turn (n.name, kinds_of n.after.now) (kinds_of c.in_ok-rest.rest.now) n.ensures c.in_ok-rest.ensures.value) ∙ c.declared.invariant)
 
 pub returns : goal.returns
 returns c = sym c.declared.invariant ∙ no_local c.declared.room c.declared.names (kinds_of c.declared.rest.now) (sym c.begins_with_word.ensures ∙ c.declared-test.false)
