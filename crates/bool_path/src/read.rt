@@ -9,6 +9,7 @@ mod expr;
 mod head;
 mod names;
 mod place;
+mod procedure;
 mod steps;
 
 use crate::program::{BoolProgram, BoolStop};
