@@ -5,3 +5,6 @@ pub mod DeclaringLemmas
 pub mod PositionLemmas
 pub mod CutLemmas
 pub mod StatementsLemmas
+pub mod StepLaws
+pub mod NamesLaws
+pub mod LiteralLaws
