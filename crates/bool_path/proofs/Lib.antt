@@ -7,4 +7,6 @@ pub mod CutLemmas
 pub mod StatementsLemmas
 pub mod StepLaws
 pub mod NamesLaws
+pub mod AllLemmas
+pub mod ChainLaws
 pub mod LiteralLaws

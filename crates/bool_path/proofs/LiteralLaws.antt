@@ -116,7 +116,7 @@ pub is_free : (t : Table) (k : ℕ) (word : List ℕ) → IsTable t → k < leng
 is_free t k word is lt held same =
     All-contains (λ name. Contains reserved name → ⊥) t.all word is.free (subst (Contains t.all) (sym (unwrap_or-slice_get t.all k []) ∙ same) (Contains-get_or t.all k [] lt)) held
 
-negated-Literal : (f : Form) → negated f ≡ Literal → f ≡ Literal
+pub negated-Literal : (f : Form) → negated f ≡ Literal → f ≡ Literal
 negated-Literal Literal e = refl
 negated-Literal Chain e = absurd cc
 negated-Literal Neither e = absurd cc
