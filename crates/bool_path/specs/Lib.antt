@@ -1,4 +1,5 @@
 pub mod Bodies
+pub mod Counting
 pub mod Distinct
 pub mod Judging
 pub mod Meaning

@@ -1,4 +1,3 @@
-pub mod Answers
 pub mod Lexing
 pub mod Places
 pub mod Refusals

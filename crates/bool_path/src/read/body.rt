@@ -13,7 +13,7 @@ use crate::read::names::Names;
 use crate::read::place::Place;
 use crate::read::steps::{after_mark, after_word, begins_with_mark, begins_with_word};
 use pale_text::{Mark, Token, TokenKind};
-use sqlite_items::Items;
+use plain_data::Items;
 use std::alloc::Global;
 
 /// How many atoms a procedure's one part may have.

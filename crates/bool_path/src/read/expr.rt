@@ -11,7 +11,7 @@ use crate::read::names::Names;
 use crate::read::place::Place;
 use crate::read::steps::{after_mark, begins_with_mark};
 use pale_text::{Mark, Token, TokenKind};
-use sqlite_items::Boxed;
+use plain_data::Boxed;
 use std::alloc::Global;
 
 /// How many levels may be open at once.

@@ -10,7 +10,7 @@ use crate::program::{BoolStop, ByteList};
 use crate::read::names::MAX_NAMES;
 use crate::read::steps::{after_mark, after_word, begins_with_mark, begins_with_word, is_mark_of, new_name};
 use pale_text::{Mark, Token};
-use sqlite_items::Items;
+use plain_data::Items;
 use std::alloc::Global;
 
 /// What stands before a procedure's body.

@@ -7,7 +7,7 @@ ghost use Rattle.bool_path.specs.Distinct.{distinct_names};
 
 use crate::program::{BoolStop, ByteList};
 use crate::read::place::Place;
-use sqlite_items::Items;
+use plain_data::Items;
 
 /// How many variables a procedure may have.
 pub const MAX_NAMES: u32 = 12;
