@@ -12,3 +12,5 @@ pub mod PositionLemmas
 pub mod StatementsLemmas
 pub mod StepLaws
 pub mod StepsLemmas
+pub mod HeadLaws
+pub mod ListedLaws
