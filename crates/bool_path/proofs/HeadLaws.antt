@@ -37,26 +37,26 @@ pub new_name_again : (name : List ℕ) (rest : List TokenKind) → IsFree name �
 unfolding new_name_at
 new_name_again name rest free = rw (false-is_reserved name free) refl
 
-declared-Some : (kinds : List TokenKind) (name : List ℕ) (rest : List TokenKind) → declared_at kinds ≡ Some (name, rest) → (kinds ≡ bool_name name ++ rest) × IsFree name
+pub declared-Some : (kinds : List TokenKind) (name : List ℕ) (rest : List TokenKind) → declared_at kinds ≡ Some (name, rest) → (kinds ≡ bool_name name ++ rest) × IsFree name
 unfolding declared_at
 declared-Some kinds name rest read =
     let a = bind_some (after (is_word (codes "bool")) kinds) new_name_at (name, rest) read in
     let n = new_name-Some a.0 name rest a.2 in
     (after-word (codes "bool") kinds a.0 a.1 ∙ ap (λ (x : List TokenKind). kind.Name (codes "bool") ∷ x) n.0, n.1)
 
-declared_again : (name : List ℕ) (rest : List TokenKind) → IsFree name → declared_at (bool_name name ++ rest) ≡ Some (name, rest)
+pub declared_again : (name : List ℕ) (rest : List TokenKind) → IsFree name → declared_at (bool_name name ++ rest) ≡ Some (name, rest)
 unfolding declared_at
 declared_again name rest free = rw (word_again (codes "bool") (kind.Name name ∷ rest)) (new_name_again name rest free)
 
 -- ---- declarations
 
 -- at least one name was declared after those
-record Declares (before all : List (List ℕ)) (kinds rest : List TokenKind) : Type 0 where
-  first : List ℕ
-  others : List (List ℕ)
-  names : all ≡ before ++ first ∷ others
-  spelled : kinds ≡ declarations (first ∷ others) ++ rest
-  free : AreFree (first ∷ others)
+pub record Declares (before all : List (List ℕ)) (kinds rest : List TokenKind) : Type 0 where
+  pub first : List ℕ
+  pub others : List (List ℕ)
+  pub names : all ≡ before ++ first ∷ others
+  pub spelled : kinds ≡ declarations (first ∷ others) ++ rest
+  pub free : AreFree (first ∷ others)
 
 Declares-one : (before : List (List ℕ)) (name : List ℕ) (kinds rest : List TokenKind) → kinds ≡ bool_name name ++ rest → IsFree name → Declares before (before ++ name ∷ []) kinds rest
 Declares-one before name kinds rest spelled free = record { first = name; others = []; names = refl; spelled = spelled; free = (free, tt) }
@@ -71,7 +71,7 @@ Declares-more before all name kinds middle others rest spelled free comma on = r
     free = (free, on.free)
   }
 
-declarations-Some : (turns : ℕ) (before : List (List ℕ)) (kinds : List TokenKind) (all : List (List ℕ)) (rest : List TokenKind)
+pub declarations-Some : (turns : ℕ) (before : List (List ℕ)) (kinds : List TokenKind) (all : List (List ℕ)) (rest : List TokenKind)
     → declarations_at turns before kinds ≡ Some (all, rest) → Declares before all kinds rest
 unfolding declarations_at
 declarations-Some zero before kinds all rest read = absurd (none-some (all, rest) read)
@@ -91,7 +91,7 @@ declarations-Some (suc turns) before kinds all rest read =
         let a = bind_some (after (is_mark mark.Comma) middle) (declarations_at turns (before ++ name ∷ [])) (all, rest) now in
         Declares-more before all name kinds middle a.0 rest spelled free (after-mark mark.Comma middle a.0 a.1) (rec (before ++ name ∷ []) a.0 a.2)
 
-declarations_again : (turns : ℕ) (before : List (List ℕ)) (first : List ℕ) (others : List (List ℕ)) (rest : List TokenKind) → length (first ∷ others) ≤ turns → AreFree (first ∷ others)
+pub declarations_again : (turns : ℕ) (before : List (List ℕ)) (first : List ℕ) (others : List (List ℕ)) (rest : List TokenKind) → length (first ∷ others) ≤ turns → AreFree (first ∷ others)
     → begins (is_mark mark.Comma) rest ≡ false → declarations_at turns before (declarations (first ∷ others) ++ rest) ≡ Some (before ++ first ∷ others, rest)
 unfolding declarations_at
 declarations_again zero before first others rest long free stops = absurd (omega arith)

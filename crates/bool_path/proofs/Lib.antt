@@ -14,3 +14,4 @@ pub mod StepLaws
 pub mod StepsLemmas
 pub mod HeadLaws
 pub mod ListedLaws
+pub mod SignatureLaws
