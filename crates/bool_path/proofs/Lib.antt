@@ -15,3 +15,4 @@ pub mod StepsLemmas
 pub mod HeadLaws
 pub mod ListedLaws
 pub mod SignatureLaws
+pub mod LocalsLaws
