@@ -16,3 +16,4 @@ pub mod HeadLaws
 pub mod ListedLaws
 pub mod SignatureLaws
 pub mod LocalsLaws
+pub mod HeadWhole

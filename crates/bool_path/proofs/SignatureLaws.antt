@@ -60,7 +60,7 @@ enclosed_again first others rest few free =
 
 -- ---- parameters
 
-abbrev params_part : List (List ℕ) → List TokenKind → List TokenKind
+abbrev pub params_part : List (List ℕ) → List TokenKind → List TokenKind
 params_part names rest = kind.Mark mark.LeftParen ∷ (declarations names ++ kind.Mark mark.RightParen ∷ rest)
 
 pub params-Some : (kinds : List TokenKind) (names : List (List ℕ)) (rest : List TokenKind) → params_at kinds ≡ Some (names, rest) → (kinds ≡ params_part names rest) × AreFree names

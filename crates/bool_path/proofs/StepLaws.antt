@@ -79,3 +79,8 @@ ended-Some x y kinds e = let c = cond_some _ x y e in (nil_from_length kinds (eq
 pub ended_again : {X : Type 0} (x : X) → ended x [] ≡ Some x
 unfolding ended
 ended_again x = refl
+
+-- what follows from a step that found something
+pub bind_then : {A B P : Type 0} (r : Option A) (f : A → Option B) (y : B) → (r >>= f) ≡ Some y → ((x : A) → r ≡ Some x → f x ≡ Some y → P) → P
+bind_then (Some x) f y e so = so x refl e
+bind_then None f y e so = absurd (none-some y e)
