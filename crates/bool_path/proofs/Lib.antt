@@ -17,3 +17,4 @@ pub mod ListedLaws
 pub mod SignatureLaws
 pub mod LocalsLaws
 pub mod HeadWhole
+pub mod BodyLaws
