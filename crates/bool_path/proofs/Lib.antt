@@ -18,3 +18,5 @@ pub mod SignatureLaws
 pub mod LocalsLaws
 pub mod HeadWhole
 pub mod BodyLaws
+pub mod TableLaws
+pub mod WholeLaws
