@@ -20,3 +20,4 @@ pub mod HeadWhole
 pub mod BodyLaws
 pub mod TableLaws
 pub mod WholeLaws
+pub mod WholeAgain

@@ -48,15 +48,15 @@ part-Some keyword at t (Some inner) e tilde read =
 
 -- ---- the whole
 
-abbrev procedure_of : ℕ → ℕ → List ℕ → Table → BoolExpr → BoolExpr → List BoolStmt → BoolProc
+abbrev pub procedure_of : ℕ → ℕ → List ℕ → Table → BoolExpr → BoolExpr → List BoolStmt → BoolProc
 procedure_of line last name t pre post body =
     record { name = name; line = line; names = t.all; params = t.params; results = t.results; logics = t.logics; pre = pre; post = post; body = body; last = last }
 
 -- the tokens of a procedure, put together from the right
-abbrev whole_tokens : Head → List (List ℕ) → List TokenKind → List TokenKind
+abbrev pub whole_tokens : Head → List (List ℕ) → List TokenKind → List TokenKind
 whole_tokens h locals statements = head_tokens h (kind.Mark mark.LeftBrace ∷ (flat_map local_part locals ++ (statements ++ kind.Mark mark.RightBrace ∷ [])))
 
-regrouped : (name : List ℕ) (declared returned logics pre post locals statements : List TokenKind) →
+pub regrouped : (name : List ℕ) (declared returned logics pre post locals statements : List TokenKind) →
     kind.Name (codes "proc") ∷ kind.Name name ∷ kind.Mark mark.LeftParen ∷ (declared ++ kind.Mark mark.RightParen ∷ (returned ++ (logics ++ (pre ++ (post ++ (kind.Mark mark.LeftBrace ∷ (locals ++ (statements ++ kind.Mark mark.RightBrace ∷ []))))))))
     ≡ kind.Name (codes "proc") ∷ kind.Name name ∷ kind.Mark mark.LeftParen ∷ declared
       ++ kind.Mark mark.RightParen ∷ returned ++ logics ++ pre ++ post
