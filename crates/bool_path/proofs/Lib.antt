@@ -21,3 +21,4 @@ pub mod BodyLaws
 pub mod TableLaws
 pub mod WholeLaws
 pub mod WholeAgain
+pub mod ReadLaws

@@ -34,7 +34,7 @@ fn assertion_or_true(
 
 /// The procedure that is all of the tokens; its `proc` and its last `}` stand in these lines.
 #[tactic(auto, unfolding(crate::specs::Bodies::procedure_at))]
-pub fn procedure(
+pub fn read_procedure(
     alloc: Global,
     line: u32,
     last: u32,
