@@ -12,11 +12,11 @@ use Rattle.bool_path.specs.declared.program.BoolExpr.{BoolExpr}
 use Rattle.bool_path.specs.declared.program.BoolStmt.{BoolStmt}
 use Rattle.bool_path.specs.declared.program.BoolStmt.TheVariants.{Skip, Set}
 use Rattle.bool_path.specs.declared.read.place.Place.TheVariants as place
-use Rattle.bool_path.specs.Bodies.{target_at, skip_at, set_at, statement_at, statements_at, atoms_in, body_at}
-use Rattle.bool_path.specs.Names.{Table, negation, variable_at}
+use Rattle.bool_path.specs.Reader.Bodies.{target_at, skip_at, set_at, statement_at, statements_at, atoms_in, body_at}
+use Rattle.bool_path.specs.Reader.Names.{Table, negation, variable_at}
 use Rattle.bool_path.specs.Reading.{Literal, form_of, levels_of, uses_of, name_at, tokens_of, statement_part, IsCondition, IsStatement, atoms_of, reserved}
-use Rattle.bool_path.specs.Steps.{◌>>=◌, begins, after, ended, is_mark, is_word}
-use Rattle.bool_path.specs.Terms.{literal_at}
+use Rattle.bool_path.specs.Reader.Steps.{◌>>=◌, begins, after, ended, is_mark, is_word}
+use Rattle.bool_path.specs.Reader.Terms.{literal_at}
 use Rattle.bool_path.proofs.LiteralLaws.{literal-Some, literal_again, is_free}
 use Rattle.bool_path.proofs.NamesLaws.{MayBe, MayBe-within, IsTable, variable-Some, variable_again}
 use Rattle.bool_path.proofs.StepLaws.{bind_then, after-mark, after-word, mark_again, word_again, begins_mark, begins_word, bytes_differ, ended-Some, ended_again}

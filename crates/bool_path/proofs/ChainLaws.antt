@@ -12,10 +12,10 @@ use Rattle.pale_text.specs.declared.token.TokenKind.TheVariants as kind
 use Rattle.bool_path.specs.declared.program.BoolExpr.{BoolExpr}
 use Rattle.bool_path.specs.declared.program.BoolExpr.TheVariants.{Name, Truth, Not, Iff}
 use Rattle.bool_path.specs.declared.read.place.Place.{Place}
-use Rattle.bool_path.specs.Names.{Table, negation}
+use Rattle.bool_path.specs.Reader.Names.{Table, negation}
 use Rattle.bool_path.specs.Reading.{Form, Literal, Chain, Neither, negated, joined, form_of, tokens_of, uses_of, levels_of, size_of}
-use Rattle.bool_path.specs.Steps.{◌>>=◌, begins, after, ended, is_mark}
-use Rattle.bool_path.specs.Terms.{literal_at, chain_at, assertion_at}
+use Rattle.bool_path.specs.Reader.Steps.{◌>>=◌, begins, after, ended, is_mark}
+use Rattle.bool_path.specs.Reader.Terms.{literal_at, chain_at, assertion_at}
 use Rattle.bool_path.proofs.AllLemmas.{All-left, All-right}
 use Rattle.bool_path.proofs.ExprLemmas.{by_form, form_of-Name, form_of-Truth, form_of-Not, form_of-Iff, uses_of-Iff, levels_of-Iff, size_of-Name, size_of-Truth, size_of-Not, size_of-Iff, tokens_of-Iff}
 use Rattle.bool_path.proofs.LiteralLaws.{IsLiteral, literal-Some, literal_again, negated-Literal}

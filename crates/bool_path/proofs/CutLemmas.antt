@@ -7,8 +7,8 @@ use Rattle.pale_text.specs.declared.token.Mark.TheVariants as mark
 use Rattle.pale_text.specs.declared.token.Token.{Token}
 use Rattle.bool_path.proofs.PositionLemmas.{position-hit, position-miss}
 use Rattle.bool_path.specs.Reading.{kinds_of}
-use Rattle.bool_path.specs.Parts.{cut_at}
-use Rattle.bool_path.specs.Steps.{◌>>=◌, is_mark}
+use Rattle.bool_path.specs.Reader.Heads.{cut_at}
+use Rattle.bool_path.specs.Reader.Steps.{◌>>=◌, is_mark}
 
 abbrev pub closes : Token → Bool
 closes token = is_mark mark.RightBracket token.kind

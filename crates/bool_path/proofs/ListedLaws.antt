@@ -8,9 +8,9 @@ use Rattle.std.proofs.lemmas.List.{get_or_default}
 use Rattle.std.proofs.lemmas.List.Elements.{Contains-get_or}
 use Rattle.std.proofs.lemmas.List.Folds.{Any-from_list_any, list_any_at}
 use Rattle.std.proofs.lemmas.Slice.Eq.{bytes_eq-Decides}
-use Rattle.bool_path.specs.Distinct.{distinct_names}
+use Rattle.bool_path.specs.Reader.Distinct.{distinct_names}
 use Rattle.bool_path.specs.Reading.{reserved}
-use Rattle.bool_path.specs.Steps.{is_reserved}
+use Rattle.bool_path.specs.Reader.Steps.{is_reserved}
 use Rattle.bool_path.proofs.NamesLaws.{and_parts}
 use Rattle.bool_path.proofs.StepLaws.{bytes_same}
 

@@ -13,10 +13,10 @@ use Rattle.pale_text.specs.declared.token.TokenKind.TheVariants as kind
 use Rattle.bool_path.specs.declared.program.BoolExpr.{BoolExpr}
 use Rattle.bool_path.specs.declared.program.BoolExpr.TheVariants.{Name, Truth, Not, Iff}
 use Rattle.bool_path.specs.declared.read.place.Place.{Place}
-use Rattle.bool_path.specs.Names.{Table, negation, variable_at}
+use Rattle.bool_path.specs.Reader.Names.{Table, negation, variable_at}
 use Rattle.bool_path.specs.Reading.{Form, Literal, Chain, Neither, negated, joined, form_of, name_at, reserved, tokens_of, truth_word, uses_of, levels_of, size_of}
-use Rattle.bool_path.specs.Steps.{◌>>=◌}
-use Rattle.bool_path.specs.Terms.{atom_at, literal_at}
+use Rattle.bool_path.specs.Reader.Steps.{◌>>=◌}
+use Rattle.bool_path.specs.Reader.Terms.{atom_at, literal_at}
 use Rattle.bool_path.proofs.ExprLemmas.{by_form, form_of-Name, form_of-Truth, form_of-Not, uses_of-Name, uses_of-Truth, uses_of-Not, levels_of-Name, levels_of-Truth, levels_of-Not, size_of-Name, size_of-Truth, size_of-Not, tokens_of-Name, tokens_of-Truth, tokens_of-Not, form_of-Iff}
 use Rattle.bool_path.proofs.NamesLaws.{MayBe, MayBe-within, IsTable, variable-Some, variable_again}
 use Rattle.bool_path.proofs.StepLaws.{bind_some, bytes_same, bytes_differ, mark_same}

@@ -7,10 +7,10 @@ use Rattle.pale_text.specs.declared.token.Mark.{Mark}
 use Rattle.pale_text.specs.declared.token.Mark.TheVariants as mark
 use Rattle.pale_text.specs.declared.token.TokenKind.{TokenKind}
 use Rattle.pale_text.specs.declared.token.TokenKind.TheVariants as kind
-use Rattle.bool_path.specs.Parts.{declared_at, locals_at, cut_at, bracketed_at}
+use Rattle.bool_path.specs.Reader.Heads.{declared_at, locals_at, cut_at, bracketed_at}
 use Rattle.bool_path.specs.Reading.{bool_name, local_part}
-use Rattle.bool_path.specs.Steps.{◌>>=◌, begins, after, is_mark, is_word}
-use Rattle.bool_path.proofs.HeadLaws.{AreFree, IsFree, declared-Some, declared_again}
+use Rattle.bool_path.specs.Reader.Steps.{◌>>=◌, begins, after, is_mark, is_word}
+use Rattle.bool_path.proofs.DeclarationLaws.{AreFree, IsFree, declared-Some, declared_again}
 use Rattle.bool_path.proofs.StepLaws.{bind_some, after-mark, after-word, is_mark-true, mark_again, word_again, begins_mark, begins_word, mark_same}
 
 abbrev Named : Type 0

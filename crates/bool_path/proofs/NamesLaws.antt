@@ -10,9 +10,9 @@ use Rattle.std.proofs.lemmas.Option.{none-some, cond_some, unwrap_or-slice_get}
 use Rattle.std.proofs.lemmas.Slice.Eq.{bytes_eq-Decides}
 use Rattle.bool_path.specs.declared.read.place.Place.{Place}
 use Rattle.bool_path.specs.declared.read.place.Place.TheVariants as place
-use Rattle.bool_path.specs.Names.{Table, may_be, variable_at}
+use Rattle.bool_path.specs.Reader.Names.{Table, may_be, variable_at}
 use Rattle.bool_path.specs.Reading.{name_at, reserved}
-use Rattle.bool_path.specs.Steps.{◌>>=◌}
+use Rattle.bool_path.specs.Reader.Steps.{◌>>=◌}
 use Rattle.bool_path.proofs.PositionLemmas.{position-found}
 use Rattle.bool_path.proofs.StepLaws.{bind_some, bytes_same}
 

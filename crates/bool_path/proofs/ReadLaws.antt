@@ -9,12 +9,12 @@ use Rattle.pale_text.proofs.ReadingLemmas.{tokens_are_one}
 use Rattle.bool_path.specs.declared.program.BoolProgram.{BoolProgram}
 use Rattle.bool_path.specs.declared.program.BoolStop.{BoolStop}
 use Rattle.bool_path.specs.declared.program.BoolStop.TheVariants.{NotYet, NoMemory}
-use Rattle.bool_path.specs.Steps.{Fails}
+use Rattle.bool_path.specs.Reader.Steps.{Fails}
 use Rattle.bool_path.specs.declared.program.BoolProc.{BoolProc}
-use Rattle.bool_path.specs.Bodies.{procedure_at}
+use Rattle.bool_path.specs.Reader.Bodies.{procedure_at}
 use Rattle.bool_path.specs.Reading.{kinds_of, IsProcedure, AreTokensOf, Reads}
-use Rattle.bool_path.proofs.WholeLaws.{procedure-Some}
-use Rattle.bool_path.proofs.WholeAgain.{procedure_again}
+use Rattle.bool_path.proofs.ProcedureLaws.{procedure-Some}
+use Rattle.bool_path.proofs.ProcedureAgain.{procedure_again}
 
 abbrev pub first_line_of : List Token → Option ℕ
 first_line_of tokens = option_map (λ token. token.span.start.line) (slice_get tokens 0)

@@ -6,10 +6,10 @@ use Rattle.std.proofs.lemmas.Option.{none-some, same_Some}
 use Rattle.pale_text.specs.declared.token.Mark.TheVariants as mark
 use Rattle.pale_text.specs.declared.token.TokenKind.{TokenKind}
 use Rattle.pale_text.specs.declared.token.TokenKind.TheVariants as kind
-use Rattle.bool_path.specs.Parts.{declared_at, declarations_at, enclosed_at, params_at, results_at, logics_at, locals_at}
+use Rattle.bool_path.specs.Reader.Heads.{declared_at, declarations_at, enclosed_at, params_at, results_at, logics_at, locals_at}
 use Rattle.bool_path.specs.Reading.{bool_name, declarations, returns_part, logic_part, local_part}
-use Rattle.bool_path.specs.Steps.{◌>>=◌, begins, after, is_mark, is_word}
-use Rattle.bool_path.proofs.HeadLaws.{AreFree, Declares, declarations-Some, declarations_again, declared-Some, declared_again, IsFree}
+use Rattle.bool_path.specs.Reader.Steps.{◌>>=◌, begins, after, is_mark, is_word}
+use Rattle.bool_path.proofs.DeclarationLaws.{AreFree, Declares, declarations-Some, declarations_again, declared-Some, declared_again, IsFree}
 use Rattle.bool_path.proofs.StepLaws.{bind_some, after-mark, after-word, mark_again, word_again, begins_mark, begins_word}
 
 abbrev Named : Type 0

@@ -11,7 +11,7 @@ use Rattle.pale_text.specs.contracts.token.Mark.{the_type}
 use Rattle.pale_text.specs.declared.token.Mark.{Mark}
 use Rattle.pale_text.specs.declared.token.TokenKind.{TokenKind}
 use Rattle.pale_text.specs.declared.token.TokenKind.TheVariants as kind
-use Rattle.bool_path.specs.Steps.{◌>>=◌, is_mark, is_word, begins, after, ended}
+use Rattle.bool_path.specs.Reader.Steps.{◌>>=◌, is_mark, is_word, begins, after, ended}
 
 -- the value of a step that found something
 pub bind_some : {A B : Type 0} (r : Option A) (f : A → Option B) (y : B) → (r >>= f) ≡ Some y → (x : A) × (r ≡ Some x) × (f x ≡ Some y)

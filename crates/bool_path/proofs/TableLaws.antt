@@ -6,11 +6,11 @@ use Rattle.std.proofs.lemmas.Bool.{leb-true, le-leb}
 use Rattle.std.proofs.lemmas.List.{length-append, length-take, length-drop, take_at, drop_at, take-append-drop, take-take, drop-take}
 use Rattle.std.proofs.lemmas.List.Elements.{All-append, All-from_recursion, recursion_from_All, All-same}
 use Rattle.std.proofs.lemmas.Option.{cond_some}
-use Rattle.bool_path.specs.Distinct.{distinct_names}
-use Rattle.bool_path.specs.Names.{Table}
-use Rattle.bool_path.specs.Parts.{table_from}
+use Rattle.bool_path.specs.Reader.Distinct.{distinct_names}
+use Rattle.bool_path.specs.Reader.Names.{Table}
+use Rattle.bool_path.specs.Reader.Heads.{table_from}
 use Rattle.bool_path.proofs.AllLemmas.{All-left, All-right}
-use Rattle.bool_path.proofs.HeadLaws.{IsFree, AreFree}
+use Rattle.bool_path.proofs.DeclarationLaws.{IsFree, AreFree}
 use Rattle.bool_path.proofs.ListedLaws.{AreDistinct, distinct_names-true, true-distinct_names}
 use Rattle.bool_path.proofs.NamesLaws.{IsTable, and_parts}
 

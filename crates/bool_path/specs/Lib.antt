@@ -1,11 +1,5 @@
-pub mod Bodies
 pub mod Counting
-pub mod Distinct
 pub mod Judging
 pub mod Meaning
-pub mod Names
-pub mod Parts
+pub mod Reader
 pub mod Reading
-pub mod Steps
-pub mod Terms
-pub mod Views

@@ -2,7 +2,7 @@
 
 ghost use Rattle.std.specs.Prelude.{◌≡◌, ◌<◌, ◌-◌, IfOk, IsErrOf, Option, Some, length, option_map, slice_get};
 ghost use Rattle.bool_path.specs.Reading.{AreTokensOf, Reads};
-ghost use Rattle.bool_path.specs.Steps.{Gives};
+ghost use Rattle.bool_path.specs.Reader.Steps.{Gives};
 ghost use Rattle.bool_path.specs.declared.program.BoolProc.{BoolProc as Procedure};
 ghost use Rattle.bool_path.specs.declared.program.BoolProgram.{BoolProgram as Program};
 

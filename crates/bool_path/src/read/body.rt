@@ -1,11 +1,11 @@
 //! A procedure's body.
 
 ghost use Rattle.std.specs.Prelude.{◌≡◌, ◌+◌, ◌<◌, ◌≤◌, [], length, IfOk};
-ghost use Rattle.bool_path.specs.Bodies.{target_at, skip_at, set_at, statement_at, statements_at, body_at};
+ghost use Rattle.bool_path.specs.Reader.Bodies.{target_at, skip_at, set_at, statement_at, statements_at, body_at};
 ghost use Rattle.bool_path.specs.Reading.{kinds_of};
-ghost use Rattle.bool_path.specs.Steps.{Gives};
-ghost use Rattle.bool_path.specs.Views.{table_of};
-ghost use Rattle.bool_path.specs.Bodies as spec;
+ghost use Rattle.bool_path.specs.Reader.Steps.{Gives};
+ghost use Rattle.bool_path.specs.Reader.Views.{table_of};
+ghost use Rattle.bool_path.specs.Reader.Bodies as spec;
 
 use crate::program::{BoolStmt, BoolStop};
 use crate::read::expr::{MAX_LEVELS, literal};
@@ -31,7 +31,7 @@ fn atoms_in(statement: &BoolStmt) -> u32
 }
 
 /// The variable that an assignment begins with.
-#[tactic(auto, unfolding(crate::specs::Bodies::target_at))]
+#[tactic(auto, unfolding(crate::specs::Reader::Bodies::target_at))]
 fn target<'t>(names: &Names, tokens: &'t [Token]) -> Result<(u32, &'t [Token]), BoolStop>
     ensures value { Gives (λ x. (x.0, kinds_of x.1.now)) result (target_at (table_of names.now) (kinds_of tokens.now)) }
     ensures shorter { IfOk result (λ x. length x.1.now < length tokens.now) }
@@ -49,7 +49,7 @@ fn target<'t>(names: &Names, tokens: &'t [Token]) -> Result<(u32, &'t [Token]), 
 }
 
 /// `skip;`
-#[tactic(auto, unfolding(crate::specs::Bodies::skip_at))]
+#[tactic(auto, unfolding(crate::specs::Reader::Bodies::skip_at))]
 fn skip(tokens: &[Token]) -> Result<(BoolStmt, &[Token]), BoolStop>
     ensures value { Gives (λ x. (x.0, kinds_of x.1.now)) result (skip_at (kinds_of tokens.now)) }
     ensures shorter { IfOk result (λ x. length x.1.now < length tokens.now) }
@@ -60,7 +60,7 @@ fn skip(tokens: &[Token]) -> Result<(BoolStmt, &[Token]), BoolStop>
 }
 
 /// `NAME = CONDITION;`, where the body's brace is a level too.
-#[tactic(auto, unfolding(crate::specs::Bodies::set_at))]
+#[tactic(auto, unfolding(crate::specs::Reader::Bodies::set_at))]
 fn assignment<'t>(
     alloc: Global,
     names: &Names,
@@ -76,7 +76,7 @@ fn assignment<'t>(
     Ok((BoolStmt::Set(target, source), rest))
 }
 
-#[tactic(auto, unfolding(crate::specs::Bodies::statement_at))]
+#[tactic(auto, unfolding(crate::specs::Reader::Bodies::statement_at))]
 fn statement<'t>(
     alloc: Global,
     names: &Names,
@@ -118,8 +118,8 @@ fn statements<'t>(
 /// The statements, with `}` as the last of the tokens.
 #[tactic(
     auto,
-    using(crate::proofs::StepsLemmas::length_kinds),
-    unfolding(crate::specs::Steps::ended, crate::specs::Bodies::body_at)
+    using(crate::proofs::OutcomeLemmas::length_kinds),
+    unfolding(crate::specs::Reader::Steps::ended, crate::specs::Reader::Bodies::body_at)
 )]
 pub fn body_of(
     alloc: Global,

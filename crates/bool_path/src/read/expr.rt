@@ -2,9 +2,9 @@
 
 ghost use Rattle.std.specs.Prelude.{◌≡◌, ◌≤◌, ◌<◌, ◌+◌, IfOk, length};
 ghost use Rattle.bool_path.specs.Reading.{kinds_of, size_of};
-ghost use Rattle.bool_path.specs.Steps.{Gives};
-ghost use Rattle.bool_path.specs.Terms.{atom_at, literal_at, chain_at, assertion_at};
-ghost use Rattle.bool_path.specs.Views.{table_of};
+ghost use Rattle.bool_path.specs.Reader.Steps.{Gives};
+ghost use Rattle.bool_path.specs.Reader.Terms.{atom_at, literal_at, chain_at, assertion_at};
+ghost use Rattle.bool_path.specs.Reader.Views.{table_of};
 
 use crate::program::{BoolExpr, BoolStop};
 use crate::read::names::Names;
@@ -21,7 +21,7 @@ const MAX_SIZE: usize = 65536;
 /// A chain of that many literals has more nodes.
 const MAX_LITERALS: u32 = 16;
 
-#[tactic(auto, unfolding(crate::specs::Terms::atom_at))]
+#[tactic(auto, unfolding(crate::specs::Reader::Terms::atom_at))]
 fn atom(names: &Names, place: Place, word: &[u8]) -> Result<BoolExpr, BoolStop>
     ensures value { Gives (λ e. e) result (atom_at place (table_of names.now) word.now) }
     ensures size { IfOk result (λ e. size_of e ≡ 1) }
@@ -39,7 +39,7 @@ fn atom(names: &Names, place: Place, word: &[u8]) -> Result<BoolExpr, BoolStop>
 }
 
 /// An atom under at most `room` nots.
-#[tactic(auto, unfolding(crate::specs::Terms::literal_at))]
+#[tactic(auto, unfolding(crate::specs::Reader::Terms::literal_at))]
 pub fn literal<'t>(
     alloc: Global,
     names: &Names,
@@ -71,8 +71,8 @@ pub fn literal<'t>(
 /// A literal, or literals with `<=>` between, which group to the left: all of the tokens.
 #[tactic(
     auto,
-    using(crate::proofs::StepsLemmas::length_kinds),
-    unfolding(crate::specs::Steps::ended, crate::specs::Terms::assertion_at)
+    using(crate::proofs::OutcomeLemmas::length_kinds),
+    unfolding(crate::specs::Reader::Steps::ended, crate::specs::Reader::Terms::assertion_at)
 )]
 pub fn assertion(
     alloc: Global,

@@ -2,9 +2,9 @@
 
 ghost use Rattle.std.specs.Prelude.{◌≡◌, ◌<◌, [], length, position, IfSome};
 ghost use Rattle.bool_path.specs.Reading.{kinds_of};
-ghost use Rattle.bool_path.specs.Steps.{Gives, is_mark};
-ghost use Rattle.bool_path.specs.Parts.{declared_at, declarations_at, enclosed_at, params_at, results_at, logics_at, locals_at, cut_at, bracketed_at, head_at};
-ghost use Rattle.bool_path.specs.Views.{head_of, kinds_if_any};
+ghost use Rattle.bool_path.specs.Reader.Steps.{Gives, is_mark};
+ghost use Rattle.bool_path.specs.Reader.Heads.{declared_at, declarations_at, enclosed_at, params_at, results_at, logics_at, locals_at, cut_at, bracketed_at, head_at};
+ghost use Rattle.bool_path.specs.Reader.Views.{head_of, kinds_if_any};
 
 use crate::program::{BoolStop, ByteList};
 use crate::read::names::MAX_NAMES;
@@ -27,7 +27,7 @@ pub struct Head<'t> {
 }
 
 /// `bool NAME`
-#[tactic(auto, unfolding(crate::specs::Parts::declared_at))]
+#[tactic(auto, unfolding(crate::specs::Reader::Heads::declared_at))]
 fn declared(alloc: Global, tokens: &[Token]) -> Result<(ByteList, &[Token]), BoolStop>
     ensures { Gives (λ x. (x.0, kinds_of x.1.now)) result (declared_at (kinds_of tokens.now)) }
 {
@@ -53,7 +53,7 @@ fn declarations(alloc: Global, tokens: &[Token]) -> Result<(Items<ByteList>, &[T
 }
 
 /// Declarations in parentheses.
-#[tactic(auto, unfolding(crate::specs::Parts::enclosed_at))]
+#[tactic(auto, unfolding(crate::specs::Reader::Heads::enclosed_at))]
 fn enclosed(alloc: Global, tokens: &[Token]) -> Result<(Items<ByteList>, &[Token]), BoolStop>
     ensures { Gives (λ x. (x.0, kinds_of x.1.now)) result (enclosed_at (kinds_of tokens.now)) }
 {
@@ -63,7 +63,7 @@ fn enclosed(alloc: Global, tokens: &[Token]) -> Result<(Items<ByteList>, &[Token
     Ok((names, rest))
 }
 
-#[tactic(auto, unfolding(crate::specs::Parts::params_at))]
+#[tactic(auto, unfolding(crate::specs::Reader::Heads::params_at))]
 fn params(alloc: Global, tokens: &[Token]) -> Result<(Items<ByteList>, &[Token]), BoolStop>
     ensures { Gives (λ x. (x.0, kinds_of x.1.now)) result (params_at (kinds_of tokens.now)) }
 {
@@ -75,7 +75,7 @@ fn params(alloc: Global, tokens: &[Token]) -> Result<(Items<ByteList>, &[Token])
     enclosed(alloc, tokens)
 }
 
-#[tactic(auto, unfolding(crate::specs::Parts::results_at))]
+#[tactic(auto, unfolding(crate::specs::Reader::Heads::results_at))]
 fn results(alloc: Global, tokens: &[Token]) -> Result<(Items<ByteList>, &[Token]), BoolStop>
     ensures { Gives (λ x. (x.0, kinds_of x.1.now)) result (results_at (kinds_of tokens.now)) }
 {
@@ -86,7 +86,7 @@ fn results(alloc: Global, tokens: &[Token]) -> Result<(Items<ByteList>, &[Token]
     enclosed(alloc, rest)
 }
 
-#[tactic(auto, unfolding(crate::specs::Parts::logics_at))]
+#[tactic(auto, unfolding(crate::specs::Reader::Heads::logics_at))]
 fn logics(alloc: Global, tokens: &[Token]) -> Result<(Items<ByteList>, &[Token]), BoolStop>
     ensures { Gives (λ x. (x.0, kinds_of x.1.now)) result (logics_at (kinds_of tokens.now)) }
 {
@@ -134,7 +134,7 @@ fn cut(tokens: &[Token]) -> Result<(&[Token], &[Token]), BoolStop>
 }
 
 /// The tokens in brackets after this word, where it stands.
-#[tactic(auto, unfolding(crate::specs::Parts::bracketed_at))]
+#[tactic(auto, unfolding(crate::specs::Reader::Heads::bracketed_at))]
 fn bracketed<'t>(
     tokens: &'t [Token],
     word: &[u8],
@@ -151,7 +151,7 @@ fn bracketed<'t>(
 }
 
 /// A procedure from `proc` up to its body.
-#[tactic(auto, unfolding(crate::specs::Parts::head_at))]
+#[tactic(auto, unfolding(crate::specs::Reader::Heads::head_at))]
 pub fn read_head(alloc: Global, tokens: &[Token]) -> Result<(Head<'_>, &[Token]), BoolStop>
     ensures { Gives (λ x. (head_of x.0, kinds_of x.1.now)) result (head_at (kinds_of tokens.now)) }
 {

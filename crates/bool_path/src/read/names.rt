@@ -3,7 +3,7 @@
 ghost use Rattle.std.specs.Prelude.{◌≡◌, ◌<◌, ◌≤◌, length, position, IfSome};
 ghost use Rattle.std.specs.List.{list_any};
 ghost use Rattle.std.specs.Str.{bytes_eq};
-ghost use Rattle.bool_path.specs.Distinct.{distinct_names};
+ghost use Rattle.bool_path.specs.Reader.Distinct.{distinct_names};
 
 use crate::program::{BoolStop, ByteList};
 use crate::read::place::Place;
@@ -26,7 +26,7 @@ fn is_known(names: &[ByteList], name: &[u8]) -> bool
 }
 
 /// Whether no name stands twice.
-#[tactic(auto, unfolding(crate::specs::Distinct::distinct_names))]
+#[tactic(auto, unfolding(crate::specs::Reader::Distinct::distinct_names))]
 fn are_distinct(names: &[ByteList]) -> bool
     ensures { result ≡ distinct_names names.now }
 {
@@ -51,13 +51,13 @@ pub struct Names {
 }
 
 impl Names {
-    ghost use Rattle.bool_path.specs.Names.{may_be, variable_at};
-    ghost use Rattle.bool_path.specs.Parts.{table_from};
-    ghost use Rattle.bool_path.specs.Steps.{Gives};
-    ghost use Rattle.bool_path.specs.Views.{table_of};
+    ghost use Rattle.bool_path.specs.Reader.Names.{may_be, variable_at};
+    ghost use Rattle.bool_path.specs.Reader.Heads.{table_from};
+    ghost use Rattle.bool_path.specs.Reader.Steps.{Gives};
+    ghost use Rattle.bool_path.specs.Reader.Views.{table_of};
 
     /// All the names of a procedure, if they are few and distinct.
-    #[tactic(auto, unfolding(crate::specs::Parts::table_from))]
+    #[tactic(auto, unfolding(crate::specs::Reader::Heads::table_from))]
     pub fn gathered(
         params: Items<ByteList>,
         results: Items<ByteList>,
@@ -83,7 +83,7 @@ impl Names {
     }
 
     /// Whether the variable with this number may stand there.
-    #[tactic(auto, unfolding(crate::specs::Names::may_be))]
+    #[tactic(auto, unfolding(crate::specs::Reader::Names::may_be))]
     fn may_be(&self, place: Place, number: u32) -> bool
         ensures { result ≡ may_be place (table_of self.now) number }
     {
@@ -100,7 +100,7 @@ impl Names {
     }
 
     /// The number of the variable of this name, if it may stand there.
-    #[tactic(auto, unfolding(crate::specs::Names::variable_at))]
+    #[tactic(auto, unfolding(crate::specs::Reader::Names::variable_at))]
     pub fn variable(&self, place: Place, name: &[u8]) -> Option<u32>
         ensures { result ≡ variable_at place (table_of self.now) name.now }
     {

@@ -1,7 +1,7 @@
 //! The places of expressions.
 
 ghost use Rattle.std.specs.Prelude.{◌≡◌};
-ghost use Rattle.bool_path.specs.Names as spec;
+ghost use Rattle.bool_path.specs.Reader.Names as spec;
 
 use pale_text::Mark;
 

@@ -1,10 +1,10 @@
 //! A procedure as a whole.
 
 ghost use Rattle.std.specs.Prelude.{◌≡◌};
-ghost use Rattle.bool_path.specs.Bodies.{assertion_from, procedure_at};
+ghost use Rattle.bool_path.specs.Reader.Bodies.{assertion_from, procedure_at};
 ghost use Rattle.bool_path.specs.Reading.{kinds_of};
-ghost use Rattle.bool_path.specs.Steps.{Gives};
-ghost use Rattle.bool_path.specs.Views.{table_of, kinds_if_any};
+ghost use Rattle.bool_path.specs.Reader.Steps.{Gives};
+ghost use Rattle.bool_path.specs.Reader.Views.{table_of, kinds_if_any};
 
 use crate::program::{BoolExpr, BoolProc, BoolStop};
 use crate::read::body::body_of;
@@ -17,7 +17,7 @@ use pale_text::{Mark, Token};
 use std::alloc::Global;
 
 /// The assertion of these tokens, or `true` where it is left out.
-#[tactic(auto, unfolding(crate::specs::Bodies::assertion_from))]
+#[tactic(auto, unfolding(crate::specs::Reader::Bodies::assertion_from))]
 fn assertion_or_true(
     alloc: Global,
     names: &Names,
@@ -33,7 +33,7 @@ fn assertion_or_true(
 }
 
 /// The procedure that is all of the tokens; its `proc` and its last `}` stand in these lines.
-#[tactic(auto, unfolding(crate::specs::Bodies::procedure_at))]
+#[tactic(auto, unfolding(crate::specs::Reader::Bodies::procedure_at))]
 pub fn read_procedure(
     alloc: Global,
     line: u32,

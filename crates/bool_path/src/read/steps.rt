@@ -4,7 +4,7 @@ ghost use Rattle.std.specs.Prelude.{◌≡◌, ◌<◌, length, IfOk};
 ghost use Rattle.std.specs.List.{list_any};
 ghost use Rattle.std.specs.Str.{bytes_eq};
 ghost use Rattle.bool_path.specs.Reading.{kinds_of};
-ghost use Rattle.bool_path.specs.Steps.{Gives, is_mark, is_word, begins, after, is_reserved, new_name_at};
+ghost use Rattle.bool_path.specs.Reader.Steps.{Gives, is_mark, is_word, begins, after, is_reserved, new_name_at};
 
 use crate::program::{BoolStop, ByteList};
 use pale_text::{Mark, Token, TokenKind};
@@ -17,7 +17,7 @@ const RESERVED: [&[u8]; 29] = [
     b"true", b"false", b"call", b"keep", b"ex", b"all", b"in", b"sub", b"root",
 ];
 
-#[tactic(auto, unfolding(crate::specs::Steps::is_mark))]
+#[tactic(auto, unfolding(crate::specs::Reader::Steps::is_mark))]
 pub fn is_mark_of(kind: &TokenKind, wanted: Mark) -> bool
     ensures { result ≡ is_mark wanted kind.now }
 {
@@ -27,7 +27,7 @@ pub fn is_mark_of(kind: &TokenKind, wanted: Mark) -> bool
     }
 }
 
-#[tactic(auto, unfolding(crate::specs::Steps::is_word))]
+#[tactic(auto, unfolding(crate::specs::Reader::Steps::is_word))]
 fn is_word_of(kind: &TokenKind, wanted: &[u8]) -> bool
     ensures { result ≡ is_word wanted.now kind.now }
 {
@@ -37,7 +37,7 @@ fn is_word_of(kind: &TokenKind, wanted: &[u8]) -> bool
     }
 }
 
-#[tactic(auto, unfolding(crate::specs::Steps::begins))]
+#[tactic(auto, unfolding(crate::specs::Reader::Steps::begins))]
 pub fn begins_with_mark(tokens: &[Token], wanted: Mark) -> bool
     ensures { result ≡ begins (is_mark wanted) (kinds_of tokens.now) }
 {
@@ -47,7 +47,7 @@ pub fn begins_with_mark(tokens: &[Token], wanted: Mark) -> bool
     }
 }
 
-#[tactic(auto, unfolding(crate::specs::Steps::begins))]
+#[tactic(auto, unfolding(crate::specs::Reader::Steps::begins))]
 pub fn begins_with_word(tokens: &[Token], wanted: &[u8]) -> bool
     ensures { result ≡ begins (is_word wanted.now) (kinds_of tokens.now) }
 {
@@ -57,7 +57,7 @@ pub fn begins_with_word(tokens: &[Token], wanted: &[u8]) -> bool
     }
 }
 
-#[tactic(auto, unfolding(crate::specs::Steps::after))]
+#[tactic(auto, unfolding(crate::specs::Reader::Steps::after))]
 pub fn after_mark(tokens: &[Token], wanted: Mark) -> Result<&[Token], BoolStop>
     ensures value { Gives (λ rest. kinds_of rest.now) result (after (is_mark wanted) (kinds_of tokens.now)) }
     ensures shorter { IfOk result (λ rest. length rest.now < length tokens.now) }
@@ -68,7 +68,7 @@ pub fn after_mark(tokens: &[Token], wanted: Mark) -> Result<&[Token], BoolStop>
     }
 }
 
-#[tactic(auto, unfolding(crate::specs::Steps::after))]
+#[tactic(auto, unfolding(crate::specs::Reader::Steps::after))]
 pub fn after_word<'t>(tokens: &'t [Token], wanted: &[u8]) -> Result<&'t [Token], BoolStop>
     ensures value { Gives (λ rest. kinds_of rest.now) result (after (is_word wanted.now) (kinds_of tokens.now)) }
     ensures shorter { IfOk result (λ rest. length rest.now < length tokens.now) }
@@ -85,7 +85,7 @@ fn is_among(words: &[&[u8]], name: &[u8]) -> bool
     words.iter().any(|word| *word == name)
 }
 
-#[tactic(auto, unfolding(crate::specs::Steps::is_reserved))]
+#[tactic(auto, unfolding(crate::specs::Reader::Steps::is_reserved))]
 fn is_reserved_word(name: &[u8]) -> bool
     ensures { result ≡ is_reserved name.now }
 {
@@ -93,7 +93,7 @@ fn is_reserved_word(name: &[u8]) -> bool
 }
 
 /// A name that isn't reserved.
-#[tactic(auto, unfolding(crate::specs::Steps::new_name_at))]
+#[tactic(auto, unfolding(crate::specs::Reader::Steps::new_name_at))]
 pub fn new_name(alloc: Global, tokens: &[Token]) -> Result<(ByteList, &[Token]), BoolStop>
     ensures { Gives (λ x. (x.0, kinds_of x.1.now)) result (new_name_at (kinds_of tokens.now)) }
 {

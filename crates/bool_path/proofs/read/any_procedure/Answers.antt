@@ -3,7 +3,7 @@ use Rattle.std.proofs.lemmas.Option.{none-some}
 use Rattle.std.proofs.lemmas.Result.{err_from_is_err_and}
 use Rattle.bool_path.specs.declared.program.BoolProc.{BoolProc}
 use Rattle.bool_path.proofs.ReadLaws.{IsProcedure-Some, IsRead-from_tokens, none_first, none_last}
-use Rattle.bool_path.proofs.StepsLemmas.{Fails-whole}
+use Rattle.bool_path.proofs.OutcomeLemmas.{Fails-whole}
 use Rattle.bool_path.proofs.read.any_procedure.Goals as goal
 use Rattle.bool_path.proofs.read.any_procedure.Goals.{in_default-via-in-Some+in_default, in_default-via-in_default}
 

@@ -2,11 +2,11 @@ use Rattle.std.proofs.Common.{◌≡◌, suc, ◌+◌, ◌-◌, ◌<◌, ◌≤�
 use Rattle.std.proofs.lemmas.Bool.{lt-ltb, le-ltb}
 use Rattle.std.proofs.lemmas.List.{length_push}
 use Rattle.std.proofs.lemmas.Result.{err_from_is_err_and}
-use Rattle.bool_path.specs.Bodies.{statements_at, atoms_in}
+use Rattle.bool_path.specs.Reader.Bodies.{statements_at, atoms_in}
 use Rattle.bool_path.specs.Reading.{kinds_of}
-use Rattle.bool_path.specs.Views.{table_of}
-use Rattle.bool_path.proofs.StatementsLemmas.{there, at_brace, bad_statement, many_atoms, goes_on}
-use Rattle.bool_path.proofs.StepsLemmas.{Fails-whole}
+use Rattle.bool_path.specs.Reader.Views.{table_of}
+use Rattle.bool_path.proofs.StatementTurns.{there, at_brace, bad_statement, many_atoms, goes_on}
+use Rattle.bool_path.proofs.OutcomeLemmas.{Fails-whole}
 use Rattle.bool_path.proofs.read.body.statements.Goals as goal
 use Rattle.bool_path.proofs.read.body.statements.Goals.{After-begins_with_mark}
 

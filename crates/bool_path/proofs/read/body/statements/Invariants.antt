@@ -1,7 +1,7 @@
 use Rattle.std.proofs.Common.{◌≡◌, ◌+◌, ◌≤◌, ℕ, [], length}
-use Rattle.bool_path.specs.Bodies.{statements_at}
+use Rattle.bool_path.specs.Reader.Bodies.{statements_at}
 use Rattle.bool_path.specs.Reading.{kinds_of}
-use Rattle.bool_path.specs.Views.{table_of}
+use Rattle.bool_path.specs.Reader.Views.{table_of}
 use Rattle.bool_path.proofs.read.body.statements.Given as goal
 
 abbrev pub invariant-statements : goal.invariant-statements

@@ -3,10 +3,10 @@ use Rattle.std.proofs.lemmas.Result.{err_from_is_err_and}
 use Rattle.std.proofs.lemmas.Bool.{lt-ltb, le-ltb}
 use Rattle.bool_path.specs.declared.program.BoolExpr.TheVariants.{Iff}
 use Rattle.bool_path.specs.Reading.{kinds_of, size_of}
-use Rattle.bool_path.specs.Views.{table_of}
-use Rattle.bool_path.proofs.ChainLemmas.{stops, stuck, unread, too_big, goes_on, is_over}
+use Rattle.bool_path.specs.Reader.Views.{table_of}
+use Rattle.bool_path.proofs.ChainTurns.{stops, stuck, unread, too_big, goes_on, is_over}
 use Rattle.bool_path.proofs.ExprLemmas.{size_of-Iff}
-use Rattle.bool_path.proofs.StepsLemmas.{Fails-whole}
+use Rattle.bool_path.proofs.OutcomeLemmas.{Fails-whole}
 use Rattle.bool_path.proofs.read.expr.chain.Goals as goal
 
 pub returns-then-not-begins_with_mark : goal.returns-then-not-begins_with_mark

@@ -1,7 +1,7 @@
 use Rattle.std.proofs.Common.{◌≡◌, ◌-◌, ◌≤◌}
 use Rattle.bool_path.specs.Reading.{kinds_of, size_of}
-use Rattle.bool_path.specs.Terms.{chain_at}
-use Rattle.bool_path.specs.Views.{table_of}
+use Rattle.bool_path.specs.Reader.Terms.{chain_at}
+use Rattle.bool_path.specs.Reader.Views.{table_of}
 use Rattle.bool_path.proofs.read.expr.chain.Given as goal
 
 abbrev pub invariant-loop : goal.invariant-loop

@@ -1,8 +1,8 @@
 use Rattle.std.proofs.Common.{◌≡◌, ◌∙◌, sym}
 use Rattle.std.proofs.lemmas.Result.{err_from_is_err_and}
 use Rattle.bool_path.specs.Reading.{kinds_of}
-use Rattle.bool_path.proofs.DeclaringLemmas.{undeclared, last_one, no_comma, one_more, too_many}
-use Rattle.bool_path.proofs.StepsLemmas.{Fails-whole}
+use Rattle.bool_path.proofs.DeclarationTurns.{undeclared, last_one, no_comma, one_more, too_many}
+use Rattle.bool_path.proofs.OutcomeLemmas.{Fails-whole}
 use Rattle.bool_path.proofs.read.head.declarations.Goals as goal
 
 pub returns-in_err-name : goal.returns-in_err-name

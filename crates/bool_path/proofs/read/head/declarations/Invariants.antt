@@ -1,5 +1,5 @@
 use Rattle.std.proofs.Common.{◌≡◌, ◌-◌, []}
-use Rattle.bool_path.specs.Parts.{declarations_at}
+use Rattle.bool_path.specs.Reader.Heads.{declarations_at}
 use Rattle.bool_path.specs.Reading.{kinds_of}
 use Rattle.bool_path.proofs.read.head.declarations.Given as goal
 

@@ -1,8 +1,8 @@
 use Rattle.std.proofs.Common.{◌≡◌, ◌≤◌, ◌∙◌, sym, arith}
 use Rattle.std.proofs.lemmas.Result.{err_from_is_err_and}
 use Rattle.bool_path.specs.Reading.{kinds_of}
-use Rattle.bool_path.proofs.DeclaringLemmas.{no_local, no_room, bad_local, no_end, next_local}
-use Rattle.bool_path.proofs.StepsLemmas.{Fails-whole}
+use Rattle.bool_path.proofs.DeclarationTurns.{no_local, no_room, bad_local, no_end, next_local}
+use Rattle.bool_path.proofs.OutcomeLemmas.{Fails-whole}
 use Rattle.bool_path.proofs.read.head.locals.Goals as goal
 
 pub returns-then-room-eq0 : goal.returns-then-room-eq0

@@ -1,5 +1,5 @@
 use Rattle.std.proofs.Common.{◌≡◌, []}
-use Rattle.bool_path.specs.Parts.{locals_at}
+use Rattle.bool_path.specs.Reader.Heads.{locals_at}
 use Rattle.bool_path.specs.Reading.{kinds_of}
 use Rattle.bool_path.proofs.read.head.locals.Given as goal
 

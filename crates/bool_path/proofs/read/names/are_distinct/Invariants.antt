@@ -1,5 +1,5 @@
 use Rattle.std.proofs.Common.{◌≡◌, length}
-use Rattle.bool_path.specs.Distinct.{distinct_names}
+use Rattle.bool_path.specs.Reader.Distinct.{distinct_names}
 use Rattle.bool_path.proofs.read.names.are_distinct.Given as goal
 
 abbrev pub invariant-names : goal.invariant-names

@@ -5,10 +5,10 @@ use Rattle.pale_text.specs.declared.token.TokenKind.{TokenKind}
 use Rattle.bool_path.specs.declared.program.BoolExpr.{BoolExpr}
 use Rattle.bool_path.specs.declared.program.BoolExpr.TheVariants.{Iff}
 use Rattle.bool_path.specs.declared.read.place.Place.{Place}
-use Rattle.bool_path.specs.Names.{Table}
+use Rattle.bool_path.specs.Reader.Names.{Table}
 use Rattle.bool_path.specs.Reading.{size_of}
-use Rattle.bool_path.specs.Steps.{begins, after, is_mark}
-use Rattle.bool_path.specs.Terms.{literal_at, chain_at}
+use Rattle.bool_path.specs.Reader.Steps.{begins, after, is_mark}
+use Rattle.bool_path.specs.Reader.Terms.{literal_at, chain_at}
 
 -- a turn is left
 pub turn_left : (n : ℕ) → n < 16 → 16 - n ≡ suc (16 - (n + 1))

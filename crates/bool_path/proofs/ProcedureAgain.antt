@@ -14,24 +14,24 @@ use Rattle.bool_path.specs.declared.program.BoolStmt.{BoolStmt}
 use Rattle.bool_path.specs.declared.program.BoolStmt.TheVariants.{Skip, Set}
 use Rattle.bool_path.specs.declared.read.place.Place.{Place}
 use Rattle.bool_path.specs.declared.read.place.Place.TheVariants as place
-use Rattle.bool_path.specs.Bodies.{assertion_from, body_at, procedure_at}
-use Rattle.bool_path.specs.Names.{Table, negation}
-use Rattle.bool_path.specs.Parts.{Head, head_at, locals_at, table_from}
+use Rattle.bool_path.specs.Reader.Bodies.{assertion_from, body_at, procedure_at}
+use Rattle.bool_path.specs.Reader.Names.{Table, negation}
+use Rattle.bool_path.specs.Reader.Heads.{Head, head_at, locals_at, table_from}
 use Rattle.bool_path.specs.Reading.{name_at, truth_word, reserved, declarations, returns_part, logic_part, local_part, statement_part, tokens_of, params_of, results_of, locals_of, logics_of, SpellsAssertion, SpellsProcedure, IsAssertion, KeepsRules}
-use Rattle.bool_path.specs.Terms.{assertion_at}
-use Rattle.bool_path.specs.Steps.{begins, after, is_mark, is_word}
+use Rattle.bool_path.specs.Reader.Terms.{assertion_at}
+use Rattle.bool_path.specs.Reader.Steps.{begins, after, is_mark, is_word}
 use Rattle.bool_path.proofs.BodyLaws.{IsCode, body_tokens, body_again}
 use Rattle.bool_path.proofs.ChainLaws.{IsPart, assertion_again}
 use Rattle.bool_path.proofs.ExprLemmas.{by_form, tokens_of-Name, tokens_of-Truth, tokens_of-Not, tokens_of-Iff}
-use Rattle.bool_path.proofs.HeadLaws.{IsFree, AreFree}
-use Rattle.bool_path.proofs.HeadWhole.{head_tokens, IsHead, IsPartUncut, MayBeHead, head_again}
+use Rattle.bool_path.proofs.DeclarationLaws.{IsFree, AreFree}
+use Rattle.bool_path.proofs.HeadLaws.{head_tokens, IsHead, IsPartUncut, MayBeHead, head_again}
 use Rattle.bool_path.proofs.ListedLaws.{AreDistinct}
 use Rattle.bool_path.proofs.LiteralLaws.{is_free}
 use Rattle.bool_path.proofs.LocalsLaws.{IsUncut, bracket_part, locals_again}
 use Rattle.bool_path.proofs.NamesLaws.{MayBe, MayBe-within, IsTable}
 use Rattle.bool_path.proofs.StepLaws.{mark_again, bytes_differ}
 use Rattle.bool_path.proofs.TableLaws.{joined, table_of_parts, table_again, cuts_joined}
-use Rattle.bool_path.proofs.WholeLaws.{whole_tokens, regrouped}
+use Rattle.bool_path.proofs.ProcedureLaws.{whole_tokens, regrouped}
 
 -- ---- no `]` is in an assertion
 

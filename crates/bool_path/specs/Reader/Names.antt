@@ -6,7 +6,7 @@ use Rattle.pale_text.specs.declared.token.Mark.{Mark}
 use Rattle.pale_text.specs.declared.token.Mark.TheVariants as mark
 use Rattle.bool_path.specs.declared.read.place.Place.{Place}
 use Rattle.bool_path.specs.declared.read.place.Place.TheVariants as place
-use Rattle.bool_path.specs.Steps.{◌>>=◌}
+use Rattle.bool_path.specs.Reader.Steps.{◌>>=◌}
 
 -- the names of the variables in order, and how many are parameters, results and logic variables
 pub record Table : Type 0 where

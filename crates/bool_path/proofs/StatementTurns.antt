@@ -4,9 +4,9 @@ use Rattle.std.proofs.lemmas.List.{length_push}
 use Rattle.pale_text.specs.declared.token.Mark.TheVariants as mark
 use Rattle.pale_text.specs.declared.token.TokenKind.{TokenKind}
 use Rattle.bool_path.specs.declared.program.BoolStmt.{BoolStmt}
-use Rattle.bool_path.specs.Bodies.{statement_at, statements_at, atoms_in}
-use Rattle.bool_path.specs.Names.{Table}
-use Rattle.bool_path.specs.Steps.{begins, is_mark}
+use Rattle.bool_path.specs.Reader.Bodies.{statement_at, statements_at, atoms_in}
+use Rattle.bool_path.specs.Reader.Names.{Table}
+use Rattle.bool_path.specs.Reader.Steps.{begins, is_mark}
 
 -- where a reading goes on for some turns after those used
 pub there : {X : Type 0} (f g : ℕ → X) (len used : ℕ) → used ≤ len → ((turns : ℕ) → f turns ≡ g (turns + used)) → f (suc (len - used)) ≡ g (len + 1)

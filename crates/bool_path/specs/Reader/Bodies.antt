@@ -10,10 +10,10 @@ use Rattle.bool_path.specs.declared.program.BoolStmt.{BoolStmt}
 use Rattle.bool_path.specs.declared.program.BoolStmt.TheVariants.{Skip, Set}
 use Rattle.bool_path.specs.declared.read.place.Place.{Place}
 use Rattle.bool_path.specs.declared.read.place.Place.TheVariants as place
-use Rattle.bool_path.specs.Names.{Table, variable_at}
-use Rattle.bool_path.specs.Parts.{Head, head_at, locals_at, table_from}
-use Rattle.bool_path.specs.Steps.{◌>>=◌, begins, after, ended, is_mark, is_word}
-use Rattle.bool_path.specs.Terms.{literal_at, assertion_at}
+use Rattle.bool_path.specs.Reader.Names.{Table, variable_at}
+use Rattle.bool_path.specs.Reader.Heads.{Head, head_at, locals_at, table_from}
+use Rattle.bool_path.specs.Reader.Steps.{◌>>=◌, begins, after, ended, is_mark, is_word}
+use Rattle.bool_path.specs.Reader.Terms.{literal_at, assertion_at}
 
 -- a variable that code may name
 unfoldable pub target_at : Table → List TokenKind → Option (ℕ × List TokenKind)

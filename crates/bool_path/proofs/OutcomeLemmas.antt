@@ -5,7 +5,7 @@ use Rattle.pale_text.specs.declared.token.Token.{Token}
 use Rattle.bool_path.specs.declared.program.BoolStop.{BoolStop}
 use Rattle.bool_path.specs.declared.program.BoolStop.TheVariants as stop
 use Rattle.bool_path.specs.Reading.{kinds_of}
-use Rattle.bool_path.specs.Steps.{Fails}
+use Rattle.bool_path.specs.Reader.Steps.{Fails}
 
 pub length_kinds : (tokens : List Token) → length (kinds_of tokens) ≡ length tokens
 length_kinds tokens = length-map tokens (λ token. token.kind)

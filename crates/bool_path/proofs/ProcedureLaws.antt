@@ -13,17 +13,17 @@ use Rattle.bool_path.specs.declared.program.BoolStmt.{BoolStmt}
 use Rattle.bool_path.specs.declared.program.BoolStmt.TheVariants.{Skip, Set}
 use Rattle.bool_path.specs.declared.read.place.Place.{Place}
 use Rattle.bool_path.specs.declared.read.place.Place.TheVariants as place
-use Rattle.bool_path.specs.Bodies.{assertion_from, body_at, procedure_at}
-use Rattle.bool_path.specs.Names.{Table, negation}
-use Rattle.bool_path.specs.Parts.{Head, head_at, locals_at, table_from}
+use Rattle.bool_path.specs.Reader.Bodies.{assertion_from, body_at, procedure_at}
+use Rattle.bool_path.specs.Reader.Names.{Table, negation}
+use Rattle.bool_path.specs.Reader.Heads.{Head, head_at, locals_at, table_from}
 use Rattle.bool_path.specs.Reading.{Literal, Neither, form_of, uses_of, levels_of, size_of, reserved, declarations, returns_part, logic_part, local_part, statement_part, tokens_of, params_of, results_of, locals_of, logics_of, SpellsAssertion, SpellsProcedure, IsAssertion, KeepsRules, atoms_of}
-use Rattle.bool_path.specs.Steps.{◌>>=◌, begins, after, is_mark, is_word}
-use Rattle.bool_path.specs.Terms.{assertion_at}
+use Rattle.bool_path.specs.Reader.Steps.{◌>>=◌, begins, after, is_mark, is_word}
+use Rattle.bool_path.specs.Reader.Terms.{assertion_at}
 use Rattle.bool_path.proofs.BodyLaws.{IsCode, body_tokens, body-Some, body_again}
 use Rattle.bool_path.proofs.ChainLaws.{IsPart, assertion-Some, assertion_again}
 use Rattle.bool_path.proofs.ExprLemmas.{form_of-Truth, uses_of-Truth, levels_of-Truth, size_of-Truth}
-use Rattle.bool_path.proofs.HeadLaws.{IsFree, AreFree}
-use Rattle.bool_path.proofs.HeadWhole.{head_tokens, IsHead, MayBeHead, head-Some, head_again}
+use Rattle.bool_path.proofs.DeclarationLaws.{IsFree, AreFree}
+use Rattle.bool_path.proofs.HeadLaws.{head_tokens, IsHead, MayBeHead, head-Some, head_again}
 use Rattle.bool_path.proofs.LocalsLaws.{bracket_part, locals-Some, locals_again}
 use Rattle.bool_path.proofs.NamesLaws.{MayBe, IsTable}
 use Rattle.bool_path.proofs.StepLaws.{bind_then, after-mark, mark_again}

@@ -10,9 +10,9 @@ use Rattle.pale_text.specs.declared.token.TokenKind.TheVariants as kind
 use Rattle.bool_path.specs.declared.program.BoolExpr.{BoolExpr}
 use Rattle.bool_path.specs.declared.program.BoolExpr.TheVariants.{Name, Truth, Not, Iff}
 use Rattle.bool_path.specs.declared.read.place.Place.{Place}
-use Rattle.bool_path.specs.Names.{Table, negation, variable_at}
+use Rattle.bool_path.specs.Reader.Names.{Table, negation, variable_at}
 use Rattle.bool_path.specs.Reading.{size_of}
-use Rattle.bool_path.specs.Steps.{◌>>=◌, begins, after, ended, is_mark}
+use Rattle.bool_path.specs.Reader.Steps.{◌>>=◌, begins, after, ended, is_mark}
 
 -- a truth value or a variable
 unfoldable pub atom_at : Place → Table → List ℕ → Option BoolExpr

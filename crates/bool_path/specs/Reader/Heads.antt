@@ -3,9 +3,9 @@
 use Rattle.std.specs.Prelude.{ℕ, zero, suc, ◌&&◌, nat_le, List, [], ◌∷◌, ◌++◌, length, codes, Option, Some, None, if◌then◌else◌}
 use Rattle.pale_text.specs.declared.token.Mark.TheVariants as mark
 use Rattle.pale_text.specs.declared.token.TokenKind.{TokenKind}
-use Rattle.bool_path.specs.Distinct.{distinct_names}
-use Rattle.bool_path.specs.Names.{Table}
-use Rattle.bool_path.specs.Steps.{◌>>=◌, begins, after, is_mark, is_word, new_name_at}
+use Rattle.bool_path.specs.Reader.Distinct.{distinct_names}
+use Rattle.bool_path.specs.Reader.Names.{Table}
+use Rattle.bool_path.specs.Reader.Steps.{◌>>=◌, begins, after, is_mark, is_word, new_name_at}
 
 -- names, and the tokens after their declarations
 abbrev pub Declared : Type 0

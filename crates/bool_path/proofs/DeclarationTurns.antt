@@ -2,8 +2,8 @@
 use Rattle.std.proofs.Common.{◌≡◌, ℕ, zero, suc, ◌+◌, ◌-◌, ◌<◌, ◌≤◌, true, false, List, [], ◌∷◌, ◌++◌, codes, Option, Some, None, refl, ap, ◌∙◌, arith}
 use Rattle.pale_text.specs.declared.token.Mark.TheVariants as mark
 use Rattle.pale_text.specs.declared.token.TokenKind.{TokenKind}
-use Rattle.bool_path.specs.Parts.{declared_at, declarations_at, locals_at}
-use Rattle.bool_path.specs.Steps.{begins, after, is_mark, is_word}
+use Rattle.bool_path.specs.Reader.Heads.{declared_at, declarations_at, locals_at}
+use Rattle.bool_path.specs.Reader.Steps.{begins, after, is_mark, is_word}
 
 turn_left : (n : ℕ) → n < 12 → 12 - n ≡ suc (12 - (n + 1))
 turn_left n h = omega arith

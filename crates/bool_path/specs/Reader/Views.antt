@@ -5,8 +5,8 @@ use Rattle.pale_text.specs.declared.token.TokenKind.{TokenKind}
 use Rattle.std.specs.Borrow.{Bor}
 use Rattle.bool_path.specs.declared.read.names.Names.{Names}
 use Rattle.bool_path.specs.declared.read.head.Head.{Head}
-use Rattle.bool_path.specs.Names.{Table}
-use Rattle.bool_path.specs.Parts as parts
+use Rattle.bool_path.specs.Reader.Names.{Table}
+use Rattle.bool_path.specs.Reader.Heads as parts
 use Rattle.bool_path.specs.Reading.{kinds_of}
 
 abbrev pub table_of : Names → Table

@@ -1,5 +1,4 @@
--- What the private readers give, from left to right: each takes a front of the tokens, seen as their kinds, and leaves
--- the rest, or finds nothing. `specs/Reading.antt` says what is read in the subject's own words.
+-- Single tokens at the front, and what a reader returned against what reading gives.
 use Rattle.std.specs.Prelude.{◌≡◌, ℕ, Bool, true, false, List, [], ◌∷◌, Option, Some, None, Result, Ok, Err, if◌then◌else◌, length, ◌==◌}
 use Rattle.std.specs.List.{list_any}
 use Rattle.std.specs.Str.{bytes_eq}
