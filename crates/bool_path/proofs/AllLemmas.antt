@@ -1,5 +1,5 @@
 -- What holds of each element of two lists joined.
-use Rattle.std.proofs.Common.{◌≡◌, ℕ, ◌+◌, ◌<◌, List, ◌++◌, length, All, subst, arith}
+use Rattle.std.proofs.Common.{◌+◌, List, ◌++◌, length, All, subst, arith}
 use Rattle.std.proofs.lemmas.List.{length-append, get_or_append_left, get_or-append-add}
 
 pub All-left : {X : Type 0} (P : X → Type 0) (xs ys : List X) → All P (xs ++ ys) → All P xs

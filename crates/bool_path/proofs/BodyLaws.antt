@@ -1,5 +1,5 @@
 -- What is read as a body is one and is spelled so, and what is spelled so is read.
-use Rattle.std.proofs.Common.{◌≡◌, ◌≢◌, ℕ, zero, suc, ◌+◌, ◌<◌, ◌≤◌, Bool, true, false, cond, ltb, List, [], ◌∷◌, ◌++◌, length, codes, All, Contains, Option, Some, None, refl, sym, ap, subst, ◌∙◌, append_assoc, arith}
+use Rattle.std.proofs.Common.{◌≡◌, ◌≢◌, ℕ, zero, suc, ◌+◌, ◌<◌, ◌≤◌, Bool, true, false, cond, ltb, List, [], ◌∷◌, ◌++◌, length, codes, All, Option, Some, None, refl, sym, ap, subst, ◌∙◌, append_assoc, arith}
 use Rattle.std.specs.List.{flat_map, AllByRecursion}
 use Rattle.std.proofs.lemmas.Bool.{ltb-false, le-ltb}
 use Rattle.std.proofs.lemmas.List.{append-nil, length-append}
@@ -13,9 +13,9 @@ use Rattle.bool_path.specs.declared.program.BoolStmt.{BoolStmt}
 use Rattle.bool_path.specs.declared.program.BoolStmt.TheVariants.{Skip, Set}
 use Rattle.bool_path.specs.declared.read.place.Place.TheVariants as place
 use Rattle.bool_path.specs.Reader.Bodies.{target_at, skip_at, set_at, statement_at, statements_at, atoms_in, body_at}
-use Rattle.bool_path.specs.Reader.Names.{Table, negation, variable_at}
-use Rattle.bool_path.specs.Reading.{Literal, form_of, levels_of, uses_of, name_at, tokens_of, statement_part, IsCondition, IsStatement, atoms_of, reserved}
-use Rattle.bool_path.specs.Reader.Steps.{◌>>=◌, begins, after, ended, is_mark, is_word}
+use Rattle.bool_path.specs.Reader.Names.{Table, variable_at}
+use Rattle.bool_path.specs.Reading.{name_at, tokens_of, statement_part, IsCondition, IsStatement, atoms_of}
+use Rattle.bool_path.specs.Reader.Steps.{◌>>=◌, begins, after, is_mark, is_word}
 use Rattle.bool_path.specs.Reader.Terms.{literal_at}
 use Rattle.bool_path.proofs.LiteralLaws.{literal-Some, literal_again, is_free}
 use Rattle.bool_path.proofs.NamesLaws.{MayBe, MayBe-within, IsTable, variable-Some, variable_again}
@@ -39,10 +39,10 @@ target-Some t (kind.Number digits ∷ others) k rest read = absurd (none-some (k
 target-Some t (kind.Mark m ∷ others) k rest read = absurd (none-some (k, rest) read)
 target-Some t (kind.Name word ∷ others) k rest read =
     bind_then (variable_at place.Code t word) _ (k, rest) read (λ i found now.
-      let v = variable-Some place.Code t word i found in
-      let same = same_Some {A = ℕ × List TokenKind} (i, others) (k, rest) now in
-      subst (λ (x : ℕ × List TokenKind). (kind.Name word ∷ others ≡ kind.Name (name_at t.all x.0) ∷ x.1) × MayBe place.Code t x.0) same
-        (ap (λ (w : List ℕ). kind.Name w ∷ others) (sym v.1), v.2))
+    let v = variable-Some place.Code t word i found in
+    let same = same_Some {A = ℕ × List TokenKind} (i, others) (k, rest) now in
+    subst (λ (x : ℕ × List TokenKind). (kind.Name word ∷ others ≡ kind.Name (name_at t.all x.0) ∷ x.1) × MayBe place.Code t x.0) same
+    (ap (λ (w : List ℕ). kind.Name w ∷ others) (sym v.1), v.2))
 
 skip-Some : (t : Table) (kinds : List TokenKind) (x : Stated) → skip_at kinds ≡ Some x → IsFirst t kinds x
 unfolding skip_at
@@ -50,7 +50,7 @@ skip-Some t kinds x read =
     bind_then (after (is_word (codes "skip")) kinds) _ x read (λ k1 e1 now1.
     bind_then (after (is_mark mark.Semicolon) k1) _ x now1 (λ k2 e2 now2.
     subst (IsFirst t kinds) (same_Some {A = Stated} (Skip, k2) x now2)
-      (after-word (codes "skip") kinds k1 e1 ∙ ap (λ (y : List TokenKind). kind.Name (codes "skip") ∷ y) (after-mark mark.Semicolon k1 k2 e2), tt)))
+    (after-word (codes "skip") kinds k1 e1 ∙ ap (λ (y : List TokenKind). kind.Name (codes "skip") ∷ y) (after-mark mark.Semicolon k1 k2 e2), tt)))
 
 set_is : (t : Table) (k : ℕ) (source : BoolExpr) (kinds k1 k2 k3 front rest : List TokenKind) → kinds ≡ kind.Name (name_at t.all k) ∷ k1 → k1 ≡ kind.Mark mark.Equals ∷ k2 → k2 ≡ front ++ k3
     → front ≡ tokens_of mark.Bang t.all source → k3 ≡ kind.Mark mark.Semicolon ∷ rest → kinds ≡ statement_part t.all (Set k source) ++ rest
@@ -58,7 +58,7 @@ set_is t k source kinds k1 k2 k3 front rest e1 e2 e3 e4 e5 =
     let ours : List TokenKind = tokens_of mark.Bang t.all source in
     let end : List TokenKind = kind.Mark mark.Semicolon ∷ rest in
     let inside : k2 ≡ ours ++ (kind.Mark mark.Semicolon ∷ []) ++ rest =
-        e3 ∙ ap (λ (x : List TokenKind). x ++ k3) e4 ∙ ap (λ (x : List TokenKind). ours ++ x) e5 ∙ sym (append_assoc ours (kind.Mark mark.Semicolon ∷ []) rest) in
+    e3 ∙ ap (λ (x : List TokenKind). x ++ k3) e4 ∙ ap (λ (x : List TokenKind). ours ++ x) e5 ∙ sym (append_assoc ours (kind.Mark mark.Semicolon ∷ []) rest) in
     e1 ∙ ap (λ (x : List TokenKind). kind.Name (name_at t.all k) ∷ x) (e2 ∙ ap (λ (x : List TokenKind). kind.Mark mark.Equals ∷ x) inside)
 
 set-Some : (t : Table) (kinds : List TokenKind) (x : Stated) → set_at t kinds ≡ Some x → IsFirst t kinds x
@@ -104,7 +104,7 @@ statement_again t (Set k source) rest is code =
     let later : List TokenKind = kind.Mark mark.Equals ∷ (ours ++ end) in
     let lt = MayBe-within place.Code t k is code.0 in
     let regrouped : statement_part t.all (Set k source) ++ rest ≡ kind.Name (name_at t.all k) ∷ later =
-        ap (λ (x : List TokenKind). kind.Name (name_at t.all k) ∷ kind.Mark mark.Equals ∷ x) (append_assoc ours (kind.Mark mark.Semicolon ∷ []) rest) in
+    ap (λ (x : List TokenKind). kind.Name (name_at t.all k) ∷ kind.Mark mark.Equals ∷ x) (append_assoc ours (kind.Mark mark.Semicolon ∷ []) rest) in
     ap (statement_at t) regrouped ∙ rw (not_skip (name_at t.all k) later (is_free t k (codes "skip") is lt (11, omega arith, refl))) (set_again t k source rest is code)
 
 -- ---- statements
@@ -124,12 +124,12 @@ atoms_of-first (Set k source) more = omega arith
 AddsStatements-more : (t : Table) (before all : List BoolStmt) (atoms : ℕ) (s : BoolStmt) (kinds later rest : List TokenKind) → IsFirst t kinds (s, later)
     → AddsStatements t (before ++ s ∷ []) all (atoms + atoms_in s) later rest → AddsStatements t before all atoms kinds rest
 AddsStatements-more t before all atoms s kinds later rest first on = record {
-    more = s ∷ on.more;
-    body = on.body ∙ append_assoc before (s ∷ []) on.more;
-    spelled = first.0 ∙ ap (λ (x : List TokenKind). statement_part t.all s ++ x) on.spelled ∙ sym (append_assoc (statement_part t.all s) (flat_map (statement_part t.all) on.more) rest);
-    code = (first.1, on.code);
-    few = omega (arith, atoms_of-first s on.more, on.few)
-  }
+  more = s ∷ on.more;
+  body = on.body ∙ append_assoc before (s ∷ []) on.more;
+  spelled = first.0 ∙ ap (λ (x : List TokenKind). statement_part t.all s ++ x) on.spelled ∙ sym (append_assoc (statement_part t.all s) (flat_map (statement_part t.all) on.more) rest);
+  code = (first.1, on.code);
+  few = omega (arith, atoms_of-first s on.more, on.few);
+}
 
 abbrev Bodied : Type 0
 Bodied = List BoolStmt × List TokenKind
@@ -146,7 +146,7 @@ statements-Some t (suc turns) before atoms kinds all rest low read =
         → AddsStatements t before all atoms kinds rest
     go true now rec =
         subst (λ (x : Bodied). AddsStatements t before x.0 atoms kinds x.1) (same_Some {A = Bodied} (before, kinds) (all, rest) now)
-          (record { more = []; body = sym (append-nil before); spelled = refl; code = tt; few = omega arith })
+        (record { more = []; body = sym (append-nil before); spelled = refl; code = tt; few = omega arith })
     go false now rec =
         bind_then (statement_at t kinds) _ (all, rest) now (λ x e1 now1.
         let g = fits (ltb 128 (atoms + atoms_in x.0)) (statements_at t turns (before ++ x.0 ∷ []) (atoms + atoms_in x.0) x.1) now1 in

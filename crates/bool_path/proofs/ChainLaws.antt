@@ -1,5 +1,5 @@
 -- What is read as an assertion is one and is spelled so, and what is spelled so is read.
-use Rattle.std.proofs.Common.{◌≡◌, ◌≢◌, ℕ, zero, suc, ◌+◌, ◌-◌, ◌*◌, ◌^◌, ◌<◌, ◌≤◌, max, Bool, true, false, cond, ltb, List, [], ◌∷◌, ◌++◌, length, All, Option, Some, None, refl, sym, ap, subst, ◌∙◌, append_assoc, inl, inr, arith}
+use Rattle.std.proofs.Common.{◌≡◌, ◌≢◌, ℕ, zero, suc, ◌+◌, ◌-◌, ◌*◌, ◌^◌, ◌<◌, ◌≤◌, max, Bool, true, false, cond, ltb, List, [], ◌∷◌, ◌++◌, All, Option, Some, None, refl, sym, ap, subst, ◌∙◌, append_assoc, inl, inr, arith}
 use Rattle.std.proofs.Math.Nat.{pow-succ'}
 use Rattle.std.proofs.Math.Pow.{pow_mono}
 use Rattle.std.proofs.lemmas.Bool.{cases_lt, ltb-false, le-ltb}
@@ -18,7 +18,7 @@ use Rattle.bool_path.specs.Reader.Steps.{◌>>=◌, begins, after, ended, is_mar
 use Rattle.bool_path.specs.Reader.Terms.{literal_at, chain_at, assertion_at}
 use Rattle.bool_path.proofs.AllLemmas.{All-left, All-right}
 use Rattle.bool_path.proofs.ExprLemmas.{by_form, form_of-Name, form_of-Truth, form_of-Not, form_of-Iff, uses_of-Iff, levels_of-Iff, size_of-Name, size_of-Truth, size_of-Not, size_of-Iff, tokens_of-Iff}
-use Rattle.bool_path.proofs.LiteralLaws.{IsLiteral, literal-Some, literal_again, negated-Literal}
+use Rattle.bool_path.proofs.LiteralLaws.{IsLiteral, literal-Some, literal_again}
 use Rattle.bool_path.proofs.NamesLaws.{MayBe, IsTable}
 use Rattle.bool_path.proofs.StepLaws.{bind_some, after-mark, mark_again, begins_mark, ended-Some, ended_again}
 
@@ -49,7 +49,7 @@ IsPart-Iff at t l r front one two size =
       form = rw form_of-Iff (joined_form (form_of l) (form_of r) one.form two.form);
       names = rw uses_of-Iff (All-append (MayBe at t) (uses_of l) (uses_of r) one.names two.names);
       levels = rw levels_of-Iff levels;
-      size = size
+      size = size;
     }
 
 -- the tokens that a chain goes on with
@@ -65,12 +65,12 @@ GoesOn-Iff : (at : Place) (t : Table) (left right e : BoolExpr) (kinds others fr
 GoesOn-Iff at t left right e kinds others front later rest marked fronted spelled on =
     let ours : BoolExpr → List TokenKind = tokens_of (negation at) t.all in
     let regrouped : ours (Iff left right) ++ on.more ≡ ours left ++ (kind.Mark mark.Equivalent ∷ (ours right ++ on.more)) =
-        ap (λ (x : List TokenKind). x ++ on.more) (tokens_of-Iff (negation at) t.all left right) ∙ append_assoc (ours left) (kind.Mark mark.Equivalent ∷ ours right) on.more in
+    ap (λ (x : List TokenKind). x ++ on.more) (tokens_of-Iff (negation at) t.all left right) ∙ append_assoc (ours left) (kind.Mark mark.Equivalent ∷ ours right) on.more in
     record {
       more = kind.Mark mark.Equivalent ∷ (front ++ on.more);
       parts = marked ∙ ap (λ (x : List TokenKind). kind.Mark mark.Equivalent ∷ x) (fronted ∙ ap (λ (x : List TokenKind). front ++ x) on.parts ∙ sym (append_assoc front on.more rest));
       spelled = on.spelled ∙ regrouped ∙ ap (λ (x : List TokenKind). ours left ++ (kind.Mark mark.Equivalent ∷ (x ++ on.more))) (sym spelled);
-      is = on.is
+      is = on.is;
     }
 
 chain-Some : (at : Place) (t : Table) (turns : ℕ) (left : BoolExpr) (kinds : List TokenKind) (e : BoolExpr) (rest : List TokenKind)
@@ -108,8 +108,8 @@ assertion-Some at t kinds e read =
     let literal = literal-Some at t 200 kinds a.0.0 a.0.1 a.1 in
     let chain = chain-Some at t 16 a.0.0 a.0.1 b.0.0 b.0.1 (IsPart-literal at t a.0.0 literal.0 literal.2) b.1 in
     let whole : kinds ≡ tokens_of (negation at) t.all b.0.0 =
-        literal.1 ∙ ap (λ (x : List TokenKind). literal.0 ++ x) (chain.parts ∙ ap (λ (x : List TokenKind). chain.more ++ x) over.0 ∙ append-nil chain.more)
-        ∙ ap (λ (x : List TokenKind). x ++ chain.more) literal.2.spelled ∙ sym chain.spelled in
+    literal.1 ∙ ap (λ (x : List TokenKind). literal.0 ++ x) (chain.parts ∙ ap (λ (x : List TokenKind). chain.more ++ x) over.0 ∙ append-nil chain.more)
+    ∙ ap (λ (x : List TokenKind). x ++ chain.more) literal.2.spelled ∙ sym chain.spelled in
     subst (λ x. (kinds ≡ tokens_of (negation at) t.all x) × IsPart at t x) over.1 (whole, chain.is)
 
 -- ---- the way back
@@ -154,7 +154,7 @@ module _ (at : Place) (t : Table) (is : IsTable t) where
     joins = 0;
     literal = literal_again at t is e 200 rest form part.names part.levels;
     chain = λ turns. let none : turns + 0 ≡ turns = omega arith in ap (λ n. chain_at at t n e rest) none;
-    few = omega (arith, size_pos e)
+    few = omega (arith, size_pos e);
   }
 
   not_leads : (e : BoolExpr) → Leads e → Leads (Not e)
@@ -174,9 +174,9 @@ module _ (at : Place) (t : Table) (is : IsTable t) where
       let right : literal_at at t 200 (ours r ++ rest) ≡ Some (r, rest) = literal_again at t is r 200 rest forms.1 (All-right (MayBe at t) (uses_of l) (uses_of r) uses) (omega arith) in
       let small : ltb 65536 (size_of (Iff l r)) ≡ false = le-ltb 65536 (size_of (Iff l r)) part.size in
       let turn : (turns : ℕ) → chain_at at t (suc turns) l after_left ≡ chain_at at t turns (Iff l r) rest =
-          λ turns. rw (begins_mark mark.Equivalent (ours r ++ rest), mark_again mark.Equivalent (ours r ++ rest), right, small) refl in
+      λ turns. rw (begins_mark mark.Equivalent (ours r ++ rest), mark_again mark.Equivalent (ours r ++ rest), right, small) refl in
       let regrouped : ours (Iff l r) ++ rest ≡ ours l ++ after_left =
-          ap (λ (x : List TokenKind). x ++ rest) (tokens_of-Iff (negation at) t.all l r) ∙ append_assoc (ours l) (kind.Mark mark.Equivalent ∷ ours r) rest in
+      ap (λ (x : List TokenKind). x ++ rest) (tokens_of-Iff (negation at) t.all l r) ∙ append_assoc (ours l) (kind.Mark mark.Equivalent ∷ ours r) rest in
       record {
         first = begun.first;
         later = begun.later;
@@ -185,7 +185,7 @@ module _ (at : Place) (t : Table) (is : IsTable t) where
         chain = λ turns. let e : turns + (begun.joins + 1) ≡ suc turns + begun.joins = omega arith in ap (λ n. chain_at at t n begun.first begun.later) e ∙ begun.chain (suc turns) ∙ turn turns;
         few = let twice : 2 ^ (suc (begun.joins + 2)) ≡ 2 * 2 ^ (begun.joins + 2) = pow-succ' 2 (begun.joins + 2) in
             let e : begun.joins + 1 + 2 ≡ suc (begun.joins + 2) = omega arith in
-            rw (e, twice) (omega (arith, size, begun.few, size_pos r))
+            rw (e, twice) (omega (arith, size, begun.few, size_pos r));
       }
 
   leads : (e : BoolExpr) → Leads e
@@ -211,5 +211,5 @@ module _ (at : Place) (t : Table) (is : IsTable t) where
       let few = few_joins begun.joins (size_of e) begun.few part.size in
       let turns : suc (15 - begun.joins) + begun.joins ≡ 16 = omega arith in
       let chain : chain_at at t 16 begun.first begun.later ≡ Some (e, []) =
-          ap (λ n. chain_at at t n begun.first begun.later) (sym turns) ∙ begun.chain (suc (15 - begun.joins)) ∙ chain_ends (15 - begun.joins) e in
+      ap (λ n. chain_at at t n begun.first begun.later) (sym turns) ∙ begun.chain (suc (15 - begun.joins)) ∙ chain_ends (15 - begun.joins) e in
       rw (literal, chain) (ended_again e)

@@ -1,5 +1,5 @@
 -- Tokens cut at the first `]`, whose place `position` gives.
-use Rattle.std.proofs.Common.{◌≡◌, ℕ, zero, suc, ◌+◌, ◌<◌, ◌≤◌, Bool, true, false, List, [], ◌∷◌, length, get_or, take, drop, Option, Some, None, refl, sym, ap, subst, ◌∙◌, arith}
+use Rattle.std.proofs.Common.{◌≡◌, ℕ, zero, suc, ◌+◌, ◌<◌, Bool, true, false, List, [], ◌∷◌, length, get_or, take, drop, Option, Some, None, refl, sym, ◌∙◌, arith}
 use Rattle.std.specs.Prelude.{position, option_map}
 use Rattle.std.proofs.lemmas.List.Quantifiers.{position-Some}
 use Rattle.std.proofs.lemmas.Option.{none-some}
@@ -8,7 +8,7 @@ use Rattle.pale_text.specs.declared.token.Token.{Token}
 use Rattle.bool_path.proofs.PositionLemmas.{position-hit, position-miss}
 use Rattle.bool_path.specs.Reading.{kinds_of}
 use Rattle.bool_path.specs.Reader.Heads.{cut_at}
-use Rattle.bool_path.specs.Reader.Steps.{◌>>=◌, is_mark}
+use Rattle.bool_path.specs.Reader.Steps.{is_mark}
 
 abbrev pub closes : Token → Bool
 closes token = is_mark mark.RightBracket token.kind

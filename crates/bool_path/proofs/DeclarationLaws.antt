@@ -1,17 +1,15 @@
 -- What is read as a head is spelled so, and what is spelled so is read.
-use Rattle.std.proofs.Common.{◌≡◌, ◌≢◌, ℕ, zero, suc, ◌+◌, ◌<◌, ◌≤◌, Bool, true, false, cond, List, [], ◌∷◌, ◌++◌, length, codes, All, Contains, Option, Some, None, refl, sym, ap, subst, ◌∙◌, append_assoc, arith}
-use Rattle.std.specs.List.{flat_map, AllByRecursion}
-use Rattle.std.proofs.lemmas.Bool.{false≢true}
-use Rattle.std.proofs.lemmas.List.{append-nil}
-use Rattle.std.proofs.lemmas.Option.{none-some, same_Some, cond_some}
+use Rattle.std.proofs.Common.{◌≡◌, ℕ, zero, suc, ◌≤◌, Bool, true, false, cond, List, [], ◌∷◌, ◌++◌, length, codes, Contains, Some, None, refl, ap, subst, ◌∙◌, append_assoc, arith}
+use Rattle.std.specs.List.{AllByRecursion}
+use Rattle.std.proofs.lemmas.Option.{none-some, same_Some}
 use Rattle.pale_text.specs.declared.token.Mark.TheVariants as mark
 use Rattle.pale_text.specs.declared.token.TokenKind.{TokenKind}
 use Rattle.pale_text.specs.declared.token.TokenKind.TheVariants as kind
-use Rattle.bool_path.specs.Reader.Heads.{declared_at, declarations_at, enclosed_at, params_at, results_at, logics_at, locals_at, cut_at, bracketed_at}
-use Rattle.bool_path.specs.Reading.{reserved, bool_name, declarations, returns_part, logic_part, local_part}
+use Rattle.bool_path.specs.Reader.Heads.{declared_at, declarations_at}
+use Rattle.bool_path.specs.Reading.{reserved, bool_name, declarations}
 use Rattle.bool_path.specs.Reader.Steps.{◌>>=◌, begins, after, is_mark, is_word, new_name_at, is_reserved}
 use Rattle.bool_path.proofs.ListedLaws.{is_reserved-false, false-is_reserved}
-use Rattle.bool_path.proofs.StepLaws.{bind_some, after-mark, after-word, mark_again, word_again, begins_mark, begins_word}
+use Rattle.bool_path.proofs.StepLaws.{bind_some, after-mark, after-word, mark_again, word_again, begins_mark}
 
 abbrev pub IsFree : List ℕ → Type 0
 IsFree name = Contains reserved name → ⊥
@@ -64,12 +62,12 @@ Declares-one before name kinds rest spelled free = record { first = name; others
 Declares-more : (before all : List (List ℕ)) (name : List ℕ) (kinds middle others rest : List TokenKind) → kinds ≡ bool_name name ++ middle → IsFree name → middle ≡ kind.Mark mark.Comma ∷ others
     → Declares (before ++ name ∷ []) all others rest → Declares before all kinds rest
 Declares-more before all name kinds middle others rest spelled free comma on = record {
-    first = name;
-    others = on.first ∷ on.others;
-    names = on.names ∙ append_assoc before (name ∷ []) (on.first ∷ on.others);
-    spelled = spelled ∙ ap (λ (x : List TokenKind). bool_name name ++ x) (comma ∙ ap (λ (x : List TokenKind). kind.Mark mark.Comma ∷ x) on.spelled);
-    free = (free, on.free)
-  }
+  first = name;
+  others = on.first ∷ on.others;
+  names = on.names ∙ append_assoc before (name ∷ []) (on.first ∷ on.others);
+  spelled = spelled ∙ ap (λ (x : List TokenKind). bool_name name ++ x) (comma ∙ ap (λ (x : List TokenKind). kind.Mark mark.Comma ∷ x) on.spelled);
+  free = (free, on.free);
+}
 
 pub declarations-Some : (turns : ℕ) (before : List (List ℕ)) (kinds : List TokenKind) (all : List (List ℕ)) (rest : List TokenKind)
     → declarations_at turns before kinds ≡ Some (all, rest) → Declares before all kinds rest
@@ -100,4 +98,4 @@ declarations_again (suc turns) before first (next ∷ others) rest long free sto
     let later : List TokenKind = declarations (next ∷ others) ++ rest in
     let again = declarations_again turns (before ++ first ∷ []) next others rest (omega arith) free.1 stops in
     rw (declared_again first (kind.Mark mark.Comma ∷ later) free.0, begins_mark mark.Comma later, mark_again mark.Comma later, again)
-      (ap (λ (x : List (List ℕ)). Some (x, rest)) (append_assoc before (first ∷ []) (next ∷ others)))
+    (ap (λ (x : List (List ℕ)). Some (x, rest)) (append_assoc before (first ∷ []) (next ∷ others)))

@@ -1,5 +1,5 @@
 -- Induction over expressions, and what the words of `specs/Reading.antt` come to at each of the four forms.
-use Rattle.std.proofs.Common.{◌≡◌, ℕ, ◌+◌, ◌*◌, max, Bool, List, [], ◌∷◌, ◌++◌, refl, sym, ap, subst, ◌∙◌, rules}
+use Rattle.std.proofs.Common.{◌≡◌, ℕ, ◌+◌, ◌*◌, max, Bool, List, [], ◌∷◌, ◌++◌, subst}
 use Rattle.pale_text.specs.declared.token.Mark.{Mark}
 use Rattle.pale_text.specs.declared.token.Mark.TheVariants as marks
 use Rattle.pale_text.specs.declared.token.TokenKind.{TokenKind}
@@ -8,7 +8,7 @@ use Rattle.bool_path.specs.declared.program.BoolExpr.{BoolExpr}
 use Rattle.bool_path.specs.declared.program.BoolExpr.TheVariants.{Name, Truth, Not, Iff}
 use Rattle.bool_path.specs.declared.program.BoolExpr.TheOpen.{BoolExpr-F}
 use Rattle.bool_path.specs.declared.program.BoolExpr.TheViews.{roll-BoolExpr}
-use Rattle.bool_path.specs.declared.program.BoolExpr.TheFolds.{fold-BoolExpr, fold-roll-BoolExpr, ind-BoolExpr, map-BoolExpr}
+use Rattle.bool_path.specs.declared.program.BoolExpr.TheFolds.{fold-roll-BoolExpr, ind-BoolExpr, map-BoolExpr}
 use denote.Hole.Carrier.{roll}
 use Rattle.bool_path.specs.Reading.{Form, negated, joined, form_of, form_of_node, name_at, truth_word, tokens_of, tokens_of_node, uses_of, uses_of_node, levels_of, levels_of_node, size_of, size_of_node}
 

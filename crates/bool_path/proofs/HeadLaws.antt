@@ -1,5 +1,5 @@
 -- What is read as a whole head is spelled so, and what is spelled so is read.
-use Rattle.std.proofs.Common.{◌≡◌, ℕ, ◌<◌, ◌≤◌, false, List, [], ◌∷◌, ◌++◌, length, codes, Option, Some, None, refl, sym, ap, subst, ◌∙◌}
+use Rattle.std.proofs.Common.{◌≡◌, ℕ, ◌≤◌, false, List, [], ◌∷◌, ◌++◌, length, codes, Option, Some, None, refl, ap, subst, ◌∙◌}
 use Rattle.std.specs.Str.{bytes_eq}
 use Rattle.std.proofs.lemmas.Option.{same_Some}
 use Rattle.pale_text.specs.declared.token.Mark.TheVariants as mark
@@ -7,7 +7,7 @@ use Rattle.pale_text.specs.declared.token.TokenKind.{TokenKind}
 use Rattle.pale_text.specs.declared.token.TokenKind.TheVariants as kind
 use Rattle.bool_path.specs.Reader.Heads.{Head, head_at, params_at, results_at, logics_at, bracketed_at}
 use Rattle.bool_path.specs.Reading.{returns_part, logic_part}
-use Rattle.bool_path.specs.Reader.Steps.{◌>>=◌, begins, after, is_mark, is_word, new_name_at}
+use Rattle.bool_path.specs.Reader.Steps.{begins, after, is_mark, is_word, new_name_at}
 use Rattle.bool_path.proofs.DeclarationLaws.{IsFree, AreFree, new_name-Some, new_name_again}
 use Rattle.bool_path.proofs.LocalsLaws.{IsUncut, bracket_part, IsBracketed, bracketed-Some, bracketed_again}
 use Rattle.bool_path.proofs.SignatureLaws.{params_part, params-Some, params_again, results-Some, results_again, logics-Some, logics_again}
@@ -17,7 +17,7 @@ use Rattle.bool_path.proofs.StepLaws.{bind_then, after-word, word_again}
 abbrev pub head_tokens : Head → List TokenKind → List TokenKind
 head_tokens h rest =
     kind.Name (codes "proc") ∷ kind.Name h.name ∷ params_part h.params
-      (returns_part h.results ++ (logic_part h.logics ++ (bracket_part (codes "pre") h.pre ++ (bracket_part (codes "post") h.post ++ rest))))
+    (returns_part h.results ++ (logic_part h.logics ++ (bracket_part (codes "pre") h.pre ++ (bracket_part (codes "post") h.post ++ rest))))
 
 pub record IsHead (h : Head) : Type 0 where
   pub name : IsFree h.name
@@ -30,7 +30,7 @@ head_is : (kinds k1 k2 k3 k4 k5 k6 rest : List TokenKind) (h : Head)
     → k4 ≡ logic_part h.logics ++ k5 → k5 ≡ bracket_part (codes "pre") h.pre ++ k6 → k6 ≡ bracket_part (codes "post") h.post ++ rest → kinds ≡ head_tokens h rest
 head_is kinds k1 k2 k3 k4 k5 k6 rest h e1 e2 e3 e4 e5 e6 e7 =
     e1 ∙ ap (λ (x : List TokenKind). kind.Name (codes "proc") ∷ x) (e2 ∙ ap (λ (x : List TokenKind). kind.Name h.name ∷ x) (e3 ∙ ap (params_part h.params)
-      (e4 ∙ ap (λ (x : List TokenKind). returns_part h.results ++ x) (e5 ∙ ap (λ (x : List TokenKind). logic_part h.logics ++ x) (e6 ∙ ap (λ (x : List TokenKind). bracket_part (codes "pre") h.pre ++ x) e7)))))
+    (e4 ∙ ap (λ (x : List TokenKind). returns_part h.results ++ x) (e5 ∙ ap (λ (x : List TokenKind). logic_part h.logics ++ x) (e6 ∙ ap (λ (x : List TokenKind). bracket_part (codes "pre") h.pre ++ x) e7)))))
 
 pub head-Some : (kinds : List TokenKind) (h : Head) (rest : List TokenKind) → head_at kinds ≡ Some (h, rest) → (kinds ≡ head_tokens h rest) × IsHead h
 unfolding head_at
@@ -49,7 +49,7 @@ head-Some kinds h rest read =
     let result = results-Some params.1 results.0 results.1 e4 in
     let logic = logics-Some results.1 logics.0 logics.1 e5 in
     let whole = head_is kinds k1 name.1 params.1 results.1 logics.1 pre.1 post.1 made (after-word (codes "proc") kinds k1 e1) named.0 param.0 result.0 logic.0
-        (bracketed-Some (codes "pre") logics.1 pre.0 pre.1 e6) (bracketed-Some (codes "post") pre.1 post.0 post.1 e7) in
+    (bracketed-Some (codes "pre") logics.1 pre.0 pre.1 e6) (bracketed-Some (codes "post") pre.1 post.0 post.1 e7) in
     let is : IsHead made = record { name = named.1; params = param.1; results = result.1; logics = logic.1 } in
     subst (λ (x : Head × List TokenKind). (kinds ≡ head_tokens x.0 x.1) × IsHead x.0) same (whole, is))))))))
 
@@ -74,8 +74,15 @@ head_on h rest is on =
     let k4 : List TokenKind = logic_part h.logics ++ k5 in
     let k3 : List TokenKind = returns_part h.results ++ k4 in
     let k2 : List TokenKind = params_part h.params k3 in
-    rw (word_again (codes "proc") (kind.Name h.name ∷ k2), new_name_again h.name k2 is.name, params_again h.params k3 on.params is.params, results_again h.results k4 on.results is.results on.no_returns,
-      logics_again h.logics k5 on.logics is.logics on.no_logic on.no_comma, bracketed_again (codes "pre") h.pre k6 on.pre, bracketed_again (codes "post") h.post rest on.post) refl
+    rw (
+      word_again (codes "proc") (kind.Name h.name ∷ k2),
+      new_name_again h.name k2 is.name,
+      params_again h.params k3 on.params is.params,
+      results_again h.results k4 on.results is.results on.no_returns,
+      logics_again h.logics k5 on.logics is.logics on.no_logic on.no_comma,
+      bracketed_again (codes "pre") h.pre k6 on.pre,
+      bracketed_again (codes "post") h.post rest on.post,
+    ) refl
 
 -- a body's brace follows a head
 opened_pre : (pre : Option (List TokenKind)) (rest : List TokenKind) → begins (is_word (codes "pre")) (bracket_part (codes "post") pre ++ (kind.Mark mark.LeftBrace ∷ rest)) ≡ false
@@ -136,5 +143,5 @@ head_again h rest may =
       post = is_bracketed (codes "post") h.post opened may.post (opened_post rest);
       no_returns = opened_returns h.logics h.pre h.post rest;
       no_logic = opened_word (codes "logic") h.pre h.post rest refl refl;
-      no_comma = opened_comma h.pre h.post rest
+      no_comma = opened_comma h.pre h.post rest;
     })

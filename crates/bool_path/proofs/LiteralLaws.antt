@@ -1,13 +1,12 @@
 -- What is read as a literal is spelled so, and what is spelled so is read, whatever follows.
-use Rattle.std.proofs.Common.{◌≡◌, ◌≢◌, ℕ, suc, ◌+◌, ◌-◌, ◌<◌, ◌≤◌, Bool, true, false, cond, eqb, List, [], ◌∷◌, ◌++◌, length, codes, All, Contains, Option, Some, None, refl, sym, ap, subst, ◌∙◌, arith}
+use Rattle.std.proofs.Common.{◌≡◌, ◌≢◌, ℕ, ◌+◌, ◌-◌, ◌<◌, ◌≤◌, Bool, true, false, eqb, List, [], ◌∷◌, ◌++◌, length, codes, All, Contains, Option, Some, refl, sym, ap, subst, ◌∙◌, arith}
 use Rattle.std.specs.Str.{bytes_eq}
 use Rattle.std.proofs.lemmas.Bool.{eqb-false, ne_eqb}
 use Rattle.std.proofs.lemmas.List.Elements.{All-nil, All-cons, All-head, All-contains, Contains-get_or}
-use Rattle.std.proofs.lemmas.Option.{none-some, same_Some, cond_some, unwrap_or-slice_get}
+use Rattle.std.proofs.lemmas.Option.{none-some, same_Some, unwrap_or-slice_get}
 use Rattle.std.proofs.lemmas.Slice.Eq.{bytes_eq-Decides}
 use denote.Enum.Bare.{sameb, same_true}
 use Rattle.pale_text.specs.contracts.token.Mark.{the_type}
-use Rattle.pale_text.specs.declared.token.Mark.TheVariants as mark
 use Rattle.pale_text.specs.declared.token.TokenKind.{TokenKind}
 use Rattle.pale_text.specs.declared.token.TokenKind.TheVariants as kind
 use Rattle.bool_path.specs.declared.program.BoolExpr.{BoolExpr}
@@ -19,7 +18,7 @@ use Rattle.bool_path.specs.Reader.Steps.{◌>>=◌}
 use Rattle.bool_path.specs.Reader.Terms.{atom_at, literal_at}
 use Rattle.bool_path.proofs.ExprLemmas.{by_form, form_of-Name, form_of-Truth, form_of-Not, uses_of-Name, uses_of-Truth, uses_of-Not, levels_of-Name, levels_of-Truth, levels_of-Not, size_of-Name, size_of-Truth, size_of-Not, tokens_of-Name, tokens_of-Truth, tokens_of-Not, form_of-Iff}
 use Rattle.bool_path.proofs.NamesLaws.{MayBe, MayBe-within, IsTable, variable-Some, variable_again}
-use Rattle.bool_path.proofs.StepLaws.{bind_some, bytes_same, bytes_differ, mark_same}
+use Rattle.bool_path.proofs.StepLaws.{bind_some, bytes_differ, mark_same}
 
 -- a literal of these tokens, under at most `room` nots
 pub record IsLiteral (at : Place) (t : Table) (room : ℕ) (e : BoolExpr) (front : List TokenKind) : Type 0 where
@@ -38,7 +37,7 @@ IsLiteral-Truth at t room b = record {
   form = form_of-Truth b;
   names = rw uses_of-Truth (All-nil (MayBe at t));
   levels = rw levels_of-Truth (omega arith);
-  size = rw size_of-Truth (omega arith)
+  size = rw size_of-Truth (omega arith);
 }
 
 atom-Some : (at : Place) (t : Table) (room : ℕ) (word : List ℕ) (e : BoolExpr) → atom_at at t word ≡ Some e → IsLiteral at t room e (kind.Name word ∷ [])
@@ -63,7 +62,7 @@ atom-Some at t room word e read = go (bytes_eq word (codes "true")) (bytes_eq wo
           form = form_of-Name b.0;
           names = rw uses_of-Name (All-cons (MayBe at t) b.0 [] v.2 (All-nil (MayBe at t)));
           levels = rw levels_of-Name (omega arith);
-          size = rw size_of-Name (omega arith)
+          size = rw size_of-Name (omega arith);
         })
 
 -- what is read as a literal is one, and stands at the front
@@ -96,14 +95,14 @@ literal-Some at t room (kind.Mark m ∷ others) e rest read =
         let levels : levels_of b.0.0 + 1 ≤ room = omega (arith, r.2.levels) in
         let size : size_of b.0.0 + 1 ≤ room + 1 = omega (arith, r.2.size) in
         let is : IsLiteral at t room (Not b.0.0) front = record {
-            spelled = rw tokens_of-Not (ap (λ x. kind.Mark x ∷ r.0) marked ∙ ap (λ (x : List TokenKind). kind.Mark (negation at) ∷ x) r.2.spelled);
-            form = rw form_of-Not (ap negated r.2.form);
-            names = rw uses_of-Not r.2.names;
-            levels = rw levels_of-Not levels;
-            size = rw size_of-Not size
-          } in
+          spelled = rw tokens_of-Not (ap (λ x. kind.Mark x ∷ r.0) marked ∙ ap (λ (x : List TokenKind). kind.Mark (negation at) ∷ x) r.2.spelled);
+          form = rw form_of-Not (ap negated r.2.form);
+          names = rw uses_of-Not r.2.names;
+          levels = rw levels_of-Not levels;
+          size = rw size_of-Not size;
+        } in
         subst (λ (x : BoolExpr × List TokenKind). (f : List TokenKind) × (kind.Mark m ∷ others ≡ f ++ x.1) × IsLiteral at t room x.0 f) made
-          (front, ap (λ (x : List TokenKind). kind.Mark m ∷ x) r.1, is)
+        (front, ap (λ (x : List TokenKind). kind.Mark m ∷ x) r.1, is)
 
 -- ---- the way back
 
@@ -144,8 +143,8 @@ module _ (at : Place) (t : Table) (is : IsTable t) where
       let lt = MayBe-within at t k is may in
       let word : List ℕ = name_at t.all k in
       let atom : atom_at at t word ≡ Some (Name k) =
-          atom_again at t word (is_free t k (codes "true") is lt (20, omega arith, refl)) (is_free t k (codes "false") is lt (21, omega arith, refl))
-          ∙ rw (variable_again at t k is may) refl in
+      atom_again at t word (is_free t k (codes "true") is lt (20, omega arith, refl)) (is_free t k (codes "false") is lt (21, omega arith, refl))
+      ∙ rw (variable_again at t k is may) refl in
       rw (tokens_of-Name, atom) refl
 
   truth_again : (b : Bool) → Again (Truth b)

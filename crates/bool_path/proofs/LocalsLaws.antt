@@ -1,9 +1,8 @@
 -- What is read as locals, or as tokens in brackets, is spelled so, and what is spelled so is read.
-use Rattle.std.proofs.Common.{◌≡◌, ℕ, zero, suc, ◌+◌, ◌<◌, ◌≤◌, Bool, true, false, cond, List, [], ◌∷◌, ◌++◌, length, codes, Option, Some, None, refl, sym, ap, subst, ◌∙◌, append_assoc, arith}
+use Rattle.std.proofs.Common.{◌≡◌, ℕ, zero, suc, ◌≤◌, Bool, true, false, cond, List, [], ◌∷◌, ◌++◌, length, codes, Option, Some, None, refl, sym, ap, subst, ◌∙◌, append_assoc, arith}
 use Rattle.std.specs.List.{flat_map, AllByRecursion}
 use Rattle.std.proofs.lemmas.List.{append-nil}
 use Rattle.std.proofs.lemmas.Option.{none-some, same_Some}
-use Rattle.pale_text.specs.declared.token.Mark.{Mark}
 use Rattle.pale_text.specs.declared.token.Mark.TheVariants as mark
 use Rattle.pale_text.specs.declared.token.TokenKind.{TokenKind}
 use Rattle.pale_text.specs.declared.token.TokenKind.TheVariants as kind
@@ -11,7 +10,7 @@ use Rattle.bool_path.specs.Reader.Heads.{declared_at, locals_at, cut_at, bracket
 use Rattle.bool_path.specs.Reading.{bool_name, local_part}
 use Rattle.bool_path.specs.Reader.Steps.{◌>>=◌, begins, after, is_mark, is_word}
 use Rattle.bool_path.proofs.DeclarationLaws.{AreFree, IsFree, declared-Some, declared_again}
-use Rattle.bool_path.proofs.StepLaws.{bind_some, after-mark, after-word, is_mark-true, mark_again, word_again, begins_mark, begins_word, mark_same}
+use Rattle.bool_path.proofs.StepLaws.{bind_some, after-mark, after-word, is_mark-true, mark_again, word_again, begins_word}
 
 abbrev Named : Type 0
 Named = List (List ℕ) × List TokenKind
@@ -29,11 +28,11 @@ AddsLocals-none before kinds = record { more = []; names = sym (append-nil befor
 AddsLocals-more : (before all : List (List ℕ)) (name : List ℕ) (kinds middle others rest : List TokenKind) → kinds ≡ bool_name name ++ middle → IsFree name → middle ≡ kind.Mark mark.Semicolon ∷ others
     → AddsLocals (before ++ name ∷ []) all others rest → AddsLocals before all kinds rest
 AddsLocals-more before all name kinds middle others rest spelled free ended on = record {
-    more = name ∷ on.more;
-    names = on.names ∙ append_assoc before (name ∷ []) on.more;
-    spelled = spelled ∙ ap (λ (x : List TokenKind). bool_name name ++ x) (ended ∙ ap (λ (x : List TokenKind). kind.Mark mark.Semicolon ∷ x) on.spelled);
-    free = (free, on.free)
-  }
+  more = name ∷ on.more;
+  names = on.names ∙ append_assoc before (name ∷ []) on.more;
+  spelled = spelled ∙ ap (λ (x : List TokenKind). bool_name name ++ x) (ended ∙ ap (λ (x : List TokenKind). kind.Mark mark.Semicolon ∷ x) on.spelled);
+  free = (free, on.free);
+}
 
 locals_from : (turns : ℕ) (before : List (List ℕ)) (kinds : List TokenKind) (all : List (List ℕ)) (rest : List TokenKind)
     → locals_at turns before kinds ≡ Some (all, rest) → AddsLocals before all kinds rest
@@ -69,7 +68,7 @@ locals_on (suc turns) before (name ∷ more) rest few free stops =
     let later : List TokenKind = flat_map local_part more ++ rest in
     let again = locals_on turns (before ++ name ∷ []) more rest (omega arith) free.1 stops in
     rw (begins_word (codes "bool") (kind.Name name ∷ kind.Mark mark.Semicolon ∷ later), declared_again name (kind.Mark mark.Semicolon ∷ later) free.0, mark_again mark.Semicolon later, again)
-      (ap (λ (x : List (List ℕ)). Some (x, rest)) (append_assoc before (name ∷ []) more))
+    (ap (λ (x : List (List ℕ)). Some (x, rest)) (append_assoc before (name ∷ []) more))
 
 pub locals_again : (names : List (List ℕ)) (rest : List TokenKind) → length names ≤ 12 → AreFree names → begins (is_word (codes "bool")) rest ≡ false → locals_at 12 [] (flat_map local_part names ++ rest) ≡ Some (names, rest)
 locals_again names rest few free stops = locals_on 12 [] names rest few free stops
@@ -128,8 +127,8 @@ bracketed-Some word kinds part rest read = go (begins (is_word word) kinds) read
         let made = same_Some {A = Bracketed} (Some c.0.0, c.0.1) (part, rest) c.2 in
         let inside : b.0 ≡ c.0.0 ++ (kind.Mark mark.RightBracket ∷ c.0.1) = cut-Some b.0 c.0.0 c.0.1 c.1 in
         let whole : kinds ≡ bracket_part word (Some c.0.0) ++ c.0.1 =
-            after-word word kinds a.0 a.1 ∙ ap (λ (x : List TokenKind). kind.Name word ∷ x) (after-mark mark.LeftBracket a.0 b.0 b.1
-              ∙ ap (λ (x : List TokenKind). kind.Mark mark.LeftBracket ∷ x) (inside ∙ sym (append_assoc c.0.0 (kind.Mark mark.RightBracket ∷ []) c.0.1))) in
+        after-word word kinds a.0 a.1 ∙ ap (λ (x : List TokenKind). kind.Name word ∷ x) (after-mark mark.LeftBracket a.0 b.0 b.1
+        ∙ ap (λ (x : List TokenKind). kind.Mark mark.LeftBracket ∷ x) (inside ∙ sym (append_assoc c.0.0 (kind.Mark mark.RightBracket ∷ []) c.0.1))) in
         subst (λ (x : Bracketed). kinds ≡ bracket_part word x.0 ++ x.1) made whole
 
 -- an assertion's tokens are there and uncut, or the keyword doesn't follow
@@ -144,5 +143,5 @@ bracketed_again word (Some inner) rest is =
     let cut : List TokenKind = inner ++ (kind.Mark mark.RightBracket ∷ rest) in
     let opened : List TokenKind = kind.Mark mark.LeftBracket ∷ cut in
     let regrouped : bracket_part word (Some inner) ++ rest ≡ kind.Name word ∷ opened =
-        ap (λ (x : List TokenKind). kind.Name word ∷ kind.Mark mark.LeftBracket ∷ x) (append_assoc inner (kind.Mark mark.RightBracket ∷ []) rest) in
+    ap (λ (x : List TokenKind). kind.Name word ∷ kind.Mark mark.LeftBracket ∷ x) (append_assoc inner (kind.Mark mark.RightBracket ∷ []) rest) in
     ap (bracketed_at word) regrouped ∙ rw (begins_word word opened, word_again word opened, mark_again mark.LeftBracket cut, cut_again inner rest is) refl

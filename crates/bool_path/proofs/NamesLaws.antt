@@ -1,18 +1,15 @@
 -- Looking up the variables of a table whose names are free and distinct.
-use Rattle.std.proofs.Common.{◌≡◌, ◌≢◌, ℕ, suc, ◌+◌, ◌<◌, ◌≤◌, Bool, true, false, cond, ltb, leb, List, [], ◌∷◌, length, get_or, All, Contains, Option, Some, None, refl, sym, ap, subst, ◌∙◌, ◌⊎◌, inl, inr, arith}
-use Rattle.std.specs.Prelude.{AllPairs, position, nat_lt, nat_le, ◌||◌, ◌&&◌}
+use Rattle.std.proofs.Common.{◌≡◌, ◌≢◌, ℕ, ◌+◌, ◌<◌, ◌≤◌, Bool, true, false, cond, List, [], length, get_or, All, Contains, Some, None, refl, sym, ap, subst, ◌∙◌, ◌⊎◌, inl, inr, arith}
+use Rattle.std.specs.Prelude.{AllPairs, position, ◌||◌, ◌&&◌}
 use Rattle.std.specs.Str.{bytes_eq}
-use Rattle.std.proofs.lemmas.Bool.{false≢true, cases_lt, or_cases, leb-true, le-leb, ltb-true, ltb-false, lt-ltb, le-ltb}
-use Rattle.std.proofs.lemmas.Bool.Decides.{nat_tests}
-use Rattle.std.proofs.lemmas.List.{get_or_default}
+use Rattle.std.proofs.lemmas.Bool.{false≢true, cases_lt, or_cases, leb-true, le-leb, ltb-true, lt-ltb}
 use Rattle.std.proofs.lemmas.List.Quantifiers.{position-Some}
-use Rattle.std.proofs.lemmas.Option.{none-some, cond_some, unwrap_or-slice_get}
+use Rattle.std.proofs.lemmas.Option.{cond_some, unwrap_or-slice_get}
 use Rattle.std.proofs.lemmas.Slice.Eq.{bytes_eq-Decides}
 use Rattle.bool_path.specs.declared.read.place.Place.{Place}
 use Rattle.bool_path.specs.declared.read.place.Place.TheVariants as place
 use Rattle.bool_path.specs.Reader.Names.{Table, may_be, variable_at}
 use Rattle.bool_path.specs.Reading.{name_at, reserved}
-use Rattle.bool_path.specs.Reader.Steps.{◌>>=◌}
 use Rattle.bool_path.proofs.PositionLemmas.{position-found}
 use Rattle.bool_path.proofs.StepLaws.{bind_some, bytes_same}
 
@@ -43,7 +40,7 @@ or_right false y e = e
 pub may_be-true : (at : Place) (t : Table) (k : ℕ) → k < length t.all → may_be at t k ≡ true → MayBe at t k
 unfolding may_be
 may_be-true place.Pre t k lt e =
-    elim (or_cases _ _ e) [ | inl param ↦ inl (ltb-true _ _ param) | inr logic ↦ inr (lt, leb-true _ _ logic) ]
+    elim (or_cases _ _ e) [ inl param ↦ inl (ltb-true _ _ param) | inr logic ↦ inr (lt, leb-true _ _ logic) ]
 may_be-true place.Post t k lt e =
     elim (or_cases _ _ e) [
       | inl result ↦ let both = and_parts _ _ result in inl (leb-true _ _ both.0, ltb-true _ _ both.1)
@@ -81,9 +78,9 @@ one_place names i j distinct li lj same =
     elim (cases_lt i j) [
       | inl lt ↦ absurd (distinct i j [] lt lj same)
       | inr ge ↦ elim (cases_lt j i) [
-          | inl gt ↦ absurd (distinct j i [] gt li (sym same))
-          | inr le ↦ omega arith
-        ]
+        | inl gt ↦ absurd (distinct j i [] gt li (sym same))
+        | inr le ↦ omega arith
+      ]
     ]
 
 pub variable_again : (at : Place) (t : Table) (k : ℕ) → IsTable t → MayBe at t k → variable_at at t (name_at t.all k) ≡ Some k

@@ -1,5 +1,5 @@
 -- On tokens as their kinds, and on what a failed step leaves of a reading.
-use Rattle.std.proofs.Common.{◌≡◌, List, length, Option, Some, None, refl}
+use Rattle.std.proofs.Common.{◌≡◌, List, length, Option, None}
 use Rattle.std.proofs.lemmas.List.{length-map}
 use Rattle.pale_text.specs.declared.token.Token.{Token}
 use Rattle.bool_path.specs.declared.program.BoolStop.{BoolStop}

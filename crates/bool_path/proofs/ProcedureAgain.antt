@@ -1,36 +1,34 @@
 -- What is spelled as a procedure and keeps the rules is read.
-use Rattle.std.proofs.Common.{◌≡◌, ◌≢◌, ℕ, ◌+◌, ◌-◌, ◌<◌, ◌≤◌, Bool, true, false, List, [], ◌∷◌, ◌++◌, length, take, drop, codes, All, Contains, Option, Some, None, refl, sym, ap, subst, ◌∙◌, ◌⊎◌, inl, inr, append_assoc, arith}
-use Rattle.std.specs.List.{flat_map, AllByRecursion}
+use Rattle.std.proofs.Common.{◌≡◌, ℕ, ◌+◌, ◌-◌, ◌≤◌, false, List, [], ◌∷◌, ◌++◌, length, take, drop, codes, All, Option, Some, None, refl, sym, ap, subst, ◌∙◌, inl, inr, arith}
+use Rattle.std.specs.List.{flat_map}
 use Rattle.std.proofs.lemmas.List.{length-take, length-drop}
 use Rattle.std.proofs.lemmas.List.Elements.{All-head, All-tail, All-take, All-drop, recursion_from_All}
-use Rattle.pale_text.specs.declared.token.Mark.{Mark}
 use Rattle.pale_text.specs.declared.token.Mark.TheVariants as mark
 use Rattle.pale_text.specs.declared.token.TokenKind.{TokenKind}
 use Rattle.pale_text.specs.declared.token.TokenKind.TheVariants as kind
 use Rattle.bool_path.specs.declared.program.BoolExpr.{BoolExpr}
-use Rattle.bool_path.specs.declared.program.BoolExpr.TheVariants.{Name, Truth, Not, Iff}
 use Rattle.bool_path.specs.declared.program.BoolProc.{BoolProc}
 use Rattle.bool_path.specs.declared.program.BoolStmt.{BoolStmt}
 use Rattle.bool_path.specs.declared.program.BoolStmt.TheVariants.{Skip, Set}
 use Rattle.bool_path.specs.declared.read.place.Place.{Place}
 use Rattle.bool_path.specs.declared.read.place.Place.TheVariants as place
-use Rattle.bool_path.specs.Reader.Bodies.{assertion_from, body_at, procedure_at}
+use Rattle.bool_path.specs.Reader.Bodies.{assertion_from, procedure_at}
 use Rattle.bool_path.specs.Reader.Names.{Table, negation}
-use Rattle.bool_path.specs.Reader.Heads.{Head, head_at, locals_at, table_from}
-use Rattle.bool_path.specs.Reading.{name_at, truth_word, reserved, declarations, returns_part, logic_part, local_part, statement_part, tokens_of, params_of, results_of, locals_of, logics_of, SpellsAssertion, SpellsProcedure, IsAssertion, KeepsRules}
+use Rattle.bool_path.specs.Reader.Heads.{Head, table_from}
+use Rattle.bool_path.specs.Reading.{name_at, declarations, returns_part, logic_part, local_part, statement_part, tokens_of, params_of, results_of, locals_of, logics_of, SpellsAssertion, SpellsProcedure, IsAssertion, KeepsRules}
 use Rattle.bool_path.specs.Reader.Terms.{assertion_at}
-use Rattle.bool_path.specs.Reader.Steps.{begins, after, is_mark, is_word}
+use Rattle.bool_path.specs.Reader.Steps.{begins, is_mark, is_word}
 use Rattle.bool_path.proofs.BodyLaws.{IsCode, body_tokens, body_again}
 use Rattle.bool_path.proofs.ChainLaws.{IsPart, assertion_again}
 use Rattle.bool_path.proofs.ExprLemmas.{by_form, tokens_of-Name, tokens_of-Truth, tokens_of-Not, tokens_of-Iff}
 use Rattle.bool_path.proofs.DeclarationLaws.{IsFree, AreFree}
-use Rattle.bool_path.proofs.HeadLaws.{head_tokens, IsHead, IsPartUncut, MayBeHead, head_again}
+use Rattle.bool_path.proofs.HeadLaws.{IsPartUncut, MayBeHead, head_again}
 use Rattle.bool_path.proofs.ListedLaws.{AreDistinct}
 use Rattle.bool_path.proofs.LiteralLaws.{is_free}
 use Rattle.bool_path.proofs.LocalsLaws.{IsUncut, bracket_part, locals_again}
 use Rattle.bool_path.proofs.NamesLaws.{MayBe, MayBe-within, IsTable}
 use Rattle.bool_path.proofs.StepLaws.{mark_again, bytes_differ}
-use Rattle.bool_path.proofs.TableLaws.{joined, table_of_parts, table_again, cuts_joined}
+use Rattle.bool_path.proofs.TableLaws.{joined, table_again, cuts_joined}
 use Rattle.bool_path.proofs.ProcedureLaws.{whole_tokens, regrouped}
 
 -- ---- no `]` is in an assertion
@@ -79,13 +77,13 @@ same_table all names a p b r c g e1 e2 e3 e4 = rw (e1, e2, e3, e4) refl
 
 whole_is : (kinds : List TokenKind) (h : Head) (locals : List (List ℕ)) (statements pre post : List TokenKind) →
     kinds ≡ kind.Name (codes "proc") ∷ kind.Name h.name ∷ kind.Mark mark.LeftParen ∷ declarations h.params
-      ++ kind.Mark mark.RightParen ∷ returns_part h.results ++ logic_part h.logics ++ pre ++ post
-      ++ kind.Mark mark.LeftBrace ∷ flat_map local_part locals ++ statements
-      ++ kind.Mark mark.RightBrace ∷ []
+    ++ kind.Mark mark.RightParen ∷ returns_part h.results ++ logic_part h.logics ++ pre ++ post
+    ++ kind.Mark mark.LeftBrace ∷ flat_map local_part locals ++ statements
+    ++ kind.Mark mark.RightBrace ∷ []
     → pre ≡ bracket_part (codes "pre") h.pre → post ≡ bracket_part (codes "post") h.post → kinds ≡ whole_tokens h locals statements
 whole_is kinds h locals statements pre post spelled pre_is post_is =
     spelled ∙ rw (pre_is, post_is) (sym (regrouped h.name (declarations h.params) (returns_part h.results) (logic_part h.logics)
-      (bracket_part (codes "pre") h.pre) (bracket_part (codes "post") h.post) (flat_map local_part locals) statements))
+    (bracket_part (codes "pre") h.pre) (bracket_part (codes "post") h.post) (flat_map local_part locals) statements))
 
 module _ (p : BoolProc) (rules : KeepsRules p) where
   abbrev table : Table
@@ -116,7 +114,7 @@ module _ (p : BoolProc) (rules : KeepsRules p) where
   table_read =
       table_again (params_of p) (results_of p) (locals_of p) (logics_of p) few_names (subst AreDistinct (sym whole_again) rules.distinct)
       ∙ ap (λ (x : Table). Some x) (same_table (joined (params_of p) (results_of p) (locals_of p) (logics_of p)) p.names (length (params_of p)) p.params (length (results_of p)) p.results (length (logics_of p)) p.logics
-          whole_again length-params length-results length-logics)
+      whole_again length-params length-results length-logics)
 
   all_free : All IsFree p.names
   all_free = All-tail IsFree p.name p.names rules.free
@@ -130,13 +128,13 @@ module _ (p : BoolProc) (rules : KeepsRules p) where
       name = All-head IsFree p.name p.names rules.free;
       params = recursion_from_All IsFree (params_of p) (All-take IsFree p.params p.names all_free);
       results = recursion_from_All IsFree (results_of p) (All-take IsFree p.results (drop p.params p.names) (All-drop IsFree p.params p.names all_free));
-      logics = recursion_from_All IsFree (logics_of p) (All-drop IsFree (length p.names - p.logics) p.names all_free)
+      logics = recursion_from_All IsFree (logics_of p) (All-drop IsFree (length p.names - p.logics) p.names all_free);
     };
     params = omega (arith, length-params, rules.parts, rules.few);
     results = omega (arith, length-results, rules.parts, rules.few);
     logics = omega (arith, length-logics, rules.parts, rules.few);
     pre = pre_uncut;
-    post = post_uncut
+    post = post_uncut;
   }
 
   locals_free : AreFree (locals_of p)
@@ -149,13 +147,20 @@ module _ (p : BoolProc) (rules : KeepsRules p) where
   put_together pre post pre_uncut post_uncut pre_read post_read =
       let body : List TokenKind = body_tokens table p.body in
       let inside : List TokenKind = flat_map local_part (locals_of p) ++ body in
-      rw (head_again (head_of_parts pre post) inside (may_be_head pre post pre_uncut post_uncut), mark_again mark.LeftBrace inside,
-        locals_again (locals_of p) body few_locals locals_free (no_local table p.body is_table rules.body), table_read, pre_read, post_read, body_again table p.body is_table rules.body rules.atoms) refl
+      rw (
+        head_again (head_of_parts pre post) inside (may_be_head pre post pre_uncut post_uncut),
+        mark_again mark.LeftBrace inside,
+        locals_again (locals_of p) body few_locals locals_free (no_local table p.body is_table rules.body),
+        table_read,
+        pre_read,
+        post_read,
+        body_again table p.body is_table rules.body rules.atoms,
+      ) refl
 
   pub procedure_again : (kinds : List TokenKind) → SpellsProcedure kinds p → procedure_at p.line p.last kinds ≡ Some p
   procedure_again kinds s =
       let pre = part_again (codes "pre") place.Pre table p.pre s.pre_part refl is_table (part_of_rules place.Pre table p.pre rules.pre) s.pre in
       let post = part_again (codes "post") place.Post table p.post s.post_part refl is_table (part_of_rules place.Post table p.post rules.post) s.post in
       let whole : kinds ≡ whole_tokens (head_of_parts pre.part post.part) (locals_of p) (flat_map (statement_part p.names) p.body) =
-          whole_is kinds (head_of_parts pre.part post.part) (locals_of p) (flat_map (statement_part p.names) p.body) s.pre_part s.post_part s.whole pre.spelled post.spelled in
+      whole_is kinds (head_of_parts pre.part post.part) (locals_of p) (flat_map (statement_part p.names) p.body) s.pre_part s.post_part s.whole pre.spelled post.spelled in
       ap (procedure_at p.line p.last) whole ∙ put_together pre.part post.part pre.uncut post.uncut pre.read post.read

@@ -1,7 +1,7 @@
 -- What is read as a procedure is one and is spelled so, and what is spelled so is read.
-use Rattle.std.proofs.Common.{◌≡◌, ◌≢◌, ℕ, ◌+◌, ◌-◌, ◌<◌, ◌≤◌, Bool, true, List, [], ◌∷◌, ◌++◌, length, take, drop, codes, All, Contains, Option, Some, None, refl, sym, ap, subst, ◌∙◌, ◌⊎◌, inl, inr, append_assoc, arith}
-use Rattle.std.specs.List.{flat_map, AllByRecursion}
-use Rattle.std.proofs.lemmas.List.Elements.{All-cons, All-nil, All-head, All-tail, All-weaker, recursion_from_All}
+use Rattle.std.proofs.Common.{◌≡◌, ℕ, ◌≤◌, true, List, [], ◌∷◌, ◌++◌, codes, All, Option, Some, None, refl, sym, ap, subst, ◌∙◌, inl, inr, append_assoc, arith}
+use Rattle.std.specs.List.{flat_map}
+use Rattle.std.proofs.lemmas.List.Elements.{All-cons, All-nil, All-weaker}
 use Rattle.std.proofs.lemmas.Option.{same_Some}
 use Rattle.pale_text.specs.declared.token.Mark.TheVariants as mark
 use Rattle.pale_text.specs.declared.token.TokenKind.{TokenKind}
@@ -10,24 +10,22 @@ use Rattle.bool_path.specs.declared.program.BoolExpr.{BoolExpr}
 use Rattle.bool_path.specs.declared.program.BoolExpr.TheVariants.{Truth}
 use Rattle.bool_path.specs.declared.program.BoolProc.{BoolProc}
 use Rattle.bool_path.specs.declared.program.BoolStmt.{BoolStmt}
-use Rattle.bool_path.specs.declared.program.BoolStmt.TheVariants.{Skip, Set}
 use Rattle.bool_path.specs.declared.read.place.Place.{Place}
 use Rattle.bool_path.specs.declared.read.place.Place.TheVariants as place
 use Rattle.bool_path.specs.Reader.Bodies.{assertion_from, body_at, procedure_at}
 use Rattle.bool_path.specs.Reader.Names.{Table, negation}
 use Rattle.bool_path.specs.Reader.Heads.{Head, head_at, locals_at, table_from}
-use Rattle.bool_path.specs.Reading.{Literal, Neither, form_of, uses_of, levels_of, size_of, reserved, declarations, returns_part, logic_part, local_part, statement_part, tokens_of, params_of, results_of, locals_of, logics_of, SpellsAssertion, SpellsProcedure, IsAssertion, KeepsRules, atoms_of}
-use Rattle.bool_path.specs.Reader.Steps.{◌>>=◌, begins, after, is_mark, is_word}
-use Rattle.bool_path.specs.Reader.Terms.{assertion_at}
-use Rattle.bool_path.proofs.BodyLaws.{IsCode, body_tokens, body-Some, body_again}
-use Rattle.bool_path.proofs.ChainLaws.{IsPart, assertion-Some, assertion_again}
+use Rattle.bool_path.specs.Reading.{Literal, Neither, uses_of, declarations, returns_part, logic_part, local_part, statement_part, tokens_of, SpellsAssertion, SpellsProcedure, IsAssertion, KeepsRules, atoms_of}
+use Rattle.bool_path.specs.Reader.Steps.{after, is_mark}
+use Rattle.bool_path.proofs.BodyLaws.{IsCode, body-Some}
+use Rattle.bool_path.proofs.ChainLaws.{IsPart, assertion-Some}
 use Rattle.bool_path.proofs.ExprLemmas.{form_of-Truth, uses_of-Truth, levels_of-Truth, size_of-Truth}
-use Rattle.bool_path.proofs.DeclarationLaws.{IsFree, AreFree}
-use Rattle.bool_path.proofs.HeadLaws.{head_tokens, IsHead, MayBeHead, head-Some, head_again}
-use Rattle.bool_path.proofs.LocalsLaws.{bracket_part, locals-Some, locals_again}
+use Rattle.bool_path.proofs.DeclarationLaws.{IsFree}
+use Rattle.bool_path.proofs.HeadLaws.{head_tokens, IsHead, head-Some}
+use Rattle.bool_path.proofs.LocalsLaws.{bracket_part, locals-Some}
 use Rattle.bool_path.proofs.NamesLaws.{MayBe, IsTable}
-use Rattle.bool_path.proofs.StepLaws.{bind_then, after-mark, mark_again}
-use Rattle.bool_path.proofs.TableLaws.{joined, table_of_parts, table-Some, params_cut, results_cut, locals_cut, logics_cut}
+use Rattle.bool_path.proofs.StepLaws.{bind_then, after-mark}
+use Rattle.bool_path.proofs.TableLaws.{table_of_parts, table-Some, params_cut, results_cut, locals_cut, logics_cut}
 
 -- ---- an assertion with its keyword, or left out
 
@@ -39,11 +37,11 @@ part-Some : (keyword : List ℕ) (at : Place) (t : Table) (part : Option (List T
 unfolding assertion_from
 part-Some keyword at t None e tilde read =
     subst (λ x. SpellsAssertion keyword t.all x [] × IsPart at t x) (same_Some {A = BoolExpr} (Truth true) e read)
-      (inl (refl, refl), record { form = λ neither. truth_no_neither (sym (form_of-Truth true) ∙ neither); names = rw uses_of-Truth (All-nil (MayBe at t)); levels = rw levels_of-Truth (omega arith); size = rw size_of-Truth (omega arith) })
+    (inl (refl, refl), record { form = λ neither. truth_no_neither (sym (form_of-Truth true) ∙ neither); names = rw uses_of-Truth (All-nil (MayBe at t)); levels = rw levels_of-Truth (omega arith); size = rw size_of-Truth (omega arith) })
 part-Some keyword at t (Some inner) e tilde read =
     let a = assertion-Some at t inner e read in
     let whole : bracket_part keyword (Some inner) ≡ kind.Name keyword ∷ kind.Mark mark.LeftBracket ∷ tokens_of mark.Tilde t.all e ++ kind.Mark mark.RightBracket ∷ [] =
-        ap (λ (x : List TokenKind). bracket_part keyword (Some x)) (a.0 ∙ ap (λ m. tokens_of m t.all e) tilde) in
+    ap (λ (x : List TokenKind). bracket_part keyword (Some x)) (a.0 ∙ ap (λ m. tokens_of m t.all e) tilde) in
     (inr whole, a.1)
 
 -- ---- the whole
@@ -59,14 +57,14 @@ whole_tokens h locals statements = head_tokens h (kind.Mark mark.LeftBrace ∷ (
 pub regrouped : (name : List ℕ) (declared returned logics pre post locals statements : List TokenKind) →
     kind.Name (codes "proc") ∷ kind.Name name ∷ kind.Mark mark.LeftParen ∷ (declared ++ kind.Mark mark.RightParen ∷ (returned ++ (logics ++ (pre ++ (post ++ (kind.Mark mark.LeftBrace ∷ (locals ++ (statements ++ kind.Mark mark.RightBrace ∷ []))))))))
     ≡ kind.Name (codes "proc") ∷ kind.Name name ∷ kind.Mark mark.LeftParen ∷ declared
-      ++ kind.Mark mark.RightParen ∷ returned ++ logics ++ pre ++ post
-      ++ kind.Mark mark.LeftBrace ∷ locals ++ statements
-      ++ kind.Mark mark.RightBrace ∷ []
+    ++ kind.Mark mark.RightParen ∷ returned ++ logics ++ pre ++ post
+    ++ kind.Mark mark.LeftBrace ∷ locals ++ statements
+    ++ kind.Mark mark.RightBrace ∷ []
 regrouped name declared returned logics pre post locals statements = simp append_assoc
 
 spelled_is : (kinds : List TokenKind) (line last : ℕ) (h : Head) (locals : List (List ℕ)) (pre post : BoolExpr) (body : List BoolStmt)
     → let t = table_of_parts h.params h.results locals h.logics in
-      SpellsAssertion (codes "pre") t.all pre (bracket_part (codes "pre") h.pre) → SpellsAssertion (codes "post") t.all post (bracket_part (codes "post") h.post)
+    SpellsAssertion (codes "pre") t.all pre (bracket_part (codes "pre") h.pre) → SpellsAssertion (codes "post") t.all post (bracket_part (codes "post") h.post)
     → kinds ≡ whole_tokens h locals (flat_map (statement_part t.all) body) → SpellsProcedure kinds (procedure_of line last h.name t pre post body)
 spelled_is kinds line last h locals pre post body pre_is post_is whole =
     let t = table_of_parts h.params h.results locals h.logics in
@@ -76,8 +74,8 @@ spelled_is kinds line last h locals pre post body pre_is post_is whole =
       pre = pre_is;
       post = post_is;
       whole = rw (params_cut h.params h.results locals h.logics, results_cut h.params h.results locals h.logics, locals_cut h.params h.results locals h.logics, logics_cut h.params h.results locals h.logics)
-        (whole ∙ regrouped h.name (declarations h.params) (returns_part h.results) (logic_part h.logics) (bracket_part (codes "pre") h.pre) (bracket_part (codes "post") h.post)
-          (flat_map local_part locals) (flat_map (statement_part t.all) body))
+          (whole ∙ regrouped h.name (declarations h.params) (returns_part h.results) (logic_part h.logics) (bracket_part (codes "pre") h.pre) (bracket_part (codes "post") h.post)
+          (flat_map local_part locals) (flat_map (statement_part t.all) body));
     }
 
 part_rules : (at : Place) (t : Table) (MayBeIn : ℕ → Type 0) (e : BoolExpr) → ((k : ℕ) → MayBe at t k → MayBeIn k) → IsPart at t e → IsAssertion MayBeIn e
@@ -86,15 +84,15 @@ part_rules at t MayBeIn e may part = record { form = part.form; names = All-weak
 rules_kept : (line last : ℕ) (name : List ℕ) (t : Table) (pre post : BoolExpr) (body : List BoolStmt) → IsTable t → IsFree name → IsPart place.Pre t pre → IsPart place.Post t post
     → All (IsCode t) body → atoms_of body ≤ 128 → KeepsRules (procedure_of line last name t pre post body)
 rules_kept line last name t pre post body is named pre_is post_is code few = record {
-    parts = is.parts;
-    few = is.few;
-    free = All-cons IsFree name t.all named is.free;
-    distinct = is.distinct;
-    pre = part_rules place.Pre t _ pre (λ k may. may) pre_is;
-    post = part_rules place.Post t _ post (λ k may. may) post_is;
-    body = code;
-    atoms = few
-  }
+  parts = is.parts;
+  few = is.few;
+  free = All-cons IsFree name t.all named is.free;
+  distinct = is.distinct;
+  pre = part_rules place.Pre t _ pre (λ k may. may) pre_is;
+  post = part_rules place.Post t _ post (λ k may. may) post_is;
+  body = code;
+  atoms = few;
+}
 
 -- the procedure with these lines is spelled by the tokens and keeps the rules
 abbrev pub IsProcedureOf : ℕ → ℕ → List TokenKind → BoolProc → Type 0
@@ -109,7 +107,7 @@ made_is : (kinds : List TokenKind) (line last : ℕ) (h : Head) (locals : List (
 made_is kinds line last h locals t pre post body same is head pre_is post_is whole code few =
     let parts : Table = table_of_parts h.params h.results locals h.logics in
     let Spelled : Table → Type 0 = λ x. SpellsAssertion (codes "pre") x.all pre (bracket_part (codes "pre") h.pre) → SpellsAssertion (codes "post") x.all post (bracket_part (codes "post") h.post)
-        → kinds ≡ whole_tokens h locals (flat_map (statement_part x.all) body) → SpellsProcedure kinds (procedure_of line last h.name x pre post body) in
+    → kinds ≡ whole_tokens h locals (flat_map (statement_part x.all) body) → SpellsProcedure kinds (procedure_of line last h.name x pre post body) in
     let spelled : Spelled t = subst Spelled (sym same) (spelled_is kinds line last h locals pre post body) in
     (spelled pre_is.0 post_is.0 whole, rules_kept line last h.name t pre post body is head.name pre_is.1 post_is.1 code few, refl, refl)
 
@@ -128,6 +126,6 @@ procedure-Some line last kinds p read =
     let table = table-Some head.0.params head.0.results locals.0 head.0.logics t h.1.params h.1.results local.1 h.1.logics e4 in
     let b = body-Some t locals.1 body e7 in
     let whole : kinds ≡ whole_tokens head.0 locals.0 (flat_map (statement_part t.all) body) =
-        h.0 ∙ ap (head_tokens head.0) (after-mark mark.LeftBrace head.1 opened e2 ∙ ap (λ (x : List TokenKind). kind.Mark mark.LeftBrace ∷ x) (local.0 ∙ ap (λ (x : List TokenKind). flat_map local_part locals.0 ++ x) b.0)) in
+    h.0 ∙ ap (head_tokens head.0) (after-mark mark.LeftBrace head.1 opened e2 ∙ ap (λ (x : List TokenKind). kind.Mark mark.LeftBrace ∷ x) (local.0 ∙ ap (λ (x : List TokenKind). flat_map local_part locals.0 ++ x) b.0)) in
     let made = made_is kinds line last head.0 locals.0 t pre post body table.0 table.1 h.1 (part-Some (codes "pre") place.Pre t head.0.pre pre refl e5) (part-Some (codes "post") place.Post t head.0.post post refl e6) whole b.1 b.2 in
     subst (IsProcedureOf line last kinds) (same_Some {A = BoolProc} (procedure_of line last head.0.name t pre post body) p now7) made)))))))

@@ -1,5 +1,5 @@
 -- Tokens are read as a procedure in one way.
-use Rattle.std.proofs.Common.{◌≡◌, ℕ, suc, ◌+◌, ◌-◌, ◌<◌, ◌≤◌, List, [], ◌∷◌, length, get_or, Option, Some, None, Result, Err, refl, sym, ap, subst, ◌∙◌, arith}
+use Rattle.std.proofs.Common.{◌≡◌, ℕ, ◌-◌, List, [], ◌∷◌, length, get_or, Option, Some, None, Result, Err, refl, sym, ap, subst, ◌∙◌, arith}
 use Rattle.std.specs.Prelude.{slice_get, option_map}
 use Rattle.std.proofs.lemmas.Option.{none-some, same_Some, slice_get-get_or}
 use Rattle.pale_text.specs.declared.token.Token.{Token}
@@ -43,7 +43,7 @@ IsRead-from_tokens tokens line last (Some p) first_is last_is is =
     record {
       p = p;
       is = refl;
-      read = rw (← same_line, ← same_last) (procedure_again p is.rules (kinds_of tokens) is.spelled)
+      read = rw (← same_line, ← same_last) (procedure_again p is.rules (kinds_of tokens) is.spelled);
     }
 
 first_there : (token : Token) (tokens : List Token) → first_line_of (token ∷ tokens) ≡ Some token.span.start.line

@@ -1,15 +1,13 @@
 -- What is read as parameters, results, logic variables or locals is spelled so, and what is spelled so is read.
-use Rattle.std.proofs.Common.{◌≡◌, ℕ, zero, suc, ◌+◌, ◌<◌, ◌≤◌, Bool, true, false, cond, List, [], ◌∷◌, ◌++◌, length, codes, Option, Some, None, refl, sym, ap, subst, ◌∙◌, append_assoc, arith}
-use Rattle.std.specs.List.{flat_map}
-use Rattle.std.proofs.lemmas.List.{append-nil}
-use Rattle.std.proofs.lemmas.Option.{none-some, same_Some}
+use Rattle.std.proofs.Common.{◌≡◌, ℕ, ◌≤◌, Bool, true, false, cond, List, [], ◌∷◌, ◌++◌, length, codes, Option, Some, refl, sym, ap, subst, ◌∙◌, append_assoc}
+use Rattle.std.proofs.lemmas.Option.{same_Some}
 use Rattle.pale_text.specs.declared.token.Mark.TheVariants as mark
 use Rattle.pale_text.specs.declared.token.TokenKind.{TokenKind}
 use Rattle.pale_text.specs.declared.token.TokenKind.TheVariants as kind
-use Rattle.bool_path.specs.Reader.Heads.{declared_at, declarations_at, enclosed_at, params_at, results_at, logics_at, locals_at}
-use Rattle.bool_path.specs.Reading.{bool_name, declarations, returns_part, logic_part, local_part}
+use Rattle.bool_path.specs.Reader.Heads.{declarations_at, enclosed_at, params_at, results_at, logics_at}
+use Rattle.bool_path.specs.Reading.{declarations, returns_part, logic_part}
 use Rattle.bool_path.specs.Reader.Steps.{◌>>=◌, begins, after, is_mark, is_word}
-use Rattle.bool_path.proofs.DeclarationLaws.{AreFree, Declares, declarations-Some, declarations_again, declared-Some, declared_again, IsFree}
+use Rattle.bool_path.proofs.DeclarationLaws.{AreFree, Declares, declarations-Some, declarations_again}
 use Rattle.bool_path.proofs.StepLaws.{bind_some, after-mark, after-word, mark_again, word_again, begins_mark, begins_word}
 
 abbrev Named : Type 0
@@ -29,13 +27,13 @@ record IsEnclosed (names : List (List ℕ)) (kinds rest : List TokenKind) : Type
 IsEnclosed-from : (names : List (List ℕ)) (kinds inner middle rest : List TokenKind) → kinds ≡ kind.Mark mark.LeftParen ∷ inner → Declares [] names inner middle → middle ≡ kind.Mark mark.RightParen ∷ rest
     → IsEnclosed names kinds rest
 IsEnclosed-from names kinds inner middle rest opened d closed = record {
-    first = d.first;
-    others = d.others;
-    is = d.names;
-    spelled = opened ∙ ap (λ (x : List TokenKind). kind.Mark mark.LeftParen ∷ x)
-        (d.spelled ∙ ap (λ (x : List (List ℕ)). declarations x ++ middle) (sym d.names) ∙ ap (λ (x : List TokenKind). declarations names ++ x) closed);
-    free = subst AreFree (sym d.names) d.free
-  }
+  first = d.first;
+  others = d.others;
+  is = d.names;
+  spelled = opened ∙ ap (λ (x : List TokenKind). kind.Mark mark.LeftParen ∷ x)
+      (d.spelled ∙ ap (λ (x : List (List ℕ)). declarations x ++ middle) (sym d.names) ∙ ap (λ (x : List TokenKind). declarations names ++ x) closed);
+  free = subst AreFree (sym d.names) d.free;
+}
 
 enclosed-Some : (kinds : List TokenKind) (names : List (List ℕ)) (rest : List TokenKind) → enclosed_at kinds ≡ Some (names, rest) → IsEnclosed names kinds rest
 unfolding enclosed_at
@@ -100,9 +98,10 @@ results-Some kinds names rest read = go (begins (is_word (codes "returns")) kind
     returned opened word e =
         let one : List TokenKind = kind.Name (codes "returns") ∷ kind.Mark mark.LeftParen ∷ [] in
         let regrouped : returns_part (e.first ∷ e.others) ++ rest ≡ kind.Name (codes "returns") ∷ kind.Mark mark.LeftParen ∷ (declarations (e.first ∷ e.others) ++ kind.Mark mark.RightParen ∷ rest) =
-            ap (λ (x : List TokenKind). kind.Name (codes "returns") ∷ kind.Mark mark.LeftParen ∷ x) (append_assoc (declarations (e.first ∷ e.others)) (kind.Mark mark.RightParen ∷ []) rest) in
+        ap (λ (x : List TokenKind). kind.Name (codes "returns") ∷ kind.Mark mark.LeftParen ∷ x) (append_assoc (declarations (e.first ∷ e.others)) (kind.Mark mark.RightParen ∷ []) rest) in
         word ∙ ap (λ (x : List TokenKind). kind.Name (codes "returns") ∷ x) (e.spelled ∙ ap (λ (x : List (List ℕ)). params_part x rest) e.is)
         ∙ sym regrouped ∙ ap (λ (x : List (List ℕ)). returns_part x ++ rest) (sym e.is)
+
     go : (b : Bool) → cond b (after (is_word (codes "returns")) kinds >>= enclosed_at) (found ([], kinds)) ≡ Some (names, rest) → (kinds ≡ returns_part names ++ rest) × AreFree names
     go false now =
         let made : ◌≡◌ {A = Named} ([], kinds) (names, rest) = same_Some {A = Named} ([], kinds) (names, rest) now in
@@ -118,7 +117,7 @@ results_again [] rest few free other = rw other refl
 results_again (first ∷ others) rest few free other =
     let decls : List TokenKind = declarations (first ∷ others) in
     let regrouped : returns_part (first ∷ others) ++ rest ≡ kind.Name (codes "returns") ∷ params_part (first ∷ others) rest =
-        ap (λ (x : List TokenKind). kind.Name (codes "returns") ∷ kind.Mark mark.LeftParen ∷ x) (append_assoc decls (kind.Mark mark.RightParen ∷ []) rest) in
+    ap (λ (x : List TokenKind). kind.Name (codes "returns") ∷ kind.Mark mark.LeftParen ∷ x) (append_assoc decls (kind.Mark mark.RightParen ∷ []) rest) in
     ap results_at regrouped ∙ rw (begins_word (codes "returns") (params_part (first ∷ others) rest), word_again (codes "returns") (params_part (first ∷ others) rest)) (enclosed_again first others rest few free)
 
 -- ---- logic variables
@@ -133,9 +132,10 @@ logics-Some kinds names rest read = go (begins (is_word (codes "logic")) kinds) 
         subst (λ (x : Named). (kinds ≡ logic_part x.0 ++ x.1) × AreFree x.0) made (refl, tt)
     go true now =
         let a = bind_some (after (is_word (codes "logic")) kinds) (declarations_at 12 []) (names, rest) now in
-        let d = declarations-Some 12 [] a.0 names rest a.2 in
-        (after-word (codes "logic") kinds a.0 a.1 ∙ ap (λ (x : List TokenKind). kind.Name (codes "logic") ∷ x) d.spelled ∙ ap (λ (x : List (List ℕ)). logic_part x ++ rest) (sym d.names),
-         subst AreFree (sym d.names) d.free)
+        let d = declarations-Some 12 [] a.0 names rest a.2 in (
+          after-word (codes "logic") kinds a.0 a.1 ∙ ap (λ (x : List TokenKind). kind.Name (codes "logic") ∷ x) d.spelled ∙ ap (λ (x : List (List ℕ)). logic_part x ++ rest) (sym d.names),
+          subst AreFree (sym d.names) d.free,
+        )
 
 pub logics_again : (names : List (List ℕ)) (rest : List TokenKind) → length names ≤ 12 → AreFree names → begins (is_word (codes "logic")) rest ≡ false → begins (is_mark mark.Comma) rest ≡ false
     → logics_at (logic_part names ++ rest) ≡ Some (names, rest)

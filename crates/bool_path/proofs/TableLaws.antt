@@ -1,15 +1,13 @@
 -- The names of a procedure, put together and taken apart.
-use Rattle.std.proofs.Common.{◌≡◌, ◌≢◌, ℕ, suc, ◌+◌, ◌-◌, ◌<◌, ◌≤◌, Bool, true, false, cond, leb, List, [], ◌∷◌, ◌++◌, length, take, drop, All, Option, Some, None, refl, sym, ap, subst, ◌∙◌, append_assoc, arith}
-use Rattle.std.specs.List.{AllByRecursion}
+use Rattle.std.proofs.Common.{◌≡◌, ℕ, ◌+◌, ◌-◌, ◌≤◌, List, ◌++◌, length, take, drop, All, Some, refl, sym, ap, subst, ◌∙◌, append_assoc, arith}
 use Rattle.std.specs.Prelude.{◌&&◌, nat_le}
 use Rattle.std.proofs.lemmas.Bool.{leb-true, le-leb}
-use Rattle.std.proofs.lemmas.List.{length-append, length-take, length-drop, take_at, drop_at, take-append-drop, take-take, drop-take}
-use Rattle.std.proofs.lemmas.List.Elements.{All-append, All-from_recursion, recursion_from_All, All-same}
+use Rattle.std.proofs.lemmas.List.{length-append, take_at, drop_at, take-append-drop, take-take, drop-take}
+use Rattle.std.proofs.lemmas.List.Elements.{All-append, All-from_recursion}
 use Rattle.std.proofs.lemmas.Option.{cond_some}
 use Rattle.bool_path.specs.Reader.Distinct.{distinct_names}
 use Rattle.bool_path.specs.Reader.Names.{Table}
 use Rattle.bool_path.specs.Reader.Heads.{table_from}
-use Rattle.bool_path.proofs.AllLemmas.{All-left, All-right}
 use Rattle.bool_path.proofs.DeclarationLaws.{IsFree, AreFree}
 use Rattle.bool_path.proofs.ListedLaws.{AreDistinct, distinct_names-true, true-distinct_names}
 use Rattle.bool_path.proofs.NamesLaws.{IsTable, and_parts}
@@ -30,13 +28,13 @@ module _ (ps rs ls gs : List (List ℕ)) where
       let c = cond_some (nat_le (length joined) 12 && distinct_names joined) table_of_parts t read in
       let both = and_parts (nat_le (length joined) 12) (distinct_names joined) c.0 in
       let free : All IsFree joined = All-append IsFree (ps ++ rs ++ ls) gs
-          (All-append IsFree (ps ++ rs) ls (All-append IsFree ps rs (All-from_recursion IsFree ps fp) (All-from_recursion IsFree rs fr)) (All-from_recursion IsFree ls fl)) (All-from_recursion IsFree gs fg) in
+      (All-append IsFree (ps ++ rs) ls (All-append IsFree ps rs (All-from_recursion IsFree ps fp) (All-from_recursion IsFree rs fr)) (All-from_recursion IsFree ls fl)) (All-from_recursion IsFree gs fg) in
       let is : IsTable table_of_parts = record {
-          parts = omega (arith, length-joined);
-          few = leb-true (length joined) 12 both.0;
-          free = free;
-          distinct = distinct_names-true joined both.1
-        } in
+        parts = omega (arith, length-joined);
+        few = leb-true (length joined) 12 both.0;
+        free = free;
+        distinct = distinct_names-true joined both.1;
+      } in
       (sym c.1, subst IsTable c.1 is)
 
   pub table_again : length joined ≤ 12 → AreDistinct joined → table_from ps rs ls gs ≡ Some table_of_parts
@@ -66,8 +64,8 @@ pub cuts_joined : (names : List (List ℕ)) (p r g : ℕ) → p + r + g ≤ leng
 cuts_joined names p r g parts =
     let n : ℕ = length names - g in
     let one : take p names ++ take r (drop p names) ≡ take (p + r) names =
-        ap (λ (x : List (List ℕ)). x ++ take r (drop p names)) (sym (take-take p (p + r) names (omega arith)))
-        ∙ ap (λ (x : List (List ℕ)). take p (take (p + r) names) ++ x) (sym (drop-take p r names)) ∙ take-append-drop p (take (p + r) names) in
+    ap (λ (x : List (List ℕ)). x ++ take r (drop p names)) (sym (take-take p (p + r) names (omega arith)))
+    ∙ ap (λ (x : List (List ℕ)). take p (take (p + r) names) ++ x) (sym (drop-take p r names)) ∙ take-append-drop p (take (p + r) names) in
     let two : take (p + r) names ++ drop (p + r) (take n names) ≡ take n names =
-        ap (λ (x : List (List ℕ)). x ++ drop (p + r) (take n names)) (sym (take-take (p + r) n names (omega arith))) ∙ take-append-drop (p + r) (take n names) in
+    ap (λ (x : List (List ℕ)). x ++ drop (p + r) (take n names)) (sym (take-take (p + r) n names (omega arith))) ∙ take-append-drop (p + r) (take n names) in
     ap (λ (x : List (List ℕ)). x ++ drop (p + r) (take n names) ++ drop n names) one ∙ ap (λ (x : List (List ℕ)). x ++ drop n names) two ∙ take-append-drop n names

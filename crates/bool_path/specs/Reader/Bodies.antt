@@ -11,7 +11,7 @@ use Rattle.bool_path.specs.declared.program.BoolStmt.TheVariants.{Skip, Set}
 use Rattle.bool_path.specs.declared.read.place.Place.{Place}
 use Rattle.bool_path.specs.declared.read.place.Place.TheVariants as place
 use Rattle.bool_path.specs.Reader.Names.{Table, variable_at}
-use Rattle.bool_path.specs.Reader.Heads.{Head, head_at, locals_at, table_from}
+use Rattle.bool_path.specs.Reader.Heads.{head_at, locals_at, table_from}
 use Rattle.bool_path.specs.Reader.Steps.{◌>>=◌, begins, after, ended, is_mark, is_word}
 use Rattle.bool_path.specs.Reader.Terms.{literal_at, assertion_at}
 
@@ -50,7 +50,7 @@ statements_at t zero body atoms kinds = None
 statements_at t (suc turns) body atoms kinds =
     if begins (is_mark mark.RightBrace) kinds then Some (body, kinds)
     else (statement_at t kinds >>= λ x.
-      if nat_lt 128 (atoms + atoms_in x.0) then None else statements_at t turns (body ++ x.0 ∷ []) (atoms + atoms_in x.0) x.1)
+    if nat_lt 128 (atoms + atoms_in x.0) then None else statements_at t turns (body ++ x.0 ∷ []) (atoms + atoms_in x.0) x.1)
 
 -- the assertion of these tokens, or `true` where it is left out
 unfoldable pub assertion_from : Place → Table → Option (List TokenKind) → Option BoolExpr

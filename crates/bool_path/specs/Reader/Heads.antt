@@ -46,7 +46,7 @@ unfoldable pub locals_at : ℕ → List (List ℕ) → List TokenKind → Declar
 locals_at zero names kinds = if begins (is_word (codes "bool")) kinds then None else Some (names, kinds)
 locals_at (suc turns) names kinds =
     if begins (is_word (codes "bool")) kinds then
-      (declared_at kinds >>= λ x. after (is_mark mark.Semicolon) x.1 >>= locals_at turns (names ++ x.0 ∷ []))
+    (declared_at kinds >>= λ x. after (is_mark mark.Semicolon) x.1 >>= locals_at turns (names ++ x.0 ∷ []))
     else Some (names, kinds)
 
 -- the tokens before the first `]`, and those after it
@@ -58,7 +58,7 @@ cut_at (first ∷ rest) = if is_mark mark.RightBracket first then Some ([], rest
 unfoldable pub bracketed_at : List ℕ → List TokenKind → Option (Option (List TokenKind) × List TokenKind)
 bracketed_at word kinds =
     if begins (is_word word) kinds then
-      (after (is_word word) kinds >>= λ opened. after (is_mark mark.LeftBracket) opened >>= λ inner. cut_at inner >>= λ x. Some (Some x.0, x.1))
+    (after (is_word word) kinds >>= λ opened. after (is_mark mark.LeftBracket) opened >>= λ inner. cut_at inner >>= λ x. Some (Some x.0, x.1))
     else Some (None, kinds)
 
 -- a procedure's head: its name, those of its variables, and the tokens of its two assertions
@@ -86,5 +86,5 @@ unfoldable pub table_from : List (List ℕ) → List (List ℕ) → List (List �
 table_from params results locals logics =
     let all = params ++ results ++ locals ++ logics in
     if nat_le (length all) 12 && distinct_names all then
-      Some (record { all = all; params = length params; results = length results; logics = length logics })
+    Some (record { all = all; params = length params; results = length results; logics = length logics })
     else None

@@ -1,6 +1,6 @@
 -- What the private readers of expressions give, from left to right. `specs/Reading.antt` says how an expression is
 -- spelled and what it has to keep.
-use Rattle.std.specs.Prelude.{ℕ, zero, suc, ◌-◌, ◌==◌, Bool, true, false, nat_lt, List, [], ◌∷◌, codes, Option, Some, None, if◌then◌else◌}
+use Rattle.std.specs.Prelude.{ℕ, zero, suc, ◌-◌, ◌==◌, true, false, nat_lt, List, [], ◌∷◌, codes, Option, Some, None, if◌then◌else◌}
 use Rattle.std.specs.Str.{bytes_eq}
 use denote.Enum.Bare.{sameb}
 use Rattle.pale_text.specs.contracts.token.Mark.{the_type}
@@ -33,8 +33,8 @@ unfoldable pub chain_at : Place → Table → ℕ → BoolExpr → List TokenKin
 chain_at at t zero left kinds = None
 chain_at at t (suc turns) left kinds =
     if begins (is_mark mark.Equivalent) kinds then
-      (after (is_mark mark.Equivalent) kinds >>= λ rest. literal_at at t 200 rest >>= λ x.
-        if nat_lt 65536 (size_of (Iff left x.0)) then None else chain_at at t turns (Iff left x.0) x.1)
+    (after (is_mark mark.Equivalent) kinds >>= λ rest. literal_at at t 200 rest >>= λ x.
+    if nat_lt 65536 (size_of (Iff left x.0)) then None else chain_at at t turns (Iff left x.0) x.1)
     else Some (left, kinds)
 
 -- an assertion that is all of the tokens

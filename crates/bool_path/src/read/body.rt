@@ -116,19 +116,15 @@ fn statements<'t>(
 }
 
 /// The statements, with `}` as the last of the tokens.
-#[tactic(
-    auto,
-    using(crate::proofs::OutcomeLemmas::length_kinds),
-    unfolding(crate::specs::Reader::Steps::ended, crate::specs::Reader::Bodies::body_at)
-)]
-pub fn body_of(
-    alloc: Global,
-    names: &Names,
-    tokens: &[Token],
-) -> Result<Items<BoolStmt>, BoolStop>
+#[tactic(auto, using(crate::proofs::OutcomeLemmas::length_kinds), unfolding(crate::specs::Reader::Steps::ended, crate::specs::Reader::Bodies::body_at))]
+pub fn body_of(alloc: Global, names: &Names, tokens: &[Token]) -> Result<Items<BoolStmt>, BoolStop>
     ensures { Gives (λ body. body) result (body_at (table_of names.now) (kinds_of tokens.now)) }
 {
     let (body, rest) = statements(alloc, names, tokens)?;
     let rest = after_mark(rest, Mark::RightBrace)?;
-    if rest.is_empty() { Ok(body) } else { Err(BoolStop::NotYet) }
+    if rest.is_empty() {
+        Ok(body)
+    } else {
+        Err(BoolStop::NotYet)
+    }
 }

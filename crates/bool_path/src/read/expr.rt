@@ -69,11 +69,7 @@ pub fn literal<'t>(
 }
 
 /// A literal, or literals with `<=>` between, which group to the left: all of the tokens.
-#[tactic(
-    auto,
-    using(crate::proofs::OutcomeLemmas::length_kinds),
-    unfolding(crate::specs::Reader::Steps::ended, crate::specs::Reader::Terms::assertion_at)
-)]
+#[tactic(auto, using(crate::proofs::OutcomeLemmas::length_kinds), unfolding(crate::specs::Reader::Steps::ended, crate::specs::Reader::Terms::assertion_at))]
 pub fn assertion(
     alloc: Global,
     names: &Names,
@@ -85,7 +81,11 @@ pub fn assertion(
     let (first, rest) = literal(alloc, names, place, MAX_LEVELS, tokens)?;
     let size = tokens.len() - rest.len();
     let (whole, rest) = chain(alloc, names, place, first, size, rest)?;
-    if rest.is_empty() { Ok(whole) } else { Err(BoolStop::NotYet) }
+    if rest.is_empty() {
+        Ok(whole)
+    } else {
+        Err(BoolStop::NotYet)
+    }
 }
 
 /// The literals that follow `first`, which has `size` nodes, each after a `<=>`.

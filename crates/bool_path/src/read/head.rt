@@ -8,7 +8,9 @@ ghost use Rattle.bool_path.specs.Reader.Views.{head_of, kinds_if_any};
 
 use crate::program::{BoolStop, ByteList};
 use crate::read::names::MAX_NAMES;
-use crate::read::steps::{after_mark, after_word, begins_with_mark, begins_with_word, is_mark_of, new_name};
+use crate::read::steps::{
+    after_mark, after_word, begins_with_mark, begins_with_word, is_mark_of, new_name,
+};
 use pale_text::{Mark, Token};
 use plain_data::Items;
 use std::alloc::Global;
@@ -120,7 +122,9 @@ fn bracket_end(tokens: &[Token]) -> Option<usize>
     ensures value { result ≡ position (λ token. is_mark Mark.RightBracket token.kind) tokens.now }
     ensures within { IfSome result (λ at. at < length tokens.now) }
 {
-    tokens.iter().position(|token| is_mark_of(&token.kind, Mark::RightBracket))
+    tokens
+        .iter()
+        .position(|token| is_mark_of(&token.kind, Mark::RightBracket))
 }
 
 /// The tokens before the first `]`, and those after it.

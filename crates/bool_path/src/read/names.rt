@@ -105,6 +105,10 @@ impl Names {
         ensures { result ≡ variable_at place (table_of self.now) name.now }
     {
         let number = place_among(self.all.as_slice(), name)? as u32;
-        if self.may_be(place, number) { Some(number) } else { None }
+        if self.may_be(place, number) {
+            Some(number)
+        } else {
+            None
+        }
     }
 }

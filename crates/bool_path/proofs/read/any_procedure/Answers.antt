@@ -1,4 +1,4 @@
-use Rattle.std.proofs.Common.{◌≡◌, Option, Some, ◌∙◌, sym, ap, refl}
+use Rattle.std.proofs.Common.{Option, Some, ◌∙◌, sym, ap}
 use Rattle.std.proofs.lemmas.Option.{none-some}
 use Rattle.std.proofs.lemmas.Result.{err_from_is_err_and}
 use Rattle.bool_path.specs.declared.program.BoolProc.{BoolProc}

@@ -1,4 +1,4 @@
-use Rattle.std.proofs.Common.{◌≡◌, Option, ap}
+use Rattle.std.proofs.Common.{Option, ap}
 use Rattle.std.proofs.lemmas.Option.{same_Some}
 use Rattle.std.proofs.lemmas.Result.{err_from_is_err_and}
 use Rattle.pale_text.proofs.ReadingLemmas.{lexed_or_stray}
@@ -16,8 +16,8 @@ pub returns-in_err-procedure-clause-not_yet : goal.returns-in_err-procedure-clau
 returns-in_err-procedure-clause-not_yet c =
     let p = err_from_is_err_and c.from_residual.result c.from_residual.ensures.1 in
     rw (p.1, p.2) (λ is program reads.
-      let are = tokens_of_text c.args.text.now c.in-Ok.list program c.in-Ok.ensures.tokens reads in
-      is_no_failure c.in_err-procedure.field-0.0 program.procedure (c.in_err-procedure.ensures.only program.procedure (rw c.as_slice.ensures are)) is)
+    let are = tokens_of_text c.args.text.now c.in-Ok.list program c.in-Ok.ensures.tokens reads in
+    is_no_failure c.in_err-procedure.field-0.0 program.procedure (c.in_err-procedure.ensures.only program.procedure (rw c.as_slice.ensures are)) is)
 
 pub returns-clause-only : goal.returns-clause-only
 returns-clause-only c = λ other reads.

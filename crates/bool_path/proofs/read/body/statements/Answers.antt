@@ -1,4 +1,4 @@
-use Rattle.std.proofs.Common.{◌≡◌, suc, ◌+◌, ◌-◌, ◌<◌, ◌≤◌, ◌∙◌, ℕ, [], length, sym, arith}
+use Rattle.std.proofs.Common.{◌≡◌, suc, ◌+◌, ◌-◌, ◌<◌, ◌≤◌, ◌∙◌, [], length, sym, arith}
 use Rattle.std.proofs.lemmas.Bool.{lt-ltb, le-ltb}
 use Rattle.std.proofs.lemmas.List.{length_push}
 use Rattle.std.proofs.lemmas.Result.{err_from_is_err_and}
@@ -42,7 +42,7 @@ statements-preserved c =
     rw (c.in_ok-push.ensures.ok, c.atoms_in-atoms.ensures.value) (record {
       so_far = turn;
       shorter = omega (arith, length_push l.body n.next, n.ensures.shorter, l.invariant.shorter);
-      few = few
+      few = few;
     })
 
 pub returns : goal.returns

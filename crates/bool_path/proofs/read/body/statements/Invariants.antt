@@ -8,7 +8,7 @@ abbrev pub invariant-statements : goal.invariant-statements
 invariant-statements l = record {
   so_far : (turns : ℕ) → statements_at (table_of l.names) turns l.body l.atoms (kinds_of l.rest) ≡ statements_at (table_of l.names) (turns + length l.body) [] 0 (kinds_of l.tokens);
   shorter : length l.rest + length l.body ≤ length l.tokens;
-  few : l.atoms ≤ 128
+  few : l.atoms ≤ 128;
 }
 
 abbrev pub decreases-statements : goal.decreases-statements

@@ -1,4 +1,4 @@
-use Rattle.std.proofs.Common.{◌≡◌, ◌∙◌, ◌+◌, ◌-◌, ◌≤◌, length, take, drop, sym, arith}
+use Rattle.std.proofs.Common.{◌≡◌, ◌∙◌, ◌+◌, ◌-◌, length, take, drop, sym, arith}
 use Rattle.std.proofs.lemmas.List.{take_all, length-drop}
 use Rattle.bool_path.proofs.CutLemmas.{cut-Some, cut_nowhere}
 use Rattle.bool_path.proofs.read.head.cut.Goals as goal

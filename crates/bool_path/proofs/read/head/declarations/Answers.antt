@@ -1,4 +1,4 @@
-use Rattle.std.proofs.Common.{◌≡◌, ◌∙◌, sym}
+use Rattle.std.proofs.Common.{◌∙◌, sym}
 use Rattle.std.proofs.lemmas.Result.{err_from_is_err_and}
 use Rattle.bool_path.specs.Reading.{kinds_of}
 use Rattle.bool_path.proofs.DeclarationTurns.{undeclared, last_one, no_comma, one_more, too_many}
