@@ -12,7 +12,7 @@ use crate::read::place::Place;
 use crate::read::steps::{after_mark, begins_with_mark};
 use pale_text::{Mark, Token, TokenKind};
 use plain_data::Boxed;
-use std::alloc::Global;
+use std::alloc::{AllocError, Global};
 
 /// How many levels may be open at once.
 pub const MAX_LEVELS: u32 = 200;
@@ -68,6 +68,13 @@ pub fn literal<'t>(
     }
 }
 
+fn equivalence(alloc: Global, left: BoolExpr, right: BoolExpr) -> Result<BoolExpr, AllocError>
+    ensures { IfOk result (λ e. e ≡ BoolExpr.Iff left right) }
+{
+    let left = Boxed::new(alloc, left)?;
+    Ok(BoolExpr::Iff(left, Boxed::new(alloc, right)?))
+}
+
 /// A literal, or literals with `<=>` between, which group to the left: all of the tokens.
 #[tactic(auto, using(crate::proofs::OutcomeLemmas::length_kinds), unfolding(crate::specs::Reader::Steps::ended, crate::specs::Reader::Terms::assertion_at))]
 pub fn assertion(
@@ -114,7 +121,7 @@ fn chain<'t>(
         if size > MAX_SIZE {
             return Err(BoolStop::NotYet);
         }
-        left = BoolExpr::Iff(Boxed::new(alloc, left)?, Boxed::new(alloc, right)?);
+        left = equivalence(alloc, left, right)?;
         rest = after;
     }
     Err(BoolStop::NotYet)

@@ -40,9 +40,7 @@ loop-preserved c =
     let small : size_of (Iff c.loop.left right) ≤ 65536 = omega (arith, size, c.in_ok-right.ensures.size, c.loop.invariant.counted) in
     let next = goes_on c.args.place (table_of c.args.names.now) c.loop.left (kinds_of c.loop.rest.now) c.loop.counter c.loop-test.true
     (kinds_of c.in_ok-before.before.now) (right, kinds_of c.in_ok-right.after.now) (sym c.begins_with_mark.ensures ∙ c.if-not-begins_with_mark.false) c.in_ok-before.ensures.value c.in_ok-right.ensures.value (le-ltb _ _ small) in
-    let one : c.in_ok-new.field-0 ≡ c.loop.left = c.in_ok-new.ensures in
-    let two : c.in_ok-new-2.field-0 ≡ right = c.in_ok-new-2.ensures in
-    rw (one, two) (record {
+    rw c.in_ok-left.ensures (record {
       so_far = sym next ∙ c.loop.invariant.so_far;
       counted = omega (arith, size, c.in_ok-right.ensures.size, c.loop.invariant.counted);
       small = omega (arith, size, c.in_ok-right.ensures.size, c.loop.invariant.counted);
