@@ -1,0 +1,7 @@
+mod CallLemmas
+mod CommandLemmas
+mod ReportLemmas
+mod SameRulesLemmas
+mod SettingsLemmas
+mod TripleLemmas
+mod WrittenLemmas

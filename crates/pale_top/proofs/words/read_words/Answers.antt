@@ -1,0 +1,34 @@
+use Rattle.std.proofs.Common.{◌≡◌, ◌∙◌, ap, map, sym, subst, List}
+use Rattle.std.specs.Prelude.{IfOk, IfSome}
+use Rattle.std.specs.String.{string_bytes}
+use Rattle.std.proofs.lemmas.Option.{IfSome_then}
+use Rattle.clap.specs.Words.{Row, app_of, fault_of, matches_of}
+use Rattle.pale_top.specs.Words.{Gives, HasSettings, IsRefused}
+use Rattle.pale_top.proofs.CommandLemmas.{command_faults, command_free, command_matches, command_simple}
+use Rattle.pale_top.proofs.SettingsLemmas.{ok_of_some, some_fault}
+use Rattle.pale_top.proofs.words.read_words.Goals as goal
+
+pub returns-in-Ok-clause-ok : goal.returns-in-Ok-clause-ok
+returns-in-Ok-clause-ok c =
+    let app = app_of c.in_ok-command.command in
+    let is = c.in_ok-command.ensures in
+    let words = map string_bytes c.args.words.now.items in
+    let words_are : map string_bytes c.as_slice.result.now ≡ words = ap (map string_bytes) c.as_slice.ensures.value in
+    let none = c.in-Ok.ensures.kinds (command_free app is.0 is.1 is.2) in
+    let rows = (c.in-Ok.ensures.matches (command_simple app is.0 is.1 is.2)).0 in
+    let gives : IfSome c.settings_in.result (Gives words) = IfSome_then c.settings_in.result c.settings_in.ensures (λ s has. record {
+      taken = sym (command_faults app is.0 is.1 is.2 words) ∙ (ap (fault_of app) (sym words_are) ∙ none);
+      values = subst (λ (r : List Row). HasSettings r s) (rows ∙ (ap (matches_of app) words_are ∙ command_matches app is.0 is.1 is.2 words)) has;
+    }) in
+    subst (λ r. IfOk r (Gives words)) (sym c.ok_or.ensures.value) (ok_of_some c.settings_in.result _ (Gives words) gives)
+
+pub returns-in-Err-clause-refused : goal.returns-in-Err-clause-refused
+unfolding IsRefused
+returns-in-Err-clause-refused c refused =
+    let app = app_of c.in_ok-command.command in
+    let is = c.in_ok-command.ensures in
+    let words = map string_bytes c.args.words.now.items in
+    let words_are : map string_bytes c.as_slice.result.now ≡ words = ap (map string_bytes) c.as_slice.ensures.value in
+    let kinds = c.in-Err.ensures.kinds (command_free app is.0 is.1 is.2) in
+    let faults = some_fault _ c.in-Err.error kinds (c.stop_of.ensures (cc refused)) in
+    λ none. faults (ap (fault_of app) words_are ∙ (command_faults app is.0 is.1 is.2 words ∙ none))
