@@ -1,7 +1,6 @@
 -- What the getters of the matches give, by the rows.
 use Rattle.std.proofs.Common.{◌≡◌, ℕ, List, refl, ap, sym, subst, Option, Some, None, Result, Ok, option_map, inl, inr, []}
-use Rattle.std.specs.Prelude.{IfOk, IfSome, ◌≢◌}
-use Rattle.std.specs.Option.{ok_or}
+use Rattle.std.specs.Prelude.{IfNone, IfSome, IsSome, ◌≢◌}
 use Rattle.clap.specs.Words.{HasKind, IsAmong, Kinds, kind_of}
 use Rattle.clap.specs.declared.error.Error.{Error}
 use Rattle.clap.specs.declared.error.kind.ErrorKind.TheVariants.{OutOfMemory}
@@ -16,9 +15,13 @@ number_read G None r none value parses = subst (λ (x : Option ℕ). IfSome x (�
 number_read {E} G (Some t) (Some n) none value parses = ap (λ (m : ℕ). Some m) (sym (parses t (Ok n) (value t refl)).1)
 number_read G (Some t) None none value parses = tt
 
-pub ok_of_some : {X E : Type 0} (o : Option X) (e : E) (P : X → Type 0) → IfSome o P → IfOk (ok_or o e) P
-ok_of_some (Some x) e P is = is
-ok_of_some None e P is = tt
+pub some_from : {X Y : Type 0} (f : X → Y) (o : Option X) (y : Y) → option_map f o ≡ Some y → IsSome o
+some_from f None y same = cc
+some_from f (Some x) y same = refl
+
+pub not_none : {X : Type 0} (o : Option X) (P : Type 0) → IfNone o P → (P → ⊥) → IsSome o
+not_none None P is other = absurd (other is)
+not_none (Some x) P is other = refl
 
 -- an error that isn't want of memory has one of the kinds
 pub some_fault : (faults : Kinds) (e : Error) → HasKind faults e → kind_of e ≢ OutOfMemory → faults ≢ []

@@ -1,9 +1,9 @@
 -- The command line of `pale`, as a command of `clap`, and what it gives for the words of a call.
 -- `clap`'s own definitions say what such a command reads: `fault_of` the kinds of error that a list of words has, and `matches_of` the values that it gives.
-use Rattle.std.specs.Prelude.{◌≡◌, ◌≢◌, ℕ, List, [], ◌∷◌, map, codes, Option, Some, pos, true, option_map}
+use Rattle.std.specs.Prelude.{◌≡◌, ◌≢◌, ◌<◌, ◌^◌, ℕ, List, [], ◌∷◌, map, codes, Option, Some, pos, true, option_map}
 use Rattle.std.specs.Borrow.{Bor}
 use Rattle.std.specs.Str.Parse.{digits_value, without_leading_plus}
-use Rattle.clap.specs.Words.{App, Rule, Row, Text, fault_of, first_of, matches_of, new_app, new_rule, one_of, with_rule}
+use Rattle.clap.specs.Words.{App, IsSignedIn, Rule, Row, Text, fault_of, first_of, matches_of, new_app, new_rule, one_of, with_rule, without_minus}
 use Rattle.clap.specs.declared.builder.action.ArgAction.TheVariants.{Set}
 use Rattle.clap.specs.declared.builder.value_parser.ValueParser.{ValueParser}
 use Rattle.clap.specs.declared.builder.value_parser.ValueParser.TheVariants.{Names, Signed}
@@ -77,6 +77,19 @@ IsRefused words = fault_of command words ≢ []
 -- the number that the digits of an argument's value write, after a sign
 abbrev pub number_of : Text → List Row → Option ℕ
 number_of id rows = option_map (λ text. digits_value 10 (without_leading_plus text)) (one_of id rows)
+
+-- the rows have a value for each argument that its parser took: a mode's name, and numbers that fit a u32
+abbrev pub HasMode : List Row → Type 0
+HasMode rows = (mode : Mode) × (first_of (codes "mode") rows ≡ Some (mode_name mode))
+
+abbrev pub HasNumber : Text → List Row → Type 0
+HasNumber id rows = (low : ℕ) × (high : ℕ) × (text : Text) × (high < 2 ^ 32) × IsSignedIn (pos low) (pos high) text
+    × (one_of id rows ≡ Some (without_minus text))
+
+pub record HasValues (rows : List Row) : Type 0 where
+  pub mode : HasMode rows
+  pub limit : HasNumber (codes "limit") rows
+  pub seed : HasNumber (codes "seed") rows
 
 -- the values are the mode and the numbers of the settings
 pub record HasSettings (rows : List Row) (settings : Settings) : Type 0 where

@@ -1,5 +1,5 @@
 //! The words of a call: one mode and two numbers, read by `clap`.
-ghost use Rattle.std.specs.Prelude.{◌≡◌, false, pos, ◌≢◌, IfOk, IfSome, IsErrOf, IfErr, map, codes, option_map, Some};
+ghost use Rattle.std.specs.Prelude.{◌≡◌, false, pos, ◌≢◌, IfOk, IfNone, IfSome, IsErrOf, IfErr, map, codes, option_map, Some};
 ghost use Rattle.std.specs.String.{string_bytes};
 ghost use Rattle.clap.specs.Words.{app_of, first_of, rule_of, found_of, kind_of, rows_of};
 
@@ -45,13 +45,15 @@ impl From<AllocError> for WordsStop {
 }
 
 ghost use Rattle.clap.specs.declared.builder.value_parser.ValueParser.TheVariants.{Signed};
-ghost use Rattle.pale_top.specs.Words.{Gives, HasSettings, number_of, mode_rule, number_rule, IsRefused, IsModeParser, mode_name, command_with};
+ghost use Rattle.pale_top.specs.Words.{Gives, HasMode, HasNumber, HasSettings, HasValues, number_of, mode_rule, number_rule, IsRefused, IsModeParser, mode_name, command_with};
 
 static MODE_NAMES: [&str; 1] = ["check"];
 
 impl Mode {
+    /// The mode of this name.
     fn named(name: &str) -> Option<Mode>
-        ensures { IfSome result (λ mode. name.now ≡ mode_name mode) }
+        ensures some { IfSome result (λ mode. name.now ≡ mode_name mode) }
+        ensures none { IfNone result ((mode : _) → name.now ≢ mode_name mode) }
     {
         match name {
             "check" => Some(Mode::Check),
@@ -120,27 +122,31 @@ fn stop_of(error: &Error) -> WordsStop
     }
 }
 
-fn mode_in(matches: &ArgMatches<'_>) -> Option<Mode>
-    ensures { IfSome result (λ mode. first_of (codes "mode") (rows_of (found_of matches.now)) ≡ Some (mode_name mode)) }
+fn mode_in(matches: &ArgMatches<'_>) -> Mode
+    requires { HasMode (rows_of (found_of matches.now)) }
+    ensures { first_of (codes "mode") (rows_of (found_of matches.now)) ≡ Some (mode_name result) }
 {
-    Mode::named(matches.get_str("mode")?)
+    let name = matches.get_str("mode").unwrap();
+    Mode::named(name).unwrap()
 }
 
-fn number_in(matches: &ArgMatches<'_>, id: &str) -> Option<u32>
-    ensures { IfSome result (λ n. number_of id.now (rows_of (found_of matches.now)) ≡ Some n) }
+fn number_in(matches: &ArgMatches<'_>, id: &str) -> u32
+    requires { HasNumber id.now (rows_of (found_of matches.now)) }
+    ensures { number_of id.now (rows_of (found_of matches.now)) ≡ Some result }
 {
-    matches.get_one::<u32>(id)
+    matches.get_one::<u32>(id).unwrap()
 }
 
 /// The values that the command gives.
-fn settings_in(matches: &ArgMatches<'_>) -> Option<Settings>
-    ensures { IfSome result (HasSettings (rows_of (found_of matches.now))) }
+fn settings_in(matches: &ArgMatches<'_>) -> Settings
+    requires { HasValues (rows_of (found_of matches.now)) }
+    ensures { HasSettings (rows_of (found_of matches.now)) result }
 {
-    Some(Settings {
-        mode: mode_in(matches)?,
-        limit: number_in(matches, "limit")?,
-        seed: number_in(matches, "seed")?,
-    })
+    Settings {
+        mode: mode_in(matches),
+        limit: number_in(matches, "limit"),
+        seed: number_in(matches, "seed"),
+    }
 }
 
 /// Reads the words of a call, of which the first is the program's name.
@@ -150,7 +156,7 @@ pub fn read_words(alloc: Global, words: &Vec<String>) -> Result<Settings, WordsS
 {
     let command = command(alloc)?;
     match command.try_get_matches_from(words.as_slice()) {
-        Ok(matches) => settings_in(&matches).ok_or(WordsStop::NoMemory),
+        Ok(matches) => Ok(settings_in(&matches)),
         Err(error) => Err(stop_of(&error)),
     }
 }
