@@ -105,19 +105,3 @@ fn each_bound_is_the_last_that_is_read(rt: HostRuntime) -> Result<(), Fail> {
     }
     Ok(())
 }
-
-#[test]
-fn a_text_with_too_many_bytes_is_refused(rt: HostRuntime) -> Result<(), Fail> {
-    let alloc = rt.alloc();
-    let rows = [
-        (1_048_577, "refused too-long\n", 3),
-        (1_048_576, "triples 0 valid 0 invalid 0 limit 0\n", 0),
-    ];
-    for (count, want, status) in rows {
-        let text = repeated(alloc, "", " ", count, "")?;
-        let (written, found) = checked(alloc, text.as_bytes())?;
-        assert_eq!(rt; written.as_slice(), want.as_bytes(), "{count} bytes");
-        assert_eq!(rt; found, status, "{count} bytes");
-    }
-    Ok(())
-}
