@@ -7,7 +7,7 @@ ghost use Rattle.bdd_nodes.specs.Roots.{number_at, number_of, roots_under, root_
 
 use crate::collecting;
 use crate::node_ref::NodeRef;
-use sqlite_items::Items;
+use plain_data::Items;
 use std::alloc::{AllocError, Global};
 use std::marker::Model;
 

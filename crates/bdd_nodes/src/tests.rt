@@ -4,7 +4,7 @@ ghost use Rattle.std.specs.Prelude.{◌≤◌};
 ghost use Rattle.bdd_nodes.specs.Shelf.{IsValid};
 
 use super::*;
-use sqlite_items::Items;
+use plain_data::Items;
 use std::alloc::{AllocError, Global};
 use std::process::Abort;
 use std::test::Fail;

@@ -7,7 +7,7 @@ ghost use Rattle.bdd_nodes.specs.Shelf.{Contents, IsShelf, IsLeaf, IsValid, Spli
 use crate::node::Node;
 use crate::node_ref::{Named, NodeRef};
 use crate::shelf::Shelf;
-use sqlite_items::Items;
+use plain_data::Items;
 
 /// Which tracks are set: their numbers.
 pub type Label = Items<u32>;
