@@ -1,0 +1,2 @@
+pub mod AssignmentsLemmas
+pub mod AutomataLemmas

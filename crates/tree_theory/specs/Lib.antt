@@ -1,0 +1,5 @@
+pub mod Assignments
+pub mod Automata
+pub mod Constructions
+pub mod Guides
+pub mod Minimal

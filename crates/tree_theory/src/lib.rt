@@ -1,0 +1,2 @@
+//! Theory.
+#![tactic(auto)]

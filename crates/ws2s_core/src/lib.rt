@@ -1,0 +1,6 @@
+//! Core formulas.
+#![tactic(auto)]
+
+mod formula;
+
+pub use formula::{Formula, Track};
