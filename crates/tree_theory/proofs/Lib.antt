@@ -1,2 +1,4 @@
 pub mod AssignmentsLemmas
 pub mod AutomataLemmas
+pub mod MinimalLemmas
+pub mod SubsetLemmas
