@@ -4,7 +4,7 @@ use Rattle.std.proofs.lemmas.Bool.{true≢false, false≢true, both_ways, not-tr
 use Rattle.tree_theory.specs.Assignments.{Position, PositionSet, Assignment, Label, IsWithin, Covers, half, root_label, empty_label}
 use Rattle.tree_theory.specs.Guides.{Spaces, IsSpace, IsGuide, left, right}
 use Rattle.tree_theory.specs.Automata.{Automaton, value, IsStable, Accepts, IsValue}
-use Rattle.tree_theory.specs.Constructions.{complement, pairs, IsReached, IsClosed, IsNaming, IsProduct}
+use Rattle.tree_theory.specs.Constructions.{complement, pairs, IsReached, IsClosed, IsNaming, IsOnce, IsProduct}
 use Rattle.tree_theory.proofs.AssignmentsLemmas.{Covers-half, Covers-half_same, Covers-more, root_label-covered, joined, Covers-joined, nothing, Covers-nothing}
 
 -- k more
@@ -165,3 +165,38 @@ module _ {Q R : Type 0} (g : Spaces) (guide : IsGuide g) (A : Automaton Q) (has 
   Accepts-named a =
       ((λ of_A. record { depth = of_A.depth; covers = of_A.covers; accepted = sym (accepting-value of_A.depth a) ∙ of_A.accepted }),
        (λ of_B. record { depth = of_B.depth; covers = of_B.covers; accepted = accepting-value of_B.depth a ∙ of_B.accepted }))
+
+-- an automaton whose states are names, each once, of those of a stable one, and are values, is stable
+module _ {Q R : Type 0} (g : Spaces) (guide : IsGuide g) (A : Automaton Q) (has : ℕ → Q → Type 0) (B : Automaton R)
+    (name : ℕ → Q → R) (reached : IsReached g A has) (naming : IsNaming g A has B name) where
+  named-initial : (s : ℕ) → IsSpace g s → has s (A.initial s)
+  named-initial s there = (reached.state s _ there).1
+      (record { assignment = nothing; depth = 0; covers = Covers-nothing; is_value = refl })
+
+  named-step : (s : ℕ) → IsSpace g s → has s (A.step s (A.initial (left g s)) (A.initial (right g s)) empty_label)
+  named-step s there = (reached.state s _ there).1
+      (record { assignment = nothing; depth = 1; covers = λ u p deep. refl; is_value = refl })
+
+  pub IsStable-named : IsOnce g has name → IsStable g B → IsStable g A
+  IsStable-named once stable = record {
+    at = λ s there. once.once s _ _ there (named-step s there) (named-initial s there)
+        (naming.step s _ _ empty_label there (named-initial (left g s) (guide.left_inside s there)) (named-initial (right g s) (guide.right_inside s there))
+         ∙ (λ i. B.step s (naming.initial (left g s) (guide.left_inside s there) i) (naming.initial (right g s) (guide.right_inside s there) i) empty_label)
+         ∙ stable.at s there
+         ∙ sym (naming.initial s there));
+  }
+
+-- a product accepts exactly what both accept
+module _ {Q R S : Type 0} (g : Spaces) (guide : IsGuide g) (A : Automaton Q) (B : Automaton R) (of_A : IsStable g A)
+    (of_B : IsStable g B) (C : Automaton S) (has : ℕ → S → Type 0) (pair : ℕ → S → Q × R)
+    (product : IsProduct g A B C has pair) where
+  pub IsStable-product : IsStable g C
+  IsStable-product = IsStable-named g guide C has (pairs A B) pair product.reached product.naming product.once
+      (IsStable-pairs g A B of_A of_B)
+
+  pub Accepts-product : (a : Assignment) → Accepts g C a ↔ (Accepts g A a × Accepts g B a)
+  Accepts-product a =
+      let closed = IsClosed-reached g guide C IsStable-product has product.reached in
+      let names = Accepts-named g guide C has (pairs A B) pair closed product.naming a in
+      let both = Accepts-pairs g guide A B of_A of_B a in
+      ((λ h. both.0 (names.0 h)), (λ h. names.1 (both.1 h)))
