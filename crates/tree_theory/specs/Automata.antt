@@ -33,3 +33,7 @@ pub record IsValue {Q : Type 0} (g : Spaces) (A : Automaton Q) (s : ℕ) (q : Q)
   pub depth : ℕ
   pub covers : Covers depth assignment
   pub is_value : value g A s depth assignment ≡ q
+
+-- the number is a state of the space, by a table of states
+abbrev pub Has : (ℕ → ℕ → Bool) → ℕ → ℕ → Type 0
+Has states s q = IsTrue (states s q)
