@@ -1,11 +1,8 @@
 ghost use Rattle.std.specs.Prelude.{◌≡◌, ◌+◌, ◌*◌, ◌<◌};
 ghost use Rattle.ws2s_core.specs.Dropping.{turning_weight, dropping_rank};
 
+use crate::track::Track;
 use deep_box::Boxed;
-
-/// The number of a track.
-#[derive(Clone, Copy, Debug, PartialEq, Eq, PartialOrd, Ord, Hash)]
-pub struct Track(pub u32);
 
 /// A core formula.
 #[derive(Debug)]

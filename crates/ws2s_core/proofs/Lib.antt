@@ -1,0 +1,2 @@
+pub mod FormulaLemmas
+pub mod SatisfactionLemmas
