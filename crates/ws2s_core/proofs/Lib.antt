@@ -1,2 +1,4 @@
 pub mod FormulaLemmas
+pub mod RecognisingLemmas
 pub mod SatisfactionLemmas
+pub mod TracksLemmas

@@ -1,3 +1,4 @@
 pub mod Dropping
+pub mod Recognising
 pub mod Satisfaction
 pub mod Tracks
