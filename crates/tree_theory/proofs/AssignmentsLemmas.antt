@@ -2,7 +2,7 @@
 use Rattle.std.proofs.Common.{◌≡◌, ◌≢◌, ℕ, zero, suc, ◌+◌, ◌-◌, ◌<◌, ◌≤◌, max, Bool, true, false, cond, eqb, ◌==◌, IsTrue, ◌&&◌, nat_lt, ◌⊎◌, List, [], ◌∷◌, length, refl, sym, ap, subst, ◌∙◌, inl, inr, arith, eqb-true, eq-eqb, ne_eqb, zero-le, suc-le-suc}
 use Rattle.std.proofs.lemmas.Bool.{true≢false, false≢true, eqb-false, ltb-true, lt-ltb, le-ltb}
 use mathlib.Core.Path.{fun_ext}
-use Rattle.tree_theory.specs.Assignments.{Position, PositionSet, Assignment, Label, IsWithin, IsFiniteSet, IsFinite, Covers, half, root_label, empty_label, with_track, replace, HasAtMost, no_positions, only_below}
+use Rattle.tree_theory.specs.Assignments.{Position, PositionSet, Assignment, Label, IsWithin, IsFiniteSet, IsFinite, Covers, half, root_label, empty_label, with_track, replace, HasAtMost, no_positions, empty_assignment, only_below}
 
 -- a deeper depth covers too
 pub IsWithin-more : (n m : ℕ) (set : PositionSet) → n ≤ m → IsWithin n set → IsWithin m set
@@ -42,12 +42,8 @@ joined label l r = λ t. joined_set (label t) (l t) (r t)
 pub Covers-joined : (n : ℕ) (label : Label) (l r : Assignment) → Covers n l → Covers n r → Covers (suc n) (joined label l r)
 Covers-joined n label l r in_l in_r t = IsWithin-joined_set n (label t) (l t) (r t) (in_l t) (in_r t)
 
--- the assignment without positions
-abbrev pub nothing : Assignment
-nothing = λ t p. false
-
-pub Covers-nothing : Covers 0 nothing
-Covers-nothing t p deep = refl
+pub Covers-empty : Covers 0 empty_assignment
+Covers-empty t p deep = refl
 
 -- replacing a track's set
 pub Covers-replace : (n : ℕ) (a : Assignment) (t : ℕ) (set : PositionSet) → Covers n a → IsWithin n set → Covers n (replace a t set)

@@ -1,11 +1,11 @@
 -- On values: the depth is free once it covers, and complements, pairs and names.
 use Rattle.std.proofs.Common.{◌≡◌, ◌≢◌, ℕ, zero, suc, ◌+◌, ◌-◌, ◌<◌, ◌≤◌, max, Bool, true, false, not, ◌&&◌, cond, IsTrue, ◌↔◌, ◌⊎◌, List, [], ◌∷◌, length, refl, sym, ap, subst, ◌∙◌, inl, inr, arith}
 use Rattle.std.proofs.lemmas.Bool.{true≢false, false≢true, both_ways, not-true}
-use Rattle.tree_theory.specs.Assignments.{Position, PositionSet, Assignment, Label, IsWithin, Covers, half, root_label, empty_label}
+use Rattle.tree_theory.specs.Assignments.{Position, PositionSet, Assignment, Label, IsWithin, Covers, half, root_label, empty_assignment, empty_label}
 use Rattle.tree_theory.specs.Guides.{Spaces, IsSpace, IsGuide, left, right}
 use Rattle.tree_theory.specs.Automata.{Automaton, value, IsStable, Accepts, IsValue}
 use Rattle.tree_theory.specs.Constructions.{complement, pairs, IsReached, IsClosed, IsNaming, IsOnce, IsProduct}
-use Rattle.tree_theory.proofs.AssignmentsLemmas.{Covers-half, Covers-half_same, Covers-more, root_label-covered, joined, Covers-joined, nothing, Covers-nothing}
+use Rattle.tree_theory.proofs.AssignmentsLemmas.{Covers-half, Covers-half_same, Covers-more, root_label-covered, joined, Covers-joined, Covers-empty}
 
 -- k more
 up : ℕ → ℕ → ℕ
@@ -51,7 +51,7 @@ module _ {Q : Type 0} (g : Spaces) (guide : IsGuide g) (A : Automaton Q) (stable
   -- the values are closed under steps
   pub IsClosed-values : IsClosed g A (IsValue g A)
   IsClosed-values = record {
-    initial = λ s there. record { assignment = nothing; depth = 0; covers = Covers-nothing; is_value = refl };
+    initial = λ s there. record { assignment = empty_assignment; depth = 0; covers = Covers-empty; is_value = refl };
     step = λ s p q label there l r.
         let n : ℕ = max l.depth r.depth in
         let in_l : Covers n l.assignment = Covers-more l.depth n l.assignment (omega arith) l.covers in
@@ -171,11 +171,11 @@ module _ {Q R : Type 0} (g : Spaces) (guide : IsGuide g) (A : Automaton Q) (has 
     (name : ℕ → Q → R) (reached : IsReached g A has) (naming : IsNaming g A has B name) where
   named-initial : (s : ℕ) → IsSpace g s → has s (A.initial s)
   named-initial s there = (reached.state s _ there).1
-      (record { assignment = nothing; depth = 0; covers = Covers-nothing; is_value = refl })
+      (record { assignment = empty_assignment; depth = 0; covers = Covers-empty; is_value = refl })
 
   named-step : (s : ℕ) → IsSpace g s → has s (A.step s (A.initial (left g s)) (A.initial (right g s)) empty_label)
   named-step s there = (reached.state s _ there).1
-      (record { assignment = nothing; depth = 1; covers = λ u p deep. refl; is_value = refl })
+      (record { assignment = empty_assignment; depth = 1; covers = λ u p deep. refl; is_value = refl })
 
   pub IsStable-named : IsOnce g has name → IsStable g B → IsStable g A
   IsStable-named once stable = record {

@@ -1,4 +1,5 @@
 pub mod AssignmentsLemmas
 pub mod AutomataLemmas
+pub mod ListedLemmas
 pub mod MinimalLemmas
 pub mod SubsetLemmas

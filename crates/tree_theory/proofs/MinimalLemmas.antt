@@ -2,12 +2,12 @@
 use Rattle.std.proofs.Common.{◌≡◌, ◌≢◌, ℕ, zero, suc, ◌+◌, ◌-◌, ◌<◌, ◌≤◌, max, Bool, true, false, IsTrue, ◌↔◌, ◌⊎◌, inl, inr, List, [], ◌∷◌, ◌++◌, length, refl, sym, ap, subst, ◌∙◌, arith}
 use Rattle.std.proofs.lemmas.Bool.{cases_eq}
 use Rattle.std.specs.Bool.{one_answer}
-use Rattle.tree_theory.specs.Assignments.{Position, Assignment, Label, Covers, half, root_label, empty_label}
+use Rattle.tree_theory.specs.Assignments.{Position, Assignment, Label, Covers, half, root_label, empty_assignment, empty_label}
 use Rattle.tree_theory.specs.Guides.{Spaces, IsSpace, IsGuide, left, right, space_at}
 use Rattle.tree_theory.specs.Automata.{Automaton, value, IsStable, Accepts, IsValue}
 use Rattle.tree_theory.specs.Constructions.{IsReached, IsClosed, IsNaming, IsOnce}
 use Rattle.tree_theory.specs.Minimal.{value_with, AreToldApart, IsMinimal, AreSeparated, at_root, below_left, below_right, AreTwins, AreAlike}
-use Rattle.tree_theory.proofs.AssignmentsLemmas.{Covers-half_same, Covers-more, joined, Covers-joined, nothing, Covers-nothing}
+use Rattle.tree_theory.proofs.AssignmentsLemmas.{Covers-half_same, Covers-more, joined, Covers-joined, Covers-empty}
 use Rattle.tree_theory.proofs.AutomataLemmas.{value-same, Accepts-at, IsClosed-reached, value-has, name-value}
 
 -- the depth with a position's length added
@@ -120,19 +120,19 @@ module _ {Q : Type 0} (g : Spaces) (guide : IsGuide g) (A : Automaton Q) (stable
   -- what is separated is told apart
   pub AreToldApart-from_separated : (s : ℕ) (p q : Q) → AreSeparated g A s p q → AreToldApart g A s p q
   AreToldApart-from_separated _ _ _ (at_root p q differs) = record {
-    hole = []; assignment = nothing; depth = 0; covers = Covers-nothing; is_there = refl; differs = differs;
+    hole = []; assignment = empty_assignment; depth = 0; covers = Covers-empty; is_there = refl; differs = differs;
   }
   AreToldApart-from_separated _ _ _ (below_left s p q beside label there v rest) =
-      told-below s false p q _ _ label (joined label nothing v.assignment) (suc v.depth)
-        (Covers-joined v.depth label nothing v.assignment (λ u r deep. refl) v.covers)
+      told-below s false p q _ _ label (joined label empty_assignment v.assignment) (suc v.depth)
+        (Covers-joined v.depth label empty_assignment v.assignment (λ u r deep. refl) v.covers)
         (AreToldApart-from_separated s _ _ rest)
         (λ d deep. ap (λ y. A.step s p y label) (value-same g guide A stable (right g s) d v.depth v.assignment (guide.right_inside s there)
           (Covers-more v.depth d v.assignment (omega arith) v.covers) v.covers ∙ v.is_value))
         (λ d deep. ap (λ y. A.step s q y label) (value-same g guide A stable (right g s) d v.depth v.assignment (guide.right_inside s there)
           (Covers-more v.depth d v.assignment (omega arith) v.covers) v.covers ∙ v.is_value))
   AreToldApart-from_separated _ _ _ (below_right s p q beside label there v rest) =
-      told-below s true p q _ _ label (joined label v.assignment nothing) (suc v.depth)
-        (Covers-joined v.depth label v.assignment nothing v.covers (λ u r deep. refl))
+      told-below s true p q _ _ label (joined label v.assignment empty_assignment) (suc v.depth)
+        (Covers-joined v.depth label v.assignment empty_assignment v.covers (λ u r deep. refl))
         (AreToldApart-from_separated s _ _ rest)
         (λ d deep. ap (λ y. A.step s y p label) (value-same g guide A stable (left g s) d v.depth v.assignment (guide.left_inside s there)
           (Covers-more v.depth d v.assignment (omega arith) v.covers) v.covers ∙ v.is_value))
@@ -217,7 +217,7 @@ module _ {Q R : Type 0} (decide_Q : (p q : Q) → (p ≡ q) ⊎ (p ≢ q)) (deci
               (twins-turned g A B s p r one) (twins-turned g A B s q r other)
               (of_A.apart s p q is_space (first-has s p r is_space one) (first-has s q r is_space other) is_not))
         ];
-    initial = λ s is_space. record { assignment = nothing; depth = 0; covers = Covers-nothing; first = refl; second = refl };
+    initial = λ s is_space. record { assignment = empty_assignment; depth = 0; covers = Covers-empty; first = refl; second = refl };
     step = λ s p q x y label is_space l r.
         let n : ℕ = max l.depth r.depth in
         let in_l : Covers n l.assignment = Covers-more l.depth n l.assignment (omega arith) l.covers in

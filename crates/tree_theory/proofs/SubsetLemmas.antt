@@ -2,11 +2,11 @@
 use Rattle.std.proofs.Common.{◌≡◌, ◌≢◌, ℕ, zero, suc, ◌+◌, ◌-◌, ◌<◌, ◌≤◌, max, Bool, true, false, cond, eqb, IsTrue, ◌↔◌, List, [], ◌∷◌, length, refl, sym, ap, subst, ◌∙◌, arith, eqb-true}
 use Rattle.std.proofs.lemmas.Bool.{eqb-false}
 use mathlib.Core.Path.{fun_ext}
-use Rattle.tree_theory.specs.Assignments.{Position, PositionSet, Assignment, Label, IsWithin, IsFiniteSet, Covers, half, root_label, empty_label, with_track, replace, HasAtMost, no_positions}
+use Rattle.tree_theory.specs.Assignments.{Position, PositionSet, Assignment, Label, IsWithin, IsFiniteSet, Covers, half, root_label, empty_assignment, empty_label, with_track, replace, HasAtMost, no_positions}
 use Rattle.tree_theory.specs.Guides.{Spaces, IsSpace, IsGuide, left, right}
 use Rattle.tree_theory.specs.Automata.{Automaton, value, IsStable, Accepts, IsValue}
 use Rattle.tree_theory.specs.Constructions.{IsClosed, Settled, starts, steps, IsStepOf, HasAccepting, IsSubset}
-use Rattle.tree_theory.proofs.AssignmentsLemmas.{IsWithin-more, Covers-half, Covers-half_same, Covers-more, Covers-replace, IsWithin-replaced, joined_set, IsWithin-joined_set, nothing, Covers-nothing}
+use Rattle.tree_theory.proofs.AssignmentsLemmas.{IsWithin-more, Covers-half, Covers-half_same, Covers-more, Covers-replace, IsWithin-replaced, joined_set, IsWithin-joined_set, Covers-empty}
 use Rattle.tree_theory.proofs.AutomataLemmas.{value-same, Accepts-at, IsClosed-reached, value-has}
 
 -- a label with at most one track is the empty one with that track as it stands
@@ -127,11 +127,11 @@ module _ {Q R : Type 0} (g : Spaces) (guide : IsGuide g) (A : Automaton Q) (stab
     (B : Automaton R) (has : ℕ → R → Type 0) (member : ℕ → R → Q → Type 0) (subset : IsSubset g A t B has member) where
   has-initial : (s : ℕ) → IsSpace g s → has s (B.initial s)
   has-initial s there = ((subset.reached).state s _ there).1
-      (record { assignment = nothing; depth = 0; covers = Covers-nothing; is_value = refl })
+      (record { assignment = empty_assignment; depth = 0; covers = Covers-empty; is_value = refl })
 
   has-step : (s : ℕ) → IsSpace g s → has s (B.step s (B.initial (left g s)) (B.initial (right g s)) empty_label)
   has-step s there = ((subset.reached).state s _ there).1
-      (record { assignment = nothing; depth = 1; covers = λ u p deep. refl; is_value = refl })
+      (record { assignment = empty_assignment; depth = 1; covers = λ u p deep. refl; is_value = refl })
 
   -- the subset automaton is stable
   pub IsStable-subset : IsStable g B

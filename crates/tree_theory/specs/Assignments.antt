@@ -31,6 +31,10 @@ IsOnly set u = (p : Position) → IsTrue (set p) ↔ (p ≡ u)
 abbrev pub Assignment : Type 0
 Assignment = ℕ → PositionSet
 
+-- the assignment without positions
+abbrev pub empty_assignment : Assignment
+empty_assignment = λ t. no_positions
+
 -- each track has a finite set
 abbrev pub IsFinite : Assignment → Type 0
 IsFinite a = (t : ℕ) → IsFiniteSet (a t)

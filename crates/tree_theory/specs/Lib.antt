@@ -2,4 +2,5 @@ pub mod Assignments
 pub mod Automata
 pub mod Constructions
 pub mod Guides
+pub mod Listed
 pub mod Minimal
