@@ -2,8 +2,13 @@
 #![tactic(auto)]
 
 mod formula;
+mod guide;
+mod label_tree;
+mod size;
 mod track;
 
 pub use deep_box::Boxed;
 pub use formula::Formula;
+pub use guide::{Guide, SpaceList};
+pub use label_tree::{LabelTree, TreeNode, TreeNodeList};
 pub use track::{Track, TrackList};

@@ -1,0 +1,61 @@
+//! How many nodes a formula has, counted without memory and without deep recursion.
+
+ghost use Rattle.std.specs.Prelude.{◌≡◌, ◌+◌, ◌<◌, ◌≤◌, min, max, ℕ, IfSome, IfNone, OnNone};
+ghost use Rattle.ws2s_core.specs.Sizes.{node_count, strahler_order};
+
+use crate::formula::Formula;
+
+impl Formula {
+    /// The number of nodes, or 18,446,744,073,709,551,615 where there are more.
+    ///
+    /// Takes no memory, and a stack of at most 64 levels, however deep the formula is: of the two halves of a
+    /// conjunction the simpler one is counted by a call, and the other one by going on.
+    pub fn size(&self) -> u64
+        ensures { result ≡ min (node_count self.now) 18446744073709551615 }
+    {
+        for order in 0..64 {
+            if let Some(size) = self.size_to_order(order) {
+                return size;
+            }
+        }
+        u64::MAX
+    }
+
+    /// The size of a formula whose order is at most this.
+    #[cycle(counting)]
+    fn size_to_order(&self, order: u32) -> Option<u64>
+        ensures some { IfSome result (λ size. size ≡ min (node_count self.now) 18446744073709551615) }
+        ensures none { IfNone result (order < strahler_order self.now) }
+    {
+        let mut formula = self;
+        let mut counted = 0u64;
+        loop {
+            counted = counted.saturating_add(1);
+            match formula {
+                Formula::And(left, right) => {
+                    let (size, other) = Formula::simpler_half(left.get(), right.get(), order)?;
+                    counted = counted.saturating_add(size);
+                    formula = other;
+                }
+                Formula::Not(inner) => formula = inner.get(),
+                Formula::Ex2(_, inner) => formula = inner.get(),
+                _ => return Some(counted),
+            }
+        }
+    }
+
+    /// The size of one of the two whose order is below this, and the other one.
+    #[cycle(counting)]
+    fn simpler_half<'a>(left: &'a Formula, right: &'a Formula, order: u32) -> Option<(u64, &'a Formula)>
+    {
+        for lower in 0..order {
+            if let Some(size) = left.size_to_order(lower) {
+                return Some((size, right));
+            }
+            if let Some(size) = right.size_to_order(lower) {
+                return Some((size, left));
+            }
+        }
+        None
+    }
+}
