@@ -1,3 +1,4 @@
+pub mod Counting
 pub mod Judging
 pub mod Meaning
 pub mod Reading

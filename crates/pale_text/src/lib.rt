@@ -3,10 +3,18 @@
 //! The parsers of both languages stand on `lex` and on these types, and no crate above looks at how bytes are read.
 #![tactic(auto)]
 
+mod front;
+mod laws;
+mod lexer;
+mod piece;
 mod place;
 mod refusal;
+#[cfg(test)]
+mod tests;
 mod token;
 
+pub use laws::{stray_byte_is_one, tokens_are_one};
+pub use lexer::lex;
 pub use place::{Pos, Span};
 pub use refusal::{Refusal, RefusalKind, TextStop};
 pub use token::{ByteList, Mark, Token, TokenKind, TokenList};

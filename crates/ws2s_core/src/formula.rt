@@ -2,7 +2,7 @@ ghost use Rattle.std.specs.Prelude.{◌≡◌, ◌+◌, ◌*◌, ◌<◌};
 ghost use Rattle.ws2s_core.specs.Dropping.{turning_weight, dropping_rank};
 
 use crate::track::Track;
-use deep_box::Boxed;
+use plain_data::Boxed;
 
 /// A core formula.
 #[derive(Debug)]

@@ -3,7 +3,7 @@
 ghost use Rattle.std.specs.Prelude.{◌≡◌, [], ◌∷◌, IfOk, slice_get, length};
 ghost use Rattle.tree_theory.specs.Guides.{IsGuide};
 
-use sqlite_items::Items;
+use plain_data::Items;
 use std::alloc::{AllocError, Global};
 use std::marker::Model;
 

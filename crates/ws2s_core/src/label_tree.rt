@@ -4,7 +4,7 @@ ghost use Rattle.std.specs.Prelude.{◌≡◌};
 ghost use Rattle.ws2s_core.specs.LabelTrees.{IsTree};
 
 use crate::track::TrackList;
-use sqlite_items::Items;
+use plain_data::Items;
 use std::marker::Model;
 
 /// A node of a tree: the tracks that hold its position, and the places of its children in the list of nodes.

@@ -7,7 +7,7 @@ mod label_tree;
 mod size;
 mod track;
 
-pub use deep_box::Boxed;
+pub use plain_data::Boxed;
 pub use formula::Formula;
 pub use guide::{Guide, SpaceList};
 pub use label_tree::{LabelTree, TreeNode, TreeNodeList};

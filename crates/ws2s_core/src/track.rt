@@ -1,6 +1,6 @@
 //! Tracks: the numbers of the variables of a formula.
 
-use sqlite_items::Items;
+use plain_data::Items;
 
 /// The number of a track, which stands for a set of positions.
 #[derive(Clone, Copy, Debug, PartialEq, Eq, PartialOrd, Ord, Hash)]

@@ -1,0 +1,4 @@
+pub mod Fronts
+pub mod LexLemmas
+pub mod PieceLemmas
+pub mod ReadingLemmas
