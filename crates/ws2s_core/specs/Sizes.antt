@@ -1,5 +1,5 @@
 -- How large a formula is.
-use Rattle.std.specs.Prelude.{ℕ, ◌+◌, max, if◌then◌else◌, ◌==◌}
+use Rattle.std.specs.Prelude.{◌≡◌, ℕ, ◌+◌, ◌-◌, ◌≤◌, min, max, if◌then◌else◌, ◌==◌}
 use Rattle.ws2s_core.specs.declared.formula.Formula.{Formula}
 use Rattle.ws2s_core.specs.declared.formula.Formula.TheOpen.{Formula-F}
 use Rattle.ws2s_core.specs.declared.formula.Formula.TheFolds.{fold-Formula}
@@ -32,3 +32,16 @@ order_of_node (Formula-F.Ex2 t f) = f
 -- half of the smaller order is counted first (Ershov 1958)
 abbrev pub strahler_order : Formula → ℕ
 strahler_order = fold-Formula ℕ order_of_node
+
+-- one half was counted, to the greatest number that is kept, and the other one is left
+pub record IsHalfCounted (left right : Formula) (size : ℕ) (other : Formula) : Type 0 where
+  pub counted : ℕ
+  pub saturated : size ≡ min counted 18446744073709551615
+  pub whole : counted + node_count other ≡ node_count left + node_count right
+  pub no_harder : strahler_order other ≤ max (strahler_order left) (strahler_order right)
+
+-- so many nodes were counted, to the greatest number that is kept, and this part of the formula is left
+pub record IsCountedTo (whole part : Formula) (size : ℕ) : Type 0 where
+  pub within : node_count part ≤ node_count whole
+  pub saturated : size ≡ min (node_count whole - node_count part) 18446744073709551615
+  pub no_harder : strahler_order part ≤ strahler_order whole

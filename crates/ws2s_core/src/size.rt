@@ -1,7 +1,7 @@
 //! How many nodes a formula has, counted without memory and without deep recursion.
 
-ghost use Rattle.std.specs.Prelude.{◌≡◌, ◌+◌, ◌<◌, ◌≤◌, min, max, ℕ, IfSome, IfNone, OnNone};
-ghost use Rattle.ws2s_core.specs.Sizes.{node_count, strahler_order};
+ghost use Rattle.std.specs.Prelude.{◌≡◌, ◌+◌, ◌<◌, ◌≤◌, min, max, ℕ, IfSome, IfNone};
+ghost use Rattle.ws2s_core.specs.Sizes.{node_count, strahler_order, IsHalfCounted};
 
 use crate::formula::Formula;
 
@@ -47,6 +47,9 @@ impl Formula {
     /// The size of one of the two whose order is below this, and the other one.
     #[cycle(counting)]
     fn simpler_half<'a>(left: &'a Formula, right: &'a Formula, order: u32) -> Option<(u64, &'a Formula)>
+        ensures some { IfSome result (λ found. IsHalfCounted left.now right.now found.0 found.1.now) }
+        ensures none_left { IfNone result (order ≤ strahler_order left.now) }
+        ensures none_right { IfNone result (order ≤ strahler_order right.now) }
     {
         for lower in 0..order {
             if let Some(size) = left.size_to_order(lower) {
