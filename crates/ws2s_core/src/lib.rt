@@ -4,6 +4,7 @@
 mod formula;
 mod guide;
 mod label_tree;
+mod postfix;
 mod size;
 mod track;
 
