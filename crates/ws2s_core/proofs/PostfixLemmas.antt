@@ -1,5 +1,5 @@
 -- On formulas in postfix order.
-use Rattle.std.proofs.Common.{◌≡◌, ℕ, ◌+◌, ◌<◌, List, [], ◌∷◌, ◌++◌, map, reverse, flat_map, sum_by, Option, Some, None, option_map, option_and_then, refl, sym, ap, subst, ◌∙◌, arith, append_assoc, append-nil}
+use Rattle.std.proofs.Common.{◌≡◌, ℕ, ◌+◌, ◌<◌, List, [], ◌∷◌, ◌++◌, map, reverse, flat_map, length, drop, get_or, sum_by, IsSome, Option, Some, None, option_map, option_and_then, drop-cons, rules, suc, refl, sym, ap, subst, ◌∙◌, arith, append_assoc, append-nil}
 use Rattle.std.proofs.lemmas.List.{reverse-append}
 use Rattle.std.proofs.lemmas.List.Concat.{flat_map-append}
 use Rattle.ws2s_core.specs.declared.track.Track.{Track}
@@ -89,3 +89,14 @@ run_on-postfix = formula-induction
 
 pub run_on-whole : (f : Formula) → run_on (postfix_of f) [] ≡ Some (f ∷ [])
 run_on-whole f = ap (λ s. run_on s []) (sym (append-nil (postfix_of f))) ∙ run_on-postfix f [] []
+
+-- where a run ends well, its next symbol has its parts
+some-before : {A B : Type 0} (o : Option A) (k : A → Option B) (b : B) → option_and_then k o ≡ Some b → IsSome o
+some-before None k b e = absurd cc
+some-before (Some a) k b e = search rules
+
+pub applied-next : (symbols : List Symbol) (k : ℕ) (d : Symbol) (parts end : List Formula) → k < length symbols →
+    run_on (drop k symbols) parts ≡ Some end → IsSome (applied (get_or symbols k d) parts)
+applied-next symbols k d parts end inside h =
+    some-before (applied (get_or symbols k d) parts) (run_on (drop (suc k) symbols)) end
+      (sym (ap (λ s. run_on s parts) (drop-cons symbols k d inside)) ∙ h)

@@ -1,6 +1,7 @@
 //! Core formulas of WS2S, labelled trees and guides.
 #![tactic(auto)]
 
+mod copy;
 mod formula;
 mod guide;
 mod label_tree;
