@@ -1,4 +1,5 @@
 pub mod FormulaLemmas
+pub mod NodesLemmas
 pub mod PostfixLemmas
 pub mod RecognisingLemmas
 pub mod SatisfactionLemmas

@@ -1,5 +1,6 @@
 pub mod Dropping
 pub mod LabelTrees
+pub mod Nodes
 pub mod Postfix
 pub mod Recognising
 pub mod Satisfaction

@@ -1,0 +1,51 @@
+-- Formulas that are kept as nodes over the numbers of others, each formula once.
+use Rattle.std.specs.Prelude.{◌≡◌, ℕ, ◌<◌, ◌≤◌, List, [], ◌∷◌, length, slice_get, unwrap_or, Option, Some, All}
+use Rattle.std.specs.HashMap.{HashMap, get}
+use Rattle.std.specs.declared.hash.BuildHasherDefault.{BuildHasherDefault}
+use Rattle.std.specs.declared.hash.FoldHasher.{FoldHasher}
+use Rattle.tree_theory.specs.Listed.{meanings}
+use Rattle.ws2s_core.specs.declared.formula.Formula.{Formula, roll-Formula}
+use Rattle.ws2s_core.specs.declared.formula.Formula.TheVariants.{Root}
+use Rattle.ws2s_core.specs.declared.formula.Formula.TheOpen.{Formula-F}
+use Rattle.ws2s_core.specs.declared.formula.Formula.TheFolds.{map-Formula}
+use Rattle.ws2s_core.specs.declared.node.Node.{Node}
+use Rattle.ws2s_core.specs.contracts.node.NodePartialEq.TheImpl as node_eq
+use Rattle.ws2s_core.specs.Postfix.{parts_of}
+
+-- the form of a node, over numbers
+abbrev pub form_of : Node → Formula-F ℕ
+form_of (Node.Sub x y) = Formula-F.Sub x y
+form_of (Node.Single x) = Formula-F.Single x
+form_of (Node.Succ0 x y) = Formula-F.Succ0 x y
+form_of (Node.Succ1 x y) = Formula-F.Succ1 x y
+form_of (Node.Root x) = Formula-F.Root x
+form_of (Node.And f g) = Formula-F.And f g
+form_of (Node.Not f) = Formula-F.Not f
+form_of (Node.Ex2 t f) = Formula-F.Ex2 t f
+
+-- the formula with a number; one that isn't there has none, and counts as `Root 0`
+abbrev pub formula_at : List Formula → ℕ → Formula
+formula_at formulas k = unwrap_or (slice_get formulas k) (Root (record { 0 = 0 }))
+
+-- the formula of a node, by those before it
+abbrev pub formula_of_node : List Formula → Node → Formula
+formula_of_node earlier node = roll-Formula (map-Formula ℕ Formula (formula_at earlier) (form_of node))
+
+-- the formulas of the nodes
+abbrev pub formulas_of : List Node → List Formula
+formulas_of = meanings formula_of_node
+
+-- the parts of a node have numbers below k
+abbrev pub HasPartsBelow : ℕ → Node → Type 0
+HasPartsBelow k node = All (λ part. part < k) (parts_of (form_of node))
+
+-- no formula has two numbers
+pub record IsOnceEach (formulas : List Formula) : Type 0 where
+  pub once : (i j : ℕ) (f : Formula) → slice_get formulas i ≡ Some f → slice_get formulas j ≡ Some f → i ≡ j
+
+-- the map has the place of each node, and nothing else; and the parts of a node stand before it
+pub record IsIndexed (nodes : List Node) (places : HashMap Node ℕ (BuildHasherDefault FoldHasher)) : Type 0 where
+  pub few : length nodes ≤ 4294967296
+  pub earlier : (k : ℕ) (node : Node) → slice_get nodes k ≡ Some node → HasPartsBelow k node
+  pub found : (k : ℕ) (node : Node) → slice_get nodes k ≡ Some node → get (node_eq.ghosts).eq places node ≡ Some k
+  pub sound : (k : ℕ) (node : Node) → get (node_eq.ghosts).eq places node ≡ Some k → slice_get nodes k ≡ Some node
