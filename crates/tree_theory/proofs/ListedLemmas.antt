@@ -1,5 +1,5 @@
 -- On lists whose nodes name earlier ones.
-use Rattle.std.proofs.Common.{◌≡◌, ℕ, zero, suc, ◌+◌, ◌<◌, ◌≤◌, List, [], ◌∷◌, ◌++◌, length, take, drop, fold, Option, Some, None, slice_get, refl, sym, ap, ◌∙◌, subst, arith, append_assoc, append-nil, length-append}
+use Rattle.std.proofs.Common.{◌≡◌, ℕ, zero, suc, ◌+◌, ◌<◌, ◌≤◌, ◌⊎◌, inl, inr, List, [], ◌∷◌, ◌++◌, length, take, drop, fold, Option, Some, None, slice_get, refl, sym, ap, ◌∙◌, subst, arith, append_assoc, append-nil, length-append}
 use Rattle.tree_theory.specs.Listed.{meanings}
 
 module _ {N M : Type 0} (meaning : List M → N → M) where
@@ -28,3 +28,62 @@ module _ {N M : Type 0} (meaning : List M → N → M) where
 
   pub length-meanings : (xs : List N) → length (meanings meaning xs) ≡ length xs
   length-meanings xs = let all = meanings_from-front [] xs in ap length all.2 ∙ all.1
+
+-- elements in front, and at the end
+pub slice_get-front : {X : Type 0} (xs ys : List X) (k : ℕ) → k < length xs → slice_get (xs ++ ys) k ≡ slice_get xs k
+slice_get-front [] ys k inside = absurd (omega arith)
+slice_get-front (x ∷ xs) ys zero inside = refl
+slice_get-front (x ∷ xs) ys (suc k) inside = slice_get-front xs ys k (omega arith)
+
+pub slice_get-last : {X : Type 0} (xs : List X) (y : X) → slice_get (xs ++ y ∷ []) (length xs) ≡ Some y
+slice_get-last [] y = refl
+slice_get-last (x ∷ xs) y = slice_get-last xs y
+
+pub slice_get-push : {X : Type 0} (xs : List X) (y z : X) (k : ℕ) → slice_get (xs ++ y ∷ []) k ≡ Some z →
+    (slice_get xs k ≡ Some z) ⊎ ((k ≡ length xs) × (y ≡ z))
+slice_get-push [] y z zero e = inr (refl, cc)
+slice_get-push [] y z (suc k) e = absurd cc
+slice_get-push (x ∷ xs) y z zero e = inl e
+slice_get-push (x ∷ xs) y z (suc k) e =
+    elim (slice_get-push xs y z k e) as (λ _. (slice_get xs k ≡ Some z) ⊎ ((suc k ≡ suc (length xs)) × (y ≡ z))) [
+      inl h ↦ inl h
+      | inr h ↦ inr (ap suc h.0, h.1)
+    ]
+
+take-front : {X : Type 0} (xs ys : List X) → take (length xs) (xs ++ ys) ≡ xs
+take-front [] ys = refl
+take-front (x ∷ xs) ys = ap (λ zs. x ∷ zs) (take-front xs ys)
+
+-- what a node means, by what those before it mean
+module _ {N M : Type 0} (meaning : List M → N → M) where
+  meaning-from : (known : List M) (nodes : List N) (k : ℕ) (node : N) → slice_get nodes k ≡ Some node →
+      slice_get (meanings_from meaning known nodes) (length known + k)
+        ≡ Some (meaning (take (length known + k) (meanings_from meaning known nodes)) node)
+  meaning-from known [] k node e = absurd cc
+  meaning-from known (x ∷ nodes) zero node e =
+      let m = meaning known x in
+      let rest = meanings_from-front meaning (known ++ m ∷ []) nodes in
+      let split : meanings_from meaning (known ++ m ∷ []) nodes ≡ known ++ (m ∷ rest.0) = rest.2 ∙ append_assoc known (m ∷ []) rest.0 in
+      let n : length known + 0 ≡ length known = omega arith in
+      let same : x ≡ node = cc in
+      let at : slice_get (meanings_from meaning (known ++ m ∷ []) nodes) (length known + 0) ≡ Some m =
+          ap (λ i. slice_get (meanings_from meaning (known ++ m ∷ []) nodes) i) n
+          ∙ ap (λ zs. slice_get zs (length known)) rest.2
+          ∙ slice_get-front (known ++ m ∷ []) rest.0 (length known) (omega (arith, length-append known (m ∷ [])))
+          ∙ slice_get-last known m in
+      let before : take (length known + 0) (meanings_from meaning (known ++ m ∷ []) nodes) ≡ known =
+          ap (λ i. take i (meanings_from meaning (known ++ m ∷ []) nodes)) n ∙ ap (take (length known)) split ∙ take-front known (m ∷ rest.0) in
+      at ∙ ap (λ y. Some (meaning known y)) same ∙ sym (ap (λ zs. Some (meaning zs node)) before)
+  meaning-from known (x ∷ nodes) (suc k) node e =
+      let m = meaning known x in
+      let h = meaning-from (known ++ m ∷ []) nodes k node e in
+      let n : length (known ++ m ∷ []) + k ≡ length known + suc k = omega (arith, length-append known (m ∷ [])) in
+      subst (λ i. slice_get (meanings_from meaning (known ++ m ∷ []) nodes) i
+        ≡ Some (meaning (take i (meanings_from meaning (known ++ m ∷ []) nodes)) node)) n h
+
+  pub slice_get-meanings : (nodes : List N) (k : ℕ) (node : N) → slice_get nodes k ≡ Some node →
+      slice_get (meanings meaning nodes) k ≡ Some (meaning (take k (meanings meaning nodes)) node)
+  slice_get-meanings nodes k node e =
+      let n : 0 + k ≡ k = omega arith in
+      subst (λ i. slice_get (meanings meaning nodes) i ≡ Some (meaning (take i (meanings meaning nodes)) node)) n
+        (meaning-from [] nodes k node e)

@@ -1,6 +1,7 @@
 -- Formulas that are kept as nodes over the numbers of others, each formula once.
-use Rattle.std.specs.Prelude.{◌≡◌, ℕ, ◌<◌, ◌≤◌, List, [], ◌∷◌, length, slice_get, unwrap_or, Option, Some, All}
-use Rattle.std.specs.HashMap.{HashMap, get}
+use Rattle.std.specs.Prelude.{◌≡◌, ℕ, ◌+◌, ◌<◌, ◌≤◌, List, [], ◌∷◌, ◌++◌, length, map, slice_get, unwrap_or, Option, Some, All, Vec, vec_len, vec_capacity}
+use Rattle.std.specs.declared.alloc.Global.{Global}
+use Rattle.std.specs.HashMap.{HashMap, get, spare}
 use Rattle.std.specs.declared.hash.BuildHasherDefault.{BuildHasherDefault}
 use Rattle.std.specs.declared.hash.FoldHasher.{FoldHasher}
 use Rattle.tree_theory.specs.Listed.{meanings}
@@ -49,3 +50,18 @@ pub record IsIndexed (nodes : List Node) (places : HashMap Node ℕ (BuildHasher
   pub earlier : (k : ℕ) (node : Node) → slice_get nodes k ≡ Some node → HasPartsBelow k node
   pub found : (k : ℕ) (node : Node) → slice_get nodes k ≡ Some node → get (node_eq.ghosts).eq places node ≡ Some k
   pub sound : (k : ℕ) (node : Node) → get (node_eq.ghosts).eq places node ≡ Some k → slice_get nodes k ≡ Some node
+
+-- there is room for so many more nodes, in the list, in the map and among the numbers
+pub record HasRoom (nodes : Vec Node Global) (places : HashMap Node ℕ (BuildHasherDefault FoldHasher)) (more : ℕ) : Type 0 where
+  pub in_list : vec_len nodes + more ≤ vec_capacity nodes
+  pub in_map : more ≤ spare places
+  pub in_numbers : vec_len nodes + more ≤ 4294967296
+
+-- the new list begins with the old one
+pub record Extends {N : Type 0} (old new : List N) : Type 0 where
+  pub more : List N
+  pub is : new ≡ old ++ more
+
+-- the formulas that places stand for
+abbrev pub stands_for : List Node → List ℕ → List Formula
+stands_for nodes places = map (formula_at (formulas_of nodes)) places

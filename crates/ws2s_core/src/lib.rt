@@ -6,6 +6,7 @@ mod formula;
 mod guide;
 mod label_tree;
 mod node;
+mod node_table;
 mod postfix;
 mod size;
 mod track;
