@@ -1,5 +1,6 @@
 pub mod FormulaLemmas
 pub mod NodesLemmas
+pub mod PlacingLemmas
 pub mod PostfixLemmas
 pub mod RecognisingLemmas
 pub mod SatisfactionLemmas

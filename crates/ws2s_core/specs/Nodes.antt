@@ -1,5 +1,5 @@
 -- Formulas that are kept as nodes over the numbers of others, each formula once.
-use Rattle.std.specs.Prelude.{◌≡◌, ℕ, ◌+◌, ◌<◌, ◌≤◌, List, [], ◌∷◌, ◌++◌, length, map, slice_get, unwrap_or, Option, Some, All, Vec, vec_len, vec_capacity}
+use Rattle.std.specs.Prelude.{◌≡◌, ℕ, ◌+◌, ◌<◌, ◌≤◌, List, [], ◌∷◌, ◌++◌, length, map, reverse, slice_get, unwrap_or, Option, Some, All, Vec, vec_len, vec_capacity}
 use Rattle.std.specs.declared.alloc.Global.{Global}
 use Rattle.std.specs.HashMap.{HashMap, get, spare}
 use Rattle.std.specs.declared.hash.BuildHasherDefault.{BuildHasherDefault}
@@ -11,7 +11,8 @@ use Rattle.ws2s_core.specs.declared.formula.Formula.TheOpen.{Formula-F}
 use Rattle.ws2s_core.specs.declared.formula.Formula.TheFolds.{map-Formula}
 use Rattle.ws2s_core.specs.declared.node.Node.{Node}
 use Rattle.ws2s_core.specs.contracts.node.NodePartialEq.TheImpl as node_eq
-use Rattle.ws2s_core.specs.Postfix.{parts_of}
+use Rattle.ws2s_core.specs.Postfix.{parts_of, run_on}
+use Rattle.ws2s_core.specs.declared.postfix.Symbol.{Symbol}
 
 -- the form of a node, over numbers
 abbrev pub form_of : Node → Formula-F ℕ
@@ -65,3 +66,12 @@ pub record Extends {N : Type 0} (old new : List N) : Type 0 where
 -- the formulas that places stand for
 abbrev pub stands_for : List Node → List ℕ → List Formula
 stands_for nodes places = map (formula_at (formulas_of nodes)) places
+
+-- in the walk over a formula's symbols: the table grew from what it was, the parts are places in it, and the symbols
+-- that are left make the formula of what the parts stand for
+pub record IsPlacedTo (before now : List Node) (places : HashMap Node ℕ (BuildHasherDefault FoldHasher))
+    (parts : List ℕ) (left : List Symbol) (formula : Formula) : Type 0 where
+  pub indexed : IsIndexed now places
+  pub kept : Extends before now
+  pub inside : All (λ part. part < length now) parts
+  pub makes : run_on left (stands_for now (reverse parts)) ≡ Some (formula ∷ [])

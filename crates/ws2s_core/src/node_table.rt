@@ -76,7 +76,9 @@ fn place_of(table: &mut NodeTable, node: Node) -> u32
 /// The node that a symbol makes of the last parts, which are taken off.
 fn node_of(parts: &mut Vec<u32>, symbol: Symbol) -> Node
     requires { IsSome (taken symbol (reverse parts.old.items)) }
-    ensures { taken symbol (reverse parts.old.items) ≡ Some (form_of result, reverse parts.new.items) }
+    ensures value { taken symbol (reverse parts.old.items) ≡ Some (form_of result, reverse parts.new.items) }
+    ensures len { vec_len parts.new ≤ vec_len parts.old }
+    ensures capacity { vec_capacity parts.old ≤ vec_capacity parts.new }
 {
     match symbol {
         Symbol::Sub(x, y) => Node::Sub(x, y),
@@ -92,4 +94,47 @@ fn node_of(parts: &mut Vec<u32>, symbol: Symbol) -> Node
         Symbol::Not => Node::Not(parts.pop().unwrap()),
         Symbol::Ex2(t) => Node::Ex2(t, parts.pop().unwrap()),
     }
+}
+
+/// Puts the place of the node that a symbol makes of the last parts in their place.
+fn place_symbol(table: &mut NodeTable, parts: &mut Vec<u32>, symbol: Symbol)
+    requires indexed { IsIndexed table.old.nodes.items table.old.places }
+    requires room { HasRoom table.old.nodes table.old.places 1 }
+    requires room_parts { vec_len parts.old < vec_capacity parts.old }
+    requires inside { All (λ part. part < length table.old.nodes.items) parts.old.items }
+    requires can { IsSome (taken symbol (reverse parts.old.items)) }
+    ensures indexed { IsIndexed table.new.nodes.items table.new.places }
+    ensures kept { Extends table.old.nodes.items table.new.nodes.items }
+    ensures room { (more : ℕ) → HasRoom table.old.nodes table.old.places (more + 1) →
+        HasRoom table.new.nodes table.new.places more }
+    ensures inside { All (λ part. part < length table.new.nodes.items) parts.new.items }
+    ensures value { applied symbol (stands_for table.new.nodes.items (reverse parts.old.items))
+        ≡ Some (stands_for table.new.nodes.items (reverse parts.new.items)) }
+    ensures len { vec_len parts.new ≤ vec_len parts.old + 1 }
+    ensures capacity { vec_capacity parts.old ≤ vec_capacity parts.new }
+{
+    let node = node_of(parts, symbol);
+    let place = place_of(table, node);
+    match parts.push(place) {
+        Ok(()) => {}
+        Err(_) => unreachable!(),
+    }
+}
+
+/// The place of a formula, whose nodes are put in where they aren't there.
+pub fn place_formula(alloc: Global, table: &mut NodeTable, formula: &Formula) -> Result<u32, AllocError>
+    requires indexed { IsIndexed table.old.nodes.items table.old.places }
+    ensures indexed { IsIndexed table.new.nodes.items table.new.places }
+    ensures kept { Extends table.old.nodes.items table.new.nodes.items }
+    ensures value { IfOk result (λ place. slice_get (formulas_of table.new.nodes.items) place ≡ Some formula.now) }
+    ensures err { OnErr result (table.new.nodes.items ≡ table.old.nodes.items) }
+{
+    let symbols = symbols_of(alloc, formula)?;
+    let mut parts = Vec::with_capacity(alloc, symbols.len())?;
+    reserve(table, symbols.len())?;
+    for symbol in symbols.as_slice() {
+        place_symbol(table, &mut parts, *symbol);
+    }
+    let place = parts.pop().unwrap();
+    Ok(place)
 }
