@@ -321,3 +321,7 @@ IsIndexed-pushed nodes nodes' places places' node place index is room parts abse
 pub slice_get-pushed : (nodes nodes' : List Node) (node : Node) (place : ℕ) → place ≡ length nodes → nodes' ≡ nodes ++ node ∷ [] →
     slice_get nodes' place ≡ Some node
 slice_get-pushed nodes nodes' node place is pushed = ap₂ slice_get pushed is ∙ slice_get-last nodes node
+
+pub Extends-formulas_of : (nodes nodes' : List Node) → Extends nodes nodes' → Extends (formulas_of nodes) (formulas_of nodes')
+Extends-formulas_of nodes nodes' extends =
+    subst (λ (ns : List Node). Extends (formulas_of nodes) (formulas_of ns)) (sym extends.is) (formulas_of-extends nodes extends.more)

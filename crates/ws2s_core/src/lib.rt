@@ -4,6 +4,7 @@
 mod copy;
 mod formula;
 mod guide;
+mod interner;
 mod label_tree;
 mod node;
 mod node_table;
@@ -15,5 +16,6 @@ pub use plain_data::Boxed;
 pub use formula::Formula;
 pub use guide::{Guide, SpaceList};
 pub use node::Node;
+pub use interner::{FormulaId, Interner, intern};
 pub use label_tree::{LabelTree, TreeNode, TreeNodeList};
 pub use track::{Track, TrackList};
