@@ -1,4 +1,6 @@
+pub mod ExamplesLemmas
 pub mod FormulaLemmas
+pub mod LabelTreesLemmas
 pub mod NodesLemmas
 pub mod PlacingLemmas
 pub mod PostfixLemmas

@@ -1,4 +1,5 @@
 pub mod Dropping
+pub mod Examples
 pub mod LabelTrees
 pub mod Nodes
 pub mod Postfix
