@@ -71,7 +71,7 @@ module _ {Q : Type 0} (g : Spaces) (guide : IsGuide g) (A : Automaton Q) (stable
     initial = λ s there. (reached.state s _ there).1 (IsClosed-values.initial s there);
     step = λ s p q label there l r. (reached.state s _ there).1
         (IsClosed-values.step s p q label there
-          ((reached.state _ p (guide.left_inside s there)).0 l) ((reached.state _ q (guide.right_inside s there)).0 r));
+        ((reached.state _ p (guide.left_inside s there)).0 l) ((reached.state _ q (guide.right_inside s there)).0 r));
   }
 
   -- the complement is stable, and accepts exactly what was not accepted
@@ -91,6 +91,7 @@ module _ {Q : Type 0} (g : Spaces) (guide : IsGuide g) (A : Automaton Q) (stable
           both_ways (A.accepting (value g A 0 other.depth a))
           (not-true _ (sym (ap (λ q. not (A.accepting q)) (value-complement 0 other.depth a)) ∙ other.accepted))
           (Accepts-at other.depth a other.covers accepts)
+
       decided : (b : Bool) → A.accepting (value g A 0 n a) ≡ b → (Accepts g A a → ⊥) → Accepts g (complement A) a
       decided true is other = absurd (other (record { depth = n; covers = covers; accepted = is }))
       decided false is other = record {
@@ -98,6 +99,7 @@ module _ {Q : Type 0} (g : Spaces) (guide : IsGuide g) (A : Automaton Q) (stable
         covers = covers;
         accepted = ap (λ q. not (A.accepting q)) (value-complement 0 n a) ∙ ap not is;
       }
+
       back : (Accepts g A a → ⊥) → Accepts g (complement A) a
       back other = decided (A.accepting (value g A 0 n a)) refl other
 
@@ -127,9 +129,11 @@ Accepts-pairs g guide A B of_A of_B a = (there, back)
   where
     there : Accepts g (pairs A B) a → Accepts g A a × Accepts g B a
     there accepts =
-        let both = and-true _ _ (sym (ap (λ q. (pairs A B).accepting q) (value-pairs g A B 0 accepts.depth a)) ∙ accepts.accepted) in
-        (record { depth = accepts.depth; covers = accepts.covers; accepted = both.0 },
-         record { depth = accepts.depth; covers = accepts.covers; accepted = both.1 })
+        let both = and-true _ _ (sym (ap (λ q. (pairs A B).accepting q) (value-pairs g A B 0 accepts.depth a)) ∙ accepts.accepted) in (
+          record { depth = accepts.depth; covers = accepts.covers; accepted = both.0 },
+          record { depth = accepts.depth; covers = accepts.covers; accepted = both.1 },
+        )
+
     back : Accepts g A a × Accepts g B a → Accepts g (pairs A B) a
     back both = record {
       depth = (both.0).depth;
@@ -151,20 +155,21 @@ module _ {Q R : Type 0} (g : Spaces) (guide : IsGuide g) (A : Automaton Q) (has 
   name-value s zero a there = naming.initial s there
   name-value s (suc n) a there =
       naming.step s _ _ (root_label a) there
-        (value-has (left g s) n (half false a) (guide.left_inside s there))
-        (value-has (right g s) n (half true a) (guide.right_inside s there))
+      (value-has (left g s) n (half false a) (guide.left_inside s there))
+      (value-has (right g s) n (half true a) (guide.right_inside s there))
       ∙ (λ i. B.step s
-          (name-value (left g s) n (half false a) (guide.left_inside s there) i)
-          (name-value (right g s) n (half true a) (guide.right_inside s there) i) (root_label a))
+      (name-value (left g s) n (half false a) (guide.left_inside s there) i)
+      (name-value (right g s) n (half true a) (guide.right_inside s there) i) (root_label a))
 
   accepting-value : (n : ℕ) (a : Assignment) → A.accepting (value g A 0 n a) ≡ B.accepting (value g B 0 n a)
   accepting-value n a =
       naming.accepting _ (value-has 0 n a guide.not_empty) ∙ ap (λ q. B.accepting q) (name-value 0 n a guide.not_empty)
 
   pub Accepts-named : (a : Assignment) → Accepts g A a ↔ Accepts g B a
-  Accepts-named a =
-      ((λ of_A. record { depth = of_A.depth; covers = of_A.covers; accepted = sym (accepting-value of_A.depth a) ∙ of_A.accepted }),
-       (λ of_B. record { depth = of_B.depth; covers = of_B.covers; accepted = accepting-value of_B.depth a ∙ of_B.accepted }))
+  Accepts-named a = (
+    (λ of_A. record { depth = of_A.depth; covers = of_A.covers; accepted = sym (accepting-value of_A.depth a) ∙ of_A.accepted }),
+    (λ of_B. record { depth = of_B.depth; covers = of_B.covers; accepted = accepting-value of_B.depth a ∙ of_B.accepted }),
+  )
 
 -- an automaton whose states are names, each once, of those of a stable one, and are values, is stable
 module _ {Q R : Type 0} (g : Spaces) (guide : IsGuide g) (A : Automaton Q) (has : ℕ → Q → Type 0) (B : Automaton R)
@@ -181,9 +186,9 @@ module _ {Q R : Type 0} (g : Spaces) (guide : IsGuide g) (A : Automaton Q) (has 
   IsStable-named once stable = record {
     at = λ s there. once.once s _ _ there (named-step s there) (named-initial s there)
         (naming.step s _ _ empty_label there (named-initial (left g s) (guide.left_inside s there)) (named-initial (right g s) (guide.right_inside s there))
-         ∙ (λ i. B.step s (naming.initial (left g s) (guide.left_inside s there) i) (naming.initial (right g s) (guide.right_inside s there) i) empty_label)
-         ∙ stable.at s there
-         ∙ sym (naming.initial s there));
+        ∙ (λ i. B.step s (naming.initial (left g s) (guide.left_inside s there) i) (naming.initial (right g s) (guide.right_inside s there) i) empty_label)
+        ∙ stable.at s there
+        ∙ sym (naming.initial s there));
   }
 
 -- a product accepts exactly what both accept

@@ -46,7 +46,7 @@ slice_get-push [] y z (suc k) e = absurd cc
 slice_get-push (x ∷ xs) y z zero e = inl e
 slice_get-push (x ∷ xs) y z (suc k) e =
     elim (slice_get-push xs y z k e) as (λ _. (slice_get xs k ≡ Some z) ⊎ ((suc k ≡ suc (length xs)) × (y ≡ z))) [
-      inl h ↦ inl h
+      | inl h ↦ inl h
       | inr h ↦ inr (ap suc h.0, h.1)
     ]
 
@@ -58,7 +58,7 @@ take-front (x ∷ xs) ys = ap (λ zs. x ∷ zs) (take-front xs ys)
 module _ {N M : Type 0} (meaning : List M → N → M) where
   meaning-from : (known : List M) (nodes : List N) (k : ℕ) (node : N) → slice_get nodes k ≡ Some node →
       slice_get (meanings_from meaning known nodes) (length known + k)
-        ≡ Some (meaning (take (length known + k) (meanings_from meaning known nodes)) node)
+      ≡ Some (meaning (take (length known + k) (meanings_from meaning known nodes)) node)
   meaning-from known [] k node e = absurd cc
   meaning-from known (x ∷ nodes) zero node e =
       let m = meaning known x in
@@ -67,23 +67,23 @@ module _ {N M : Type 0} (meaning : List M → N → M) where
       let n : length known + 0 ≡ length known = omega arith in
       let same : x ≡ node = cc in
       let at : slice_get (meanings_from meaning (known ++ m ∷ []) nodes) (length known + 0) ≡ Some m =
-          ap (λ i. slice_get (meanings_from meaning (known ++ m ∷ []) nodes) i) n
-          ∙ ap (λ zs. slice_get zs (length known)) rest.2
-          ∙ slice_get-front (known ++ m ∷ []) rest.0 (length known) (omega (arith, length-append known (m ∷ [])))
-          ∙ slice_get-last known m in
+      ap (λ i. slice_get (meanings_from meaning (known ++ m ∷ []) nodes) i) n
+      ∙ ap (λ zs. slice_get zs (length known)) rest.2
+      ∙ slice_get-front (known ++ m ∷ []) rest.0 (length known) (omega (arith, length-append known (m ∷ [])))
+      ∙ slice_get-last known m in
       let before : take (length known + 0) (meanings_from meaning (known ++ m ∷ []) nodes) ≡ known =
-          ap (λ i. take i (meanings_from meaning (known ++ m ∷ []) nodes)) n ∙ ap (take (length known)) split ∙ take-front known (m ∷ rest.0) in
+      ap (λ i. take i (meanings_from meaning (known ++ m ∷ []) nodes)) n ∙ ap (take (length known)) split ∙ take-front known (m ∷ rest.0) in
       at ∙ ap (λ y. Some (meaning known y)) same ∙ sym (ap (λ zs. Some (meaning zs node)) before)
   meaning-from known (x ∷ nodes) (suc k) node e =
       let m = meaning known x in
       let h = meaning-from (known ++ m ∷ []) nodes k node e in
       let n : length (known ++ m ∷ []) + k ≡ length known + suc k = omega (arith, length-append known (m ∷ [])) in
       subst (λ i. slice_get (meanings_from meaning (known ++ m ∷ []) nodes) i
-        ≡ Some (meaning (take i (meanings_from meaning (known ++ m ∷ []) nodes)) node)) n h
+      ≡ Some (meaning (take i (meanings_from meaning (known ++ m ∷ []) nodes)) node)) n h
 
   pub slice_get-meanings : (nodes : List N) (k : ℕ) (node : N) → slice_get nodes k ≡ Some node →
       slice_get (meanings meaning nodes) k ≡ Some (meaning (take k (meanings meaning nodes)) node)
   slice_get-meanings nodes k node e =
       let n : 0 + k ≡ k = omega arith in
       subst (λ i. slice_get (meanings meaning nodes) i ≡ Some (meaning (take i (meanings meaning nodes)) node)) n
-        (meaning-from [] nodes k node e)
+      (meaning-from [] nodes k node e)

@@ -31,12 +31,12 @@ unfolding deeper plug
 Covers-plug [] d a b in_a in_b = in_b
 Covers-plug (false ∷ u) d a b in_a in_b =
     Covers-joined (deeper u d) (root_label a) (plug u (half false a) b) (half true a)
-      (Covers-plug u d (half false a) b (Covers-half_same d false a in_a) in_b)
-      (Covers-more d (deeper u d) (half true a) (deeper-more u d) (Covers-half_same d true a in_a))
+    (Covers-plug u d (half false a) b (Covers-half_same d false a in_a) in_b)
+    (Covers-more d (deeper u d) (half true a) (deeper-more u d) (Covers-half_same d true a in_a))
 Covers-plug (true ∷ u) d a b in_a in_b =
     Covers-joined (deeper u d) (root_label a) (half false a) (plug u (half true a) b)
-      (Covers-more d (deeper u d) (half false a) (deeper-more u d) (Covers-half_same d false a in_a))
-      (Covers-plug u d (half true a) b (Covers-half_same d true a in_a) in_b)
+    (Covers-more d (deeper u d) (half false a) (deeper-more u d) (Covers-half_same d false a in_a))
+    (Covers-plug u d (half true a) b (Covers-half_same d true a in_a) in_b)
 
 -- a hole in an assignment that is put in is a hole further down
 value_with-plug : {Q : Type 0} (g : Spaces) (A : Automaton Q) (u v : Position) (s : ℕ) (q : Q) (n : ℕ) (a b : Assignment) →
@@ -65,17 +65,17 @@ module _ {Q : Type 0} (g : Spaces) (guide : IsGuide g) (A : Automaton Q) (stable
       let deep = deeper-more u d in
       let in_r' : Covers (deeper u d) (half true a) = Covers-more n (deeper u d) (half true a) (omega arith) in_r in
       λ i. A.step s
-        (value-plug u (left g s) d n m (half false a) b (guide.left_inside s there) (Covers-half_same n false a in_a) in_b more_n more_m i)
-        (value-same g guide A stable (right g s) (deeper u d) n (half true a) (guide.right_inside s there) in_r' in_r i)
-        (root_label a)
+      (value-plug u (left g s) d n m (half false a) b (guide.left_inside s there) (Covers-half_same n false a in_a) in_b more_n more_m i)
+      (value-same g guide A stable (right g s) (deeper u d) n (half true a) (guide.right_inside s there) in_r' in_r i)
+      (root_label a)
   value-plug (true ∷ u) s d n m a b there in_a in_b more_n more_m =
       let in_l = Covers-half_same n false a in_a in
       let deep = deeper-more u d in
       let in_l' : Covers (deeper u d) (half false a) = Covers-more n (deeper u d) (half false a) (omega arith) in_l in
       λ i. A.step s
-        (value-same g guide A stable (left g s) (deeper u d) n (half false a) (guide.left_inside s there) in_l' in_l i)
-        (value-plug u (right g s) d n m (half true a) b (guide.right_inside s there) (Covers-half_same n true a in_a) in_b more_n more_m i)
-        (root_label a)
+      (value-same g guide A stable (left g s) (deeper u d) n (half false a) (guide.left_inside s there) in_l' in_l i)
+      (value-plug u (right g s) d n m (half true a) b (guide.right_inside s there) (Covers-half_same n true a in_a) in_b more_n more_m i)
+      (root_label a)
 
   -- the depth of the values beside the way to the hole is free
   value_with-same : (u : Position) (s n m : ℕ) (q : Q) (a : Assignment) → IsSpace g s → Covers n a → Covers m a →
@@ -104,10 +104,10 @@ module _ {Q : Type 0} (g : Spaces) (guide : IsGuide g) (A : Automaton Q) (stable
       let deep = deeper-more t.hole d in
       let in_D : Covers D t.assignment = Covers-more d D t.assignment (omega arith) in_t in
       let at : (x x' : Q) → ((e : ℕ) → n ≤ e → value_with g A s (letter ∷ []) x e below ≡ x') →
-              value_with g A 0 (t.hole ++ letter ∷ []) x D (plug t.hole t.assignment below) ≡ value_with g A 0 t.hole x' t.depth t.assignment
-          = λ x x' of_x. value_with-plug g A t.hole (letter ∷ []) 0 x D t.assignment below
-              ∙ ap (λ y. value_with g A 0 t.hole y D t.assignment) (ap (λ k. value_with g A k (letter ∷ []) x D below) t.is_there ∙ of_x D (omega arith))
-              ∙ value_with-same t.hole 0 D t.depth x' t.assignment guide.not_empty in_D t.covers in
+      value_with g A 0 (t.hole ++ letter ∷ []) x D (plug t.hole t.assignment below) ≡ value_with g A 0 t.hole x' t.depth t.assignment
+      = λ x x' of_x. value_with-plug g A t.hole (letter ∷ []) 0 x D t.assignment below
+      ∙ ap (λ y. value_with g A 0 t.hole y D t.assignment) (ap (λ k. value_with g A k (letter ∷ []) x D below) t.is_there ∙ of_x D (omega arith))
+      ∙ value_with-same t.hole 0 D t.depth x' t.assignment guide.not_empty in_D t.covers in
       record {
         hole = t.hole ++ letter ∷ [];
         assignment = plug t.hole t.assignment below;
@@ -120,24 +120,29 @@ module _ {Q : Type 0} (g : Spaces) (guide : IsGuide g) (A : Automaton Q) (stable
   -- what is separated is told apart
   pub AreToldApart-from_separated : (s : ℕ) (p q : Q) → AreSeparated g A s p q → AreToldApart g A s p q
   AreToldApart-from_separated _ _ _ (at_root p q differs) = record {
-    hole = []; assignment = empty_assignment; depth = 0; covers = Covers-empty; is_there = refl; differs = differs;
+    hole = [];
+    assignment = empty_assignment;
+    depth = 0;
+    covers = Covers-empty;
+    is_there = refl;
+    differs = differs;
   }
   AreToldApart-from_separated _ _ _ (below_left s p q beside label there v rest) =
       told-below s false p q _ _ label (joined label empty_assignment v.assignment) (suc v.depth)
-        (Covers-joined v.depth label empty_assignment v.assignment (λ u r deep. refl) v.covers)
-        (AreToldApart-from_separated s _ _ rest)
-        (λ d deep. ap (λ y. A.step s p y label) (value-same g guide A stable (right g s) d v.depth v.assignment (guide.right_inside s there)
-          (Covers-more v.depth d v.assignment (omega arith) v.covers) v.covers ∙ v.is_value))
-        (λ d deep. ap (λ y. A.step s q y label) (value-same g guide A stable (right g s) d v.depth v.assignment (guide.right_inside s there)
-          (Covers-more v.depth d v.assignment (omega arith) v.covers) v.covers ∙ v.is_value))
+      (Covers-joined v.depth label empty_assignment v.assignment (λ u r deep. refl) v.covers)
+      (AreToldApart-from_separated s _ _ rest)
+      (λ d deep. ap (λ y. A.step s p y label) (value-same g guide A stable (right g s) d v.depth v.assignment (guide.right_inside s there)
+      (Covers-more v.depth d v.assignment (omega arith) v.covers) v.covers ∙ v.is_value))
+      (λ d deep. ap (λ y. A.step s q y label) (value-same g guide A stable (right g s) d v.depth v.assignment (guide.right_inside s there)
+      (Covers-more v.depth d v.assignment (omega arith) v.covers) v.covers ∙ v.is_value))
   AreToldApart-from_separated _ _ _ (below_right s p q beside label there v rest) =
       told-below s true p q _ _ label (joined label v.assignment empty_assignment) (suc v.depth)
-        (Covers-joined v.depth label v.assignment empty_assignment v.covers (λ u r deep. refl))
-        (AreToldApart-from_separated s _ _ rest)
-        (λ d deep. ap (λ y. A.step s y p label) (value-same g guide A stable (left g s) d v.depth v.assignment (guide.left_inside s there)
-          (Covers-more v.depth d v.assignment (omega arith) v.covers) v.covers ∙ v.is_value))
-        (λ d deep. ap (λ y. A.step s y q label) (value-same g guide A stable (left g s) d v.depth v.assignment (guide.left_inside s there)
-          (Covers-more v.depth d v.assignment (omega arith) v.covers) v.covers ∙ v.is_value))
+      (Covers-joined v.depth label v.assignment empty_assignment v.covers (λ u r deep. refl))
+      (AreToldApart-from_separated s _ _ rest)
+      (λ d deep. ap (λ y. A.step s y p label) (value-same g guide A stable (left g s) d v.depth v.assignment (guide.left_inside s there)
+      (Covers-more v.depth d v.assignment (omega arith) v.covers) v.covers ∙ v.is_value))
+      (λ d deep. ap (λ y. A.step s y q label) (value-same g guide A stable (left g s) d v.depth v.assignment (guide.left_inside s there)
+      (Covers-more v.depth d v.assignment (omega arith) v.covers) v.covers ∙ v.is_value))
 
 -- two automata that accept the same: what is told apart in the second has no common twin in the first
 module _ {Q R : Type 0} (g : Spaces) (guide : IsGuide g) (A : Automaton Q) (of_A : IsStable g A) (B : Automaton R)
@@ -146,9 +151,10 @@ module _ {Q R : Type 0} (g : Spaces) (guide : IsGuide g) (A : Automaton Q) (of_A
   accepting-same : (n : ℕ) (a : Assignment) → Covers n a → A.accepting (value g A 0 n a) ≡ B.accepting (value g B 0 n a)
   accepting-same n a covers =
       one_answer (A.accepting (value g A 0 n a)) (B.accepting (value g B 0 n a))
-        ((λ is. is), (λ is. is))
-        ((λ is. Accepts-at g guide A of_A n a covers ((same n a covers).1 (record { depth = n; covers = covers; accepted = is }))),
-         (λ is. Accepts-at g guide B of_B n a covers ((same n a covers).0 (record { depth = n; covers = covers; accepted = is }))))
+      ((λ is. is), (λ is. is)) (
+        (λ is. Accepts-at g guide A of_A n a covers ((same n a covers).1 (record { depth = n; covers = covers; accepted = is }))),
+        (λ is. Accepts-at g guide B of_B n a covers ((same n a covers).0 (record { depth = n; covers = covers; accepted = is }))),
+      )
 
   twin-context : (s : ℕ) (p : Q) (q : R) (t : AreTwins g A B s p q) (hole : Position) (n : ℕ) (a : Assignment) →
       Covers n a → space_at g 0 hole ≡ s →
@@ -170,12 +176,16 @@ module _ {Q R : Type 0} (g : Spaces) (guide : IsGuide g) (A : Automaton Q) (of_A
   twins-not_apart : (s : ℕ) (p : Q) (q r : R) → AreTwins g A B s p q → AreTwins g A B s p r → AreToldApart g B s q r → ⊥
   twins-not_apart s p q r one other t = t.differs
       (sym (twin-context s p q one t.hole t.depth t.assignment t.covers t.is_there)
-       ∙ twin-context s p r other t.hole t.depth t.assignment t.covers t.is_there)
+      ∙ twin-context s p r other t.hole t.depth t.assignment t.covers t.is_there)
 
 twins-turned : {Q R : Type 0} (g : Spaces) (A : Automaton Q) (B : Automaton R) (s : ℕ) (p : Q) (q : R) →
     AreTwins g A B s p q → AreTwins g B A s q p
 twins-turned g A B s p q t = record {
-  assignment = t.assignment; depth = t.depth; covers = t.covers; first = t.second; second = t.first;
+  assignment = t.assignment;
+  depth = t.depth;
+  covers = t.covers;
+  first = t.second;
+  second = t.first;
 }
 
 module _ {Q R : Type 0} (decide_Q : (p q : Q) → (p ≡ q) ⊎ (p ≢ q)) (decide_R : (p q : R) → (p ≡ q) ⊎ (p ≢ q))
@@ -196,22 +206,22 @@ module _ {Q R : Type 0} (decide_Q : (p q : Q) → (p ≡ q) ⊎ (p ≢ q)) (deci
     there = λ s p is_space has.
         let v = ((of_A.reached).state s p is_space).0 has in
         let t : AreTwins g A B s p (value g B s v.depth v.assignment) =
-            record { assignment = v.assignment; depth = v.depth; covers = v.covers; first = v.is_value; second = refl } in
+        record { assignment = v.assignment; depth = v.depth; covers = v.covers; first = v.is_value; second = refl } in
         (value g B s v.depth v.assignment, second-has s p _ is_space t, t);
     back = λ s q is_space has.
         let v = ((of_B.reached).state s q is_space).0 has in
         let t : AreTwins g A B s (value g A s v.depth v.assignment) q =
-            record { assignment = v.assignment; depth = v.depth; covers = v.covers; first = refl; second = v.is_value } in
+        record { assignment = v.assignment; depth = v.depth; covers = v.covers; first = refl; second = v.is_value } in
         (value g A s v.depth v.assignment, first-has s _ q is_space t, t);
     one_there = λ s p q r is_space one other.
         elim (decide_R q r) as (λ e. q ≡ r) [
-          inl is ↦ is
+          | inl is ↦ is
           | inr is_not ↦ absurd (twins-not_apart g guide A of_A.stable B of_B.stable same s p q r one other
               (of_B.apart s q r is_space (second-has s p q is_space one) (second-has s p r is_space other) is_not))
         ];
     one_back = λ s p q r is_space one other.
         elim (decide_Q p q) as (λ e. p ≡ q) [
-          inl is ↦ is
+          | inl is ↦ is
           | inr is_not ↦ absurd (twins-not_apart g guide B of_B.stable A of_A.stable
               (λ n a covers. ((same n a covers).1, (same n a covers).0)) s r p q
               (twins-turned g A B s p r one) (twins-turned g A B s q r other)
@@ -250,26 +260,31 @@ module _ {Q R : Type 0} (g : Spaces) (guide : IsGuide g) (A : Automaton Q) (stab
   pub IsStable-classes : IsStable g M
   IsStable-classes = record {
     at = λ s there.
-      (λ i. M.step s (sym (naming.initial (left g s) (guide.left_inside s there)) i) (sym (naming.initial (right g s) (guide.right_inside s there)) i) empty_label)
-      ∙ sym (naming.step s _ _ empty_label there (closed.initial (left g s) (guide.left_inside s there)) (closed.initial (right g s) (guide.right_inside s there)))
-      ∙ ap (name s) (stable.at s there)
-      ∙ naming.initial s there;
+        (λ i. M.step s (sym (naming.initial (left g s) (guide.left_inside s there)) i) (sym (naming.initial (right g s) (guide.right_inside s there)) i) empty_label)
+        ∙ sym (naming.step s _ _ empty_label there (closed.initial (left g s) (guide.left_inside s there)) (closed.initial (right g s) (guide.right_inside s there)))
+        ∙ ap (name s) (stable.at s there)
+        ∙ naming.initial s there;
   }
 
   pub IsReached-classes : (has_M : ℕ → R → Type 0) →
       ((s : ℕ) (x : R) → IsSpace g s → has_M s x ↔ ((q : Q) × has s q × (name s q ≡ x))) → IsReached g M has_M
   IsReached-classes has_M image = record {
-    state = λ s x there.
-      ((λ in_M.
+    state = λ s x there. (
+      (λ in_M.
           let q = (image s x there).0 in_M in
           let v = (reached.state s q.0 there).0 q.1 in
           record {
-            assignment = v.assignment; depth = v.depth; covers = v.covers;
+            assignment = v.assignment;
+            depth = v.depth;
+            covers = v.covers;
             is_value = sym (name-value g guide A has M name closed naming s v.depth v.assignment there) ∙ ap (name s) v.is_value ∙ q.2;
           }),
-       (λ v. (image s x there).1
-          (value g A s v.depth v.assignment, value-has g guide A has M name closed naming s v.depth v.assignment there,
-           name-value g guide A has M name closed naming s v.depth v.assignment there ∙ v.is_value)));
+      (λ v. (image s x there).1 (
+        value g A s v.depth v.assignment,
+        value-has g guide A has M name closed naming s v.depth v.assignment there,
+        name-value g guide A has M name closed naming s v.depth v.assignment there ∙ v.is_value,
+      )),
+    );
   }
 
   has-value_with : (u : Position) (s n : ℕ) (q : Q) (a : Assignment) → IsSpace g s → has (space_at g s u) q → has s (value_with g A s u q n a)
@@ -286,29 +301,33 @@ module _ {Q R : Type 0} (g : Spaces) (guide : IsGuide g) (A : Automaton Q) (stab
   name-value_with [] s n q a there in_A = refl
   name-value_with (false ∷ u) s n q a there in_A =
       naming.step s _ _ (root_label a) there
-        (has-value_with u (left g s) n q (half false a) (guide.left_inside s there) in_A)
-        (value-has g guide A has M name closed naming (right g s) n (half true a) (guide.right_inside s there))
+      (has-value_with u (left g s) n q (half false a) (guide.left_inside s there) in_A)
+      (value-has g guide A has M name closed naming (right g s) n (half true a) (guide.right_inside s there))
       ∙ (λ i. M.step s (name-value_with u (left g s) n q (half false a) (guide.left_inside s there) in_A i)
-          (name-value g guide A has M name closed naming (right g s) n (half true a) (guide.right_inside s there) i) (root_label a))
+      (name-value g guide A has M name closed naming (right g s) n (half true a) (guide.right_inside s there) i) (root_label a))
   name-value_with (true ∷ u) s n q a there in_A =
       naming.step s _ _ (root_label a) there
-        (value-has g guide A has M name closed naming (left g s) n (half false a) (guide.left_inside s there))
-        (has-value_with u (right g s) n q (half true a) (guide.right_inside s there) in_A)
+      (value-has g guide A has M name closed naming (left g s) n (half false a) (guide.left_inside s there))
+      (has-value_with u (right g s) n q (half true a) (guide.right_inside s there) in_A)
       ∙ (λ i. M.step s (name-value g guide A has M name closed naming (left g s) n (half false a) (guide.left_inside s there) i)
-          (name-value_with u (right g s) n q (half true a) (guide.right_inside s there) in_A i) (root_label a))
+      (name-value_with u (right g s) n q (half true a) (guide.right_inside s there) in_A i) (root_label a))
 
   -- what is told apart in A is told apart in the automaton of classes
   told-classes : (s : ℕ) (p q : Q) → IsSpace g s → has s p → has s q → AreToldApart g A s p q → AreToldApart g M s (name s p) (name s q)
   told-classes s p q there has_p has_q t =
       let at : (x : Q) → has s x →
-              A.accepting (value_with g A 0 t.hole x t.depth t.assignment) ≡ M.accepting (value_with g M 0 t.hole (name s x) t.depth t.assignment)
-          = λ x in_A.
-              let in_hole : has (space_at g 0 t.hole) x = subst (λ k. has k x) (sym t.is_there) in_A in
-              naming.accepting _ (has-value_with t.hole 0 t.depth x t.assignment guide.not_empty in_hole)
-              ∙ ap (λ y. M.accepting y) (name-value_with t.hole 0 t.depth x t.assignment guide.not_empty in_hole
-                ∙ ap (λ k. value_with g M 0 t.hole (name k x) t.depth t.assignment) t.is_there) in
+      A.accepting (value_with g A 0 t.hole x t.depth t.assignment) ≡ M.accepting (value_with g M 0 t.hole (name s x) t.depth t.assignment)
+      = λ x in_A.
+      let in_hole : has (space_at g 0 t.hole) x = subst (λ k. has k x) (sym t.is_there) in_A in
+      naming.accepting _ (has-value_with t.hole 0 t.depth x t.assignment guide.not_empty in_hole)
+      ∙ ap (λ y. M.accepting y) (name-value_with t.hole 0 t.depth x t.assignment guide.not_empty in_hole
+      ∙ ap (λ k. value_with g M 0 t.hole (name k x) t.depth t.assignment) t.is_there) in
       record {
-        hole = t.hole; assignment = t.assignment; depth = t.depth; covers = t.covers; is_there = t.is_there;
+        hole = t.hole;
+        assignment = t.assignment;
+        depth = t.depth;
+        covers = t.covers;
+        is_there = t.is_there;
         differs = λ same. t.differs (at p has_p ∙ same ∙ sym (at q has_q));
       }
 
@@ -324,6 +343,6 @@ module _ {Q R : Type 0} (g : Spaces) (guide : IsGuide g) (A : Automaton Q) (stab
         let q = (image s y there).0 in_y in
         let differ' : name s p.0 ≢ name s q.0 = λ e. differ (sym p.2 ∙ e ∙ q.2) in
         let told = told-classes s p.0 q.0 there p.1 q.1
-            (AreToldApart-from_separated g guide A stable s p.0 q.0 (separated s p.0 q.0 there p.1 q.1 differ')) in
+        (AreToldApart-from_separated g guide A stable s p.0 q.0 (separated s p.0 q.0 there p.1 q.1 differ')) in
         subst (λ z. AreToldApart g M s z y) p.2 (subst (λ z. AreToldApart g M s (name s p.0) z) q.2 told);
   }

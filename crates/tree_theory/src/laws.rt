@@ -11,8 +11,7 @@ pub fn value_is_free_of_the_depth()
     ensures { (g : Spaces) (A : Automaton ℕ) → IsGuide g → IsStable g A →
         (s n m : ℕ) (a : Assignment) → IsSpace g s → Covers n a → Covers m a →
         value g A s n a ≡ value g A s m a }
-{
-}
+{}
 
 /// The complement of a stable automaton is stable, and accepts exactly what was not accepted.
 pub fn complement_accepts_the_others()
@@ -20,39 +19,34 @@ pub fn complement_accepts_the_others()
     ensures accepts { (g : Spaces) (A : Automaton ℕ) → IsGuide g → IsStable g A →
         (n : ℕ) (a : Assignment) → Covers n a →
         Accepts g (complement A) a ↔ (¬ Accepts g A a) }
-{
-}
+{}
 
 /// A product of stable automata is stable.
 pub fn product_is_stable()
     ensures { (g : Spaces) (A B C : Automaton ℕ) (states : ℕ → ℕ → Bool) (pair : ℕ → ℕ → ℕ × ℕ) →
         IsGuide g → IsStable g A → IsStable g B → IsProduct g A B C (Has states) pair → IsStable g C }
-{
-}
+{}
 
 /// A product accepts exactly what both accept.
 pub fn product_accepts_what_both_accept()
     ensures { (g : Spaces) (A B C : Automaton ℕ) (states : ℕ → ℕ → Bool) (pair : ℕ → ℕ → ℕ × ℕ) →
         IsGuide g → IsStable g A → IsStable g B → IsProduct g A B C (Has states) pair →
         (a : Assignment) → Accepts g C a ↔ (Accepts g A a × Accepts g B a) }
-{
-}
+{}
 
 /// An automaton whose states are names of another one's, with the steps along, accepts the same.
 pub fn names_keep_acceptance()
     ensures { (g : Spaces) (A B : Automaton ℕ) (states : ℕ → ℕ → Bool) (name : ℕ → ℕ → ℕ) →
         IsGuide g → IsClosed g A (Has states) → IsNaming g A (Has states) B name →
         (a : Assignment) → Accepts g A a ↔ Accepts g B a }
-{
-}
+{}
 
 /// The subset automaton of a stable one is stable.
 pub fn subset_is_stable()
     ensures { (g : Spaces) (A B : Automaton ℕ) (t : ℕ) (states : ℕ → ℕ → Bool) (member : ℕ → ℕ → ℕ → Bool) →
         IsGuide g → IsStable g A → IsSubset g A t B (Has states) (λ s x q. IsTrue (member s x q)) →
         IsStable g B }
-{
-}
+{}
 
 /// The subset automaton accepts exactly where some finite set for the dropped track is accepted.
 pub fn subset_drops_a_track()
@@ -60,5 +54,4 @@ pub fn subset_drops_a_track()
         IsGuide g → IsStable g A → IsSubset g A t B (Has states) (λ s x q. IsTrue (member s x q)) →
         (n : ℕ) (a : Assignment) → Covers n a →
         Accepts g B a ↔ ((set : PositionSet) × IsFiniteSet set × Accepts g A (replace a t set)) }
-{
-}
+{}

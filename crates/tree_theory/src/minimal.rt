@@ -11,8 +11,7 @@ ghost use Rattle.tree_theory.specs.Minimal.{AreSeparated, AreToldApart, IsMinima
 pub fn separated_states_are_told_apart()
     ensures { (g : Spaces) (A : Automaton ℕ) → IsGuide g → IsStable g A →
         (s p q : ℕ) → AreSeparated g A s p q → AreToldApart g A s p q }
-{
-}
+{}
 
 /// An automaton of classes of reached states, where steps keep the states of different classes apart, is minimal.
 pub fn separated_classes_are_minimal()
@@ -20,10 +19,9 @@ pub fn separated_classes_are_minimal()
         IsGuide g → IsStable g A → IsReached g A (Has states) → IsNaming g A (Has states) M class_of →
         ((s x : ℕ) → IsSpace g s → Has classes s x ↔ ((q : ℕ) × Has states s q × (class_of s q ≡ x))) →
         ((s p q : ℕ) → IsSpace g s → Has states s p → Has states s q → class_of s p ≢ class_of s q →
-            AreSeparated g A s p q) →
+        AreSeparated g A s p q) →
         IsMinimal g M (Has classes) }
-{
-}
+{}
 
 /// Two minimal automata under one guide that accept the same have states one to one in each space, by the
 /// assignments whose values they are, and their steps and their accepting states go along.
@@ -32,5 +30,4 @@ pub fn minimal_automata_are_alike()
         IsMinimal g A (Has states_A) → IsMinimal g B (Has states_B) →
         ((n : ℕ) (a : Assignment) → Covers n a → Accepts g A a ↔ Accepts g B a) →
         AreAlike g A (Has states_A) B (Has states_B) }
-{
-}
+{}

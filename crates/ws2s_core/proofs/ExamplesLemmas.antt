@@ -27,9 +27,10 @@ same_position-refl (false ∷ p) = same_position-refl p
 
 -- a set that is listed with one position has it alone
 pub IsOnly-listed : (u : Position) → IsOnly (λ p. is_same_position u p || false) u
-IsOnly-listed u p =
-    ((λ h. sym (same_position-true u p (whole (is_same_position u p) h))),
-     (λ e. ap (λ q. is_same_position u q || false) e ∙ ap (λ b. b || false) (same_position-refl u)))
+IsOnly-listed u p = (
+  (λ h. sym (same_position-true u p (whole (is_same_position u p) h))),
+  (λ e. ap (λ q. is_same_position u q || false) e ∙ ap (λ b. b || false) (same_position-refl u)),
+)
   where
     whole : (b : Bool) → b || false ≡ true → b ≡ true
     whole true h = refl

@@ -28,7 +28,7 @@ node-covered known covered node t (true ∷ p) deep = child-covered known covere
 AreCovered-push : (known : List Assignment) (node : TreeNode) → AreCovered known → AreCovered (known ++ node_assignment known node ∷ [])
 AreCovered-push known node covered = record {
   at = λ k a at. elim (slice_get-push known (node_assignment known node) a k at) as (λ _. Covers (suc k) a) [
-    inl old ↦ covered.at k a old
+    | inl old ↦ covered.at k a old
     | inr new ↦ subst (λ n. Covers (suc n) a) (sym new.0) (subst (Covers (suc (length known))) new.1 (node-covered known covered node))
   ];
 }
@@ -47,4 +47,4 @@ Covers-tree nodes = pick (slice_get (meanings node_assignment nodes) (length nod
         let inside = slice_get_within (meanings node_assignment nodes) (length nodes - 1) a at in
         let n : suc (length nodes - 1) ≤ length nodes = omega (arith, length-meanings node_assignment nodes) in
         Covers-more (suc (length nodes - 1)) (length nodes) a n
-          ((AreCovered-meanings [] nodes (record { at = λ k b none. absurd cc })).at (length nodes - 1) a at)
+        ((AreCovered-meanings [] nodes (record { at = λ k b none. absurd cc })).at (length nodes - 1) a at)

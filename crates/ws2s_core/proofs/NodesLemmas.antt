@@ -74,11 +74,11 @@ pub IsIndexed-push : (nodes : List Node) (places places' : HashMap Node ℕ (Bui
 IsIndexed-push nodes places places' node h room parts absent updates = record {
   few = omega (arith, length-append nodes (node ∷ []));
   earlier = λ k other at. elim (slice_get-push nodes node other k at) as (λ _. HasPartsBelow k other) [
-    inl old ↦ h.earlier k other old
+    | inl old ↦ h.earlier k other old
     | inr new ↦ subst (λ n. HasPartsBelow n other) (sym new.0) (subst (HasPartsBelow (length nodes)) new.1 parts)
   ];
   found = λ k other at. elim (slice_get-push nodes node other k at) as (λ _. get same_node places' other ≡ Some k) [
-    inl old ↦ updates other ∙ keep k other old (same_node node other) refl
+    | inl old ↦ updates other ∙ keep k other old (same_node node other) refl
     | inr new ↦ updates other ∙ ap (λ b. cond b (Some (length nodes)) (get same_node places other)) (ap (same_node node) (sym new.1) ∙ same_node-refl node) ∙ ap Some (sym new.0)
   ];
   sound = λ k other at. back k other (same_node node other) refl (sym (updates other) ∙ at);
@@ -92,6 +92,7 @@ IsIndexed-push nodes places places' node h room parts absent updates = record {
         let none : get same_node places other ≡ None = subst (λ q. get same_node places q ≡ None) e absent in
         absurd cc
     keep k other old false same = ap (λ b. cond b (Some (length nodes)) (get same_node places other)) same ∙ h.found k other old
+
     back : (k : ℕ) (other : Node) (b : Bool) → same_node node other ≡ b →
         cond (same_node node other) (Some (length nodes)) (get same_node places other) ≡ Some k → slice_get (nodes ++ node ∷ []) k ≡ Some other
     back k other true same at =
@@ -129,9 +130,9 @@ pub formulas_of-at : (nodes : List Node) (k : ℕ) (node : Node) → slice_get n
 formulas_of-at nodes k node at below =
     slice_get-meanings formula_of_node nodes k node at
     ∙ ap (λ form. Some (roll-Formula form))
-        (map-same (formula_at (take k (formulas_of nodes))) (formula_at (formulas_of nodes)) (form_of node)
-          (All-weaker (λ part. part < k) (λ part. formula_at (take k (formulas_of nodes)) part ≡ formula_at (formulas_of nodes) part)
-            (λ part lt. formula_at-take (formulas_of nodes) k part lt) (parts_of (form_of node)) below))
+    (map-same (formula_at (take k (formulas_of nodes))) (formula_at (formulas_of nodes)) (form_of node)
+    (All-weaker (λ part. part < k) (λ part. formula_at (take k (formulas_of nodes)) part ≡ formula_at (formulas_of nodes) part)
+    (λ part lt. formula_at-take (formulas_of nodes) k part lt) (parts_of (form_of node)) below))
 
 pub formula_at-is : (formulas : List Formula) (k : ℕ) (f : Formula) → slice_get formulas k ≡ Some f → formula_at formulas k ≡ f
 formula_at-is formulas k f at = ap (λ o. unwrap_or o (Root (record { 0 = 0 }))) at
@@ -155,8 +156,8 @@ stands_for-extends nodes nodes' (k ∷ places) extends inside =
     let front = formulas_of-extends nodes extends.more in
     let lt : k < length (formulas_of nodes) = omega (arith, length-meanings formula_of_node nodes, All-head (λ place. place < length nodes) k places inside) in
     ap₂ (λ f fs. f ∷ fs)
-      (ap (λ ns. formula_at (formulas_of ns) k) extends.is ∙ ap (λ fs. formula_at fs k) front.is ∙ formula_at-front (formulas_of nodes) front.more k lt)
-      (stands_for-extends nodes nodes' places extends (All-tail (λ place. place < length nodes) k places inside))
+    (ap (λ ns. formula_at (formulas_of ns) k) extends.is ∙ ap (λ fs. formula_at fs k) front.is ∙ formula_at-front (formulas_of nodes) front.more k lt)
+    (stands_for-extends nodes nodes' places extends (All-tail (λ place. place < length nodes) k places inside))
 
 -- a symbol takes numbers as it takes what they stand for
 pub taken-map : (symbol : Symbol) (h : ℕ → Formula) (parts : List ℕ) →
@@ -191,7 +192,7 @@ taken-parts P Symbol.And (g ∷ []) rest form e all = absurd cc
 taken-parts P Symbol.And (g ∷ f ∷ parts) rest form e all =
     let more = All-tail P g (f ∷ parts) all in
     moved P (Formula-F.And f g, parts) (form, rest) e
-      (All-cons P f (g ∷ []) (All-head P f parts more) (All-cons P g [] (All-head P g (f ∷ parts) all) (All-nil P)), All-tail P f parts more)
+    (All-cons P f (g ∷ []) (All-head P f parts more) (All-cons P g [] (All-head P g (f ∷ parts) all) (All-nil P)), All-tail P f parts more)
 taken-parts P Symbol.Not [] rest form e all = absurd cc
 taken-parts P Symbol.Not (f ∷ parts) rest form e all =
     moved P (Formula-F.Not f, parts) (form, rest) e (All-cons P f [] (All-head P f parts all) (All-nil P), All-tail P f parts all)
@@ -206,8 +207,8 @@ IsSome-taken symbol nodes places h = pick (taken symbol places) refl
     pick : (o : Option (Formula-F ℕ × List ℕ)) → taken symbol places ≡ o → IsSome (taken symbol places)
     pick None e =
         let none : applied symbol (stands_for nodes places) ≡ None =
-            ap (option_map (λ found. roll-Formula found.0 ∷ found.1)) (taken-map symbol (formula_at (formulas_of nodes)) places
-              ∙ ap (option_map (λ found. (map-Formula ℕ Formula (formula_at (formulas_of nodes)) found.0, map (formula_at (formulas_of nodes)) found.1))) e) in
+        ap (option_map (λ found. roll-Formula found.0 ∷ found.1)) (taken-map symbol (formula_at (formulas_of nodes)) places
+        ∙ ap (option_map (λ found. (map-Formula ℕ Formula (formula_at (formulas_of nodes)) found.0, map (formula_at (formulas_of nodes)) found.1))) e) in
         let is : is_some (applied symbol (stands_for nodes places)) ≡ false = ap is_some none in
         absurd (false≢true (sym is ∙ h))
     pick (Some found) e = ap is_some e
@@ -218,7 +219,7 @@ pub applied-placed : (symbol : Symbol) (nodes : List Node) (parts rest : List �
     applied symbol (stands_for nodes parts) ≡ Some (stands_for nodes (place ∷ rest))
 applied-placed symbol nodes parts rest node place taking at below =
     ap (option_map (λ found. roll-Formula found.0 ∷ found.1)) (taken-map symbol (formula_at (formulas_of nodes)) parts
-      ∙ ap (option_map (λ found. (map-Formula ℕ Formula (formula_at (formulas_of nodes)) found.0, map (formula_at (formulas_of nodes)) found.1))) taking)
+    ∙ ap (option_map (λ found. (map-Formula ℕ Formula (formula_at (formulas_of nodes)) found.0, map (formula_at (formulas_of nodes)) found.1))) taking)
     ∙ ap (λ f. Some (f ∷ stands_for nodes rest)) (sym (formula_at-is (formulas_of nodes) place (formula_of_node (formulas_of nodes) node) (formulas_of-at nodes place node at below)))
 
 -- the node of a form
@@ -255,8 +256,8 @@ map-injective P h same (Formula-F.And f g) (Formula-F.And f' g') in_x in_y e =
     let first : h f ≡ h f' = cc in
     let second : h g ≡ h g' = cc in
     ap₂ Formula-F.And
-      (same f f' (All-head P f (g ∷ []) in_x) (All-head P f' (g' ∷ []) in_y) first)
-      (same g g' (All-head P g [] (All-tail P f (g ∷ []) in_x)) (All-head P g' [] (All-tail P f' (g' ∷ []) in_y)) second)
+    (same f f' (All-head P f (g ∷ []) in_x) (All-head P f' (g' ∷ []) in_y) first)
+    (same g g' (All-head P g [] (All-tail P f (g ∷ []) in_x)) (All-head P g' [] (All-tail P f' (g' ∷ []) in_y)) second)
 map-injective P h same (Formula-F.Not f) (Formula-F.Not f') in_x in_y e =
     let first : h f ≡ h f' = cc in
     ap Formula-F.Not (same f f' (All-head P f [] in_x) (All-head P f' [] in_y) first)
@@ -289,15 +290,15 @@ module _ (nodes : List Node) (places : HashMap Node ℕ (BuildHasherDefault Fold
       let is_y : Some f ≡ Some (formula_of_node (formulas_of nodes) y.0) = sym at_j ∙ formulas_of-at nodes j y.0 y.1 parts_y in
       let rolled : formula_of_node (formulas_of nodes) x.0 ≡ formula_of_node (formulas_of nodes) y.0 = cc in
       let forms : map-Formula ℕ Formula (formula_at (formulas_of nodes)) (form_of x.0) ≡ map-Formula ℕ Formula (formula_at (formulas_of nodes)) (form_of y.0) =
-          sym (out-roll-Formula _) ∙ ap out-Formula rolled ∙ out-roll-Formula _ in
+      sym (out-roll-Formula _) ∙ ap out-Formula rolled ∙ out-roll-Formula _ in
       let Fits : ℕ → Type 0 = λ part. (part < n) × (part < length (formulas_of nodes)) in
       let same : form_of x.0 ≡ form_of y.0 = map-injective Fits (formula_at (formulas_of nodes))
-          (λ p q fits_p fits_q e. once-below n p q (formula_at (formulas_of nodes) p) fits_p.0 fits_q.0
-            (at-formula_at (formulas_of nodes) p fits_p.1) (at-formula_at (formulas_of nodes) q fits_q.1 ∙ ap Some (sym e)))
-          (form_of x.0) (form_of y.0)
-          (All-weaker (λ part. part < i) Fits (λ part lt. (omega arith, omega arith)) (parts_of (form_of x.0)) parts_x)
-          (All-weaker (λ part. part < j) Fits (λ part lt. (omega arith, omega arith)) (parts_of (form_of y.0)) parts_y)
-          forms in
+      (λ p q fits_p fits_q e. once-below n p q (formula_at (formulas_of nodes) p) fits_p.0 fits_q.0
+      (at-formula_at (formulas_of nodes) p fits_p.1) (at-formula_at (formulas_of nodes) q fits_q.1 ∙ ap Some (sym e)))
+      (form_of x.0) (form_of y.0)
+      (All-weaker (λ part. part < i) Fits (λ part lt. (omega arith, omega arith)) (parts_of (form_of x.0)) parts_x)
+      (All-weaker (λ part. part < j) Fits (λ part lt. (omega arith, omega arith)) (parts_of (form_of y.0)) parts_y)
+      forms in
       let nodes_same : x.0 ≡ y.0 = sym (node_from-form x.0) ∙ ap node_from same ∙ node_from-form y.0 in
       let place : Some i ≡ Some j = sym (index.found i x.0 x.1) ∙ ap (get same_node places) nodes_same ∙ index.found j y.0 y.1 in
       cc
@@ -315,8 +316,8 @@ pub IsIndexed-pushed : (nodes nodes' : List Node) (places places' : HashMap Node
     IsIndexed nodes' places'
 IsIndexed-pushed nodes nodes' places places' node place index is room parts absent updates pushed =
     subst (λ (ns : List Node). IsIndexed ns places') (sym pushed)
-      (IsIndexed-push nodes places places' node index (omega arith) parts absent
-        (λ q. updates q ∙ ap (λ k. cond (same_node node q) (Some k) (get same_node places q)) is))
+    (IsIndexed-push nodes places places' node index (omega arith) parts absent
+    (λ q. updates q ∙ ap (λ k. cond (same_node node q) (Some k) (get same_node places q)) is))
 
 pub slice_get-pushed : (nodes nodes' : List Node) (node : Node) (place : ℕ) → place ≡ length nodes → nodes' ≡ nodes ++ node ∷ [] →
     slice_get nodes' place ≡ Some node

@@ -37,12 +37,12 @@ module _ (symbol : Symbol) (parts rest : List ℕ) (node : Node) (taking : taken
       slice_get new place ≡ Some node → (parts' : List ℕ) → parts' ≡ rest ++ place ∷ [] → All (λ part. part < length new) parts'
   inside-placed old new place inside extends at parts' is =
       let left = (taken-parts (λ part. part < length old) symbol (reverse parts) (reverse rest) (form_of node) taking
-          (All-reverse (λ part. part < length old) parts inside)).1 in
+      (All-reverse (λ part. part < length old) parts inside)).1 in
       let longer : length old ≤ length new = length-extends old new extends in
       let stay = All-weaker (λ part. part < length old) (λ part. part < length new) (λ part lt. omega arith) rest
-          (All-reversed (λ part. part < length old) rest left) in
+      (All-reversed (λ part. part < length old) rest left) in
       subst (All (λ part. part < length new)) (sym is)
-        (All-push (λ part. part < length new) rest place stay (slice_get_within new place node at))
+      (All-push (λ part. part < length new) rest place stay (slice_get_within new place node at))
 
   -- the formulas that the parts stand for
   pub applied-pushed : (nodes : List Node) (places : HashMap Node ℕ (BuildHasherDefault FoldHasher)) (place : ℕ) → IsIndexed nodes places →
@@ -86,7 +86,7 @@ module _ (before now : List Node) (places : HashMap Node ℕ (BuildHasherDefault
         ap (λ n. run_on (drop n symbols) (stands_for now' (reverse parts'))) next
         ∙ sym (ap (λ o. option_and_then (run_on (drop (suc k) symbols)) o) applies)
         ∙ ap (λ ps. option_and_then (run_on (drop (suc k) symbols)) (applied (get_or symbols k d) ps))
-            (stands_for-extends now now' (reverse parts) extends (All-reverse (λ part. part < length now) parts walk.inside))
+        (stands_for-extends now now' (reverse parts) extends (All-reverse (λ part. part < length now) parts walk.inside))
         ∙ sym (ap (λ s. run_on s (stands_for now (reverse parts))) (drop-cons symbols k d inside))
         ∙ walk.makes;
   }
@@ -95,11 +95,11 @@ module _ (before now : List Node) (places : HashMap Node ℕ (BuildHasherDefault
   pub formulas_of-last : (rest : List ℕ) (place : ℕ) → length symbols ≤ k → parts ≡ rest ++ place ∷ [] → slice_get (formulas_of now) place ≡ Some formula
   formulas_of-last rest place end is =
       let done : Some (stands_for now (reverse parts)) ≡ Some (formula ∷ []) =
-          sym (ap (λ s. run_on s (stands_for now (reverse parts))) (drop_of_length-le symbols end)) ∙ walk.makes in
+      sym (ap (λ s. run_on s (stands_for now (reverse parts))) (drop_of_length-le symbols end)) ∙ walk.makes in
       let turned : reverse parts ≡ place ∷ reverse rest = ap reverse is ∙ reverse-append rest (place ∷ []) in
       let both : Some (formula_at (formulas_of now) place ∷ stands_for now (reverse rest)) ≡ Some (formula ∷ []) =
-          sym (ap (λ ps. Some (stands_for now ps)) turned) ∙ done in
+      sym (ap (λ ps. Some (stands_for now ps)) turned) ∙ done in
       let here : formula_at (formulas_of now) place ≡ formula = cc in
       let inside : place < length now = All-head (λ part. part < length now) place (reverse rest)
-          (subst (All (λ part. part < length now)) turned (All-reverse (λ part. part < length now) parts walk.inside)) in
+      (subst (All (λ part. part < length now)) turned (All-reverse (λ part. part < length now) parts walk.inside)) in
       at-formula_at (formulas_of now) place (omega (arith, length-meanings formula_of_node now)) ∙ ap Some here

@@ -23,9 +23,10 @@ module _ {Q : Type 0} (g : Spaces) (guide : IsGuide g) (A : Automaton Q) (f : Fo
   Recognises-Not = record {
     stable = IsStable-complement g guide A of_A.stable;
     exactly = λ n a covers.
-        let other = Accepts-complement g guide A of_A.stable n a covers in
-        ((λ h. (WSat-Not f a).1 (λ k. other.0 h ((of_A.exactly n a covers).1 k))),
-         (λ h. other.1 (λ k. (WSat-Not f a).0 h ((of_A.exactly n a covers).0 k))));
+        let other = Accepts-complement g guide A of_A.stable n a covers in (
+          (λ h. (WSat-Not f a).1 (λ k. other.0 h ((of_A.exactly n a covers).1 k))),
+          (λ h. other.1 (λ k. (WSat-Not f a).0 h ((of_A.exactly n a covers).0 k))),
+        );
   }
 
   pub Recognises-And : {R S : Type 0} (B : Automaton R) (h : Formula) → Recognises g B h → (C : Automaton S)
@@ -33,9 +34,10 @@ module _ {Q : Type 0} (g : Spaces) (guide : IsGuide g) (A : Automaton Q) (f : Fo
   Recognises-And B h of_B C has pair product = record {
     stable = IsStable-product g guide A B of_A.stable of_B.stable C has pair product;
     exactly = λ n a covers.
-        let both = Accepts-product g guide A B of_A.stable of_B.stable C has pair product a in
-        ((λ k. (WSat-And f h a).1 ((of_A.exactly n a covers).0 (both.0 k).0, (of_B.exactly n a covers).0 (both.0 k).1)),
-         (λ k. both.1 ((of_A.exactly n a covers).1 ((WSat-And f h a).0 k).0, (of_B.exactly n a covers).1 ((WSat-And f h a).0 k).1)));
+        let both = Accepts-product g guide A B of_A.stable of_B.stable C has pair product a in (
+          (λ k. (WSat-And f h a).1 ((of_A.exactly n a covers).0 (both.0 k).0, (of_B.exactly n a covers).0 (both.0 k).1)),
+          (λ k. both.1 ((of_A.exactly n a covers).1 ((WSat-And f h a).0 k).0, (of_B.exactly n a covers).1 ((WSat-And f h a).0 k).1)),
+        );
   }
 
   pub Recognises-Ex2 : {R : Type 0} (t : Track) (B : Automaton R) (has : ℕ → R → Type 0) (member : ℕ → R → Q → Type 0) →
@@ -43,16 +45,17 @@ module _ {Q : Type 0} (g : Spaces) (guide : IsGuide g) (A : Automaton Q) (f : Fo
   Recognises-Ex2 t B has member subset = record {
     stable = IsStable-subset g guide A of_A.stable t.0 B has member subset;
     exactly = λ n a covers.
-        let some = Accepts-subset g guide A of_A.stable t.0 B has member subset n a covers in
-        ((λ k.
-            let set = some.0 k in
-            (WSat-Ex2 t f a).1 (set.0, set.1, (of_A.exactly (set.2).depth (replace a t.0 set.0) (set.2).covers).0 set.2)),
-         (λ k.
-            let set = (WSat-Ex2 t f a).0 k in
-            let m : ℕ = max n (set.1).0 in
-            let in_m : Covers m (replace a t.0 set.0) =
-                Covers-replace m a t.0 set.0 (Covers-more n m a (omega arith) covers) (IsWithin-more (set.1).0 m set.0 (omega arith) (set.1).1) in
-            some.1 (set.0, set.1, (of_A.exactly m (replace a t.0 set.0) in_m).1 set.2)));
+        let some = Accepts-subset g guide A of_A.stable t.0 B has member subset n a covers in (
+          (λ k.
+              let set = some.0 k in
+              (WSat-Ex2 t f a).1 (set.0, set.1, (of_A.exactly (set.2).depth (replace a t.0 set.0) (set.2).covers).0 set.2)),
+          (λ k.
+              let set = (WSat-Ex2 t f a).0 k in
+              let m : ℕ = max n (set.1).0 in
+              let in_m : Covers m (replace a t.0 set.0) =
+              Covers-replace m a t.0 set.0 (Covers-more n m a (omega arith) covers) (IsWithin-more (set.1).0 m set.0 (omega arith) (set.1).1) in
+              some.1 (set.0, set.1, (of_A.exactly m (replace a t.0 set.0) in_m).1 set.2)),
+        );
   }
 
   -- classes of states recognise the same

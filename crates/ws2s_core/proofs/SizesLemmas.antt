@@ -16,15 +16,17 @@ power_of_order = formula-induction (λ f. 2 ^ strahler_order f ≤ node_count f)
   of_Root = λ x. atom (strahler_order (Root x)) (node_count (Root x)) (fold-Root ℕ order_of_node x) (fold-Root ℕ count_of_node x);
   of_And = λ f g of_f of_g.
       both (strahler_order f) (strahler_order g) (node_count f) (node_count g) (strahler_order (And f g)) (node_count (And f g))
-        of_f of_g (fold-And ℕ order_of_node f g) (fold-And ℕ count_of_node f g) (eqb (strahler_order f) (strahler_order g)) refl;
+      of_f of_g (fold-And ℕ order_of_node f g) (fold-And ℕ count_of_node f g) (eqb (strahler_order f) (strahler_order g)) refl;
   of_Not = λ f of_f. one (strahler_order f) (node_count f) (strahler_order (Not f)) (node_count (Not f)) of_f (fold-Not ℕ order_of_node f) (fold-Not ℕ count_of_node f);
   of_Ex2 = λ t f of_f. one (strahler_order f) (node_count f) (strahler_order (Ex2 t f)) (node_count (Ex2 t f)) of_f (fold-Ex2 ℕ order_of_node t f) (fold-Ex2 ℕ count_of_node t f);
 })
   where
     atom : (o c : ℕ) → o ≡ 0 → c ≡ 1 → 2 ^ o ≤ c
     atom o c is_o is_c = subst (λ n. 2 ^ n ≤ c) (sym is_o) (omega arith)
+
     one : (o c o' c' : ℕ) → 2 ^ o ≤ c → o' ≡ o → c' ≡ c + 1 → 2 ^ o' ≤ c'
     one o c o' c' h is_o is_c = subst (λ n. 2 ^ n ≤ c') (sym is_o) (omega arith)
+
     both : (o p c d o' c' : ℕ) → 2 ^ o ≤ c → 2 ^ p ≤ d → o' ≡ cond (eqb o p) (o + 1) (max o p) → c' ≡ c + d + 1 →
         (b : Bool) → eqb o p ≡ b → 2 ^ o' ≤ c'
     both o p c d o' c' of_o of_p is_o is_c true same =
@@ -35,7 +37,7 @@ power_of_order = formula-induction (λ f. 2 ^ strahler_order f ≤ node_count f)
     both o p c d o' c' of_o of_p is_o is_c false same =
         let next : o' ≡ max o p = is_o ∙ ap (λ b. cond b (o + 1) (max o p)) same in
         elim (cases_lt o p) as (λ _. 2 ^ o' ≤ c') [
-          inl lt ↦ (let e : o' ≡ p = next ∙ omega arith in subst (λ n. 2 ^ n ≤ c') (sym e) (omega arith))
+          | inl lt ↦ (let e : o' ≡ p = next ∙ omega arith in subst (λ n. 2 ^ n ≤ c') (sym e) (omega arith))
           | inr ge ↦ (let e : o' ≡ o = next ∙ omega arith in subst (λ n. 2 ^ n ≤ c') (sym e) (omega arith))
         ]
 

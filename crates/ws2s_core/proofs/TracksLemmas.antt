@@ -86,9 +86,10 @@ carried = formula-induction (λ f. (a b : Assignment) → AgreeOn f a b → WSat
       (WSat-Root x b).1 (subst (λ (set : PositionSet). IsOnly set []) at_x ((WSat-Root x a).0 h));
   of_And = λ f g of_f of_g a b agree h.
       let both = (WSat-And f g a).0 h in
-      (WSat-And f g b).1
-        (of_f a b (λ t free. agree t (IsFree-And t f g ∙ or-left (is_free t f) (is_free t g) free)) both.0,
-         of_g a b (λ t free. agree t (IsFree-And t f g ∙ or-right (is_free t f) (is_free t g) free)) both.1);
+      (WSat-And f g b).1 (
+        of_f a b (λ t free. agree t (IsFree-And t f g ∙ or-left (is_free t f) (is_free t g) free)) both.0,
+        of_g a b (λ t free. agree t (IsFree-And t f g ∙ or-right (is_free t f) (is_free t g) free)) both.1,
+      );
   of_Not = λ f of_f a b agree h.
       (WSat-Not f b).1 (λ k. (WSat-Not f a).0 h (of_f b a (λ t free. sym (agree t (IsFree-Not t f ∙ free))) k));
   of_Ex2 = λ t f of_f a b agree h.
@@ -111,7 +112,7 @@ IsFree-bound = formula-induction (λ f. (t : ℕ) → IsFree t f → t < track_b
   of_And = λ f g of_f of_g t free.
       let e : track_bound (And f g) ≡ max (track_bound f) (track_bound g) = fold-And ℕ bound_of_node f g in
       elim (or-cases (is_free t f) (is_free t g) (sym (IsFree-And t f g) ∙ free)) as (λ c. t < track_bound (And f g)) [
-        inl k ↦ omega (arith, of_f t k)
+        | inl k ↦ omega (arith, of_f t k)
         | inr k ↦ omega (arith, of_g t k)
       ];
   of_Not = λ f of_f t free.
@@ -124,11 +125,13 @@ IsFree-bound = formula-induction (λ f. (t : ℕ) → IsFree t f → t < track_b
   where
     one : (x t k : ℕ) → k ≡ x + 1 → eqb x t ≡ true → t < k
     one x t k e is = omega (arith, eqb-true x t is)
+
     two : (x y t k : ℕ) → k ≡ max (x + 1) (y + 1) → eqb x t || eqb y t ≡ true → t < k
     two x y t k e is = elim (or-cases (eqb x t) (eqb y t) is) as (λ c. t < k) [
-      inl is_x ↦ omega (arith, eqb-true x t is_x)
+      | inl is_x ↦ omega (arith, eqb-true x t is_x)
       | inr is_y ↦ omega (arith, eqb-true y t is_y)
     ]
+
     inside : (b c : Bool) → cond b false c ≡ true → c ≡ true
     inside true c e = absurd (false≢true e)
     inside false c e = e
@@ -146,6 +149,7 @@ Covers-only_below (suc k) a finite =
     below t p n covers deep false is lt deep' =
         let e : t ≡ k = omega (arith, ltb-false t k is) in
         subst (λ u. a u p ≡ false) (sym e) ((finite k).1 p deep')
+
     pick : (n : ℕ) → Covers n (only_below k a) → (t : ℕ) (p : Position) → max n (finite k).0 ≤ length p →
         (b : Bool) → ltb t (suc k) ≡ b → b && a t p ≡ false
     pick n covers t p deep true is = below t p n covers (omega arith) (ltb t k) refl (ltb-true t (suc k) is) (omega arith)
@@ -173,25 +177,35 @@ WSat-renamed r injective = formula-induction (λ f. (a : Assignment) → WSat (r
   of_Succ0 = λ x y a. through (fold-Succ0 Formula (renamed_node r) x y) a (joined (WSat-Succ0 (renamed_track r x) (renamed_track r y) a) (WSat-Succ0 x y (λ t. a (r t))));
   of_Succ1 = λ x y a. through (fold-Succ1 Formula (renamed_node r) x y) a (joined (WSat-Succ1 (renamed_track r x) (renamed_track r y) a) (WSat-Succ1 x y (λ t. a (r t))));
   of_Root = λ x a. through (fold-Root Formula (renamed_node r) x) a (joined (WSat-Root (renamed_track r x) a) (WSat-Root x (λ t. a (r t))));
-  of_And = λ f g of_f of_g a. through (fold-And Formula (renamed_node r) f g) a
-      ((λ h. (WSat-And f g (λ t. a (r t))).1 ((of_f a).0 ((WSat-And (renamed r f) (renamed r g) a).0 h).0, (of_g a).0 ((WSat-And (renamed r f) (renamed r g) a).0 h).1)),
-       (λ h. (WSat-And (renamed r f) (renamed r g) a).1 ((of_f a).1 ((WSat-And f g (λ t. a (r t))).0 h).0, (of_g a).1 ((WSat-And f g (λ t. a (r t))).0 h).1)));
-  of_Not = λ f of_f a. through (fold-Not Formula (renamed_node r) f) a
-      ((λ h. (WSat-Not f (λ t. a (r t))).1 (λ k. (WSat-Not (renamed r f) a).0 h ((of_f a).1 k))),
-       (λ h. (WSat-Not (renamed r f) a).1 (λ k. (WSat-Not f (λ t. a (r t))).0 h ((of_f a).0 k))));
-  of_Ex2 = λ t f of_f a. through (fold-Ex2 Formula (renamed_node r) t f) a
-      ((λ h.
-          let set = (WSat-Ex2 (renamed_track r t) (renamed r f) a).0 h in
-          (WSat-Ex2 t f (λ u. a (r u))).1 (set.0, set.1,
-            subst (WSat f) (renamed-replaced r injective a t.0 set.0) ((of_f (replace a (r t.0) set.0)).0 set.2))),
-       (λ h.
-          let set = (WSat-Ex2 t f (λ u. a (r u))).0 h in
-          (WSat-Ex2 (renamed_track r t) (renamed r f) a).1 (set.0, set.1,
-            (of_f (replace a (r t.0) set.0)).1 (subst (WSat f) (sym (renamed-replaced r injective a t.0 set.0)) set.2))));
+  of_And = λ f g of_f of_g a. through (fold-And Formula (renamed_node r) f g) a (
+    (λ h. (WSat-And f g (λ t. a (r t))).1 ((of_f a).0 ((WSat-And (renamed r f) (renamed r g) a).0 h).0, (of_g a).0 ((WSat-And (renamed r f) (renamed r g) a).0 h).1)),
+    (λ h. (WSat-And (renamed r f) (renamed r g) a).1 ((of_f a).1 ((WSat-And f g (λ t. a (r t))).0 h).0, (of_g a).1 ((WSat-And f g (λ t. a (r t))).0 h).1)),
+  );
+  of_Not = λ f of_f a. through (fold-Not Formula (renamed_node r) f) a (
+    (λ h. (WSat-Not f (λ t. a (r t))).1 (λ k. (WSat-Not (renamed r f) a).0 h ((of_f a).1 k))),
+    (λ h. (WSat-Not (renamed r f) a).1 (λ k. (WSat-Not f (λ t. a (r t))).0 h ((of_f a).0 k))),
+  );
+  of_Ex2 = λ t f of_f a. through (fold-Ex2 Formula (renamed_node r) t f) a (
+    (λ h.
+        let set = (WSat-Ex2 (renamed_track r t) (renamed r f) a).0 h in
+        (WSat-Ex2 t f (λ u. a (r u))).1 (
+          set.0,
+          set.1,
+          subst (WSat f) (renamed-replaced r injective a t.0 set.0) ((of_f (replace a (r t.0) set.0)).0 set.2),
+        )),
+    (λ h.
+        let set = (WSat-Ex2 t f (λ u. a (r u))).0 h in
+        (WSat-Ex2 (renamed_track r t) (renamed r f) a).1 (
+          set.0,
+          set.1,
+          (of_f (replace a (r t.0) set.0)).1 (subst (WSat f) (sym (renamed-replaced r injective a t.0 set.0)) set.2),
+        )),
+  );
 })
   where
     through : {f g : Formula} → f ≡ g → (a : Assignment) → {P : Type 0} → WSat g a ↔ P → WSat f a ↔ P
     through e a h = ((λ k. h.0 (subst (λ f. WSat f a) e k)), (λ k. subst (λ f. WSat f a) (sym e) (h.1 k)))
+
     joined : {P Q R : Type 0} → P ↔ R → Q ↔ R → P ↔ Q
     joined h k = ((λ p. k.1 (h.0 p)), (λ q. h.1 (k.0 q)))
 
@@ -202,33 +216,45 @@ IsInjective-exchanged t u v w e =
     second : (v : ℕ) (b : Bool) → eqb v u ≡ b → eqb v t ≡ false → exchanged t u (cond b t v) ≡ v
     second v true is not_t = ap (λ b. cond b u (cond (eqb t u) t t)) (eq-eqb t t refl) ∙ sym (eqb-true v u is)
     second v false is not_t = ap (λ b. cond b u (cond (eqb v u) t v)) not_t ∙ ap (λ b. cond b t v) is
+
     back : (b : Bool) → eqb u t ≡ b → cond b u (cond (eqb u u) t u) ≡ t
     back true is = eqb-true u t is
     back false is = ap (λ b. cond b t u) (eq-eqb u u refl)
+
     first : (v : ℕ) (b : Bool) → eqb v t ≡ b → exchanged t u (cond b u (cond (eqb v u) t v)) ≡ v
     first v true is = back (eqb u t) refl ∙ sym (eqb-true v t is)
     first v false is = second v (eqb v u) refl is
+
     twice : (v : ℕ) → exchanged t u (exchanged t u v) ≡ v
     twice v = first v (eqb v t) refl
 
 -- a bound track may have any number that isn't free under its quantifier
 pub WSat-bound : (t u : Track) (f : Formula) → (IsFree u.0 f → ⊥) → (a : Assignment) →
     WSat (Ex2 t f) a ↔ WSat (Ex2 u (renamed (exchanged t.0 u.0) f)) a
-WSat-bound t u f not_free a =
-    ((λ h.
-        let set = (WSat-Ex2 t f a).0 h in
-        (WSat-Ex2 u (renamed r f) a).1 (set.0, set.1,
-          (WSat-renamed r injective f (replace a u.0 set.0)).1 (carried f (replace a t.0 set.0) (λ v. replace a u.0 set.0 (r v)) (agree set.0) set.2))),
-     (λ h.
-        let set = (WSat-Ex2 u (renamed r f) a).0 h in
-        (WSat-Ex2 t f a).1 (set.0, set.1,
-          carried f (λ v. replace a u.0 set.0 (r v)) (replace a t.0 set.0) (λ v free. sym (agree set.0 v free))
-            ((WSat-renamed r injective f (replace a u.0 set.0)).0 set.2))))
+WSat-bound t u f not_free a = (
+  (λ h.
+      let set = (WSat-Ex2 t f a).0 h in
+      (WSat-Ex2 u (renamed r f) a).1 (
+        set.0,
+        set.1,
+        (WSat-renamed r injective f (replace a u.0 set.0)).1 (carried f (replace a t.0 set.0) (λ v. replace a u.0 set.0 (r v)) (agree set.0) set.2),
+      )),
+  (λ h.
+      let set = (WSat-Ex2 u (renamed r f) a).0 h in
+      (WSat-Ex2 t f a).1 (
+        set.0,
+        set.1,
+        carried f (λ v. replace a u.0 set.0 (r v)) (replace a t.0 set.0) (λ v free. sym (agree set.0 v free))
+            ((WSat-renamed r injective f (replace a u.0 set.0)).0 set.2),
+      )),
+)
   where
     r : ℕ → ℕ
     r = exchanged t.0 u.0
+
     injective : IsInjective (exchanged t.0 u.0)
     injective = IsInjective-exchanged t.0 u.0
+
     agree : (set : PositionSet) → AgreeOn f (replace a t.0 set) (λ v. replace a u.0 set (exchanged t.0 u.0 v))
     agree set v free = pick (eqb v t.0) refl
       where

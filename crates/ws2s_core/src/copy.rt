@@ -5,7 +5,6 @@ ghost use Rattle.ws2s_core.specs.Postfix.{applied};
 
 use crate::formula::Formula;
 use crate::postfix::{Symbol, symbols_of};
-use plain_data::Boxed;
 use std::alloc::{AllocError, Global};
 
 impl Formula {
@@ -41,15 +40,15 @@ fn apply(alloc: Global, parts: &mut Vec<Formula>, symbol: Symbol) -> Result<(), 
         Symbol::And => {
             let right = parts.pop().unwrap();
             let left = parts.pop().unwrap();
-            Formula::And(Boxed::new(alloc, left)?, Boxed::new(alloc, right)?)
+            Formula::and(alloc, left, right)?
         }
         Symbol::Not => {
             let inner = parts.pop().unwrap();
-            Formula::Not(Boxed::new(alloc, inner)?)
+            Formula::not(alloc, inner)?
         }
         Symbol::Ex2(t) => {
             let inner = parts.pop().unwrap();
-            Formula::Ex2(t, Boxed::new(alloc, inner)?)
+            Formula::ex2(alloc, t, inner)?
         }
     };
     parts.push(formula)?;

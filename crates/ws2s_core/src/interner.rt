@@ -55,7 +55,11 @@ impl Interner {
 /// # Errors
 ///
 /// Want of memory, also where the formulas are more than a `u32` numbers. The interner is then as it was.
-pub fn intern(alloc: Global, interner: &mut Interner, formula: &Formula) -> Result<FormulaId, AllocError>
+pub fn intern(
+    alloc: Global,
+    interner: &mut Interner,
+    formula: &Formula,
+) -> Result<FormulaId, AllocError>
     ensures value { IfOk result (λ id. slice_get interner.new id.0 ≡ Some formula.now) }
     ensures kept { Extends interner.old interner.new }
     ensures once { IsOnceEach interner.new }

@@ -11,12 +11,14 @@ mod node;
 mod node_table;
 mod postfix;
 mod size;
+#[cfg(test)]
+mod tests;
 mod track;
 
-pub use plain_data::Boxed;
 pub use formula::Formula;
 pub use guide::{Guide, SpaceList};
 pub use interner::{FormulaId, Interner, intern};
-pub use laws::{examples, recognising, satisfaction, trees};
 pub use label_tree::{LabelTree, TreeNode, TreeNodeList};
+pub use laws::{examples, recognising, satisfaction, trees};
+pub use plain_data::Boxed;
 pub use track::{Track, TrackList};

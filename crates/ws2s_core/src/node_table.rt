@@ -122,7 +122,11 @@ fn place_symbol(table: &mut NodeTable, parts: &mut Vec<u32>, symbol: Symbol)
 }
 
 /// The place of a formula, whose nodes are put in where they aren't there.
-pub fn place_formula(alloc: Global, table: &mut NodeTable, formula: &Formula) -> Result<u32, AllocError>
+pub fn place_formula(
+    alloc: Global,
+    table: &mut NodeTable,
+    formula: &Formula,
+) -> Result<u32, AllocError>
     requires indexed { IsIndexed table.old.nodes.items table.old.places }
     ensures indexed { IsIndexed table.new.nodes.items table.new.places }
     ensures kept { Extends table.old.nodes.items table.new.nodes.items }

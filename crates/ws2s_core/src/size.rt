@@ -46,7 +46,11 @@ impl Formula {
 
     /// The size of one of the two whose order is below this, and the other one.
     #[cycle(counting)]
-    fn simpler_half<'a>(left: &'a Formula, right: &'a Formula, order: u32) -> Option<(u64, &'a Formula)>
+    fn simpler_half<'a>(
+        left: &'a Formula,
+        right: &'a Formula,
+        order: u32,
+    ) -> Option<(u64, &'a Formula)>
         ensures some { IfSome result (λ found. IsHalfCounted left.now right.now found.0 found.1.now) }
         ensures none_left { IfNone result (order ≤ strahler_order left.now) }
         ensures none_right { IfNone result (order ≤ strahler_order right.now) }

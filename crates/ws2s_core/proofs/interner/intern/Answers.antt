@@ -11,7 +11,7 @@ returns-in_err-place-clause-once c =
 pub returns-clause-kept : goal.returns-clause-kept
 returns-clause-kept c =
     subst (λ (old : List Formula). Extends old (formulas_of c.place_formula.new.table.nodes.items)) c.interner.view_is
-      (Extends-formulas_of c.interner.inside.table.nodes.items c.place_formula.new.table.nodes.items c.place_formula.ensures.kept)
+    (Extends-formulas_of c.interner.inside.table.nodes.items c.place_formula.new.table.nodes.items c.place_formula.ensures.kept)
 
 pub returns-clause-once : goal.returns-clause-once
 returns-clause-once c =

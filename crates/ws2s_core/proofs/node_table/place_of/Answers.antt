@@ -10,8 +10,8 @@ pub returns-clause-indexed : goal.returns-clause-indexed
 returns-clause-indexed c =
     let place : c.len-place.result ≡ length c.args.table.now.nodes.items = omega (arith, c.args.table.now.nodes.ok.0) in
     IsIndexed-pushed c.args.table.now.nodes.items c.push.new.self.items c.args.table.now.places c.insert.new.self c.args.node
-      c.len-place.result c.requires.indexed place (omega arith) c.requires.parts (sym c.in_default.ensures.value)
-      c.in-Ok.ensures.updates.0 c.in-Ok-push.ensures.items
+    c.len-place.result c.requires.indexed place (omega arith) c.requires.parts (sym c.in_default.ensures.value)
+    c.in-Ok.ensures.updates.0 c.in-Ok-push.ensures.items
 
 pub returns-clause-value : goal.returns-clause-value
 returns-clause-value c =

@@ -7,5 +7,5 @@ use Rattle.ws2s_core.proofs.node_table.reserve.Goals as goal
 pub returns-clause-indexed : goal.returns-clause-indexed
 returns-clause-indexed c =
     subst (λ (nodes : List Node). IsIndexed nodes c.reserve-2.new.self) (sym c.reserve.ensures.items)
-      (IsIndexed-same c.args.table.now.nodes.items c.args.table.now.places c.reserve-2.new.self c.requires.indexed
-        c.reserve-2.ensures.entries.2)
+    (IsIndexed-same c.args.table.now.nodes.items c.args.table.now.places c.reserve-2.new.self c.requires.indexed
+    c.reserve-2.ensures.entries.2)

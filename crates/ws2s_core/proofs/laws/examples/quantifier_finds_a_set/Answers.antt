@@ -18,9 +18,12 @@ root_set-within (b ∷ p) deep = refl
 pub returns : goal.returns
 unfolding root_set
 returns c = record {
-  holds = (WSat-Ex2 (track 1) (And (Root (track 1)) (Sub (track 1) (track 0))) _).1 (root_set, (1, root_set-within),
-      (WSat-And (Root (track 1)) (Sub (track 1) (track 0)) _).1
-        ((WSat-Root (track 1) _).1 (IsOnly-listed []), (WSat-Sub (track 1) (track 0) _).1 (λ p inside. inside)));
+  holds = (WSat-Ex2 (track 1) (And (Root (track 1)) (Sub (track 1) (track 0))) _).1 (
+    root_set,
+    (1, root_set-within),
+    (WSat-And (Root (track 1)) (Sub (track 1) (track 0)) _).1
+        ((WSat-Root (track 1) _).1 (IsOnly-listed []), (WSat-Sub (track 1) (track 0) _).1 (λ p inside. inside)),
+  );
   fails = λ h.
       let set = (WSat-Ex2 (track 1) (And (Root (track 1)) (Sub (track 1) (track 0))) none).0 h in
       let both = (WSat-And (Root (track 1)) (Sub (track 1) (track 0)) _).0 set.2 in

@@ -4,6 +4,7 @@ use Rattle.ws2s_core.proofs.RecognisingLemmas.{accepted-satisfied, satisfied-acc
 use Rattle.ws2s_core.proofs.laws.recognising.nothing_accepted_where_unsatisfiable.Goals as goal
 
 pub returns : goal.returns
-returns c = λ g A f guide of_A.
-    ((λ nothing a finite h. nothing (only_below (track_bound f) a) (satisfied-accepted g guide A f of_A a finite h)),
-     (λ unsatisfied a h. let s = accepted-satisfied g guide A f of_A a h in unsatisfied a s.0 s.1))
+returns c = λ g A f guide of_A. (
+  (λ nothing a finite h. nothing (only_below (track_bound f) a) (satisfied-accepted g guide A f of_A a finite h)),
+  (λ unsatisfied a h. let s = accepted-satisfied g guide A f of_A a h in unsatisfied a s.0 s.1),
+)
