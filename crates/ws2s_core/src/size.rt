@@ -9,16 +9,16 @@ impl Formula {
     /// The number of nodes, or 18,446,744,073,709,551,615 where there are more.
     ///
     /// Takes no memory, and a stack of at most 64 levels, however deep the formula is: of the two halves of a
-    /// conjunction the simpler one is counted by a call, and the other one by going on.
+    /// conjunction the one of the smaller order is counted by a call, and the other one by going on. A formula of a
+    /// higher order has more nodes than are counted. Where one half of most conjunctions is small, the time is linear
+    /// in the number n of nodes; for a full tree it is about n ^ 1.6.
     pub fn size(&self) -> u64
         ensures { result ≡ min (node_count self.now) 18446744073709551615 }
     {
-        for order in 0..64 {
-            if let Some(size) = self.size_to_order(order) {
-                return size;
-            }
+        match self.size_to_order(63) {
+            Some(size) => size,
+            None => u64::MAX,
         }
-        u64::MAX
     }
 
     /// The size of a formula whose order is at most this.
