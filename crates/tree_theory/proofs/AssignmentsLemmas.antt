@@ -1,8 +1,7 @@
 -- On assignments: covering depths, and an assignment put together from a label and two halves.
-use Rattle.std.proofs.Common.{◌≡◌, ◌≢◌, ℕ, zero, suc, ◌+◌, ◌-◌, ◌<◌, ◌≤◌, max, Bool, true, false, cond, eqb, ◌==◌, IsTrue, ◌&&◌, nat_lt, ◌⊎◌, List, [], ◌∷◌, length, refl, sym, ap, subst, ◌∙◌, inl, inr, arith, eqb-true, eq-eqb, ne_eqb, zero-le, suc-le-suc}
-use Rattle.std.proofs.lemmas.Bool.{true≢false, false≢true, eqb-false, ltb-true, lt-ltb, le-ltb}
+use Rattle.std.proofs.Common.{◌≡◌, ◌≢◌, ℕ, suc, ◌≤◌, Bool, true, false, cond, eqb, [], ◌∷◌, refl, sym, ◌∙◌, arith, eq-eqb, ne_eqb, zero-le, suc-le-suc}
 use mathlib.Core.Path.{fun_ext}
-use Rattle.tree_theory.specs.Assignments.{Position, PositionSet, Assignment, Label, IsWithin, IsFiniteSet, IsFinite, Covers, half, root_label, empty_label, with_track, replace, HasAtMost, no_positions, empty_assignment, only_below}
+use Rattle.tree_theory.specs.Assignments.{PositionSet, Assignment, Label, IsWithin, IsFinite, Covers, half, root_label, empty_label, replace, empty_assignment}
 
 -- a deeper depth covers too
 pub IsWithin-more : (n m : ℕ) (set : PositionSet) → n ≤ m → IsWithin n set → IsWithin m set

@@ -1,11 +1,11 @@
 -- On values: the depth is free once it covers, and complements, pairs and names.
-use Rattle.std.proofs.Common.{◌≡◌, ◌≢◌, ℕ, zero, suc, ◌+◌, ◌-◌, ◌<◌, ◌≤◌, max, Bool, true, false, not, ◌&&◌, cond, IsTrue, ◌↔◌, ◌⊎◌, List, [], ◌∷◌, length, refl, sym, ap, subst, ◌∙◌, inl, inr, arith}
-use Rattle.std.proofs.lemmas.Bool.{true≢false, false≢true, both_ways, not-true}
-use Rattle.tree_theory.specs.Assignments.{Position, PositionSet, Assignment, Label, IsWithin, Covers, half, root_label, empty_assignment, empty_label}
+use Rattle.std.proofs.Common.{◌≡◌, ℕ, zero, suc, ◌+◌, ◌-◌, ◌≤◌, max, Bool, true, false, not, ◌&&◌, IsTrue, ◌↔◌, refl, sym, ap, ◌∙◌, arith}
+use Rattle.std.proofs.lemmas.Bool.{false≢true, both_ways, not-true}
+use Rattle.tree_theory.specs.Assignments.{Assignment, Covers, half, root_label, empty_assignment, empty_label}
 use Rattle.tree_theory.specs.Guides.{Spaces, IsSpace, IsGuide, left, right}
 use Rattle.tree_theory.specs.Automata.{Automaton, value, IsStable, Accepts, IsValue}
 use Rattle.tree_theory.specs.Constructions.{complement, pairs, IsReached, IsClosed, IsNaming, IsOnce, IsProduct}
-use Rattle.tree_theory.proofs.AssignmentsLemmas.{Covers-half, Covers-half_same, Covers-more, root_label-covered, joined, Covers-joined, Covers-empty}
+use Rattle.tree_theory.proofs.AssignmentsLemmas.{Covers-half, Covers-more, root_label-covered, joined, Covers-joined, Covers-empty}
 
 -- k more
 up : ℕ → ℕ → ℕ
@@ -78,7 +78,7 @@ module _ {Q : Type 0} (g : Spaces) (guide : IsGuide g) (A : Automaton Q) (stable
   pub IsStable-complement : IsStable g (complement A)
   IsStable-complement = record { at = stable.at }
 
-  value-complement : (s n : ℕ) (a : Assignment) → value g (complement A) s n a ≡ value g A s n a
+  pub value-complement : (s n : ℕ) (a : Assignment) → value g (complement A) s n a ≡ value g A s n a
   value-complement s zero a = refl
   value-complement s (suc n) a = λ i. A.step s
       (value-complement (left g s) n (half false a) i) (value-complement (right g s) n (half true a) i) (root_label a)

@@ -1,3 +1,4 @@
+pub mod AlikeLemmas
 pub mod AssignmentsLemmas
 pub mod AutomataLemmas
 pub mod ListedLemmas

@@ -1,13 +1,13 @@
 -- On minimal automata: what keeps states apart, and that two of them that accept the same are one to one.
-use Rattle.std.proofs.Common.{◌≡◌, ◌≢◌, ℕ, zero, suc, ◌+◌, ◌-◌, ◌<◌, ◌≤◌, max, Bool, true, false, IsTrue, ◌↔◌, ◌⊎◌, inl, inr, List, [], ◌∷◌, ◌++◌, length, refl, sym, ap, subst, ◌∙◌, arith}
-use Rattle.std.proofs.lemmas.Bool.{cases_eq}
+use Rattle.std.proofs.Common.{◌≡◌, ◌≢◌, ℕ, suc, ◌≤◌, max, Bool, true, false, ◌↔◌, ◌⊎◌, inl, inr, [], ◌∷◌, ◌++◌, refl, sym, ap, subst, ◌∙◌, arith}
 use Rattle.std.specs.Bool.{one_answer}
 use Rattle.tree_theory.specs.Assignments.{Position, Assignment, Label, Covers, half, root_label, empty_assignment, empty_label}
 use Rattle.tree_theory.specs.Guides.{Spaces, IsSpace, IsGuide, left, right, space_at}
-use Rattle.tree_theory.specs.Automata.{Automaton, value, IsStable, Accepts, IsValue}
-use Rattle.tree_theory.specs.Constructions.{IsReached, IsClosed, IsNaming, IsOnce}
+use Rattle.tree_theory.specs.Automata.{Automaton, value, IsStable, Accepts}
+use Rattle.tree_theory.specs.Constructions.{IsReached, IsClosed, IsNaming}
 use Rattle.tree_theory.specs.Minimal.{value_with, AreToldApart, IsMinimal, AreSeparated, at_root, below_left, below_right, AreTwins, AreAlike}
 use Rattle.tree_theory.proofs.AssignmentsLemmas.{Covers-half_same, Covers-more, joined, Covers-joined, Covers-empty}
+use Rattle.tree_theory.proofs.AlikeLemmas.{first-there, second-there, AreAlike-reached}
 use Rattle.tree_theory.proofs.AutomataLemmas.{value-same, Accepts-at, IsClosed-reached, value-has, name-value}
 
 -- the depth with a position's length added
@@ -192,64 +192,32 @@ module _ {Q R : Type 0} (decide_Q : (p q : Q) → (p ≡ q) ⊎ (p ≢ q)) (deci
     (g : Spaces) (guide : IsGuide g) (A : Automaton Q) (has_A : ℕ → Q → Type 0) (of_A : IsMinimal g A has_A)
     (B : Automaton R) (has_B : ℕ → R → Type 0) (of_B : IsMinimal g B has_B)
     (same : (n : ℕ) (a : Assignment) → Covers n a → Accepts g A a ↔ Accepts g B a) where
-  first-has : (s : ℕ) (p : Q) (q : R) → IsSpace g s → AreTwins g A B s p q → has_A s p
-  first-has s p q there t = ((of_A.reached).state s p there).1
-      (record { assignment = t.assignment; depth = t.depth; covers = t.covers; is_value = t.first })
-
-  second-has : (s : ℕ) (p : Q) (q : R) → IsSpace g s → AreTwins g A B s p q → has_B s q
-  second-has s p q there t = ((of_B.reached).state s q there).1
-      (record { assignment = t.assignment; depth = t.depth; covers = t.covers; is_value = t.second })
-
   -- two minimal automata that accept the same have states one to one
   pub AreAlike-minimal : AreAlike g A has_A B has_B
-  AreAlike-minimal = record {
-    there = λ s p is_space has.
-        let v = ((of_A.reached).state s p is_space).0 has in
-        let t : AreTwins g A B s p (value g B s v.depth v.assignment) =
-        record { assignment = v.assignment; depth = v.depth; covers = v.covers; first = v.is_value; second = refl } in
-        (value g B s v.depth v.assignment, second-has s p _ is_space t, t);
-    back = λ s q is_space has.
-        let v = ((of_B.reached).state s q is_space).0 has in
-        let t : AreTwins g A B s (value g A s v.depth v.assignment) q =
-        record { assignment = v.assignment; depth = v.depth; covers = v.covers; first = refl; second = v.is_value } in
-        (value g A s v.depth v.assignment, first-has s _ q is_space t, t);
-    one_there = λ s p q r is_space one other.
-        elim (decide_R q r) as (λ e. q ≡ r) [
-          | inl is ↦ is
-          | inr is_not ↦ absurd (twins-not_apart g guide A of_A.stable B of_B.stable same s p q r one other
-              (of_B.apart s q r is_space (second-has s p q is_space one) (second-has s p r is_space other) is_not))
-        ];
-    one_back = λ s p q r is_space one other.
-        elim (decide_Q p q) as (λ e. p ≡ q) [
-          | inl is ↦ is
-          | inr is_not ↦ absurd (twins-not_apart g guide B of_B.stable A of_A.stable
-              (λ n a covers. ((same n a covers).1, (same n a covers).0)) s r p q
-              (twins-turned g A B s p r one) (twins-turned g A B s q r other)
-              (of_A.apart s p q is_space (first-has s p r is_space one) (first-has s q r is_space other) is_not))
-        ];
-    initial = λ s is_space. record { assignment = empty_assignment; depth = 0; covers = Covers-empty; first = refl; second = refl };
-    step = λ s p q x y label is_space l r.
-        let n : ℕ = max l.depth r.depth in
-        let in_l : Covers n l.assignment = Covers-more l.depth n l.assignment (omega arith) l.covers in
-        let in_r : Covers n r.assignment = Covers-more r.depth n r.assignment (omega arith) r.covers in
-        let to_l = guide.left_inside s is_space in
-        let to_r = guide.right_inside s is_space in
-        record {
-          assignment = joined label l.assignment r.assignment;
-          depth = suc n;
-          covers = Covers-joined n label l.assignment r.assignment in_l in_r;
-          first = λ i. A.step s
-              ((value-same g guide A of_A.stable (left g s) n l.depth l.assignment to_l in_l l.covers ∙ l.first) i)
-              ((value-same g guide A of_A.stable (right g s) n r.depth r.assignment to_r in_r r.covers ∙ r.first) i) label;
-          second = λ i. B.step s
-              ((value-same g guide B of_B.stable (left g s) n l.depth l.assignment to_l in_l l.covers ∙ l.second) i)
-              ((value-same g guide B of_B.stable (right g s) n r.depth r.assignment to_r in_r r.covers ∙ r.second) i) label;
-        };
-    accepting = λ p x t.
-        sym (ap (λ y. A.accepting y) t.first)
-        ∙ accepting-same g guide A of_A.stable B of_B.stable same t.depth t.assignment t.covers
-        ∙ ap (λ y. B.accepting y) t.second;
-  }
+  AreAlike-minimal =
+      AreAlike-reached g guide A has_A of_A.stable of_A.reached B has_B of_B.stable of_B.reached
+      (λ s p q r there one other.
+      elim (decide_R q r) as (λ e. q ≡ r) [
+        | inl is ↦ is
+        | inr is_not ↦ absurd (twins-not_apart g guide A of_A.stable B of_B.stable same s p q r one other
+            (of_B.apart s q r there
+            (second-there g guide A has_A of_A.stable of_A.reached B has_B of_B.stable of_B.reached s p q there one)
+            (second-there g guide A has_A of_A.stable of_A.reached B has_B of_B.stable of_B.reached s p r there other) is_not))
+      ])
+      (λ s p q r there one other.
+      elim (decide_Q p q) as (λ e. p ≡ q) [
+        | inl is ↦ is
+        | inr is_not ↦ absurd (twins-not_apart g guide B of_B.stable A of_A.stable
+            (λ n a covers. ((same n a covers).1, (same n a covers).0)) s r p q
+            (twins-turned g A B s p r one) (twins-turned g A B s q r other)
+            (of_A.apart s p q there
+            (first-there g guide A has_A of_A.stable of_A.reached B has_B of_B.stable of_B.reached s p r there one)
+            (first-there g guide A has_A of_A.stable of_A.reached B has_B of_B.stable of_B.reached s q r there other) is_not))
+      ])
+      (λ p x t.
+      sym (ap (λ y. A.accepting y) t.first)
+      ∙ accepting-same g guide A of_A.stable B of_B.stable same t.depth t.assignment t.covers
+      ∙ ap (λ y. B.accepting y) t.second)
 
 -- classes of states that are kept apart make a minimal automaton
 module _ {Q R : Type 0} (g : Spaces) (guide : IsGuide g) (A : Automaton Q) (stable : IsStable g A) (has : ℕ → Q → Type 0)

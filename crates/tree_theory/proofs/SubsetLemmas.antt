@@ -1,13 +1,13 @@
 -- On the subset automaton: it is stable, and accepts exactly where some finite set for the dropped track is accepted.
-use Rattle.std.proofs.Common.{◌≡◌, ◌≢◌, ℕ, zero, suc, ◌+◌, ◌-◌, ◌<◌, ◌≤◌, max, Bool, true, false, cond, eqb, IsTrue, ◌↔◌, List, [], ◌∷◌, length, refl, sym, ap, subst, ◌∙◌, arith, eqb-true}
+use Rattle.std.proofs.Common.{◌≡◌, ℕ, zero, suc, ◌≤◌, max, Bool, true, false, cond, eqb, ◌↔◌, [], ◌∷◌, refl, sym, ap, subst, ◌∙◌, arith, eqb-true}
 use Rattle.std.proofs.lemmas.Bool.{eqb-false}
 use mathlib.Core.Path.{fun_ext}
-use Rattle.tree_theory.specs.Assignments.{Position, PositionSet, Assignment, Label, IsWithin, IsFiniteSet, Covers, half, root_label, empty_assignment, empty_label, with_track, replace, HasAtMost, no_positions}
+use Rattle.tree_theory.specs.Assignments.{PositionSet, Assignment, Label, IsWithin, IsFiniteSet, Covers, half, root_label, empty_assignment, empty_label, with_track, replace, HasAtMost, no_positions}
 use Rattle.tree_theory.specs.Guides.{Spaces, IsSpace, IsGuide, left, right}
-use Rattle.tree_theory.specs.Automata.{Automaton, value, IsStable, Accepts, IsValue}
-use Rattle.tree_theory.specs.Constructions.{IsClosed, Settled, starts, steps, IsStepOf, HasAccepting, IsSubset}
-use Rattle.tree_theory.proofs.AssignmentsLemmas.{IsWithin-more, Covers-half, Covers-half_same, Covers-more, Covers-replace, IsWithin-replaced, joined_set, IsWithin-joined_set, Covers-empty}
-use Rattle.tree_theory.proofs.AutomataLemmas.{value-same, Accepts-at, IsClosed-reached, value-has}
+use Rattle.tree_theory.specs.Automata.{Automaton, value, IsStable, Accepts}
+use Rattle.tree_theory.specs.Constructions.{IsClosed, Settled, starts, steps, IsStepOf, IsSubset}
+use Rattle.tree_theory.proofs.AssignmentsLemmas.{IsWithin-more, Covers-half, Covers-half_same, Covers-more, Covers-replace, joined_set, IsWithin-joined_set, Covers-empty}
+use Rattle.tree_theory.proofs.AutomataLemmas.{value-same, Accepts-at, IsClosed-reached}
 
 -- a label with at most one track is the empty one with that track as it stands
 with_track-at_most : (t : ℕ) (label : Label) → HasAtMost t label → with_track empty_label t (label t) ≡ label
@@ -165,7 +165,7 @@ module _ {Q R : Type 0} (g : Spaces) (guide : IsGuide g) (A : Automaton Q) (stab
   pub IsClosed-subset : IsClosed g B has
   IsClosed-subset = IsClosed-reached g guide B IsStable-subset has subset.reached
 
-  reached-value : (s n : ℕ) (a : Assignment) → IsSpace g s → Covers n a → has s (value g B s n a)
+  pub reached-value : (s n : ℕ) (a : Assignment) → IsSpace g s → Covers n a → has s (value g B s n a)
   reached-value s n a there covers = ((subset.reached).state s _ there).1
       (record { assignment = a; depth = n; covers = covers; is_value = refl })
 
@@ -238,3 +238,14 @@ module _ {Q R : Type 0} (g : Spaces) (guide : IsGuide g) (A : Automaton Q) (stab
               accepting = Accepts-at g guide A stable m (replace a t h.0) in_m inner;
             });
           }
+
+-- the values of two subset automata of the same have the same members
+pub members-same : {Q R S : Type 0} (g : Spaces) (guide : IsGuide g) (A : Automaton Q) (stable : IsStable g A) (t : ℕ)
+    (B : Automaton R) (has_B : ℕ → R → Type 0) (member_B : ℕ → R → Q → Type 0) → IsSubset g A t B has_B member_B →
+    (C : Automaton S) (has_C : ℕ → S → Type 0) (member_C : ℕ → S → Q → Type 0) → IsSubset g A t C has_C member_C →
+    (n s : ℕ) (a : Assignment) (q : Q) → IsSpace g s → Covers n a →
+    member_B s (value g B s n a) q → member_C s (value g C s n a) q
+members-same g guide A stable t B has_B member_B of_B C has_C member_C of_C n s a q there covers m =
+    let c = chosen-member g guide A stable t B has_B member_B of_B n s a q there covers m in
+    subst (member_C s (value g C s n a)) c.gives
+    (member-chosen g guide A stable t C has_C member_C of_C n s c.depth a c.set there covers c.deep)

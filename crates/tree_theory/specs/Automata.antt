@@ -1,6 +1,6 @@
 -- Guided tree automata, from the leaves to the root, over any type of states. (Thatcher and Wright 1968; guided
 -- automata: Klarlund and Schwartzbach 1993.)
-use Rattle.std.specs.Prelude.{◌≡◌, ℕ, zero, suc, Bool, true, false, not, IsTrue}
+use Rattle.std.specs.Prelude.{◌≡◌, ℕ, zero, suc, Bool, true, false, IsTrue}
 use Rattle.tree_theory.specs.Assignments.{Assignment, Label, Covers, half, root_label, empty_label}
 use Rattle.tree_theory.specs.Guides.{Spaces, IsSpace, left, right}
 

@@ -1,6 +1,6 @@
 -- The complement, the product, the subset automaton, and other names for states. (Textbook: Comon and others,
 -- Tree Automata Techniques and Applications, chapter 1.)
-use Rattle.std.specs.Prelude.{◌≡◌, ℕ, Bool, true, false, not, ◌&&◌, IsTrue, ◌↔◌}
+use Rattle.std.specs.Prelude.{◌≡◌, ℕ, Bool, not, ◌&&◌, IsTrue, ◌↔◌}
 use Rattle.tree_theory.specs.Assignments.{Label, with_track, HasAtMost}
 use Rattle.tree_theory.specs.Guides.{Spaces, IsSpace, left, right}
 use Rattle.tree_theory.specs.Automata.{Automaton, IsValue}

@@ -1,6 +1,6 @@
 -- Guides: each space has two child spaces, and space 0 belongs to the root. (Klarlund and Schwartzbach 1993;
 -- the guided tree automata of MONA.)
-use Rattle.std.specs.Prelude.{◌≡◌, ℕ, ◌<◌, Bool, true, false, List, [], ◌∷◌, length, slice_get, unwrap_or}
+use Rattle.std.specs.Prelude.{ℕ, ◌<◌, true, false, List, [], ◌∷◌, length, slice_get, unwrap_or}
 use Rattle.tree_theory.specs.Assignments.{Position}
 
 -- the pair of child spaces of each space, in order

@@ -1,6 +1,6 @@
 -- Minimal automata, in each space. (The theorem of Myhill and Nerode for trees; guided: Biehl, Klarlund and Rauhe
 -- 1996.)
-use Rattle.std.specs.Prelude.{◌≡◌, ◌≢◌, ℕ, zero, suc, Bool, true, false, IsTrue, ◌↔◌, List, [], ◌∷◌}
+use Rattle.std.specs.Prelude.{◌≡◌, ◌≢◌, ℕ, true, false, [], ◌∷◌}
 use Rattle.tree_theory.specs.Assignments.{Position, Assignment, Label, Covers, half, root_label}
 use Rattle.tree_theory.specs.Guides.{Spaces, IsSpace, left, right, space_at}
 use Rattle.tree_theory.specs.Automata.{Automaton, value, IsStable, IsValue}

@@ -5,6 +5,7 @@ ghost use Rattle.tree_theory.specs.Assignments.{Assignment, PositionSet, IsFinit
 ghost use Rattle.tree_theory.specs.Guides.{Spaces, IsGuide, IsSpace};
 ghost use Rattle.tree_theory.specs.Automata.{Automaton, value, IsStable, Accepts, Has};
 ghost use Rattle.tree_theory.specs.Constructions.{complement, IsClosed, IsNaming, IsProduct, IsSubset};
+ghost use Rattle.tree_theory.specs.Minimal.{AreAlike};
 
 /// A stable automaton has the same value at any two depths that cover the assignment.
 pub fn value_is_free_of_the_depth()
@@ -54,4 +55,22 @@ pub fn subset_drops_a_track()
         IsGuide g → IsStable g A → IsSubset g A t B (Has states) (λ s x q. IsTrue (member s x q)) →
         (n : ℕ) (a : Assignment) → Covers n a →
         Accepts g B a ↔ ((set : PositionSet) × IsFiniteSet set × Accepts g A (replace a t set)) }
+{}
+
+/// Two products of the same automata have states one to one in each space.
+pub fn products_are_alike()
+    ensures { (g : Spaces) (A B C D : Automaton ℕ) (states_C states_D : ℕ → ℕ → Bool) (pair_C pair_D : ℕ → ℕ → ℕ × ℕ) →
+        IsGuide g → IsStable g A → IsStable g B →
+        IsProduct g A B C (Has states_C) pair_C → IsProduct g A B D (Has states_D) pair_D →
+        AreAlike g C (Has states_C) D (Has states_D) }
+{}
+
+/// Two subset automata of the same automaton and track have states one to one in each space.
+pub fn subsets_are_alike()
+    ensures { (g : Spaces) (A C D : Automaton ℕ) (t : ℕ) (states_C states_D : ℕ → ℕ → Bool)
+        (member_C member_D : ℕ → ℕ → ℕ → Bool) →
+        IsGuide g → IsStable g A →
+        IsSubset g A t C (Has states_C) (λ s x q. IsTrue (member_C s x q)) →
+        IsSubset g A t D (Has states_D) (λ s x q. IsTrue (member_D s x q)) →
+        AreAlike g C (Has states_C) D (Has states_D) }
 {}

@@ -14,8 +14,10 @@ mod minimal;
 
 pub use laws::{
     complement_accepts_the_others, names_keep_acceptance, product_accepts_what_both_accept,
-    product_is_stable, subset_drops_a_track, subset_is_stable, value_is_free_of_the_depth,
+    product_is_stable, products_are_alike, subset_drops_a_track, subset_is_stable,
+    subsets_are_alike, value_is_free_of_the_depth,
 };
 pub use minimal::{
-    minimal_automata_are_alike, separated_classes_are_minimal, separated_states_are_told_apart,
+    complement_stays_minimal, minimal_automata_are_alike, separated_classes_are_minimal,
+    separated_states_are_told_apart,
 };

@@ -4,7 +4,7 @@ ghost use Rattle.std.specs.Prelude.{◌≡◌, ◌≢◌, ℕ, Bool, ◌↔◌};
 ghost use Rattle.tree_theory.specs.Assignments.{Assignment, Covers};
 ghost use Rattle.tree_theory.specs.Guides.{Spaces, IsGuide, IsSpace};
 ghost use Rattle.tree_theory.specs.Automata.{Automaton, IsStable, Accepts, Has};
-ghost use Rattle.tree_theory.specs.Constructions.{IsReached, IsNaming};
+ghost use Rattle.tree_theory.specs.Constructions.{complement, IsReached, IsNaming};
 ghost use Rattle.tree_theory.specs.Minimal.{AreSeparated, AreToldApart, IsMinimal, AreAlike};
 
 /// Two states that steps keep apart are told apart by a tree with a hole.
@@ -30,4 +30,10 @@ pub fn minimal_automata_are_alike()
         IsMinimal g A (Has states_A) → IsMinimal g B (Has states_B) →
         ((n : ℕ) (a : Assignment) → Covers n a → Accepts g A a ↔ Accepts g B a) →
         AreAlike g A (Has states_A) B (Has states_B) }
+{}
+
+/// The complement of a minimal automaton is minimal, with the same states.
+pub fn complement_stays_minimal()
+    ensures { (g : Spaces) (A : Automaton ℕ) (states : ℕ → ℕ → Bool) → IsGuide g →
+        IsMinimal g A (Has states) → IsMinimal g (complement A) (Has states) }
 {}

@@ -1,4 +1,4 @@
-use Rattle.tree_theory.proofs.AutomataLemmas.{Accepts-complement, IsStable-complement}
+use Rattle.tree_theory.proofs.AutomataLemmas.{Accepts-complement}
 use Rattle.tree_theory.proofs.laws.complement_accepts_the_others.Goals as goal
 
 pub returns : goal.returns
