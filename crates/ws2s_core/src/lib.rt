@@ -1,4 +1,14 @@
-//! Core formulas of WS2S, labelled trees and guides.
+//! Core formulas of WS2S, labelled trees and guides, and what they mean.
+//!
+//! `specs/Satisfaction.antt` says when an assignment satisfies a formula, `specs/Tracks.antt` which tracks are free,
+//! `specs/LabelTrees.antt` which lists of nodes are trees and what they stand for, `specs/Sizes.antt` how many nodes
+//! a formula has, and `specs/Recognising.antt` when an automaton recognises a formula; guides and automata are those
+//! of `tree_theory`. The modules `satisfaction`, `recognising` and `trees` are laws over these definitions, and
+//! `examples` are worked ones: functions with empty bodies, whose clauses hold of all formulas.
+//!
+//! A formula may be as deep as memory allows. It is copied, counted, numbered and dropped by loops; of these a drop
+//! and a count take no memory. Only `Debug` recurses. No crate above looks at how an interner keeps its formulas, nor
+//! at the order in which the parts of a formula get their numbers.
 #![tactic(auto)]
 
 mod copy;

@@ -114,8 +114,18 @@ fn guides_and_trees_give_what_they_were_made_of(rt: HostRuntime) -> Result<(), F
     assert_eq!(rt; guide.children(0), Some((1, 2)));
     assert_eq!(rt; guide.children(3), None);
     assert_eq!(rt; Guide::plain(alloc)?.children(0), Some((0, 0)));
-    let nodes: Items<TreeNode> = Items::new(alloc);
+    let mut nodes = Items::new(alloc);
+    nodes.push(TreeNode {
+        tracks: Items::from_slice(alloc, &[Track(3)])?,
+        left: None,
+        right: None,
+    })?;
+    nodes.push(TreeNode {
+        tracks: Items::new(alloc),
+        left: Some(0),
+        right: None,
+    })?;
     let tree = LabelTree::new(nodes);
-    assert_eq!(rt; tree.nodes().len(), 0);
+    assert_eq!(rt; tree.nodes().len(), 2);
     Ok(())
 }
