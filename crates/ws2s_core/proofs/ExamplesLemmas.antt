@@ -1,5 +1,5 @@
 -- On the worked examples.
-use Rattle.std.proofs.Common.{◌≡◌, ℕ, zero, suc, ◌+◌, ◌*◌, ◌^◌, Bool, true, false, ◌&&◌, ◌||◌, IsTrue, ◌↔◌, List, [], ◌∷◌, ◌++◌, refl, sym, ap, ap₂, ◌∙◌, arith, pow-suc}
+use Rattle.std.proofs.Common.{◌≡◌, ℕ, zero, suc, ◌+◌, ◌^◌, Bool, true, false, ◌||◌, [], ◌∷◌, refl, sym, ap, ap₂, ◌∙◌, arith, pow-suc}
 use Rattle.std.proofs.lemmas.Bool.{false≢true}
 use Rattle.tree_theory.specs.Assignments.{Position, IsOnly, is_same_position}
 use Rattle.ws2s_core.specs.Examples.{doubled}

@@ -1,12 +1,11 @@
 -- On formulas that are kept as nodes.
-use Rattle.std.proofs.Common.{◌≡◌, ◌≢◌, ℕ, zero, suc, ◌+◌, ◌<◌, ◌≤◌, max, Bool, true, false, cond, eqb, ◌&&◌, ◌⊎◌, inl, inr, List, [], ◌∷◌, ◌++◌, length, take, map, slice_get, unwrap_or, option_map, Option, Some, None, IsSome, is_some, All, refl, sym, ap, ap₂, subst, ◌∙◌, arith, rules, eqb-true, eq-eqb, length-append}
+use Rattle.std.proofs.Common.{◌≡◌, ℕ, zero, suc, ◌<◌, max, Bool, true, false, cond, eqb, ◌&&◌, inl, inr, List, [], ◌∷◌, ◌++◌, length, take, map, slice_get, unwrap_or, option_map, Option, Some, None, IsSome, is_some, All, refl, sym, ap, ap₂, subst, ◌∙◌, arith, eqb-true, eq-eqb, length-append}
 use Rattle.std.proofs.lemmas.Bool.{false≢true}
 use Rattle.std.proofs.lemmas.Option.{slice_get_within}
 use Rattle.std.proofs.lemmas.List.Elements.{All-nil, All-cons, All-head, All-tail, All-weaker}
 use Rattle.std.specs.HashMap.{HashMap, get}
 use Rattle.std.specs.declared.hash.BuildHasherDefault.{BuildHasherDefault}
 use Rattle.std.specs.declared.hash.FoldHasher.{FoldHasher}
-use Rattle.tree_theory.specs.Listed.{meanings}
 use Rattle.tree_theory.proofs.ListedLemmas.{meanings-front, length-meanings, slice_get-meanings, slice_get-front, slice_get-last, slice_get-push}
 use Rattle.ws2s_core.specs.declared.track.Track.{Track}
 use Rattle.ws2s_core.specs.declared.node.Node.{Node}

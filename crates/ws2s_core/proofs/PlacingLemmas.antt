@@ -1,9 +1,9 @@
 -- On the walk that puts a formula's nodes into a table.
-use Rattle.std.proofs.Common.{◌≡◌, ℕ, zero, suc, ◌+◌, ◌-◌, ◌<◌, ◌≤◌, Bool, true, false, List, [], ◌∷◌, ◌++◌, length, drop, get_or, map, reverse, slice_get, option_and_then, Option, Some, None, IsSome, All, refl, sym, ap, subst, ◌∙◌, arith, append_assoc, append-nil, drop-cons, drop_of_length-le, length-append}
+use Rattle.std.proofs.Common.{◌≡◌, ℕ, suc, ◌+◌, ◌-◌, ◌<◌, ◌≤◌, List, [], ◌∷◌, ◌++◌, length, drop, get_or, reverse, slice_get, option_and_then, Some, IsSome, All, sym, ap, subst, ◌∙◌, arith, append_assoc, append-nil, drop-cons, drop_of_length-le, length-append}
 use Rattle.std.proofs.lemmas.List.{reverse-append, reverse-reverse, length-reverse, get_or-reverse}
 use Rattle.std.proofs.lemmas.Option.{slice_get_within}
-use Rattle.std.proofs.lemmas.List.Elements.{All-nil, All-head, All-tail, All-push, All-weaker, All-append}
-use Rattle.std.specs.HashMap.{HashMap, get}
+use Rattle.std.proofs.lemmas.List.Elements.{All-nil, All-head, All-push, All-weaker}
+use Rattle.std.specs.HashMap.{HashMap}
 use Rattle.std.specs.declared.hash.BuildHasherDefault.{BuildHasherDefault}
 use Rattle.std.specs.declared.hash.FoldHasher.{FoldHasher}
 use Rattle.tree_theory.proofs.ListedLemmas.{length-meanings}
@@ -11,7 +11,7 @@ use Rattle.ws2s_core.specs.declared.node.Node.{Node}
 use Rattle.ws2s_core.specs.declared.postfix.Symbol.{Symbol}
 use Rattle.ws2s_core.specs.declared.formula.Formula.{Formula}
 use Rattle.ws2s_core.specs.Nodes.{form_of, formula_at, formula_of_node, formulas_of, HasPartsBelow, IsIndexed, Extends, stands_for, IsPlacedTo}
-use Rattle.ws2s_core.specs.Postfix.{parts_of, taken, applied, run_on, postfix_of}
+use Rattle.ws2s_core.specs.Postfix.{taken, applied, run_on, postfix_of}
 use Rattle.ws2s_core.proofs.NodesLemmas.{taken-parts, IsSome-taken, applied-placed, stands_for-extends, at-formula_at}
 use Rattle.ws2s_core.proofs.PostfixLemmas.{applied-next, run_on-whole}
 

@@ -1,16 +1,15 @@
 -- On formulas in postfix order.
-use Rattle.std.proofs.Common.{◌≡◌, ℕ, ◌+◌, ◌<◌, List, [], ◌∷◌, ◌++◌, map, reverse, flat_map, length, drop, get_or, sum_by, IsSome, Option, Some, None, option_map, option_and_then, drop-cons, rules, suc, refl, sym, ap, subst, ◌∙◌, arith, append_assoc, append-nil}
+use Rattle.std.proofs.Common.{◌≡◌, ℕ, ◌+◌, ◌<◌, List, [], ◌∷◌, ◌++◌, reverse, flat_map, length, drop, get_or, sum_by, IsSome, Option, Some, None, option_and_then, drop-cons, rules, suc, refl, sym, ap, ◌∙◌, arith, append_assoc, append-nil}
 use Rattle.std.proofs.lemmas.List.{reverse-append}
 use Rattle.std.proofs.lemmas.List.Concat.{flat_map-append}
-use Rattle.ws2s_core.specs.declared.track.Track.{Track}
 use Rattle.ws2s_core.specs.declared.postfix.Symbol.{Symbol}
-use Rattle.ws2s_core.specs.declared.formula.Formula.{Formula, roll-Formula, out-Formula}
-use Rattle.ws2s_core.specs.declared.formula.Formula.TheVariants.{Sub, Single, Succ0, Succ1, Root, And, Not, Ex2, rolls-Sub, rolls-Single, rolls-Succ0, rolls-Succ1, rolls-Root, rolls-And, rolls-Not, rolls-Ex2, outs-Sub, outs-Single, outs-Succ0, outs-Succ1, outs-Root, outs-And, outs-Not, outs-Ex2}
+use Rattle.ws2s_core.specs.declared.formula.Formula.{Formula, out-Formula}
+use Rattle.ws2s_core.specs.declared.formula.Formula.TheVariants.{rolls-Sub, rolls-Single, rolls-Succ0, rolls-Succ1, rolls-Root, rolls-And, rolls-Not, rolls-Ex2}
 use Rattle.ws2s_core.specs.declared.formula.Formula.TheOpen.{Formula-F}
-use Rattle.ws2s_core.specs.declared.formula.Formula.TheFolds.{fold-Formula, fold_out-Formula, map-Formula}
-use Rattle.ws2s_core.specs.Postfix.{symbol_of, parts_of, postfix_of, postfix_of_node, taken, applied, run_on}
+use Rattle.ws2s_core.specs.declared.formula.Formula.TheFolds.{fold_out-Formula, map-Formula}
+use Rattle.ws2s_core.specs.Postfix.{symbol_of, parts_of, postfix_of, postfix_of_node, applied, run_on}
 use Rattle.ws2s_core.specs.Sizes.{node_count, count_of_node}
-use Rattle.ws2s_core.proofs.FormulaLemmas.{IsHereditary, formula-induction, fold-Sub, fold-Single, fold-Succ0, fold-Succ1, fold-Root, fold-And, fold-Not, fold-Ex2}
+use Rattle.ws2s_core.proofs.FormulaLemmas.{formula-induction, fold-Sub, fold-Single, fold-Succ0, fold-Succ1, fold-Root, fold-And, fold-Not, fold-Ex2}
 
 -- the symbols of a formula are those of its parts, and its own
 postfix_of-mapped : (node : Formula-F Formula) →

@@ -1,10 +1,9 @@
 -- Automata for the forms of a formula.
-use Rattle.std.proofs.Common.{◌≡◌, ℕ, max, IsTrue, ◌↔◌, refl, sym, arith}
-use Rattle.tree_theory.specs.Assignments.{Assignment, PositionSet, IsFiniteSet, IsFinite, Covers, replace, only_below}
+use Rattle.std.proofs.Common.{ℕ, max, arith}
+use Rattle.tree_theory.specs.Assignments.{Assignment, IsFinite, Covers, replace, only_below}
 use Rattle.tree_theory.specs.Guides.{Spaces, IsGuide}
-use Rattle.tree_theory.specs.Automata.{Automaton, IsStable, Accepts}
-use Rattle.tree_theory.specs.Constructions.{complement, IsReached, IsClosed, IsNaming, IsProduct, IsSubset}
-use Rattle.tree_theory.specs.Minimal.{IsMinimal, AreAlike}
+use Rattle.tree_theory.specs.Automata.{Automaton, Accepts}
+use Rattle.tree_theory.specs.Constructions.{complement, IsReached, IsNaming, IsProduct, IsSubset}
 use Rattle.tree_theory.proofs.AssignmentsLemmas.{Covers-more, Covers-replace, Covers-finite, IsWithin-more}
 use Rattle.tree_theory.proofs.AutomataLemmas.{IsStable-complement, Accepts-complement, IsStable-product, Accepts-product, Accepts-named, IsClosed-reached}
 use Rattle.tree_theory.proofs.SubsetLemmas.{IsStable-subset, Accepts-subset}
@@ -14,7 +13,7 @@ use Rattle.ws2s_core.specs.declared.formula.Formula.{Formula}
 use Rattle.ws2s_core.specs.declared.formula.Formula.TheVariants.{And, Not, Ex2}
 use Rattle.ws2s_core.specs.Satisfaction.{WSat}
 use Rattle.ws2s_core.specs.Tracks.{track_bound}
-use Rattle.ws2s_core.specs.Recognising.{Recognises, IsMinimalOf}
+use Rattle.ws2s_core.specs.Recognising.{Recognises}
 use Rattle.ws2s_core.proofs.SatisfactionLemmas.{WSat-And, WSat-Not, WSat-Ex2}
 use Rattle.ws2s_core.proofs.TracksLemmas.{Covers-only_below, WSat-only_below}
 

@@ -1,10 +1,10 @@
 -- On the size of a formula, and the order in which its halves are counted.
-use Rattle.std.proofs.Common.{◌≡◌, ℕ, suc, ◌+◌, ◌*◌, ◌^◌, ◌<◌, ◌≤◌, min, max, Bool, true, false, cond, eqb, refl, sym, ap, subst, ◌∙◌, inl, inr, arith, eqb-true, pow-suc, pow_mono}
+use Rattle.std.proofs.Common.{◌≡◌, ℕ, suc, ◌+◌, ◌^◌, ◌≤◌, min, max, Bool, true, false, cond, eqb, refl, sym, ap, subst, ◌∙◌, inl, inr, arith, eqb-true, pow-suc, pow_mono}
 use Rattle.std.proofs.lemmas.Bool.{cases_lt}
 use Rattle.ws2s_core.specs.declared.formula.Formula.{Formula}
 use Rattle.ws2s_core.specs.declared.formula.Formula.TheVariants.{Sub, Single, Succ0, Succ1, Root, And, Not, Ex2}
 use Rattle.ws2s_core.specs.Sizes.{node_count, count_of_node, strahler_order, order_of_node}
-use Rattle.ws2s_core.proofs.FormulaLemmas.{IsHereditary, formula-induction, fold-Sub, fold-Single, fold-Succ0, fold-Succ1, fold-Root, fold-And, fold-Not, fold-Ex2}
+use Rattle.ws2s_core.proofs.FormulaLemmas.{formula-induction, fold-Sub, fold-Single, fold-Succ0, fold-Succ1, fold-Root, fold-And, fold-Not, fold-Ex2}
 
 -- a formula of an order has at least two to its power nodes
 pub power_of_order : (f : Formula) → 2 ^ strahler_order f ≤ node_count f

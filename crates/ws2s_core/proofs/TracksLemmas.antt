@@ -1,15 +1,14 @@
 -- Satisfaction looks at the free tracks alone, and the numbers of bound ones don't matter.
-use Rattle.std.proofs.Common.{◌≡◌, ◌≢◌, ℕ, zero, suc, ◌+◌, ◌<◌, ◌≤◌, max, Bool, true, false, cond, eqb, ltb, ◌||◌, ◌&&◌, nat_lt, IsTrue, ◌↔◌, ◌⊎◌, inl, inr, List, [], ◌∷◌, ◌++◌, length, refl, sym, ap, subst, ◌∙◌, arith, eqb-true, eq-eqb, ne_eqb}
-use Rattle.std.proofs.lemmas.Bool.{true≢false, false≢true, eqb-false, ltb-true, ltb-false, lt-ltb, le-ltb}
-use mathlib.Core.Path.{fun_ext}
-use Rattle.tree_theory.specs.Assignments.{Position, PositionSet, Assignment, IsWithin, IsFiniteSet, IsFinite, Covers, IsOnly, replace, only_below}
-use Rattle.tree_theory.proofs.AssignmentsLemmas.{replace-same, replace-other, IsWithin-more, Covers-more}
+use Rattle.std.proofs.Common.{◌≡◌, ◌≢◌, ℕ, zero, suc, ◌+◌, ◌<◌, ◌≤◌, max, Bool, true, false, cond, eqb, ltb, ◌||◌, ◌&&◌, ◌↔◌, ◌⊎◌, inl, inr, [], ◌∷◌, ◌++◌, length, refl, sym, ap, subst, ◌∙◌, arith, eqb-true, eq-eqb, ne_eqb}
+use Rattle.std.proofs.lemmas.Bool.{false≢true, eqb-false, ltb-true, ltb-false, lt-ltb, le-ltb}
+use Rattle.tree_theory.specs.Assignments.{Position, PositionSet, Assignment, IsFinite, Covers, IsOnly, replace, only_below}
+use Rattle.tree_theory.proofs.AssignmentsLemmas.{replace-same, replace-other}
 use Rattle.ws2s_core.specs.declared.track.Track.{Track}
 use Rattle.ws2s_core.specs.declared.formula.Formula.{Formula}
 use Rattle.ws2s_core.specs.declared.formula.Formula.TheVariants.{Sub, Single, Succ0, Succ1, Root, And, Not, Ex2}
 use Rattle.ws2s_core.specs.Satisfaction.{WSat}
 use Rattle.ws2s_core.specs.Tracks.{is_free, is_free_in_node, IsFree, track_bound, bound_of_node, renamed, renamed_node, renamed_track, IsInjective, exchanged}
-use Rattle.ws2s_core.proofs.FormulaLemmas.{IsHereditary, formula-induction, fold-Sub, fold-Single, fold-Succ0, fold-Succ1, fold-Root, fold-And, fold-Not, fold-Ex2}
+use Rattle.ws2s_core.proofs.FormulaLemmas.{formula-induction, fold-Sub, fold-Single, fold-Succ0, fold-Succ1, fold-Root, fold-And, fold-Not, fold-Ex2}
 use Rattle.ws2s_core.proofs.SatisfactionLemmas.{WSat-Sub, WSat-Single, WSat-Succ0, WSat-Succ1, WSat-Root, WSat-And, WSat-Not, WSat-Ex2}
 
 -- the assignments agree on the free tracks

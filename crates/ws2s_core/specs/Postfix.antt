@@ -1,6 +1,6 @@
 -- Formulas in postfix order: each form after its parts. (Reverse Polish notation.)
 use Rattle.std.specs.Prelude.{List, [], ◌∷◌, ◌++◌, flat_map, Option, Some, None, option_map, option_and_then}
-use Rattle.ws2s_core.specs.declared.formula.Formula.{Formula, roll-Formula, out-Formula}
+use Rattle.ws2s_core.specs.declared.formula.Formula.{Formula, roll-Formula}
 use Rattle.ws2s_core.specs.declared.formula.Formula.TheOpen.{Formula-F}
 use Rattle.ws2s_core.specs.declared.formula.Formula.TheFolds.{fold-Formula}
 use Rattle.ws2s_core.specs.declared.postfix.Symbol.{Symbol}

@@ -1,5 +1,5 @@
 use Rattle.std.proofs.Common.{◌∙◌, ◌++◌, ap, option_to_list, rules, arith}
-use Rattle.ws2s_core.proofs.PlacingLemmas.{IsPlacedTo-first, IsPlacedTo-next, IsSome-next, formulas_of-last}
+use Rattle.ws2s_core.proofs.PlacingLemmas.{IsPlacedTo-first, IsPlacedTo-next, formulas_of-last}
 use Rattle.ws2s_core.proofs.node_table.place_formula.Goals as goal
 
 pub loop-symbol-init : goal.loop-symbol-init

@@ -1,4 +1,4 @@
-use Rattle.std.proofs.Common.{◌≡◌, length, sym, ◌∙◌, arith}
+use Rattle.std.proofs.Common.{◌≡◌, length, sym, arith}
 use Rattle.ws2s_core.proofs.NodesLemmas.{IsIndexed-pushed, slice_get-pushed}
 use Rattle.ws2s_core.proofs.node_table.place_of.Goals as goal
 

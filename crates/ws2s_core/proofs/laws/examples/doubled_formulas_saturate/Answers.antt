@@ -1,4 +1,4 @@
-use Rattle.std.proofs.Common.{◌-◌, ◌^◌, min, refl, ap, ◌∙◌}
+use Rattle.std.proofs.Common.{◌-◌, ◌^◌, min, refl, ap}
 use Rattle.ws2s_core.proofs.ExamplesLemmas.{count_doubled}
 use Rattle.ws2s_core.proofs.laws.examples.doubled_formulas_saturate.Goals as goal
 

@@ -1,4 +1,4 @@
-use Rattle.std.proofs.Common.{◌≡◌, Bool, false, List, [], ◌∷◌, refl}
+use Rattle.std.proofs.Common.{◌≡◌, false, [], ◌∷◌, refl}
 use Rattle.ws2s_core.specs.Examples.{track}
 use Rattle.ws2s_core.proofs.ExamplesLemmas.{IsOnly-listed}
 use Rattle.ws2s_core.proofs.SatisfactionLemmas.{WSat-Root}

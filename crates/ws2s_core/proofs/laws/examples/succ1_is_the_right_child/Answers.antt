@@ -1,4 +1,4 @@
-use Rattle.std.proofs.Common.{◌≡◌, Bool, true, false, List, [], ◌∷◌, ◌++◌, refl, sym, ap, ◌∙◌}
+use Rattle.std.proofs.Common.{◌≡◌, true, false, [], ◌∷◌, ◌++◌, refl, sym, ap, ◌∙◌}
 use Rattle.ws2s_core.specs.Examples.{track}
 use Rattle.ws2s_core.proofs.ExamplesLemmas.{IsOnly-listed}
 use Rattle.ws2s_core.proofs.SatisfactionLemmas.{WSat-Succ1}
