@@ -57,6 +57,3 @@ replace-same a t set = λ i p. cond (eq-eqb t t refl i) (set p) (a t p)
 
 pub replace-other : (a : Assignment) (t u : ℕ) (set : PositionSet) → u ≢ t → replace a t set u ≡ a u
 replace-other a t u set other = λ i p. cond (ne_eqb u t other i) (set p) (a u p)
-
-pub IsWithin-replaced : (n : ℕ) (a : Assignment) (t : ℕ) (set : PositionSet) → Covers n (replace a t set) → IsWithin n set
-IsWithin-replaced n a t set covers p deep = sym (λ i. replace-same a t set i p) ∙ covers t p deep

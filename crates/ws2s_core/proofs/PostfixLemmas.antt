@@ -1,62 +1,10 @@
 -- On formulas in postfix order.
-use Rattle.std.proofs.Common.{◌≡◌, ℕ, ◌+◌, ◌<◌, List, [], ◌∷◌, ◌++◌, reverse, flat_map, length, drop, get_or, sum_by, IsSome, Option, Some, None, option_and_then, drop-cons, rules, suc, refl, sym, ap, ◌∙◌, arith, append_assoc, append-nil}
-use Rattle.std.proofs.lemmas.List.{reverse-append}
-use Rattle.std.proofs.lemmas.List.Concat.{flat_map-append}
+use Rattle.std.proofs.Common.{◌≡◌, ℕ, ◌<◌, List, [], ◌∷◌, ◌++◌, length, drop, get_or, IsSome, Option, Some, None, option_and_then, drop-cons, rules, suc, sym, ap, ◌∙◌, append_assoc, append-nil}
 use Rattle.ws2s_core.specs.declared.postfix.Symbol.{Symbol}
-use Rattle.ws2s_core.specs.declared.formula.Formula.{Formula, out-Formula}
+use Rattle.ws2s_core.specs.declared.formula.Formula.{Formula}
 use Rattle.ws2s_core.specs.declared.formula.Formula.TheVariants.{rolls-Sub, rolls-Single, rolls-Succ0, rolls-Succ1, rolls-Root, rolls-And, rolls-Not, rolls-Ex2}
-use Rattle.ws2s_core.specs.declared.formula.Formula.TheOpen.{Formula-F}
-use Rattle.ws2s_core.specs.declared.formula.Formula.TheFolds.{fold_out-Formula, map-Formula}
-use Rattle.ws2s_core.specs.Postfix.{symbol_of, parts_of, postfix_of, postfix_of_node, applied, run_on}
-use Rattle.ws2s_core.specs.Sizes.{node_count, count_of_node}
+use Rattle.ws2s_core.specs.Postfix.{postfix_of, postfix_of_node, applied, run_on}
 use Rattle.ws2s_core.proofs.FormulaLemmas.{formula-induction, fold-Sub, fold-Single, fold-Succ0, fold-Succ1, fold-Root, fold-And, fold-Not, fold-Ex2}
-
--- the symbols of a formula are those of its parts, and its own
-postfix_of-mapped : (node : Formula-F Formula) →
-    postfix_of_node (map-Formula Formula (List Symbol) postfix_of node) ≡ flat_map postfix_of (parts_of node) ++ symbol_of node ∷ []
-postfix_of-mapped (Formula-F.Sub x y) = refl
-postfix_of-mapped (Formula-F.Single x) = refl
-postfix_of-mapped (Formula-F.Succ0 x y) = refl
-postfix_of-mapped (Formula-F.Succ1 x y) = refl
-postfix_of-mapped (Formula-F.Root x) = refl
-postfix_of-mapped (Formula-F.And f g) = refl
-postfix_of-mapped (Formula-F.Not f) = refl
-postfix_of-mapped (Formula-F.Ex2 t f) = refl
-
-pub postfix_of-out : (f : Formula) →
-    postfix_of f ≡ flat_map postfix_of (parts_of (out-Formula f)) ++ symbol_of (out-Formula f) ∷ []
-postfix_of-out f = fold_out-Formula (List Symbol) postfix_of_node f ∙ postfix_of-mapped (out-Formula f)
-
--- the nodes of a formula are those of its parts, and one more
-node_count-mapped : (node : Formula-F Formula) →
-    count_of_node (map-Formula Formula ℕ node_count node) ≡ sum_by node_count (parts_of node) + 1
-node_count-mapped (Formula-F.Sub x y) = refl
-node_count-mapped (Formula-F.Single x) = refl
-node_count-mapped (Formula-F.Succ0 x y) = refl
-node_count-mapped (Formula-F.Succ1 x y) = refl
-node_count-mapped (Formula-F.Root x) = refl
-node_count-mapped (Formula-F.And f g) = omega arith
-node_count-mapped (Formula-F.Not f) = omega arith
-node_count-mapped (Formula-F.Ex2 t f) = omega arith
-
-pub node_count-out : (f : Formula) → node_count f ≡ sum_by node_count (parts_of (out-Formula f)) + 1
-node_count-out f = fold_out-Formula ℕ count_of_node f ∙ node_count-mapped (out-Formula f)
-
--- a step of the walk: the last formula gives way to its parts, and its symbol comes in front
-pub walk-step : (before : List Formula) (f : Formula) (symbols whole : List Symbol) →
-    flat_map postfix_of (before ++ f ∷ []) ++ reverse symbols ≡ whole →
-    flat_map postfix_of (before ++ parts_of (out-Formula f)) ++ reverse (symbols ++ symbol_of (out-Formula f) ∷ []) ≡ whole
-walk-step before f symbols whole h =
-    ap (λ front. front ++ reverse (symbols ++ symbol_of (out-Formula f) ∷ [])) (flat_map-append postfix_of before (parts_of (out-Formula f)))
-    ∙ ap (λ back. (flat_map postfix_of before ++ flat_map postfix_of (parts_of (out-Formula f))) ++ back) (reverse-append symbols (symbol_of (out-Formula f) ∷ []))
-    ∙ moved (flat_map postfix_of before) (flat_map postfix_of (parts_of (out-Formula f))) (symbol_of (out-Formula f)) (reverse symbols)
-    ∙ ap (λ last. (flat_map postfix_of before ++ last) ++ reverse symbols) (sym (postfix_of-out f))
-    ∙ ap (λ last. (flat_map postfix_of before ++ last) ++ reverse symbols) (sym (append-nil (postfix_of f)))
-    ∙ ap (λ front. front ++ reverse symbols) (sym (flat_map-append postfix_of before (f ∷ [])))
-    ∙ h
-  where
-    moved : (a b : List Symbol) (s : Symbol) (r : List Symbol) → (a ++ b) ++ (s ∷ [] ++ r) ≡ (a ++ (b ++ s ∷ [])) ++ r
-    moved a b s r = sym (append_assoc (a ++ b) (s ∷ []) r) ∙ ap (λ x. x ++ r) (append_assoc a b (s ∷ []))
 
 -- a formula's symbols put the formula in the place of its parts
 pub run_on-postfix : (f : Formula) (rest : List Symbol) (parts : List Formula) →
