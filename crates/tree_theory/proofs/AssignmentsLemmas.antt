@@ -1,5 +1,5 @@
 -- On assignments: covering depths, and an assignment put together from a label and two halves.
-use Rattle.std.proofs.Common.{◌≡◌, ◌≢◌, ℕ, suc, ◌≤◌, Bool, true, false, cond, eqb, [], ◌∷◌, refl, sym, ◌∙◌, arith, eq-eqb, ne_eqb, zero-le, suc-le-suc}
+use Rattle.std.proofs.Common.{◌≡◌, ◌≢◌, ℕ, suc, ◌≤◌, Bool, true, false, cond, eqb, [], ◌∷◌, refl, arith, eq-eqb, ne_eqb, zero-le, suc-le-suc}
 use mathlib.Core.Path.{fun_ext}
 use Rattle.tree_theory.specs.Assignments.{PositionSet, Assignment, Label, IsWithin, IsFinite, Covers, half, root_label, empty_label, replace, empty_assignment}
 
