@@ -1,10 +1,10 @@
 -- Laws of `specs/Whole.antt`: what a piece more makes of a whole read or write, and what several whole writes make.
-use Rattle.std.proofs.Common.{◌≡◌, ℕ, ◌+◌, ◌<◌, ◌≤◌, List, [], ◌++◌, take, drop, length, Option, Some, None, refl, sym, ap, ◌∙◌, arith, length-append}
+use Rattle.std.proofs.Common.{◌≡◌, ℕ, ◌+◌, ◌<◌, ◌≤◌, List, [], ◌++◌, take, length, Option, Some, None, refl, sym, ap, ◌∙◌, arith, length-append}
 use Rattle.std.proofs.lemmas.List.{append-nil, take-append-le}
-use Rattle.std.proofs.Math.Seq.{drop-append_seam, take-append-add}
-use Rattle.pale_io.specs.Told.{prepended, appended, without_first, emptied, IsEmpty}
+use Rattle.std.proofs.Math.Seq.{drop-append_seam, take-append_seam, take-append-add}
+use Rattle.pale_io.specs.Told.{prepended, appended, IsEmpty}
 use Rattle.pale_io.specs.Whole.{ReadsAll, ReadsTooMany, ReadsFront, WritesAll, WritesFront}
-use Rattle.pale_io.proofs.ToldLemmas.{prepended-prepended, appended-appended, without_first-prepended, appended-none}
+use Rattle.pale_io.proofs.ToldLemmas.{appended-appended, without_first-prepended, appended-none}
 
 -- bytes were taken off the front, and then nothing is left
 pub ReadsAll-at_end : (most : ℕ) (before after : Option (List ℕ)) (bytes : List ℕ) → length bytes ≤ most → before ≡ prepended bytes after → IsEmpty after → ReadsAll most before after bytes
@@ -47,3 +47,18 @@ WritesFront-append before between after bytes more first stop = record {
   within = omega (arith, stop.within, length-append bytes more);
   added = rw take-append-add (stop.added ∙ ap (λ told. appended told (take stop.count more)) first.added ∙ appended-appended before bytes (take stop.count more));
 }
+
+-- nothing was written yet
+pub WritesAll-none : (told : Option (List ℕ)) → WritesAll told told []
+WritesAll-none told = record { added = sym (appended-none told) }
+
+-- a stop between two writes
+pub WritesFront-from_all : (before after : Option (List ℕ)) (bytes more : List ℕ) → WritesAll before after bytes → 0 < length more → WritesFront before after (bytes ++ more)
+WritesFront-from_all before after bytes more first left = record {
+  count = length bytes;
+  within = omega (arith, length-append bytes more);
+  added = rw take-append_seam first.added;
+}
+
+-- what several whole writes make, for `#[tactic(auto, using(pale_io::proofs::WholeLemmas::whole_writes))]`
+pub ruleset whole_writes = (WritesAll-append, WritesFront-append, WritesFront-longer)

@@ -1,5 +1,6 @@
 -- Which calls of an object in memory fail, and what it holds.
-use Rattle.std.specs.Prelude.{◌≡◌, ℕ, ◌+◌, ◌-◌, ◌^◌, ◌<◌, min, List, Option, Some, None, if◌then◌else◌, nat_lt, IsSomeAnd, Contains}
+use Rattle.std.specs.Prelude.{ℕ, ◌+◌, ◌^◌, List, Option, Some, None, if◌then◌else◌, nat_lt, IsSomeAnd, Contains}
+use Rattle.pale_io.specs.Faults.{raised}
 
 -- the numbers of the calls that fail, counted from 1; the number of the next call, or `None` where no u64 is left for it;
 -- how many calls have failed, a count that stops at the last value of a u64
@@ -16,10 +17,6 @@ FailsNext plan = IsSomeAnd plan.next (λ number. Contains plan.failing number)
 abbrev pub following : Option ℕ → Option ℕ
 following None = None
 following (Some number) = if nat_lt (number + 1) (2 ^ 64) then Some (number + 1) else None
-
--- a count after one more fault
-abbrev pub raised : ℕ → ℕ
-raised faults = min (faults + 1) (2 ^ 64 - 1)
 
 -- the plan after a call that doesn't fail
 abbrev pub after_success : Plan → Plan

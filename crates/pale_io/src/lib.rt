@@ -3,7 +3,8 @@
 //! A source and a sink each tell of their bytes, or don't, and keep a count of faults that never falls.
 //! `specs/Faults.antt` says when a count rose, `specs/Told.antt` what is told of bytes, and `specs/Whole.antt`
 //! what a whole read takes and a whole write leaves. Code above stands on the two traits and on these words alone:
-//! no clause names a piece, its size, or how many calls a whole read or write makes.
+//! no clause names a piece, its size, or how many calls a whole read or write makes. What several of them make
+//! follows by `proofs/FaultsLemmas.antt` and `proofs/WholeLemmas.antt`.
 //! The objects in memory are for tests and examples; `StdSource` and `StdSink` are the edge to the system.
 #![tactic(auto)]
 

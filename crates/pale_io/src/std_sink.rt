@@ -35,9 +35,8 @@ impl<W: Write> StdSink<W> {
 impl<W: Write> Sink for StdSink<W> {
     ghost use Rattle.std.specs.Prelude.{◌≡◌, ◌<◌, ◌≤◌, length, take, IfOk, OnOk, OnErr, IsErrOf, IsOkUnless};
     ghost use Rattle.std.specs.Io.KnownBytes.{WriteAppends};
-    ghost use Rattle.pale_io.specs.Faults.{Rose};
+    ghost use Rattle.pale_io.specs.Faults.{Rose, raised};
     ghost use Rattle.pale_io.specs.Told.{appended};
-    ghost use Rattle.pale_io.specs.Plan.{raised};
     ghost use Rattle.pale_io.specs.Edge.{sink_writer, sink_faults, sink_written};
 
     ghost written = { sink_written };

@@ -38,9 +38,8 @@ impl<R: Read> StdSource<R> {
 impl<R: Read> Source for StdSource<R> {
     ghost use Rattle.std.specs.Prelude.{◌≡◌, ◌<◌, ◌≤◌, length, take, IfOk, OnOk, OnErr};
     ghost use Rattle.std.specs.Io.KnownBytes.{ReadConsumes};
-    ghost use Rattle.pale_io.specs.Faults.{Rose};
+    ghost use Rattle.pale_io.specs.Faults.{Rose, raised};
     ghost use Rattle.pale_io.specs.Told.{prepended, IsEmpty};
-    ghost use Rattle.pale_io.specs.Plan.{raised};
     ghost use Rattle.pale_io.specs.Edge.{source_reader, source_faults, source_left};
 
     ghost left = { source_left };

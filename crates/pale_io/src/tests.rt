@@ -28,10 +28,16 @@ fn a_long_text_is_read_in_pieces(rt: HostRuntime) -> Result<(), Fail> {
     let alloc = rt.alloc();
     let text = vec![in alloc; 3; 10_000]?;
     let mut source = CleanSource::new(text.clone()?);
-    assert_eq!(rt; read_all(alloc, &mut source, 10_000)?.as_slice(), text.as_slice());
+    assert_eq!(rt;
+        read_all(alloc, &mut source, 10_000)?.as_slice(),
+        text.as_slice()
+    );
 
     let mut source = CleanSource::new(text);
-    assert_eq!(rt; read_all(alloc, &mut source, 9_990).err(), Some(ReadStop::TooLong));
+    assert_eq!(rt;
+        read_all(alloc, &mut source, 9_990).err(),
+        Some(ReadStop::TooLong)
+    );
     assert_eq!(rt; source.left().len(), 9);
     assert_eq!(rt; source.faults(), 0);
     Ok(())
@@ -42,7 +48,11 @@ fn one_byte_more_than_fits_is_too_long(rt: HostRuntime) -> Result<(), Fail> {
     let alloc = rt.alloc();
     for (most, left) in [(0, 3), (1, 2), (2, 1), (3, 0)] {
         let mut source = text_source(alloc, &[])?;
-        assert_eq!(rt; read_all(alloc, &mut source, most).err(), Some(ReadStop::TooLong), "at most {most}");
+        assert_eq!(rt;
+            read_all(alloc, &mut source, most).err(),
+            Some(ReadStop::TooLong),
+            "at most {most}"
+        );
         assert_eq!(rt; source.left().len(), left, "at most {most}");
         assert_eq!(rt; source.faults(), 0, "at most {most}");
     }
@@ -55,7 +65,11 @@ fn a_read_that_fails_is_a_fault(rt: HostRuntime) -> Result<(), Fail> {
     // The first read takes the text, and the second finds the end.
     for (failing, left) in [(1, 4), (2, 0)] {
         let mut source = text_source(alloc, &[failing])?;
-        assert_eq!(rt; read_all(alloc, &mut source, 4).err(), Some(ReadStop::Fault), "at read {failing}");
+        assert_eq!(rt;
+            read_all(alloc, &mut source, 4).err(),
+            Some(ReadStop::Fault),
+            "at read {failing}"
+        );
         assert_eq!(rt; source.left().len(), left, "at read {failing}");
         assert_eq!(rt; source.faults(), 1, "at read {failing}");
 
@@ -105,14 +119,23 @@ impl Read for Broken {
 fn a_reader_of_std_is_a_source(rt: HostRuntime) -> Result<(), Fail> {
     let alloc = rt.alloc();
     let mut source = StdSource::new(Cursor::new(TEXT.to_vec(alloc)?));
-    assert_eq!(rt; read_all(alloc, &mut source, 4)?.as_slice(), TEXT.as_slice());
+    assert_eq!(rt;
+        read_all(alloc, &mut source, 4)?.as_slice(),
+        TEXT.as_slice()
+    );
     assert_eq!(rt; source.faults(), 0);
 
     let mut source = StdSource::new(TEXT.as_slice());
-    assert_eq!(rt; read_all(alloc, &mut source, 3).err(), Some(ReadStop::TooLong));
+    assert_eq!(rt;
+        read_all(alloc, &mut source, 3).err(),
+        Some(ReadStop::TooLong)
+    );
 
     let mut source = StdSource::new(Broken);
-    assert_eq!(rt; read_all(alloc, &mut source, 4).err(), Some(ReadStop::Fault));
+    assert_eq!(rt;
+        read_all(alloc, &mut source, 4).err(),
+        Some(ReadStop::Fault)
+    );
     assert_eq!(rt; source.faults(), 1);
     Ok(())
 }

@@ -8,8 +8,9 @@ use Rattle.pale_text.specs.declared.place.Pos.{Pos}
 use Rattle.pale_text.specs.declared.token.Token.{Token}
 use Rattle.pale_text.specs.declared.token.TokenKind.{TokenKind}
 use Rattle.pale_text.specs.Places.{first_place, place_after, place_past}
-use Rattle.pale_text.specs.Lexing.{is_hash, is_line_end, EndsComment, Reaches, at_start, past_gap, past_comment, past_token, StandsFirst, IsStrayAt}
-use Rattle.pale_text.proofs.Fronts.{list_all-prefix_len, prefix_len-stops}
+use Rattle.pale_text.specs.Lexing.{is_hash, is_line_end, EndsComment, Reaches, at_start, past_gap, past_comment, past_token, IsStrayAt}
+use Rattle.pale_text.specs.Fronts.{StandsFirst}
+use Rattle.pale_text.proofs.ListLemmas.{list_all-prefix_len, prefix_len-stops}
 
 -- ---- comments
 

@@ -1,4 +1,6 @@
-pub mod Fronts
 pub mod LexLemmas
+pub mod ListLemmas
+pub mod MarkLemmas
 pub mod PieceLemmas
 pub mod ReadingLemmas
+pub mod SpelledLemmas

@@ -8,7 +8,7 @@ use Rattle.pale_text.specs.declared.token.TokenList.{TokenList}
 use Rattle.pale_text.specs.Places.{first_place, place_after, place_past}
 use Rattle.pale_text.specs.Spelling.{Spells}
 use Rattle.pale_text.specs.Lexing.{is_gap, is_hash, is_line_end, IsComment, EndsComment, IsLongestPiece, token_at, Reaches, at_start, past_gap, past_comment, past_token, IsLexed, IsStray, IsStrayAt}
-use Rattle.pale_text.proofs.Fronts.{both, same_front}
+use Rattle.pale_text.proofs.ListLemmas.{both, same_front}
 use Rattle.std.proofs.lemmas.Bool.{eqb-true}
 use Rattle.std.proofs.lemmas.List.{append_cancel_left}
 use Rattle.pale_text.proofs.PieceLemmas.{BeginsWith, piece_begins, Spells-one}

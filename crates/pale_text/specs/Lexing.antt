@@ -1,8 +1,6 @@
 -- Which tokens a text has, and where it has none.
-use Rattle.std.specs.Prelude.{◌≡◌, ◌≢◌, ◌≤◌, ◌<◌, ℕ, ◌==◌, ◌||◌, not, Bool, false, IsTrue, List, [], ◌∷◌, ◌++◌, length, take, drop}
+use Rattle.std.specs.Prelude.{◌≡◌, ◌≢◌, ◌≤◌, ℕ, ◌==◌, ◌||◌, not, Bool, false, IsTrue, List, [], ◌∷◌, ◌++◌, length}
 use Rattle.std.specs.List.{list_all}
-use Rattle.pale_text.specs.declared.front.Front.{Front}
-use Rattle.pale_text.specs.declared.front.Front.TheVariants as front
 use Rattle.pale_text.specs.declared.place.Pos.{Pos}
 use Rattle.pale_text.specs.declared.token.Token.{Token}
 use Rattle.pale_text.specs.declared.token.TokenKind.{TokenKind}
@@ -43,12 +41,6 @@ pub record IsLongestPiece (kind : TokenKind) (piece rest : List ℕ) : Type 0 wh
   pub spells : Spells kind piece
   pub longest : (other : TokenKind) (front after : List ℕ) → Spells other front → front ++ after ≡ piece ++ rest → length front ≤ length piece
 
--- the text begins with that many bytes, at least one, that are a longest piece of this kind
-pub record HasPiece (text : List ℕ) (kind : TokenKind) (count : ℕ) : Type 0 where
-  pub some : 0 < count
-  pub within : count ≤ length text
-  pub longest : IsLongestPiece kind (take count text) (drop count text)
-
 -- a token of this kind, whose spelling stands at this place
 abbrev pub token_at : Pos → TokenKind → List ℕ → Token
 token_at place kind piece = record { span = record { start = place; length = length piece }; kind = kind }
@@ -72,14 +64,6 @@ pub record IsStray (byte : ℕ) (after : List ℕ) : Type 0 where
   pub no_gap : is_gap byte ≡ false
   pub no_comment : is_hash byte ≡ false
   pub no_token : HasNoPiece (byte ∷ after)
-
--- what stands at the front of a text that is not over: a gap byte, a comment of that many bytes, a token, or none of these
-abbrev pub StandsFirst : List ℕ → Front → Type 0
-StandsFirst [] _ = ⊥
-StandsFirst (byte ∷ _) front.Gap = IsTrue (is_gap byte)
-StandsFirst text (front.Comment count) = (count ≤ length text) × IsComment (take count text) × EndsComment (drop count text)
-StandsFirst text (front.Token kind count) = HasPiece text kind count
-StandsFirst (byte ∷ after) front.Stray = IsStray byte after
 
 -- reading the text one comes to this place, where a byte stands that begins no gap, no comment and no token
 pub record IsStrayAt (text : List ℕ) (place : Pos) : Type 0 where

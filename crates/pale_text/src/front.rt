@@ -2,7 +2,8 @@
 
 ghost use Rattle.std.specs.Prelude.{◌≡◌, ◌<◌, length, not, IfOk};
 ghost use Rattle.std.specs.List.{prefix_len};
-ghost use Rattle.pale_text.specs.Lexing.{is_gap, is_line_end, StandsFirst};
+ghost use Rattle.pale_text.specs.Lexing.{is_gap, is_line_end};
+ghost use Rattle.pale_text.specs.Fronts.{StandsFirst};
 
 use crate::piece::read_piece;
 use crate::token::TokenKind;

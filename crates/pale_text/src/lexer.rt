@@ -10,8 +10,10 @@ use crate::token::{Token, TokenList};
 use plain_data::Items;
 use std::alloc::Global;
 
-/// The tokens of a text. A `Refused` is `char`, at the first byte that begins no token where one is wanted; there is no
-/// other refusal. The time is linear in the text.
+/// The tokens of a text. It has fewer bytes than the greatest `u32`, so that each line and column fits one.
+///
+/// `Refused` is `char`, at the first byte that begins no token where one is wanted, and nothing else. `NoMemory` says
+/// nothing of the text. The time is linear in the text.
 pub fn lex(alloc: Global, text: &[u8]) -> Result<TokenList, TextStop>
     requires { length text.now < u32.MAX }
     ensures tokens { IfOk result (IsLexed text.now) }

@@ -4,7 +4,8 @@ ghost use Rattle.std.specs.Prelude.{◌≡◌, nat_eq, MatchOption, IfOk};
 ghost use Rattle.std.specs.List.{prefix_len, find, starts_with};
 ghost use Rattle.std.specs.Char.{is_ascii_digit};
 ghost use Rattle.pale_text.specs.Spelling.{bytes_of, is_name_part};
-ghost use Rattle.pale_text.specs.Lexing.{HasNoPiece, HasPiece};
+ghost use Rattle.pale_text.specs.Lexing.{HasNoPiece};
+ghost use Rattle.pale_text.specs.Fronts.{HasPiece};
 
 use crate::token::{Mark, TokenKind};
 use plain_data::Items;
@@ -44,24 +45,28 @@ const MARKS: [Mark; 30] = [
     Mark::Question,
 ];
 
+/// Whether a byte may stand in a name after its first.
 fn is_name_part(byte: u8) -> bool
     ensures { result ≡ is_name_part byte }
 {
     byte.is_ascii_alphanumeric() || byte == b'_'
 }
 
+/// How many letters, digits and `_` the text begins with.
 fn name_parts(text: &[u8]) -> usize
     ensures { result ≡ prefix_len is_name_part text.now }
 {
     text.iter().take_while(|byte| is_name_part(**byte)).count()
 }
 
+/// How many digits the text begins with.
 fn digits(text: &[u8]) -> usize
     ensures { result ≡ prefix_len is_ascii_digit text.now }
 {
     text.iter().take_while(|byte| byte.is_ascii_digit()).count()
 }
 
+/// The longest mark at the front of a text.
 fn mark_of(text: &[u8]) -> Option<Mark>
     ensures { result ≡ find (λ mark. starts_with nat_eq text.now (bytes_of mark)) MARKS }
 {

@@ -10,3 +10,6 @@ mod items;
 
 pub use boxed::Boxed;
 pub use items::{Items, at};
+
+#[cfg(test)]
+mod tests;

@@ -1,4 +1,4 @@
-use Rattle.std.proofs.Common.{◌≡◌, ◌≤◌, ◌-◌, length}
+use Rattle.std.proofs.Common.{◌-◌, length}
 use Rattle.pale_io.proofs.ReadingSteps.{ReadsSoFar}
 use Rattle.pale_io.proofs.reading.read_all.Given as goal
 

@@ -1,5 +1,4 @@
-use Rattle.std.proofs.Common.{◌≤◌, ◌≡◌, ℕ, ◌++◌, length, List, Option}
-use Rattle.pale_io.specs.Told.{appended}
+use Rattle.std.proofs.Common.{length}
 use Rattle.pale_io.proofs.WritingSteps.{WritesSoFar}
 use Rattle.pale_io.proofs.writing.write_all.Given as goal
 

@@ -1,5 +1,5 @@
 use Rattle.std.proofs.Common.{◌∙◌, subst}
-use Rattle.pale_text.specs.Lexing.{StandsFirst}
+use Rattle.pale_text.specs.Fronts.{StandsFirst}
 use Rattle.pale_text.proofs.LexLemmas.{IsReading-start, gap_read, comment_read, token_read, arrives}
 use Rattle.pale_text.proofs.lexer.lex.Goals.{in-Gap, in-Comment, in-Token+in_ok-push-in-Token}
 use Rattle.pale_text.proofs.lexer.lex.Goals as goal
