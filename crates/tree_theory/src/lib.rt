@@ -18,6 +18,6 @@ pub use laws::{
     subsets_are_alike, value_is_free_of_the_depth,
 };
 pub use minimal::{
-    complement_stays_minimal, minimal_automata_are_alike, separated_classes_are_minimal,
-    separated_states_are_told_apart,
+    alike_automata_have_as_many_states, complement_stays_minimal, minimal_automata_are_alike,
+    separated_classes_are_minimal, separated_states_are_told_apart,
 };

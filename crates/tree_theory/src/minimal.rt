@@ -1,6 +1,6 @@
 //! Laws of minimal automata.
 
-ghost use Rattle.std.specs.Prelude.{◌≡◌, ◌≢◌, ℕ, Bool, ◌↔◌};
+ghost use Rattle.std.specs.Prelude.{◌≡◌, ◌≢◌, ℕ, Bool, ◌↔◌, nat_lt};
 ghost use Rattle.tree_theory.specs.Assignments.{Assignment, Covers};
 ghost use Rattle.tree_theory.specs.Guides.{Spaces, IsGuide, IsSpace};
 ghost use Rattle.tree_theory.specs.Automata.{Automaton, IsStable, Accepts, Has};
@@ -36,4 +36,11 @@ pub fn minimal_automata_are_alike()
 pub fn complement_stays_minimal()
     ensures { (g : Spaces) (A : Automaton ℕ) (states : ℕ → ℕ → Bool) → IsGuide g →
         IsMinimal g A (Has states) → IsMinimal g (complement A) (Has states) }
+{}
+
+/// Alike automata, whose states are the numbers below a count, have the same count in each space.
+pub fn alike_automata_have_as_many_states()
+    ensures { (g : Spaces) (A B : Automaton ℕ) (count_A count_B : ℕ → ℕ) →
+        AreAlike g A (Has (λ s q. nat_lt q (count_A s))) B (Has (λ s q. nat_lt q (count_B s))) →
+        (s : ℕ) → IsSpace g s → count_A s ≡ count_B s }
 {}
