@@ -1,6 +1,6 @@
 //! The tree of a procedure over bool variables, its names put in as numbers.
 
-use sqlite_items::{Boxed, Items};
+use plain_data::{Boxed, Items};
 use std::alloc::{AllocError, AllocFailed};
 use thiserror::Error;
 

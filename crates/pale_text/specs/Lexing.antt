@@ -5,6 +5,9 @@ use Rattle.pale_text.specs.declared.place.Pos.{Pos}
 use Rattle.pale_text.specs.declared.token.Token.{Token}
 use Rattle.pale_text.specs.declared.token.TokenKind.{TokenKind}
 use Rattle.pale_text.specs.declared.token.TokenList.{TokenList}
+use Rattle.pale_text.specs.declared.refusal.RefusalKind.TheVariants as refusal_kind
+use Rattle.pale_text.specs.declared.refusal.TextStop.{TextStop}
+use Rattle.pale_text.specs.declared.refusal.TextStop.TheVariants as stop
 use Rattle.pale_text.specs.Places.{first_place, place_after, place_past}
 use Rattle.pale_text.specs.Spelling.{Spells}
 
@@ -29,6 +32,10 @@ abbrev pub EndsComment : List ℕ → Type 0
 EndsComment [] = Unit {0}
 EndsComment (next ∷ _) = IsTrue (is_line_end next)
 
+-- no front of this text spells a token
+abbrev pub HasNoPiece : List ℕ → Type 0
+HasNoPiece text = (kind : TokenKind) (front after : List ℕ) → Spells kind front → front ++ after ≢ text
+
 -- `piece` spells a token, and no other front of the text `piece ++ rest` that spells one is longer
 pub record IsLongestPiece (kind : TokenKind) (piece rest : List ℕ) : Type 0 where
   pub spells : Spells kind piece
@@ -52,11 +59,11 @@ pub data Reaches (text : List ℕ) : List Token → Pos → List ℕ → Type 0 
 abbrev pub IsLexed : List ℕ → TokenList → Type 0
 IsLexed text list = Reaches text list.tokens list.end []
 
--- neither a gap nor a comment nor a token begins with this byte, whatever follows it
+-- neither a gap nor a comment nor a token begins with this byte, which these bytes follow
 pub record IsStray (byte : ℕ) (after : List ℕ) : Type 0 where
   pub no_gap : is_gap byte ≡ false
   pub no_comment : is_hash byte ≡ false
-  pub no_token : (kind : TokenKind) (piece rest : List ℕ) → Spells kind piece → piece ++ rest ≢ byte ∷ after
+  pub no_token : HasNoPiece (byte ∷ after)
 
 -- reading the text one comes to this place, where a byte stands that begins no gap, no comment and no token
 pub record IsStrayAt (text : List ℕ) (place : Pos) : Type 0 where
@@ -65,3 +72,8 @@ pub record IsStrayAt (text : List ℕ) (place : Pos) : Type 0 where
   pub after : List ℕ
   pub reached : Reaches text tokens place (byte ∷ after)
   pub stray : IsStray byte after
+
+-- what a stop says of the text: a refusal is `char`, at the text's stray byte, and want of memory says nothing
+abbrev pub IsLexStop : List ℕ → TextStop → Type 0
+IsLexStop text (stop.Refused refusal) = (refusal.kind ≡ refusal_kind.Char) × IsStrayAt text (record { line = refusal.line; column = refusal.column })
+IsLexStop text stop.NoMemory = Unit {0}

@@ -1,4 +1,6 @@
+pub mod Fronts
 pub mod Lexing
 pub mod Places
 pub mod Refusals
+pub mod Spelled
 pub mod Spelling

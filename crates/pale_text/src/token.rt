@@ -1,7 +1,10 @@
 //! What a text consists of.
 
+ghost use Rattle.std.specs.Prelude.{◌≡◌};
+ghost use Rattle.pale_text.specs.Spelling.{bytes_of};
+
 use crate::place::{Pos, Span};
-use sqlite_items::Items;
+use plain_data::Items;
 
 /// Bytes of a text, which contracts see as a list.
 pub type ByteList = Items<u8>;
@@ -69,6 +72,46 @@ pub enum Mark {
     At,
     /// `?`
     Question,
+}
+
+impl Mark {
+    /// Its one spelling. Takes no memory.
+    pub fn bytes(&self) -> &'static [u8]
+        ensures { result.now ≡ bytes_of self.now }
+    {
+        match self {
+            Mark::Equivalent => b"<=>",
+            Mark::SameAs => b"==",
+            Mark::Implies => b"=>",
+            Mark::NotSame => b"!=",
+            Mark::NotEqual => b"~=",
+            Mark::AndAlso => b"&&",
+            Mark::OrElse => b"||",
+            Mark::Equals => b"=",
+            Mark::Bang => b"!",
+            Mark::Tilde => b"~",
+            Mark::Ampersand => b"&",
+            Mark::Bar => b"|",
+            Mark::Less => b"<",
+            Mark::Greater => b">",
+            Mark::LeftParen => b"(",
+            Mark::RightParen => b")",
+            Mark::LeftBracket => b"[",
+            Mark::RightBracket => b"]",
+            Mark::LeftBrace => b"{",
+            Mark::RightBrace => b"}",
+            Mark::Colon => b":",
+            Mark::Semicolon => b";",
+            Mark::Comma => b",",
+            Mark::Dot => b".",
+            Mark::Star => b"*",
+            Mark::Plus => b"+",
+            Mark::Caret => b"^",
+            Mark::Dollar => b"$",
+            Mark::At => b"@",
+            Mark::Question => b"?",
+        }
+    }
 }
 
 /// What a token is. A reserved word is a name: which names are reserved is up to each language.

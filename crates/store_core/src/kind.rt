@@ -1,7 +1,7 @@
 //! What a field or a variable holds.
 
 use crate::ids::{TypeId, VariantId};
-use sqlite_items::{Boxed, Items};
+use plain_data::{Boxed, Items};
 
 /// The bytes of a name, which contracts see as a list.
 pub type ByteList = Items<u8>;

@@ -12,7 +12,7 @@ use crate::kind::{FieldKind, VarKind};
 use crate::types::TypeTable;
 use crate::value::{CellList, Value};
 use crate::vars::VarTable;
-use sqlite_items::{Items, at};
+use plain_data::{Items, at};
 use std::alloc::{AllocError, Global};
 use std::marker::Model;
 
@@ -120,6 +120,13 @@ impl Store {
             vars: values,
             next: 1,
         })
+    }
+
+    /// How many live cells there are. Takes no memory.
+    pub fn cells(&self) -> usize
+        ensures { result ≡ length (keys self.now.cells) }
+    {
+        self.cells.len()
     }
 
     /// The place of a cell among the live ones; `None` exactly where it isn't live.

@@ -1,0 +1,5 @@
+pub mod FaultsLemmas
+pub mod ToldLemmas
+pub mod WholeLemmas
+mod WritingSteps
+mod ReadingSteps

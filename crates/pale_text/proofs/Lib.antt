@@ -1,0 +1,6 @@
+pub mod LexLemmas
+pub mod ListLemmas
+pub mod MarkLemmas
+pub mod PieceLemmas
+pub mod ReadingLemmas
+pub mod SpelledLemmas
