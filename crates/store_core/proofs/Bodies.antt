@@ -1,5 +1,5 @@
 -- The kept types against the list of types that they stand for.
-use Rattle.std.proofs.Common.{◌≡◌, ℕ, ◌+◌, ◌<◌, ◌≤◌, List, [], ◌∷◌, ◌++◌, length, map, Option, Some, None, refl, sym, ap, ◌∙◌, subst, arith, slice_get, zero, suc, cond, Bool, true, false, position, set}
+use Rattle.std.proofs.Common.{◌≡◌, ℕ, List, [], ◌∷◌, ◌++◌, map, Option, Some, None, refl, sym, ap, ◌∙◌, subst, arith, slice_get, zero, suc, cond, position, set}
 use Rattle.std.specs.Option.{option_map, option_map_or}
 use Rattle.std.specs.List.{AllByRecursion}
 use Rattle.std.specs.Map.{keys_of, values_of}
@@ -13,7 +13,7 @@ use Rattle.std.proofs.lemmas.Option.{slice_get-map}
 use Rattle.std.proofs.lemmas.List.{length-map, map_push}
 use Rattle.store_core.specs.declared.ids.TypeId.{TypeId}
 use Rattle.store_core.specs.declared.types.TypeBody.{TypeBody}
-use Rattle.store_core.specs.Tables.{TypeEntry, FieldEntry, type_at, fields_of, variants_of, type_names, place_of, with_type, add_type, IsTypeTable, IsTypeEntry}
+use Rattle.store_core.specs.Tables.{TypeEntry, fields_of, variants_of, type_names, place_of, with_type, add_type, IsTypeTable, IsTypeEntry}
 use Rattle.store_core.specs.TypeBodies.{body_entry, type_entry, field_entry, entries_of, IsBodyOf}
 
 -- what holds of each element holds of the one at a place

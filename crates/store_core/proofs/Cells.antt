@@ -1,21 +1,19 @@
 -- The kept cells against the finite map that they stand for.
-use Rattle.std.proofs.Common.{◌≡◌, ◌≢◌, ℕ, zero, suc, ◌+◌, ◌<◌, ◌≤◌, Bool, true, false, cond, T, List, [], ◌∷◌, ◌++◌, length, map, set, Option, Some, None, Result, Ok, Err, IfSome, IfNone, refl, sym, ap, ◌∙◌, subst, arith, slice_get, get_or, ◌&&◌, inl, inr, Bor}
-use Rattle.std.specs.Option.{option_map, option_and_then, option_copied}
+use Rattle.std.proofs.Common.{◌≡◌, ◌≢◌, ℕ, zero, suc, ◌<◌, ◌≤◌, Bool, true, false, cond, T, List, [], ◌∷◌, length, map, Option, Some, None, Result, Ok, Err, IfSome, IfNone, refl, sym, ap, ◌∙◌, subst, arith, slice_get, get_or, ◌&&◌, inl, inr, Bor}
+use Rattle.std.specs.Option.{option_map, option_copied}
 use Rattle.std.specs.Result.{result_ok}
-use Rattle.std.specs.List.{AllByRecursion, remove}
+use Rattle.std.specs.List.{AllByRecursion}
 use Rattle.std.specs.List.Sorted.{IsSearchInRange, IsBinarySearchResult, IsNonDecreasingBy}
 use Rattle.std.specs.Ordering.{nat_cmp, ordering_index, eq_by_cmp, is_eq, is_lt}
-use Rattle.std.specs.declared.cmp.Ordering.{Ordering}
 use Rattle.std.specs.declared.cmp.Ordering.TheVariants.{Less, Equal, Greater}
 use Rattle.std.specs.Cmp.{nat_cmp_is}
-use Rattle.std.proofs.lemmas.Cmp.{ranked, nat_cmp_total}
-use Rattle.std.proofs.lemmas.List.Sorted.{IsNonDecreasingBy-from_default}
+use Rattle.std.proofs.lemmas.Cmp.{ranked}
 use Rattle.std.proofs.lemmas.Bool.Decides.{nat_tests}
 use Rattle.std.proofs.lemmas.Option.{slice_get-map, slice_get_within, get_or_from_slice_get, slice_get-get_or}
 use Rattle.std.proofs.lemmas.List.{length-map}
 use Rattle.std.proofs.lemmas.Bool.{cases_lt}
 use Rattle.std.specs.FinMap.Entries.{below_all}
-use Rattle.std.specs.FinMap.{FinMap, get, entries, keys, insert, from_sorted, is_sorted, find, put, entries-from_sorted, get-from_sorted, entries-insert, same_entries_map, empty, empty_of_len, len-entries}
+use Rattle.std.specs.FinMap.{get, entries, keys, from_sorted, is_sorted, find, entries-from_sorted, get-from_sorted, empty, empty_of_len, len-entries}
 use Rattle.store_core.specs.declared.ids.CellId.{CellId}
 use Rattle.store_core.specs.declared.store.CellBody.{CellBody}
 use Rattle.store_core.specs.declared.value.Value.{Value}

@@ -1,13 +1,12 @@
 -- Places of names in a list, and names that stand once.
-use Rattle.std.proofs.Common.{◌≡◌, ℕ, zero, suc, ◌+◌, ◌<◌, ◌≤◌, Bool, true, false, cond, not, List, [], ◌∷◌, ◌++◌, length, map, Option, Some, None, position, refl, sym, ap, ◌∙◌, subst, arith, slice_get, true≢false, nat_lt, nat_eq, Result, Ok, Err, OnErr, IfNone}
+use Rattle.std.proofs.Common.{◌≡◌, ℕ, zero, suc, ◌+◌, Bool, true, false, cond, not, List, [], ◌∷◌, ◌++◌, length, map, Option, Some, None, position, refl, sym, ap, ◌∙◌, arith, slice_get, nat_lt, Result, Ok, Err, OnErr, IfNone}
 use Rattle.std.specs.Option.{option_map}
 use Rattle.std.specs.Str.{bytes_eq}
-use Rattle.std.specs.Cmp.Lexicographic.{same_text}
 use Rattle.std.proofs.lemmas.Cmp.{nat_list_eq_equiv}
 use Rattle.std.specs.Map.{keys_of}
 use Rattle.std.specs.declared.vec.Vec.{Vec}
 use Rattle.std.specs.declared.alloc.Global.{Global}
-use Rattle.store_core.specs.Tables.{place_of, AreDistinct, VarEntry, TypeEntry, FieldEntry, type_names}
+use Rattle.store_core.specs.Tables.{place_of, AreDistinct}
 
 lt_suc : (n l : ℕ) → nat_lt (1 + n) (suc l) ≡ nat_lt n l
 lt_suc n l = grind arith

@@ -1,5 +1,5 @@
 -- Lists of cells in rising order, as which sets of cells are kept.
-use Rattle.std.specs.Prelude.{ℕ, ◌<◌, List, [], ◌∷◌}
+use Rattle.std.specs.Prelude.{◌<◌, List, [], ◌∷◌}
 use Rattle.std.specs.List.{AllByRecursion}
 use Rattle.store_core.specs.declared.ids.CellId.{CellId}
 

@@ -1,8 +1,7 @@
 -- A store as it is kept, read as a finite map.
-use Rattle.std.specs.Prelude.{ℕ, ◌<◌, List, [], ◌∷◌, map, Option, refl}
+use Rattle.std.specs.Prelude.{ℕ, ◌<◌, List, [], ◌∷◌, map}
 use Rattle.std.specs.List.{AllByRecursion}
-use Rattle.std.specs.Ordering.{nat_cmp}
-use Rattle.std.specs.FinMap.{FinMap, from_sorted}
+use Rattle.std.specs.FinMap.{from_sorted}
 use Rattle.store_core.specs.declared.store.CellBody.{CellBody}
 use Rattle.store_core.specs.declared.value.Value.{Value}
 use Rattle.store_core.specs.Stores.{StoreMap, CellEntry}

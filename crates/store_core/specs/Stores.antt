@@ -1,6 +1,6 @@
 -- What a store is: a finite map from cell numbers to cells, the variables' values and the next number. When it fits its
 -- tables, and when it is fresh.
-use Rattle.std.specs.Prelude.{◌≡◌, ◌≢◌, ℕ, ◌+◌, ◌<◌, ◌≤◌, ◌==◌, Bool, true, false, IsTrue, IsSome, IfSome, List, [], ◌∷◌, length, map, slice_get, slice_set, Option, Some, None, option_map, if◌then◌else◌, refl}
+use Rattle.std.specs.Prelude.{◌≡◌, ℕ, ◌+◌, ◌<◌, ◌==◌, true, false, IsSome, IfSome, List, [], ◌∷◌, map, slice_get, slice_set, Option, Some, None, if◌then◌else◌}
 use Rattle.std.specs.Option.{option_map_or, option_and_then}
 use Rattle.std.specs.List.{AllByRecursion}
 use Rattle.std.specs.Ordering.{nat_cmp}

@@ -1,4 +1,4 @@
-use Rattle.std.proofs.Common.{◌≡◌, ◌∙◌, ◌++◌, ◌∷◌, [], ap, arith, length, map, take}
+use Rattle.std.proofs.Common.{◌∙◌, ◌++◌, ◌∷◌, [], ap, arith}
 use Rattle.std.specs.Option.{option_and_then}
 use Rattle.store_core.specs.Tables.{fields_of}
 use Rattle.store_core.specs.Stores.{blank_slot}

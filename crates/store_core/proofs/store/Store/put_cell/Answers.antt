@@ -1,6 +1,6 @@
-use Rattle.std.proofs.Common.{◌≡◌, ◌∙◌, ◌+◌, ◌∷◌, [], ◌++◌, ap, sym, refl, subst}
+use Rattle.std.proofs.Common.{◌∙◌, ◌+◌, ap, sym, refl, subst}
 use Rattle.std.specs.FinMap as fin
-use Rattle.store_core.specs.Stores.{StoreMap, put_cell, blank_cell}
+use Rattle.store_core.specs.Stores.{StoreMap, put_cell}
 use Rattle.store_core.specs.StoreBodies.{IsKept, cells_of}
 use Rattle.store_core.proofs.Changes.{IsKept-push, cells-push}
 use Rattle.store_core.proofs.store.Store.put_cell.Goals as goal

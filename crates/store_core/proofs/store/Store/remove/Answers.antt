@@ -1,8 +1,8 @@
-use Rattle.std.proofs.Common.{◌≡◌, ◌∙◌, ap, sym, subst, arith}
+use Rattle.std.proofs.Common.{◌∙◌, ap, sym, subst, arith}
 use Rattle.std.specs.FinMap as fin
 use Rattle.store_core.specs.Stores.{StoreMap, remove_cell}
 use Rattle.store_core.specs.StoreBodies.{IsKept, cells_of}
-use Rattle.store_core.proofs.Changes.{Found, found_at, place_within, IsKept-remove, cells-remove}
+use Rattle.store_core.proofs.Changes.{found_at, place_within, IsKept-remove, cells-remove}
 use Rattle.store_core.proofs.store.Store.remove.Goals as goal
 
 pub remove-requires : goal.remove-requires

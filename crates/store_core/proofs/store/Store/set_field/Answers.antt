@@ -1,11 +1,11 @@
-use Rattle.std.proofs.Common.{◌≡◌, ◌∙◌, ap, sym, subst, arith, set, Some, Option, List, ◌<◌, length}
+use Rattle.std.proofs.Common.{◌≡◌, ◌∙◌, ap, sym, subst, arith, set, Some, Option, ◌<◌, length}
 use Rattle.std.specs.Option.{option_map_or}
 use Rattle.std.proofs.lemmas.Option.{get_or_from_slice_get}
 use Rattle.std.specs.FinMap as fin
 use Rattle.store_core.specs.declared.store.CellBody.{CellBody}
 use Rattle.store_core.specs.Stores.{StoreMap, CellEntry, set_field, with_field, class_of, cell_of}
-use Rattle.store_core.specs.StoreBodies.{IsKept, cells_of, cell_entry, store_of}
-use Rattle.store_core.proofs.Changes.{Found, found_at, place_within, field_within, IsKept-set, cells-set}
+use Rattle.store_core.specs.StoreBodies.{cells_of, cell_entry, store_of}
+use Rattle.store_core.proofs.Changes.{found_at, place_within, field_within, IsKept-set, cells-set}
 use Rattle.store_core.proofs.store.Store.set_field.Goals as goal
 
 pub index_mut-cell-requires : goal.index_mut-cell-requires

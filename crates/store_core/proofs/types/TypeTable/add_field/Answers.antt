@@ -1,4 +1,4 @@
-use Rattle.std.proofs.Common.{◌≡◌, ℕ, ◌≤◌, Some, None, List, [], ◌∷◌, ◌++◌, ap, ◌∙◌, sym, refl, subst, length, map, slice_get, position, arith}
+use Rattle.std.proofs.Common.{◌≡◌, [], ◌∷◌, ◌++◌, ap, ◌∙◌, sym, refl, subst, length, map, arith}
 use Rattle.std.proofs.lemmas.List.{length-map}
 use Rattle.indexmap.specs.Layout.{set_value_at}
 use Rattle.store_core.specs.Tables.{IsTypeTable, place_of, fields_of, field_names, owner_type, owner_only, with_type, add_field, FieldEntry}

@@ -1,5 +1,5 @@
-use Rattle.std.proofs.Common.{◌≡◌, None, ap, ◌∙◌, sym, subst, length}
-use Rattle.store_core.specs.Tables.{IsTypeTable, type_named, place_of, type_names, add_type}
+use Rattle.std.proofs.Common.{◌≡◌, ap, ◌∙◌, sym, subst}
+use Rattle.store_core.specs.Tables.{IsTypeTable, type_named, add_type}
 use Rattle.store_core.specs.TypeBodies.{entries_of}
 use Rattle.store_core.proofs.Names.{none_found}
 use Rattle.store_core.proofs.Adding.{IsTypeTable-add_type}

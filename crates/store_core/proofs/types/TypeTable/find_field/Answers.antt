@@ -1,4 +1,4 @@
-use Rattle.std.proofs.Common.{◌≡◌, ◌∙◌, ap, sym, refl}
+use Rattle.std.proofs.Common.{◌∙◌, ap, sym, refl}
 use Rattle.std.specs.Option.{option_map}
 use Rattle.store_core.specs.Tables.{field_names, place_of}
 use Rattle.store_core.specs.TypeBodies.{field_entry}
