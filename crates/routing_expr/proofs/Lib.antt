@@ -1,0 +1,3 @@
+pub mod RouteLemmas
+pub mod WalkLemmas
+pub mod LiveLemmas
