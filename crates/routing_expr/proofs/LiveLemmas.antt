@@ -49,7 +49,7 @@ module _ (types : List TypeEntry) (s : StoreMap) (fields : Fields) where
   HasLive : Route → Type 0
   HasLive along = (a b : CellId) → Walk types s fields along a b → IsLive s a × IsLive s b
 
-  hereditary : IsHereditary (HasLive types s fields)
+  hereditary : IsHereditary HasLive
   unfolding HasLive
   hereditary = record {
     of_Down = λ name a b w. let h = (Walk-Down types s fields name a b).0 w in Leads-live types s fields h.field a b h.leads;
@@ -67,4 +67,4 @@ module _ (types : List TypeEntry) (s : StoreMap) (fields : Fields) where
 
   pub Walk-live : (along : Route) (a b : CellId) → Walk types s fields along a b → IsLive s a × IsLive s b
   unfolding HasLive
-  Walk-live = route-induction (HasLive types s fields) hereditary
+  Walk-live = route-induction HasLive hereditary
