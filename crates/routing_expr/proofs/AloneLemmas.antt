@@ -23,6 +23,7 @@ same_cells s t e = record {
 
 pub Walk-same_cells : (types : List TypeEntry) (s t : StoreMap) (fields : Fields) (along : Route) (a b : CellId) → s.cells ≡ t.cells →
     Walk types s fields along a b ↔ Walk types t fields along a b
-Walk-same_cells types s t fields along a b e =
-    (Walk-carried types (λ c. c) (λ c. c) s t (record { back = λ c. refl; forth = λ c. refl }) (same_cells s t e) (same_cells t s (sym e)) fields along a b,
-     Walk-carried types (λ c. c) (λ c. c) t s (record { back = λ c. refl; forth = λ c. refl }) (same_cells t s (sym e)) (same_cells s t e) fields along a b)
+Walk-same_cells types s t fields along a b e = (
+  Walk-carried types (λ c. c) (λ c. c) s t (record { back = λ c. refl; forth = λ c. refl }) (same_cells s t e) (same_cells t s (sym e)) fields along a b,
+  Walk-carried types (λ c. c) (λ c. c) t s (record { back = λ c. refl; forth = λ c. refl }) (same_cells t s (sym e)) (same_cells s t e) fields along a b,
+)

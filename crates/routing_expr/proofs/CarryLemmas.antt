@@ -89,5 +89,5 @@ pub Walk-carried_back : (types : List TypeEntry) (to from : CellId → CellId) (
     (fields : Fields) (along : Route) (a b : CellId) → Walk types t fields along (to a) (to b) → Walk types s fields along a b
 Walk-carried_back types to from s t inverse there back fields along a b w =
     subst (λ x. Walk types s fields along a x) (inverse.back b)
-      (subst (λ x. Walk types s fields along x (from (to b))) (inverse.back a)
-        (Walk-carried types from to t s (record { back = inverse.forth; forth = inverse.back }) back there fields along (to a) (to b) w))
+    (subst (λ x. Walk types s fields along x (from (to b))) (inverse.back a)
+    (Walk-carried types from to t s (record { back = inverse.forth; forth = inverse.back }) back there fields along (to a) (to b) w))

@@ -43,9 +43,10 @@ module _ (types : List TypeEntry) (to from : CellId → CellId) (s t : StoreMap)
   back = Carries-renamed from to t s (IsRenamed-turned to from s t h)
 
   pub Walk-renamed : (fields : Fields) (along : Route) (a b : CellId) → Walk types s fields along a b ↔ Walk types t fields along (to a) (to b)
-  Walk-renamed fields along a b =
-      (Walk-carried types to from s t h.inverse there back fields along a b,
-       Walk-carried_back types to from s t h.inverse there back fields along a b)
+  Walk-renamed fields along a b = (
+    Walk-carried types to from s t h.inverse there back fields along a b,
+    Walk-carried_back types to from s t h.inverse there back fields along a b,
+  )
 
   EndsWalk-renamed : (along : Route) (target : TypeId) (a b : CellId) → EndsWalk types s along target a b → EndsWalk types t along target (to a) (to b)
   EndsWalk-renamed along target a b e = record { walk = (Walk-renamed DataAlone along a b).0 e.walk; of_target = there.of_type b target e.of_target }
@@ -78,12 +79,12 @@ module _ (types : List TypeEntry) (to from : CellId → CellId) (s t : StoreMap)
       AllByRecursion (NamesType s target) cells → AllByRecursion (NamesType t target) others
   named_types target cells others same k =
       recursion_from_All (NamesType t target) others (λ i d within.
-        let member : Contains others (get_or others i d) = Contains-get_or others i d within in
-        let e : to (from (get_or others i d)) ≡ get_or others i d = h.inverse.forth (get_or others i d) in
-        subst (λ x. NamesType t target x) e
-          (NamesType-renamed target (from (get_or others i d))
-            (All-contains (NamesType s target) cells (from (get_or others i d)) (All-from_recursion (NamesType s target) cells k)
-              ((same (from (get_or others i d))).1 (subst (λ x. Contains others x) (sym e) member)))))
+      let member : Contains others (get_or others i d) = Contains-get_or others i d within in
+      let e : to (from (get_or others i d)) ≡ get_or others i d = h.inverse.forth (get_or others i d) in
+      subst (λ x. NamesType t target x) e
+      (NamesType-renamed target (from (get_or others i d))
+      (All-contains (NamesType s target) cells (from (get_or others i d)) (All-from_recursion (NamesType s target) cells k)
+      ((same (from (get_or others i d))).1 (subst (λ x. Contains others x) (sym e) member)))))
 
   FieldFits-renamed : (kind : FieldKind) (x y : Value) → RenamesValue to x y → FieldFits s kind x → FieldFits t kind y
   FieldFits-renamed field.Bool (value.Bool b) (value.Bool d) e k = tt
@@ -156,7 +157,7 @@ module _ (types : List TypeEntry) (to from : CellId → CellId) (s t : StoreMap)
   CellFits-entry (Some cell) (Some other) e k = record {
     variant = subst (KnowsVariant types) (sym e.variant) k.variant;
     values = subst (λ (v : VariantId). SlotsFit t v.index (fields_of types v.ty) other.values) (sym e.variant)
-      (SlotsFit-renamed cell.variant.index (fields_of types cell.variant.ty) cell.values other.values e.values k.values);
+        (SlotsFit-renamed cell.variant.index (fields_of types cell.variant.ty) cell.values other.values e.values k.values);
   }
 
   -- a fact of every cell of s by its new name is one of every cell of t
@@ -201,9 +202,9 @@ module _ (types : List TypeEntry) (to from : CellId → CellId) (s t : StoreMap)
       let member : Contains others (get_or others i d) = Contains-get_or others i d within in
       let e : to (from (get_or others i d)) ≡ get_or others i d = h.inverse.forth (get_or others i d) in
       subst (λ x. IsOfType t target x) e
-        (there.of_type (from (get_or others i d)) target
-          (All-contains (IsOfType s target) cells (from (get_or others i d)) k
-            ((same (from (get_or others i d))).1 (subst (λ x. Contains others x) (sym e) member))))
+      (there.of_type (from (get_or others i d)) target
+      (All-contains (IsOfType s target) cells (from (get_or others i d)) k
+      ((same (from (get_or others i d))).1 (subst (λ x. Contains others x) (sym e) member))))
 
   SetHoldsLive-renamed : (kind : VarKind) (x y : Value) → RenamesValue to x y → SetHoldsLive s kind x → SetHoldsLive t kind y
   SetHoldsLive-renamed var.Bool x y e k = tt
@@ -255,7 +256,7 @@ module _ (types : List TypeEntry) (to from : CellId → CellId) (s t : StoreMap)
   Dest-back : (c : CellId) (f : FieldId) (d : CellId) → Dest types t (to c) f (to d) → Dest types s c f d
   Dest-back c f d e =
       subst (λ x. Dest types s c f x) (h.inverse.back d)
-        (subst (λ x. Dest types s x f (from (to d))) (h.inverse.back c) (Dest-renamed types from to t s turned (to c) f (to d) e))
+      (subst (λ x. Dest types s x f (from (to d))) (h.inverse.back c) (Dest-renamed types from to t s turned (to c) f (to d) e))
 
   -- a cell of t is a destination where the cell that it is in s is one
   dest_from : (c : CellId) (f : FieldId) (d : CellId) → Dest types t (to c) f d → Dest types s c f (from d)
@@ -270,7 +271,7 @@ module _ (types : List TypeEntry) (to from : CellId → CellId) (s t : StoreMap)
   IsOnlyDestination-renamed c f (value.Cell (Some d)) (value.Bool b) e k = absurd e
   IsOnlyDestination-renamed c f (value.Cell (Some d)) (value.Cell other) e k =
       subst (λ x. IsOnlyDestination types t (to c) f (value.Cell x)) (sym e)
-        (Dest-renamed types to from s t h c f d k.0, λ g there. sym (h.inverse.forth g) ∙ ap to (k.1 (from g) (dest_from c f g there)))
+      (Dest-renamed types to from s t h c f d k.0, λ g there. sym (h.inverse.forth g) ∙ ap to (k.1 (from g) (dest_from c f g there)))
   IsOnlyDestination-renamed c f (value.Cell (Some d)) (value.Cells b) e k = absurd e
   IsOnlyDestination-renamed c f (value.Cells b) y e k = absurd k
 
@@ -287,17 +288,17 @@ module _ (types : List TypeEntry) (to from : CellId → CellId) (s t : StoreMap)
   IsBackbone-renamed vars backbone = record {
     cell_vars = λ v. IfSome-map (var_at vars v) _ _ (λ entry k. var_kept types to from s t h _ _ (VarHoldsLive-renamed types to from s t h entry.kind) v k) (backbone.cell_vars v);
     data_fields = λ c f. everywhere types to from s t h (λ c. IfSome (field_at types f) (λ entry. IfSome (field_value t c f) (FieldHoldsLive t entry.kind)))
-      (λ c. IfSome-map (field_at types f) _ _
+        (λ c. IfSome-map (field_at types f) _ _
         (λ entry k. slot_kept types to from s t h _ _ (FieldHoldsLive-renamed types to from s t h entry.kind) (field_value s c f) (field_value t (to c) f) (field_value-renamed to from s t h c f) k)
         (backbone.data_fields c f)) c;
     named_once = λ c p q live one other.
-      sym (place_forth p) ∙ ap (new_place types to from s t h)
+        sym (place_forth p) ∙ ap (new_place types to from s t h)
         (backbone.named_once (from c) (old_place p) (old_place q) ((Carries-renamed from to t s turned).live c live)
-          (Names-renamed types from to t s turned vars p c one) (Names-renamed types from to t s turned vars q c other))
+        (Names-renamed types from to t s turned vars p c one) (Names-renamed types from to t s turned vars q c other))
         ∙ place_forth q;
     reached = λ c live.
-      let tree = backbone.reached (from c) ((Carries-renamed from to t s turned).live c live) in
-      (tree.0, subst (λ x. IsInTree types vars t tree.0 x) (h.inverse.forth c) (IsInTree-renamed types to from s t h vars tree.0 (from c) tree.1));
+        let tree = backbone.reached (from c) ((Carries-renamed from to t s turned).live c live) in
+        (tree.0, subst (λ x. IsInTree types vars t tree.0 x) (h.inverse.forth c) (IsInTree-renamed types to from s t h vars tree.0 (from c) tree.1));
   }
 
   pub IsWellFormed-renamed : (vars : List VarEntry) → IsWellFormed types vars s → IsWellFormed types vars t
@@ -305,7 +306,7 @@ module _ (types : List TypeEntry) (to from : CellId → CellId) (s t : StoreMap)
     fits = Fits-renamed types to from s t h vars wf.fits;
     backbone = IsBackbone-renamed vars wf.backbone;
     pointers = λ c f pointer. everywhere types to from s t h (λ c. IfSome (field_value t c f) (IsOnlyDestination types t c f))
-      (λ c. slot_kept types to from s t h _ _ (IsOnlyDestination-renamed c f) (field_value s c f) (field_value t (to c) f) (field_value-renamed to from s t h c f) (wf.pointers c f pointer)) c;
+        (λ c. slot_kept types to from s t h _ _ (IsOnlyDestination-renamed c f) (field_value s c f) (field_value t (to c) f) (field_value-renamed to from s t h c f) (wf.pointers c f pointer)) c;
     sets = λ v. IfSome-map (var_at vars v) _ _ (λ entry k. var_kept types to from s t h _ _ (SetHoldsLive-renamed types to from s t h entry.kind) v k) (wf.sets v);
   }
 

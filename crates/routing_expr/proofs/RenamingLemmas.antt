@@ -54,9 +54,14 @@ module _ (to from : CellId → CellId) (inverse : AreInverse to from) where
   RenamesValue-turned (value.Cell c) (value.Cells others) h = absurd h
   RenamesValue-turned (value.Cells cells) (value.Bool other) h = absurd h
   RenamesValue-turned (value.Cells cells) (value.Cell other) h = absurd h
-  RenamesValue-turned (value.Cells cells) (value.Cells others) h =
-      (h.1, h.0, λ c. (λ k. (h.2 (from c)).1 (subst (λ x. Contains others x) (sym (inverse.forth c)) k),
-                       λ k. subst (λ x. Contains others x) (inverse.forth c) ((h.2 (from c)).0 k)))
+  RenamesValue-turned (value.Cells cells) (value.Cells others) h = (
+    h.1,
+    h.0,
+    λ c. (
+      λ k. (h.2 (from c)).1 (subst (λ x. Contains others x) (sym (inverse.forth c)) k),
+      λ k. subst (λ x. Contains others x) (inverse.forth c) ((h.2 (from c)).0 k),
+    ),
+  )
 
   RenamesSlot-turned : (x y : Option Value) → RenamesSlot to x y → RenamesSlot from y x
   RenamesSlot-turned None None h = tt
@@ -80,7 +85,7 @@ pub IsRenamed-turned : (to from : CellId → CellId) (s t : StoreMap) → IsRena
 IsRenamed-turned to from s t h = record {
   inverse = record { back = h.inverse.forth; forth = h.inverse.back };
   cells = λ c. RenamesEntry-turned to from h.inverse (cell_of s (from c)) (cell_of t c)
-    (subst (λ x. RenamesEntry to (cell_of s (from c)) (cell_of t x)) (h.inverse.forth c) (h.cells (from c)));
+      (subst (λ x. RenamesEntry to (cell_of s (from c)) (cell_of t x)) (h.inverse.forth c) (h.cells (from c)));
   vars = turned_values to from h.inverse s.vars t.vars h.vars;
   above_one = h.above_other;
   above_other = h.above_one;
@@ -107,7 +112,7 @@ module _ (to : CellId → CellId) where
   field_of-renamed : (f : FieldId) (cell other : CellEntry) → RenamesCell to cell other → RenamesSlot to (field_of cell f) (field_of other f)
   field_of-renamed f cell other h =
       subst (λ (v : VariantId). RenamesSlot to (field_of cell f) (if v.ty.0 == f.ty.0 then option_and_then (λ v. v) (slice_get other.values f.index) else None)) (sym h.variant)
-        (slot_if (cell.variant.ty.0 == f.ty.0) _ _ (RenamesSlot-at to cell.values other.values f.index h.values))
+      (slot_if (cell.variant.ty.0 == f.ty.0) _ _ (RenamesSlot-at to cell.values other.values f.index h.values))
 
   field_value-entry : (f : FieldId) (o p : Option CellEntry) → RenamesEntry to o p →
       RenamesSlot to (option_and_then (λ cell. field_of cell f) o) (option_and_then (λ cell. field_of cell f) p)

@@ -75,9 +75,9 @@ module _ (types : List TypeEntry) (vars : List VarEntry) (s : StoreMap)
   Back-one_tree v w r q by_v by_w (step_to a c one step) (here h) = absurd (apart w a step.field (once _ _ _ h by_w (Names-Leads types vars s step.field a c step.leads)))
   Back-one_tree v w r q by_v by_w (step_to a c one step) (step_to b d two other) =
       Back-one_tree v w r q by_v by_w one
-        (subst (λ x. Back s (IsParent types s) q x)
-          (sym (field_same a b step.field other.field (once _ _ _ step.leads.live (Names-Leads types vars s step.field a _ step.leads) (Names-Leads types vars s other.field b _ other.leads))))
-          two)
+      (subst (λ x. Back s (IsParent types s) q x)
+      (sym (field_same a b step.field other.field (once _ _ _ step.leads.live (Names-Leads types vars s step.field a _ step.leads) (Names-Leads types vars s other.field b _ other.leads))))
+      two)
 
   IsInTree-back : (v : VarId) (c : CellId) (h : IsInTree types vars s v c) → Back s (IsParent types s) h.root c
   IsInTree-back v c h = Back-Chain (Chain-live (IsParent-live types s) h.path).0 h.path
@@ -94,8 +94,8 @@ module _ (types : List TypeEntry) (vars : List VarEntry) (s : StoreMap)
         root = r;
         named = by_v;
         path = subst (λ x. Chain s (IsParent types s) r x)
-          (field_same d a other.field step.field (once _ _ _ step.leads.live (Names-Leads types vars s other.field d _ other.leads) (Names-Leads types vars s step.field a _ step.leads)))
-          (Chain-Back (λ c e h. (IsParent-live types s c e h).1) back);
+            (field_same d a other.field step.field (once _ _ _ step.leads.live (Names-Leads types vars s other.field d _ other.leads) (Names-Leads types vars s step.field a _ step.leads)))
+            (Chain-Back (λ c e h. (IsParent-live types s c e h).1) back);
       }
 
   pub IsInTree-parent : (v : VarId) (a b : CellId) → IsInTree types vars s v b → IsParent types s a b → IsInTree types vars s v a
@@ -159,6 +159,7 @@ Walk-one_tree types vars s along a b backbone walk =
       has_one = tree.1;
       has_other = (both tree.0).0 tree.1;
       no_other = λ v h. elim h [
-          inl in_a ↦ one_tree types vars s backbone.named_once v tree.0 a in_a tree.1
-        | inr in_b ↦ one_tree types vars s backbone.named_once v tree.0 a ((both v).1 in_b) tree.1 ];
+        | inl in_a ↦ one_tree types vars s backbone.named_once v tree.0 a in_a tree.1
+        | inr in_b ↦ one_tree types vars s backbone.named_once v tree.0 a ((both v).1 in_b) tree.1
+      ];
     }

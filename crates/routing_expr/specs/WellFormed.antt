@@ -171,6 +171,6 @@ abbrev pub IsFirstFault : List TypeEntry → List VarEntry → StoreMap → WfFa
 IsFirstFault types vars s (fault.Dangling p) = IsFirstPlace (IsDangling s) p
 IsFirstFault types vars s (fault.Shared c) = ((p : Place) → IsDangling s p → ⊥) × IsFirstCell (IsShared types vars s) c
 IsFirstFault types vars s (fault.Leak c) = ((p : Place) → IsDangling s p → ⊥) × ((d : CellId) → IsShared types vars s d → ⊥)
-  × IsFirstCell (IsLeaked types vars s) c
+    × IsFirstCell (IsLeaked types vars s) c
 IsFirstFault types vars s (fault.Field c f) = ((p : Place) → IsDangling s p → ⊥) × ((d : CellId) → IsShared types vars s d → ⊥)
-  × ((d : CellId) → IsLeaked types vars s d → ⊥) × IsFirstPlace (IsWrongPlace types s) (place.Field c f)
+    × ((d : CellId) → IsLeaked types vars s d → ⊥) × IsFirstPlace (IsWrongPlace types s) (place.Field c f)
