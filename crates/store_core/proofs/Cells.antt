@@ -33,7 +33,6 @@ same_cmp a b h = sym (nat_cmp_is a b Equal h)
 more_cmp : (a b : ℕ) → b < a → nat_cmp a b ≡ Greater
 more_cmp a b h = sym (nat_cmp_is a b Greater h)
 
-
 -- the order of the numbers by places
 order_at : (bodies : List CellBody) → AreInOrder bodies → (i j : ℕ) (d : CellBody) → i < j → j < length bodies → (get_or bodies i d).number < (get_or bodies j d).number
 order_at [] order i j d lt within = absurd (omega arith)
@@ -160,3 +159,9 @@ shown (Some b) = refl
 -- no cell
 pub no_cells : from_sorted {R = nat_cmp} (cells_of []) ≡ empty
 no_cells = empty_of_len _ (len-entries _ ∙ ap length (entries_of-cells [] tt))
+
+-- how many cells are live
+pub count_is : (bodies : List CellBody) (order : AreInOrder bodies) (vars : List Value) (next : ℕ) (s : StoreMap) → store_of bodies vars next ≡ s → length (keys s.cells) ≡ length bodies
+count_is bodies order vars next s is =
+    ap (λ (t : StoreMap). length (keys t.cells)) (sym is) ∙ length-map (entries (from_sorted {R = nat_cmp} (cells_of bodies))) (λ e. e.0)
+    ∙ ap length (entries_of-cells bodies order) ∙ length-map bodies cell_entry

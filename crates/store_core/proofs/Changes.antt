@@ -49,7 +49,7 @@ found_at bodies order vars next s is c place found within =
     let inside : place < length bodies = omega (arith, within, ap length es, length-map bodies cell_entry) in
     let known = at_known bodies place inside in
     let there : Some (cell_entry known.0) ≡ option_map (λ cell. (c.0, cell)) (cell_of s c) =
-        sym (ap (option_map cell_entry) known.1) ∙ sym (slice_get-map cell_entry bodies place) ∙ ap (λ l. slice_get l place) (sym es) ∙ found in
+    sym (ap (option_map cell_entry) known.1) ∙ sym (slice_get-map cell_entry bodies place) ∙ ap (λ l. slice_get l place) (sym es) ∙ found in
     by known.0 known.1 (cell_of s c) refl there
   where
     by : (b : CellBody) → slice_get bodies place ≡ Some b → (o : Option CellEntry) → cell_of s c ≡ o → Some (cell_entry b) ≡ option_map (λ cell. (c.0, cell)) o → Found bodies s c place
@@ -185,15 +185,15 @@ find_removed (a ∷ bodies) order zero b at q =
 find_removed (a ∷ bodies) order (suc i) b at q =
     ap (cond (eq_by_cmp nat_cmp q a.number) (Some (cell_entry a).1)) (find_removed bodies order.1 i b at q)
     ∙ swapped _ _ _ _ (λ e f.
-        let lt = AllByRecursion-at (λ (d : CellBody). a.number < d.number) bodies i b order.0 at in
-        let same : a.number ≡ b.number = sym (tied q a.number e) ∙ tied q b.number f in omega arith)
+    let lt = AllByRecursion-at (λ (d : CellBody). a.number < d.number) bodies i b order.0 at in
+    let same : a.number ≡ b.number = sym (tied q a.number e) ∙ tied q b.number f in omega arith)
 
 pub cells-remove : (bodies : List CellBody) (i : ℕ) (b : CellBody) (k : ℕ) → slice_get bodies i ≡ Some b → b.number ≡ k → AreInOrder bodies
     → from_sorted {R = nat_cmp} (cells_of (remove bodies i)) ≡ fin.remove (from_sorted (cells_of bodies)) k
 cells-remove bodies i b k at is order =
     same_map nat_cmp_total nat_cmp-IsAntisymmetric _ _ (λ q.
-        get-from_sorted nat_cmp (cells_of (remove bodies i)) q (sorted_cells (remove bodies i) (order-remove bodies i order))
-        ∙ find_removed bodies order i b at q
-        ∙ ap (λ n. cond (eq_by_cmp nat_cmp q n) None (find nat_cmp q (cells_of bodies))) is
-        ∙ ap (cond (eq_by_cmp nat_cmp q k) None) (sym (get-from_sorted nat_cmp (cells_of bodies) q (sorted_cells bodies order)))
-        ∙ sym (get-remove nat_cmp_total (from_sorted (cells_of bodies)) k q))
+    get-from_sorted nat_cmp (cells_of (remove bodies i)) q (sorted_cells (remove bodies i) (order-remove bodies i order))
+    ∙ find_removed bodies order i b at q
+    ∙ ap (λ n. cond (eq_by_cmp nat_cmp q n) None (find nat_cmp q (cells_of bodies))) is
+    ∙ ap (cond (eq_by_cmp nat_cmp q k) None) (sym (get-from_sorted nat_cmp (cells_of bodies) q (sorted_cells bodies order)))
+    ∙ sym (get-remove nat_cmp_total (from_sorted (cells_of bodies)) k q))

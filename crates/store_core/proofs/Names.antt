@@ -1,5 +1,5 @@
 -- Places of names in a list, and names that stand once.
-use Rattle.std.proofs.Common.{◌≡◌, ℕ, zero, suc, ◌+◌, ◌<◌, ◌≤◌, Bool, true, false, cond, not, List, [], ◌∷◌, ◌++◌, length, map, Option, Some, None, position, refl, sym, ap, ◌∙◌, subst, arith, slice_get, true≢false, nat_lt, nat_eq, Result, Ok, Err, OnErr}
+use Rattle.std.proofs.Common.{◌≡◌, ℕ, zero, suc, ◌+◌, ◌<◌, ◌≤◌, Bool, true, false, cond, not, List, [], ◌∷◌, ◌++◌, length, map, Option, Some, None, position, refl, sym, ap, ◌∙◌, subst, arith, slice_get, true≢false, nat_lt, nat_eq, Result, Ok, Err, OnErr, IfNone}
 use Rattle.std.specs.Option.{option_map}
 use Rattle.std.specs.Str.{bytes_eq}
 use Rattle.std.specs.Cmp.Lexicographic.{same_text}
@@ -101,12 +101,20 @@ pub none_found : {X Y : Type 0} (f : X → Y) (o : Option X) → option_map f o 
 none_found f None e = refl
 none_found f (Some x) e = absurd (cc)
 
+-- the place of a name among keys that show nothing else
+pub position-names : {B : Type 0} (name : List ℕ) (es : List (Vec ℕ Global × B)) → position (λ k. bytes_eq name k.items) (keys_of es) ≡ place_of name (map (λ e. e.0.items) es)
+position-names {B = B} name es = position-map (λ k. bytes_eq name k.items) (λ (e : Vec ℕ Global × B). e.0) es ∙ sym (position-map (bytes_eq name) (λ (e : Vec ℕ Global × B). e.0.items) es)
+
 -- a name that is not among the names that the keys show is no key
 pub no_key : {B : Type 0} (name : List ℕ) (es : List (Vec ℕ Global × B)) → place_of name (map (λ e. e.0.items) es) ≡ None → position (λ k. bytes_eq name k.items) (keys_of es) ≡ None
-no_key {B = B} name es none =
-    position-map (λ k. bytes_eq name k.items) (λ (e : Vec ℕ Global × B). e.0) es ∙ sym (position-map (bytes_eq name) (λ (e : Vec ℕ Global × B). e.0.items) es) ∙ none
+no_key name es none = position-names name es ∙ none
 
 -- what holds anyway holds where there is an error
 pub always_OnErr : {X E P : Type 0} (r : Result X E) → P → OnErr r P
 always_OnErr (Ok x) p = tt
 always_OnErr (Err e) p = p
+
+-- what holds anyway holds where there is nothing
+pub always_IfNone : {X P : Type 0} (o : Option X) → P → IfNone o P
+always_IfNone None p = p
+always_IfNone (Some x) p = tt

@@ -14,6 +14,8 @@ use Rattle.store_core.specs.declared.kind.FieldKind.{FieldKind}
 use Rattle.store_core.specs.declared.kind.FieldKind.TheVariants as field
 use Rattle.store_core.specs.declared.kind.VarKind.{VarKind}
 use Rattle.store_core.specs.declared.kind.VarKind.TheVariants as var
+use Rattle.store_core.specs.declared.value.Class.{Class}
+use Rattle.store_core.specs.declared.value.Class.TheVariants.{Truth, Reference, Set}
 use Rattle.store_core.specs.declared.value.Value.{Value}
 use Rattle.store_core.specs.declared.value.Value.TheVariants as value
 use Rattle.store_core.specs.Tables.{TypeEntry, FieldEntry, VarEntry, fields_of, is_had, KnowsVariant}
@@ -58,12 +60,7 @@ IsAbove s = AllByRecursion (λ number. number < s.next) (keys s.cells)
 
 -- ---- the classes of values
 
--- values are of three classes: truth values, null and cells, sets of cells
-pub data Class : Type 0 where
-  Truth : Class
-  Reference : Class
-  Set : Class
-
+-- the class of a value, and of what a field or a variable holds
 abbrev pub class_of : Value → Class
 class_of (value.Bool b) = Truth
 class_of (value.Cell c) = Reference

@@ -122,6 +122,13 @@ impl Store {
         })
     }
 
+    /// How many live cells there are. Takes no memory.
+    pub fn cells(&self) -> usize
+        ensures { result ≡ length (keys self.now.cells) }
+    {
+        self.cells.len()
+    }
+
     /// The place of a cell among the live ones; `None` exactly where it isn't live.
     fn place(&self, c: CellId) -> Option<usize>
         ensures missing { IfNone result (cell_of self.now c ≡ None) }

@@ -225,6 +225,20 @@ impl TypeTable {
         Some(name.as_slice())
     }
 
+    /// The named variant of this name; `None` exactly where the type has none of it, or isn't known. Takes no memory.
+    pub fn find_variant(&self, ty: TypeId, name: &[u8]) -> Option<VariantId>
+        ensures { result ≡ option_map (λ i. record { ty = ty; index = i }) (place_of name.now (variants_of self.now ty)) }
+    {
+        let body = self.body(ty)?;
+        match body.variants.get_index_of(name) {
+            Some(index) => Some(VariantId {
+                ty,
+                index: index as u32,
+            }),
+            None => None,
+        }
+    }
+
     /// How many fields a type has over all its variants; 0 for an unknown type. Takes no memory.
     pub fn fields(&self, ty: TypeId) -> u32
         ensures { result ≡ length (fields_of self.now ty) }

@@ -86,6 +86,17 @@ impl CellList {
     }
 }
 
+/// The three classes of values.
+#[derive(Clone, Copy, Debug, PartialEq, Eq)]
+pub enum Class {
+    /// Truth values.
+    Truth,
+    /// Null and cells.
+    Reference,
+    /// Sets of cells.
+    Set,
+}
+
 /// What a field or a variable holds.
 #[derive(Debug, Drop)]
 pub enum Value {
@@ -98,6 +109,19 @@ pub enum Value {
 }
 
 impl Value {
+    ghost use Rattle.store_core.specs.Stores.{class_of};
+
+    /// The class of the value. Takes no memory.
+    pub fn class(&self) -> Class
+        ensures { result ≡ class_of self.now }
+    {
+        match self {
+            Value::Bool(_) => Class::Truth,
+            Value::Cell(_) => Class::Reference,
+            Value::Cells(_) => Class::Set,
+        }
+    }
+
     /// The same value, in memory of its own.
     pub fn copy(&self, alloc: Global) -> Result<Value, AllocError>
         ensures { IfOk result (λ copy. copy ≡ self.now) }

@@ -33,8 +33,8 @@ returns c =
     let body : c.index_mut-cell.result.now ≡ found.body = c.index_mut-cell.ensures.value ∙ get_or_from_slice_get bodies c.in-Some.place found.body _ found.at in
     let after : CellBody = record { number = c.index_mut-cell.result.now.number; variant = c.index_mut-cell.result.now.variant; values = c.set.new.self } in
     let changed : (cell_entry after).1 ≡ with_field (cell_entry found.body).1 c.args.f c.args.v =
-        (λ i. record { variant = (body i).variant; values = c.set.ensures i })
-        ∙ ap (λ (b : CellBody). record { variant = found.body.variant; values = set b.values c.args.f.index (Some c.args.v) }) body in
+    (λ i. record { variant = (body i).variant; values = c.set.ensures i })
+    ∙ ap (λ (b : CellBody). record { variant = found.body.variant; values = set b.values c.args.f.index (Some c.args.v) }) body in
     let here : cell_of (store_of bodies c.self.inside.vars c.self.inside.next) c.args.c ≡ Some (cell_entry found.body).1 = ap (λ (s : StoreMap). cell_of s c.args.c) c.self.view_is ∙ found.cell in
     ap (λ cells. record { cells = cells; vars = c.self.inside.vars; next = c.self.inside.next })
     (cells-set bodies c.in-Some.place found.body after c.args.c.0 found.at (ap (λ (b : CellBody). b.number) body) found.number c.self.invariant.rising

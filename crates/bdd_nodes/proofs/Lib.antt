@@ -1,0 +1,17 @@
+pub mod RefLemmas
+pub mod NodesLemmas
+pub mod CanonicalLemmas
+pub mod IndexLemmas
+pub mod GrowLemmas
+pub mod MakeLemmas
+pub mod ReadLemmas
+pub mod RootsLemmas
+pub mod TablesLemmas
+pub mod MarksLemmas
+pub mod MovesLemmas
+pub mod PlacesLemmas
+pub mod HeldLemmas
+pub mod CollectLemmas
+pub mod CollectedLemmas
+pub mod CallerLemmas
+pub mod UnderLemmas
