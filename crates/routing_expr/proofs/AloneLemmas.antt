@@ -1,5 +1,5 @@
 -- Walks see cells alone.
-use Rattle.std.proofs.Common.{◌≡◌, ◌↔◌, ℕ, List, Some, IsSome, IsSomeAnd, refl, sym, subst}
+use Rattle.std.proofs.Common.{◌≡◌, ◌↔◌, List, Some, IsSome, IsSomeAnd, refl, sym, subst}
 use Rattle.std.specs.Ordering.{nat_cmp}
 use Rattle.std.specs.FinMap.{FinMap, get}
 use Rattle.std.specs.Option.{option_and_then}

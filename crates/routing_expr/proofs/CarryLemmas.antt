@@ -1,14 +1,13 @@
 -- Walks go along with the names of cells.
-use Rattle.std.proofs.Common.{◌≡◌, ◌⊎◌, inl, inr, ℕ, Bool, List, Option, Some, None, IsSome, IsSomeAnd, refl, sym, ap, subst, ◌∙◌}
+use Rattle.std.proofs.Common.{◌≡◌, inl, inr, ℕ, Bool, List, Some, ap, subst}
 use Rattle.store_core.specs.declared.ids.FieldId.{FieldId}
 use Rattle.store_core.specs.declared.ids.TypeId.{TypeId}
 use Rattle.store_core.specs.declared.ids.VariantId.{VariantId}
 use Rattle.store_core.specs.declared.ids.CellId.{CellId}
 use Rattle.store_core.specs.declared.kind.Route.{Route}
-use Rattle.store_core.specs.declared.kind.Route.TheVariants.{Down, Up, UpAny, Root, Leaf, IsType, IsVariant, IsBool, Then, Or, Star}
 use Rattle.store_core.specs.declared.value.Value.TheVariants as value
 use Rattle.store_core.specs.Tables.{TypeEntry}
-use Rattle.store_core.specs.Stores.{StoreMap, IsLive, cell_of, field_value}
+use Rattle.store_core.specs.Stores.{StoreMap, IsLive, field_value}
 use Rattle.routing_expr.specs.Walks.{Fields, Leads, LeadsByName, IsParent, Stays, IsRoot, IsLeaf, IsOfType, IsOfVariant, HasTruth, Chain, stay, go, Walk}
 use Rattle.routing_expr.specs.Laws.{AreInverse}
 use Rattle.routing_expr.proofs.RouteLemmas.{IsHereditary, route-induction}

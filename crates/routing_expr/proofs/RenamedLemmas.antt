@@ -1,8 +1,8 @@
 -- Destinations and well-formedness go along with the names of cells.
-use Rattle.std.proofs.Common.{◌≡◌, ◌↔◌, ◌<◌, ℕ, length, get_or, Bool, true, false, List, [], ◌∷◌, Option, Some, None, IsSome, IsSomeAnd, IfSome, refl, sym, ap, subst, ◌∙◌}
+use Rattle.std.proofs.Common.{◌≡◌, ◌↔◌, ℕ, get_or, List, [], ◌∷◌, Option, Some, None, IsSomeAnd, IfSome, refl, sym, ap, subst, ◌∙◌}
 use Rattle.std.specs.Prelude.{option_map, Contains, All}
 use Rattle.std.specs.List.{AllByRecursion}
-use Rattle.std.proofs.lemmas.List.Elements.{All-from_recursion, recursion_from_All, All-contains, All-from_get_or, Contains-get_or}
+use Rattle.std.proofs.lemmas.List.Elements.{All-from_recursion, recursion_from_All, All-contains, Contains-get_or}
 use Rattle.store_core.specs.declared.ids.FieldId.{FieldId}
 use Rattle.store_core.specs.declared.ids.TypeId.{TypeId}
 use Rattle.store_core.specs.declared.ids.VariantId.{VariantId}
@@ -16,13 +16,13 @@ use Rattle.store_core.specs.declared.kind.VarKind.TheVariants as var
 use Rattle.store_core.specs.declared.value.Value.{Value}
 use Rattle.store_core.specs.declared.value.Value.TheVariants as value
 use Rattle.store_core.specs.Tables.{TypeEntry, FieldEntry, VarEntry, field_at, var_at, fields_of, KnowsVariant}
-use Rattle.store_core.specs.Stores.{StoreMap, CellEntry, IsLive, cell_of, field_value, var_value, NamesType, FieldFits, VarFits, SlotFits, SlotsFit, CellFits, VarsFit, Fits}
+use Rattle.store_core.specs.Stores.{StoreMap, CellEntry, cell_of, field_value, var_value, NamesType, FieldFits, VarFits, SlotsFit, CellFits, VarsFit, Fits}
 use Rattle.routing_expr.specs.declared.fault.Place.{Place}
 use Rattle.routing_expr.specs.declared.fault.Place.TheVariants as place
-use Rattle.routing_expr.specs.Walks.{Fields, DataAlone, IsParent, IsOfType, Walk}
-use Rattle.routing_expr.specs.Destinations.{EndsWalk, EndsKind, Dest, IsOnlyDestination, IsPointer}
-use Rattle.routing_expr.specs.WellFormed.{value_at, IsDataPlace, Names, IsInTree, HoldsOfType, VarHoldsLive, FieldHoldsLive, SetHoldsLive, IsBackbone, IsWellFormed}
-use Rattle.routing_expr.specs.Laws.{AreInverse, RenamesValue, RenamesSlot, Pairwise, RenamesCell, RenamesEntry, IsRenamed, GoesAlong}
+use Rattle.routing_expr.specs.Walks.{Fields, DataAlone, IsOfType, Walk}
+use Rattle.routing_expr.specs.Destinations.{EndsWalk, EndsKind, Dest, IsOnlyDestination}
+use Rattle.routing_expr.specs.WellFormed.{Names, IsInTree, HoldsOfType, VarHoldsLive, FieldHoldsLive, SetHoldsLive, IsBackbone, IsWellFormed}
+use Rattle.routing_expr.specs.Laws.{RenamesValue, RenamesSlot, Pairwise, RenamesEntry, IsRenamed, GoesAlong}
 use Rattle.routing_expr.proofs.CarryLemmas.{Carries, Walk-carried, Walk-carried_back, IsParent-carried, Chain-carried}
 use Rattle.routing_expr.proofs.RenamingLemmas.{IsRenamed-turned, RenamesValue-at, field_value-renamed, Carries-renamed, reference_of}
 

@@ -1,16 +1,13 @@
 -- Renamed stores: renaming back, and what a renaming carries.
-use Rattle.std.proofs.Common.{◌≡◌, ◌↔◌, ℕ, zero, suc, Bool, true, false, List, [], ◌∷◌, Option, Some, None, IsSome, IsSomeAnd, refl, sym, ap, subst, ◌∙◌, ◌==◌}
+use Rattle.std.proofs.Common.{◌≡◌, ℕ, zero, suc, Bool, true, false, List, [], ◌∷◌, Option, Some, None, IsSome, IsSomeAnd, refl, sym, ap, subst, ◌∙◌, ◌==◌}
 use Rattle.std.specs.Prelude.{option_map, slice_get, Contains, if◌then◌else◌}
 use Rattle.std.specs.Option.{option_and_then}
 use Rattle.store_core.specs.declared.ids.FieldId.{FieldId}
-use Rattle.store_core.specs.declared.ids.TypeId.{TypeId}
 use Rattle.store_core.specs.declared.ids.VariantId.{VariantId}
 use Rattle.store_core.specs.declared.ids.CellId.{CellId}
 use Rattle.store_core.specs.declared.value.Value.{Value}
 use Rattle.store_core.specs.declared.value.Value.TheVariants as value
-use Rattle.store_core.specs.CellLists.{AreRising}
-use Rattle.store_core.specs.Stores.{StoreMap, CellEntry, IsLive, cell_of, field_of, field_value}
-use Rattle.routing_expr.specs.Walks.{IsOfType, IsOfVariant}
+use Rattle.store_core.specs.Stores.{StoreMap, CellEntry, cell_of, field_of, field_value}
 use Rattle.routing_expr.specs.Laws.{AreInverse, RenamesValue, RenamesSlot, Pairwise, RenamesCell, RenamesEntry, IsRenamed}
 use Rattle.routing_expr.proofs.CarryLemmas.{Carries}
 

@@ -1,15 +1,14 @@
 -- Trees of a backbone: each live cell is in exactly one, and walks over data fields stay in it.
-use Rattle.std.proofs.Common.{◌≡◌, ◌⊎◌, inl, inr, ℕ, Bool, List, Option, Some, None, IsSome, IsSomeAnd, refl, sym, ap, subst, ◌∙◌}
+use Rattle.std.proofs.Common.{◌≡◌, inl, inr, List, refl, sym, subst}
 use Rattle.store_core.specs.declared.ids.FieldId.{FieldId}
 use Rattle.store_core.specs.declared.ids.VarId.{VarId}
 use Rattle.store_core.specs.declared.ids.CellId.{CellId}
 use Rattle.store_core.specs.declared.kind.Route.{Route}
-use Rattle.store_core.specs.declared.kind.Route.TheVariants.{Down, Up, UpAny, Root, Leaf, IsType, IsVariant, IsBool, Then, Or, Star}
 use Rattle.store_core.specs.Tables.{TypeEntry, VarEntry}
 use Rattle.store_core.specs.Stores.{StoreMap, IsLive}
 use Rattle.routing_expr.specs.declared.fault.Place.{Place}
 use Rattle.routing_expr.specs.declared.fault.Place.TheVariants as place
-use Rattle.routing_expr.specs.Walks.{Fields, DataAlone, Leads, LeadsByName, IsParent, Stays, Chain, stay, go, Walk}
+use Rattle.routing_expr.specs.Walks.{DataAlone, Leads, IsParent, Chain, stay, go, Walk}
 use Rattle.routing_expr.specs.WellFormed.{Names, IsInTree, IsBackbone}
 use Rattle.routing_expr.specs.Laws.{AreInOneTree}
 use Rattle.routing_expr.proofs.RouteLemmas.{IsHereditary, route-induction}

@@ -1,5 +1,5 @@
 -- Where a pointer field has to point. (Klarlund and Schwartzbach, POPL 1993, "graph types".)
-use Rattle.std.specs.Prelude.{◌≡◌, List, Option, Some, None, IsSomeAnd, IsSome}
+use Rattle.std.specs.Prelude.{◌≡◌, List, Some, None, IsSomeAnd}
 use Rattle.store_core.specs.declared.ids.TypeId.{TypeId}
 use Rattle.store_core.specs.declared.ids.FieldId.{FieldId}
 use Rattle.store_core.specs.declared.ids.CellId.{CellId}
@@ -8,8 +8,8 @@ use Rattle.store_core.specs.declared.kind.FieldKind.TheVariants as field
 use Rattle.store_core.specs.declared.kind.Route.{Route}
 use Rattle.store_core.specs.declared.value.Value.{Value}
 use Rattle.store_core.specs.declared.value.Value.TheVariants as value
-use Rattle.store_core.specs.Tables.{TypeEntry, VarEntry, field_at}
-use Rattle.store_core.specs.Stores.{StoreMap, field_value, Fits}
+use Rattle.store_core.specs.Tables.{TypeEntry, field_at}
+use Rattle.store_core.specs.Stores.{StoreMap}
 use Rattle.routing_expr.specs.Walks.{Walk, DataAlone, IsOfType}
 
 -- a walk of the route over data fields leads from a to b, and b is of the target type

@@ -11,7 +11,7 @@ use Rattle.store_core.specs.declared.value.Value.{Value}
 use Rattle.store_core.specs.declared.value.Value.TheVariants as value
 use Rattle.store_core.specs.Tables.{TypeEntry, VarEntry}
 use Rattle.store_core.specs.CellLists.{AreRising}
-use Rattle.store_core.specs.Stores.{StoreMap, CellEntry, IsLive, IsAbove, cell_of}
+use Rattle.store_core.specs.Stores.{StoreMap, CellEntry, IsAbove, cell_of}
 use Rattle.routing_expr.specs.Walks.{Fields, LeadsByName, IsParent, Stays, IsRoot, IsLeaf, IsOfType, IsOfVariant, HasTruth, Chain, Walk}
 use Rattle.routing_expr.specs.Destinations.{Dest}
 use Rattle.routing_expr.specs.WellFormed.{IsInTree, IsWellFormed}
