@@ -1,0 +1,55 @@
+//! Finding a node: chains of places, one for each bucket.
+
+ghost use Rattle.std.specs.Prelude.{◌≡◌, ◌≢◌, ◌+◌, ◌<◌, ◌≤◌, ◌^◌, ℕ, length, vec_len, slice_index, slice_set, IfSome, IfNone};
+ghost use Rattle.bdd_nodes.specs.Nodes.{node_at};
+ghost use Rattle.bdd_nodes.specs.Hash.{bucket_of};
+ghost use Rattle.bdd_nodes.specs.Index.{IsIndexed};
+
+use crate::node::Node;
+
+/// Chains of places. A link is a place plus one, and 0 ends a chain.
+#[derive(Debug, Drop)]
+pub(crate) struct Index {
+    /// For each bucket the link to its latest node.
+    pub(crate) buckets: Vec<u32>,
+    /// For each place the link to the node before it in its bucket.
+    pub(crate) chain: Vec<u32>,
+}
+
+impl Index {
+    /// The place of the node, if it is there.
+    #[inline(always)]
+    pub(crate) fn find(&self, nodes: &[Node], bucket: usize, node: Node) -> Option<u32>
+        requires its { bucket ≡ bucket_of node (length self.now.buckets.items) }
+        requires bucket_in { bucket < vec_len self.now.buckets }
+        requires indexed { IsIndexed nodes.now self.now.buckets.items self.now.chain.items (length nodes.now) }
+        requires fits { length nodes.now ≤ vec_len self.now.chain }
+        ensures found { IfSome result (λ place. node_at nodes.now place ≡ node) }
+        ensures within { IfSome result (λ place. place < length nodes.now) }
+        ensures absent { IfNone result ((i : ℕ) → i < length nodes.now → node_at nodes.now i ≢ node) }
+    {
+        let mut link = self.buckets[bucket];
+        while link != 0 {
+            let place = link - 1;
+            if nodes[place as usize] == node {
+                return Some(place);
+            }
+            link = self.chain[place as usize];
+        }
+        None
+    }
+
+    /// Puts a place before the others of its bucket.
+    #[inline(always)]
+    pub(crate) fn put(&mut self, bucket: usize, place: u32)
+        requires bucket_in { bucket < vec_len self.old.buckets }
+        requires place_in { place < vec_len self.old.chain }
+        requires link_fits { place + 1 < 2 ^ 32 }
+        ensures bucket { self.new.buckets.items ≡ slice_set self.old.buckets.items bucket (place + 1) }
+        ensures before { self.new.chain.items
+            ≡ slice_set self.old.chain.items place (slice_index self.old.buckets.items bucket) }
+    {
+        self.chain[place as usize] = self.buckets[bucket];
+        self.buckets[bucket] = place + 1;
+    }
+}

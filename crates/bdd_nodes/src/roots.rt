@@ -1,0 +1,112 @@
+//! Tables of roots.
+
+ghost use Rattle.std.specs.Prelude.{◌≡◌, ◌≢◌, ◌+◌, ◌<◌, ℕ, [], ◌∷◌, ◌++◌, length, IfOk, OnErr, IfSome, IfNone, IsSome, None, option_and_then, slice_get};
+ghost use Rattle.bdd_nodes.specs.Roots.{number_at, number_of, roots_under, AreNumbered};
+
+use std::alloc::{AllocError, Global};
+use std::marker::Model;
+
+use plain_data::Items;
+
+use crate::node_ref::NodeRef;
+
+/// References in order.
+pub type RefList = Items<NodeRef>;
+
+/// Names a registered table: the number of the tables that were added to its shelf before.
+#[derive(Clone, Copy, Debug, PartialEq, Eq, PartialOrd, Ord, Hash)]
+pub struct TableId(u64);
+
+/// A registered table.
+#[derive(Debug, Drop)]
+pub(crate) struct RootTable {
+    pub(crate) id: TableId,
+    pub(crate) roots: RefList,
+}
+
+/// The registered tables, in the order of their numbers.
+#[derive(Debug, Drop)]
+pub(crate) struct RootSet {
+    tables: Vec<RootTable>,
+    /// How many tables were added so far: the next one's number.
+    added: u64,
+}
+
+impl Model for RootSet {
+    ghost use Rattle.bdd_nodes.specs.Roots.{Registered, AreNumbered};
+
+    ghost Value = { Registered };
+
+    ghost view = { λ a. record { tables = a.tables.items; added = a.added } };
+
+    ghost invariant = { λ a. AreNumbered a.tables.items a.added };
+}
+
+impl RootSet {
+    pub(crate) fn new(alloc: Global) -> RootSet
+        ensures { result ≡ record { tables = []; added = 0 } }
+    {
+        RootSet {
+            tables: Vec::new(alloc),
+            added: 0,
+        }
+    }
+
+    /// Want of memory leaves the tables as they were, also where no number is left.
+    pub(crate) fn add(&mut self, roots: RefList) -> Result<TableId, AllocError>
+        ensures id { IfOk result (λ id. number_of id ≡ self.old.added) }
+        ensures added { IfOk result (λ id. self.new ≡
+            record { tables = self.old.tables ++ record { id = id; roots = roots } ∷ []; added = self.old.added + 1 }) }
+        ensures numbered { AreNumbered self.new.tables self.new.added }
+        ensures err { OnErr result (self.new ≡ self.old) }
+    {
+        let id = TableId(self.added);
+        let added = self.added.checked_add(1).ok_or(AllocError)?;
+        self.tables.push(RootTable { id, roots })?;
+        self.added = added;
+        Ok(id)
+    }
+
+    pub(crate) fn remove(&mut self, id: TableId)
+        ensures gone { roots_under self.new.tables (number_of id) ≡ None }
+        ensures others { (number : ℕ) → number ≢ number_of id
+            → roots_under self.new.tables number ≡ roots_under self.old.tables number }
+        ensures added { self.new.added ≡ self.old.added }
+        ensures numbered { AreNumbered self.new.tables self.new.added }
+    {
+        if let Some(place) = place_of(&self.tables, id) {
+            self.tables.remove(place);
+        }
+    }
+
+    pub(crate) fn root(&self, id: TableId, index: u32) -> Option<NodeRef>
+        ensures { result ≡ option_and_then (λ roots. slice_get roots index) (roots_under self.now.tables (number_of id)) }
+    {
+        let place = place_of(&self.tables, id)?;
+        self.tables[place].roots.get(index as usize).copied()
+    }
+}
+
+/// The place of the table with this number, by halves.
+fn place_of(tables: &[RootTable], id: TableId) -> Option<usize>
+    requires rise { (i j : ℕ) → i < j → j < length tables.now → number_at tables.now i < number_at tables.now j }
+    ensures within { IfSome result (λ place. place < length tables.now) }
+    ensures found { IfSome result (λ place. number_at tables.now place ≡ number_of id) }
+    ensures none { IfNone result (roots_under tables.now (number_of id) ≡ None) }
+{
+    let mut low = 0;
+    let mut high = tables.len();
+    while low < high {
+        let middle = low + (high - low) / 2;
+        let number = tables[middle].id.0;
+        if number == id.0 {
+            return Some(middle);
+        }
+        if number < id.0 {
+            low = middle + 1;
+        } else {
+            high = middle;
+        }
+    }
+    None
+}

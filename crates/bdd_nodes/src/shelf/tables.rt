@@ -1,0 +1,42 @@
+//! The registered tables of a shelf.
+
+ghost use Rattle.std.specs.Prelude.{◌≡◌, All, IfOk, OnErr, IfSome, IsSome};
+ghost use Rattle.bdd_nodes.specs.Roots.{number_of};
+ghost use Rattle.bdd_nodes.specs.Shelf.{IsShelf, IsValid, roots_of, root_of};
+ghost use Rattle.bdd_nodes.specs.Changes.{AddsTable, DropsTable};
+
+use std::alloc::AllocError;
+
+use crate::node_ref::NodeRef;
+use crate::roots::{RefList, TableId};
+use crate::shelf::Shelf;
+
+impl Shelf {
+    /// A root of a registered table as it stands now; `None` exactly for an unknown table or index. Takes no memory.
+    pub fn root(&self, id: TableId, index: u32) -> Option<NodeRef>
+        ensures value { result ≡ root_of self.now (number_of id) index }
+        ensures valid { IfSome result (IsValid self.now) }
+    {
+        self.roots.root(id, index)
+    }
+
+    /// Registers the roots under the number of the tables that were added before.
+    pub fn add_table(&mut self, roots: RefList) -> Result<TableId, AllocError>
+        requires { All (IsValid self.old) roots }
+        ensures ok { IfOk result (λ id. AddsTable self.old self.new (number_of id) roots) }
+        ensures err { OnErr result (self.new ≡ self.old) }
+        ensures shelf { IsShelf self.new }
+    {
+        let id = self.roots.add(roots)?;
+        Ok(id)
+    }
+
+    /// The table's roots are kept no longer. Takes no memory.
+    pub fn drop_table(&mut self, id: TableId)
+        requires { IsSome (roots_of self.old (number_of id)) }
+        ensures dropped { DropsTable self.old self.new (number_of id) }
+        ensures shelf { IsShelf self.new }
+    {
+        self.roots.remove(id);
+    }
+}
