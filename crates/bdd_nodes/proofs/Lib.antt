@@ -7,3 +7,4 @@ pub mod MakeLemmas
 pub mod ReadLemmas
 pub mod RootsLemmas
 pub mod TablesLemmas
+pub mod CallerLemmas

@@ -1,6 +1,6 @@
 -- The lists of leaves that a join puts to its rule: one for each label.
 use Rattle.std.specs.Prelude.{◌≡◌, ℕ, Bool, true, false, List, ◌++◌, map, Option, Some, None, nat_eq, if◌then◌else◌}
-use Rattle.bdd_nodes.specs.declared.NodeRef.{NodeRef}
+use Rattle.bdd_nodes.specs.declared.node_ref.NodeRef.{NodeRef}
 use Rattle.bdd_nodes.specs.Nodes.{Label}
 use Rattle.bdd_nodes.specs.Shelf.{Contents, state_of}
 

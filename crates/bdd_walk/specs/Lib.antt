@@ -1,3 +1,7 @@
 pub mod Answers
 pub mod Asked
 pub mod Under
+pub mod Stands
+pub mod Steps
+pub mod Waits
+pub mod Progress

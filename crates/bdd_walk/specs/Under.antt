@@ -1,6 +1,6 @@
 -- The functions under a function, which are those of the nodes under its node; and what doesn't fit into a shelf.
 use Rattle.std.specs.Prelude.{◌≡◌, ◌≢◌, ◌+◌, ◌<◌, ℕ, List, length, All, AllPairs, nat_lt, if◌then◌else◌, ◌⊎◌}
-use Rattle.bdd_nodes.specs.declared.NodeRef.{NodeRef}
+use Rattle.bdd_nodes.specs.declared.node_ref.NodeRef.{NodeRef}
 use Rattle.bdd_nodes.specs.Nodes.{Label, Function}
 use Rattle.bdd_nodes.specs.Shelf.{Contents, Has, IsValid, state_of, count_of, limit_of}
 use Rattle.bdd_nodes.specs.Changes.{Reaches}
@@ -15,16 +15,14 @@ pub record IsUnder (function part : Function) : Type 0 where
   pub fixed : Label
   pub states : (label : Label) → part label ≡ function (with_below below fixed label)
 
--- two labels get different states
-pub record Varies (function : Function) : Type 0 where
-  pub one : Label
-  pub other : Label
-  pub differ : function one ≢ function other
+-- all labels get one state
+abbrev pub IsConstant : Function → Type 0
+IsConstant function = (one other : Label) → function one ≡ function other
 
 -- a function under the whole one that isn't constant, and that nothing in the shelf stands for
 pub record IsMissing (shelf : Contents) (whole part : Function) : Type 0 where
   pub under : IsUnder whole part
-  pub varies : Varies part
+  pub varies : IsConstant part → ⊥
   pub absent : Has shelf part → ⊥
 
 -- the shelf has less room than there are functions missing under this one, each counted once

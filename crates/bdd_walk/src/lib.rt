@@ -7,6 +7,7 @@
 mod calls;
 mod rule;
 mod stop;
+mod walk;
 
 pub use calls::{StateMap, join, rename, restrict};
 pub use rule::{LeafRule, StateList};
