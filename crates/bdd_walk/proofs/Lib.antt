@@ -5,3 +5,4 @@ pub mod StandsLemmas
 pub mod AddsLemmas
 pub mod WaitsLemmas
 pub mod UnderLemmas
+pub mod TurnLemmas

@@ -83,6 +83,7 @@ fn visit<W: Walk, L: LeafRule>(
     stack: &mut Vec<Frame<W::Key>>,
     key: W::Key,
 ) -> Result<Turn<W::Key>, Stop>
+    requires shelf { IsShelf shelf.now }
     requires is_in { IsTrue (W.is_in walk.now shelf.now key) }
     requires may_ask { (label : Label) → L.may_ask rule.old (W.asked walk.now shelf.now key label) }
     ensures progress { (call : Call) → Works W.Key.eq (W.asked walk.now call.shelf) (W.is_in walk.now call.shelf) call
@@ -177,6 +178,7 @@ pub(crate) fn join_from<W: Walk, L: LeafRule>(
         → Exceeds shelf.old (λ label. given (W.asked walk.now shelf.old start label)) }
     ensures may_ask_still { (asked : List ℕ) → L.may_ask rule.old asked → L.may_ask rule.new asked }
 {
+    let _ = shelf.count();
     let mut memo = HashMap::new(alloc);
     let mut stack = Vec::new(alloc);
     let mut turn = Turn::Visit(start);
