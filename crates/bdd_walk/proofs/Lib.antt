@@ -6,3 +6,5 @@ pub mod AddsLemmas
 pub mod WaitsLemmas
 pub mod UnderLemmas
 pub mod TurnLemmas
+pub mod SidesLemmas
+pub mod KeysLemmas

@@ -5,3 +5,5 @@ pub mod Stands
 pub mod Steps
 pub mod Waits
 pub mod Progress
+pub mod Sides
+pub mod Laws

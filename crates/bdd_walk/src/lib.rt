@@ -5,7 +5,9 @@
 #![tactic(auto)]
 
 mod calls;
+mod one_root;
 mod rule;
+mod sides;
 mod stop;
 mod walk;
 

@@ -1,0 +1,1 @@
+use Rattle.bdd_walk.proofs.KeysLemmas.{IsFirstOf-two}
