@@ -4,11 +4,13 @@ use Rattle.std.specs.List.{list_all, AllByRecursion}
 use Rattle.std.proofs.lemmas.Bool.{cases_Bool, eqb-true, eqb-false}
 use Rattle.bdd_nodes.specs.declared.node_ref.NodeRef.{NodeRef}
 use Rattle.bdd_nodes.specs.Nodes.{Label}
-use Rattle.bdd_nodes.specs.Shelf.{Contents, IsShelf, AsksFrom, top_of}
+use Rattle.bdd_nodes.specs.Shelf.{Contents, IsShelf, IsValid, AsksFrom, top_of}
 use Rattle.bdd_nodes.specs.Changes.{Keeps, is_valid}
+use Rattle.bdd_nodes.proofs.CallerLemmas.{is_valid-true}
 use Rattle.bdd_walk.specs.Asked.{with_track, leaves_of}
 use Rattle.bdd_walk.specs.Stands.{Asking, AsksSame, AsksByFrom}
-use Rattle.bdd_walk.specs.Steps.{IsSplitBy}
+use Rattle.bdd_walk.specs.Steps.{IsSplitBy, IsSplit}
+use Rattle.bdd_walk.specs.Laws.{and-left, and-right}
 use Rattle.bdd_walk.specs.Sides.{side_at, earlier_of, AskFirst, AreLeaves, IsFirstOf, weight_of}
 use Rattle.bdd_walk.proofs.LabelLemmas.{with_track-same, with_track-other}
 use Rattle.bdd_walk.proofs.SidesLemmas.{leaves-side, leaves-later, sides-valid, sides-fall, sides-kept, AskFirst-kept, IsFirstOf-push}
@@ -83,3 +85,27 @@ IsSplitBy-append track f low high g low' high' first second = record {
 pub IsFirstOf-two : (shelf : Contents) (left right : NodeRef) → IsFirstOf shelf (left ∷ right ∷ []) (earlier_of (top_of shelf left) (top_of shelf right))
 IsFirstOf-two shelf left right =
     IsFirstOf-push shelf (left ∷ []) right (top_of shelf left) (IsFirstOf-push shelf [] left None (record { all = tt }))
+
+pub left-valid : (shelf : Contents) (left right : NodeRef) → IsTrue (list_all (is_valid shelf) (left ∷ right ∷ [])) → IsValid shelf left
+left-valid shelf left right valid = is_valid-true shelf left (and-left (is_valid shelf left) (is_valid shelf right && true) valid)
+
+pub right-valid : (shelf : Contents) (left right : NodeRef) → IsTrue (list_all (is_valid shelf) (left ∷ right ∷ [])) → IsValid shelf right
+right-valid shelf left right valid = is_valid-true shelf right (and-left (is_valid shelf right) true (and-right (is_valid shelf left) (is_valid shelf right && true) valid))
+
+-- the step of keys that are references and no more
+pub IsSplit-refs : {K : Type 0} (refs : K → List NodeRef) (base now : Contents) → IsShelf base → Keeps base now → (track : ℕ) (key low high : K) → IsTrue (list_all (is_valid base) (refs key)) → AskFirst now track (refs key)
+    → refs low ≡ map (side_at now track false) (refs key) → refs high ≡ map (side_at now track true) (refs key)
+    → IsSplit (λ (k : K). λ (label : Label). leaves_of base (refs k) label) (λ (k : K). list_all (is_valid base) (refs k)) (λ (k : K). weight_of (refs k)) key track low high
+IsSplit-refs {K} refs base now is_shelf keeps track key low high valid first low_is high_is = record {
+    low_goes = record {
+      inside = subst (λ (rs : List NodeRef). IsTrue (list_all (is_valid base) rs)) (sym low_is) (sides_in base now is_shelf keeps track (refs key) valid false);
+      falls = subst (λ (rs : List NodeRef). weight_of rs < weight_of (refs key)) (sym low_is) (sides_fall base now is_shelf keeps track (refs key) valid first false);
+    };
+    high_goes = record {
+      inside = subst (λ (rs : List NodeRef). IsTrue (list_all (is_valid base) rs)) (sym high_is) (sides_in base now is_shelf keeps track (refs key) valid true);
+      falls = subst (λ (rs : List NodeRef). weight_of rs < weight_of (refs key)) (sym high_is) (sides_fall base now is_shelf keeps track (refs key) valid first true);
+    };
+    split = subst (λ (rs : List NodeRef). IsSplitBy track (λ (label : Label). leaves_of base (refs key) label) (λ (label : Label). leaves_of base rs label) (λ (label : Label). leaves_of base (refs high) label)) (sym low_is)
+      (subst (λ (rs : List NodeRef). IsSplitBy track (λ (label : Label). leaves_of base (refs key) label) (λ (label : Label). leaves_of base (map (side_at now track false) (refs key)) label) (λ (label : Label). leaves_of base rs label)) (sym high_is)
+        (IsSplitBy-sides base now is_shelf keeps track (refs key) valid (AskFirst-kept base now keeps track (refs key) valid first).all (λ label. label) (IsView-itself track)));
+  }

@@ -8,3 +8,4 @@ pub mod UnderLemmas
 pub mod TurnLemmas
 pub mod SidesLemmas
 pub mod KeysLemmas
+pub mod OneRootLemmas

@@ -55,3 +55,8 @@ one-stays_in old new r keeps inside = is_valid-IsValid new r (keeps.valid r (is_
 pub one-asks_still : (view : Label → Label) (old new : Contents) (r : NodeRef) → Keeps old new → IsTrue (is_valid old r) → AsksSame (λ label. leaves_of new (r ∷ []) (view label)) (λ label. leaves_of old (r ∷ []) (view label))
 unfolding AsksSame
 one-asks_still view old new r keeps inside = λ label. ap (λ (state : ℕ). state ∷ []) (keeps.states r (view label) (is_valid-true old r inside))
+
+-- references
+pub leaves-still : (old new : Contents) → Keeps old new → (rs : List NodeRef) → IsTrue (list_all (is_valid old) rs) → AsksSame (λ label. leaves_of new rs label) (λ label. leaves_of old rs label)
+unfolding AsksSame
+leaves-still old new keeps rs inside = λ label. leaves-kept old new keeps rs label inside

@@ -7,3 +7,4 @@ pub mod Waits
 pub mod Progress
 pub mod Sides
 pub mod Laws
+pub mod PairLaws

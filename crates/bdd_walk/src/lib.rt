@@ -5,10 +5,12 @@
 #![tactic(auto)]
 
 mod calls;
+mod many_roots;
 mod one_root;
 mod rule;
 mod sides;
 mod stop;
+mod two_roots;
 mod walk;
 
 pub use calls::{StateMap, join, rename, restrict};

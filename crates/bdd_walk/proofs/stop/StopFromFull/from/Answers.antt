@@ -1,1 +1,0 @@
-use Rattle.bdd_walk.proofs.KeysLemmas.{IsFirstOf-two}
