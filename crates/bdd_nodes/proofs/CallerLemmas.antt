@@ -1,15 +1,15 @@
 -- What callers cite: which references are equal, what is under a reference, and which references are valid.
-use Rattle.std.proofs.Common.{◌≡◌, ℕ, ◌<◌, ◌≤◌, true, false, length, Option, Some, None, sym, ◌∙◌, ap, refl, subst, arith}
+use Rattle.std.proofs.Common.{◌≡◌, ℕ, suc, zero, ◌+◌, ◌-◌, ◌^◌, ◌<◌, ◌≤◌, Bool, true, false, if◌then◌else◌, length, Option, Some, None, sym, ◌∙◌, ap, refl, subst, arith}
 use Rattle.std.proofs.lemmas.Bool.{ltb-true, ltb-false, lt-ltb}
 use Rattle.bdd_nodes.specs.declared.node_ref.NodeRef.{NodeRef}
 use Rattle.bdd_nodes.specs.declared.node_ref.Named.{Named}
 use Rattle.bdd_nodes.specs.declared.node_ref.Named.TheVariants.{Leaf, Inner}
 use Rattle.bdd_nodes.specs.Nodes.{Label, node_of, node_at, first_track, IsNamedIn, AsksNoneBelow}
-use Rattle.bdd_nodes.specs.Shelf.{Contents, IsShelf, IsValid, Splits, SameFunction, AsksFrom, state_of, top_of}
+use Rattle.bdd_nodes.specs.Shelf.{Contents, IsShelf, IsValid, Splits, SameFunction, AsksFrom, state_of, top_of, low_of, high_of, rank_of, choice_of}
 use Rattle.bdd_nodes.specs.Changes.{is_valid, is_named_in}
 use Rattle.bdd_nodes.proofs.RefLemmas.{node_of-injective}
 use Rattle.bdd_nodes.proofs.CanonicalLemmas.{equal_named, state_named-unasked, AsksNoneBelow-weaker}
-use Rattle.bdd_nodes.proofs.ReadLemmas.{Splits-inner}
+use Rattle.bdd_nodes.proofs.ReadLemmas.{Splits-inner, IsLeaf-named}
 
 -- references of one function are equal
 pub same_reference : (shelf : Contents) (a b : NodeRef) → IsShelf shelf → IsValid shelf a → IsValid shelf b → SameFunction shelf a b → a ≡ b
@@ -65,3 +65,27 @@ is_named_in-IsNamedIn shelf (Inner place) valid = lt-ltb place (length shelf.nod
 pub is_valid-IsValid : (shelf : Contents) (r : NodeRef) → IsValid shelf r → is_valid shelf r ≡ true
 unfolding is_valid
 is_valid-IsValid shelf r valid = is_named_in-IsNamedIn shelf (node_of r) valid
+
+small-if : (b : Bool) (x y : ℕ) → x < 2 ^ 31 → y < 2 ^ 31 → (if b then x else y) < 2 ^ 31
+small-if true x y p q = p
+small-if false x y p q = q
+
+-- states are below 2 ^ 31
+module _ (shelf : Contents) (is_shelf : IsShelf shelf) (label : Label) where
+  small_within : (k : ℕ) (r : NodeRef) (named : Named) → node_of r ≡ named → rank_of r ≤ k → IsValid shelf r → state_of shelf r label < 2 ^ 31
+  small_within k r (Leaf state) named below valid =
+      let leaf = IsLeaf-named r state named in
+      subst (λ (n : ℕ). n < 2 ^ 31) (sym (leaf.states shelf label)) leaf.small
+  small_within zero r (Inner place) named below valid =
+      let split = Splits-inner shelf is_shelf r place named (subst (IsNamedIn shelf.nodes) named valid) in
+      absurd (let falls = split.low_falls in omega arith)
+  small_within (suc k) r (Inner place) named below valid =
+      let track = (node_at shelf.nodes place).track in
+      let split = Splits-inner shelf is_shelf r place named (subst (IsNamedIn shelf.nodes) named valid) in
+      subst (λ (n : ℕ). n < 2 ^ 31) (sym (split.states label))
+      (small-if (label track) (state_of shelf (high_of shelf r) label) (state_of shelf (low_of shelf r) label)
+        (small_within k (high_of shelf r) (node_of (high_of shelf r)) refl (let falls = split.high_falls in omega arith) split.high.valid)
+        (small_within k (low_of shelf r) (node_of (low_of shelf r)) refl (let falls = split.low_falls in omega arith) split.low.valid))
+
+  pub small_state : (r : NodeRef) → IsValid shelf r → state_of shelf r label < 2 ^ 31
+  small_state r valid = small_within (rank_of r) r (node_of r) refl (omega arith) valid

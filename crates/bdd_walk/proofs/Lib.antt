@@ -9,3 +9,5 @@ pub mod TurnLemmas
 pub mod SidesLemmas
 pub mod KeysLemmas
 pub mod OneRootLemmas
+pub mod ManyRootsLemmas
+pub mod CallLemmas

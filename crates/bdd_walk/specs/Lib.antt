@@ -8,3 +8,5 @@ pub mod Progress
 pub mod Sides
 pub mod Laws
 pub mod PairLaws
+pub mod ManyLaws
+pub mod Rules

@@ -13,8 +13,12 @@ use std::alloc::Global;
 use bdd_nodes::{NodeRef, RefList, Shelf};
 use plain_data::Items;
 
+use crate::one_root::{FixedTrack, OneRoot};
+use crate::roots::join_roots;
 use crate::rule::LeafRule;
+use crate::rules::{Renaming, SameState};
 use crate::stop::Stop;
+use crate::walk::join_from;
 
 /// Numbers of states: at place q the new number of state q.
 pub type StateMap = Items<u32>;
@@ -54,7 +58,8 @@ pub fn join<L: LeafRule>(
     ensures only { AnswersOnly (IsGiven (asked_of shelf.old roots.now dropped)) (L.answers rule.old) (L.answers rule.new) }
     ensures may_ask_still { (asked : List ℕ) → L.may_ask rule.old asked → L.may_ask rule.new asked }
 {
-    Err(Stop::NoMemory)
+    let made = join_roots(alloc, shelf, roots.as_slice(), dropped, rule)?;
+    Ok(made)
 }
 
 /// The function with each leaf's state replaced by its new number.
@@ -83,7 +88,9 @@ pub fn rename(
     ensures tables { SameTables shelf.old shelf.new }
     ensures shelf { IsShelf shelf.new }
 {
-    Err(Stop::NoMemory)
+    let walk = OneRoot { fixed: None };
+    let made = join_from(alloc, &walk, shelf, root, &mut Renaming { numbers: states })?;
+    Ok(made)
 }
 
 /// The function with the track fixed: what it gives for a label is what it gave with the track set, or unset.
@@ -111,5 +118,10 @@ pub fn restrict(
     ensures tables { SameTables shelf.old shelf.new }
     ensures shelf { IsShelf shelf.new }
 {
-    Err(Stop::NoMemory)
+    let _ = shelf.count();
+    let walk = OneRoot {
+        fixed: Some(FixedTrack { track, bit }),
+    };
+    let made = join_from(alloc, &walk, shelf, root, &mut SameState)?;
+    Ok(made)
 }

@@ -7,7 +7,9 @@
 mod calls;
 mod many_roots;
 mod one_root;
+mod roots;
 mod rule;
+mod rules;
 mod sides;
 mod stop;
 mod two_roots;

@@ -74,6 +74,7 @@ impl ManyRoots {
 
 impl Walk for ManyRoots {
     ghost use Rattle.bdd_walk.specs.Sides.{asked_by, weight_of};
+    ghost use Rattle.bdd_walk.specs.ManyLaws.{Respects-lists, same_list, many-stays_in, many-asks_still};
 
     type Key = Vec<NodeRef>;
 
@@ -83,11 +84,11 @@ impl Walk for ManyRoots {
 
     ghost weight = { λ walk roots. weight_of roots.items };
 
-    ghost respects = { λ walk shelf. ? };
+    ghost respects = { λ walk shelf. Respects-lists _ (λ roots. roots.items) (λ roots label. asked_by shelf walk.dropped walk.half roots label) (λ a b. same_list a.items b.items) };
 
-    ghost stays_in = { λ walk old new roots keeps inside. ? };
+    ghost stays_in = { λ walk old new roots keeps inside. many-stays_in old new keeps walk.half roots.items inside };
 
-    ghost asks_still = { λ walk old new roots keeps inside. ? };
+    ghost asks_still = { λ walk old new roots keeps inside. many-asks_still old new keeps walk.dropped walk.half roots.items inside };
 
     fn step(
         &self,
