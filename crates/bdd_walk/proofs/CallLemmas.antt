@@ -67,7 +67,7 @@ Completes-itself [] answer e = absurd (let f : None ≡ Some answer = e in cc)
 Completes-itself (state ∷ []) answer e = let f : Some state ≡ Some answer = e in cc
 Completes-itself (state ∷ other ∷ states) answer e = absurd (let f : None ≡ Some answer = e in cc)
 
-index-get : (numbers : List ℕ) (state answer : ℕ) → slice_get numbers state ≡ Some answer → slice_index numbers state ≡ answer
+pub index-get : (numbers : List ℕ) (state answer : ℕ) → slice_get numbers state ≡ Some answer → slice_index numbers state ≡ answer
 index-get [] state answer e = absurd (let f : None ≡ Some answer = e in cc)
 index-get (number ∷ numbers) zero answer e = let f : Some number ≡ Some answer = e in cc
 index-get (number ∷ numbers) (suc state) answer e = index-get numbers state answer e
@@ -76,3 +76,15 @@ pub Completes-renamed : (numbers : List ℕ) → Completes (renamed_by numbers) 
 Completes-renamed numbers [] answer e = absurd (let f : None ≡ Some answer = e in cc)
 Completes-renamed numbers (state ∷ []) answer e = index-get numbers state answer e
 Completes-renamed numbers (state ∷ other ∷ states) answer e = absurd (let f : None ≡ Some answer = e in cc)
+
+-- a list of one, and of two
+pub one-list : (rs : List NodeRef) (d : NodeRef) → 1 ≤ length rs → length rs < 2 → get_or rs 0 d ∷ [] ≡ rs
+one-list [] d least below = absurd (omega arith)
+one-list (r ∷ []) d least below = refl
+one-list (r ∷ s ∷ rs) d least below = absurd (omega arith)
+
+pub two-list : (rs : List NodeRef) (d : NodeRef) → 2 ≤ length rs → length rs < 3 → get_or rs 0 d ∷ get_or rs 1 d ∷ [] ≡ rs
+two-list [] d least below = absurd (omega arith)
+two-list (r ∷ []) d least below = absurd (omega arith)
+two-list (r ∷ s ∷ []) d least below = refl
+two-list (r ∷ s ∷ t ∷ rs) d least below = absurd (omega arith)

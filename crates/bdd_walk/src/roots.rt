@@ -1,6 +1,6 @@
 //! A join of a list of roots: of one and of two without a dropped track by keys of their own.
 
-ghost use Rattle.std.specs.Prelude.{◌≡◌, ◌++◌, ℕ, List, Err, IfOk, IsTrue};
+ghost use Rattle.std.specs.Prelude.{◌≡◌, ◌++◌, ℕ, List, Some, Err, IfOk, IsTrue};
 ghost use Rattle.std.specs.List.{list_all};
 ghost use Rattle.bdd_nodes.specs.Nodes.{Label};
 ghost use Rattle.bdd_nodes.specs.Changes.{is_valid};
@@ -41,12 +41,12 @@ fn join_dropped<L: LeafRule>(
 ) -> Result<NodeRef, Stop>
     requires shelf { IsShelf shelf.old }
     requires valid { IsTrue (list_all (is_valid shelf.old) roots.now) }
-    requires may_ask { (label : Label) → L.may_ask rule.old (asked_of shelf.old roots.now (Option.Some track) label) }
-    ensures progress { Progress (record { shelf = shelf.old; answers = L.answers rule.old; whole = asked_of shelf.old roots.now (Option.Some track) })
+    requires may_ask { (label : Label) → L.may_ask rule.old (asked_of shelf.old roots.now (Some track) label) }
+    ensures progress { Progress (record { shelf = shelf.old; answers = L.answers rule.old; whole = asked_of shelf.old roots.now (Some track) })
         shelf.new (L.answers rule.new) }
-    ensures stands { IfOk result (Stands shelf.new (L.answers rule.new) (asked_of shelf.old roots.now (Option.Some track))) }
+    ensures stands { IfOk result (Stands shelf.new (L.answers rule.new) (asked_of shelf.old roots.now (Some track))) }
     ensures limit { result ≡ Err Stop.Limit → (given : List ℕ → ℕ) → Completes (L.answers rule.new) given
-        → Exceeds shelf.old (λ label. given (asked_of shelf.old roots.now (Option.Some track) label)) }
+        → Exceeds shelf.old (λ label. given (asked_of shelf.old roots.now (Some track) label)) }
     ensures may_ask_still { (asked : List ℕ) → L.may_ask rule.old asked → L.may_ask rule.new asked }
 {
     let all = twice(alloc, roots)?;
