@@ -25,12 +25,12 @@ IsView-itself track = record { here = λ label. refl; later = λ l m agree. agre
 
 pub IsView-with_track : (track t : ℕ) (bit : Bool) → t ≢ track → IsView track (λ label. with_track label t bit)
 IsView-with_track track t bit apart = record {
-    here = λ label. with_track-other label t track bit (λ e. apart (sym e));
-    later = λ l m agree u after. elim (cases_Bool (eqb u t)) [
-        inl same ↦ ap (λ (b : Bool). if b then bit else l u) same ∙ sym (ap (λ (b : Bool). if b then bit else m u) same)
-      | inr other ↦ ap (λ (b : Bool). if b then bit else l u) other ∙ agree u after ∙ sym (ap (λ (b : Bool). if b then bit else m u) other)
-      ];
-  }
+  here = λ label. with_track-other label t track bit (λ e. apart (sym e));
+  later = λ l m agree u after. elim (cases_Bool (eqb u t)) [
+    | inl same ↦ ap (λ (b : Bool). if b then bit else l u) same ∙ sym (ap (λ (b : Bool). if b then bit else m u) same)
+    | inr other ↦ ap (λ (b : Bool). if b then bit else l u) other ∙ agree u after ∙ sym (ap (λ (b : Bool). if b then bit else m u) other)
+  ];
+}
 
 if-case : (b : Bool) (x y z : List ℕ) → (b ≡ true → z ≡ y) → (b ≡ false → z ≡ x) → z ≡ (if b then y else x)
 if-case true x y z is_set is_unset = is_set refl
@@ -59,12 +59,12 @@ module _ (base now : Contents) (is_shelf : IsShelf base) (keeps : Keeps base now
   -- the two sides of references that ask no track before
   pub IsSplitBy-sides : AllByRecursion (AsksFrom base track) rs → (view : Label → Label) → IsView track view → IsSplitBy track (λ label. leaves_of base rs (view label)) (λ label. leaves_of base (map (side_at now track false) rs) (view label)) (λ label. leaves_of base (map (side_at now track true) rs) (view label))
   IsSplitBy-sides asks view is_view = record {
-      asks = λ label. if-case (label track) _ _ _
+    asks = λ label. if-case (label track) _ _ _
         (λ is_set. leaves_side true (view label) (is_view.here label ∙ is_set))
         (λ is_unset. leaves_side false (view label) (is_view.here label ∙ is_unset));
-      low_later = sides_later asks view is_view false;
-      high_later = sides_later asks view is_view true;
-    }
+    low_later = sides_later asks view is_view false;
+    high_later = sides_later asks view is_view true;
+  }
 
 if-append : (b : Bool) (x y u v : List ℕ) → ((if b then x else y) ++ (if b then u else v)) ≡ (if b then x ++ u else y ++ v)
 if-append true x y u v = refl
@@ -74,12 +74,12 @@ if-append false x y u v = refl
 pub IsSplitBy-append : (track : ℕ) (f low high g low' high' : Asking) → IsSplitBy track f low high → IsSplitBy track g low' high' → IsSplitBy track (λ label. f label ++ g label) (λ label. low label ++ low' label) (λ label. high label ++ high' label)
 unfolding AsksByFrom
 IsSplitBy-append track f low high g low' high' first second = record {
-    asks = λ label. ap (λ (states : List ℕ). states ++ g label) (first.asks label)
+  asks = λ label. ap (λ (states : List ℕ). states ++ g label) (first.asks label)
       ∙ ap (λ (states : List ℕ). (if label track then high label else low label) ++ states) (second.asks label)
       ∙ if-append (label track) (high label) (low label) (high' label) (low' label);
-    low_later = λ l m agree. ap (λ (states : List ℕ). states ++ low' l) (first.low_later l m agree) ∙ ap (λ (states : List ℕ). low m ++ states) (second.low_later l m agree);
-    high_later = λ l m agree. ap (λ (states : List ℕ). states ++ high' l) (first.high_later l m agree) ∙ ap (λ (states : List ℕ). high m ++ states) (second.high_later l m agree);
-  }
+  low_later = λ l m agree. ap (λ (states : List ℕ). states ++ low' l) (first.low_later l m agree) ∙ ap (λ (states : List ℕ). low m ++ states) (second.low_later l m agree);
+  high_later = λ l m agree. ap (λ (states : List ℕ). states ++ high' l) (first.high_later l m agree) ∙ ap (λ (states : List ℕ). high m ++ states) (second.high_later l m agree);
+}
 
 -- the first track of two references
 pub IsFirstOf-two : (shelf : Contents) (left right : NodeRef) → IsFirstOf shelf (left ∷ right ∷ []) (earlier_of (top_of shelf left) (top_of shelf right))
@@ -97,15 +97,15 @@ pub IsSplit-refs : {K : Type 0} (refs : K → List NodeRef) (base now : Contents
     → refs low ≡ map (side_at now track false) (refs key) → refs high ≡ map (side_at now track true) (refs key)
     → IsSplit (λ (k : K). λ (label : Label). leaves_of base (refs k) label) (λ (k : K). list_all (is_valid base) (refs k)) (λ (k : K). weight_of (refs k)) key track low high
 IsSplit-refs {K} refs base now is_shelf keeps track key low high valid first low_is high_is = record {
-    low_goes = record {
-      inside = subst (λ (rs : List NodeRef). IsTrue (list_all (is_valid base) rs)) (sym low_is) (sides_in base now is_shelf keeps track (refs key) valid false);
-      falls = subst (λ (rs : List NodeRef). weight_of rs < weight_of (refs key)) (sym low_is) (sides_fall base now is_shelf keeps track (refs key) valid first false);
-    };
-    high_goes = record {
-      inside = subst (λ (rs : List NodeRef). IsTrue (list_all (is_valid base) rs)) (sym high_is) (sides_in base now is_shelf keeps track (refs key) valid true);
-      falls = subst (λ (rs : List NodeRef). weight_of rs < weight_of (refs key)) (sym high_is) (sides_fall base now is_shelf keeps track (refs key) valid first true);
-    };
-    split = subst (λ (rs : List NodeRef). IsSplitBy track (λ (label : Label). leaves_of base (refs key) label) (λ (label : Label). leaves_of base rs label) (λ (label : Label). leaves_of base (refs high) label)) (sym low_is)
+  low_goes = record {
+    inside = subst (λ (rs : List NodeRef). IsTrue (list_all (is_valid base) rs)) (sym low_is) (sides_in base now is_shelf keeps track (refs key) valid false);
+    falls = subst (λ (rs : List NodeRef). weight_of rs < weight_of (refs key)) (sym low_is) (sides_fall base now is_shelf keeps track (refs key) valid first false);
+  };
+  high_goes = record {
+    inside = subst (λ (rs : List NodeRef). IsTrue (list_all (is_valid base) rs)) (sym high_is) (sides_in base now is_shelf keeps track (refs key) valid true);
+    falls = subst (λ (rs : List NodeRef). weight_of rs < weight_of (refs key)) (sym high_is) (sides_fall base now is_shelf keeps track (refs key) valid first true);
+  };
+  split = subst (λ (rs : List NodeRef). IsSplitBy track (λ (label : Label). leaves_of base (refs key) label) (λ (label : Label). leaves_of base rs label) (λ (label : Label). leaves_of base (refs high) label)) (sym low_is)
       (subst (λ (rs : List NodeRef). IsSplitBy track (λ (label : Label). leaves_of base (refs key) label) (λ (label : Label). leaves_of base (map (side_at now track false) (refs key)) label) (λ (label : Label). leaves_of base rs label)) (sym high_is)
-        (IsSplitBy-sides base now is_shelf keeps track (refs key) valid (AskFirst-kept base now keeps track (refs key) valid first).all (λ label. label) (IsView-itself track)));
-  }
+      (IsSplitBy-sides base now is_shelf keeps track (refs key) valid (AskFirst-kept base now keeps track (refs key) valid first).all (λ label. label) (IsView-itself track)));
+}

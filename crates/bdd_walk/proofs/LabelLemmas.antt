@@ -30,11 +30,11 @@ fixed_with t fixed track bit = with_below t fixed (λ u. bit)
 -- with the tracks up to this one fixed as before and this one by the bit, the fixed part is the same
 pub with_below-with_below : (t : ℕ) (fixed label : Label) (track : ℕ) (bit : Bool) → t ≤ track → (u : ℕ) → with_below t fixed (with_below (suc track) (fixed_with t fixed track bit) label) u ≡ with_below (suc track) (fixed_with t fixed track bit) label u
 with_below-with_below t fixed label track bit within u = elim (cases_lt u t) [
-    inl under ↦ with_below-under t fixed (with_below (suc track) (fixed_with t fixed track bit) label) u under
+  | inl under ↦ with_below-under t fixed (with_below (suc track) (fixed_with t fixed track bit) label) u under
       ∙ sym (with_below-under t fixed (λ v. bit) u under)
       ∙ sym (with_below-under (suc track) (fixed_with t fixed track bit) label u (omega arith))
   | inr from ↦ with_below-from t fixed (with_below (suc track) (fixed_with t fixed track bit) label) u from
-  ]
+]
 
 pub with_below-at : (t : ℕ) (fixed label : Label) (track : ℕ) (bit : Bool) → t ≤ track → with_below (suc track) (fixed_with t fixed track bit) label track ≡ bit
 with_below-at t fixed label track bit within =
@@ -43,8 +43,8 @@ with_below-at t fixed label track bit within =
 -- a track below the number doesn't matter
 pub with_below-with_track : (t : ℕ) (fixed label : Label) (track : ℕ) (bit : Bool) → track < t → (u : ℕ) → with_below t fixed (with_track label track bit) u ≡ with_below t fixed label u
 with_below-with_track t fixed label track bit within u = elim (cases_lt u t) [
-    inl under ↦ with_below-under t fixed (with_track label track bit) u under ∙ sym (with_below-under t fixed label u under)
+  | inl under ↦ with_below-under t fixed (with_track label track bit) u under ∙ sym (with_below-under t fixed label u under)
   | inr from ↦ with_below-from t fixed (with_track label track bit) u from
       ∙ with_track-later label track u bit (omega arith)
       ∙ sym (with_below-from t fixed label u from)
-  ]
+]

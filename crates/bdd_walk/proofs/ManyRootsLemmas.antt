@@ -73,8 +73,8 @@ module _ (shelf : Contents) (is_shelf : IsShelf shelf) (track : ℕ) where
       let side = side-known shelf track false r is_shelf (is_valid-true shelf r (and-left (is_valid shelf r) (list_all (is_valid shelf) rs) valid)) in
       let rest_valid = and-right (is_valid shelf r) (list_all (is_valid shelf) rs) valid in
       elim some [
-        inl first ↦ (let here = side.falls first in let rest = past-within n rs rest_valid in omega arith)
-      | inr others ↦ (let here = side.within in let rest = past-falls n rs rest_valid others in omega arith)
+        | inl first ↦ (let here = side.falls first in let rest = past-within n rs rest_valid in omega arith)
+        | inr others ↦ (let here = side.within in let rest = past-falls n rs rest_valid others in omega arith)
       ]
 
 -- all are leaves: the list is the same for each label
@@ -82,9 +82,9 @@ pub asked_by-leaves : (base : Contents) (dropped : Option ℕ) (half : ℕ) (rs 
 asked_by-leaves base None half rs states leaves label = leaves base label
 asked_by-leaves base (Some t) half rs states leaves label =
     ap (λ (front : List ℕ). front ++ leaves_of base (drop half rs) (with_track label t true))
-      (sym (take-map (λ (r : NodeRef). state_of base r (with_track label t false)) half rs) ∙ ap (take half) (leaves base (with_track label t false)))
+    (sym (take-map (λ (r : NodeRef). state_of base r (with_track label t false)) half rs) ∙ ap (take half) (leaves base (with_track label t false)))
     ∙ ap (λ (rest : List ℕ). take half states ++ rest)
-      (sym (drop-map (λ (r : NodeRef). state_of base r (with_track label t true)) half rs) ∙ ap (drop half) (leaves base (with_track label t true)))
+    (sym (drop-map (λ (r : NodeRef). state_of base r (with_track label t true)) half rs) ∙ ap (drop half) (leaves base (with_track label t true)))
     ∙ take-append-drop half states
 
 module _ (dropped : Option ℕ) (half : ℕ) (base now : Contents) (is_shelf : IsShelf base) (keeps : Keeps base now) (rs : List NodeRef) (inside : IsTrue (list_all (is_valid base) rs && nat_le half (length rs))) (track : ℕ) (first : AskFirst now track rs) where
@@ -114,9 +114,9 @@ module _ (dropped : Option ℕ) (half : ℕ) (base now : Contents) (is_shelf : I
       (subst (λ (ss : List NodeRef). IsSplitBy track (λ (label : Label). asked_by base (Some t) half rs label) (λ (label : Label). leaves_of base (map (side_at now track false) (take half rs)) (with_track label t false) ++ leaves_of base ss (with_track label t true)) (λ (label : Label). asked_by base (Some t) half (map (side_at now track true) rs) label)) (sym (rest false))
       (subst (λ (ss : List NodeRef). IsSplitBy track (λ (label : Label). asked_by base (Some t) half rs label) (λ (label : Label). leaves_of base (map (side_at now track false) (take half rs)) (with_track label t false) ++ leaves_of base (map (side_at now track false) (drop half rs)) (with_track label t true)) (λ (label : Label). leaves_of base ss (with_track label t false) ++ leaves_of base (drop half (map (side_at now track true) rs)) (with_track label t true))) (sym (front true))
       (subst (λ (ss : List NodeRef). IsSplitBy track (λ (label : Label). asked_by base (Some t) half rs label) (λ (label : Label). leaves_of base (map (side_at now track false) (take half rs)) (with_track label t false) ++ leaves_of base (map (side_at now track false) (drop half rs)) (with_track label t true)) (λ (label : Label). leaves_of base (map (side_at now track true) (take half rs)) (with_track label t false) ++ leaves_of base ss (with_track label t true))) (sym (rest true))
-        (IsSplitBy-append track _ _ _ _ _ _
-          (IsSplitBy-sides base now is_shelf keeps track (take half rs) (valid-take base half rs many_valid) (all-take (AsksFrom base track) half rs first_base.all) (λ label. with_track label t false) (IsView-with_track track t false apart))
-          (IsSplitBy-sides base now is_shelf keeps track (drop half rs) (valid-drop base half rs many_valid) (all-drop (AsksFrom base track) half rs first_base.all) (λ label. with_track label t true) (IsView-with_track track t true apart))))))
+      (IsSplitBy-append track _ _ _ _ _ _
+      (IsSplitBy-sides base now is_shelf keeps track (take half rs) (valid-take base half rs many_valid) (all-take (AsksFrom base track) half rs first_base.all) (λ label. with_track label t false) (IsView-with_track track t false apart))
+      (IsSplitBy-sides base now is_shelf keeps track (drop half rs) (valid-drop base half rs many_valid) (all-drop (AsksFrom base track) half rs first_base.all) (λ label. with_track label t true) (IsView-with_track track t true apart))))))
 
   -- what is asked past the dropped track is what was asked
   past_now : past_of now track half rs ≡ past_of base track half rs
@@ -131,11 +131,11 @@ module _ (dropped : Option ℕ) (half : ℕ) (base now : Contents) (is_shelf : I
       let f = side_at base track false in
       let g = side_at base track true in
       ap (λ (states : List ℕ). states ++ leaves_of base (drop half rs) (with_track label t true))
-        (sym (leaves-side base is_shelf track false (take half rs) (with_track label t false) (valid-take base half rs many_valid) (ap (with_track label t false) (sym is) ∙ with_track-same label t false))
-          ∙ ap (λ (ss : List NodeRef). leaves_of base ss (with_track label t false)) (sym (take-past f g half rs many_within)))
+      (sym (leaves-side base is_shelf track false (take half rs) (with_track label t false) (valid-take base half rs many_valid) (ap (with_track label t false) (sym is) ∙ with_track-same label t false))
+      ∙ ap (λ (ss : List NodeRef). leaves_of base ss (with_track label t false)) (sym (take-past f g half rs many_within)))
       ∙ ap (λ (states : List ℕ). leaves_of base (take half (past_of base track half rs)) (with_track label t false) ++ states)
-        (sym (leaves-side base is_shelf track true (drop half rs) (with_track label t true) (valid-drop base half rs many_valid) (ap (with_track label t true) (sym is) ∙ with_track-same label t true))
-          ∙ ap (λ (ss : List NodeRef). leaves_of base ss (with_track label t true)) (sym (drop-past f g half rs many_within)))
+      (sym (leaves-side base is_shelf track true (drop half rs) (with_track label t true) (valid-drop base half rs many_valid) (ap (with_track label t true) (sym is) ∙ with_track-same label t true))
+      ∙ ap (λ (ss : List NodeRef). leaves_of base ss (with_track label t true)) (sym (drop-past f g half rs many_within)))
 
   past_inside : IsTrue (list_all (is_valid base) (past_of base track half rs) && nat_le half (length (past_of base track half rs)))
   past_inside =
@@ -143,24 +143,23 @@ module _ (dropped : Option ℕ) (half : ℕ) (base now : Contents) (is_shelf : I
       (past-valid base is_shelf track half rs many_valid)
       (le-leb half (length (past_of base track half rs)) (let e = length-past (side_at base track false) (side_at base track true) half rs in let w = many_within in omega arith))
 
-
 -- the steps of a key with these references
 module _ {K : Type 0} (refs : K → List NodeRef) (dropped : Option ℕ) (half : ℕ) (base now : Contents) (is_shelf : IsShelf base) (keeps : Keeps base now) (key : K) (inside : IsTrue (list_all (is_valid base) (refs key) && nat_le half (length (refs key)))) (track : ℕ) (first : AskFirst now track (refs key)) where
   pub IsSplit-many : (low high : K) → is_first dropped track ≡ false → refs low ≡ map (side_at now track false) (refs key) → refs high ≡ map (side_at now track true) (refs key)
       → IsSplit (λ (k : K). λ (label : Label). asked_by base dropped half (refs k) label) (λ (k : K). list_all (is_valid base) (refs k) && nat_le half (length (refs k))) (λ (k : K). weight_of (refs k)) key track low high
   IsSplit-many low high other low_is high_is = record {
-      low_goes = record {
-        inside = subst (λ (rs : List NodeRef). IsTrue (list_all (is_valid base) rs && nat_le half (length rs))) (sym low_is) (side_inside dropped half base now is_shelf keeps (refs key) inside track first false);
-        falls = subst (λ (rs : List NodeRef). weight_of rs < weight_of (refs key)) (sym low_is) (sides_fall base now is_shelf keeps track (refs key) (many_valid dropped half base now is_shelf keeps (refs key) inside track first) first false);
-      };
-      high_goes = record {
-        inside = subst (λ (rs : List NodeRef). IsTrue (list_all (is_valid base) rs && nat_le half (length rs))) (sym high_is) (side_inside dropped half base now is_shelf keeps (refs key) inside track first true);
-        falls = subst (λ (rs : List NodeRef). weight_of rs < weight_of (refs key)) (sym high_is) (sides_fall base now is_shelf keeps track (refs key) (many_valid dropped half base now is_shelf keeps (refs key) inside track first) first true);
-      };
-      split = subst (λ (rs : List NodeRef). IsSplitBy track (λ (label : Label). asked_by base dropped half (refs key) label) (λ (label : Label). asked_by base dropped half rs label) (λ (label : Label). asked_by base dropped half (refs high) label)) (sym low_is)
+    low_goes = record {
+      inside = subst (λ (rs : List NodeRef). IsTrue (list_all (is_valid base) rs && nat_le half (length rs))) (sym low_is) (side_inside dropped half base now is_shelf keeps (refs key) inside track first false);
+      falls = subst (λ (rs : List NodeRef). weight_of rs < weight_of (refs key)) (sym low_is) (sides_fall base now is_shelf keeps track (refs key) (many_valid dropped half base now is_shelf keeps (refs key) inside track first) first false);
+    };
+    high_goes = record {
+      inside = subst (λ (rs : List NodeRef). IsTrue (list_all (is_valid base) rs && nat_le half (length rs))) (sym high_is) (side_inside dropped half base now is_shelf keeps (refs key) inside track first true);
+      falls = subst (λ (rs : List NodeRef). weight_of rs < weight_of (refs key)) (sym high_is) (sides_fall base now is_shelf keeps track (refs key) (many_valid dropped half base now is_shelf keeps (refs key) inside track first) first true);
+    };
+    split = subst (λ (rs : List NodeRef). IsSplitBy track (λ (label : Label). asked_by base dropped half (refs key) label) (λ (label : Label). asked_by base dropped half rs label) (λ (label : Label). asked_by base dropped half (refs high) label)) (sym low_is)
         (subst (λ (rs : List NodeRef). IsSplitBy track (λ (label : Label). asked_by base dropped half (refs key) label) (λ (label : Label). asked_by base dropped half (map (side_at now track false) (refs key)) label) (λ (label : Label). asked_by base dropped half rs label)) (sym high_is)
-          (split_by dropped half base now is_shelf keeps (refs key) inside track first dropped other));
-    }
+        (split_by dropped half base now is_shelf keeps (refs key) inside track first dropped other));
+  }
 
   pub IsSkip-many : (next : K) → is_first dropped track ≡ true → refs next ≡ past_of now track half (refs key)
       → IsSkip (λ (k : K). λ (label : Label). asked_by base dropped half (refs k) label) (λ (k : K). list_all (is_valid base) (refs k) && nat_le half (length (refs k))) (λ (k : K). weight_of (refs k)) key next
@@ -171,8 +170,8 @@ module _ {K : Type 0} (refs : K → List NodeRef) (dropped : Option ℕ) (half :
         goes = record {
           inside = subst (λ (rs : List NodeRef). IsTrue (list_all (is_valid base) rs && nat_le half (length rs))) (sym is) (past_inside dropped half base now is_shelf keeps (refs key) inside track first);
           falls = subst (λ (rs : List NodeRef). weight_of rs < weight_of (refs key)) (sym is)
-            (past-falls base is_shelf track half (refs key) (many_valid dropped half base now is_shelf keeps (refs key) inside track first) (first_base dropped half base now is_shelf keeps (refs key) inside track first).some);
+              (past-falls base is_shelf track half (refs key) (many_valid dropped half base now is_shelf keeps (refs key) inside track first) (first_base dropped half base now is_shelf keeps (refs key) inside track first).some);
         };
         same = λ label. past_same dropped half base now is_shelf keeps (refs key) inside track first dropped here label
-          ∙ ap (λ (rs : List NodeRef). asked_by base dropped half rs label) (sym is);
+            ∙ ap (λ (rs : List NodeRef). asked_by base dropped half rs label) (sym is);
       }

@@ -22,20 +22,20 @@ use Rattle.bdd_walk.proofs.KeysLemmas.{IsView, IsView-itself, IsView-with_track,
 fixed-at : (fixed : Option FixedTrack) (track : ℕ) (bit : Bool) (label : Label) → bit_at fixed track ≡ Some bit → fixed_label fixed label track ≡ bit
 fixed-at None track bit label e = absurd (let f : None ≡ Some bit = e in cc)
 fixed-at (Some fixed) track bit label e = elim (cases_Bool (eqb fixed.track track)) [
-    inl same ↦
+  | inl same ↦
       let f : Some fixed.bit ≡ Some bit = sym (ap (λ (b : Bool). if b then Some fixed.bit else None) same) ∙ e in
       let is : fixed.bit ≡ bit = cc in
       ap (λ (t : ℕ). with_track label fixed.track fixed.bit t) (sym (eqb-true fixed.track track same)) ∙ with_track-same label fixed.track fixed.bit ∙ is
   | inr other ↦ absurd (let f : None ≡ Some bit = sym (ap (λ (b : Bool). if b then Some fixed.bit else None) other) ∙ e in cc)
-  ]
+]
 
 -- where it isn't, labels are read as they are
 view-at : (fixed : Option FixedTrack) (track : ℕ) → bit_at fixed track ≡ None → IsView track (fixed_label fixed)
 view-at None track e = IsView-itself track
 view-at (Some fixed) track e = elim (cases_Bool (eqb fixed.track track)) [
-    inl same ↦ absurd (let f : Some fixed.bit ≡ None = sym (ap (λ (b : Bool). if b then Some fixed.bit else None) same) ∙ e in cc)
+  | inl same ↦ absurd (let f : Some fixed.bit ≡ None = sym (ap (λ (b : Bool). if b then Some fixed.bit else None) same) ∙ e in cc)
   | inr other ↦ IsView-with_track track fixed.track fixed.bit (eqb-false fixed.track track other)
-  ]
+]
 
 module _ (fixed : Option FixedTrack) (base now : Contents) (is_shelf : IsShelf base) (keeps : Keeps base now) (r : NodeRef) (valid : IsTrue (is_valid base r)) (track : ℕ) (top : top_of now r ≡ Some track) where
   one_valid : IsTrue (list_all (is_valid base) (r ∷ []))
@@ -53,16 +53,16 @@ module _ (fixed : Option FixedTrack) (base now : Contents) (is_shelf : IsShelf b
   pub IsSkip-one : (bit : Bool) → bit_at fixed track ≡ Some bit → IsSkip (λ (root : NodeRef). λ label. leaves_of base (root ∷ []) (fixed_label fixed label)) (λ root. is_valid base root) (λ root. rank_of root) r (side_at now track bit r)
   unfolding AsksSame
   IsSkip-one bit is_fixed = record {
-      goes = record { inside = one_in bit; falls = one_falls bit };
-      same = λ label. leaves_side base now is_shelf keeps track (r ∷ []) one_valid bit (fixed_label fixed label) (fixed-at fixed track bit label is_fixed);
-    }
+    goes = record { inside = one_in bit; falls = one_falls bit };
+    same = λ label. leaves_side base now is_shelf keeps track (r ∷ []) one_valid bit (fixed_label fixed label) (fixed-at fixed track bit label is_fixed);
+  }
 
   pub IsSplit-one : bit_at fixed track ≡ None → IsSplit (λ (root : NodeRef). λ label. leaves_of base (root ∷ []) (fixed_label fixed label)) (λ root. is_valid base root) (λ root. rank_of root) r track (side_at now track false r) (side_at now track true r)
   IsSplit-one free = record {
-      low_goes = record { inside = one_in false; falls = one_falls false };
-      high_goes = record { inside = one_in true; falls = one_falls true };
-      split = IsSplitBy-sides base now is_shelf keeps track (r ∷ []) one_valid (AskFirst-kept base now keeps track (r ∷ []) one_valid one_first).all (fixed_label fixed) (view-at fixed track free);
-    }
+    low_goes = record { inside = one_in false; falls = one_falls false };
+    high_goes = record { inside = one_in true; falls = one_falls true };
+    split = IsSplitBy-sides base now is_shelf keeps track (r ∷ []) one_valid (AskFirst-kept base now keeps track (r ∷ []) one_valid one_first).all (fixed_label fixed) (view-at fixed track free);
+  }
 
 -- a step from the reference
 abbrev pub StepsOne : Option FixedTrack → Contents → NodeRef → Step NodeRef → Type 0
@@ -77,4 +77,4 @@ module _ (fixed : Option FixedTrack) (base now : Contents) (is_shelf : IsShelf b
   StepsOne-split low high free low_is high_is =
       subst (λ (s : NodeRef). StepsOne fixed base r (Split track s high)) (sym low_is)
       (subst (λ (s : NodeRef). StepsOne fixed base r (Split track (side_at now track false r) s)) (sym high_is)
-        (IsSplit-one fixed base now is_shelf keeps r valid track top free))
+      (IsSplit-one fixed base now is_shelf keeps r valid track top free))

@@ -30,27 +30,26 @@ module _ (shelf : Contents) (is_shelf : IsShelf shelf) (track : ℕ) (low high :
 -- a reference whose function depends on the tracks from t on alone asks from t
 pub AsksFrom-of_function : (shelf : Contents) (r : NodeRef) (t : ℕ) → IsShelf shelf → IsValid shelf r → ((l m : Label) → ((u : ℕ) → t ≤ u → l u ≡ m u) → state_of shelf r l ≡ state_of shelf r m) → AsksFrom shelf t r
 AsksFrom-of_function shelf r t is_shelf valid depends = elim (cases_of shelf r is_shelf valid) [
-    is_leaf top others asks ↦ asks t
+  | is_leaf top others asks ↦ asks t
   | splits track top split asks_to asks_of ↦ elim (cases_lt track t) [
-      inr from ↦ asks_to t from
+    | inr from ↦ asks_to t from
     | inl below ↦ absurd (split.differ (choice-same_sides shelf is_shelf track (low_of shelf r) (high_of shelf r) split.low split.high
         (λ label. sym (split.states (with_track label track false))
-          ∙ depends (with_track label track false) (with_track label track true)
-            (λ u later. with_track-later label track u false (omega arith) ∙ sym (with_track-later label track u true (omega arith)))
-          ∙ split.states (with_track label track true))))
-    ]
+        ∙ depends (with_track label track false) (with_track label track true)
+        (λ u later. with_track-later label track u false (omega arith) ∙ sym (with_track-later label track u true (omega arith)))
+        ∙ split.states (with_track label track true))))
   ]
+]
 
 -- a reference that isn't valid everywhere has a function that isn't constant
 pub varies-of_absent : (shelf other : Contents) (r : NodeRef) → IsShelf shelf → IsValid shelf r → (IsValid other r → ⊥) → IsConstant (state_of shelf r) → ⊥
 varies-of_absent shelf other r is_shelf valid absent constant = elim (cases_of shelf r is_shelf valid) [
-    is_leaf top others asks ↦ absent (others other)
+  | is_leaf top others asks ↦ absent (others other)
   | splits track top split asks_to asks_of ↦ split.differ (choice-same_sides shelf is_shelf track (low_of shelf r) (high_of shelf r) split.low split.high
       (λ label. sym (split.states (with_track label track false)) ∙ constant _ _ ∙ split.states (with_track label track true)))
-  ]
+]
 
 -- a choice between two references that differ isn't constant
 pub varies-choice : (shelf : Contents) (track : ℕ) (low high : NodeRef) → IsShelf shelf → IsSideFor shelf track low → IsSideFor shelf track high → low ≢ high → IsConstant (choice_of shelf track low high) → ⊥
 varies-choice shelf track low high is_shelf low_side high_side differ constant =
     differ (choice-same_sides shelf is_shelf track low high low_side high_side (λ label. constant (with_track label track false) (with_track label track true)))
-

@@ -50,7 +50,7 @@ state-pick shelf false low high label = refl
 
 pub side-known : (shelf : Contents) (track : ℕ) (bit : Bool) (r : NodeRef) → IsShelf shelf → IsValid shelf r → IsSideAt shelf track bit r
 side-known shelf track bit r is_shelf valid = elim (cases_of shelf r is_shelf valid) [
-    is_leaf top others asks ↦
+  | is_leaf top others asks ↦
       let same = side-else shelf track bit r None top refl in
       record {
         valid = subst (IsValid shelf) (sym same) valid;
@@ -60,21 +60,21 @@ side-known shelf track bit r is_shelf valid = elim (cases_of shelf r is_shelf va
         falls = λ first. absurd (some_none track (sym first ∙ top));
       }
   | splits first top split asks_to asks_of ↦ elim (cases_Bool (eqb first track)) [
-      inl here ↦
+    | inl here ↦
         let is : first ≡ track = eqb-true first track here in
         let same = side-here shelf track bit r (Some first) top here in
         record {
           valid = subst (IsValid shelf) (sym same) (pick (IsValid shelf) bit (low_of shelf r) (high_of shelf r) split.low.valid split.high.valid);
           states = λ label e. ap (λ (s : NodeRef). state_of shelf s label) same
-            ∙ state-pick shelf bit (low_of shelf r) (high_of shelf r) label
-            ∙ sym (if-is (label first) bit (state_of shelf (high_of shelf r) label) (state_of shelf (low_of shelf r) label) (ap label is ∙ e))
-            ∙ sym (split.states label);
+              ∙ state-pick shelf bit (low_of shelf r) (high_of shelf r) label
+              ∙ sym (if-is (label first) bit (state_of shelf (high_of shelf r) label) (state_of shelf (low_of shelf r) label) (ap label is ∙ e))
+              ∙ sym (split.states label);
           later = λ from. subst (λ (t : ℕ). AsksFrom shelf (suc t) (side_at shelf track bit r)) is
-            (subst (AsksFrom shelf (suc first)) (sym same) (pick (AsksFrom shelf (suc first)) bit (low_of shelf r) (high_of shelf r) split.low.later split.high.later));
+              (subst (AsksFrom shelf (suc first)) (sym same) (pick (AsksFrom shelf (suc first)) bit (low_of shelf r) (high_of shelf r) split.low.later split.high.later));
           within = subst (λ (s : NodeRef). rank_of s ≤ rank_of r) (sym same)
-            (pick (λ (s : NodeRef). rank_of s ≤ rank_of r) bit (low_of shelf r) (high_of shelf r) (let falls = split.low_falls in omega arith) (let falls = split.high_falls in omega arith));
+              (pick (λ (s : NodeRef). rank_of s ≤ rank_of r) bit (low_of shelf r) (high_of shelf r) (let falls = split.low_falls in omega arith) (let falls = split.high_falls in omega arith));
           falls = λ e. subst (λ (s : NodeRef). rank_of s < rank_of r) (sym same)
-            (pick (λ (s : NodeRef). rank_of s < rank_of r) bit (low_of shelf r) (high_of shelf r) split.low_falls split.high_falls);
+              (pick (λ (s : NodeRef). rank_of s < rank_of r) bit (low_of shelf r) (high_of shelf r) split.low_falls split.high_falls);
         }
     | inr other ↦
         let same = side-else shelf track bit r (Some first) top other in
@@ -86,8 +86,8 @@ side-known shelf track bit r is_shelf valid = elim (cases_of shelf r is_shelf va
           within = subst (λ (s : NodeRef). rank_of s ≤ rank_of r) (sym same) (omega arith);
           falls = λ e. absurd (apart (some_some first track (sym top ∙ e)));
         }
-    ]
   ]
+]
 
 -- references that are all valid
 module _ (shelf : Contents) (is_shelf : IsShelf shelf) where
@@ -96,7 +96,7 @@ module _ (shelf : Contents) (is_shelf : IsShelf shelf) where
   leaves-side track bit [] label valid e = refl
   leaves-side track bit (r ∷ rs) label valid e =
       ap (λ (state : ℕ). state ∷ leaves_of shelf (map (side_at shelf track bit) rs) label)
-        ((side-known shelf track bit r is_shelf (is_valid-true shelf r (and-left (is_valid shelf r) (list_all (is_valid shelf) rs) valid))).states label e)
+      ((side-known shelf track bit r is_shelf (is_valid-true shelf r (and-left (is_valid shelf r) (list_all (is_valid shelf) rs) valid))).states label e)
       ∙ ap (λ (states : List ℕ). state_of shelf r label ∷ states) (leaves-side track bit rs label (and-right (is_valid shelf r) (list_all (is_valid shelf) rs) valid) e)
 
   -- the sides ask later tracks alone
@@ -105,7 +105,7 @@ module _ (shelf : Contents) (is_shelf : IsShelf shelf) where
   leaves-later track bit (r ∷ rs) l m valid asks agree =
       let side = side-known shelf track bit r is_shelf (is_valid-true shelf r (and-left (is_valid shelf r) (list_all (is_valid shelf) rs) valid)) in
       ap (λ (state : ℕ). state ∷ leaves_of shelf (map (side_at shelf track bit) rs) l)
-        (unasked shelf (side_at shelf track bit r) (suc track) l m is_shelf side.valid (side.later asks.0) agree)
+      (unasked shelf (side_at shelf track bit r) (suc track) l m is_shelf side.valid (side.later asks.0) agree)
       ∙ ap (λ (states : List ℕ). state_of shelf (side_at shelf track bit r) m ∷ states) (leaves-later track bit rs l m (and-right (is_valid shelf r) (list_all (is_valid shelf) rs) valid) asks.1 agree)
 
   pub sides-valid : (track : ℕ) (bit : Bool) (rs : List NodeRef) → IsTrue (list_all (is_valid shelf) rs) → IsTrue (list_all (is_valid shelf) (map (side_at shelf track bit) rs))
@@ -131,8 +131,8 @@ module _ (shelf : Contents) (is_shelf : IsShelf shelf) where
       let side = side-known shelf track bit r is_shelf (is_valid-true shelf r (and-left (is_valid shelf r) (list_all (is_valid shelf) rs) valid)) in
       let rest_valid = and-right (is_valid shelf r) (list_all (is_valid shelf) rs) valid in
       elim some [
-        inl first ↦ (let here = side.falls first in let rest = sides-within track bit rs rest_valid in omega arith)
-      | inr others ↦ (let here = side.within in let rest = sides-fall track bit rs rest_valid others in omega arith)
+        | inl first ↦ (let here = side.falls first in let rest = sides-within track bit rs rest_valid in omega arith)
+        | inr others ↦ (let here = side.within in let rest = sides-fall track bit rs rest_valid others in omega arith)
       ]
 
 -- what the references are in a shelf that keeps them
@@ -151,16 +151,17 @@ module _ (old new : Contents) (keeps : Keeps old new) where
 
   all-asks-kept : (track : ℕ) (rs : List NodeRef) → IsTrue (list_all (is_valid old) rs) → AllByRecursion (AsksFrom new track) rs → AllByRecursion (AsksFrom old track) rs
   all-asks-kept track [] valid all = all
-  all-asks-kept track (r ∷ rs) valid all =
-      (subst (λ (o : Option ℕ). MatchOption o (Unit {0}) (λ first. track ≤ first)) (keeps.top r (is_valid-true old r (and-left (is_valid old r) (list_all (is_valid old) rs) valid))) all.0,
-       all-asks-kept track rs (and-right (is_valid old r) (list_all (is_valid old) rs) valid) all.1)
+  all-asks-kept track (r ∷ rs) valid all = (
+    subst (λ (o : Option ℕ). MatchOption o (Unit {0}) (λ first. track ≤ first)) (keeps.top r (is_valid-true old r (and-left (is_valid old r) (list_all (is_valid old) rs) valid))) all.0,
+    all-asks-kept track rs (and-right (is_valid old r) (list_all (is_valid old) rs) valid) all.1,
+  )
 
   some-asks-kept : (track : ℕ) (rs : List NodeRef) → IsTrue (list_all (is_valid old) rs) → SomeAsks new track rs → SomeAsks old track rs
   some-asks-kept track [] valid some = some
   some-asks-kept track (r ∷ rs) valid some = elim some [
-      inl first ↦ inl (sym (keeps.top r (is_valid-true old r (and-left (is_valid old r) (list_all (is_valid old) rs) valid))) ∙ first)
+    | inl first ↦ inl (sym (keeps.top r (is_valid-true old r (and-left (is_valid old r) (list_all (is_valid old) rs) valid))) ∙ first)
     | inr others ↦ inr (some-asks-kept track rs (and-right (is_valid old r) (list_all (is_valid old) rs) valid) others)
-    ]
+  ]
 
   pub AskFirst-kept : (track : ℕ) (rs : List NodeRef) → IsTrue (list_all (is_valid old) rs) → AskFirst new track rs → AskFirst old track rs
   AskFirst-kept track rs valid first = record { all = all-asks-kept track rs valid first.all; some = some-asks-kept track rs valid first.some }
@@ -196,19 +197,19 @@ module _ (shelf : Contents) where
   first-push : (rs : List NodeRef) (r : NodeRef) (first top : Option ℕ) → top_of shelf r ≡ top → IsFirstOf shelf rs first → IsFirstOf shelf (rs ++ r ∷ []) (earlier_of first top)
   first-push rs r None None is is_first = record { all = all-push (λ s. top_of shelf s ≡ None) rs r is_first.all is }
   first-push rs r None (Some t) is is_first = record {
-      all = all-push (AsksFrom shelf t) rs r (all-asks_of_leaves t rs is_first.all) (asks_of_some t t r is (omega arith));
-      some = some-last t rs r is;
-    }
+    all = all-push (AsksFrom shelf t) rs r (all-asks_of_leaves t rs is_first.all) (asks_of_some t t r is (omega arith));
+    some = some-last t rs r is;
+  }
   first-push rs r (Some s) None is is_first = record {
-      all = all-push (AsksFrom shelf s) rs r is_first.all (asks_of_none s r is);
-      some = some-left s rs r is_first.some;
-    }
+    all = all-push (AsksFrom shelf s) rs r is_first.all (asks_of_none s r is);
+    some = some-left s rs r is_first.some;
+  }
   first-push rs r (Some s) (Some t) is is_first = elim (cases_lt s t) [
-      inl below ↦ subst (λ (u : ℕ). AskFirst shelf u (rs ++ r ∷ [])) (let e : s ≡ min s t = omega arith in e)
+    | inl below ↦ subst (λ (u : ℕ). AskFirst shelf u (rs ++ r ∷ [])) (let e : s ≡ min s t = omega arith in e)
         (record { all = all-push (AsksFrom shelf s) rs r is_first.all (asks_of_some s t r is (omega arith)); some = some-left s rs r is_first.some })
     | inr above ↦ subst (λ (u : ℕ). AskFirst shelf u (rs ++ r ∷ [])) (let e : t ≡ min s t = omega arith in e)
         (record { all = all-push (AsksFrom shelf t) rs r (all-asks-weaker t s rs above is_first.all) (asks_of_some t t r is (omega arith)); some = some-last t rs r is })
-    ]
+  ]
 
   pub IsFirstOf-push : (rs : List NodeRef) (r : NodeRef) (first : Option ℕ) → IsFirstOf shelf rs first → IsFirstOf shelf (rs ++ r ∷ []) (earlier_of first (top_of shelf r))
   IsFirstOf-push rs r first is_first = first-push rs r first (top_of shelf r) refl is_first

@@ -16,21 +16,21 @@ use Rattle.bdd_walk.proofs.ShelfLemmas.{AsksFrom-of_function}
 
 pub Keeps-itself : (shelf : Contents) → Keeps shelf shelf
 Keeps-itself shelf = record {
-    valid = λ r valid. valid;
-    states = λ r label valid. refl;
-    top = λ r valid. refl;
-    low = λ r valid. refl;
-    high = λ r valid. refl;
-  }
+  valid = λ r valid. valid;
+  states = λ r label valid. refl;
+  top = λ r valid. refl;
+  low = λ r valid. refl;
+  high = λ r valid. refl;
+}
 
 pub Keeps-trans : (old middle new : Contents) → Keeps old middle → Keeps middle new → Keeps old new
 Keeps-trans old middle new first second = record {
-    valid = λ r valid. second.valid r (first.valid r valid);
-    states = λ r label valid. second.states r label (first.valid r valid) ∙ first.states r label valid;
-    top = λ r valid. second.top r (first.valid r valid) ∙ first.top r valid;
-    low = λ r valid. second.low r (first.valid r valid) ∙ first.low r valid;
-    high = λ r valid. second.high r (first.valid r valid) ∙ first.high r valid;
-  }
+  valid = λ r valid. second.valid r (first.valid r valid);
+  states = λ r label valid. second.states r label (first.valid r valid) ∙ first.states r label valid;
+  top = λ r valid. second.top r (first.valid r valid) ∙ first.top r valid;
+  low = λ r valid. second.low r (first.valid r valid) ∙ first.low r valid;
+  high = λ r valid. second.high r (first.valid r valid) ∙ first.high r valid;
+}
 
 pub KeepsAnswers-trans : (old middle new : Answers) → KeepsAnswers old middle → KeepsAnswers middle new → KeepsAnswers old new
 KeepsAnswers-trans old middle new first second = λ states answer was. second states answer (first states answer was)
@@ -41,22 +41,22 @@ same_answer a b e = cc
 -- a reference stands for what it stood for
 pub Stands-kept : (old new : Contents) (answers more : Answers) (asking : Asking) (r : NodeRef) → Keeps old new → KeepsAnswers answers more → Stands old answers asking r → Stands new more asking r
 Stands-kept old new answers more asking r keeps kept stands = record {
-    valid = keeps.valid r stands.valid;
-    states = λ label. kept (asking label) (state_of old r label) (stands.states label) ∙ ap Some (sym (keeps.states r label stands.valid));
-  }
+  valid = keeps.valid r stands.valid;
+  states = λ label. kept (asking label) (state_of old r label) (stands.states label) ∙ ap Some (sym (keeps.states r label stands.valid));
+}
 
 pub Stands-same : (shelf : Contents) (answers : Answers) (asking other : Asking) (r : NodeRef) → AsksSame asking other → Stands shelf answers other r → Stands shelf answers asking r
 unfolding AsksSame
 Stands-same shelf answers asking other r same stands = record {
-    valid = stands.valid;
-    states = λ label. ap answers (same label) ∙ stands.states label;
-  }
+  valid = stands.valid;
+  states = λ label. ap answers (same label) ∙ stands.states label;
+}
 
 pub Stands-leaf : (shelf : Contents) (answers : Answers) (asking : Asking) (r : NodeRef) (states : List ℕ) (answer : ℕ) → IsLeaf r answer → answers states ≡ Some answer → ((label : Label) → asking label ≡ states) → Stands shelf answers asking r
 Stands-leaf shelf answers asking r states answer leaf answered asks = record {
-    valid = leaf.valid shelf;
-    states = λ label. ap answers (asks label) ∙ answered ∙ ap Some (sym (leaf.states shelf label));
-  }
+  valid = leaf.valid shelf;
+  states = λ label. ap answers (asks label) ∙ answered ∙ ap Some (sym (leaf.states shelf label));
+}
 
 -- what doesn't depend on the tracks below t doesn't ask them
 pub AsksFrom-of_stands : (shelf : Contents) (answers : Answers) (asking : Asking) (r : NodeRef) (t : ℕ) → IsShelf shelf → Stands shelf answers asking r → AsksByFrom t asking → AsksFrom shelf t r
@@ -67,9 +67,9 @@ AsksFrom-of_stands shelf answers asking r t is_shelf stands depends =
 
 pub IsSideFor-of_stands : (shelf : Contents) (answers : Answers) (asking : Asking) (r : NodeRef) (track : ℕ) → IsShelf shelf → Stands shelf answers asking r → AsksByFrom (suc track) asking → IsSideFor shelf track r
 IsSideFor-of_stands shelf answers asking r track is_shelf stands depends = record {
-    valid = stands.valid;
-    later = AsksFrom-of_stands shelf answers asking r (suc track) is_shelf stands depends;
-  }
+  valid = stands.valid;
+  later = AsksFrom-of_stands shelf answers asking r (suc track) is_shelf stands depends;
+}
 
 -- the answers on two sides are the answers on the choice
 answers-if : (answers : Answers) (b : Bool) (x y : List ℕ) (p q : ℕ) → answers x ≡ Some p → answers y ≡ Some q → answers (if b then x else y) ≡ Some (if b then p else q)
@@ -84,18 +84,18 @@ answers-choice shelf answers track asking low_asking high_asking low high split 
 -- the whole is a part of itself
 pub IsPart-whole : (whole : Asking) → IsPart whole whole
 IsPart-whole whole = record {
-    below = 0;
-    fixed = λ u. false;
-    asks = λ label. ap whole (fun_ext (λ u. sym (with_below-from 0 (λ v. false) label u (omega arith))));
-  }
+  below = 0;
+  fixed = λ u. false;
+  asks = λ label. ap whole (fun_ext (λ u. sym (with_below-from 0 (λ v. false) label u (omega arith))));
+}
 
 pub IsPart-same : (whole part other : Asking) → AsksSame part other → IsPart whole part → IsPart whole other
 unfolding AsksSame
 IsPart-same whole part other same is_part = record {
-    below = is_part.below;
-    fixed = is_part.fixed;
-    asks = λ label. sym (same label) ∙ is_part.asks label;
-  }
+  below = is_part.below;
+  fixed = is_part.fixed;
+  asks = λ label. sym (same label) ∙ is_part.asks label;
+}
 
 -- what a part becomes where a track more is fixed
 module _ (whole part side : Asking) (track : ℕ) (bit : Bool) (later : AsksByFrom (suc track) side) (is_side : (label : Label) → label track ≡ bit → part label ≡ side label) (is_part : IsPart whole part) where
@@ -118,9 +118,9 @@ module _ (whole part side : Asking) (track : ℕ) (bit : Bool) (later : AsksByFr
 
   pub IsPart-side : IsPart whole side
   IsPart-side = elim (cases_lt track is_part.below) [
-      inl within ↦ record { below = is_part.below; fixed = is_part.fixed; asks = side-fixed_before within }
+    | inl within ↦ record { below = is_part.below; fixed = is_part.fixed; asks = side-fixed_before within }
     | inr within ↦ record { below = suc track; fixed = fixed_with is_part.below is_part.fixed track bit; asks = side-fixed_now within }
-    ]
+  ]
 
 pub IsPart-low : (whole asking low high : Asking) (track : ℕ) → IsSplitBy track asking low high → IsPart whole asking → IsPart whole low
 IsPart-low whole asking low high track split is_part =
@@ -133,7 +133,7 @@ IsPart-high whole asking low high track split is_part =
 -- the answers on a part are a function under the answers on the whole
 pub IsUnder-part : (answers : Answers) (whole asking : Asking) (function : Function) (given : List ℕ → ℕ) → Completes answers given → IsPart whole asking → ((label : Label) → answers (asking label) ≡ Some (function label)) → IsUnder (λ label. given (whole label)) function
 IsUnder-part answers whole asking function given completes is_part answered = record {
-    below = is_part.below;
-    fixed = is_part.fixed;
-    states = λ label. sym (completes (asking label) (function label) (answered label)) ∙ ap given (is_part.asks label);
-  }
+  below = is_part.below;
+  fixed = is_part.fixed;
+  states = λ label. sym (completes (asking label) (function label) (answered label)) ∙ ap given (is_part.asks label);
+}

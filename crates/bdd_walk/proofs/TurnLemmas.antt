@@ -26,9 +26,9 @@ cases_answer (Some answer) = inr (answer, refl)
 -- one list was asked, which some label gives
 AnswersOnly-asked : (whole : Asking) (first answers more : Answers) (asked : List ℕ) → IsGiven whole asked → AnswersOnly (IsGiven whole) first answers → AnswersOnly (λ states. states ≡ asked) answers more → AnswersOnly (IsGiven whole) first more
 AnswersOnly-asked whole first answers more asked is_given before only = λ states answer there absent. elim (cases_answer (answers states)) [
-    inl none ↦ subst (IsGiven whole) (sym (only states answer there none)) is_given
+  | inl none ↦ subst (IsGiven whole) (sym (only states answer there none)) is_given
   | inr some ↦ before states some.0 some.1 absent
-  ]
+]
 
 module _ {K : Type 0} (eq : K → K → Bool) (asked : K → Asking) (is_in : K → Bool) (call : Call) (shelf : Contents) (answers : Answers) (memo : Memo K) (stack : List (Frame K)) where
   module _ (key : K) (works : Works eq asked is_in call shelf answers memo stack (Visit key)) where
@@ -36,10 +36,10 @@ module _ {K : Type 0} (eq : K → K → Bool) (asked : K → Asking) (is_in : K 
     pub works-found : (r : NodeRef) → get eq memo key ≡ Some r → Works eq asked is_in call shelf answers memo stack (Done r)
     unfolding IsMemo
     works-found r there = record {
-        progress = works.progress;
-        kept = works.kept;
-        underway = record { focus = asked key; result = works.kept key r there; waits = works.underway.1 };
-      }
+      progress = works.progress;
+      kept = works.kept;
+      underway = record { focus = asked key; result = works.kept key r there; waits = works.underway.1 };
+    }
 
     given_here : (states : List ℕ) → ((label : Label) → asked key label ≡ states) → IsGiven call.whole states
     unfolding IsGiven
@@ -51,15 +51,15 @@ module _ {K : Type 0} (eq : K → K → Bool) (asked : K → Asking) (is_in : K 
       -- the rule was asked
       pub progress-leaf : Progress call shelf more
       progress-leaf = record {
-          before = works.progress.before;
-          now = works.progress.now;
-          keeps = works.progress.keeps;
-          same_limit = works.progress.same_limit;
-          tables = works.progress.tables;
-          adds = AddsNew-answers call shelf answers more kept works.progress.adds;
-          answers_kept = KeepsAnswers-trans call.answers answers more works.progress.answers_kept kept;
-          only = AnswersOnly-asked call.whole call.answers answers more states (given_here states asks) works.progress.only only;
-        }
+        before = works.progress.before;
+        now = works.progress.now;
+        keeps = works.progress.keeps;
+        same_limit = works.progress.same_limit;
+        tables = works.progress.tables;
+        adds = AddsNew-answers call shelf answers more kept works.progress.adds;
+        answers_kept = KeepsAnswers-trans call.answers answers more works.progress.answers_kept kept;
+        only = AnswersOnly-asked call.whole call.answers answers more states (given_here states asks) works.progress.only only;
+      }
 
       -- the rule has answered
       pub works-leaf : (after : Memo K) (made : NodeRef) (answer : ℕ) → Respects eq asked → IsLeaf made answer → more states ≡ Some answer → Updates eq memo after key (Some made) → Works eq asked is_in call shelf more after stack (Done made)
@@ -78,48 +78,51 @@ module _ {K : Type 0} (eq : K → K → Bool) (asked : K → Asking) (is_in : K 
     -- the key past a dropped track
     pub works-skip : (weight : K → ℕ) (next : K) → IsSkip asked is_in weight key next → Works eq asked is_in call shelf answers memo (stack ++ Skip key ∷ []) (Visit next)
     works-skip weight next step = record {
-        progress = works.progress;
-        kept = works.kept;
-        underway = (
-          record { inside = step.goes.inside; part = IsPart-same call.whole (asked key) (asked next) step.same works.underway.0.part },
-          AllWait-push asked is_in call.whole shelf answers stack (Skip key) (asked next) step.same works.underway.1);
-      }
+      progress = works.progress;
+      kept = works.kept;
+      underway = (
+        record { inside = step.goes.inside; part = IsPart-same call.whole (asked key) (asked next) step.same works.underway.0.part },
+        AllWait-push asked is_in call.whole shelf answers stack (Skip key) (asked next) step.same works.underway.1,
+      );
+    }
 
     -- the low side
     pub works-low : (weight : K → ℕ) (track : ℕ) (low high : K) → IsSplit asked is_in weight key track low high → Works eq asked is_in call shelf answers memo (stack ++ Low key track high ∷ []) (Visit low)
     works-low weight track low high step = record {
-        progress = works.progress;
-        kept = works.kept;
-        underway = (
-          record { inside = step.low_goes.inside; part = IsPart-low call.whole (asked key) (asked low) (asked high) track step.split works.underway.0.part },
-          AllWait-push asked is_in call.whole shelf answers stack (Low key track high) (asked low)
+      progress = works.progress;
+      kept = works.kept;
+      underway = (
+        record { inside = step.low_goes.inside; part = IsPart-low call.whole (asked key) (asked low) (asked high) track step.split works.underway.0.part },
+        AllWait-push asked is_in call.whole shelf answers stack (Low key track high) (asked low)
             (record {
               part = works.underway.0.part;
               due = record { inside = step.high_goes.inside; part = IsPart-high call.whole (asked key) (asked low) (asked high) track step.split works.underway.0.part };
               split = step.split;
             })
-            works.underway.1);
-      }
+            works.underway.1,
+      );
+    }
 
 -- the whole is due at the start
 pub works-start : {K : Type 0} (eq : K → K → Bool) (asked : K → Asking) (is_in : K → Bool) (call : Call) (memo : Memo K) (key : K) → call.whole ≡ asked key → IsTrue (is_in key) → IsShelf call.shelf → ((other : K) → get eq memo other ≡ None) → Works eq asked is_in call call.shelf call.answers memo [] (Visit key)
 unfolding IsMemo AllWait AsksSame
 works-start eq asked is_in call memo key whole inside is_shelf empty = record {
-    progress = record {
-      before = is_shelf;
-      now = is_shelf;
-      keeps = Keeps-itself call.shelf;
-      same_limit = refl;
-      tables = refl;
-      adds = AddsNew-none call;
-      answers_kept = λ states answer was. was;
-      only = λ states answer there absent. absurd (let e : None ≡ Some answer = sym absent ∙ there in cc);
-    };
-    kept = λ other r there. absurd (let e : None ≡ Some r = sym (empty other) ∙ there in cc);
-    underway = (
-      record { inside = inside; part = subst (IsPart call.whole) whole (IsPart-whole call.whole) },
-      λ label. ap (λ (asking : Asking). asking label) whole);
-  }
+  progress = record {
+    before = is_shelf;
+    now = is_shelf;
+    keeps = Keeps-itself call.shelf;
+    same_limit = refl;
+    tables = refl;
+    adds = AddsNew-none call;
+    answers_kept = λ states answer was. was;
+    only = λ states answer there absent. absurd (let e : None ≡ Some answer = sym absent ∙ there in cc);
+  };
+  kept = λ other r there. absurd (let e : None ≡ Some r = sym (empty other) ∙ there in cc);
+  underway = (
+    record { inside = inside; part = subst (IsPart call.whole) whole (IsPart-whole call.whole) },
+    λ label. ap (λ (asking : Asking). asking label) whole,
+  );
+}
 
 -- a result for the key on top
 module _ {K : Type 0} (eq : K → K → Bool) (asked : K → Asking) (is_in : K → Bool) (call : Call) (shelf : Contents) (answers : Answers) (memo : Memo K) (stack : List (Frame K)) (made : NodeRef) where
@@ -133,7 +136,8 @@ module _ {K : Type 0} (eq : K → K → Bool) (asked : K → Asking) (is_in : K 
         underway = (
           record { inside = waits.0.due.inside; part = waits.0.due.part },
           AllWait-push asked is_in call.whole shelf answers stack (High key track made) (asked high)
-            (record { part = waits.0.part; side = works.underway.focus; stands = works.underway.result; split = waits.0.split }) waits.1);
+              (record { part = waits.0.part; side = works.underway.focus; stands = works.underway.result; split = waits.0.split }) waits.1,
+        );
       }
 
   -- the key past a dropped track has its result
@@ -151,9 +155,10 @@ module _ {K : Type 0} (eq : K → K → Bool) (asked : K → Asking) (is_in : K 
   pub FitsFrame-works : (frame : Frame K) → Works eq asked is_in call shelf answers memo (stack ++ frame ∷ []) (Done made) → FitsFrame shelf frame made
   FitsFrame-works (Low key track high) works = tt
   FitsFrame-works (High key track low) works =
-      let waits = AllWait-pop asked is_in call.whole shelf answers stack (High key track low) works.underway.focus works.underway.waits in
-      (IsSideFor-of_stands shelf answers waits.0.side low track works.progress.now waits.0.stands waits.0.split.low_later,
-       IsSideFor-of_stands shelf answers works.underway.focus made track works.progress.now works.underway.result waits.0.split.high_later)
+      let waits = AllWait-pop asked is_in call.whole shelf answers stack (High key track low) works.underway.focus works.underway.waits in (
+        IsSideFor-of_stands shelf answers waits.0.side low track works.progress.now waits.0.stands waits.0.split.low_later,
+        IsSideFor-of_stands shelf answers works.underway.focus made track works.progress.now works.underway.result waits.0.split.high_later,
+      )
   FitsFrame-works (Skip key) works = tt
 
   module _ (key : K) (track : ℕ) (low : NodeRef) (works : Works eq asked is_in call shelf answers memo (stack ++ High key track low ∷ []) (Done made)) where
@@ -176,26 +181,26 @@ module _ {K : Type 0} (eq : K → K → Bool) (asked : K → Asking) (is_in : K 
 
       pub progress-made : Progress call new answers
       progress-made = record {
-          before = works.progress.before;
-          now = is_shelf;
-          keeps = Keeps-trans call.shelf shelf new works.progress.keeps keeps;
-          same_limit = limit ∙ works.progress.same_limit;
-          tables = tables ∙ works.progress.tables;
-          adds = AddsNew-made call shelf new answers node (asked key) works.progress.keeps keeps only count waits_on_top.0.part stands works.progress.adds;
-          answers_kept = works.progress.answers_kept;
-          only = works.progress.only;
-        }
+        before = works.progress.before;
+        now = is_shelf;
+        keeps = Keeps-trans call.shelf shelf new works.progress.keeps keeps;
+        same_limit = limit ∙ works.progress.same_limit;
+        tables = tables ∙ works.progress.tables;
+        adds = AddsNew-made call shelf new answers node (asked key) works.progress.keeps keeps only count waits_on_top.0.part stands works.progress.adds;
+        answers_kept = works.progress.answers_kept;
+        only = works.progress.only;
+      }
 
       pub works-made : (after : Memo K) → Respects eq asked → Updates eq memo after key (Some node) → Works eq asked is_in call new answers after stack (Done node)
       works-made after respects updates = record {
-          progress = progress-made;
-          kept = IsMemo-insert eq asked shelf new answers answers keeps (λ states answer was. was) memo after key node respects works.kept stands updates;
-          underway = record {
-            focus = asked key;
-            result = stands;
-            waits = AllWait-kept asked is_in call.whole shelf new answers answers keeps (λ states answer was. was) (reverse stack) (asked key) waits_on_top.1;
-          };
-        }
+        progress = progress-made;
+        kept = IsMemo-insert eq asked shelf new answers answers keeps (λ states answer was. was) memo after key node respects works.kept stands updates;
+        underway = record {
+          focus = asked key;
+          result = stands;
+          waits = AllWait-kept asked is_in call.whole shelf new answers answers keeps (λ states answer was. was) (reverse stack) (asked key) waits_on_top.1;
+        };
+      }
 
 -- an empty stack waits for the whole
 pub stands-whole : {K : Type 0} (eq : K → K → Bool) (asked : K → Asking) (is_in : K → Bool) (call : Call) (shelf : Contents) (answers : Answers) (memo : Memo K) (stack : List (Frame K)) (made : NodeRef) → length stack ≡ 0 → Works eq asked is_in call shelf answers memo stack (Done made) → Stands shelf answers call.whole made

@@ -27,12 +27,12 @@ module _ {K : Type 0} (eq : K → K → Bool) (asked : K → Asking) (old new : 
   pub IsMemo-insert : (memo after : Memo K) (key : K) (made : NodeRef) → Respects eq asked → IsMemo eq asked old answers memo → Stands new more (asked key) made → Updates eq memo after key (Some made) → IsMemo eq asked new more after
   unfolding IsMemo Respects
   IsMemo-insert memo after key made respects is_memo stands updates = λ other r there. elim (cases_Bool (eq key other)) [
-      inl same ↦
+    | inl same ↦
         let found : Some made ≡ Some r = sym (updates.0 other ∙ ap (λ (b : Bool). cond b (Some made) (get eq memo other)) same) ∙ there in
         let is : made ≡ r = cc in
         subst (Stands new more (asked other)) is (Stands-same new more (asked other) (asked key) made (AsksSame-sym (asked key) (asked other) (respects key other same)) stands)
     | inr apart ↦ Stands-kept old new answers more (asked other) r keeps kept (is_memo other r (sym (updates.2 other apart) ∙ there))
-    ]
+  ]
 
 module _ {K : Type 0} (asked : K → Asking) (is_in : K → Bool) (whole : Asking) where
   -- what waits goes on waiting

@@ -8,17 +8,15 @@ ghost use Rattle.bdd_walk.specs.Answers.{Answers, KeepsAnswers, AnswersOnly, Com
 ghost use Rattle.bdd_walk.specs.Asked.{with_track, asked_of, IsGiven};
 ghost use Rattle.bdd_walk.specs.Under.{Exceeds, AddsParts, AddsUnder};
 
-use std::alloc::Global;
-
-use bdd_nodes::{NodeRef, RefList, Shelf};
-use plain_data::Items;
-
 use crate::one_root::{FixedTrack, OneRoot};
 use crate::roots::join_roots;
 use crate::rule::LeafRule;
 use crate::rules::{Renaming, SameState};
 use crate::stop::Stop;
 use crate::walk::join_from;
+use bdd_nodes::{NodeRef, RefList, Shelf};
+use plain_data::Items;
+use std::alloc::Global;
 
 /// Numbers of states: at place q the new number of state q.
 pub type StateMap = Items<u32>;

@@ -5,12 +5,10 @@ ghost use Rattle.std.specs.List.{list_all};
 ghost use Rattle.bdd_nodes.specs.Changes.{is_valid};
 ghost use Rattle.bdd_walk.specs.Sides.{side_at};
 
-use std::alloc::{AllocError, Global};
-
-use bdd_nodes::{NodeRef, Shelf};
-
 use crate::sides::{first_track, push_sides, states_of};
 use crate::walk::{Step, Walk};
+use bdd_nodes::{NodeRef, Shelf};
+use std::alloc::{AllocError, Global};
 
 /// Keys that are a list of references. Of a dropped track the references before the half are the sides with it unset,
 /// and those behind it the sides with it set.

@@ -1,11 +1,9 @@
 //! Going down from one reference.
 
-use std::alloc::{AllocError, Global};
-
-use bdd_nodes::{NodeRef, Shelf};
-
 use crate::sides::{side_of, states_of};
 use crate::walk::{Step, Walk};
+use bdd_nodes::{NodeRef, Shelf};
+use std::alloc::{AllocError, Global};
 
 /// A track that is set, or unset.
 #[derive(Clone, Copy, Debug)]

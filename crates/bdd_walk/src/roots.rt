@@ -11,16 +11,14 @@ ghost use Rattle.bdd_walk.specs.Under.{Exceeds};
 ghost use Rattle.bdd_walk.specs.Stands.{Stands};
 ghost use Rattle.bdd_walk.specs.Progress.{Progress};
 
-use std::alloc::{AllocError, Global};
-
-use bdd_nodes::{NodeRef, Shelf};
-
 use crate::many_roots::ManyRoots;
 use crate::one_root::OneRoot;
 use crate::rule::LeafRule;
 use crate::stop::Stop;
 use crate::two_roots::{RefPair, TwoRoots};
 use crate::walk::join_from;
+use bdd_nodes::{NodeRef, Shelf};
+use std::alloc::{AllocError, Global};
 
 /// The references twice.
 fn twice(alloc: Global, roots: &[NodeRef]) -> Result<Vec<NodeRef>, AllocError>

@@ -3,9 +3,8 @@
 ghost use Rattle.std.specs.Prelude.{◌≡◌, ◌<◌, ◌^◌, ℕ, List, Option, Some, IfOk};
 ghost use Rattle.bdd_walk.specs.Answers.{Answers, KeepsAnswers, AnswersOnly};
 
-use std::alloc::AllocError;
-
 use plain_data::Items;
+use std::alloc::AllocError;
 
 /// Numbers of states in order, each below 2 ^ 31.
 pub type StateList = Items<u32>;

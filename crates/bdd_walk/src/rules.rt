@@ -1,9 +1,8 @@
 //! Rules for calls of this crate.
 
-use std::alloc::AllocError;
-
 use crate::calls::StateMap;
 use crate::rule::{LeafRule, StateList};
+use std::alloc::AllocError;
 
 /// A state stays as it is.
 #[derive(Clone, Copy, Debug)]

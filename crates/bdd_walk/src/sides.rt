@@ -8,11 +8,9 @@ ghost use Rattle.bdd_nodes.specs.Changes.{is_valid};
 ghost use Rattle.bdd_walk.specs.Asked.{leaves_of};
 ghost use Rattle.bdd_walk.specs.Sides.{side_at, earlier_of, IsFirstOf, AreLeaves};
 
-use std::alloc::{AllocError, Global};
-
-use bdd_nodes::{NodeRef, Shelf};
-
 use crate::rule::StateList;
+use bdd_nodes::{NodeRef, Shelf};
+use std::alloc::{AllocError, Global};
 
 /// The side of the reference where the track is fixed, if it is asked first; else the reference.
 #[inline]
@@ -21,13 +19,7 @@ pub(crate) fn side_of(shelf: &Shelf, r: NodeRef, track: u32, bit: bool) -> NodeR
     ensures { result ≡ side_at shelf.now track bit r }
 {
     match shelf.top(r) {
-        Some(first) if first == track => {
-            if bit {
-                shelf.high(r)
-            } else {
-                shelf.low(r)
-            }
-        }
+        Some(first) if first == track => { if bit { shelf.high(r) } else { shelf.low(r) } }
         _ => r,
     }
 }

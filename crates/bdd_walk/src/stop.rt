@@ -1,8 +1,7 @@
 //! Why a call that makes nodes stops.
 
-use std::alloc::{AllocError, AllocFailed};
-
 use bdd_nodes::Full;
+use std::alloc::{AllocError, AllocFailed};
 use thiserror::Error;
 
 /// Want of memory alone.

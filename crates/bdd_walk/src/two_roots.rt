@@ -5,12 +5,10 @@ ghost use Rattle.std.specs.List.{list_all};
 ghost use Rattle.bdd_nodes.specs.Changes.{is_valid};
 ghost use Rattle.bdd_walk.specs.Sides.{side_at};
 
-use std::alloc::{AllocError, Global};
-
-use bdd_nodes::{NodeRef, Shelf};
-
 use crate::sides::{earlier, side_of, states_of};
 use crate::walk::{Step, Walk};
+use bdd_nodes::{NodeRef, Shelf};
+use std::alloc::{AllocError, Global};
 
 /// Two references in order.
 #[derive(Clone, Copy, Debug, PartialEq, Eq, Hash)]

@@ -13,14 +13,12 @@ ghost use Rattle.bdd_walk.specs.Steps.{IsStep};
 ghost use Rattle.bdd_walk.specs.Waits.{Respects, FitsFrame, visit_cost, turn_cost, stack_cost, frame_cost};
 ghost use Rattle.bdd_walk.specs.Progress.{Call, Progress, Works};
 
+use crate::rule::{LeafRule, StateList};
+use crate::stop::Stop;
+use bdd_nodes::{NodeRef, Shelf};
 use std::alloc::{AllocError, Global};
 use std::collections::HashMap;
 use std::hash::Hash;
-
-use bdd_nodes::{NodeRef, Shelf};
-
-use crate::rule::{LeafRule, StateList};
-use crate::stop::Stop;
 
 /// What is under a key.
 #[derive(Debug, Drop)]
@@ -61,7 +59,12 @@ pub(crate) trait Walk {
     /// A number that falls from a key to its sides.
     ghost weight: { Self → Self.Key → ℕ };
 
-    fn step(&self, alloc: Global, shelf: &Shelf, key: &Self::Key) -> Result<Step<Self::Key>, AllocError>
+    fn step(
+        &self,
+        alloc: Global,
+        shelf: &Shelf,
+        key: &Self::Key,
+    ) -> Result<Step<Self::Key>, AllocError>
         requires { IsTrue (is_in self.now shelf.now key.now) }
         ensures { (before : Contents) → IsShelf before → Keeps before shelf.now → IsTrue (is_in self.now before key.now)
             → IfOk result (IsStep (asked self.now before) (is_in self.now before) (weight self.now) key.now) };
@@ -87,12 +90,12 @@ fn visit<W: Walk, L: LeafRule>(
     requires is_in { IsTrue (W.is_in walk.now shelf.now key) }
     requires may_ask { (label : Label) → L.may_ask rule.old (W.asked walk.now shelf.now key label) }
     ensures progress { (call : Call) → Works W.Key.eq (W.asked walk.now call.shelf) (W.is_in walk.now call.shelf) call
-            shelf.now (L.answers rule.old) memo.old stack.old.items (Turn.Visit key)
+        shelf.now (L.answers rule.old) memo.old stack.old.items (Turn.Visit key)
         → Progress call shelf.now (L.answers rule.new) }
     ensures works { (call : Call) → Works W.Key.eq (W.asked walk.now call.shelf) (W.is_in walk.now call.shelf) call
-            shelf.now (L.answers rule.old) memo.old stack.old.items (Turn.Visit key)
+        shelf.now (L.answers rule.old) memo.old stack.old.items (Turn.Visit key)
         → IfOk result (Works W.Key.eq (W.asked walk.now call.shelf) (W.is_in walk.now call.shelf) call
-            shelf.now (L.answers rule.new) memo.new stack.new.items) }
+        shelf.now (L.answers rule.new) memo.new stack.new.items) }
     ensures cost { IfOk result (λ turn. turn_cost (W.weight walk.now) turn + stack_cost (W.weight walk.now) stack.new.items
         < visit_cost (W.weight walk.now) key + stack_cost (W.weight walk.now) stack.old.items) }
     ensures not_full { result ≢ Err Stop.Limit }

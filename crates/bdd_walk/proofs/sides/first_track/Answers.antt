@@ -16,5 +16,5 @@ loop-root-preserved c =
     subst (λ (rs : List NodeRef). IsFirstOf c.args.shelf.now rs c.earlier-first.result)
     (sym (take_more c.args.roots.now c.loop-root.root-index none c.loop-root-test.true))
     (subst (λ (first : Option ℕ). IsFirstOf c.args.shelf.now (before ++ root ∷ []) first)
-      (sym (c.earlier-first.ensures ∙ ap (λ (top : Option ℕ). earlier_of c.loop-root.first top) c.top.ensures.value))
-      (IsFirstOf-push c.args.shelf.now before root c.loop-root.first c.loop-root.invariant))
+    (sym (c.earlier-first.ensures ∙ ap (λ (top : Option ℕ). earlier_of c.loop-root.first top) c.top.ensures.value))
+    (IsFirstOf-push c.args.shelf.now before root c.loop-root.first c.loop-root.invariant))

@@ -21,8 +21,8 @@ loop-turn-init g c =
     let is_in = g.W.Walk.is_in c.args.walk.now c.args.shelf.now in
     record {
       works = subst (λ (stack : List (Frame g.row.W-Key.Denot)). Works g.W.Key.PartialEq.eq asked is_in call c.args.shelf.now (g.L.LeafRule.answers c.args.rule.now) c.new-memo.result stack (Visit c.args.start))
-        (sym c.new-stack.ensures.items)
-        (works-start g.W.Key.PartialEq.eq asked is_in call c.new-memo.result c.args.start refl c.requires.is_in c.count.ensures.shelf
+          (sym c.new-stack.ensures.items)
+          (works-start g.W.Key.PartialEq.eq asked is_in call c.new-memo.result c.args.start refl c.requires.is_in c.count.ensures.shelf
           (λ other. ap (λ (entries : List (g.row.W-Key.Denot × NodeRef)). lookup (g.W.Key.PartialEq.eq other) entries) c.new-memo.ensures.empty));
       may_ask = λ states may. may;
     }

@@ -33,8 +33,8 @@ returns-in_ok-push-in-Low-clause-cost g c = λ weight.
     subst (λ (frame : Frame g.row.K.Denot). visit_cost weight c.in-Low.high + stack_cost weight c.push.new.self.items < stack_cost weight c.args.stack.now.items + frame_cost weight frame)
     (sym c.in-Low.is)
     (subst (λ (stack : List (Frame g.row.K.Denot)). visit_cost weight c.in-Low.high + stack_cost weight stack < stack_cost weight c.args.stack.now.items + (visit_cost weight c.in-Low.high + 2))
-      (sym c.in_ok-push-in-Low.ensures.items)
-      (visit-high weight c.args.stack.now.items c.in-Low.key c.in-Low.track c.args.made c.in-Low.high))
+    (sym c.in_ok-push-in-Low.ensures.items)
+    (visit-high weight c.args.stack.now.items c.in-Low.key c.in-Low.track c.args.made c.in-Low.high))
 
 pub returns-in_ok-insert-in-High-clause-progress : goal.returns-in_ok-insert-in-High-clause-progress
 returns-in_ok-insert-in-High-clause-progress g c = λ asked is_in call answers respects works.
