@@ -1,12 +1,12 @@
 -- In a canonical list of nodes, references are equal exactly where their functions are.
-use Rattle.std.proofs.Common.{◌≡◌, ◌≢◌, ℕ, suc, zero, ◌+◌, ◌<◌, ◌≤◌, Bool, true, false, List, length, eqb, if◌then◌else◌, sym, ◌∙◌, ap, refl, subst, inl, inr, arith}
+use Rattle.std.proofs.Common.{◌≡◌, ℕ, suc, zero, ◌+◌, ◌<◌, ◌≤◌, Bool, true, false, List, length, eqb, if◌then◌else◌, sym, ◌∙◌, ap, inl, inr, arith}
 use Rattle.std.proofs.lemmas.Bool.Decides.{nat_tests}
 use Rattle.std.proofs.lemmas.Bool.{cases_lt}
 use Rattle.bdd_nodes.specs.declared.node_ref.NodeRef.{NodeRef}
 use Rattle.bdd_nodes.specs.declared.node_ref.Named.{Named}
 use Rattle.bdd_nodes.specs.declared.node_ref.Named.TheVariants.{Leaf, Inner}
 use Rattle.bdd_nodes.specs.declared.node.Node.{Node}
-use Rattle.bdd_nodes.specs.Nodes.{Label, Function, node_of, rank, node_at, state_named, IsNamedIn, AsksNoneBelow, IsSide, AreCanonical}
+use Rattle.bdd_nodes.specs.Nodes.{Label, node_of, rank, node_at, state_named, IsNamedIn, AsksNoneBelow, AreCanonical}
 use Rattle.bdd_nodes.proofs.RefLemmas.{node_of-injective}
 use Rattle.bdd_nodes.proofs.NodesLemmas.{state_named-leaf, state_named-inner, if_same}
 
@@ -86,8 +86,8 @@ module _ (nodes : List Node) (canonical : AreCanonical nodes) where
       inner_states i l valid
       ∙ ap (λ (b : Bool). if b then state_named nodes (high_at i) l else state_named nodes (low_at i) l) (agree track asks)
       ∙ if_same (m track) _ _ _ _
-        (unasked_up_to k (high_at i) t l m (let r = high_rank i valid in omega arith) (high_valid i valid) (AsksNoneBelow-weaker nodes t (suc track) _ (omega arith) (high_later i valid)) agree)
-        (unasked_up_to k (low_at i) t l m (let r = low_rank i valid in omega arith) (low_valid i valid) (AsksNoneBelow-weaker nodes t (suc track) _ (omega arith) (low_later i valid)) agree)
+      (unasked_up_to k (high_at i) t l m (let r = high_rank i valid in omega arith) (high_valid i valid) (AsksNoneBelow-weaker nodes t (suc track) _ (omega arith) (high_later i valid)) agree)
+      (unasked_up_to k (low_at i) t l m (let r = low_rank i valid in omega arith) (low_valid i valid) (AsksNoneBelow-weaker nodes t (suc track) _ (omega arith) (low_later i valid)) agree)
       ∙ sym (inner_states i m valid)
 
   -- what isn't asked doesn't matter
@@ -145,30 +145,30 @@ module _ (nodes : List Node) (canonical : AreCanonical nodes) where
   equal_up_to zero (Inner i) (Inner j) a_below b_below a_valid b_valid same = absurd (omega arith)
   equal_up_to (suc k) (Leaf s) (Inner j) a_below b_below a_valid b_valid same =
       absurd (sides_differ j b_valid (equal_up_to k (low_at j) (high_at j)
-        (let r = low_rank j b_valid in omega arith) (let r = high_rank j b_valid in omega arith) (low_valid j b_valid) (high_valid j b_valid)
-        (sides_same_where_unasked j (Leaf s) b_valid tt tt (λ l. sym (same l)))))
+      (let r = low_rank j b_valid in omega arith) (let r = high_rank j b_valid in omega arith) (low_valid j b_valid) (high_valid j b_valid)
+      (sides_same_where_unasked j (Leaf s) b_valid tt tt (λ l. sym (same l)))))
   equal_up_to (suc k) (Inner i) (Leaf u) a_below b_below a_valid b_valid same =
       absurd (sides_differ i a_valid (equal_up_to k (low_at i) (high_at i)
-        (let r = low_rank i a_valid in omega arith) (let r = high_rank i a_valid in omega arith) (low_valid i a_valid) (high_valid i a_valid)
-        (sides_same_where_unasked i (Leaf u) a_valid tt tt same)))
+      (let r = low_rank i a_valid in omega arith) (let r = high_rank i a_valid in omega arith) (low_valid i a_valid) (high_valid i a_valid)
+      (sides_same_where_unasked i (Leaf u) a_valid tt tt same)))
   equal_up_to (suc k) (Inner i) (Inner j) a_below b_below a_valid b_valid same =
       let t = (node_at nodes i).track in
       let u = (node_at nodes j).track in
       elim (cases_lt t u) [
-        inl below ↦ absurd (sides_differ i a_valid (equal_up_to k (low_at i) (high_at i)
-          (let r = low_rank i a_valid in omega arith) (let r = high_rank i a_valid in omega arith) (low_valid i a_valid) (high_valid i a_valid)
-          (sides_same_where_unasked i (Inner j) a_valid b_valid below same)))
-      | inr not_below ↦ elim (cases_lt u t) [
-          inl above ↦ absurd (sides_differ j b_valid (equal_up_to k (low_at j) (high_at j)
-            (let r = low_rank j b_valid in omega arith) (let r = high_rank j b_valid in omega arith) (low_valid j b_valid) (high_valid j b_valid)
-            (sides_same_where_unasked j (Inner i) b_valid a_valid above (λ l. sym (same l)))))
-        | inr not_above ↦
-            let tracks : t ≡ u = omega arith in
-            ap Inner (same_place i j a_valid b_valid tracks
+        | inl below ↦ absurd (sides_differ i a_valid (equal_up_to k (low_at i) (high_at i)
+            (let r = low_rank i a_valid in omega arith) (let r = high_rank i a_valid in omega arith) (low_valid i a_valid) (high_valid i a_valid)
+            (sides_same_where_unasked i (Inner j) a_valid b_valid below same)))
+        | inr not_below ↦ elim (cases_lt u t) [
+          | inl above ↦ absurd (sides_differ j b_valid (equal_up_to k (low_at j) (high_at j)
+              (let r = low_rank j b_valid in omega arith) (let r = high_rank j b_valid in omega arith) (low_valid j b_valid) (high_valid j b_valid)
+              (sides_same_where_unasked j (Inner i) b_valid a_valid above (λ l. sym (same l)))))
+          | inr not_above ↦
+              let tracks : t ≡ u = omega arith in
+              ap Inner (same_place i j a_valid b_valid tracks
               (equal_up_to k (low_at i) (low_at j) (let r = low_rank i a_valid in omega arith) (let r = low_rank j b_valid in omega arith) (low_valid i a_valid) (low_valid j b_valid)
-                (λ l. low_states i l a_valid ∙ same (with_track l t false) ∙ ap (λ (v : ℕ). state_named nodes (Inner j) (with_track l v false)) tracks ∙ sym (low_states j l b_valid)))
+              (λ l. low_states i l a_valid ∙ same (with_track l t false) ∙ ap (λ (v : ℕ). state_named nodes (Inner j) (with_track l v false)) tracks ∙ sym (low_states j l b_valid)))
               (equal_up_to k (high_at i) (high_at j) (let r = high_rank i a_valid in omega arith) (let r = high_rank j b_valid in omega arith) (high_valid i a_valid) (high_valid j b_valid)
-                (λ l. high_states i l a_valid ∙ same (with_track l t true) ∙ ap (λ (v : ℕ). state_named nodes (Inner j) (with_track l v true)) tracks ∙ sym (high_states j l b_valid))))
+              (λ l. high_states i l a_valid ∙ same (with_track l t true) ∙ ap (λ (v : ℕ). state_named nodes (Inner j) (with_track l v true)) tracks ∙ sym (high_states j l b_valid))))
         ]
       ]
 

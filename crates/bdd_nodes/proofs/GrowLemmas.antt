@@ -1,5 +1,5 @@
 -- A list of nodes with one node more.
-use Rattle.std.proofs.Common.{◌≡◌, ◌≢◌, ℕ, suc, ◌+◌, ◌<◌, ◌≤◌, Bool, true, false, List, [], ◌∷◌, ◌++◌, length, get_or, if◌then◌else◌, Option, Some, sym, ◌∙◌, ap, refl, subst, inl, inr, arith, length-append}
+use Rattle.std.proofs.Common.{◌≡◌, ◌≢◌, ℕ, suc, ◌<◌, ◌≤◌, List, [], ◌∷◌, ◌++◌, length, if◌then◌else◌, Option, Some, sym, ◌∙◌, ap, refl, subst, inl, inr, arith, length-append}
 use Rattle.std.proofs.lemmas.Bool.{cases_lt}
 use Rattle.std.proofs.Math.ListN.{get_or-append}
 use Rattle.std.proofs.Math.Seq.{get_or-append_seam}
@@ -42,43 +42,43 @@ AsksNoneBelow-grown nodes n t (Inner place) valid asks = subst (λ (m : Node). t
 
 IsSide-grown : (nodes : List Node) (n : Node) (place t : ℕ) (r : NodeRef) → place ≤ length nodes → IsSide nodes place t r → IsSide (grown nodes n) place t r
 IsSide-grown nodes n place t r within side = record {
-    before = side.before;
-    later = AsksNoneBelow-grown nodes n (suc t) (node_of r) (IsNamedIn-rank nodes _ (let b = side.before in omega arith)) side.later;
-  }
+  before = side.before;
+  later = AsksNoneBelow-grown nodes n (suc t) (node_of r) (IsNamedIn-rank nodes _ (let b = side.before in omega arith)) side.later;
+}
 
 module _ (nodes : List Node) (canonical : AreCanonical nodes) (n : Node) (low : IsSide nodes (length nodes) n.track n.low) (high : IsSide nodes (length nodes) n.track n.high) (differ : n.low ≢ n.high) (absent : (i : ℕ) → i < length nodes → node_at nodes i ≢ n) where
   last_or_before : (P : ℕ → Node → Type 0) → ((i : ℕ) → i < length nodes → P i (node_at nodes i)) → P (length nodes) n → (i : ℕ) → i < length (grown nodes n) → P i (node_at (grown nodes n) i)
   last_or_before P before last i within = elim (cases_lt i (length nodes)) [
-      inl earlier ↦ subst (P i) (sym (node_at-grown nodes n i earlier)) (before i earlier)
+    | inl earlier ↦ subst (P i) (sym (node_at-grown nodes n i earlier)) (before i earlier)
     | inr not_earlier ↦
         let e : length nodes ≡ i = let l = length-grown nodes n in omega arith in
         subst (λ (k : ℕ). P k (node_at (grown nodes n) k)) e (subst (P (length nodes)) (sym (node_at-last nodes n)) last)
-    ]
+  ]
 
   once : (i j : ℕ) → i < length (grown nodes n) → j < length (grown nodes n) → node_at (grown nodes n) i ≡ node_at (grown nodes n) j → i ≡ j
   once i j i_in j_in same = elim (cases_lt i (length nodes)) [
-      inl i_earlier ↦ elim (cases_lt j (length nodes)) [
-        inl j_earlier ↦ canonical.once i j i_earlier j_earlier (sym (node_at-grown nodes n i i_earlier) ∙ same ∙ node_at-grown nodes n j j_earlier)
+    | inl i_earlier ↦ elim (cases_lt j (length nodes)) [
+      | inl j_earlier ↦ canonical.once i j i_earlier j_earlier (sym (node_at-grown nodes n i i_earlier) ∙ same ∙ node_at-grown nodes n j j_earlier)
       | inr j_last ↦
           let e : j ≡ length nodes = let l = length-grown nodes n in omega arith in
           absurd (absent i i_earlier (sym (node_at-grown nodes n i i_earlier) ∙ same ∙ ap (node_at (grown nodes n)) e ∙ node_at-last nodes n))
-      ]
+    ]
     | inr i_last ↦
         let e : i ≡ length nodes = let l = length-grown nodes n in omega arith in
         elim (cases_lt j (length nodes)) [
-          inl j_earlier ↦ absurd (absent j j_earlier (sym (node_at-grown nodes n j j_earlier) ∙ sym same ∙ ap (node_at (grown nodes n)) e ∙ node_at-last nodes n))
-        | inr j_last ↦ (let l = length-grown nodes n in omega arith)
+          | inl j_earlier ↦ absurd (absent j j_earlier (sym (node_at-grown nodes n j j_earlier) ∙ sym same ∙ ap (node_at (grown nodes n)) e ∙ node_at-last nodes n))
+          | inr j_last ↦ (let l = length-grown nodes n in omega arith)
         ]
-    ]
+  ]
 
   -- a node that isn't there, over two different sides, keeps the nodes canonical
   pub AreCanonical-grown : AreCanonical (grown nodes n)
   AreCanonical-grown = record {
-      low = last_or_before (λ i m. IsSide (grown nodes n) i m.track m.low) (λ i within. IsSide-grown nodes n i _ _ (omega arith) (canonical.low i within)) (IsSide-grown nodes n _ _ _ (omega arith) low);
-      high = last_or_before (λ i m. IsSide (grown nodes n) i m.track m.high) (λ i within. IsSide-grown nodes n i _ _ (omega arith) (canonical.high i within)) (IsSide-grown nodes n _ _ _ (omega arith) high);
-      differ = last_or_before (λ i m. m.low ≢ m.high) canonical.differ differ;
-      once = once;
-    }
+    low = last_or_before (λ i m. IsSide (grown nodes n) i m.track m.low) (λ i within. IsSide-grown nodes n i _ _ (omega arith) (canonical.low i within)) (IsSide-grown nodes n _ _ _ (omega arith) low);
+    high = last_or_before (λ i m. IsSide (grown nodes n) i m.track m.high) (λ i within. IsSide-grown nodes n i _ _ (omega arith) (canonical.high i within)) (IsSide-grown nodes n _ _ _ (omega arith) high);
+    differ = last_or_before (λ i m. m.low ≢ m.high) canonical.differ differ;
+    once = once;
+  }
 
   -- the last node's function picks a side
   pub state_named-last : (label : Label) → state_named (grown nodes n) (Inner (length nodes)) label ≡ (if label n.track then state_named nodes (node_of n.high) label else state_named nodes (node_of n.low) label)
@@ -86,8 +86,8 @@ module _ (nodes : List Node) (canonical : AreCanonical nodes) (n : Node) (low : 
       let l = length-grown nodes n in
       let e = node_at-last nodes n in
       state_named-inner (grown nodes n) (length nodes) label (omega arith)
-        (subst (λ (m : Node). rank (node_of m.low) ≤ length nodes) (sym e) low.before)
-        (subst (λ (m : Node). rank (node_of m.high) ≤ length nodes) (sym e) high.before)
+      (subst (λ (m : Node). rank (node_of m.low) ≤ length nodes) (sym e) low.before)
+      (subst (λ (m : Node). rank (node_of m.high) ≤ length nodes) (sym e) high.before)
       ∙ ap (λ (m : Node). if label m.track then state_named (grown nodes n) (node_of m.high) label else state_named (grown nodes n) (node_of m.low) label) e
       ∙ if_same (label n.track) _ _ _ _ (state_named-append nodes (n ∷ []) (node_of n.high) label high.before) (state_named-append nodes (n ∷ []) (node_of n.low) label low.before)
 
@@ -96,6 +96,6 @@ module _ (nodes : List Node) (canonical : AreCanonical nodes) (n : Node) (low : 
   none_stood named valid same =
       let l = length-grown nodes n in
       let e : named ≡ Inner (length nodes) = equal_named (grown nodes n) AreCanonical-grown named (Inner (length nodes)) (IsNamedIn-grown nodes n named valid) (let f : length nodes < length (grown nodes n) = omega arith in f)
-        (λ label. state_named-append nodes (n ∷ []) named label (rank-IsNamedIn nodes named valid) ∙ same label ∙ sym (state_named-last label)) in
+      (λ label. state_named-append nodes (n ∷ []) named label (rank-IsNamedIn nodes named valid) ∙ same label ∙ sym (state_named-last label)) in
       let past : length nodes < length nodes = subst (IsNamedIn nodes) e valid in
       omega arith

@@ -7,4 +7,12 @@ pub mod MakeLemmas
 pub mod ReadLemmas
 pub mod RootsLemmas
 pub mod TablesLemmas
+pub mod MarksLemmas
+pub mod MovesLemmas
+pub mod PlacesLemmas
+pub mod HeldLemmas
+pub mod CollectLemmas
+pub mod CollectedLemmas
 pub mod CallerLemmas
+pub mod UnderLemmas
+pub mod SplitLemmas

@@ -1,13 +1,13 @@
 -- What `make` finds or adds.
-use Rattle.std.proofs.Common.{◌≡◌, ◌≢◌, ◌⊎◌, ℕ, suc, ◌+◌, ◌<◌, ◌≤◌, Bool, true, false, List, [], ◌∷◌, ◌++◌, length, ltb, if◌then◌else◌, Option, sym, ◌∙◌, ap, refl, subst, inl, inr, arith, length-append}
+use Rattle.std.proofs.Common.{◌≡◌, ◌≢◌, ◌⊎◌, ℕ, suc, ◌+◌, ◌<◌, ◌≤◌, Bool, true, false, List, [], ◌∷◌, length, ltb, if◌then◌else◌, sym, ◌∙◌, ap, refl, subst, inl, inr, arith}
 use Rattle.std.proofs.lemmas.Bool.{cases_lt}
 use Rattle.std.proofs.lemmas.Bool.Decides.{nat_tests}
 use Rattle.bdd_nodes.specs.declared.node_ref.NodeRef.{NodeRef}
 use Rattle.bdd_nodes.specs.declared.node_ref.Named.{Named}
 use Rattle.bdd_nodes.specs.declared.node_ref.Named.TheVariants.{Leaf, Inner}
 use Rattle.bdd_nodes.specs.declared.node.Node.{Node}
-use Rattle.bdd_nodes.specs.Nodes.{Label, node_of, rank, node_at, state_named, IsNamedIn, first_track, AsksNoneBelow, IsSide, AreCanonical}
-use Rattle.bdd_nodes.specs.Shelf.{Contents, IsShelf, IsValid, IsSideFor, IsFullFor, Has, AsksFrom, count_of, limit_of, state_of, choice_of, top_of, low_of, high_of, low_named, high_named}
+use Rattle.bdd_nodes.specs.Nodes.{Label, node_of, node_at, state_named, IsNamedIn, AsksNoneBelow, IsSide}
+use Rattle.bdd_nodes.specs.Shelf.{Contents, IsShelf, IsValid, IsSideFor, Has, AsksFrom, count_of, limit_of, state_of, choice_of, low_named, high_named}
 use Rattle.bdd_nodes.specs.Changes.{Keeps, AddsOnly, is_valid, is_named_in}
 use Rattle.bdd_nodes.proofs.RefLemmas.{node_of-injective}
 use Rattle.bdd_nodes.proofs.NodesLemmas.{state_named-inner, state_named-append}
@@ -60,13 +60,13 @@ module _ (shelf : Contents) (is_shelf : IsShelf shelf) (n : Node) (low : IsSideF
   -- the shelf with it is one
   pub IsShelf-with_node : count_of shelf < limit_of shelf → IsShelf with_node
   IsShelf-with_node room = record {
-      canonical = AreCanonical-grown shelf.nodes is_shelf.canonical n low_side high_side differ absent;
-      within = let l = length-grown shelf.nodes n in omega arith;
-      some = is_shelf.some;
-      small = is_shelf.small;
-      numbered = is_shelf.numbered;
-      roots = λ number index root registered. IsNamedIn-grown shelf.nodes n _ (is_shelf.roots number index root registered);
-    }
+    canonical = AreCanonical-grown shelf.nodes is_shelf.canonical n low_side high_side differ absent;
+    within = let l = length-grown shelf.nodes n in omega arith;
+    some = is_shelf.some;
+    small = is_shelf.small;
+    numbered = is_shelf.numbered;
+    roots = λ number index root registered. IsNamedIn-grown shelf.nodes n _ (is_shelf.roots number index root registered);
+  }
 
   low_named-grown : (r : NodeRef) (named : Named) → IsNamedIn shelf.nodes named → low_named (grown shelf.nodes n) r named ≡ low_named shelf.nodes r named
   low_named-grown r (Leaf state) valid = refl
@@ -79,12 +79,13 @@ module _ (shelf : Contents) (is_shelf : IsShelf shelf) (n : Node) (low : IsSideF
   -- and keeps what was there
   pub Keeps-with_node : Keeps shelf with_node
   Keeps-with_node = record {
-      valid = λ r valid. IsNamedIn-grown shelf.nodes n _ valid;
-      states = λ r label valid. state_named-append shelf.nodes (n ∷ []) (node_of r) label (rank-IsNamedIn shelf.nodes _ valid);
-      top = λ r valid. first_track-grown shelf.nodes n (node_of r) valid;
-      low = λ r valid. low_named-grown r (node_of r) valid;
-      high = λ r valid. high_named-grown r (node_of r) valid;
-    }
+    valid = λ r valid. IsNamedIn-grown shelf.nodes n _ valid;
+    states = λ r label valid. state_named-append shelf.nodes (n ∷ []) (node_of r) label (rank-IsNamedIn shelf.nodes _ valid);
+    top = λ r valid. first_track-grown shelf.nodes n (node_of r) valid;
+    low = λ r valid. low_named-grown r (node_of r) valid;
+    high = λ r valid. high_named-grown r (node_of r) valid;
+    asks = λ r t valid asks. AsksNoneBelow-grown shelf.nodes n t (node_of r) valid asks;
+  }
 
   module _ (made : NodeRef) (named : node_of made ≡ Inner (length shelf.nodes)) where
     pub valid-made : IsValid with_node made
@@ -95,14 +96,14 @@ module _ (shelf : Contents) (is_shelf : IsShelf shelf) (n : Node) (low : IsSideF
 
     pub later-made : AsksFrom with_node n.track made
     later-made = subst (AsksNoneBelow (grown shelf.nodes n) n.track) (sym named)
-      (subst (λ (m : Node). n.track ≤ m.track) (sym (node_at-last shelf.nodes n)) (let f : n.track ≤ n.track = omega arith in f))
+        (subst (λ (m : Node). n.track ≤ m.track) (sym (node_at-last shelf.nodes n)) (let f : n.track ≤ n.track = omega arith in f))
 
     only_made : (r : NodeRef) (m : Named) → node_of r ≡ m → IsNamedIn (grown shelf.nodes n) m → IsNamedIn shelf.nodes m ⊎ (r ≡ made)
     only_made r (Leaf state) e valid = inl tt
     only_made r (Inner place) e valid = elim (cases_lt place (length shelf.nodes)) [
-        inl before ↦ inl before
+      | inl before ↦ inl before
       | inr not_before ↦ inr (node_of-injective r made (e ∙ ap Inner (let l = length-grown shelf.nodes n in omega arith) ∙ sym named))
-      ]
+    ]
 
     pub AddsOnly-made : AddsOnly shelf with_node made
     unfolding AddsOnly
@@ -113,4 +114,4 @@ module _ (shelf : Contents) (is_shelf : IsShelf shelf) (n : Node) (low : IsSideF
     count-made =
         length-grown shelf.nodes n ∙ (let e : suc (length shelf.nodes) ≡ length shelf.nodes + 1 = omega arith in e)
         ∙ sym (ap (λ (b : Bool). if b then count_of shelf else count_of shelf + 1)
-          (ap (is_named_in shelf.nodes) named ∙ (let e : ltb (length shelf.nodes) (length shelf.nodes) ≡ false = grind (arith, nat_tests) in e)))
+        (ap (is_named_in shelf.nodes) named ∙ (let e : ltb (length shelf.nodes) (length shelf.nodes) ≡ false = grind (arith, nat_tests) in e)))

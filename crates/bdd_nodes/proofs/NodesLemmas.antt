@@ -1,12 +1,11 @@
 -- The functions that references stand for.
-use Rattle.std.proofs.Common.{◌≡◌, ℕ, suc, zero, ◌+◌, ◌-◌, ◌^◌, ◌<◌, ◌≤◌, Bool, true, false, List, [], ◌∷◌, ◌++◌, length, get_or, fold, if◌then◌else◌, sym, ◌∙◌, ap, refl, subst, arith, rules, length-append, append_assoc}
+use Rattle.std.proofs.Common.{◌≡◌, ℕ, suc, zero, ◌+◌, ◌<◌, ◌≤◌, Bool, true, false, List, [], ◌∷◌, ◌++◌, length, get_or, fold, if◌then◌else◌, sym, ◌∙◌, ap, refl, arith, length-append}
 use Rattle.std.proofs.Math.ListN.{get_or-append}
 use Rattle.std.proofs.Math.Seq.{get_or-append_seam}
-use Rattle.bdd_nodes.specs.declared.node_ref.NodeRef.{NodeRef}
 use Rattle.bdd_nodes.specs.declared.node_ref.Named.{Named}
 use Rattle.bdd_nodes.specs.declared.node_ref.Named.TheVariants.{Leaf, Inner}
 use Rattle.bdd_nodes.specs.declared.node.Node.{Node}
-use Rattle.bdd_nodes.specs.Nodes.{Label, Function, node_of, rank, node_at, function_named, node_function, with_next, functions_of, state_named, IsSide}
+use Rattle.bdd_nodes.specs.Nodes.{Label, Function, node_of, rank, node_at, function_named, node_function, with_next, functions_of, state_named}
 
 constant : Function
 constant = λ _. 0
@@ -34,11 +33,11 @@ function-at_place : (before : List Function) (nodes : List Node) (i : ℕ) (labe
 function-at_place before [] i label in_range low high = absurd (omega arith)
 function-at_place before (n ∷ nodes) zero label in_range low high =
     ap (λ (f : Function). f label) (ap (λ k. get_or (fold with_next (with_next before n) nodes) k (λ _. 0)) (omega arith)
-      ∙ get_or-with_all (with_next before n) nodes (length before) (λ _. 0) (let e = length-append before (node_function before n ∷ []) in omega arith)
-      ∙ get_or-append_seam before (node_function before n) [] (λ _. 0))
+    ∙ get_or-with_all (with_next before n) nodes (length before) (λ _. 0) (let e = length-append before (node_function before n ∷ []) in omega arith)
+    ∙ get_or-append_seam before (node_function before n) [] (λ _. 0))
     ∙ sym (if_same (label n.track) _ _ _ _
-      (function_named-with_all before (n ∷ nodes) (node_of n.high) label (omega arith))
-      (function_named-with_all before (n ∷ nodes) (node_of n.low) label (omega arith)))
+    (function_named-with_all before (n ∷ nodes) (node_of n.high) label (omega arith))
+    (function_named-with_all before (n ∷ nodes) (node_of n.low) label (omega arith)))
 function-at_place before (n ∷ nodes) (suc i) label in_range low high =
     let e : length (with_next before n) ≡ length before + 1 = length-append before (node_function before n ∷ []) in
     ap (λ k. get_or (fold with_next (with_next before n) nodes) k (λ _. 0) label) (omega arith)

@@ -1,11 +1,11 @@
 -- A shelf with one table more.
-use Rattle.std.proofs.Common.{◌≡◌, ◌≢◌, ℕ, suc, ◌+◌, ◌<◌, ◌≤◌, List, [], ◌∷◌, ◌++◌, length, get_or, Option, Some, None, sym, ◌∙◌, ap, refl, subst, inl, inr, arith}
+use Rattle.std.proofs.Common.{◌≡◌, ◌≢◌, ℕ, ◌+◌, List, [], ◌∷◌, ◌++◌, Option, Some, None, sym, ◌∙◌, ap, refl, subst, inl, inr, arith}
 use Rattle.std.specs.Prelude.{All, IfSome, slice_get, option_and_then}
 use Rattle.std.proofs.lemmas.Bool.{cases_lt}
 use Rattle.std.proofs.lemmas.Option.{slice_get_within, get_or_from_slice_get}
 use Rattle.bdd_nodes.specs.declared.node_ref.NodeRef.{NodeRef}
 use Rattle.bdd_nodes.specs.declared.roots.RootTable.{RootTable}
-use Rattle.bdd_nodes.specs.Roots.{Registered, number_of, roots_under, number_at, AreNumbered}
+use Rattle.bdd_nodes.specs.Roots.{number_of, AreNumbered}
 use Rattle.bdd_nodes.specs.Shelf.{Contents, IsShelf, IsValid, root_of, roots_of}
 use Rattle.bdd_nodes.specs.Changes.{AddsTable}
 use Rattle.bdd_nodes.proofs.RootsLemmas.{roots_under-push_other, roots_under-push_same}
@@ -34,30 +34,30 @@ module _ (shelf : Contents) (is_shelf : IsShelf shelf) (t : RootTable) (number :
 
   roots_valid : (other index : ℕ) (root : NodeRef) → root_of with_table other index ≡ Some root → IsValid shelf root
   roots_valid other index root there = elim (cases_lt other (number_of t.id)) [
-      inl below ↦ is_shelf.roots other index root (root_is _ _ index root (elsewhere other (λ e. omega arith)) there)
+    | inl below ↦ is_shelf.roots other index root (root_is _ _ index root (elsewhere other (λ e. omega arith)) there)
     | inr not_below ↦ elim (cases_lt (number_of t.id) other) [
-        inl above ↦ is_shelf.roots other index root (root_is _ _ index root (elsewhere other (λ e. omega arith)) there)
+      | inl above ↦ is_shelf.roots other index root (root_is _ _ index root (elsewhere other (λ e. omega arith)) there)
       | inr not_above ↦
           let same : other ≡ number_of t.id = omega arith in
           All-root (IsValid shelf) t.roots index root valid (root_is _ _ index root (ap (roots_of with_table) same ∙ here) there)
-      ]
     ]
+  ]
 
   pub IsShelf-with_table : AreNumbered (shelf.roots.tables ++ t ∷ []) (shelf.roots.added + 1) → IsShelf with_table
   IsShelf-with_table numbered = record {
-      canonical = is_shelf.canonical;
-      within = is_shelf.within;
-      some = is_shelf.some;
-      small = is_shelf.small;
-      numbered = numbered;
-      roots = roots_valid;
-    }
+    canonical = is_shelf.canonical;
+    within = is_shelf.within;
+    some = is_shelf.some;
+    small = is_shelf.small;
+    numbered = numbered;
+    roots = roots_valid;
+  }
 
   pub AddsTable-with_table : AddsTable shelf with_table (number_of t.id) t.roots
   AddsTable-with_table = record {
-      number = number;
-      added = refl;
-      roots = here;
-      others = elsewhere;
-      nodes = record { nodes = refl; limit = refl };
-    }
+    number = number;
+    added = refl;
+    roots = here;
+    others = elsewhere;
+    nodes = record { nodes = refl; limit = refl };
+  }

@@ -1,11 +1,13 @@
 -- What a call leaves of a shelf.
-use Rattle.std.specs.Prelude.{◌≡◌, ◌≢◌, ◌+◌, None, ℕ, Bool, true, List, length, Option, Some, option_map, slice_get, nat_lt, ◌⊎◌, ◌↔◌, Contains}
+use Rattle.std.specs.Prelude.{◌≡◌, ◌≢◌, ◌+◌, None, ℕ, Bool, true, List, length, Some, option_map, IsSome, slice_get, nat_lt, ◌⊎◌, ◌↔◌, Contains}
 use Rattle.bdd_nodes.specs.declared.node_ref.NodeRef.{NodeRef}
 use Rattle.bdd_nodes.specs.declared.node_ref.Named.{Named}
 use Rattle.bdd_nodes.specs.declared.node_ref.Named.TheVariants.{Leaf, Inner}
 use Rattle.bdd_nodes.specs.declared.node.Node.{Node}
-use Rattle.bdd_nodes.specs.Nodes.{Label, node_of}
-use Rattle.bdd_nodes.specs.Shelf.{Contents, count_of, limit_of, IsValid, state_of, top_of, low_of, high_of, AsksFrom, roots_of, root_of, tables_added}
+use Rattle.bdd_nodes.specs.declared.roots.RootTable.{RootTable}
+use Rattle.bdd_nodes.specs.Nodes.{Label, Function, node_of, first_track}
+use Rattle.bdd_nodes.specs.Roots.{root_under}
+use Rattle.bdd_nodes.specs.Shelf.{Contents, limit_of, IsValid, state_of, top_of, low_of, high_of, low_named, high_named, AsksFrom, roots_of, root_of, tables_added}
 
 -- every valid reference stays valid, with its function and with what it is under its first track
 pub record Keeps (old new : Contents) : Type 0 where
@@ -14,6 +16,7 @@ pub record Keeps (old new : Contents) : Type 0 where
   pub top : (r : NodeRef) → IsValid old r → top_of new r ≡ top_of old r
   pub low : (r : NodeRef) → IsValid old r → low_of new r ≡ low_of old r
   pub high : (r : NodeRef) → IsValid old r → high_of new r ≡ high_of old r
+  pub asks : (r : NodeRef) (t : ℕ) → IsValid old r → AsksFrom old t r → AsksFrom new t r
 
 -- the nodes and the limit are the same
 pub record SameNodes (old new : Contents) : Type 0 where
@@ -53,20 +56,31 @@ unfoldable pub AddsOnly : Contents → Contents → NodeRef → Type 0
 AddsOnly old new made = (r : NodeRef) → IsValid new r → IsValid old r ⊎ (r ≡ made)
 
 -- the references that are reached from one by going to sides
-pub data Reaches (shelf : Contents) (from : NodeRef) : NodeRef → Type 0 where
-  itself : Reaches shelf from from
-  by_low : (r : NodeRef) → Reaches shelf from r → Reaches shelf from (low_of shelf r)
-  by_high : (r : NodeRef) → Reaches shelf from r → Reaches shelf from (high_of shelf r)
+pub data Reaches (nodes : List Node) (from : NodeRef) : NodeRef → Type 0 where
+  itself : Reaches nodes from from
+  by_low : (r : NodeRef) → Reaches nodes from r → Reaches nodes from (low_named nodes r (node_of r))
+  by_high : (r : NodeRef) → Reaches nodes from r → Reaches nodes from (high_named nodes r (node_of r))
 
--- an inner node under a registered root
-pub record IsHeld (shelf : Contents) (r : NodeRef) : Type 0 where
+-- a reached reference that stands for the function
+pub record ReachesFunction (shelf : Contents) (from : NodeRef) (function : Function) : Type 0 where
+  pub at : NodeRef
+  pub valid : IsValid shelf at
+  pub reached : Reaches shelf.nodes from at
+  pub states : (label : Label) → state_of shelf at label ≡ function label
+
+-- an inner node under a root of a table
+pub record IsUnder (nodes : List Node) (tables : List RootTable) (r : NodeRef) : Type 0 where
   pub track : ℕ
-  pub inner : top_of shelf r ≡ Some track
+  pub inner : first_track nodes (node_of r) ≡ Some track
   pub number : ℕ
   pub index : ℕ
   pub root : NodeRef
-  pub registered : root_of shelf number index ≡ Some root
-  pub reached : Reaches shelf root r
+  pub registered : root_under tables number index ≡ Some root
+  pub reached : Reaches nodes root r
+
+-- an inner node under a registered root
+abbrev pub IsHeld : Contents → NodeRef → Type 0
+IsHeld shelf r = IsUnder shelf.nodes shelf.roots.tables r
 
 -- so many inner nodes stand under registered roots, each counted once
 pub record CountsHeld (shelf : Contents) (count : ℕ) : Type 0 where
@@ -84,4 +98,5 @@ pub record IsMoved (old new : Contents) (was now : NodeRef) : Type 0 where
 pub record MovesRoots (old new : Contents) : Type 0 where
   pub added : tables_added new ≡ tables_added old
   pub lengths : (number : ℕ) → option_map length (roots_of new number) ≡ option_map length (roots_of old number)
+  pub registered : (number : ℕ) → IsSome (roots_of old number) → IsSome (roots_of new number)
   pub moved : (number index : ℕ) (was now : NodeRef) → root_of old number index ≡ Some was → root_of new number index ≡ Some now → IsMoved old new was now

@@ -5,3 +5,4 @@ pub mod Changes
 pub mod Hash
 pub mod Index
 pub mod Stored
+pub mod Collecting

@@ -1,5 +1,5 @@
 -- Tables of roots, each registered under a number of its own.
-use Rattle.std.specs.Prelude.{◌≡◌, ℕ, ◌<◌, List, [], ◌∷◌, length, Option, Some, None, nat_eq, slice_index_or, if◌then◌else◌}
+use Rattle.std.specs.Prelude.{ℕ, ◌<◌, List, [], ◌∷◌, length, Option, Some, None, nat_eq, option_and_then, slice_get, slice_index_or, if◌then◌else◌}
 use Rattle.bdd_nodes.specs.declared.node_ref.NodeRef.{NodeRef}
 use Rattle.bdd_nodes.specs.declared.roots.RootTable.{RootTable}
 use Rattle.bdd_nodes.specs.declared.roots.TableId.{TableId}
@@ -18,6 +18,10 @@ abbrev pub roots_under : List RootTable → ℕ → Option (List NodeRef)
 roots_under [] number = None
 roots_under (table ∷ tables) number =
     if nat_eq (number_of table.id) number then Some table.roots else roots_under tables number
+
+-- the root at an index of the table with this number
+abbrev pub root_under : List RootTable → ℕ → ℕ → Option NodeRef
+root_under tables number index = option_and_then (λ roots. slice_get roots index) (roots_under tables number)
 
 -- the table at a place, and one without roots past the end
 abbrev pub table_at : List RootTable → ℕ → RootTable

@@ -1,13 +1,13 @@
 -- The words on a shelf that contracts cite: functions, counts and tables. What stands in a shelf's records, and at
 -- which place, is for the proofs of this crate alone.
-use Rattle.std.specs.Prelude.{◌≡◌, ◌≢◌, ℕ, suc, ◌^◌, ◌<◌, ◌≤◌, Bool, true, List, [], length, Option, Some, None, option_and_then, slice_get, nat_lt, if◌then◌else◌, nat_eq}
+use Rattle.std.specs.Prelude.{◌≡◌, ◌≢◌, ℕ, suc, ◌^◌, ◌<◌, ◌≤◌, List, [], length, Option, Some, None, nat_lt, if◌then◌else◌, nat_eq}
 use Rattle.std.specs.List.{list_any}
 use Rattle.bdd_nodes.specs.declared.node_ref.NodeRef.{NodeRef}
 use Rattle.bdd_nodes.specs.declared.node_ref.Named.{Named}
 use Rattle.bdd_nodes.specs.declared.node_ref.Named.TheVariants.{Leaf, Inner}
 use Rattle.bdd_nodes.specs.declared.node.Node.{Node}
 use Rattle.bdd_nodes.specs.Nodes.{Label, Function, node_of, rank, node_at, state_named, IsNamedIn, first_track, AsksNoneBelow, AreCanonical}
-use Rattle.bdd_nodes.specs.Roots.{Registered, roots_under, AreNumbered}
+use Rattle.bdd_nodes.specs.Roots.{Registered, roots_under, root_under, AreNumbered}
 
 -- what a shelf has: its nodes, the most that it may have, and its tables of roots
 pub record Contents : Type 0 where
@@ -109,7 +109,7 @@ roots_of shelf number = roots_under shelf.roots.tables number
 
 -- the root at an index of the table with this number
 abbrev pub root_of : Contents → ℕ → ℕ → Option NodeRef
-root_of shelf number index = option_and_then (λ roots. slice_get roots index) (roots_of shelf number)
+root_of shelf number index = root_under shelf.roots.tables number index
 
 -- one node for each function, at most `limit` of them; and every registered root is valid
 pub record IsShelf (shelf : Contents) : Type 0 where
@@ -131,3 +131,14 @@ pub record IsLeaf (r : NodeRef) (state : ℕ) : Type 0 where
   pub states : (shelf : Contents) (label : Label) → state_of shelf r label ≡ state
   pub asks : (shelf : Contents) (t : ℕ) → AsksFrom shelf t r
   pub top : (shelf : Contents) → top_of shelf r ≡ None
+  pub side : (shelf : Contents) (track : ℕ) → IsSideFor shelf track r
+
+-- the label with the tracks below k set as in another one
+abbrev pub with_first : ℕ → Label → Label → Label
+with_first k other label = λ track. if nat_lt track k then other track else label track
+
+-- the second function is under the first: it is what the first becomes where the tracks below some number are fixed
+pub record IsUnderFunction (f g : Function) : Type 0 where
+  pub below : ℕ
+  pub fixed : Label
+  pub states : (label : Label) → g label ≡ f (with_first below fixed label)

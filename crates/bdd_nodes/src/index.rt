@@ -5,6 +5,7 @@ ghost use Rattle.bdd_nodes.specs.Nodes.{node_at};
 ghost use Rattle.bdd_nodes.specs.Hash.{bucket_of};
 ghost use Rattle.bdd_nodes.specs.Index.{IsIndexed};
 
+use crate::collecting;
 use crate::node::Node;
 
 /// Chains of places. A link is a place plus one, and 0 ends a chain.
@@ -51,5 +52,22 @@ impl Index {
     {
         self.chain[place as usize] = self.buckets[bucket];
         self.buckets[bucket] = place + 1;
+    }
+
+    /// Puts all nodes, and them alone.
+    pub(crate) fn rebuild(&mut self, nodes: &[Node])
+        requires room { length nodes.now ≤ vec_len self.old.buckets }
+        requires fits { length nodes.now ≤ vec_len self.old.chain }
+        requires small { vec_len self.old.buckets < 2 ^ 31 }
+        ensures indexed { IsIndexed nodes.now self.new.buckets.items self.new.chain.items (length nodes.now) }
+        ensures buckets_len { vec_len self.new.buckets ≡ vec_len self.old.buckets }
+        ensures chain_len { vec_len self.new.chain ≡ vec_len self.old.chain }
+    {
+        collecting::clear(&mut self.buckets);
+        let buckets = self.buckets.len() as u32;
+        for place in 0..nodes.len() {
+            let bucket = nodes[place].bucket(buckets);
+            self.put(bucket, place as u32);
+        }
     }
 }

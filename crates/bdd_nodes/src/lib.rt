@@ -4,14 +4,17 @@
 //! a plain number. No crate above looks at a node's place.
 #![tactic(auto)]
 
+mod collecting;
 mod index;
 mod laws;
 mod node;
 mod node_ref;
 mod roots;
 mod shelf;
+#[cfg(test)]
+mod tests;
 
-pub use laws::{equal_references, unasked_tracks};
+pub use laws::{equal_references, reached_functions, small_states, unasked_tracks, unused_numbers};
 pub use node_ref::NodeRef;
 pub use roots::{RefList, TableId};
 pub use shelf::read::Label;

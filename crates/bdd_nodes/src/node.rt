@@ -14,7 +14,9 @@ pub(crate) struct Node {
 
 /// Odd factors without a pattern, one for each part of a node.
 const TRACK_FACTOR: u64 = 0x9E37_79B9_7F4A_7C15;
+
 const LOW_FACTOR: u64 = 0xD6E8_FEB8_6659_FD93;
+
 const HIGH_FACTOR: u64 = 0xA076_1D64_78BD_642F;
 
 impl Node {

@@ -1,14 +1,15 @@
 //! Tables of roots.
 
-ghost use Rattle.std.specs.Prelude.{◌≡◌, ◌≢◌, ◌+◌, ◌<◌, ℕ, [], ◌∷◌, ◌++◌, length, IfOk, OnErr, IfSome, IfNone, IsSome, None, option_and_then, slice_get};
-ghost use Rattle.bdd_nodes.specs.Roots.{number_at, number_of, roots_under, AreNumbered};
+ghost use Rattle.std.specs.Prelude.{◌≡◌, ◌≢◌, ◌+◌, ◌<◌, ◌≤◌, ℕ, [], ◌∷◌, ◌++◌, length, IfOk, OnErr, IfSome, IfNone, IsSome, None, All, map, vec_len};
+ghost use Rattle.bdd_nodes.specs.Nodes.{node_of, rank};
+ghost use Rattle.bdd_nodes.specs.Collecting.{all_roots, linked_table, IsLinked, MarksList};
+ghost use Rattle.bdd_nodes.specs.Roots.{number_at, number_of, roots_under, root_under, AreNumbered};
 
+use crate::collecting;
+use crate::node_ref::NodeRef;
+use plain_data::Items;
 use std::alloc::{AllocError, Global};
 use std::marker::Model;
-
-use plain_data::Items;
-
-use crate::node_ref::NodeRef;
 
 /// References in order.
 pub type RefList = Items<NodeRef>;
@@ -80,10 +81,27 @@ impl RootSet {
     }
 
     pub(crate) fn root(&self, id: TableId, index: u32) -> Option<NodeRef>
-        ensures { result ≡ option_and_then (λ roots. slice_get roots index) (roots_under self.now.tables (number_of id)) }
+        ensures { result ≡ root_under self.now.tables (number_of id) index }
     {
         let place = place_of(&self.tables, id)?;
         self.tables[place].roots.get(index as usize).copied()
+    }
+
+    /// Marks all roots.
+    pub(crate) fn mark(&self, marks: &mut Vec<u32>)
+        requires { All (λ r. rank (node_of r) ≤ vec_len marks.old) (all_roots self.now.tables) }
+        ensures { MarksList (all_roots self.now.tables) marks.old.items marks.new.items }
+    {
+        collecting::mark_tables(&self.tables, marks);
+    }
+
+    /// Replaces all roots by the links.
+    pub(crate) fn move_all(&mut self, links: &[u32])
+        requires { All (λ r. IsLinked links.now (node_of r)) (all_roots self.old.tables) }
+        ensures tables { self.new.tables ≡ map (linked_table links.now) self.old.tables }
+        ensures added { self.new.added ≡ self.old.added }
+    {
+        collecting::move_tables(&mut self.tables, links);
     }
 }
 

@@ -1,5 +1,6 @@
 //! A shelf of decision nodes.
 
+mod collect;
 pub(crate) mod read;
 mod tables;
 
@@ -8,16 +9,17 @@ ghost use Rattle.bdd_nodes.specs.Nodes.{Label, node_of};
 ghost use Rattle.bdd_nodes.specs.Shelf.{IsShelf, IsValid, IsSideFor, IsFullFor, Splits, AsksFrom, empty_shelf, count_of, limit_of, state_of, choice_of, top_of, low_of, high_of, label_of};
 ghost use Rattle.bdd_nodes.specs.Changes.{Keeps, SameTables, AddsOnly, is_valid};
 
-use std::alloc::{AllocError, Global};
-use std::marker::Model;
-
 use crate::index::Index;
 use crate::node::Node;
 use crate::node_ref::NodeRef;
 use crate::roots::RootSet;
+use std::alloc::{AllocError, Global};
+use std::marker::Model;
+use thiserror::Error;
 
 /// There is no room for a node that isn't there.
-#[derive(Clone, Copy, Debug, PartialEq, Eq)]
+#[derive(Clone, Copy, Debug, PartialEq, Eq, Error)]
+#[error("the shelf is full")]
 pub struct Full;
 
 /// Decision nodes of one owner, up to a limit, and the tables of roots that `collect` keeps.
@@ -44,7 +46,8 @@ impl Model for Shelf {
 }
 
 impl Shelf {
-    /// A shelf without nodes and tables, with all the memory for `limit` nodes and for collecting them.
+    /// A shelf without nodes and tables, with all the memory for `limit` nodes and for collecting them: 20 bytes a node.
+    /// `AllocError` for want of that memory.
     pub fn open(alloc: Global, limit: u32) -> Result<Shelf, AllocError>
         requires some { 1 ≤ limit }
         requires small { limit ≤ 16000000 }
@@ -62,7 +65,8 @@ impl Shelf {
         })
     }
 
-    /// The function that is `low`'s where the track is unset, and `high`'s where it is set. Takes no memory.
+    /// The function that is `low`'s where the track is unset, and `high`'s where it is set. `Full` exactly where the
+    /// sides differ, the limit is reached and nothing in the shelf stands for the function. Takes no memory.
     #[inline]
     pub fn make(&mut self, track: u32, low: NodeRef, high: NodeRef) -> Result<NodeRef, Full>
         requires low { IsSideFor self.old track low }
@@ -82,7 +86,8 @@ impl Shelf {
         ensures shelf { IsShelf self.new }
     {
         let limit = self.limit;
-        if low == high {
+        let is_same = low == high;
+        if is_same {
             return Ok(low);
         }
         let node = Node { track, low, high };
@@ -91,7 +96,8 @@ impl Shelf {
             return Ok(NodeRef::inner(place));
         }
         let place = self.nodes.len() as u32;
-        if place == limit {
+        let is_full = place == limit;
+        if is_full {
             return Err(Full);
         }
         push_within(&mut self.nodes, node);

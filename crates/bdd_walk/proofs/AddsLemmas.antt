@@ -9,7 +9,7 @@ use Rattle.bdd_nodes.specs.declared.node_ref.NodeRef.{NodeRef}
 use Rattle.bdd_nodes.specs.Nodes.{Label, Function}
 use Rattle.bdd_nodes.specs.Shelf.{Contents, IsShelf, IsValid, IsSideFor, IsFullFor, Has, count_of, limit_of, state_of, choice_of}
 use Rattle.bdd_nodes.specs.Changes.{Keeps, AddsOnly, is_valid}
-use Rattle.bdd_nodes.proofs.CallerLemmas.{same_reference, is_valid-true, is_valid-false}
+use Rattle.bdd_nodes.proofs.SplitLemmas.{same_reference, is_valid-true, is_valid-false}
 use Rattle.bdd_walk.specs.Answers.{Answers, KeepsAnswers, Completes}
 use Rattle.bdd_walk.specs.Under.{IsMissing, IsConstant, Exceeds, AddsParts}
 use Rattle.bdd_walk.specs.Stands.{Asking, Stands, IsPart}

@@ -9,7 +9,7 @@ use Rattle.bdd_nodes.specs.declared.node_ref.NodeRef.{NodeRef}
 use Rattle.bdd_nodes.specs.Nodes.{Label, Function}
 use Rattle.bdd_nodes.specs.Shelf.{Contents, IsShelf, IsValid, state_of}
 use Rattle.bdd_nodes.specs.Changes.{is_valid}
-use Rattle.bdd_nodes.proofs.CallerLemmas.{is_valid-IsValid}
+use Rattle.bdd_nodes.proofs.SplitLemmas.{is_valid-IsValid}
 use Rattle.bdd_walk.specs.Answers.{Answers, KeepsAnswers, Completes}
 use Rattle.bdd_walk.specs.Asked.{with_track, leaves_of, asked_of}
 use Rattle.bdd_walk.specs.Stands.{Asking}

@@ -6,7 +6,7 @@ use Rattle.bdd_nodes.specs.declared.node_ref.NodeRef.{NodeRef}
 use Rattle.bdd_nodes.specs.Nodes.{Label}
 use Rattle.bdd_nodes.specs.Shelf.{Contents, IsShelf, IsValid, AsksFrom, top_of}
 use Rattle.bdd_nodes.specs.Changes.{Keeps, is_valid}
-use Rattle.bdd_nodes.proofs.CallerLemmas.{is_valid-true}
+use Rattle.bdd_nodes.proofs.SplitLemmas.{is_valid-true}
 use Rattle.bdd_walk.specs.Asked.{with_track, leaves_of}
 use Rattle.bdd_walk.specs.Stands.{Asking, AsksSame, AsksByFrom}
 use Rattle.bdd_walk.specs.Steps.{IsSplitBy, IsSplit}

@@ -8,7 +8,7 @@ use Rattle.bdd_nodes.specs.declared.node_ref.NodeRef.{NodeRef}
 use Rattle.bdd_nodes.specs.Nodes.{Label}
 use Rattle.bdd_nodes.specs.Shelf.{Contents, IsShelf, AsksFrom, state_of, top_of, rank_of}
 use Rattle.bdd_nodes.specs.Changes.{Keeps, is_valid}
-use Rattle.bdd_nodes.proofs.CallerLemmas.{is_valid-true, is_valid-IsValid}
+use Rattle.bdd_nodes.proofs.SplitLemmas.{is_valid-true, is_valid-IsValid}
 use Rattle.bdd_walk.specs.Asked.{with_track, leaves_of}
 use Rattle.bdd_walk.specs.Stands.{Asking, AsksSame}
 use Rattle.bdd_walk.specs.Steps.{IsSplitBy, FallsTo, IsSkip, IsSplit}

@@ -4,7 +4,7 @@ use Rattle.std.proofs.lemmas.Bool.{cases_lt}
 use Rattle.bdd_nodes.specs.declared.node_ref.NodeRef.{NodeRef}
 use Rattle.bdd_nodes.specs.Nodes.{Label}
 use Rattle.bdd_nodes.specs.Shelf.{Contents, IsShelf, IsValid, IsSideFor, AsksFrom, state_of, choice_of, low_of, high_of}
-use Rattle.bdd_nodes.proofs.CallerLemmas.{same_reference, unasked, Cases, is_leaf, splits, cases_of}
+use Rattle.bdd_nodes.proofs.SplitLemmas.{same_reference, unasked, Cases, is_leaf, splits, cases_of}
 use Rattle.bdd_walk.specs.Asked.{with_track}
 use Rattle.bdd_walk.specs.Under.{IsConstant}
 use Rattle.bdd_walk.proofs.LabelLemmas.{with_track-same, with_track-later}

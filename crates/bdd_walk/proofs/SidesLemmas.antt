@@ -6,7 +6,7 @@ use Rattle.bdd_nodes.specs.declared.node_ref.NodeRef.{NodeRef}
 use Rattle.bdd_nodes.specs.Nodes.{Label}
 use Rattle.bdd_nodes.specs.Shelf.{Contents, IsShelf, IsValid, AsksFrom, state_of, top_of, low_of, high_of, rank_of}
 use Rattle.bdd_nodes.specs.Changes.{Keeps, is_valid}
-use Rattle.bdd_nodes.proofs.CallerLemmas.{unasked, AsksFrom-weaker, Cases, is_leaf, splits, cases_of, is_valid-true, is_valid-IsValid}
+use Rattle.bdd_nodes.proofs.SplitLemmas.{unasked, AsksFrom-weaker, Cases, is_leaf, splits, cases_of, is_valid-true, is_valid-IsValid}
 use Rattle.bdd_walk.specs.Asked.{leaves_of}
 use Rattle.bdd_walk.specs.Laws.{and-left, and-right, and-both}
 use Rattle.bdd_walk.specs.Sides.{is_first, side_at, earlier_of, SomeAsks, AskFirst, AreLeaves, IsFirstOf, weight_of}

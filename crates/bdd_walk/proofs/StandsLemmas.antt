@@ -6,6 +6,7 @@ use Rattle.bdd_nodes.specs.declared.node_ref.NodeRef.{NodeRef}
 use Rattle.bdd_nodes.specs.Nodes.{Label, Function}
 use Rattle.bdd_nodes.specs.Shelf.{Contents, IsShelf, IsLeaf, IsSideFor, AsksFrom, state_of, choice_of}
 use Rattle.bdd_nodes.specs.Changes.{Keeps}
+use Rattle.bdd_nodes.proofs.CallerLemmas.{Keeps-refl}
 use Rattle.bdd_walk.specs.Answers.{Answers, KeepsAnswers, Completes}
 use Rattle.bdd_walk.specs.Asked.{with_track}
 use Rattle.bdd_walk.specs.Under.{with_below, IsUnder}
@@ -15,22 +16,7 @@ use Rattle.bdd_walk.proofs.LabelLemmas.{with_track-same, with_track-later, with_
 use Rattle.bdd_walk.proofs.ShelfLemmas.{AsksFrom-of_function}
 
 pub Keeps-itself : (shelf : Contents) → Keeps shelf shelf
-Keeps-itself shelf = record {
-  valid = λ r valid. valid;
-  states = λ r label valid. refl;
-  top = λ r valid. refl;
-  low = λ r valid. refl;
-  high = λ r valid. refl;
-}
-
-pub Keeps-trans : (old middle new : Contents) → Keeps old middle → Keeps middle new → Keeps old new
-Keeps-trans old middle new first second = record {
-  valid = λ r valid. second.valid r (first.valid r valid);
-  states = λ r label valid. second.states r label (first.valid r valid) ∙ first.states r label valid;
-  top = λ r valid. second.top r (first.valid r valid) ∙ first.top r valid;
-  low = λ r valid. second.low r (first.valid r valid) ∙ first.low r valid;
-  high = λ r valid. second.high r (first.valid r valid) ∙ first.high r valid;
-}
+Keeps-itself = Keeps-refl
 
 pub KeepsAnswers-trans : (old middle new : Answers) → KeepsAnswers old middle → KeepsAnswers middle new → KeepsAnswers old new
 KeepsAnswers-trans old middle new first second = λ states answer was. second states answer (first states answer was)

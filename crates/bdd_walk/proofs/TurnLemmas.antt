@@ -5,6 +5,7 @@ use Rattle.bdd_nodes.specs.declared.node_ref.NodeRef.{NodeRef}
 use Rattle.bdd_nodes.specs.Nodes.{Label}
 use Rattle.bdd_nodes.specs.Shelf.{Contents, IsShelf, IsLeaf, IsValid, IsSideFor, IsFullFor, count_of, limit_of, state_of, choice_of}
 use Rattle.bdd_nodes.specs.Changes.{Keeps, SameTables, AddsOnly, is_valid}
+use Rattle.bdd_nodes.proofs.CallerLemmas.{Keeps-trans}
 use Rattle.bdd_walk.specs.declared.walk.Frame.{Frame}
 use Rattle.bdd_walk.specs.declared.walk.Frame.TheVariants.{Low, High, Skip}
 use Rattle.bdd_walk.specs.declared.walk.Turn.TheVariants.{Visit, Done}
@@ -15,7 +16,7 @@ use Rattle.bdd_walk.specs.Stands.{Asking, Stands, IsPart, AsksSame}
 use Rattle.bdd_walk.specs.Steps.{IsSkip, IsSplit}
 use Rattle.bdd_walk.specs.Waits.{Memo, IsMemo, Respects, IsDue, IsAwaited, WaitsLow, WaitsHigh, AllWait, FitsFrame}
 use Rattle.bdd_walk.specs.Progress.{Call, Progress, Works}
-use Rattle.bdd_walk.proofs.StandsLemmas.{Keeps-itself, Keeps-trans, KeepsAnswers-trans, Stands-kept, Stands-same, Stands-leaf, IsSideFor-of_stands, answers-choice, IsPart-whole, IsPart-same, IsPart-low, IsPart-high}
+use Rattle.bdd_walk.proofs.StandsLemmas.{Keeps-itself, KeepsAnswers-trans, Stands-kept, Stands-same, Stands-leaf, IsSideFor-of_stands, answers-choice, IsPart-whole, IsPart-same, IsPart-low, IsPart-high}
 use Rattle.bdd_walk.proofs.AddsLemmas.{AddsNew-none, AddsNew-answers, AddsNew-made, Exceeds-full}
 use Rattle.bdd_walk.proofs.WaitsLemmas.{IsMemo-kept, IsMemo-insert, AllWait-kept, AllWait-push, AllWait-pop, AllWait-none}
 

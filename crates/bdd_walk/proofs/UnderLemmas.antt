@@ -7,7 +7,7 @@ use Rattle.bdd_nodes.specs.declared.node_ref.NodeRef.{NodeRef}
 use Rattle.bdd_nodes.specs.Nodes.{Label}
 use Rattle.bdd_nodes.specs.Shelf.{Contents, IsShelf, IsValid, rank_of, state_of, low_of, high_of}
 use Rattle.bdd_nodes.specs.Changes.{Reaches, itself, by_low, by_high}
-use Rattle.bdd_nodes.proofs.CallerLemmas.{same_reference, unasked, Cases, is_leaf, splits, cases_of}
+use Rattle.bdd_nodes.proofs.SplitLemmas.{same_reference, unasked, Cases, is_leaf, splits, cases_of}
 use Rattle.bdd_walk.specs.Answers.{Answers}
 use Rattle.bdd_walk.specs.Under.{with_below, AddsUnder}
 use Rattle.bdd_walk.specs.Stands.{Stands}
@@ -18,12 +18,12 @@ use Rattle.bdd_walk.proofs.LabelLemmas.{with_below-under, with_below-from}
 record Leads (shelf : Contents) (start from : NodeRef) (below : ℕ) (fixed : Label) : Type 0 where
   pub to : NodeRef
   pub valid : IsValid shelf to
-  pub reached : Reaches shelf start to
+  pub reached : Reaches shelf.nodes start to
   pub states : (label : Label) → state_of shelf to label ≡ state_of shelf from (with_below below fixed label)
 
 module _ (shelf : Contents) (is_shelf : IsShelf shelf) (start : NodeRef) (below : ℕ) (fixed : Label) where
   -- what asks from the number on is there
-  arrived : (r : NodeRef) → IsValid shelf r → Reaches shelf start r → ((l m : Label) → ((u : ℕ) → below ≤ u → l u ≡ m u) → state_of shelf r l ≡ state_of shelf r m) → Leads shelf start r below fixed
+  arrived : (r : NodeRef) → IsValid shelf r → Reaches shelf.nodes start r → ((l m : Label) → ((u : ℕ) → below ≤ u → l u ≡ m u) → state_of shelf r l ≡ state_of shelf r m) → Leads shelf start r below fixed
   arrived r valid reached depends = record {
     to = r;
     valid = valid;
@@ -40,7 +40,7 @@ module _ (shelf : Contents) (is_shelf : IsShelf shelf) (start : NodeRef) (below 
     states = λ label. leads.states label ∙ same label;
   }
 
-  leads_within : (k : ℕ) (r : NodeRef) → rank_of r ≤ k → IsValid shelf r → Reaches shelf start r → Leads shelf start r below fixed
+  leads_within : (k : ℕ) (r : NodeRef) → rank_of r ≤ k → IsValid shelf r → Reaches shelf.nodes start r → Leads shelf start r below fixed
   leads_within zero r within valid reached = elim (cases_of shelf r is_shelf valid) [
     | is_leaf top others asks ↦ arrived r valid reached (λ l m agree. unasked shelf r below l m is_shelf valid (asks below) agree)
     | splits track top split asks_to asks_of ↦ absurd (let falls = split.low_falls in omega arith)
@@ -65,12 +65,12 @@ module _ (shelf : Contents) (is_shelf : IsShelf shelf) (start : NodeRef) (below 
 same_answer : (a b : ℕ) → Some a ≡ Some b → a ≡ b
 same_answer a b e = cc
 
-new-reached : (call : Call) (shelf : Contents) (answers : Answers) (made r : NodeRef) → IsShelf shelf → Stands shelf answers call.whole made → IsNew call shelf answers r → Reaches shelf made r
+new-reached : (call : Call) (shelf : Contents) (answers : Answers) (made r : NodeRef) → IsShelf shelf → Stands shelf answers call.whole made → IsNew call shelf answers r → Reaches shelf.nodes made r
 new-reached call shelf answers made r is_shelf stands is_new =
     let below = is_new.part.below in
     let fixed = is_new.part.fixed in
     let leads = leads_within shelf is_shelf made below fixed (rank_of made) made (omega arith) stands.valid itself in
-    subst (Reaches shelf made)
+    subst (Reaches shelf.nodes made)
     (same_reference shelf leads.to r is_shelf leads.valid is_new.stands.valid
     (λ label. leads.states label
     ∙ same_answer (state_of shelf made (with_below below fixed label)) (state_of shelf r label)

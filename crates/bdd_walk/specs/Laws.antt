@@ -7,7 +7,7 @@ use Rattle.bdd_nodes.specs.declared.node_ref.NodeRef.{NodeRef}
 use Rattle.bdd_nodes.specs.Nodes.{Label}
 use Rattle.bdd_nodes.specs.Shelf.{Contents, state_of}
 use Rattle.bdd_nodes.specs.Changes.{Keeps, is_valid}
-use Rattle.bdd_nodes.proofs.CallerLemmas.{is_valid-true, is_valid-IsValid}
+use Rattle.bdd_nodes.proofs.SplitLemmas.{is_valid-true, is_valid-IsValid}
 use Rattle.bdd_walk.specs.Asked.{leaves_of}
 use Rattle.bdd_walk.specs.Stands.{Asking, AsksSame}
 use Rattle.bdd_walk.specs.Waits.{Respects}

@@ -38,4 +38,4 @@ AddsParts old new whole = (r : NodeRef) → IsValid new r → IsValid old r ⊎ 
 
 -- every node that is new stands under the one that was made
 unfoldable pub AddsUnder : Contents → Contents → NodeRef → Type 0
-AddsUnder old new made = (r : NodeRef) → IsValid new r → IsValid old r ⊎ Reaches new made r
+AddsUnder old new made = (r : NodeRef) → IsValid new r → IsValid old r ⊎ Reaches new.nodes made r

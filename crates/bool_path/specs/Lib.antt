@@ -1,4 +1,5 @@
 pub mod Counting
 pub mod Judging
 pub mod Meaning
+pub mod Reader
 pub mod Reading

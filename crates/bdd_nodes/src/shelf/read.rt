@@ -4,17 +4,17 @@ ghost use Rattle.std.specs.Prelude.{◌≡◌, ◌<◌, ◌^◌, ℕ, IfSome, If
 ghost use Rattle.bdd_nodes.specs.Nodes.{state_named, node_of, rank, AreCanonical, IsNamedIn};
 ghost use Rattle.bdd_nodes.specs.Shelf.{Contents, IsShelf, IsLeaf, IsValid, Splits, state_of, top_of, low_of, high_of, label_of, count_of, limit_of};
 
-use plain_data::Items;
-
 use crate::node::Node;
 use crate::node_ref::{Named, NodeRef};
 use crate::shelf::Shelf;
+use plain_data::Items;
 
 /// Which tracks are set: their numbers.
 pub type Label = Items<u32>;
 
 impl Shelf {
     /// The leaf of a state: it gives that state for every label, in every shelf.
+    #[inline]
     pub fn leaf(state: u32) -> NodeRef
         requires { state < 2 ^ 31 }
         ensures { IsLeaf result state }
@@ -23,6 +23,7 @@ impl Shelf {
     }
 
     /// How many inner nodes there are.
+    #[inline]
     pub fn count(&self) -> u32
         ensures value { result ≡ count_of self.now }
         ensures shelf { IsShelf self.now }
@@ -31,6 +32,7 @@ impl Shelf {
     }
 
     /// How many inner nodes there may be.
+    #[inline]
     pub fn limit(&self) -> u32
         ensures value { result ≡ limit_of self.now }
         ensures shelf { IsShelf self.now }
@@ -48,6 +50,7 @@ impl Shelf {
     }
 
     /// The track that the reference asks first; `None` exactly for a leaf. Takes no memory.
+    #[inline]
     pub fn top(&self, n: NodeRef) -> Option<u32>
         requires { IsValid self.now n }
         ensures value { result ≡ top_of self.now n }
@@ -61,6 +64,7 @@ impl Shelf {
     }
 
     /// What the reference is where the track that it asks first is unset; a leaf itself. Takes no memory.
+    #[inline]
     pub fn low(&self, n: NodeRef) -> NodeRef
         requires { IsValid self.now n }
         ensures value { result ≡ low_of self.now n }
@@ -75,6 +79,7 @@ impl Shelf {
     }
 
     /// What the reference is where the track that it asks first is set; a leaf itself. Takes no memory.
+    #[inline]
     pub fn high(&self, n: NodeRef) -> NodeRef
         requires { IsValid self.now n }
         ensures value { result ≡ high_of self.now n }

@@ -5,11 +5,10 @@ ghost use Rattle.bdd_nodes.specs.Roots.{number_of};
 ghost use Rattle.bdd_nodes.specs.Shelf.{IsShelf, IsValid, roots_of, root_of};
 ghost use Rattle.bdd_nodes.specs.Changes.{AddsTable, DropsTable};
 
-use std::alloc::AllocError;
-
 use crate::node_ref::NodeRef;
 use crate::roots::{RefList, TableId};
 use crate::shelf::Shelf;
+use std::alloc::AllocError;
 
 impl Shelf {
     /// A root of a registered table as it stands now; `None` exactly for an unknown table or index. Takes no memory.
@@ -20,7 +19,8 @@ impl Shelf {
         self.roots.root(id, index)
     }
 
-    /// Registers the roots under the number of the tables that were added before.
+    /// Registers the roots under the number of the tables that were added before. `AllocError` for want of memory, and
+    /// also where no number is left.
     pub fn add_table(&mut self, roots: RefList) -> Result<TableId, AllocError>
         requires { All (IsValid self.old) roots }
         ensures ok { IfOk result (λ id. AddsTable self.old self.new (number_of id) roots) }

@@ -1,5 +1,5 @@
-use Rattle.std.proofs.Common.{◌≤◌, ◌<◌, ◌-◌, ℕ, length}
-use Rattle.bdd_nodes.specs.Roots.{number_at, number_of}
+use Rattle.std.proofs.Common.{◌-◌}
+use Rattle.bdd_nodes.specs.Roots.{number_of}
 use Rattle.bdd_nodes.proofs.roots.place_of.Given as goal
 use Rattle.bdd_nodes.proofs.RootsLemmas.{IsBetween}
 

@@ -1,7 +1,7 @@
 use Rattle.std.proofs.Common.{ℕ, List, ◌∙◌, subst}
 use Rattle.bdd_nodes.specs.Nodes.{Function}
 use Rattle.bdd_nodes.specs.Shelf.{state_of}
-use Rattle.bdd_nodes.proofs.CallerLemmas.{is_valid-IsValid}
+use Rattle.bdd_nodes.proofs.SplitLemmas.{is_valid-IsValid}
 use Rattle.bdd_walk.specs.Answers.{Answers}
 use Rattle.bdd_walk.specs.Rules.{renamed_by}
 use Rattle.bdd_walk.specs.Under.{Exceeds, AddsParts}

@@ -1,6 +1,6 @@
 use Rattle.std.proofs.Common.{ℕ, List, refl, ◌∙◌}
 use Rattle.bdd_nodes.specs.Shelf.{state_of}
-use Rattle.bdd_nodes.proofs.CallerLemmas.{is_valid-IsValid, small_state}
+use Rattle.bdd_nodes.proofs.SplitLemmas.{is_valid-IsValid, small_state}
 use Rattle.bdd_walk.specs.Asked.{with_track}
 use Rattle.bdd_walk.specs.Rules.{first_state}
 use Rattle.bdd_walk.proofs.AddsLemmas.{AddsParts-new}

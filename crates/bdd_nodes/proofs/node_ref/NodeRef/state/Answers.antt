@@ -1,4 +1,4 @@
-use Rattle.std.proofs.Common.{sym, ◌∙◌}
+use Rattle.std.proofs.Common.{sym}
 use Rattle.bdd_nodes.proofs.ReadLemmas.{IsLeaf-named}
 use Rattle.bdd_nodes.proofs.node_ref.NodeRef.state.Goals as goal
 

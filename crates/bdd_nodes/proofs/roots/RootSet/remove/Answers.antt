@@ -1,4 +1,4 @@
-use Rattle.std.proofs.Common.{◌≡◌, ◌≢◌, ℕ, ◌<◌, List, length, remove, None, sym, ◌∙◌, ap, subst}
+use Rattle.std.proofs.Common.{◌≡◌, ◌<◌, List, length, remove, sym, ◌∙◌, ap, subst}
 use Rattle.bdd_nodes.specs.declared.roots.RootTable.{RootTable}
 use Rattle.bdd_nodes.specs.Roots.{Registered, number_at, number_of, roots_under}
 use Rattle.bdd_nodes.proofs.RootsLemmas.{roots_under-remove_same, roots_under-remove_other}

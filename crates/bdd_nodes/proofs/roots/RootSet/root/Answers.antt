@@ -1,4 +1,4 @@
-use Rattle.std.proofs.Common.{◌≡◌, ◌≢◌, ℕ, ◌<◌, List, length, Option, Some, None, sym, ◌∙◌, ap, subst}
+use Rattle.std.proofs.Common.{◌≡◌, ◌<◌, List, length, Option, Some, sym, ◌∙◌, ap, subst}
 use Rattle.std.specs.Prelude.{slice_get, option_and_then}
 use Rattle.std.proofs.lemmas.List.{get_or_read}
 use Rattle.bdd_nodes.specs.declared.roots.RootTable.{RootTable}
@@ -15,8 +15,8 @@ returns c =
     let within : place < length tables = subst (λ (ts : List RootTable). place < length ts) c.deref.ensures.value c.in_ok-place.ensures.within in
     let read : c.index.result.now ≡ table_at tables place = get_or_read tables _ _ within c.index.ensures _ in
     let under : roots_under c.args.self.now.tables (number_of c.args.id) ≡ Some (table_at tables place).roots =
-      ap (λ (r : Registered). roots_under r.tables (number_of c.args.id)) (sym c.self.view_is)
-      ∙ ap (roots_under tables) (sym found) ∙ roots_under-at tables place c.self.invariant.rise within in
+    ap (λ (r : Registered). roots_under r.tables (number_of c.args.id)) (sym c.self.view_is)
+    ∙ ap (roots_under tables) (sym found) ∙ roots_under-at tables place c.self.invariant.rise within in
     let look : c.copied.result ≡ slice_get c.index.result.now.roots c.args.index = c.copied.ensures ∙ c.get.ensures.value in
     look ∙ ap (λ (t : RootTable). slice_get t.roots c.args.index) read
     ∙ sym (ap (λ (o : Option (List NodeRef)). option_and_then (λ roots. slice_get roots c.args.index) o) under)

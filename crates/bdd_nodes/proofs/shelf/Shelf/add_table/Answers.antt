@@ -1,9 +1,8 @@
 use Rattle.std.proofs.Common.{◌≡◌, ℕ, ◌+◌, List, [], ◌∷◌, ◌++◌, sym, ◌∙◌, ap, subst}
-use Rattle.std.specs.Prelude.{All}
 use Rattle.bdd_nodes.specs.declared.node.Node.{Node}
 use Rattle.bdd_nodes.specs.declared.roots.RootTable.{RootTable}
 use Rattle.bdd_nodes.specs.Roots.{Registered, number_of, AreNumbered}
-use Rattle.bdd_nodes.specs.Shelf.{Contents, IsShelf, IsValid, root_of}
+use Rattle.bdd_nodes.specs.Shelf.{Contents, IsShelf}
 use Rattle.bdd_nodes.specs.Changes.{AddsTable}
 use Rattle.bdd_nodes.proofs.TablesLemmas.{with_table, IsShelf-with_table, AddsTable-with_table}
 use Rattle.bdd_nodes.proofs.shelf.Shelf.add_table.Goals as goal
@@ -34,12 +33,12 @@ shelf c = subst IsShelf (sym (view-is c)) (IsShelf-with_table c.args.self.now (i
 
 pub invariant_of-self-2 : goal.invariant_of-self-2
 invariant_of-self-2 c = record {
-    shelf = shelf c;
-    indexed = c.self.invariant.indexed;
-    chain_len = c.self.invariant.chain_len;
-    buckets_len = c.self.invariant.buckets_len;
-    room = c.self.invariant.room;
-  }
+  shelf = shelf c;
+  indexed = c.self.invariant.indexed;
+  chain_len = c.self.invariant.chain_len;
+  buckets_len = c.self.invariant.buckets_len;
+  room = c.self.invariant.room;
+}
 
 pub returns-clause-shelf : goal.returns-clause-shelf
 returns-clause-shelf c = shelf c
@@ -47,4 +46,4 @@ returns-clause-shelf c = shelf c
 pub returns-clause-ok : goal.returns-clause-ok
 returns-clause-ok c =
     subst (λ (s : Contents). AddsTable c.args.self.now s (number_of c.in_ok-id.id) c.args.roots) (sym (view-is c))
-      (AddsTable-with_table c.args.self.now (is_shelf c) (table c) (number c) c.requires)
+    (AddsTable-with_table c.args.self.now (is_shelf c) (table c) (number c) c.requires)

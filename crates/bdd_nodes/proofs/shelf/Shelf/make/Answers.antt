@@ -1,25 +1,23 @@
-use Rattle.std.proofs.Common.{◌≡◌, ◌≢◌, ◌↔◌, ℕ, suc, ◌+◌, ◌<◌, ◌≤◌, List, length, get_or, set, if◌then◌else◌, sym, ◌∙◌, ap, subst, refl, Bool, true, false, vec_len, arith, rules}
+use Rattle.std.proofs.Common.{◌≡◌, ◌≢◌, ℕ, ◌+◌, ◌<◌, List, length, if◌then◌else◌, sym, ◌∙◌, ap, subst, refl, Bool, true, false, vec_len, arith, rules}
 use Rattle.std.proofs.lemmas.List.{length-set}
 use Rattle.bdd_nodes.specs.declared.node.Node.{Node}
 use Rattle.bdd_nodes.specs.declared.node_ref.Named.TheVariants.{Inner}
 use Rattle.bdd_nodes.specs.Roots.{Registered}
 use Rattle.bdd_nodes.specs.Nodes.{Label, node_at, node_of}
 use Rattle.bdd_nodes.specs.Hash.{bucket_of}
-use Rattle.bdd_nodes.specs.Index.{IsIndexed}
-use Rattle.bdd_nodes.specs.Shelf.{Contents, IsShelf, IsSideFor, IsFullFor, Has, choice_of, state_of, count_of, limit_of, IsValid}
+use Rattle.bdd_nodes.specs.Shelf.{Contents, IsShelf, Has, choice_of, state_of, count_of, limit_of}
 use Rattle.bdd_nodes.specs.Changes.{Keeps, AddsOnly, is_valid}
-use Rattle.bdd_nodes.specs.Stored.{IsStored}
-use Rattle.bdd_nodes.proofs.GrowLemmas.{grown, length-grown, node_at-grown, node_at-last}
+use Rattle.bdd_nodes.proofs.GrowLemmas.{grown}
 use Rattle.bdd_nodes.proofs.IndexLemmas.{IsIndexed-grown}
 use Rattle.bdd_nodes.proofs.MakeLemmas.{count-valid, AddsOnly-valid, valid-place, states-place, Has-place, Has-absent, with_node, IsShelf-with_node, Keeps-with_node, states-made, AddsOnly-made, count-made}
 use Rattle.bdd_nodes.proofs.shelf.Shelf.make.Goals as goal
 use Rattle.bdd_nodes.proofs.shelf.Shelf.make.Goals.{After-inner, After-inner-2}
 
-pub returns-then-eq-clause-only : goal.returns-then-eq-clause-only
-returns-then-eq-clause-only c = AddsOnly-valid _ _
+pub returns-then-is_same-clause-only : goal.returns-then-is_same-clause-only
+returns-then-is_same-clause-only c = AddsOnly-valid _ _
 
-pub returns-then-eq-clause-count : goal.returns-then-eq-clause-count
-returns-then-eq-clause-count c = count-valid _ _ c.requires.low.valid
+pub returns-then-is_same-clause-count : goal.returns-then-is_same-clause-count
+returns-then-is_same-clause-count c = count-valid _ _ c.requires.low.valid
 
 -- what was opened is the shelf
 is_shelf : (c : After-inner) → IsShelf c.args.self.now
@@ -51,23 +49,25 @@ returns-in-Some-clause-count c =
 pub returns-in-Some-clause-full : goal.returns-in-Some-clause-full
 returns-in-Some-clause-full c =
     let has : Has c.args.self.now (choice_of c.args.self.now c.args.track c.args.low c.args.high) =
-      Has-place c.args.self.now (is_shelf c) c.inner.result c.in-Some.place c.inner.ensures (within c) (wanted c) (found c) in
+    Has-place c.args.self.now (is_shelf c) c.inner.result c.in-Some.place c.inner.ensures (within c) (wanted c) (found c) in
     (λ e. absurd (let no : ◌≡◌ {A = Bool} false true → ⊥ = λ f. cc in no e), λ full. absurd (full.absent has))
 
-pub returns-then-place-limit-clause-full : goal.returns-then-place-limit-clause-full
-returns-then-place-limit-clause-full c =
+pub returns-then-is_full-clause-full : goal.returns-then-is_full-clause-full
+returns-then-is_full-clause-full c =
     let opened : c.deref.result.now ≡ c.args.self.now.nodes = c.deref.ensures.value ∙ ap (λ (s : Contents). s.nodes) c.self.view_is in
     let limit : c.self.inside.limit ≡ c.args.self.now.limit = ap (λ (s : Contents). s.limit) c.self.view_is in
     let count : length c.self.inside.nodes.items ≡ length c.args.self.now.nodes = ap (λ (s : Contents). length s.nodes) c.self.view_is in
     let vec : vec_len c.self.inside.nodes ≡ length c.self.inside.nodes.items = c.self.inside.nodes.ok.0 in
-    let differ : c.args.low ≢ c.args.high = search rules in
-    (λ e. record {
-      differ = differ;
-      full = omega arith;
-      absent = Has-absent c.args.self.now (subst IsShelf c.self.view_is c.self.invariant.shelf)
-        (record { track = c.args.track; low = c.args.low; high = c.args.high }) c.requires.low c.requires.high differ
-        (subst (λ (ns : List Node). (i : ℕ) → i < length ns → node_at ns i ≢ record { track = c.args.track; low = c.args.low; high = c.args.high }) opened c.in_default.ensures.absent);
-    }, λ full. refl)
+    let differ : c.args.low ≢ c.args.high = search rules in (
+      λ e. record {
+        differ = differ;
+        full = omega arith;
+        absent = Has-absent c.args.self.now (subst IsShelf c.self.view_is c.self.invariant.shelf)
+            (record { track = c.args.track; low = c.args.low; high = c.args.high }) c.requires.low c.requires.high differ
+            (subst (λ (ns : List Node). (i : ℕ) → i < length ns → node_at ns i ≢ record { track = c.args.track; low = c.args.low; high = c.args.high }) opened c.in_default.ensures.absent);
+      },
+      λ full. refl,
+    )
 
 -- the new node's shelf
 abbrev node : (c : After-inner-2) → Node
@@ -115,7 +115,7 @@ invariant_of-self c =
     record {
       shelf = subst IsShelf (sym (grown-view c)) (IsShelf-with_node c.args.self.now (shelf-opened c) (node c) c.requires.low c.requires.high (differ c) (absent c) space);
       indexed = rw (items, c.put.ensures.bucket, c.put.ensures.before)
-        (IsIndexed-grown c.self.inside.nodes.items (node c) c.self.inside.index.buckets.items c.self.inside.index.chain.items c.bucket-bucket.result c.len-place.result place stored.indexed
+          (IsIndexed-grown c.self.inside.nodes.items (node c) c.self.inside.index.buckets.items c.self.inside.index.chain.items c.bucket-bucket.result c.len-place.result place stored.indexed
           (c.bucket-bucket.ensures.value ∙ ap (bucket_of (node c)) (sym stored.buckets_len))
           (let b = c.bucket-bucket.ensures.within in let l = stored.buckets_len in omega arith)
           (let l = stored.chain_len in omega arith));
@@ -127,24 +127,24 @@ invariant_of-self c =
 pub returns-clause-value : goal.returns-clause-value
 returns-clause-value c =
     subst (λ (s : Contents). (label : Label) → state_of s c.inner-2.result label ≡ choice_of c.args.self.now c.args.track c.args.low c.args.high label) (sym (grown-view c))
-      (states-made c.args.self.now (shelf-opened c) (node c) c.requires.low c.requires.high (differ c) (absent c) c.inner-2.result (named c))
+    (states-made c.args.self.now (shelf-opened c) (node c) c.requires.low c.requires.high (differ c) (absent c) c.inner-2.result (named c))
 
 pub returns-clause-kept : goal.returns-clause-kept
 returns-clause-kept c =
     subst (Keeps c.args.self.now) (sym (grown-view c))
-      (Keeps-with_node c.args.self.now (shelf-opened c) (node c) c.requires.low c.requires.high (differ c) (absent c))
+    (Keeps-with_node c.args.self.now (shelf-opened c) (node c) c.requires.low c.requires.high (differ c) (absent c))
 
 pub returns-clause-only : goal.returns-clause-only
 returns-clause-only c =
     subst (λ (s : Contents). AddsOnly c.args.self.now s c.inner-2.result) (sym (grown-view c))
-      (AddsOnly-made c.args.self.now (shelf-opened c) (node c) c.requires.low c.requires.high (differ c) (absent c) c.inner-2.result (named c))
+    (AddsOnly-made c.args.self.now (shelf-opened c) (node c) c.requires.low c.requires.high (differ c) (absent c) c.inner-2.result (named c))
 
 pub returns-clause-count : goal.returns-clause-count
 returns-clause-count c =
     subst (λ (s : Contents). count_of s ≡ (if is_valid c.args.self.now c.inner-2.result then count_of c.args.self.now else count_of c.args.self.now + 1)) (sym (grown-view c))
-      (count-made c.args.self.now (shelf-opened c) (node c) c.requires.low c.requires.high (differ c) (absent c) c.inner-2.result (named c))
+    (count-made c.args.self.now (shelf-opened c) (node c) c.requires.low c.requires.high (differ c) (absent c) c.inner-2.result (named c))
 
 pub returns-clause-shelf : goal.returns-clause-shelf
 returns-clause-shelf c =
     subst IsShelf (sym (grown-view c))
-      (IsShelf-with_node c.args.self.now (shelf-opened c) (node c) c.requires.low c.requires.high (differ c) (absent c) (room c))
+    (IsShelf-with_node c.args.self.now (shelf-opened c) (node c) c.requires.low c.requires.high (differ c) (absent c) (room c))

@@ -7,4 +7,4 @@ use Rattle.bdd_nodes.proofs.shelf.Shelf.root.Goals as goal
 pub returns-clause-valid : goal.returns-clause-valid
 returns-clause-valid c = IfSome-each c.root.result (IsValid c.args.self.now) (λ r there.
     (subst IsShelf c.self.view_is c.self.invariant.shelf).roots (number_of c.args.id) c.args.index r
-      (sym (ap (λ (s : Contents). root_of s (number_of c.args.id) c.args.index) c.self.view_is) ∙ sym c.root.ensures ∙ there))
+    (sym (ap (λ (s : Contents). root_of s (number_of c.args.id) c.args.index) c.self.view_is) ∙ sym c.root.ensures ∙ there))

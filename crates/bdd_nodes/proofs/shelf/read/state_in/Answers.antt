@@ -1,4 +1,4 @@
-use Rattle.std.proofs.Common.{◌≡◌, ℕ, ◌<◌, length, sym, ◌∙◌, ap, refl, subst}
+use Rattle.std.proofs.Common.{sym, ◌∙◌, ap, refl, subst}
 use Rattle.bdd_nodes.specs.declared.node_ref.Named.{Named}
 use Rattle.bdd_nodes.specs.Nodes.{state_named, node_at, IsNamedIn}
 use Rattle.bdd_nodes.specs.Shelf.{label_of}
@@ -19,12 +19,12 @@ pub loop-state-preserved-then-contains : goal.loop-state-preserved-then-contains
 loop-state-preserved-then-contains c =
     let named = sym c.in-Inner.ensures in
     let step = step-high c.args.nodes.now c.requires.canonical c.loop-state.at c.in-Inner.place named (subst (IsNamedIn c.args.nodes.now) named c.loop-state.invariant.0)
-      (label_of c.args.label.now) (node_at c.args.nodes.now c.in-Inner.place) refl (sym c.contains.ensures.value ∙ c.if-contains.true) in
+    (label_of c.args.label.now) (node_at c.args.nodes.now c.in-Inner.place) refl (sym c.contains.ensures.value ∙ c.if-contains.true) in
     (step.0, step.1 ∙ c.loop-state.invariant.1)
 
 pub loop-state-preserved : goal.loop-state-preserved
 loop-state-preserved c =
     let named = sym c.in-Inner.ensures in
     let step = step-low c.args.nodes.now c.requires.canonical c.loop-state.at c.in-Inner.place named (subst (IsNamedIn c.args.nodes.now) named c.loop-state.invariant.0)
-      (label_of c.args.label.now) (node_at c.args.nodes.now c.in-Inner.place) refl (sym c.contains.ensures.value ∙ c.if-contains.false) in
+    (label_of c.args.label.now) (node_at c.args.nodes.now c.in-Inner.place) refl (sym c.contains.ensures.value ∙ c.if-contains.false) in
     (step.0, step.1 ∙ c.loop-state.invariant.1)

@@ -1,5 +1,5 @@
 use Rattle.std.proofs.Common.{true, false, Some, sym, ◌∙◌, ap, subst}
-use Rattle.bdd_nodes.proofs.CallerLemmas.{is_valid-true}
+use Rattle.bdd_nodes.proofs.SplitLemmas.{is_valid-true}
 use Rattle.bdd_walk.proofs.OneRootLemmas.{StepsOne, StepsOne-skip, StepsOne-split}
 use Rattle.bdd_walk.proofs.one_root.OneRootWalk.step.Goals as goal
 use Rattle.bdd_walk.proofs.one_root.OneRootWalk.step.Goals.{in-Some-true, in-Some-false, in-None}

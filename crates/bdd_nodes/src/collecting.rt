@@ -1,0 +1,121 @@
+//! The steps of a collection: marking what is kept, and moving it to the front.
+
+ghost use Rattle.std.specs.Prelude.{◌≡◌, ◌+◌, ◌<◌, ◌≤◌, ◌^◌, ℕ, All, length, map, vec_len, slice_index};
+ghost use Rattle.bdd_nodes.specs.Nodes.{node_of, rank, AreCanonical};
+ghost use Rattle.bdd_nodes.specs.Collecting.{with_mark, marked_below, linked, linked_table, all_roots, IsLinked, AreClosed, MarksList, MarksSides, MovesBelow};
+
+use crate::node::Node;
+use crate::node_ref::{Named, NodeRef};
+use crate::roots::{RefList, RootTable};
+
+/// Sets every number to 0.
+pub(crate) fn clear(numbers: &mut Vec<u32>)
+    ensures zero { (i : ℕ) → slice_index numbers.new.items i ≡ 0 }
+    ensures len { vec_len numbers.new ≡ vec_len numbers.old }
+{
+    for number in numbers.iter_mut() {
+        *number = 0;
+    }
+}
+
+#[inline(always)]
+fn mark(marks: &mut Vec<u32>, r: NodeRef)
+    requires { rank (node_of r) ≤ vec_len marks.old }
+    ensures { marks.new.items ≡ with_mark marks.old.items (node_of r) }
+{
+    if let Named::Inner(place) = r.named() {
+        marks[place as usize] = 1;
+    }
+}
+
+fn mark_list(roots: &[NodeRef], marks: &mut Vec<u32>)
+    requires { All (λ r. rank (node_of r) ≤ vec_len marks.old) roots.now }
+    ensures { MarksList roots.now marks.old.items marks.new.items }
+{
+    for root in roots {
+        mark(marks, *root);
+    }
+}
+
+/// Marks the roots of the tables.
+pub(crate) fn mark_tables(tables: &[RootTable], marks: &mut Vec<u32>)
+    requires { All (λ r. rank (node_of r) ≤ vec_len marks.old) (all_roots tables.now) }
+    ensures { MarksList (all_roots tables.now) marks.old.items marks.new.items }
+{
+    for table in tables {
+        mark_list(table.roots.as_slice(), marks);
+    }
+}
+
+/// Marks what is reached from marked nodes: from the last node on, since sides stand before.
+pub(crate) fn mark_sides(nodes: &[Node], marks: &mut Vec<u32>)
+    requires canonical { AreCanonical nodes.now }
+    requires fits { length nodes.now ≤ vec_len marks.old }
+    ensures { MarksSides nodes.now marks.old.items marks.new.items 0 }
+{
+    for place in (0..nodes.len()).rev() {
+        if marks[place] == 1 {
+            let node = nodes[place];
+            mark(marks, node.low);
+            mark(marks, node.high);
+        }
+    }
+}
+
+/// The reference by the links of the nodes that moved.
+#[inline(always)]
+fn linked(links: &[u32], r: NodeRef) -> NodeRef
+    requires { IsLinked links.now (node_of r) }
+    ensures { result ≡ linked links.now r }
+{
+    match r.named() {
+        Named::Leaf(_) => r,
+        Named::Inner(place) => NodeRef::inner(links[place as usize] - 1),
+    }
+}
+
+/// Moves the marked nodes to the front, puts links in place of their marks, and counts them.
+pub(crate) fn move_nodes(nodes: &mut [Node], marks: &mut Vec<u32>) -> usize
+    requires canonical { AreCanonical nodes.old }
+    requires closed { AreClosed nodes.old marks.old.items }
+    requires fits { length nodes.old ≤ vec_len marks.old }
+    requires small { length nodes.old < 2 ^ 31 }
+    ensures count { result ≡ marked_below marks.old.items (length nodes.old) }
+    ensures moved { MovesBelow nodes.old marks.old.items nodes.new marks.new.items (length nodes.old) }
+{
+    let mut kept = 0;
+    for place in 0..nodes.len() {
+        if marks[place] == 1 {
+            let node = nodes[place];
+            nodes[kept] = Node {
+                track: node.track,
+                low: linked(marks, node.low),
+                high: linked(marks, node.high),
+            };
+            kept += 1;
+            marks[place] = kept as u32;
+        }
+    }
+    kept
+}
+
+fn move_list(roots: &mut RefList, links: &[u32])
+    requires { All (λ r. IsLinked links.now (node_of r)) roots.old }
+    ensures { roots.new ≡ map (linked links.now) roots.old }
+{
+    for index in 0..roots.len() {
+        let root = roots.as_slice()[index];
+        roots.set(index, linked(links, root));
+    }
+}
+
+/// Replaces the roots of the tables by the links.
+pub(crate) fn move_tables(tables: &mut [RootTable], links: &[u32])
+    requires { All (λ r. IsLinked links.now (node_of r)) (all_roots tables.old) }
+    ensures { tables.new ≡ map (linked_table links.now) tables.old }
+{
+    for at in 0..tables.len() {
+        let table = &mut tables[at];
+        move_list(&mut table.roots, links);
+    }
+}

@@ -1,0 +1,32 @@
+//! Makes random nodes level by level, makes the same ones again in rounds, and collects them; prints counts alone.
+//! Its words: the shelf's limit, how many nodes a level, how many levels, how many rounds, and how many
+//! collections.
+#![tactic(auto)]
+
+mod levels;
+
+use anyhow::{Context, Result, ensure};
+use std::env;
+
+fn number(words: &mut env::Args, name: &str) -> Result<u32> {
+    let word = words.next().context(format_args!("no {name}"))?;
+    word.as_str().parse::<u32>().context(format_args!("{name}"))
+}
+
+fn main(rt: HostRuntime) -> Result<()> {
+    let mut words = env::args(&rt)?;
+    let _program = words.next();
+    let limit = number(&mut words, "limit")?;
+    let width = number(&mut words, "width")?;
+    let levels = number(&mut words, "levels")?;
+    let rounds = number(&mut words, "rounds")?;
+    let collections = number(&mut words, "collections")?;
+    ensure!(0 < limit && limit <= 16_000_000, "{limit} nodes");
+    ensure!(0 < width && width < 1_000_000, "{width} nodes a level");
+    let report = levels::run(rt.alloc(), limit, width, levels, rounds, collections)?;
+    let made = report.made;
+    let again = report.again;
+    let left = report.left;
+    println!(rt; "{made} nodes, {again} after the rounds, {left} in the end")?;
+    Ok(())
+}

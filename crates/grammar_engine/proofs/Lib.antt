@@ -1,0 +1,14 @@
+pub mod AdvanceLemmas
+pub mod ChoiceLemmas
+pub mod CompleteLemmas
+pub mod Ends
+pub mod Firsts
+pub mod FrameLemmas
+pub mod Inversions
+pub mod KindLists
+pub mod LawLemmas
+pub mod MoveLemmas
+pub mod SafeStacks
+pub mod SameRows
+pub mod SentenceLemmas
+pub mod StandsLemmas

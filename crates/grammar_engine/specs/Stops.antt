@@ -1,0 +1,11 @@
+-- What each reason for not reading says of the tokens.
+use Rattle.std.specs.Prelude.{ℕ, List}
+use Rattle.grammar_engine.specs.declared.stop.ReadStop.{ReadStop}
+use Rattle.grammar_engine.specs.declared.stop.ReadStop.TheVariants as stop
+use Rattle.grammar_engine.specs.Grammars.{Rules}
+use Rattle.grammar_engine.specs.Answers.{IsWrongAt, IsDeepAt}
+
+abbrev pub IsStop : {N P A K : Type 0} → Rules N P A K → ℕ → List K → ReadStop → Type 0
+IsStop rules limit tokens (stop.Wrong place) = IsWrongAt rules limit tokens place
+IsStop rules limit tokens (stop.Deep place) = IsDeepAt rules limit tokens place
+IsStop rules limit tokens stop.NoMemory = Unit {0}

@@ -1,0 +1,33 @@
+//! The program: the words of the process, standard input and standard output.
+//!
+//! All that is proved of it stands in `pale_top`, over a source and a sink of bytes. Nobody may look at standard
+//! error: nothing is written there.
+#![tactic(auto)]
+
+use pale_io::{StdSink, StdSource};
+use pale_top::{Status, pale_main};
+use std::alloc::AllocError;
+use std::process::ExitCode;
+use std::{env, io};
+
+/// The words of the process. Where they can't be had as text, there are none.
+fn words_of(rt: &HostRuntime) -> Result<Vec<String>, AllocError> {
+    match env::args(rt) {
+        Ok(words) => words.collect(rt.alloc()),
+        Err(error) if error.kind() == io::ErrorKind::OutOfMemory => Err(AllocError),
+        Err(_) => Ok(Vec::new(rt.alloc())),
+    }
+}
+
+fn run(rt: &HostRuntime) -> Status {
+    let Ok(words) = words_of(rt) else {
+        return Status::Memory;
+    };
+    let mut source = StdSource::new(rt.stdin());
+    let mut sink = StdSink::new(rt.stdout());
+    pale_main(rt.alloc(), &words, &mut source, &mut sink)
+}
+
+fn main(rt: HostRuntime) -> ExitCode {
+    ExitCode::from(run(&rt).number())
+}

@@ -1,0 +1,7 @@
+//! Tests of the whole program over sources and sinks in memory. The crate has nothing else.
+#![tactic(auto)]
+
+#[cfg(test)]
+mod checks;
+#[cfg(test)]
+mod made;

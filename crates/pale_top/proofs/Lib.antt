@@ -1,0 +1,10 @@
+mod ArgsLemmas
+mod CallLemmas
+mod CommandLemmas
+mod ReadLemmas
+mod ReportLemmas
+mod SameRulesLemmas
+mod SettingsLemmas
+mod TripleLemmas
+mod ValueLemmas
+mod WrittenLemmas

@@ -1,0 +1,76 @@
+-- What two writes leave, one after the other.
+use Rattle.std.proofs.Common.{◌≡◌, ◌∙◌, ◌+◌, ◌<◌, ◌≤◌, ℕ, List, ◌++◌, length, take, refl, ap, sym, arith, Option, Some, None, append_assoc, length-append, Result, Ok, Err, inl, inr}
+use Rattle.std.specs.Prelude.{OnErr}
+use Rattle.std.proofs.lemmas.List.{take-append-le}
+use Rattle.std.proofs.Math.Seq.{take-append_seam, take-append-add}
+use Rattle.pale_io.specs.Told.{appended}
+use Rattle.pale_io.specs.Whole.{WritesAll, WritesFront}
+use Rattle.pale_top.specs.declared.status.Status.{Status}
+use Rattle.pale_top.specs.Output.{Wrote, WroteAtMost}
+
+pub on_err : {T E P : Type 0} (r : Result T E) → P → OnErr r P
+on_err (Ok x) p = tt
+on_err (Err e) p = p
+
+appended-append : (told : Option (List ℕ)) (xs ys : List ℕ) → appended (appended told xs) ys ≡ appended told (xs ++ ys)
+appended-append None xs ys = refl
+appended-append (Some bytes) xs ys = ap (λ (all : List ℕ). Some all) (append_assoc bytes xs ys)
+
+-- all of one piece, and then all of another
+pub both_written : (a b c : Option (List ℕ)) (xs ys : List ℕ) → WritesAll a b xs → WritesAll b c ys → WritesAll a c (xs ++ ys)
+both_written a b c xs ys first second = record {
+  added = second.added ∙ (ap (λ told. appended told ys) first.added ∙ appended-append a xs ys);
+}
+
+-- a front of a piece is a front of what begins with it
+pub front_of_first : (a b : Option (List ℕ)) (xs ys : List ℕ) → WritesFront a b xs → WritesFront a b (xs ++ ys)
+front_of_first a b xs ys front =
+    let below : front.count < length xs = front.within in
+    let short : front.count ≤ length xs = omega arith in
+    record {
+      count = front.count;
+      within = omega (arith, length-append xs ys);
+      added = front.added ∙ ap (appended a) (sym (take-append-le front.count xs ys short));
+    }
+
+-- the whole first piece is a front of both, where there is more
+pub first_written : (a b : Option (List ℕ)) (xs ys : List ℕ) → WritesAll a b xs → 0 < length ys → WritesFront a b (xs ++ ys)
+first_written a b xs ys first more = record {
+  count = length xs;
+  within = omega (arith, length-append xs ys);
+  added = first.added ∙ ap (appended a) (sym (take-append_seam xs ys));
+}
+
+-- the first piece, and then a front of the second
+pub front_of_second : (a b c : Option (List ℕ)) (xs ys : List ℕ) → WritesAll a b xs → WritesFront b c ys → WritesFront a c (xs ++ ys)
+front_of_second a b c xs ys first front =
+    let below : front.count < length ys = front.within in
+    record {
+      count = length xs + front.count;
+      within = omega (arith, length-append xs ys);
+      added = front.added ∙ (ap (λ told. appended told (take front.count ys)) first.added
+          ∙ (appended-append a xs (take front.count ys) ∙ ap (appended a) (sym (take-append-add xs ys front.count))));
+    }
+
+-- ---- outputs that are allowed
+
+pub line_written : (Allowed : List ℕ → Status → Type 0) (before after : Option (List ℕ)) (line : List ℕ) (status : Status)
+    → Allowed line status → WritesAll before after line → Wrote Allowed before after status
+line_written Allowed before after line status allowed written = record { output = line; allowed = allowed; written = written }
+
+pub line_begun : (Allowed : List ℕ → Status → Type 0) (before after : Option (List ℕ)) (line : List ℕ) (status : Status)
+    → Allowed line status → WritesFront before after line → WroteAtMost Allowed before after
+line_begun Allowed before after line status allowed written = inr (record { output = line; status = status; allowed = allowed; written = written })
+
+module _ (A B : List ℕ → Status → Type 0) (follows : (output : List ℕ) (status : Status) → A output status → B output status) (before after : Option (List ℕ)) where
+  pub Wrote-weaker : (status : Status) → Wrote A before after status → Wrote B before after status
+  Wrote-weaker status wrote = record { output = wrote.output; allowed = follows wrote.output status wrote.allowed; written = wrote.written }
+
+  pub WroteAtMost-weaker : WroteAtMost A before after → WroteAtMost B before after
+  WroteAtMost-weaker (inl nothing) = inl nothing
+  WroteAtMost-weaker (inr front) = inr (record {
+    output = front.output;
+    status = front.status;
+    allowed = follows front.output front.status front.allowed;
+    written = front.written;
+  })

@@ -1,0 +1,4 @@
+pub mod Output
+pub mod Report
+pub mod Statuses
+pub mod Words

@@ -1,0 +1,4 @@
+pub mod Walks
+pub mod Destinations
+pub mod WellFormed
+pub mod Laws

@@ -1,0 +1,14 @@
+//! Routes: which cells a route joins, where a pointer field has to point, and when a store is well-formed.
+//!
+//! `specs/Walks.antt` says what a walk is, `specs/Destinations.antt` what a destination is, `specs/WellFormed.antt` when a store
+//! is a backbone, when it is well-formed and which of its faults comes first, and `specs/Laws.antt` what holds of all walks.
+#![tactic(auto)]
+
+mod fault;
+mod laws;
+
+pub use fault::{Place, WfFault};
+pub use laws::{
+    data_walks_stay_in_one_tree, renaming_cells_renames_walks, walks_go_by_cases,
+    walks_join_live_cells, walks_see_cells_alone,
+};

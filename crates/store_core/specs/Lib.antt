@@ -1,0 +1,7 @@
+pub mod Tables
+pub mod TypeBodies
+pub mod VarBodies
+pub mod CellLists
+pub mod Stores
+pub mod StoreCodes
+pub mod StoreBodies

@@ -1,0 +1,6 @@
+pub mod Assignments
+pub mod Automata
+pub mod Constructions
+pub mod Guides
+pub mod Listed
+pub mod Minimal

@@ -1,0 +1,23 @@
+//! The theory of guided tree automata: positions, assignments, guides, automata over any type of states, and the
+//! laws that the automata crates stand on.
+//!
+//! No code runs here. `specs/Assignments.antt` says what a finite set of positions and an assignment are,
+//! `specs/Guides.antt` what a guide is, `specs/Automata.antt` what an automaton is and what it accepts,
+//! `specs/Constructions.antt` what the complement, the product and the subset automaton are, and
+//! `specs/Minimal.antt` what a minimal automaton is. Each function of this crate is a law: its body is empty, and its
+//! clause holds of all guides and automata. States are numbers in a clause; the lemmas of `proofs/`, which are public,
+//! say the same of any type of states.
+#![tactic(auto)]
+
+mod laws;
+mod minimal;
+
+pub use laws::{
+    complement_accepts_the_others, names_keep_acceptance, product_accepts_what_both_accept,
+    product_is_stable, products_are_alike, subset_drops_a_track, subset_is_stable,
+    subsets_are_alike, value_is_free_of_the_depth,
+};
+pub use minimal::{
+    alike_automata_have_as_many_states, complement_stays_minimal, minimal_automata_are_alike,
+    separated_classes_are_minimal, separated_states_are_told_apart,
+};

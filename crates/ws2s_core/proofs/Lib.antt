@@ -1,0 +1,10 @@
+pub mod ExamplesLemmas
+pub mod FormulaLemmas
+pub mod LabelTreesLemmas
+pub mod NodesLemmas
+pub mod PlacingLemmas
+pub mod PostfixLemmas
+pub mod RecognisingLemmas
+pub mod SatisfactionLemmas
+pub mod SizesLemmas
+pub mod TracksLemmas

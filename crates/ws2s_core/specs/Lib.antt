@@ -1,0 +1,9 @@
+pub mod Dropping
+pub mod Examples
+pub mod LabelTrees
+pub mod Nodes
+pub mod Postfix
+pub mod Recognising
+pub mod Satisfaction
+pub mod Sizes
+pub mod Tracks

@@ -1,0 +1,34 @@
+//! Core formulas of WS2S, labelled trees and guides, and what they mean.
+//!
+//! `specs/Satisfaction.antt` says when an assignment satisfies a formula, `specs/Tracks.antt` which tracks are free,
+//! `specs/LabelTrees.antt` which lists of nodes are trees and what they stand for, `specs/Sizes.antt` how many nodes
+//! a formula has, and `specs/Recognising.antt` when an automaton recognises a formula; guides and automata are those
+//! of `tree_theory`. The modules `satisfaction`, `recognising` and `trees` are laws over these definitions, and
+//! `examples` are worked ones: functions with empty bodies, whose clauses hold of all formulas.
+//!
+//! A formula may be as deep as memory allows. It is copied, counted, numbered and dropped by loops; of these a drop
+//! and a count take no memory. Only `Debug` recurses. No crate above looks at how an interner keeps its formulas, nor
+//! at the order in which the parts of a formula get their numbers.
+#![tactic(auto)]
+
+mod copy;
+mod formula;
+mod guide;
+mod interner;
+mod label_tree;
+mod laws;
+mod node;
+mod node_table;
+mod postfix;
+mod size;
+#[cfg(test)]
+mod tests;
+mod track;
+
+pub use formula::Formula;
+pub use guide::{Guide, SpaceList};
+pub use interner::{FormulaId, Interner, intern};
+pub use label_tree::{LabelTree, TreeNode, TreeNodeList};
+pub use laws::{examples, recognising, satisfaction, trees};
+pub use plain_data::Boxed;
+pub use track::{Track, TrackList};
