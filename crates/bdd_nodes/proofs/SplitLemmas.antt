@@ -84,8 +84,8 @@ module _ (shelf : Contents) (is_shelf : IsShelf shelf) (label : Label) where
       let split = Splits-inner shelf is_shelf r place named (subst (IsNamedIn shelf.nodes) named valid) in
       subst (λ (n : ℕ). n < 2 ^ 31) (sym (split.states label))
       (small-if (label track) (state_of shelf (high_of shelf r) label) (state_of shelf (low_of shelf r) label)
-        (small_within k (high_of shelf r) (node_of (high_of shelf r)) refl (let falls = split.high_falls in omega arith) split.high.valid)
-        (small_within k (low_of shelf r) (node_of (low_of shelf r)) refl (let falls = split.low_falls in omega arith) split.low.valid))
+      (small_within k (high_of shelf r) (node_of (high_of shelf r)) refl (let falls = split.high_falls in omega arith) split.high.valid)
+      (small_within k (low_of shelf r) (node_of (low_of shelf r)) refl (let falls = split.low_falls in omega arith) split.low.valid))
 
   pub small_state : (r : NodeRef) → IsValid shelf r → state_of shelf r label < 2 ^ 31
   small_state r valid = small_within (rank_of r) r (node_of r) refl (omega arith) valid

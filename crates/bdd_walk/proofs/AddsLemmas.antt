@@ -1,5 +1,5 @@
 -- The nodes that a walk adds, and what doesn't fit.
-use Rattle.std.proofs.Common.{◌≡◌, ◌≢◌, ℕ, suc, zero, ◌+◌, ◌<◌, ◌≤◌, Bool, true, false, List, [], ◌∷◌, length, map, get_or, Some, if◌then◌else◌, sym, ◌∙◌, ap, refl, subst, inl, inr, arith, ◌⊎◌}
+use Rattle.std.proofs.Common.{◌≡◌, ◌≢◌, ℕ, suc, ◌+◌, Bool, List, [], ◌∷◌, map, get_or, Some, if◌then◌else◌, sym, ◌∙◌, ap, refl, subst, inl, inr, arith, ◌⊎◌}
 use Rattle.std.specs.List.{All, AllPairs, Contains}
 use Rattle.std.proofs.lemmas.Bool.{cases_Bool}
 use Rattle.std.proofs.lemmas.List.{length-map}
@@ -7,11 +7,11 @@ use Rattle.std.proofs.lemmas.List.Elements.{All-cons, All-contains}
 use Rattle.std.proofs.lemmas.List.Kept.{AllPairs-cons}
 use Rattle.bdd_nodes.specs.declared.node_ref.NodeRef.{NodeRef}
 use Rattle.bdd_nodes.specs.Nodes.{Label, Function}
-use Rattle.bdd_nodes.specs.Shelf.{Contents, IsShelf, IsValid, IsSideFor, IsFullFor, Has, count_of, limit_of, state_of, choice_of}
+use Rattle.bdd_nodes.specs.Shelf.{Contents, IsValid, IsSideFor, IsFullFor, Has, count_of, state_of, choice_of}
 use Rattle.bdd_nodes.specs.Changes.{Keeps, AddsOnly, is_valid}
 use Rattle.bdd_nodes.proofs.SplitLemmas.{same_reference, is_valid-true, is_valid-false}
 use Rattle.bdd_walk.specs.Answers.{Answers, KeepsAnswers, Completes}
-use Rattle.bdd_walk.specs.Under.{IsMissing, IsConstant, Exceeds, AddsParts}
+use Rattle.bdd_walk.specs.Under.{IsMissing, Exceeds, AddsParts}
 use Rattle.bdd_walk.specs.Stands.{Asking, Stands, IsPart}
 use Rattle.bdd_walk.specs.Progress.{Call, IsNew, AddsNew, Progress}
 use Rattle.bdd_walk.proofs.ShelfLemmas.{varies-of_absent, varies-choice}

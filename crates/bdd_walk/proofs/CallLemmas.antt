@@ -1,5 +1,5 @@
 -- From the walk to the calls.
-use Rattle.std.proofs.Common.{◌≡◌, ℕ, suc, zero, ◌+◌, ◌<◌, ◌≤◌, ◌^◌, Bool, true, false, List, [], ◌∷◌, ◌++◌, take, drop, length, get_or, Option, Some, None, IsTrue, ◌&&◌, sym, ◌∙◌, ap, refl, subst, arith}
+use Rattle.std.proofs.Common.{◌≡◌, ℕ, suc, zero, ◌<◌, ◌≤◌, true, false, List, [], ◌∷◌, ◌++◌, drop, length, get_or, Option, Some, None, IsTrue, ◌&&◌, sym, ◌∙◌, ap, refl, subst, arith}
 use Rattle.std.specs.Prelude.{nat_le, slice_get, slice_index, unwrap_or}
 use Rattle.std.specs.List.{All, list_all}
 use Rattle.std.proofs.lemmas.Bool.{le-leb}
@@ -7,12 +7,11 @@ use Rattle.std.proofs.Math.Path.{fun_ext}
 use Rattle.std.proofs.Math.Seq.{drop-append_seam, take-append_seam}
 use Rattle.bdd_nodes.specs.declared.node_ref.NodeRef.{NodeRef}
 use Rattle.bdd_nodes.specs.Nodes.{Label, Function}
-use Rattle.bdd_nodes.specs.Shelf.{Contents, IsShelf, IsValid, state_of}
+use Rattle.bdd_nodes.specs.Shelf.{Contents, IsShelf, IsValid}
 use Rattle.bdd_nodes.specs.Changes.{is_valid}
 use Rattle.bdd_nodes.proofs.SplitLemmas.{is_valid-IsValid}
 use Rattle.bdd_walk.specs.Answers.{Answers, KeepsAnswers, Completes}
 use Rattle.bdd_walk.specs.Asked.{with_track, leaves_of, asked_of}
-use Rattle.bdd_walk.specs.Stands.{Asking}
 use Rattle.bdd_walk.specs.Sides.{asked_by}
 use Rattle.bdd_walk.specs.Rules.{itself_of, renamed_by, first_state}
 use Rattle.bdd_walk.specs.Progress.{Call, Progress}

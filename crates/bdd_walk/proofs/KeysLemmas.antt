@@ -1,18 +1,18 @@
 -- The steps of the kinds of keys.
-use Rattle.std.proofs.Common.{◌≡◌, ◌≢◌, ℕ, suc, ◌+◌, ◌<◌, ◌≤◌, Bool, true, false, List, [], ◌∷◌, ◌++◌, map, take, drop, length, eqb, Option, Some, None, if◌then◌else◌, ◌&&◌, IsTrue, sym, ◌∙◌, ap, refl, subst, inl, inr, arith}
+use Rattle.std.proofs.Common.{◌≡◌, ◌≢◌, ℕ, suc, ◌<◌, ◌≤◌, Bool, true, false, List, [], ◌∷◌, ◌++◌, map, eqb, None, if◌then◌else◌, ◌&&◌, IsTrue, sym, ◌∙◌, ap, refl, subst, inl, inr}
 use Rattle.std.specs.List.{list_all, AllByRecursion}
-use Rattle.std.proofs.lemmas.Bool.{cases_Bool, eqb-true, eqb-false}
+use Rattle.std.proofs.lemmas.Bool.{cases_Bool}
 use Rattle.bdd_nodes.specs.declared.node_ref.NodeRef.{NodeRef}
 use Rattle.bdd_nodes.specs.Nodes.{Label}
 use Rattle.bdd_nodes.specs.Shelf.{Contents, IsShelf, IsValid, AsksFrom, top_of}
 use Rattle.bdd_nodes.specs.Changes.{Keeps, is_valid}
 use Rattle.bdd_nodes.proofs.SplitLemmas.{is_valid-true}
 use Rattle.bdd_walk.specs.Asked.{with_track, leaves_of}
-use Rattle.bdd_walk.specs.Stands.{Asking, AsksSame, AsksByFrom}
+use Rattle.bdd_walk.specs.Stands.{Asking, AsksByFrom}
 use Rattle.bdd_walk.specs.Steps.{IsSplitBy, IsSplit}
 use Rattle.bdd_walk.specs.Laws.{and-left, and-right}
-use Rattle.bdd_walk.specs.Sides.{side_at, earlier_of, AskFirst, AreLeaves, IsFirstOf, weight_of}
-use Rattle.bdd_walk.proofs.LabelLemmas.{with_track-same, with_track-other}
+use Rattle.bdd_walk.specs.Sides.{side_at, earlier_of, AskFirst, IsFirstOf, weight_of}
+use Rattle.bdd_walk.proofs.LabelLemmas.{with_track-other}
 use Rattle.bdd_walk.proofs.SidesLemmas.{leaves-side, leaves-later, sides-valid, sides-fall, sides-kept, AskFirst-kept, IsFirstOf-push}
 
 -- a way of reading labels that leaves the track, and the later tracks, to the label

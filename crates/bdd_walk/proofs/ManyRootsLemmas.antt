@@ -1,17 +1,17 @@
 -- The steps from a list of references.
-use Rattle.std.proofs.Common.{◌≡◌, ◌≢◌, ℕ, suc, zero, ◌+◌, ◌<◌, ◌≤◌, Bool, true, false, List, [], ◌∷◌, ◌++◌, map, take, drop, length, eqb, Option, Some, None, ◌&&◌, IsTrue, sym, ◌∙◌, ap, refl, subst, inl, inr, arith, ◌⊎◌}
+use Rattle.std.proofs.Common.{◌≡◌, ℕ, suc, zero, ◌<◌, ◌≤◌, Bool, true, false, List, [], ◌∷◌, ◌++◌, map, take, drop, length, Option, Some, None, ◌&&◌, IsTrue, sym, ◌∙◌, ap, refl, subst, inl, inr, arith}
 use Rattle.std.specs.Prelude.{nat_le}
 use Rattle.std.specs.List.{list_all, AllByRecursion}
 use Rattle.std.proofs.lemmas.Bool.{eqb-true, eqb-false, leb-true, le-leb, false≢true}
 use Rattle.std.proofs.lemmas.List.{length-map, take-map, drop-map, take-append-drop}
 use Rattle.bdd_nodes.specs.declared.node_ref.NodeRef.{NodeRef}
 use Rattle.bdd_nodes.specs.Nodes.{Label}
-use Rattle.bdd_nodes.specs.Shelf.{Contents, IsShelf, AsksFrom, state_of, top_of, rank_of}
+use Rattle.bdd_nodes.specs.Shelf.{Contents, IsShelf, AsksFrom, state_of}
 use Rattle.bdd_nodes.specs.Changes.{Keeps, is_valid}
 use Rattle.bdd_nodes.proofs.SplitLemmas.{is_valid-true, is_valid-IsValid}
 use Rattle.bdd_walk.specs.Asked.{with_track, leaves_of}
-use Rattle.bdd_walk.specs.Stands.{Asking, AsksSame}
-use Rattle.bdd_walk.specs.Steps.{IsSplitBy, FallsTo, IsSkip, IsSplit}
+use Rattle.bdd_walk.specs.Stands.{AsksSame}
+use Rattle.bdd_walk.specs.Steps.{IsSplitBy, IsSkip, IsSplit}
 use Rattle.bdd_walk.specs.Sides.{is_first, side_at, SomeAsks, AskFirst, weight_of, asked_by}
 use Rattle.bdd_walk.specs.Laws.{and-left, and-right, and-both}
 use Rattle.bdd_walk.specs.ManyLaws.{valid-take, valid-drop}

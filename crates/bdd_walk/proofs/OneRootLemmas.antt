@@ -1,5 +1,5 @@
 -- The steps from one reference.
-use Rattle.std.proofs.Common.{◌≡◌, ◌≢◌, ℕ, ◌<◌, Bool, true, false, List, [], ◌∷◌, eqb, Option, Some, None, if◌then◌else◌, IsTrue, sym, ◌∙◌, ap, refl, subst, inl, inr, arith}
+use Rattle.std.proofs.Common.{◌≡◌, ℕ, ◌<◌, Bool, true, false, [], ◌∷◌, eqb, Option, Some, None, if◌then◌else◌, IsTrue, sym, ◌∙◌, ap, refl, subst, inl, inr, arith}
 use Rattle.std.specs.List.{list_all}
 use Rattle.std.proofs.lemmas.Bool.{cases_Bool, eqb-true, eqb-false}
 use Rattle.bdd_nodes.specs.declared.node_ref.NodeRef.{NodeRef}
@@ -8,7 +8,7 @@ use Rattle.bdd_nodes.specs.Shelf.{Contents, IsShelf, top_of, rank_of}
 use Rattle.bdd_nodes.specs.Changes.{Keeps, is_valid}
 use Rattle.bdd_walk.specs.declared.one_root.FixedTrack.{FixedTrack}
 use Rattle.bdd_walk.specs.Asked.{with_track, leaves_of}
-use Rattle.bdd_walk.specs.Stands.{Asking, AsksSame}
+use Rattle.bdd_walk.specs.Stands.{AsksSame}
 use Rattle.bdd_walk.specs.declared.walk.Step.{Step}
 use Rattle.bdd_walk.specs.declared.walk.Step.TheVariants.{Skip, Split}
 use Rattle.bdd_walk.specs.Steps.{IsStep, IsSkip, IsSplit}

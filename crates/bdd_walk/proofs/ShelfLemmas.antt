@@ -1,10 +1,10 @@
 -- Shelves: which references differ, which tracks matter, and which functions are constant.
-use Rattle.std.proofs.Common.{◌≡◌, ◌≢◌, ℕ, suc, ◌<◌, ◌≤◌, Bool, true, false, if◌then◌else◌, sym, ◌∙◌, ap, inl, inr, arith}
+use Rattle.std.proofs.Common.{◌≡◌, ◌≢◌, ℕ, suc, ◌≤◌, Bool, true, false, if◌then◌else◌, sym, ◌∙◌, ap, inl, inr, arith}
 use Rattle.std.proofs.lemmas.Bool.{cases_lt}
 use Rattle.bdd_nodes.specs.declared.node_ref.NodeRef.{NodeRef}
 use Rattle.bdd_nodes.specs.Nodes.{Label}
 use Rattle.bdd_nodes.specs.Shelf.{Contents, IsShelf, IsValid, IsSideFor, AsksFrom, state_of, choice_of, low_of, high_of}
-use Rattle.bdd_nodes.proofs.SplitLemmas.{same_reference, unasked, Cases, is_leaf, splits, cases_of}
+use Rattle.bdd_nodes.proofs.SplitLemmas.{same_reference, unasked, is_leaf, splits, cases_of}
 use Rattle.bdd_walk.specs.Asked.{with_track}
 use Rattle.bdd_walk.specs.Under.{IsConstant}
 use Rattle.bdd_walk.proofs.LabelLemmas.{with_track-same, with_track-later}

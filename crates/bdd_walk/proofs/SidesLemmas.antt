@@ -1,12 +1,12 @@
 -- Sides of references, one and many.
-use Rattle.std.proofs.Common.{◌≡◌, ◌≢◌, ℕ, suc, zero, get_or, ◌+◌, ◌<◌, ◌≤◌, min, Bool, true, false, List, [], ◌∷◌, ◌++◌, map, take, drop, length, ltb, eqb, Option, Some, None, MatchOption, if◌then◌else◌, ◌&&◌, IsTrue, sym, ◌∙◌, ap, refl, subst, inl, inr, arith, ◌⊎◌, sum_by}
+use Rattle.std.proofs.Common.{◌≡◌, ◌≢◌, ℕ, suc, zero, get_or, ◌<◌, ◌≤◌, min, Bool, true, false, List, [], ◌∷◌, ◌++◌, map, length, eqb, Option, Some, None, MatchOption, if◌then◌else◌, IsTrue, sym, ◌∙◌, ap, refl, subst, inl, inr, arith}
 use Rattle.std.specs.List.{AllByRecursion, list_all}
-use Rattle.std.proofs.lemmas.Bool.{cases_Bool, cases_lt, eqb-true, eqb-false, eq-eqb, ne_eqb, false≢true, true≢false}
+use Rattle.std.proofs.lemmas.Bool.{cases_Bool, cases_lt, eqb-true, eqb-false}
 use Rattle.bdd_nodes.specs.declared.node_ref.NodeRef.{NodeRef}
 use Rattle.bdd_nodes.specs.Nodes.{Label}
 use Rattle.bdd_nodes.specs.Shelf.{Contents, IsShelf, IsValid, AsksFrom, state_of, top_of, low_of, high_of, rank_of}
 use Rattle.bdd_nodes.specs.Changes.{Keeps, is_valid}
-use Rattle.bdd_nodes.proofs.SplitLemmas.{unasked, AsksFrom-weaker, Cases, is_leaf, splits, cases_of, is_valid-true, is_valid-IsValid}
+use Rattle.bdd_nodes.proofs.SplitLemmas.{unasked, AsksFrom-weaker, is_leaf, splits, cases_of, is_valid-true, is_valid-IsValid}
 use Rattle.bdd_walk.specs.Asked.{leaves_of}
 use Rattle.bdd_walk.specs.Laws.{and-left, and-right, and-both}
 use Rattle.bdd_walk.specs.Sides.{is_first, side_at, earlier_of, SomeAsks, AskFirst, AreLeaves, IsFirstOf, weight_of}

@@ -1,5 +1,5 @@
 -- Each turn of a walk keeps what it is at.
-use Rattle.std.proofs.Common.{◌≡◌, ℕ, ◌+◌, Bool, reverse, length, true, false, List, [], ◌∷◌, ◌++◌, Option, Some, None, if◌then◌else◌, sym, ◌∙◌, ap, refl, subst, inl, inr, arith, ◌⊎◌, IsTrue}
+use Rattle.std.proofs.Common.{◌≡◌, ℕ, ◌+◌, Bool, reverse, length, false, List, [], ◌∷◌, ◌++◌, Option, Some, None, if◌then◌else◌, sym, ◌∙◌, ap, refl, subst, inl, inr, arith, ◌⊎◌, IsTrue}
 use Rattle.std.specs.HashMap.{get, Updates}
 use Rattle.bdd_nodes.specs.declared.node_ref.NodeRef.{NodeRef}
 use Rattle.bdd_nodes.specs.Nodes.{Label}
@@ -14,11 +14,11 @@ use Rattle.bdd_walk.specs.Asked.{IsGiven}
 use Rattle.bdd_walk.specs.Under.{with_below, Exceeds}
 use Rattle.bdd_walk.specs.Stands.{Asking, Stands, IsPart, AsksSame}
 use Rattle.bdd_walk.specs.Steps.{IsSkip, IsSplit}
-use Rattle.bdd_walk.specs.Waits.{Memo, IsMemo, Respects, IsDue, IsAwaited, WaitsLow, WaitsHigh, AllWait, FitsFrame}
+use Rattle.bdd_walk.specs.Waits.{Memo, IsMemo, Respects, WaitsHigh, AllWait, FitsFrame}
 use Rattle.bdd_walk.specs.Progress.{Call, Progress, Works}
-use Rattle.bdd_walk.proofs.StandsLemmas.{Keeps-itself, KeepsAnswers-trans, Stands-kept, Stands-same, Stands-leaf, IsSideFor-of_stands, answers-choice, IsPart-whole, IsPart-same, IsPart-low, IsPart-high}
+use Rattle.bdd_walk.proofs.StandsLemmas.{Keeps-itself, KeepsAnswers-trans, Stands-same, Stands-leaf, IsSideFor-of_stands, answers-choice, IsPart-whole, IsPart-same, IsPart-low, IsPart-high}
 use Rattle.bdd_walk.proofs.AddsLemmas.{AddsNew-none, AddsNew-answers, AddsNew-made, Exceeds-full}
-use Rattle.bdd_walk.proofs.WaitsLemmas.{IsMemo-kept, IsMemo-insert, AllWait-kept, AllWait-push, AllWait-pop, AllWait-none}
+use Rattle.bdd_walk.proofs.WaitsLemmas.{IsMemo-insert, AllWait-kept, AllWait-push, AllWait-pop, AllWait-none}
 
 cases_answer : (o : Option ℕ) → (o ≡ None) ⊎ ((answer : ℕ) × (o ≡ Some answer))
 cases_answer None = inl refl

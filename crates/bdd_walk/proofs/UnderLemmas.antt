@@ -1,13 +1,12 @@
 -- New nodes stand under the result.
-use Rattle.std.proofs.Common.{◌≡◌, ℕ, suc, zero, ◌<◌, ◌≤◌, Bool, true, false, Some, if◌then◌else◌, sym, ◌∙◌, ap, refl, subst, inl, inr, arith}
-use Rattle.std.specs.List.{Contains}
+use Rattle.std.proofs.Common.{◌≡◌, ℕ, suc, zero, ◌≤◌, Bool, Some, if◌then◌else◌, sym, ◌∙◌, ap, subst, inl, inr, arith}
 use Rattle.std.proofs.lemmas.Bool.{cases_lt, cases_Bool}
 use Rattle.std.proofs.lemmas.List.Elements.{All-contains}
 use Rattle.bdd_nodes.specs.declared.node_ref.NodeRef.{NodeRef}
 use Rattle.bdd_nodes.specs.Nodes.{Label}
 use Rattle.bdd_nodes.specs.Shelf.{Contents, IsShelf, IsValid, rank_of, state_of, low_of, high_of}
 use Rattle.bdd_nodes.specs.Changes.{Reaches, itself, by_low, by_high}
-use Rattle.bdd_nodes.proofs.SplitLemmas.{same_reference, unasked, Cases, is_leaf, splits, cases_of}
+use Rattle.bdd_nodes.proofs.SplitLemmas.{same_reference, unasked, is_leaf, splits, cases_of}
 use Rattle.bdd_walk.specs.Answers.{Answers}
 use Rattle.bdd_walk.specs.Under.{with_below, AddsUnder}
 use Rattle.bdd_walk.specs.Stands.{Stands}

@@ -1,5 +1,5 @@
 -- The keys that wait, and the results that are kept.
-use Rattle.std.proofs.Common.{◌≡◌, ℕ, Bool, true, false, List, [], ◌∷◌, ◌++◌, reverse, Some, cond, sym, ◌∙◌, ap, refl, subst, inl, inr, arith}
+use Rattle.std.proofs.Common.{◌≡◌, Bool, List, [], ◌∷◌, ◌++◌, reverse, Some, cond, sym, ◌∙◌, ap, subst, inl, inr}
 use Rattle.std.proofs.lemmas.Bool.{cases_Bool}
 use Rattle.std.proofs.lemmas.List.{reverse-append}
 use Rattle.std.specs.HashMap.{get, Updates}
@@ -10,7 +10,7 @@ use Rattle.bdd_walk.specs.declared.walk.Frame.{Frame}
 use Rattle.bdd_walk.specs.declared.walk.Frame.TheVariants.{Low, High, Skip}
 use Rattle.bdd_walk.specs.Answers.{Answers, KeepsAnswers}
 use Rattle.bdd_walk.specs.Stands.{Asking, Stands, AsksSame}
-use Rattle.bdd_walk.specs.Waits.{Memo, IsMemo, Respects, WaitsLow, WaitsHigh, WaitsFor, AllWait, key_of}
+use Rattle.bdd_walk.specs.Waits.{Memo, IsMemo, Respects, WaitsFor, AllWait, key_of}
 use Rattle.bdd_walk.proofs.StandsLemmas.{Stands-kept, Stands-same}
 
 AsksSame-sym : (f g : Asking) → AsksSame f g → AsksSame g f

@@ -1,5 +1,5 @@
 -- What a rule has answered: lists of states, each with the state that it was given for good.
-use Rattle.std.specs.Prelude.{◌≡◌, ◌≢◌, ℕ, List, Option, Some, None}
+use Rattle.std.specs.Prelude.{◌≡◌, ℕ, List, Option, Some, None}
 
 -- the answers so far
 abbrev pub Answers : Type 0

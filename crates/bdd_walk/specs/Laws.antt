@@ -1,7 +1,7 @@
 -- The laws of the kinds of keys: equal keys ask the same, and a shelf that keeps its references keeps what keys ask.
-use Rattle.std.specs.Prelude.{◌≡◌, ℕ, Bool, true, false, List, [], ◌∷◌, ◌++◌, take, drop, Option, Some, None, IsTrue, ◌&&◌, nat_eq}
+use Rattle.std.specs.Prelude.{◌≡◌, ℕ, Bool, true, false, List, [], ◌∷◌, IsTrue, ◌&&◌, nat_eq}
 use Rattle.std.specs.List.{list_all}
-use Rattle.std.proofs.Common.{sym, ◌∙◌, ap, refl, subst}
+use Rattle.std.proofs.Common.{◌∙◌, ap, refl}
 use Rattle.std.proofs.lemmas.Bool.{eqb-true, false≢true}
 use Rattle.bdd_nodes.specs.declared.node_ref.NodeRef.{NodeRef}
 use Rattle.bdd_nodes.specs.Nodes.{Label}

@@ -2,10 +2,9 @@
 use Rattle.std.specs.Prelude.{◌≡◌, ℕ, Bool, true, false, List, [], ◌∷◌, ◌++◌, take, drop, length, Option, Some, None, IsTrue, ◌&&◌, nat_eq, nat_le}
 use Rattle.std.specs.List.{list_all}
 use Rattle.std.specs.Cmp.Lexicographic.{pointwise}
-use Rattle.std.proofs.Common.{sym, ◌∙◌, ap, refl, subst, zero, suc}
+use Rattle.std.proofs.Common.{◌∙◌, ap, refl, zero, suc}
 use Rattle.std.proofs.lemmas.Bool.{false≢true}
 use Rattle.bdd_nodes.specs.declared.node_ref.NodeRef.{NodeRef}
-use Rattle.bdd_nodes.specs.Nodes.{Label}
 use Rattle.bdd_nodes.specs.Shelf.{Contents}
 use Rattle.bdd_nodes.specs.Changes.{Keeps, is_valid}
 use Rattle.bdd_walk.specs.Asked.{with_track, leaves_of}

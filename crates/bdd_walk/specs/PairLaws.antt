@@ -1,5 +1,5 @@
 -- Pairs that a test calls equal are equal.
-use Rattle.std.specs.Prelude.{◌≡◌, ℕ, Bool, true, nat_eq, ◌&&◌}
+use Rattle.std.specs.Prelude.{◌≡◌, true, nat_eq, ◌&&◌}
 use Rattle.std.proofs.Common.{◌∙◌, ap}
 use Rattle.bdd_nodes.specs.declared.node_ref.NodeRef.{NodeRef}
 use Rattle.bdd_walk.specs.declared.two_roots.RefPair.{RefPair}

@@ -1,8 +1,7 @@
 -- What a walk has changed so far.
-use Rattle.std.specs.Prelude.{◌≡◌, ◌≢◌, ◌+◌, ℕ, List, length, Some, All, AllPairs, Contains, ◌⊎◌, Bool}
+use Rattle.std.specs.Prelude.{◌≡◌, ◌≢◌, ◌+◌, List, length, All, AllPairs, Contains, ◌⊎◌, Bool}
 use Rattle.bdd_nodes.specs.declared.node_ref.NodeRef.{NodeRef}
-use Rattle.bdd_nodes.specs.Nodes.{Label}
-use Rattle.bdd_nodes.specs.Shelf.{Contents, IsShelf, IsValid, count_of, limit_of, state_of}
+use Rattle.bdd_nodes.specs.Shelf.{Contents, IsShelf, IsValid, count_of, limit_of}
 use Rattle.bdd_nodes.specs.Changes.{Keeps, SameTables}
 use Rattle.bdd_walk.specs.Answers.{Answers, KeepsAnswers, AnswersOnly}
 use Rattle.bdd_walk.specs.Asked.{IsGiven}

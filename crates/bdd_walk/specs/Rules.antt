@@ -1,5 +1,5 @@
 -- The rules of this crate: a state stays, or gets a new number.
-use Rattle.std.specs.Prelude.{◌≡◌, ◌<◌, ◌^◌, ℕ, List, [], ◌∷◌, length, Option, Some, None, All, slice_get, slice_index}
+use Rattle.std.specs.Prelude.{◌≡◌, ◌<◌, ◌^◌, ℕ, List, [], ◌∷◌, length, Some, None, All, slice_get}
 use Rattle.bdd_walk.specs.Answers.{Answers}
 
 -- a lone state is its own answer

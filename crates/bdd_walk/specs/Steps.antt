@@ -1,5 +1,5 @@
 -- A step down from a key.
-use Rattle.std.specs.Prelude.{◌≡◌, ◌<◌, ℕ, suc, Bool, List, IsTrue, if◌then◌else◌}
+use Rattle.std.specs.Prelude.{◌≡◌, ◌<◌, ℕ, suc, Bool, IsTrue, if◌then◌else◌}
 use Rattle.bdd_nodes.specs.Nodes.{Label}
 use Rattle.bdd_walk.specs.declared.walk.Step.{Step}
 use Rattle.bdd_walk.specs.declared.walk.Step.TheVariants.{Leaf, Skip, Split}

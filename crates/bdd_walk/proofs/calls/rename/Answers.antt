@@ -1,4 +1,4 @@
-use Rattle.std.proofs.Common.{ℕ, List, ◌∙◌, subst}
+use Rattle.std.proofs.Common.{◌∙◌, subst}
 use Rattle.bdd_nodes.specs.Nodes.{Function}
 use Rattle.bdd_nodes.specs.Shelf.{state_of}
 use Rattle.bdd_nodes.proofs.SplitLemmas.{is_valid-IsValid}

@@ -1,4 +1,4 @@
-use Rattle.std.proofs.Common.{ℕ, List, refl, ◌∙◌}
+use Rattle.std.proofs.Common.{refl, ◌∙◌}
 use Rattle.bdd_nodes.specs.Shelf.{state_of}
 use Rattle.bdd_nodes.proofs.SplitLemmas.{is_valid-IsValid, small_state}
 use Rattle.bdd_walk.specs.Asked.{with_track}

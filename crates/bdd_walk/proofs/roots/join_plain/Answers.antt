@@ -1,4 +1,4 @@
-use Rattle.std.proofs.Common.{List, get_or, arith, sym, subst}
+use Rattle.std.proofs.Common.{List, arith, sym, subst}
 use Rattle.bdd_nodes.specs.declared.node_ref.NodeRef.{NodeRef}
 use Rattle.bdd_nodes.specs.Nodes.{Label}
 use Rattle.bdd_walk.specs.Asked.{leaves_of}
