@@ -1,11 +1,11 @@
 -- What is under a reference, and which references are equal, for callers that go down.
-use Rattle.std.proofs.Common.{◌≡◌, ℕ, suc, zero, ◌+◌, ◌-◌, ◌^◌, ◌<◌, ◌≤◌, Bool, true, false, if◌then◌else◌, length, Option, Some, None, sym, ◌∙◌, ap, refl, subst, arith}
+use Rattle.std.proofs.Common.{◌≡◌, ℕ, suc, zero, ◌^◌, ◌<◌, ◌≤◌, Bool, true, false, if◌then◌else◌, length, Some, None, sym, ap, refl, subst, arith}
 use Rattle.std.proofs.lemmas.Bool.{ltb-true, ltb-false, lt-ltb}
 use Rattle.bdd_nodes.specs.declared.node_ref.NodeRef.{NodeRef}
 use Rattle.bdd_nodes.specs.declared.node_ref.Named.{Named}
 use Rattle.bdd_nodes.specs.declared.node_ref.Named.TheVariants.{Leaf, Inner}
 use Rattle.bdd_nodes.specs.Nodes.{Label, node_of, node_at, first_track, IsNamedIn, AsksNoneBelow}
-use Rattle.bdd_nodes.specs.Shelf.{Contents, IsShelf, IsValid, Splits, SameFunction, AsksFrom, state_of, top_of, low_of, high_of, rank_of, choice_of}
+use Rattle.bdd_nodes.specs.Shelf.{Contents, IsShelf, IsValid, Splits, SameFunction, AsksFrom, state_of, top_of, low_of, high_of, rank_of}
 use Rattle.bdd_nodes.specs.Changes.{is_valid, is_named_in}
 use Rattle.bdd_nodes.proofs.RefLemmas.{node_of-injective}
 use Rattle.bdd_nodes.proofs.CanonicalLemmas.{equal_named, state_named-unasked, AsksNoneBelow-weaker}
