@@ -15,3 +15,4 @@ pub mod CollectLemmas
 pub mod CollectedLemmas
 pub mod CallerLemmas
 pub mod UnderLemmas
+pub mod SplitLemmas

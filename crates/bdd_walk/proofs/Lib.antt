@@ -1,0 +1,13 @@
+pub mod LabelLemmas
+pub mod ShelfLemmas
+pub mod CostLemmas
+pub mod StandsLemmas
+pub mod AddsLemmas
+pub mod WaitsLemmas
+pub mod UnderLemmas
+pub mod TurnLemmas
+pub mod SidesLemmas
+pub mod KeysLemmas
+pub mod OneRootLemmas
+pub mod ManyRootsLemmas
+pub mod CallLemmas

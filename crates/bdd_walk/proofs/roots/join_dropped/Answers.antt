@@ -1,0 +1,12 @@
+use Rattle.std.proofs.Common.{sym, subst}
+use Rattle.bdd_nodes.specs.Nodes.{Label}
+use Rattle.bdd_walk.specs.Stands.{Asking}
+use Rattle.bdd_walk.specs.Under.{Exceeds}
+use Rattle.bdd_walk.proofs.CallLemmas.{twice-asked}
+use Rattle.bdd_walk.proofs.roots.join_dropped.Goals as goal
+
+pub returns-clause-limit : goal.returns-clause-limit
+returns-clause-limit g c = λ stopped given completes.
+    subst (λ (asking : Asking). Exceeds c.args.shelf.now (λ (label : Label). given (asking label)))
+    (sym (twice-asked c.args.shelf.now c.args.roots.now c.in_ok-all.all.items c.args.track c.in_ok-all.ensures))
+    (c.join_from.ensures.limit stopped given completes)

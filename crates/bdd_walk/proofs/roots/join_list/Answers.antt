@@ -1,0 +1,11 @@
+use Rattle.std.proofs.Common.{List, subst}
+use Rattle.bdd_nodes.specs.declared.node_ref.NodeRef.{NodeRef}
+use Rattle.bdd_nodes.specs.Nodes.{Label}
+use Rattle.bdd_walk.specs.Asked.{leaves_of}
+use Rattle.bdd_walk.specs.Under.{Exceeds}
+use Rattle.bdd_walk.proofs.roots.join_list.Goals as goal
+
+pub returns-clause-limit : goal.returns-clause-limit
+returns-clause-limit g c = λ stopped given completes.
+    subst (λ (rs : List NodeRef). Exceeds c.args.shelf.now (λ (label : Label). given (leaves_of c.args.shelf.now rs label))) c.in_ok-all.ensures.items
+    (c.join_from.ensures.limit stopped given completes)

@@ -1,0 +1,22 @@
+-- The lists of leaves that a join puts to its rule: one for each label.
+use Rattle.std.specs.Prelude.{◌≡◌, ℕ, Bool, true, false, List, ◌++◌, map, Option, Some, None, nat_eq, if◌then◌else◌}
+use Rattle.bdd_nodes.specs.declared.node_ref.NodeRef.{NodeRef}
+use Rattle.bdd_nodes.specs.Nodes.{Label}
+use Rattle.bdd_nodes.specs.Shelf.{Contents, state_of}
+
+-- the label with the track set or unset
+abbrev pub with_track : Label → ℕ → Bool → Label
+with_track label t bit = λ u. if nat_eq u t then bit else label u
+
+-- the leaf of each root for a label, in order
+abbrev pub leaves_of : Contents → List NodeRef → Label → List ℕ
+leaves_of shelf roots label = map (λ root. state_of shelf root label) roots
+
+-- the leaves for a label; of a dropped track first those with it unset, and then those with it set
+abbrev pub asked_of : Contents → List NodeRef → Option ℕ → Label → List ℕ
+asked_of shelf roots None label = leaves_of shelf roots label
+asked_of shelf roots (Some t) label = leaves_of shelf roots (with_track label t false) ++ leaves_of shelf roots (with_track label t true)
+
+-- some label gives the list
+unfoldable pub IsGiven : (Label → List ℕ) → List ℕ → Type 0
+IsGiven asked states = (label : Label) × (asked label ≡ states)

@@ -1,0 +1,12 @@
+pub mod Answers
+pub mod Asked
+pub mod Under
+pub mod Stands
+pub mod Steps
+pub mod Waits
+pub mod Progress
+pub mod Sides
+pub mod Laws
+pub mod PairLaws
+pub mod ManyLaws
+pub mod Rules

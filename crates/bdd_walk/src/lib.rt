@@ -1,0 +1,20 @@
+//! Joins of functions from labels to states: for each label a rule's answer on the list of the functions' states.
+//! Products, subset automata and quotients are joins with a rule. `specs/Asked.antt` says which lists a join asks,
+//! `specs/Answers.antt` what a rule has answered, and `specs/Under.antt` what stands under a function and when a shelf
+//! has too little room for it. No crate above looks at the order in which a join asks, or at what it remembers.
+#![tactic(auto)]
+
+mod calls;
+mod many_roots;
+mod one_root;
+mod roots;
+mod rule;
+mod rules;
+mod sides;
+mod stop;
+mod two_roots;
+mod walk;
+
+pub use calls::{StateMap, join, rename, restrict};
+pub use rule::{LeafRule, StateList};
+pub use stop::{NoMemory, Stop};

@@ -1,0 +1,108 @@
+//! Going down from a list of references.
+
+ghost use Rattle.std.specs.Prelude.{◌≡◌, ◌≤◌, ◌++◌, ◌&&◌, true, false, map, take, drop, length, nat_le, IfOk, IsTrue};
+ghost use Rattle.std.specs.List.{list_all};
+ghost use Rattle.bdd_nodes.specs.Changes.{is_valid};
+ghost use Rattle.bdd_walk.specs.Sides.{side_at};
+
+use crate::sides::{first_track, push_sides, states_of};
+use crate::walk::{Step, Walk};
+use bdd_nodes::{NodeRef, Shelf};
+use std::alloc::{AllocError, Global};
+
+/// Keys that are a list of references. Of a dropped track the references before the half are the sides with it unset,
+/// and those behind it the sides with it set.
+#[derive(Clone, Copy, Debug)]
+pub(crate) struct ManyRoots {
+    pub(crate) dropped: Option<u32>,
+    pub(crate) half: usize,
+}
+
+/// The sides of all references.
+fn all_sides(
+    alloc: Global,
+    shelf: &Shelf,
+    roots: &[NodeRef],
+    track: u32,
+    bit: bool,
+) -> Result<Vec<NodeRef>, AllocError>
+    requires { IsTrue (list_all (is_valid shelf.now) roots.now) }
+    ensures { IfOk result (λ sides. sides.items ≡ map (side_at shelf.now track bit) roots.now) }
+{
+    let mut sides = Vec::new(alloc);
+    push_sides(&mut sides, shelf, roots, track, bit)?;
+    Ok(sides)
+}
+
+/// The references past a dropped track.
+fn past(
+    alloc: Global,
+    shelf: &Shelf,
+    roots: &[NodeRef],
+    track: u32,
+    half: usize,
+) -> Result<Vec<NodeRef>, AllocError>
+    requires valid { IsTrue (list_all (is_valid shelf.now) roots.now) }
+    requires within { half ≤ length roots.now }
+    ensures { IfOk result (λ sides. sides.items
+        ≡ map (side_at shelf.now track false) (take half roots.now) ++ map (side_at shelf.now track true) (drop half roots.now)) }
+{
+    let (before, behind) = roots.split_at(half);
+    let mut sides = Vec::new(alloc);
+    push_sides(&mut sides, shelf, before, track, false)?;
+    push_sides(&mut sides, shelf, behind, track, true)?;
+    Ok(sides)
+}
+
+impl ManyRoots {
+    ghost use Rattle.std.specs.Prelude.{Bool};
+    ghost use Rattle.bdd_walk.specs.Sides.{is_first};
+
+    /// Whether the track is dropped.
+    #[inline]
+    fn drops(&self, track: u32) -> bool
+        ensures { result ≡ is_first self.now.dropped track }
+    {
+        match self.dropped {
+            Some(dropped) => dropped == track,
+            None => false,
+        }
+    }
+}
+
+impl Walk for ManyRoots {
+    ghost use Rattle.bdd_walk.specs.Sides.{asked_by, weight_of};
+    ghost use Rattle.bdd_walk.specs.ManyLaws.{Respects-lists, same_list, many-stays_in, many-asks_still};
+
+    type Key = Vec<NodeRef>;
+
+    ghost asked = { λ walk shelf roots label. asked_by shelf walk.dropped walk.half roots.items label };
+
+    ghost is_in = { λ walk shelf roots. list_all (is_valid shelf) roots.items && nat_le walk.half (length roots.items) };
+
+    ghost weight = { λ walk roots. weight_of roots.items };
+
+    ghost respects = { λ walk shelf. Respects-lists _ (λ roots. roots.items) (λ roots label. asked_by shelf walk.dropped walk.half roots label) (λ a b. same_list a.items b.items) };
+
+    ghost stays_in = { λ walk old new roots keeps inside. many-stays_in old new keeps walk.half roots.items inside };
+
+    ghost asks_still = { λ walk old new roots keeps inside. many-asks_still old new keeps walk.dropped walk.half roots.items inside };
+
+    fn step(
+        &self,
+        alloc: Global,
+        shelf: &Shelf,
+        roots: &Vec<NodeRef>,
+    ) -> Result<Step<Vec<NodeRef>>, AllocError> {
+        let roots = roots.as_slice();
+        let Some(track) = first_track(shelf, roots) else {
+            return Ok(Step::Leaf(states_of(alloc, shelf, roots)?));
+        };
+        if self.drops(track) {
+            return Ok(Step::Skip(past(alloc, shelf, roots, track, self.half)?));
+        }
+        let low = all_sides(alloc, shelf, roots, track, false)?;
+        let high = all_sides(alloc, shelf, roots, track, true)?;
+        Ok(Step::Split { track, low, high })
+    }
+}

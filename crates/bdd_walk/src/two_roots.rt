@@ -1,0 +1,72 @@
+//! Going down from two references.
+
+ghost use Rattle.std.specs.Prelude.{◌≡◌, [], ◌∷◌, map, IsTrue};
+ghost use Rattle.std.specs.List.{list_all};
+ghost use Rattle.bdd_nodes.specs.Changes.{is_valid};
+ghost use Rattle.bdd_walk.specs.Sides.{side_at};
+
+use crate::sides::{earlier, side_of, states_of};
+use crate::walk::{Step, Walk};
+use bdd_nodes::{NodeRef, Shelf};
+use std::alloc::{AllocError, Global};
+
+/// Two references in order.
+#[derive(Clone, Copy, Debug, PartialEq, Eq, Hash)]
+pub(crate) struct RefPair {
+    pub(crate) left: NodeRef,
+    pub(crate) right: NodeRef,
+}
+
+/// Keys that are two references.
+#[derive(Clone, Copy, Debug)]
+pub(crate) struct TwoRoots;
+
+/// The sides of both references.
+#[inline]
+fn sides_of(shelf: &Shelf, pair: RefPair, track: u32, bit: bool) -> RefPair
+    requires { IsTrue (list_all (is_valid shelf.now) (pair.left ∷ pair.right ∷ [])) }
+    ensures { (result.left ∷ result.right ∷ []) ≡ map (side_at shelf.now track bit) (pair.left ∷ pair.right ∷ []) }
+{
+    RefPair {
+        left: side_of(shelf, pair.left, track, bit),
+        right: side_of(shelf, pair.right, track, bit),
+    }
+}
+
+impl Walk for TwoRoots {
+    ghost use Rattle.bdd_walk.specs.Asked.{leaves_of};
+    ghost use Rattle.bdd_walk.specs.Sides.{weight_of};
+    ghost use Rattle.bdd_walk.specs.Laws.{Respects-equal, valid-kept, leaves-still};
+    ghost use Rattle.bdd_walk.specs.PairLaws.{same_pair};
+
+    type Key = RefPair;
+
+    ghost asked = { λ walk shelf pair label. leaves_of shelf (pair.left ∷ pair.right ∷ []) label };
+
+    ghost is_in = { λ walk shelf pair. list_all (is_valid shelf) (pair.left ∷ pair.right ∷ []) };
+
+    ghost weight = { λ walk pair. weight_of (pair.left ∷ pair.right ∷ []) };
+
+    ghost respects = { λ walk shelf. Respects-equal _ (λ pair label. leaves_of shelf (pair.left ∷ pair.right ∷ []) label) same_pair };
+
+    ghost stays_in = { λ walk old new pair keeps inside. valid-kept old new keeps (pair.left ∷ pair.right ∷ []) inside };
+
+    ghost asks_still = { λ walk old new pair keeps inside. leaves-still old new keeps (pair.left ∷ pair.right ∷ []) inside };
+
+    fn step(
+        &self,
+        alloc: Global,
+        shelf: &Shelf,
+        pair: &RefPair,
+    ) -> Result<Step<RefPair>, AllocError> {
+        let pair = *pair;
+        let Some(track) = earlier(shelf.top(pair.left), shelf.top(pair.right)) else {
+            return Ok(Step::Leaf(states_of(alloc, shelf, &[pair.left, pair.right])?));
+        };
+        Ok(Step::Split {
+            track,
+            low: sides_of(shelf, pair, track, false),
+            high: sides_of(shelf, pair, track, true),
+        })
+    }
+}
