@@ -26,9 +26,9 @@ module _ {N P A K : Type 0} (rules : Rules N P A K) (hints : Hints N P K) where
       among rules hints k (flat_map hints.starts (drop (i + 1) ps)) ≡ among rules hints k (flat_map hints.starts (drop i ps))
   past_choice k ps i p h e f =
       rw (add-one) (
-        let whole = ap (λ (xs : List P). among rules hints k (flat_map hints.starts xs)) (drop-cons ps i p h) in
-        let here : among rules hints k (hints.starts (get_or ps i p)) ≡ false = subst (λ (x : P). among rules hints k (hints.starts x) ≡ false) e f in
-        sym (whole ∙ among-append_none k (hints.starts (get_or ps i p)) (flat_map hints.starts (drop (suc i) ps)) here))
+      let whole = ap (λ (xs : List P). among rules hints k (flat_map hints.starts xs)) (drop-cons ps i p h) in
+      let here : among rules hints k (hints.starts (get_or ps i p)) ≡ false = subst (λ (x : P). among rules hints k (hints.starts x) ≡ false) e f in
+      sym (whole ∙ among-append_none k (hints.starts (get_or ps i p)) (flat_map hints.starts (drop (suc i) ps)) here))
 
   pub no_choice_left : (k : K) (ps : List P) (i : ℕ) → length ps ≤ i → among rules hints k (flat_map hints.starts (drop i ps)) ≡ false
   no_choice_left k ps i h = ap (λ (xs : List P). among rules hints k (flat_map hints.starts xs)) (drop_all i ps h)

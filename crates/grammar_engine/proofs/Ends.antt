@@ -27,6 +27,7 @@ module _ {N P A K : Type 0} (rules : Rules N P A K) (hints : Hints N P K) (sound
       not_it : (b : Bool) → (b ≡ true → ⊥) → b ≡ false
       not_it true f = absurd (f refl)
       not_it false f = refl
+
       by : (o : Option K) → first_of ks ≡ o → is_next rules hints (starts_of rules hints n) o ≡ false
       by None f = refl
       by (Some k) f = not_it (among rules hints k (starts_of rules hints n))
@@ -60,8 +61,12 @@ module _ {N P A K : Type 0} (rules : Rules N P A K) (hints : Hints N P K) (sound
       let p = (short_choice rules hints sound n).0 in
       let short = (short_choice rules hints sound n).1 in
       let q = deeper (rules.row p) d (Row row d below) (omega (arith, short.small)) (safe_choice rules hints sound n p d row below short.choice w.0) (w.1, s) r in
-      record { tokens = q.tokens; steps = q.steps; reads = once n p row d below q.tokens q.steps short.choice q.reads;
-        first = q.first ∙ lead_some (rules.row p) (hints.begin n) _ short.first }
+      record {
+        tokens = q.tokens;
+        steps = q.steps;
+        reads = once n p row d below q.tokens q.steps short.choice q.reads;
+        first = q.first ∙ lead_some (rules.row p) (hints.begin n) _ short.first;
+      }
   row_ends f deeper (Maybe n ∷ row) d below h w s e =
       let r = row_ends f deeper row d below h w.1 s e in
       record { tokens = r.tokens; steps = r.steps; reads = left_out n row d below r.tokens r.steps (ends_before n row d below (w.1, s) w.0.0 r.tokens r.first) r.reads; first = r.first }
@@ -95,8 +100,8 @@ module _ {N P A K : Type 0} (rules : Rules N P A K) (hints : Hints N P K) (sound
   begins_at k [] row h i = false_true i
   begins_at k (j ∷ ks) row h i =
       elim (or_cases (hints.number k == hints.number j) _ i) [
-        inl e ↦ subst (λ (x : K). may_begin rules hints x row ≡ true) (sym (kind_by rules hints sound k j e)) (and_left (may_begin rules hints j row) _ h)
-      | inr e ↦ begins_at k ks row (and_right (may_begin rules hints j row) _ h) e
+        | inl e ↦ subst (λ (x : K). may_begin rules hints x row ≡ true) (sym (kind_by rules hints sound k j e)) (and_left (may_begin rules hints j row) _ h)
+        | inr e ↦ begins_at k ks row (and_right (may_begin rules hints j row) _ h) e
       ]
 
   Deeper : K → ℕ → Type 0
@@ -110,21 +115,30 @@ module _ {N P A K : Type 0} (rules : Rules N P A K) (hints : Hints N P K) (sound
   unfolding Deeper
   choice_begins k f deeper n d row below h i t s e =
       let c = among_some rules hints sound k (rules.choices n) i in
-      let fine = fine_choice rules hints sound n c.0 c.1 in
-      (c.0, c.1, deeper (rules.row c.0) d (Row row d below) (omega (arith, fine.moved)) (begins_at k (hints.starts c.0) (rules.row c.0) fine.begins c.2)
-      (safe_choice rules hints sound n c.0 d row below c.1 t) s e)
+      let fine = fine_choice rules hints sound n c.0 c.1 in (
+        c.0,
+        c.1,
+        deeper (rules.row c.0) d (Row row d below) (omega (arith, fine.moved)) (begins_at k (hints.starts c.0) (rules.row c.0) fine.begins c.2)
+            (safe_choice rules hints sound n c.0 d row below c.1 t) s e,
+      )
 
   row_begins : (k : K) (f : ℕ) → Deeper k f → (row : List (Symbol N A K)) (d : ℕ) (below : Stack N A K) → moves rules hints row ≤ f → may_begin rules hints k row ≡ true →
       RowEndsWell rules hints row below → IsSafe rules hints below → Ends rules hints sound (AnyEnd rules) any_ends below → Begins k (Row row d below)
   row_begins k f deeper [] d below h i w s e = false_true i
   row_begins k f deeper (Read j ∷ row) d below h i w s e =
       let r = row_can_end rules hints sound (AnyEnd rules) any_ends row d below w.1 s e in
-      record { after = r.tokens; steps = Took d ∷ r.steps;
-        reads = subst (λ (x : K). Reads rules (AnyEnd rules) (Row (Read j ∷ row) d below) (x ∷ r.tokens) (Took d ∷ r.steps)) (sym (kind_by rules hints sound k j i)) (read j row d below r.tokens r.steps r.reads) }
+      record {
+        after = r.tokens;
+        steps = Took d ∷ r.steps;
+        reads = subst (λ (x : K). Reads rules (AnyEnd rules) (Row (Read j ∷ row) d below) (x ∷ r.tokens) (Took d ∷ r.steps)) (sym (kind_by rules hints sound k j i)) (read j row d below r.tokens r.steps r.reads);
+      }
   row_begins k f deeper (Open j ∷ row) d below h i w s e =
       let r = row_can_end rules hints sound (AnyEnd rules) any_ends row (suc d) below w.1 s e in
-      record { after = r.tokens; steps = Took (suc d) ∷ r.steps;
-        reads = subst (λ (x : K). Reads rules (AnyEnd rules) (Row (Open j ∷ row) d below) (x ∷ r.tokens) (Took (suc d) ∷ r.steps)) (sym (kind_by rules hints sound k j i)) (opened j row d below r.tokens r.steps r.reads) }
+      record {
+        after = r.tokens;
+        steps = Took (suc d) ∷ r.steps;
+        reads = subst (λ (x : K). Reads rules (AnyEnd rules) (Row (Open j ∷ row) d below) (x ∷ r.tokens) (Took (suc d) ∷ r.steps)) (sym (kind_by rules hints sound k j i)) (opened j row d below r.tokens r.steps r.reads);
+      }
   row_begins k f deeper (Act a ∷ row) d below h i w s e =
       let r = row_begins k f deeper row d below (omega arith) i w.1 s e in
       record { after = r.after; steps = Did a ∷ r.steps; reads = acted a row d below (k ∷ r.after) r.steps r.reads }
@@ -135,22 +149,22 @@ module _ {N P A K : Type 0} (rules : Rules N P A K) (hints : Hints N P K) (sound
   row_begins k f deeper (Maybe n ∷ row) d below h i w s e =
       let r = row_can_end rules hints sound (AnyEnd rules) any_ends row d below w.1 s e in
       elim (or_cases (among rules hints k (starts_of rules hints n)) _ i) [
-        inl j ↦
-          let c = choice_begins k f deeper n d row below (omega arith) j w.0.1 (w.1, s) r in
-          record { after = c.2.after; steps = c.2.steps; reads = taken n c.0 row d below (k ∷ c.2.after) c.2.steps c.1 c.2.reads }
-      | inr j ↦
-          let c = row_begins k f deeper row d below (omega arith) j w.1 s e in
-          record { after = c.after; steps = c.steps; reads = left_out n row d below (k ∷ c.after) c.steps tt c.reads }
+        | inl j ↦
+            let c = choice_begins k f deeper n d row below (omega arith) j w.0.1 (w.1, s) r in
+            record { after = c.2.after; steps = c.2.steps; reads = taken n c.0 row d below (k ∷ c.2.after) c.2.steps c.1 c.2.reads }
+        | inr j ↦
+            let c = row_begins k f deeper row d below (omega arith) j w.1 s e in
+            record { after = c.after; steps = c.steps; reads = left_out n row d below (k ∷ c.after) c.steps tt c.reads }
       ]
   row_begins k f deeper (Many n ∷ row) d below h i w s e =
       let r = row_can_end rules hints sound (AnyEnd rules) any_ends (Many n ∷ row) d below w s e in
       elim (or_cases (among rules hints k (starts_of rules hints n)) _ i) [
-        inl j ↦
-          let c = choice_begins k f deeper n d (Many n ∷ row) below (omega arith) j w.0.1 (w, s) r in
-          record { after = c.2.after; steps = c.2.steps; reads = again n c.0 row d below (k ∷ c.2.after) c.2.steps c.1 c.2.reads }
-      | inr j ↦
-          let c = row_begins k f deeper row d below (omega arith) j w.1 s e in
-          record { after = c.after; steps = c.steps; reads = ended n row d below (k ∷ c.after) c.steps tt c.reads }
+        | inl j ↦
+            let c = choice_begins k f deeper n d (Many n ∷ row) below (omega arith) j w.0.1 (w, s) r in
+            record { after = c.2.after; steps = c.2.steps; reads = again n c.0 row d below (k ∷ c.2.after) c.2.steps c.1 c.2.reads }
+        | inr j ↦
+            let c = row_begins k f deeper row d below (omega arith) j w.1 s e in
+            record { after = c.after; steps = c.steps; reads = ended n row d below (k ∷ c.after) c.steps tt c.reads }
       ]
 
   all_rows_begin : (k : K) (f : ℕ) (row : List (Symbol N A K)) (d : ℕ) (below : Stack N A K) → moves rules hints row ≤ f → may_begin rules hints k row ≡ true →

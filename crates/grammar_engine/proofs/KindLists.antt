@@ -46,8 +46,8 @@ module _ {N P A K : Type 0} (rules : Rules N P A K) (hints : Hints N P K) (sound
   among_append_left k [] ys h = false_true h
   among_append_left k (x ∷ xs) ys h =
       elim (or_cases (hints.number k == hints.number x) _ h) [
-        inl e ↦ or_left (hints.number k == hints.number x) _ e
-      | inr e ↦ or_right (hints.number k == hints.number x) _ (among_append_left k xs ys e)
+        | inl e ↦ or_left (hints.number k == hints.number x) _ e
+        | inr e ↦ or_right (hints.number k == hints.number x) _ (among_append_left k xs ys e)
       ]
 
   pub among_append_right : (k : K) (xs ys : List K) → among rules hints k ys ≡ true → among rules hints k (xs ++ ys) ≡ true
@@ -58,8 +58,8 @@ module _ {N P A K : Type 0} (rules : Rules N P A K) (hints : Hints N P K) (sound
   among_append_cases k [] ys h = inr h
   among_append_cases k (x ∷ xs) ys h =
       elim (or_cases (hints.number k == hints.number x) _ h) [
-        inl e ↦ inl (or_left (hints.number k == hints.number x) _ e)
-      | inr e ↦ elim (among_append_cases k xs ys e) [ inl f ↦ inl (or_right (hints.number k == hints.number x) _ f) | inr f ↦ inr f ]
+        | inl e ↦ inl (or_left (hints.number k == hints.number x) _ e)
+        | inr e ↦ elim (among_append_cases k xs ys e) [ inl f ↦ inl (or_right (hints.number k == hints.number x) _ f) | inr f ↦ inr f ]
       ]
 
   -- a choice's kinds are its nonterminal's
@@ -73,24 +73,24 @@ module _ {N P A K : Type 0} (rules : Rules N P A K) (hints : Hints N P K) (sound
   among_some k [] h = false_true h
   among_some k (q ∷ ps) h =
       elim (among_append_cases k (hints.starts q) (flat_map hints.starts ps) h) [
-        inl e ↦ (q, inl refl, e)
-      | inr e ↦ let more = among_some k ps e in (more.0, inr more.1, more.2)
+        | inl e ↦ (q, inl refl, e)
+        | inr e ↦ let more = among_some k ps e in (more.0, inr more.1, more.2)
       ]
 
   pub all_among_at : (k : K) (ks js : List K) → all_among rules hints ks js ≡ true → among rules hints k ks ≡ true → among rules hints k js ≡ true
   all_among_at k [] js h i = false_true i
   all_among_at k (l ∷ ks) js h i =
       elim (or_cases (hints.number k == hints.number l) _ i) [
-        inl e ↦ subst (λ (x : K). among rules hints x js ≡ true) (sym (kind_by k l e)) (and_left (among rules hints l js) _ h)
-      | inr e ↦ all_among_at k ks js (and_right (among rules hints l js) _ h) e
+        | inl e ↦ subst (λ (x : K). among rules hints x js ≡ true) (sym (kind_by k l e)) (and_left (among rules hints l js) _ h)
+        | inr e ↦ all_among_at k ks js (and_right (among rules hints l js) _ h) e
       ]
 
   pub none_among_at : (k : K) (ks js : List K) → none_among rules hints ks js ≡ true → among rules hints k ks ≡ true → among rules hints k js ≡ false
   none_among_at k [] js h i = false_true i
   none_among_at k (l ∷ ks) js h i =
       elim (or_cases (hints.number k == hints.number l) _ i) [
-        inl e ↦ subst (λ (x : K). among rules hints x js ≡ false) (sym (kind_by k l e)) (not_true _ (and_left (not (among rules hints l js)) _ h))
-      | inr e ↦ none_among_at k ks js (and_right (not (among rules hints l js)) _ h) e
+        | inl e ↦ subst (λ (x : K). among rules hints x js ≡ false) (sym (kind_by k l e)) (not_true _ (and_left (not (among rules hints l js)) _ h))
+        | inr e ↦ none_among_at k ks js (and_right (not (among rules hints l js)) _ h) e
       ]
 
   -- every list is among itself
@@ -153,8 +153,8 @@ module _ {N P A K : Type 0} (rules : Rules N P A K) (hints : Hints N P K) (sound
   pub fine_choice : (n : N) (p : P) → IsOneOf p (rules.choices n) → IsFine n p
   fine_choice n p i =
       let all = and_left _ (are_apart rules hints (rules.choices n))
-          (and_left _ (is_sample rules hints n (slice_get (rules.choices n) (hints.sample n)))
-          (and_left _ (among rules hints (hints.begin n) (starts_of rules hints n)) (sound.predictable n))) in
+      (and_left _ (is_sample rules hints n (slice_get (rules.choices n) (hints.sample n)))
+      (and_left _ (among rules hints (hints.begin n) (starts_of rules hints n)) (sound.predictable n))) in
       let row = fine_row_in n (rules.choices n) p all i in
       let three = and_left (covers rules hints (hints.starts p) (rules.row p) && all_begin rules hints (hints.starts p) (rules.row p) && nat_lt (moves rules hints (rules.row p)) (hints.cost n + 1)) _ row in
       let two = and_left (covers rules hints (hints.starts p) (rules.row p) && all_begin rules hints (hints.starts p) (rules.row p)) _ three in
@@ -186,8 +186,11 @@ module _ {N P A K : Type 0} (rules : Rules N P A K) (hints : Hints N P K) (sound
     where
       by : (o : Option P) → slice_get (rules.choices n) (hints.sample n) ≡ o → is_sample rules hints n o ≡ true → (p : P) × IsShort n p
       by None e h = false_true h
-      by (Some p) e h = (p, record {
-        choice = one_at (rules.choices n) (hints.sample n) p e;
-        small = ltb-true _ _ (and_left (nat_lt (sizes rules hints (rules.row p)) (hints.size n)) _ h);
-        first = is_this_by (hints.begin n) (lead rules hints (rules.row p) None) (and_right (nat_lt (sizes rules hints (rules.row p)) (hints.size n)) _ h);
-      })
+      by (Some p) e h = (
+        p,
+        record {
+          choice = one_at (rules.choices n) (hints.sample n) p e;
+          small = ltb-true _ _ (and_left (nat_lt (sizes rules hints (rules.row p)) (hints.size n)) _ h);
+          first = is_this_by (hints.begin n) (lead rules hints (rules.row p) None) (and_right (nat_lt (sizes rules hints (rules.row p)) (hints.size n)) _ h);
+        },
+      )

@@ -52,27 +52,27 @@ module _ {N P A K : Type 0} (rules : Rules N P A K) (hints : Hints N P K) (sound
       along q other (subst (λ (x : P). Reads rules Counts (Row (rules.row x) d (Row row d below)) ks other) same u.2)
   along (taken n p row d below ks steps i q) other r =
       elim (un_maybe rules Counts r) [
-        inl u ↦
-          let same = same_choice n u.0 p d d (Row row d below) (Row row d below) ks other steps u.1 i u.2 q in
-          along q other (subst (λ (x : P). Reads rules Counts (Row (rules.row x) d (Row row d below)) ks other) same u.2)
-      | inr u ↦ absurd (read_or_ended n p d (Row row d below) ks steps i q u.0)
+        | inl u ↦
+            let same = same_choice n u.0 p d d (Row row d below) (Row row d below) ks other steps u.1 i u.2 q in
+            along q other (subst (λ (x : P). Reads rules Counts (Row (rules.row x) d (Row row d below)) ks other) same u.2)
+        | inr u ↦ absurd (read_or_ended n p d (Row row d below) ks steps i q u.0)
       ]
   along (left_out n row d below ks steps m q) other r =
       elim (un_maybe rules Counts r) [
-        inl u ↦ absurd (read_or_ended n u.0 d (Row row d below) ks other u.1 u.2 m)
-      | inr u ↦ along q other u.1
+        | inl u ↦ absurd (read_or_ended n u.0 d (Row row d below) ks other u.1 u.2 m)
+        | inr u ↦ along q other u.1
       ]
   along (again n p row d below ks steps i q) other r =
       elim (un_many rules Counts r) [
-        inl u ↦
-          let same = same_choice n u.0 p d d (Row (Many n ∷ row) d below) (Row (Many n ∷ row) d below) ks other steps u.1 i u.2 q in
-          along q other (subst (λ (x : P). Reads rules Counts (Row (rules.row x) d (Row (Many n ∷ row) d below)) ks other) same u.2)
-      | inr u ↦ absurd (read_or_ended n p d (Row (Many n ∷ row) d below) ks steps i q u.0)
+        | inl u ↦
+            let same = same_choice n u.0 p d d (Row (Many n ∷ row) d below) (Row (Many n ∷ row) d below) ks other steps u.1 i u.2 q in
+            along q other (subst (λ (x : P). Reads rules Counts (Row (rules.row x) d (Row (Many n ∷ row) d below)) ks other) same u.2)
+        | inr u ↦ absurd (read_or_ended n p d (Row (Many n ∷ row) d below) ks steps i q u.0)
       ]
   along (ended n row d below ks steps m q) other r =
       elim (un_many rules Counts r) [
-        inl u ↦ absurd (read_or_ended n u.0 d (Row (Many n ∷ row) d below) ks other u.1 u.2 m)
-      | inr u ↦ along q other u.1
+        | inl u ↦ absurd (read_or_ended n u.0 d (Row (Many n ∷ row) d below) ks other u.1 u.2 m)
+        | inr u ↦ along q other u.1
       ]
 
 module _ {N P A K : Type 0} (grammar : Rows N A K) (rules : Rules N P A K) (named : AreNamed grammar rules) (hints : Hints N P K) (sound : IsSound rules hints) where

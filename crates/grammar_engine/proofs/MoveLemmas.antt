@@ -96,29 +96,29 @@ module _ {N P A K : Type 0} (rules : Rules N P A K) (hints : Hints N P K) (sound
   move_leads {next = next} (take_it n p row d below i h) = record {
     back = λ ks steps e r. taken n p row d below ks steps i r;
     on = λ ks steps e r. elim (un_maybe rules Counts r) [
-      inl u ↦ (steps, refl, told n p u.0 row d (Row row d below) ks steps next e i u.1 h u.2)
-    | inr u ↦ absurd (not_ended n p ks next e i h u.0)
+      | inl u ↦ (steps, refl, told n p u.0 row d (Row row d below) ks steps next e i u.1 h u.2)
+      | inr u ↦ absurd (not_ended n p ks next e i h u.0)
     ];
   }
   move_leads {next = next} (leave_it n row d below h) = record {
     back = λ ks steps e r. left_out n row d below ks steps (may_stop n ks next e h) r;
     on = λ ks steps e r. elim (un_maybe rules Counts r) [
-      inl u ↦ absurd (no_choice n u.0 ks next e u.1 h (choice_starts rules hints sound Counts n u.0 d (Row row d below) ks steps u.1 u.2))
-    | inr u ↦ (steps, refl, u.1)
+      | inl u ↦ absurd (no_choice n u.0 ks next e u.1 h (choice_starts rules hints sound Counts n u.0 d (Row row d below) ks steps u.1 u.2))
+      | inr u ↦ (steps, refl, u.1)
     ];
   }
   move_leads {next = next} (go_on n p row d below i h) = record {
     back = λ ks steps e r. again n p row d below ks steps i r;
     on = λ ks steps e r. elim (un_many rules Counts r) [
-      inl u ↦ (steps, refl, told n p u.0 row d (Row (Many n ∷ row) d below) ks steps next e i u.1 h u.2)
-    | inr u ↦ absurd (not_ended n p ks next e i h u.0)
+      | inl u ↦ (steps, refl, told n p u.0 row d (Row (Many n ∷ row) d below) ks steps next e i u.1 h u.2)
+      | inr u ↦ absurd (not_ended n p ks next e i h u.0)
     ];
   }
   move_leads {next = next} (stop n row d below h) = record {
     back = λ ks steps e r. ended n row d below ks steps (may_stop n ks next e h) r;
     on = λ ks steps e r. elim (un_many rules Counts r) [
-      inl u ↦ absurd (no_choice n u.0 ks next e u.1 h (choice_starts rules hints sound Counts n u.0 d (Row (Many n ∷ row) d below) ks steps u.1 u.2))
-    | inr u ↦ (steps, refl, u.1)
+      | inl u ↦ absurd (no_choice n u.0 ks next e u.1 h (choice_starts rules hints sound Counts n u.0 d (Row (Many n ∷ row) d below) ks steps u.1 u.2))
+      | inr u ↦ (steps, refl, u.1)
     ];
   }
 
@@ -130,9 +130,9 @@ module _ {N P A K : Type 0} (rules : Rules N P A K) (hints : Hints N P K) (sound
       record {
         back = λ ks steps e r. subst (λ (x : List (Step A)). Reads rules Counts s ks x) (sym (append_assoc done more steps)) (first.back ks (more ++ steps) e (others.back ks steps e r));
         on = λ ks steps e r.
-          let a = first.on ks steps e r in
-          let b = others.on ks a.0 e a.2 in
-          (b.0, a.1 ∙ ap (λ (x : List (Step A)). done ++ x) b.1 ∙ sym (append_assoc done more b.0), b.2);
+            let a = first.on ks steps e r in
+            let b = others.on ks a.0 e a.2 in
+            (b.0, a.1 ∙ ap (λ (x : List (Step A)). done ++ x) b.1 ∙ sym (append_assoc done more b.0), b.2);
       }
 
   -- ---- moves keep what is known of a stack

@@ -70,12 +70,12 @@ module _ {N P A K : Type 0} (rules : Rules N P A K) (hints : Hints N P K) (sound
   safe_pair k n [] row below h s = false_true h
   safe_pair k n (p ∷ ps) row below h s =
       elim (or_cases (hints.number k == hints.number p.0 && hints.label n == hints.label p.1) _ h) [
-        inl e ↦
-          let same_kind = kind_by rules hints sound k p.0 (and_left (hints.number k == hints.number p.0) _ e) in
-          let same_label = label_by rules hints sound n p.1 (and_right (hints.number k == hints.number p.0) _ e) in
-          subst (λ (j : K). is_safe rules hints j n row (safe_at rules hints j n below) ≡ true) (sym same_kind)
-          (subst (λ (m : N). is_safe rules hints p.0 m row (safe_at rules hints p.0 m below) ≡ true) (sym same_label) s.0)
-      | inr e ↦ safe_pair k n ps row below e s.1
+        | inl e ↦
+            let same_kind = kind_by rules hints sound k p.0 (and_left (hints.number k == hints.number p.0) _ e) in
+            let same_label = label_by rules hints sound n p.1 (and_right (hints.number k == hints.number p.0) _ e) in
+            subst (λ (j : K). is_safe rules hints j n row (safe_at rules hints j n below) ≡ true) (sym same_kind)
+            (subst (λ (m : N). is_safe rules hints p.0 m row (safe_at rules hints p.0 m below) ≡ true) (sym same_label) s.0)
+        | inr e ↦ safe_pair k n ps row below e s.1
       ]
 
   safe_by : (tail : List (K × N)) (d : ℕ) (below_row : List (Symbol N A K)) (below : Stack N A K) → AreSafe rules hints tail below_row below →
@@ -83,8 +83,9 @@ module _ {N P A K : Type 0} (rules : Rules N P A K) (hints : Hints N P K) (sound
   safe_by tail d below_row below s [] row h = tt
   safe_by tail d below_row below s (p ∷ ps) row h = (
     safe_mono p.0 p.1 row (is_pair rules hints p.0 p.1 tail) (safe_at rules hints p.0 p.1 (Row below_row d below)) (λ i. safe_pair p.0 p.1 tail below_row below i s)
-    (and_left (is_safe rules hints p.0 p.1 row (is_pair rules hints p.0 p.1 tail)) _ h),
-    safe_by tail d below_row below s ps row (and_right (is_safe rules hints p.0 p.1 row (is_pair rules hints p.0 p.1 tail)) _ h))
+        (and_left (is_safe rules hints p.0 p.1 row (is_pair rules hints p.0 p.1 tail)) _ h),
+    safe_by tail d below_row below s ps row (and_right (is_safe rules hints p.0 p.1 row (is_pair rules hints p.0 p.1 tail)) _ h),
+  )
 
   -- a row that ends well by the test ends well on a stack that is safe for its nonterminal
   row_by : (tail : List (K × N)) (d : ℕ) (below_row : List (Symbol N A K)) (below : Stack N A K) → AreSafe rules hints tail below_row below →
@@ -93,19 +94,26 @@ module _ {N P A K : Type 0} (rules : Rules N P A K) (hints : Hints N P K) (sound
   row_by tail d below_row below s (Read k ∷ row) h = (tt, row_by tail d below_row below s row h)
   row_by tail d below_row below s (Open k ∷ row) h = (tt, row_by tail d below_row below s row h)
   row_by tail d below_row below s (Act a ∷ row) h = (tt, row_by tail d below_row below s row h)
-  row_by tail d below_row below s (Once n ∷ row) h =
-      (safe_by tail d below_row below s (hints.tails n) row (and_left (are_safe rules hints (hints.tails n) row tail) _ h),
-      row_by tail d below_row below s row (and_right (are_safe rules hints (hints.tails n) row tail) _ h))
+  row_by tail d below_row below s (Once n ∷ row) h = (
+    safe_by tail d below_row below s (hints.tails n) row (and_left (are_safe rules hints (hints.tails n) row tail) _ h),
+    row_by tail d below_row below s row (and_right (are_safe rules hints (hints.tails n) row tail) _ h),
+  )
   row_by tail d below_row below s (Maybe n ∷ row) h =
-      let here = and_left (are_safe rules hints (own rules hints n) row tail && are_safe rules hints (hints.tails n) row tail) _ h in
-      ((safe_by tail d below_row below s (own rules hints n) row (and_left (are_safe rules hints (own rules hints n) row tail) _ here),
-      safe_by tail d below_row below s (hints.tails n) row (and_right (are_safe rules hints (own rules hints n) row tail) _ here)),
-      row_by tail d below_row below s row (and_right (are_safe rules hints (own rules hints n) row tail && are_safe rules hints (hints.tails n) row tail) _ h))
+      let here = and_left (are_safe rules hints (own rules hints n) row tail && are_safe rules hints (hints.tails n) row tail) _ h in (
+        (
+          safe_by tail d below_row below s (own rules hints n) row (and_left (are_safe rules hints (own rules hints n) row tail) _ here),
+          safe_by tail d below_row below s (hints.tails n) row (and_right (are_safe rules hints (own rules hints n) row tail) _ here),
+        ),
+        row_by tail d below_row below s row (and_right (are_safe rules hints (own rules hints n) row tail && are_safe rules hints (hints.tails n) row tail) _ h),
+      )
   row_by tail d below_row below s (Many n ∷ row) h =
-      let here = and_left (are_safe rules hints (own rules hints n) row tail && are_safe rules hints (hints.tails n) (Many n ∷ row) tail) _ h in
-      ((safe_by tail d below_row below s (own rules hints n) row (and_left (are_safe rules hints (own rules hints n) row tail) _ here),
-      safe_by tail d below_row below s (hints.tails n) (Many n ∷ row) (and_right (are_safe rules hints (own rules hints n) row tail) _ here)),
-      row_by tail d below_row below s row (and_right (are_safe rules hints (own rules hints n) row tail && are_safe rules hints (hints.tails n) (Many n ∷ row) tail) _ h))
+      let here = and_left (are_safe rules hints (own rules hints n) row tail && are_safe rules hints (hints.tails n) (Many n ∷ row) tail) _ h in (
+        (
+          safe_by tail d below_row below s (own rules hints n) row (and_left (are_safe rules hints (own rules hints n) row tail) _ here),
+          safe_by tail d below_row below s (hints.tails n) (Many n ∷ row) (and_right (are_safe rules hints (own rules hints n) row tail) _ here),
+        ),
+        row_by tail d below_row below s row (and_right (are_safe rules hints (own rules hints n) row tail && are_safe rules hints (hints.tails n) (Many n ∷ row) tail) _ h),
+      )
 
   -- so what a nonterminal stands for may stand in its place
   pub safe_choice : (n : N) (p : P) (d : ℕ) (row : List (Symbol N A K)) (below : Stack N A K) → IsOneOf p (rules.choices n) → AreSafe rules hints (hints.tails n) row below →
@@ -118,8 +126,8 @@ module _ {N P A K : Type 0} (rules : Rules N P A K) (hints : Hints N P K) (sound
   own_safe k n [] row below h s = false_true h
   own_safe k n (j ∷ ks) row below h s =
       elim (or_cases (hints.number k == hints.number j) _ h) [
-        inl e ↦ subst (λ (x : K). is_safe rules hints x n row (safe_at rules hints x n below) ≡ true) (sym (kind_by rules hints sound k j e)) s.0
-      | inr e ↦ own_safe k n ks row below e s.1
+        | inl e ↦ subst (λ (x : K). is_safe rules hints x n row (safe_at rules hints x n below) ≡ true) (sym (kind_by rules hints sound k j e)) s.0
+        | inr e ↦ own_safe k n ks row below e s.1
       ]
 
   pub maybe_safe : (k : K) (n : N) (row : List (Symbol N A K)) (below : Stack N A K) → among rules hints k (starts_of rules hints n) ≡ true → AreSafe rules hints (own rules hints n) row below →

@@ -64,32 +64,74 @@ module _ {N P A K : Type 0} (rules : Rules N P A K) (hints : Hints N P K) (sound
   find over k rest n e w h = absurd (cc)
   find (row_over d below ks steps r) k rest n e w h =
       let f = find r k rest n e w.1 h in
-      record { choice = f.choice; is_choice = f.is_choice; depth = f.depth; after = f.after; steps = f.steps; reads = f.reads;
-        without = λ a b q. let m = f.without a b q in (m.0, row_over d below a m.0 m.1) }
+      record {
+        choice = f.choice;
+        is_choice = f.is_choice;
+        depth = f.depth;
+        after = f.after;
+        steps = f.steps;
+        reads = f.reads;
+        without = λ a b q. let m = f.without a b q in (m.0, row_over d below a m.0 m.1);
+      }
   find (read j row d below ks steps r) k rest n e w h = let same : k ≡ j = cc in absurd (cc (not_true _ h, kind_is rules hints sound k j same))
   find (opened j row d below ks steps r) k rest n e w h = let same : k ≡ j = cc in absurd (cc (not_true _ h, kind_is rules hints sound k j same))
   find (acted a row d below ks steps r) k rest n e w h =
       let f = find r k rest n e (w.0.1, w.1) h in
-      record { choice = f.choice; is_choice = f.is_choice; depth = f.depth; after = f.after; steps = f.steps; reads = f.reads;
-        without = λ b c q. let m = f.without b c q in (Did a ∷ m.0, acted a row d below b m.0 m.1) }
+      record {
+        choice = f.choice;
+        is_choice = f.is_choice;
+        depth = f.depth;
+        after = f.after;
+        steps = f.steps;
+        reads = f.reads;
+        without = λ b c q. let m = f.without b c q in (Did a ∷ m.0, acted a row d below b m.0 m.1);
+      }
   find (once m p row d below ks steps i r) k rest n e w h =
       absurd (cc (not_true _ h, of_kind m p k rest ks e i (choice_starts rules hints sound (AnyEnd rules) m p d (Row row d below) ks steps i r)))
   find (taken m p row d below ks steps i r) k rest n e w h =
       let same = same_nonterminal k n m (safe_at rules hints k n (Row row d below)) (of_kind m p k rest ks e i (choice_starts rules hints sound (AnyEnd rules) m p d (Row row d below) ks steps i r)) h in
-      record { choice = p; is_choice = subst (λ (x : N). IsOneOf p (rules.choices x)) same i; depth = d; after = Row row d below; steps = steps; reads = r;
-        without = λ a b q. (b, left_out m row d below a b tt q) }
+      record {
+        choice = p;
+        is_choice = subst (λ (x : N). IsOneOf p (rules.choices x)) same i;
+        depth = d;
+        after = Row row d below;
+        steps = steps;
+        reads = r;
+        without = λ a b q. (b, left_out m row d below a b tt q);
+      }
   find (left_out m row d below ks steps t r) k rest n e w h =
       let f = find r k rest n e (w.0.1, w.1) (safe_past rules hints sound k n m row below w.0.0.0 h) in
-      record { choice = f.choice; is_choice = f.is_choice; depth = f.depth; after = f.after; steps = f.steps; reads = f.reads;
-        without = λ a b q. let x = f.without a b q in (x.0, left_out m row d below a x.0 tt x.1) }
+      record {
+        choice = f.choice;
+        is_choice = f.is_choice;
+        depth = f.depth;
+        after = f.after;
+        steps = f.steps;
+        reads = f.reads;
+        without = λ a b q. let x = f.without a b q in (x.0, left_out m row d below a x.0 tt x.1);
+      }
   find (again m p row d below ks steps i r) k rest n e w h =
       let same = same_nonterminal k n m (safe_at rules hints k n (Row row d below)) (of_kind m p k rest ks e i (choice_starts rules hints sound (AnyEnd rules) m p d (Row (Many m ∷ row) d below) ks steps i r)) h in
-      record { choice = p; is_choice = subst (λ (x : N). IsOneOf p (rules.choices x)) same i; depth = d; after = Row (Many m ∷ row) d below; steps = steps; reads = r;
-        without = λ a b q. (b, q) }
+      record {
+        choice = p;
+        is_choice = subst (λ (x : N). IsOneOf p (rules.choices x)) same i;
+        depth = d;
+        after = Row (Many m ∷ row) d below;
+        steps = steps;
+        reads = r;
+        without = λ a b q. (b, q);
+      }
   find (ended m row d below ks steps t r) k rest n e w h =
       let f = find r k rest n e (w.0.1, w.1) (safe_past rules hints sound k n m row below w.0.0.0 h) in
-      record { choice = f.choice; is_choice = f.is_choice; depth = f.depth; after = f.after; steps = f.steps; reads = f.reads;
-        without = λ a b q. let x = f.without a b q in (x.0, ended m row d below a x.0 tt x.1) }
+      record {
+        choice = f.choice;
+        is_choice = f.is_choice;
+        depth = f.depth;
+        after = f.after;
+        steps = f.steps;
+        reads = f.reads;
+        without = λ a b q. let x = f.without a b q in (x.0, ended m row d below a x.0 tt x.1);
+      }
 
   -- what is left out before a token with which it may begin can be read there as well
   instead : (n : N) (k : K) (rest : List K) (steps : List (Step A)) (row : List (Symbol N A K)) (d : ℕ) (below more : Stack N A K) → among rules hints k (starts_of rules hints n) ≡ true →
@@ -97,9 +139,11 @@ module _ {N P A K : Type 0} (rules : Rules N P A K) (hints : Hints N P K) (sound
       ((ks : List K) (others : List (Step A)) → Reads rules (AnyEnd rules) (Row row d below) ks others → Some_Reads rules more ks) →
       (p : P) × IsOneOf p (rules.choices n) × Some_Reads rules (Row (rules.row p) d more) (k ∷ rest)
   instead n k rest steps row d below more i w s r f =
-      let found = find r k rest n refl w (maybe_safe rules hints sound k n row below i s) in
-      (found.choice, found.is_choice,
-      lift rules found.after more (λ ks others q. let x = found.without ks others q in f ks x.0 x.1) (lifted (rules.row found.choice) found.depth d found.after more base) found.reads)
+      let found = find r k rest n refl w (maybe_safe rules hints sound k n row below i s) in (
+        found.choice,
+        found.is_choice,
+        lift rules found.after more (λ ks others q. let x = found.without ks others q in f ks x.0 x.1) (lifted (rules.row found.choice) found.depth d found.after more base) found.reads,
+      )
 
   -- ---- going through a reading
 
@@ -159,36 +203,36 @@ module _ {N P A K : Type 0} (rules : Rules N P A K) (hints : Hints N P K) (sound
       (c.0, once n u.0 row d below ks c.0 u.1 c.1)
   one_more ks later f sooner (Row (Maybe n ∷ row) d below) steps h w r =
       elim (un_maybe rules (AnyEnd rules) r) [
-        inl u ↦
-          let c = with_choice ks f sooner n u.0 d row below steps u.1 (omega arith) w.0.0.1 (w.0.1, w.1) u.2 in
-          (c.0, taken n u.0 row d below ks c.0 u.1 c.1)
-      | inr u ↦ elim (begins_or_not n ks) [
-          inl b ↦
-            let q = subst (λ (x : List K). Reads rules (AnyEnd rules) (Row row d below) x steps) b.2 u.1 in
-            let i = instead n b.0 b.1 steps row d below (Row row d below) b.3 (w.0.1, w.1) w.0.0.0 q (λ xs others x. (others, x)) in
-            let back = subst (λ (x : List K). Reads rules (AnyEnd rules) (Row (rules.row i.0) d (Row row d below)) x i.2.0) (sym b.2) i.2.1 in
-            let c = with_choice ks f sooner n i.0 d row below i.2.0 i.1 (omega arith) w.0.0.1 (w.0.1, w.1) back in
-            (c.0, taken n i.0 row d below ks c.0 i.1 c.1)
-        | inr b ↦
-            let c = sooner (Row row d below) steps (omega arith) (w.0.1, w.1) u.1 in
-            (c.0, left_out n row d below ks c.0 b c.1)
+        | inl u ↦
+            let c = with_choice ks f sooner n u.0 d row below steps u.1 (omega arith) w.0.0.1 (w.0.1, w.1) u.2 in
+            (c.0, taken n u.0 row d below ks c.0 u.1 c.1)
+        | inr u ↦ elim (begins_or_not n ks) [
+          | inl b ↦
+              let q = subst (λ (x : List K). Reads rules (AnyEnd rules) (Row row d below) x steps) b.2 u.1 in
+              let i = instead n b.0 b.1 steps row d below (Row row d below) b.3 (w.0.1, w.1) w.0.0.0 q (λ xs others x. (others, x)) in
+              let back = subst (λ (x : List K). Reads rules (AnyEnd rules) (Row (rules.row i.0) d (Row row d below)) x i.2.0) (sym b.2) i.2.1 in
+              let c = with_choice ks f sooner n i.0 d row below i.2.0 i.1 (omega arith) w.0.0.1 (w.0.1, w.1) back in
+              (c.0, taken n i.0 row d below ks c.0 i.1 c.1)
+          | inr b ↦
+              let c = sooner (Row row d below) steps (omega arith) (w.0.1, w.1) u.1 in
+              (c.0, left_out n row d below ks c.0 b c.1)
         ]
       ]
   one_more ks later f sooner (Row (Many n ∷ row) d below) steps h w r =
       elim (un_many rules (AnyEnd rules) r) [
-        inl u ↦
-          let c = with_choice ks f sooner n u.0 d (Many n ∷ row) below steps u.1 (omega arith) w.0.0.1 w u.2 in
-          (c.0, again n u.0 row d below ks c.0 u.1 c.1)
-      | inr u ↦ elim (begins_or_not n ks) [
-          inl b ↦
-            let q = subst (λ (x : List K). Reads rules (AnyEnd rules) (Row row d below) x steps) b.2 u.1 in
-            let i = instead n b.0 b.1 steps row d below (Row (Many n ∷ row) d below) b.3 (w.0.1, w.1) w.0.0.0 q (λ xs others x. (others, ended n row d below xs others tt x)) in
-            let back = subst (λ (x : List K). Reads rules (AnyEnd rules) (Row (rules.row i.0) d (Row (Many n ∷ row) d below)) x i.2.0) (sym b.2) i.2.1 in
-            let c = with_choice ks f sooner n i.0 d (Many n ∷ row) below i.2.0 i.1 (omega arith) w.0.0.1 w back in
-            (c.0, again n i.0 row d below ks c.0 i.1 c.1)
-        | inr b ↦
-            let c = sooner (Row row d below) steps (omega arith) (w.0.1, w.1) u.1 in
-            (c.0, ended n row d below ks c.0 b c.1)
+        | inl u ↦
+            let c = with_choice ks f sooner n u.0 d (Many n ∷ row) below steps u.1 (omega arith) w.0.0.1 w u.2 in
+            (c.0, again n u.0 row d below ks c.0 u.1 c.1)
+        | inr u ↦ elim (begins_or_not n ks) [
+          | inl b ↦
+              let q = subst (λ (x : List K). Reads rules (AnyEnd rules) (Row row d below) x steps) b.2 u.1 in
+              let i = instead n b.0 b.1 steps row d below (Row (Many n ∷ row) d below) b.3 (w.0.1, w.1) w.0.0.0 q (λ xs others x. (others, ended n row d below xs others tt x)) in
+              let back = subst (λ (x : List K). Reads rules (AnyEnd rules) (Row (rules.row i.0) d (Row (Many n ∷ row) d below)) x i.2.0) (sym b.2) i.2.1 in
+              let c = with_choice ks f sooner n i.0 d (Many n ∷ row) below i.2.0 i.1 (omega arith) w.0.0.1 w back in
+              (c.0, again n i.0 row d below ks c.0 i.1 c.1)
+          | inr b ↦
+              let c = sooner (Row row d below) steps (omega arith) (w.0.1, w.1) u.1 in
+              (c.0, ended n row d below ks c.0 b c.1)
         ]
       ]
 

@@ -117,7 +117,7 @@ module _ {N P A K : Type 0} (rules : Rules N P A K) (hints : Hints N P K) (sound
       let lead = moves_lead rules hints sound f.moved in
       let shallow = moves_shallow rules hints sound limit f.moved s.shallow in
       let noted : levels (s.steps ++ (f.done ++ f.step ∷ [])) ≡ levels s.steps ++ levels (f.step ∷ []) =
-          levels-append s.steps (f.done ++ f.step ∷ []) ∙ ap (λ l. levels s.steps ++ l) (levels-append f.done (f.step ∷ []) ∙ ap (λ l. l ++ levels (f.step ∷ [])) (moves_levels f.moved)) in
+      levels-append s.steps (f.done ++ f.step ∷ []) ∙ ap (λ l. levels s.steps ++ l) (levels-append f.done (f.step ∷ []) ∙ ap (λ l. l ++ levels (f.step ∷ [])) (moves_levels f.moved)) in
       record {
         steps = s.steps ++ (f.done ++ f.step ∷ []);
         low = subst (AreLow limit) (sym noted) (low_append limit (levels s.steps) (levels (f.step ∷ [])) s.low (take_low f.taken shallow));
@@ -126,18 +126,19 @@ module _ {N P A K : Type 0} (rules : Rules N P A K) (hints : Hints N P K) (sound
         safe = take_safe f.taken (moves_safe rules hints sound f.moved s.safe);
         shallow = take_shallow f.taken shallow;
         back = λ ks more r.
-          let there = s.back (k ∷ ks) (f.done ++ f.step ∷ more) (lead.back (k ∷ ks) (f.step ∷ more) refl (take_back f.taken ks more r)) in
-          let tokens : before ++ k ∷ ks ≡ (before ++ k ∷ []) ++ ks = sym (append_assoc before (k ∷ []) ks) in
-          let all : s.steps ++ (f.done ++ f.step ∷ more) ≡ (s.steps ++ (f.done ++ f.step ∷ [])) ++ more =
-              ap (λ x. s.steps ++ x) (sym (append_assoc f.done (f.step ∷ []) more)) ∙ sym (append_assoc s.steps (f.done ++ f.step ∷ []) more) in
-          subst (λ (x : List K). IsReading rules x ((s.steps ++ (f.done ++ f.step ∷ [])) ++ more)) tokens (subst (λ (x : List (Step A)). IsReading rules (before ++ k ∷ ks) x) all there);
+            let there = s.back (k ∷ ks) (f.done ++ f.step ∷ more) (lead.back (k ∷ ks) (f.step ∷ more) refl (take_back f.taken ks more r)) in
+            let tokens : before ++ k ∷ ks ≡ (before ++ k ∷ []) ++ ks = sym (append_assoc before (k ∷ []) ks) in
+            let all : s.steps ++ (f.done ++ f.step ∷ more) ≡ (s.steps ++ (f.done ++ f.step ∷ [])) ++ more =
+            ap (λ x. s.steps ++ x) (sym (append_assoc f.done (f.step ∷ []) more)) ∙ sym (append_assoc s.steps (f.done ++ f.step ∷ []) more) in
+            subst (λ (x : List K). IsReading rules x ((s.steps ++ (f.done ++ f.step ∷ [])) ++ more)) tokens (subst (λ (x : List (Step A)). IsReading rules (before ++ k ∷ ks) x) all there);
         on = λ ks more r.
-          let a = s.on (k ∷ ks) more (subst (λ (x : List K). IsReading rules x more) (append_assoc before (k ∷ []) ks) r) in
-          let b = lead.on (k ∷ ks) a.0 refl a.2 in
-          let c = take_on f.taken ks b.0 b.2 in
-          (c.0,
-          a.1 ∙ ap (λ x. s.steps ++ x) (b.1 ∙ ap (λ x. f.done ++ x) c.1 ∙ sym (append_assoc f.done (f.step ∷ []) c.0)) ∙ sym (append_assoc s.steps (f.done ++ f.step ∷ []) c.0),
-          c.2);
+            let a = s.on (k ∷ ks) more (subst (λ (x : List K). IsReading rules x more) (append_assoc before (k ∷ []) ks) r) in
+            let b = lead.on (k ∷ ks) a.0 refl a.2 in
+            let c = take_on f.taken ks b.0 b.2 in (
+              c.0,
+              a.1 ∙ ap (λ x. s.steps ++ x) (b.1 ∙ ap (λ x. f.done ++ x) c.1 ∙ sym (append_assoc f.done (f.step ∷ []) c.0)) ∙ sym (append_assoc s.steps (f.done ++ f.step ∷ []) c.0),
+              c.2,
+            );
       }
 
   -- ---- the answers
@@ -168,9 +169,9 @@ module _ {N P A K : Type 0} (rules : Rules N P A K) (hints : Hints N P K) (sound
         low = subst (AreLow limit) (sym (ap (take place) (levels-append s.steps e.steps) ∙ take_front (levels s.steps) (levels e.steps) place (s.count ∙ n))) s.low;
         wrong = subst (λ (l : List K). NoneGoesOn rules limit (take place tokens) l) (sym back)
             (λ rest steps r.
-              let on = any_on before w s t (k ∷ rest) steps (subst (λ (l : List K). IsAnyReading rules (l ++ k ∷ rest) steps) front r) in
-              let there = lead.on (k ∷ rest) on.0 refl on.1 in
-              stuck_reads_nothing rules hints sound (Some k) x.there x.stuck (k ∷ rest) there.0 refl there.2);
+            let on = any_on before w s t (k ∷ rest) steps (subst (λ (l : List K). IsAnyReading rules (l ++ k ∷ rest) steps) front r) in
+            let there = lead.on (k ∷ rest) on.0 refl on.1 in
+            stuck_reads_nothing rules hints sound (Some k) x.there x.stuck (k ∷ rest) there.0 refl there.2);
       }
 
   pub stands_short : (tokens : List K) (w : Work N A K) → take (length tokens) tokens ≡ tokens → drop (length tokens) tokens ≡ [] →
@@ -187,9 +188,9 @@ module _ {N P A K : Type 0} (rules : Rules N P A K) (hints : Hints N P K) (sound
         low = subst (AreLow limit) (sym (ap (take (length tokens)) (levels-append s.steps e.steps) ∙ take_front (levels s.steps) (levels e.steps) (length tokens) s.count)) s.low;
         wrong = subst (λ (l : List K). NoneGoesOn rules limit (take (length tokens) tokens) l) (sym back)
             (λ steps r.
-              let on = any_on tokens w s t [] steps (subst (λ (l : List K). IsAnyReading rules l steps) (front ∙ sym (append-nil tokens)) r) in
-              let there = lead.on [] on.0 refl on.1 in
-              stuck_reads_nothing rules hints sound None x.there x.stuck [] there.0 refl there.2);
+            let on = any_on tokens w s t [] steps (subst (λ (l : List K). IsAnyReading rules l steps) (front ∙ sym (append-nil tokens)) r) in
+            let there = lead.on [] on.0 refl on.1 in
+            stuck_reads_nothing rules hints sound None x.there x.stuck [] there.0 refl there.2);
       }
 
   -- a token that opens a level stands on top, and so many levels are open there
@@ -230,16 +231,16 @@ module _ {N P A K : Type 0} (rules : Rules N P A K) (hints : Hints N P K) (sound
         steps = s.steps ++ (x.done ++ Took (suc d.depth) ∷ e.steps);
         reading = subst (λ (l : List K). IsReading rules (l ++ k ∷ e.tokens) (s.steps ++ (x.done ++ Took (suc d.depth) ∷ e.steps))) (sym front) whole;
         deep = λ rest other r.
-          let on = s.on (k ∷ rest) other (subst (λ (l : List K). IsReading rules (l ++ k ∷ rest) other) front r) in
-          let at = lead.on (k ∷ rest) on.0 refl on.2 in
-          let u = un_open rules Counts (subst (λ (y : Stack N A K). Reads rules Counts y (k ∷ rest) at.0) d.is at.2) in
-          let noted : levels other ≡ levels s.steps ++ (suc d.depth ∷ levels u.1) =
-              ap levels (on.1 ∙ ap (λ z. s.steps ++ z) (at.1 ∙ ap (λ z. x.done ++ z) u.3)) ∙ levels-append s.steps (x.done ++ Took (suc d.depth) ∷ u.1)
-              ∙ ap (λ z. levels s.steps ++ z) (levels-append x.done (Took (suc d.depth) ∷ u.1) ∙ ap (λ z. z ++ levels (Took (suc d.depth) ∷ u.1)) (moves_levels x.moved)) in
-          record {
-            before = subst (AreLow limit) (sym (ap (take place) noted ∙ take_front (levels s.steps) (suc d.depth ∷ levels u.1) place (s.count ∙ n))) s.low;
-            there = ap (λ z. slice_get z place) noted ∙ get_front (levels s.steps) (suc d.depth) (levels u.1) place (s.count ∙ n) ∙ ap (λ z. Some z) (omega (arith, d.high, low.0));
-          };
+            let on = s.on (k ∷ rest) other (subst (λ (l : List K). IsReading rules (l ++ k ∷ rest) other) front r) in
+            let at = lead.on (k ∷ rest) on.0 refl on.2 in
+            let u = un_open rules Counts (subst (λ (y : Stack N A K). Reads rules Counts y (k ∷ rest) at.0) d.is at.2) in
+            let noted : levels other ≡ levels s.steps ++ (suc d.depth ∷ levels u.1) =
+            ap levels (on.1 ∙ ap (λ z. s.steps ++ z) (at.1 ∙ ap (λ z. x.done ++ z) u.3)) ∙ levels-append s.steps (x.done ++ Took (suc d.depth) ∷ u.1)
+            ∙ ap (λ z. levels s.steps ++ z) (levels-append x.done (Took (suc d.depth) ∷ u.1) ∙ ap (λ z. z ++ levels (Took (suc d.depth) ∷ u.1)) (moves_levels x.moved)) in
+            record {
+              before = subst (AreLow limit) (sym (ap (take place) noted ∙ take_front (levels s.steps) (suc d.depth ∷ levels u.1) place (s.count ∙ n))) s.low;
+              there = ap (λ z. slice_get z place) noted ∙ get_front (levels s.steps) (suc d.depth) (levels u.1) place (s.count ∙ n) ∙ ap (λ z. Some z) (omega (arith, d.high, low.0));
+            };
       }
 
   pub stands_finished : (tokens : List K) (old new : Work N A K) → Stands rules hints limit tokens old → Finishes rules hints old new → IsParsed rules limit tokens new.events
@@ -253,9 +254,9 @@ module _ {N P A K : Type 0} (rules : Rules N P A K) (hints : Hints N P K) (sound
         low = subst (AreLow limit) (sym (levels-append s.steps f.done ∙ ap (λ l. levels s.steps ++ l) (moves_levels f.moved) ∙ append-nil (levels s.steps))) s.low;
         happens = f.happened ∙ ap (λ x. x ++ map event_of f.done) s.happened ∙ sym (map-append event_of s.steps f.done);
         only = λ other r.
-          let on = s.on [] other (subst (λ (l : List K). IsReading rules l other) (sym (append-nil tokens)) r) in
-          let at = lead.on [] on.0 refl on.2 in
-          on.1 ∙ ap (λ z. s.steps ++ z) (at.1 ∙ ap (λ z. f.done ++ z) (un_bottom rules Counts at.2).1 ∙ append-nil f.done);
+            let on = s.on [] other (subst (λ (l : List K). IsReading rules l other) (sym (append-nil tokens)) r) in
+            let at = lead.on [] on.0 refl on.2 in
+            on.1 ∙ ap (λ z. s.steps ++ z) (at.1 ∙ ap (λ z. f.done ++ z) (un_bottom rules Counts at.2).1 ∙ append-nil f.done);
       }
 
   -- nothing is read yet

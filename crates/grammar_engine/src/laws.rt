@@ -13,12 +13,10 @@ pub fn each_sentence_has_a_reading_that_counts<G: Grammar>()
         (counted : List (Step G.Act)) × IsReading (rules_of G.grammar) tokens counted }
     ensures is_any { (tokens : List G.Kind) (steps : List (Step G.Act)) → IsReading (rules_of G.grammar) tokens steps →
         IsAnyReading (rules_of G.grammar) tokens steps }
-{
-}
+{}
 
 /// No tokens have two readings that count.
 pub fn one_reading_counts<G: Grammar>()
     ensures { (tokens : List G.Kind) (one other : List (Step G.Act)) → IsReading (rules_of G.grammar) tokens one →
         IsReading (rules_of G.grammar) tokens other → one ≡ other }
-{
-}
+{}

@@ -20,7 +20,10 @@ fn begins<G: Grammar>(choice: G::Choice, kind: G::Kind) -> bool
 }
 
 /// The choice of the nonterminal that begins with the next token, where there is one.
-pub(crate) fn choose<G: Grammar>(nonterminal: G::Nonterminal, next: Option<G::Kind>) -> Option<G::Choice>
+pub(crate) fn choose<G: Grammar>(
+    nonterminal: G::Nonterminal,
+    next: Option<G::Kind>,
+) -> Option<G::Choice>
     ensures { MatchOption result (is_next G.rules G.hints (starts_of G.rules G.hints nonterminal) next ≡ false)
         (λ choice. IsOneOf choice (G.rules.choices nonterminal) × (is_next G.rules G.hints (G.hints.starts choice) next ≡ true)) }
 {

@@ -18,7 +18,11 @@ use std::alloc::Global;
 /// What happens in the one reading of the tokens that counts, where it opens at most so many levels at once. Otherwise
 /// the first token with which no sentence goes on, or that opens a level above the limit. Takes no stack for a text's
 /// length or depth.
-pub fn read<G: Grammar>(alloc: Global, tokens: &[G::Kind], limit: u32) -> Result<Items<Event<G::Act>>, ReadStop>
+pub fn read<G: Grammar>(
+    alloc: Global,
+    tokens: &[G::Kind],
+    limit: u32,
+) -> Result<Items<Event<G::Act>>, ReadStop>
     ensures exact { MatchResult result (IsParsed (rules_of G.grammar) limit tokens.now)
         (IsStop (rules_of G.grammar) limit tokens.now) }
     // What has such a reading is read, unless memory runs out.
@@ -29,7 +33,11 @@ pub fn read<G: Grammar>(alloc: Global, tokens: &[G::Kind], limit: u32) -> Result
 }
 
 /// The same by the named rows.
-fn read_by_name<G: Grammar>(alloc: Global, tokens: &[G::Kind], limit: u32) -> Result<Items<Event<G::Act>>, ReadStop>
+fn read_by_name<G: Grammar>(
+    alloc: Global,
+    tokens: &[G::Kind],
+    limit: u32,
+) -> Result<Items<Event<G::Act>>, ReadStop>
     ensures { MatchResult result (IsParsed G.rules limit tokens.now) (IsStop G.rules limit tokens.now) }
 {
     let mut work = begin(alloc, G::text())?;

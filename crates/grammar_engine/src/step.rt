@@ -85,7 +85,10 @@ fn make_move<'a, G: Grammar>(
 
 /// Goes on until a token stands on top or nothing is left. `false` where nothing that may stand there begins with what
 /// comes next.
-fn expose<'a, G: Grammar>(work: &mut Work<'a, G::Nonterminal, G::Act, G::Kind>, next: Option<G::Kind>) -> Result<bool, AllocError>
+fn expose<'a, G: Grammar>(
+    work: &mut Work<'a, G::Nonterminal, G::Act, G::Kind>,
+    next: Option<G::Kind>,
+) -> Result<bool, AllocError>
     ensures { IfOk result (Exposes G.rules G.hints next work.old work.new) }
 {
     while let Some(frame) = work.frames.pop() {
@@ -137,7 +140,11 @@ fn take_token<'a, G: Grammar>(
 }
 
 /// Reads one token, where it may stand.
-pub(crate) fn feed<'a, G: Grammar>(work: &mut Work<'a, G::Nonterminal, G::Act, G::Kind>, kind: G::Kind, limit: u32) -> Result<Fed, AllocError>
+pub(crate) fn feed<'a, G: Grammar>(
+    work: &mut Work<'a, G::Nonterminal, G::Act, G::Kind>,
+    kind: G::Kind,
+    limit: u32,
+) -> Result<Fed, AllocError>
     ensures { IfOk result (IsFed G.rules G.hints limit kind work.old work.new) }
 {
     if !expose::<G>(work, Some(kind))? {
@@ -150,7 +157,9 @@ pub(crate) fn feed<'a, G: Grammar>(work: &mut Work<'a, G::Nonterminal, G::Act, G
 }
 
 /// Whether nothing is left to be read where the tokens end.
-pub(crate) fn finish<'a, G: Grammar>(work: &mut Work<'a, G::Nonterminal, G::Act, G::Kind>) -> Result<bool, AllocError>
+pub(crate) fn finish<'a, G: Grammar>(
+    work: &mut Work<'a, G::Nonterminal, G::Act, G::Kind>,
+) -> Result<bool, AllocError>
     ensures { IfOk result (IsFinished G.rules G.hints work.old work.new) }
 {
     Ok(expose::<G>(work, None)? && work.frames.is_empty())

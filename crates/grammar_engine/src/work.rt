@@ -23,7 +23,10 @@ pub(crate) struct Work<'a, N, A, K> {
 }
 
 /// A reading of this row, of which nothing is read.
-pub(crate) fn begin<'a, N: Copy, A: Copy, K: Copy>(alloc: Global, text: &'a [Symbol<N, A, K>]) -> Result<Work<'a, N, A, K>, AllocError>
+pub(crate) fn begin<'a, N: Copy, A: Copy, K: Copy>(
+    alloc: Global,
+    text: &'a [Symbol<N, A, K>],
+) -> Result<Work<'a, N, A, K>, AllocError>
     ensures stack { IfOk result (λ work. stack_of work ≡ Row text.now 0 Bottom) }
     ensures events { IfOk result (λ work. work.events ≡ []) }
 {
@@ -36,7 +39,11 @@ pub(crate) fn begin<'a, N: Copy, A: Copy, K: Copy>(alloc: Global, text: &'a [Sym
 }
 
 /// Puts a row on top.
-pub(crate) fn push_row<'a, N: Copy, A: Copy, K: Copy>(work: &mut Work<'a, N, A, K>, rest: &'a [Symbol<N, A, K>], depth: u32) -> Result<(), AllocError>
+pub(crate) fn push_row<'a, N: Copy, A: Copy, K: Copy>(
+    work: &mut Work<'a, N, A, K>,
+    rest: &'a [Symbol<N, A, K>],
+    depth: u32,
+) -> Result<(), AllocError>
     ensures stack { OnOk result (stack_of work.new ≡ Row rest.now depth (stack_of work.old)) }
     ensures events { OnOk result (work.new.events ≡ work.old.events) }
 {

@@ -8,9 +8,10 @@ use Rattle.grammar_engine.proofs.predict.choose.Goals as goal
 
 pub returns-then-begins : goal.returns-then-begins
 returns-then-begins g c =
-    let there = one_of_at c.choices-choice-items.result.now c.loop-choice.choice-index c.choice-item.result c.loop-choice-test.true c.choice-item.is in
-    (subst (λ x. IsOneOf c.choice-item.result x) c.choices-choice-items.ensures there,
-    ap (λ x. is_next g.G.Grammar.rules g.G.Grammar.hints (g.G.Grammar.hints.starts c.choice-item.result) x) c.in_ok-kind.was ∙ sym c.begins.ensures ∙ c.if-begins.true)
+    let there = one_of_at c.choices-choice-items.result.now c.loop-choice.choice-index c.choice-item.result c.loop-choice-test.true c.choice-item.is in (
+      subst (λ x. IsOneOf c.choice-item.result x) c.choices-choice-items.ensures there,
+      ap (λ x. is_next g.G.Grammar.rules g.G.Grammar.hints (g.G.Grammar.hints.starts c.choice-item.result) x) c.in_ok-kind.was ∙ sym c.begins.ensures ∙ c.if-begins.true,
+    )
 
 pub loop-choice-preserved : goal.loop-choice-preserved
 loop-choice-preserved g c =
