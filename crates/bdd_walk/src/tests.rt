@@ -1,0 +1,168 @@
+//! Examples worked by hand.
+
+ghost use Rattle.std.specs.Prelude.{All};
+ghost use Rattle.bdd_nodes.specs.declared.node_ref.NodeRef.{NodeRef};
+ghost use Rattle.bdd_nodes.specs.Shelf.{IsValid};
+
+use super::*;
+use bdd_nodes::{NodeRef, Shelf};
+use plain_data::Items;
+use std::alloc::{AllocError, Global};
+use std::test::Fail;
+
+/// Answers the digits of the states, as one decimal number, until it has been asked so often.
+#[derive(Clone, Copy, Debug)]
+struct Digits {
+    left: u32,
+}
+
+impl LeafRule for Digits {
+    ghost use Rattle.std.specs.Prelude.{◌+◌, ◌*◌, ◌%◌, ◌^◌, Some, fold};
+
+    ghost answers = { λ rule states. Some (fold (λ number state. ((number * 10) % 2 ^ 32 + state) % 2 ^ 32) 0 states % 2 ^ 31) };
+
+    ghost may_ask = { λ rule states. Unit {0} };
+
+    fn leaf(&mut self, states: &StateList) -> Result<u32, AllocError> {
+        if self.left == 0 {
+            return Err(AllocError);
+        }
+        self.left -= 1;
+        let number = states.as_slice().iter().fold(0u32, |number, state| {
+            number.wrapping_mul(10).wrapping_add(*state)
+        });
+        Ok(number % 0x8000_0000)
+    }
+}
+
+/// The states where no track, track 0, track 1 and both are set.
+fn states(alloc: Global, shelf: &Shelf, n: NodeRef) -> Result<[u32; 4], AllocError>
+    requires { IsValid shelf.now n }
+{
+    let none = Items::from_slice(alloc, &[])?;
+    let first = Items::from_slice(alloc, &[0])?;
+    let second = Items::from_slice(alloc, &[1])?;
+    let both = Items::from_slice(alloc, &[1, 0])?;
+    Ok([
+        shelf.eval(n, &none),
+        shelf.eval(n, &first),
+        shelf.eval(n, &second),
+        shelf.eval(n, &both),
+    ])
+}
+
+/// What a join of the roots gives where no track, track 0, track 1 and both are set.
+fn joined(
+    alloc: Global,
+    shelf: &mut Shelf,
+    roots: &[NodeRef],
+    dropped: Option<u32>,
+) -> Result<[u32; 4], Fail>
+    requires { All (IsValid shelf.old) roots.now }
+    ensures { (r : NodeRef) → IsValid shelf.old r → IsValid shelf.new r }
+{
+    let roots = Items::from_slice(alloc, roots)?;
+    let made = join(alloc, shelf, &roots, dropped, &mut Digits { left: 1000 })?;
+    Ok(states(alloc, shelf, made)?)
+}
+
+#[test]
+fn a_join_answers_on_the_leaves(rt: HostRuntime) -> Result<(), Fail> {
+    let alloc = rt.alloc();
+    let mut shelf = Shelf::open(alloc, 100)?;
+    let zero = Shelf::leaf(0);
+    let one = Shelf::leaf(1);
+    let a = shelf.make(0, zero, one)?;
+    let b = shelf.make(1, zero, one)?;
+    assert_eq!(rt; joined(alloc, &mut shelf, &[a], None)?, [0, 1, 0, 1]);
+    assert_eq!(rt; joined(alloc, &mut shelf, &[a, b], None)?, [0, 10, 1, 11]);
+    assert_eq!(rt;
+        joined(alloc, &mut shelf, &[a, b, a], None)?,
+        [0, 101, 10, 111]
+    );
+    assert_eq!(rt; joined(alloc, &mut shelf, &[], None)?, [0; 4]);
+    Ok(())
+}
+
+#[test]
+fn a_dropped_track_gives_both_halves(rt: HostRuntime) -> Result<(), Fail> {
+    let alloc = rt.alloc();
+    let mut shelf = Shelf::open(alloc, 100)?;
+    let zero = Shelf::leaf(0);
+    let one = Shelf::leaf(1);
+    let a = shelf.make(0, zero, one)?;
+    let b = shelf.make(1, zero, one)?;
+    assert_eq!(rt; joined(alloc, &mut shelf, &[a], Some(0))?, [1; 4]);
+    assert_eq!(rt;
+        joined(alloc, &mut shelf, &[a, b], Some(1))?,
+        [1, 1011, 1, 1011]
+    );
+    assert_eq!(rt;
+        joined(alloc, &mut shelf, &[a, b, a], Some(0))?,
+        [101, 101, 10111, 10111]
+    );
+    Ok(())
+}
+
+#[test]
+fn tracks_are_fixed_and_leaves_replaced(rt: HostRuntime) -> Result<(), Fail> {
+    let alloc = rt.alloc();
+    let mut shelf = Shelf::open(alloc, 100)?;
+    let zero = Shelf::leaf(0);
+    let one = Shelf::leaf(1);
+    let second = shelf.make(1, zero, one)?;
+    let both = shelf.make(0, zero, second)?;
+    assert_eq!(rt; restrict(alloc, &mut shelf, both, 0, true), Ok(second));
+    assert_eq!(rt; restrict(alloc, &mut shelf, both, 0, false), Ok(zero));
+    let first = restrict(alloc, &mut shelf, both, 1, true)?;
+    assert_eq!(rt; states(alloc, &shelf, first)?, [0, 1, 0, 1]);
+    let numbers = Items::from_slice(alloc, &[5, 3])?;
+    let renamed = rename(alloc, &mut shelf, both, &numbers)?;
+    assert_eq!(rt; states(alloc, &shelf, renamed)?, [5, 5, 5, 3]);
+    Ok(())
+}
+
+#[test]
+fn a_join_stops_one_node_short(rt: HostRuntime) -> Result<(), Fail> {
+    let alloc = rt.alloc();
+    for (limit, want) in [(3, None), (4, Some([0, 10, 1, 11]))] {
+        let mut shelf = Shelf::open(alloc, limit)?;
+        let zero = Shelf::leaf(0);
+        let one = Shelf::leaf(1);
+        let first = shelf.make(0, zero, one)?;
+        let second = shelf.make(1, zero, one)?;
+        let roots = Items::from_slice(alloc, &[first, second])?;
+        let mut rule = Digits { left: 1000 };
+        match join(alloc, &mut shelf, &roots, None, &mut rule) {
+            Ok(made) => {
+                assert_eq!(rt; Some(states(alloc, &shelf, made)?), want);
+                assert_eq!(rt; shelf.count(), 4);
+            }
+            Err(stop) => {
+                assert_eq!(rt; stop, Stop::Limit);
+                assert_eq!(rt; want, None);
+            }
+        }
+    }
+    Ok(())
+}
+
+#[test]
+fn a_refusing_rule_keeps_its_answers(rt: HostRuntime) -> Result<(), Fail> {
+    let alloc = rt.alloc();
+    let mut shelf = Shelf::open(alloc, 100)?;
+    let zero = Shelf::leaf(0);
+    let one = Shelf::leaf(1);
+    let first = shelf.make(0, zero, one)?;
+    let second = shelf.make(1, zero, one)?;
+    let roots = Items::from_slice(alloc, &[first, second])?;
+    let mut rule = Digits { left: 3 };
+    assert_eq!(rt;
+        join(alloc, &mut shelf, &roots, None, &mut rule),
+        Err(Stop::NoMemory)
+    );
+    assert_eq!(rt; rule.left, 0);
+    assert_eq!(rt; shelf.count(), 2);
+    assert_eq!(rt; states(alloc, &shelf, second)?, [0, 0, 1, 1]);
+    Ok(())
+}
