@@ -141,6 +141,8 @@ fn a_join_stops_one_node_short(rt: HostRuntime) -> Result<(), Fail> {
             Err(stop) => {
                 assert_eq!(rt; stop, Stop::Limit);
                 assert_eq!(rt; want, None);
+                assert_eq!(rt; states(alloc, &shelf, first)?, [0, 1, 0, 1]);
+                assert_eq!(rt; states(alloc, &shelf, second)?, [0, 0, 1, 1]);
             }
         }
     }
@@ -163,6 +165,11 @@ fn a_refusing_rule_keeps_its_answers(rt: HostRuntime) -> Result<(), Fail> {
     );
     assert_eq!(rt; rule.left, 0);
     assert_eq!(rt; shelf.count(), 2);
+    assert_eq!(rt; states(alloc, &shelf, first)?, [0, 1, 0, 1]);
     assert_eq!(rt; states(alloc, &shelf, second)?, [0, 0, 1, 1]);
+    rule.left = 4;
+    let made = join(alloc, &mut shelf, &roots, None, &mut rule)?;
+    assert_eq!(rt; states(alloc, &shelf, made)?, [0, 10, 1, 11]);
+    assert_eq!(rt; rule.left, 0);
     Ok(())
 }
