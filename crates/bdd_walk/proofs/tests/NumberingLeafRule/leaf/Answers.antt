@@ -1,4 +1,4 @@
-use Rattle.std.proofs.Common.{ℕ, List, sym, ◌∙◌, ap, refl}
+use Rattle.std.proofs.Common.{sym, ap}
 use Rattle.std.specs.HashMap.{get}
 use Rattle.bdd_walk.proofs.NumberingLemmas.{same, pair_of, numbered-kept, numbered-only}
 use Rattle.bdd_walk.proofs.tests.NumberingLeafRule.leaf.Goals as goal
