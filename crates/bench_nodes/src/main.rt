@@ -36,6 +36,8 @@ fn main(rt: HostRuntime) -> Result<()> {
     let parity_nodes = joins::join_parities(rt.alloc(), limit, parities)?;
     let two_nodes = joins::join_two(rt.alloc(), limit, width, levels, twos)?;
     let three_nodes = joins::join_three(rt.alloc(), limit, width, levels, threes)?;
-    println!(rt; "{parity_nodes} nodes with parities, {two_nodes} with joins of two, {three_nodes} with joins of three")?;
+    println!(rt;
+        "{parity_nodes} nodes with parities, {two_nodes} with joins of two, {three_nodes} with joins of three"
+    )?;
     Ok(())
 }
