@@ -1,6 +1,7 @@
 pub mod Fronts
 pub mod Lexing
 pub mod Places
+pub mod ProgramGrammar
 pub mod Refusals
 pub mod Spelled
 pub mod Spelling

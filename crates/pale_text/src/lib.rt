@@ -5,6 +5,7 @@
 #![tactic(auto)]
 
 mod front;
+mod grammar;
 mod laws;
 mod lexer;
 mod piece;
@@ -14,6 +15,10 @@ mod refusal;
 mod tests;
 mod token;
 
+pub use grammar::{
+    Act, AtomAct, CallAct, ConditionAct, ConnectiveAct, PredicateAct, ProcedureAct, ProgramKind,
+    ProgramPart, RouteAct, StatementAct, TypeAct, WordAct,
+};
 pub use laws::{spelled_tokens_are_read, stray_byte_is_one, tokens_are_one};
 pub use lexer::lex;
 pub use place::{Pos, Span};
