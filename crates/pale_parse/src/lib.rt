@@ -1,0 +1,5 @@
+//! Programs from their tokens.
+#![tactic(auto)]
+
+mod grammar;
+mod tables;
