@@ -14,6 +14,7 @@ mod refusal;
 #[cfg(test)]
 mod tests;
 mod token;
+mod tree;
 
 pub use grammar::{
     Act, AtomAct, CallAct, ConditionAct, ConnectiveAct, PredicateAct, ProcedureAct, ProgramKind,
@@ -24,3 +25,9 @@ pub use lexer::lex;
 pub use place::{Pos, Span};
 pub use refusal::{Refusal, RefusalKind, TextStop};
 pub use token::{ByteList, Mark, Token, TokenKind, TokenList};
+pub use tree::{
+    Argument, Assertion, Block, Bracketed, Call, Condition, Declaration, FieldDeclaration,
+    FieldForm, LogicParameter, Name, Parameter, Path, PredicateDeclaration, PredicateParameter,
+    Procedure, Program, Quantifier, QuantifierKind, Route, Statement, Term, TypeDeclaration, Value,
+    VariantDeclaration,
+};
