@@ -5,6 +5,7 @@
 #![tactic(auto)]
 
 mod front;
+mod grammar;
 mod laws;
 mod lexer;
 mod piece;
@@ -15,6 +16,10 @@ mod tests;
 mod token;
 mod tree;
 
+pub use grammar::{
+    Act, AtomAct, CallAct, ConditionAct, ConnectiveAct, PredicateAct, ProcedureAct, RouteAct,
+    StatementAct, TypeAct, WordAct,
+};
 pub use laws::{spelled_tokens_are_read, stray_byte_is_one, tokens_are_one};
 pub use lexer::lex;
 pub use place::{Pos, Span};

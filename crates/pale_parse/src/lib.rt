@@ -1,0 +1,4 @@
+//! Parsing.
+#![tactic(auto)]
+
+mod build;
