@@ -1,5 +1,6 @@
 //! Programs from their tokens.
 #![tactic(auto)]
 
+mod build;
 mod grammar;
 mod tables;

@@ -1,0 +1,15 @@
+//! The tree of a text, made from what happens in its reading.
+
+mod assertions;
+mod atoms;
+mod calls;
+mod chains;
+mod conditions;
+mod declarations;
+mod near;
+mod parts;
+mod procedures;
+mod routes;
+mod statements;
+mod takes;
+mod words;
