@@ -10,6 +10,7 @@ pub mod MakingStatements
 pub mod MakingWords
 pub mod Places
 pub mod ProgramGrammar
+pub mod ProgramReading
 pub mod ProgramWords
 pub mod Refusals
 pub mod Spelled
