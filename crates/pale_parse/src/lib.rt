@@ -4,9 +4,11 @@
 mod build;
 mod build_stub;
 mod grammar;
+mod laws;
 mod parser;
 mod tables;
 #[cfg(test)]
 mod tests;
 
+pub use laws::{each_sentence_is_a_program, one_program};
 pub use parser::parse;

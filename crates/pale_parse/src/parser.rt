@@ -7,7 +7,7 @@ ghost use Rattle.pale_text.specs.declared.grammar.act.Act.{Act as ProgramAct};
 ghost use Rattle.pale_text.specs.declared.tree.declaration.Program.{Program as ProgramTree};
 ghost use Rattle.pale_text.specs.declared.refusal.TextStop.TheVariants.{NoMemory, Refused};
 ghost use Rattle.pale_text.specs.ProgramWords.{kinds_in};
-ghost use Rattle.pale_text.specs.ProgramReading.{program_rows, max_levels, IsProgram, IsShallow, IsParsed as IsParsedTree, place_at, IsParseStop};
+ghost use Rattle.pale_text.specs.ProgramReading.{program_rows, max_levels, IsProgram, IsShallow, IsParsedAs, place_at, IsParseStop};
 
 use crate::build_stub::build;
 use crate::grammar::ProgramGrammar;
@@ -26,7 +26,7 @@ const MAX_LEVELS: u32 = 200;
 /// is named. `NoMemory` says nothing of the tokens. The time is linear in the tokens, and neither the length nor the
 /// depth of a text takes stack.
 pub fn parse(alloc: Global, list: &TokenList) -> Result<Program, TextStop>
-    ensures program { IfOk result (IsParsedTree list.now.tokens) }
+    ensures program { IfOk result (IsParsedAs list.now.tokens) }
     ensures stop { IfErr result (IsParseStop list.now) }
     // The tokens are no other program.
     ensures only { (steps : List (Step ProgramAct)) (tree : ProgramTree) → IsProgram list.now.tokens steps tree → IfOk result (λ read. read ≡ tree) }

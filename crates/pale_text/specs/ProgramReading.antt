@@ -37,7 +37,7 @@ abbrev pub IsShallow : List (Step Act) → Type 0
 IsShallow steps = AreLow max_levels (levels steps)
 
 -- the tokens are this program, and no level in it is above the limit
-pub record IsParsed (tokens : List Token) (tree : Program) : Type 0 where
+pub record IsParsedAs (tokens : List Token) (tree : Program) : Type 0 where
   pub steps : List (Step Act)
   pub program : IsProgram tokens steps tree
   pub shallow : IsShallow steps
@@ -46,8 +46,8 @@ pub record IsParsed (tokens : List Token) (tree : Program) : Type 0 where
 
 -- `syntax` is refused at the first token with which no program goes on, and `deep` at the first that opens a level above
 -- the limit
-abbrev pub IsWhy : List Token → ℕ → RefusalKind → Type 0
-IsWhy tokens number why =
+abbrev pub IsFault : List Token → ℕ → RefusalKind → Type 0
+IsFault tokens number why =
     ((why ≡ kind.Syntax) × IsWrongAt program_rows max_levels (kinds_in tokens) number)
     ⊎ ((why ≡ kind.Deep) × IsDeepAt program_rows max_levels (kinds_in tokens) number)
 
@@ -63,7 +63,7 @@ place_at list number = start_or list.end (slice_get list.tokens number)
 pub record IsRefused (list : TokenList) (refusal : Refusal) : Type 0 where
   pub number : ℕ
   pub place : place_at list number ≡ record { line = refusal.line; column = refusal.column }
-  pub why : IsWhy list.tokens number refusal.kind
+  pub why : IsFault list.tokens number refusal.kind
 
 -- what a stop says of the tokens: want of memory says nothing
 abbrev pub IsParseStop : TokenList → TextStop → Type 0
