@@ -9,6 +9,9 @@ pub mod MakingRoutes
 pub mod MakingStatements
 pub mod MakingWords
 pub mod Places
+pub mod ProgramGrammar
+pub mod ProgramReading
+pub mod ProgramWords
 pub mod Refusals
 pub mod Spelled
 pub mod Spelling

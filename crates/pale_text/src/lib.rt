@@ -17,8 +17,8 @@ mod token;
 mod tree;
 
 pub use grammar::{
-    Act, AtomAct, CallAct, ConditionAct, ConnectiveAct, PredicateAct, ProcedureAct, RouteAct,
-    StatementAct, TypeAct, WordAct,
+    Act, AtomAct, CallAct, ConditionAct, ConnectiveAct, PredicateAct, ProcedureAct, ProgramKind,
+    ProgramPart, RouteAct, StatementAct, TypeAct, WordAct,
 };
 pub use laws::{spelled_tokens_are_read, stray_byte_is_one, tokens_are_one};
 pub use lexer::lex;

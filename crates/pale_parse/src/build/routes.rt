@@ -68,7 +68,8 @@ impl Parts {
             }
             RouteAct::AddStar => {
                 let one = take_route(&mut self.routes);
-                self.routes.push(starred(self.alloc, one, place_of(near.last))?)
+                self.routes
+                    .push(starred(self.alloc, one, place_of(near.last))?)
             }
         }
     }
