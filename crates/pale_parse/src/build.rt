@@ -2,14 +2,18 @@
 
 mod assertions;
 mod atoms;
+mod builder;
 mod calls;
 mod chains;
 mod conditions;
 mod declarations;
 mod near;
 mod parts;
+mod perform;
 mod procedures;
 mod routes;
 mod statements;
 mod takes;
 mod words;
+
+pub use builder::build;

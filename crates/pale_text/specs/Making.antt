@@ -1,5 +1,6 @@
 -- The tree of a text by what happens in its reading: what each act makes of the parts made before it.
 use Rattle.std.specs.Prelude.{List, [], ◌∷◌, Option, None, Some}
+use Rattle.piles.specs.Piles.{rest}
 use Rattle.grammar_engine.specs.declared.symbol.Event.{Event}
 use Rattle.grammar_engine.specs.declared.symbol.Event.TheVariants as event
 use Rattle.pale_text.specs.declared.grammar.act.Act.{Act}
@@ -27,17 +28,17 @@ after (made.«Type» act) near parts = after_type act near parts
 after (made.Predicate act) near parts = after_predicate act near parts
 after (made.Procedure act) near parts = after_procedure act near parts
 
-abbrev pub first_of_tokens : List Token → Option Token
-first_of_tokens [] = None
-first_of_tokens (first ∷ _) = Some first
+-- the token that comes first, where there is one
+abbrev pub first_of : List Token → Option Token
+first_of [] = None
+first_of (first ∷ _) = Some first
 
 -- the parts after these events, where `last` was read last and the tokens `left` are still to be read
 abbrev pub run : List (Event Act) → Option Token → List Token → Parts → Parts
 run [] last left parts = parts
-run (event.Token ∷ events) last [] parts = run events None [] parts
-run (event.Token ∷ events) last (first ∷ left) parts = run events (Some first) left parts
+run (event.Token ∷ events) last left parts = run events (first_of left) (rest left) parts
 run (event.Act act ∷ events) last left parts =
-    run events last left (after act (record { last = last; next = first_of_tokens left }) parts)
+    run events last left (after act (record { last = last; next = first_of left }) parts)
 
 -- the program that a text is by its tokens and what happens in their reading
 abbrev pub program_of : List Token → List (Event Act) → Program

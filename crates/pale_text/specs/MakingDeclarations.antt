@@ -94,6 +94,13 @@ procedure_of parts =
       results = parts.results; logics = parts.logics; pre = parts.pre; post = parts.post; locals = parts.variables;
       body = top [] parts.blocks; end = top nowhere parts.places }
 
+-- these parts are taken
+abbrev pub without_procedure : Parts → Parts
+without_procedure parts =
+    record parts {
+      places = rest (rest parts.places); names = rest parts.names; blocks = rest parts.blocks; variables = [];
+      parameters = []; results = []; logics = []; pre = None; post = None }
+
 abbrev pub after_procedure : ProcedureAct → Near → Parts → Parts
 after_procedure DataParameter near parts =
     record (with_variable (parameter.Data (name_before parts) (last_name parts)) parts) { names = rest (rest parts.names) }
@@ -107,9 +114,4 @@ after_procedure LogicSet near parts =
 after_procedure LogicBool near parts = record (with_logic (logic.Bool (last_name parts)) parts) { names = rest parts.names }
 after_procedure SetPre near parts = record parts { pre = Some (top bracketless parts.brackets); brackets = rest parts.brackets }
 after_procedure SetPost near parts = record parts { post = Some (top bracketless parts.brackets); brackets = rest parts.brackets }
-after_procedure AddProcedure near parts =
-    record (with_declaration (declaration.Procedure (procedure_of parts)) parts) {
-      names = rest parts.names;
-      places = rest (rest parts.places);
-      blocks = rest parts.blocks;
-      variables = []; parameters = []; results = []; logics = []; pre = None; post = None }
+after_procedure AddProcedure near parts = with_declaration (declaration.Procedure (procedure_of parts)) (without_procedure parts)

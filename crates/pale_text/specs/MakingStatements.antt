@@ -101,6 +101,12 @@ call_of parts =
       place = top nowhere parts.places; results = parts.call_results; callee = top nameless parts.names;
       arguments = parts.given; logics = parts.arguments; keep = parts.keep }
 
+-- these parts are taken
+abbrev pub without_call : Parts → Parts
+without_call parts =
+    record parts {
+      places = rest parts.places; names = rest parts.names; call_results = []; given = []; arguments = []; keep = None }
+
 abbrev pub with_argument : Argument → Parts → Parts
 with_argument one parts = record parts { arguments = parts.arguments ++ one ∷ [] }
 
@@ -113,9 +119,4 @@ after_call TrueArgument near parts = with_argument (argument.Truth (place_of nea
 after_call FalseArgument near parts = with_argument (argument.Truth (place_of near.last) false) parts
 after_call TakeArguments near parts = record parts { given = parts.arguments; arguments = [] }
 after_call SetKeep near parts = record parts { keep = Some (top bracketless parts.brackets); brackets = rest parts.brackets }
-after_call MakeCall near parts =
-    record parts {
-      blocks = with_statement (statement.Call (call_of parts)) parts.blocks;
-      places = rest parts.places;
-      names = rest parts.names;
-      call_results = []; given = []; arguments = []; keep = None }
+after_call MakeCall near parts = record (without_call parts) { blocks = with_statement (statement.Call (call_of parts)) parts.blocks }
