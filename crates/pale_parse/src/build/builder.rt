@@ -11,11 +11,7 @@ use pale_text::{Act, Program, Token};
 use std::alloc::{AllocError, Global};
 
 /// The program of these tokens, in whose reading this happens. Takes no stack for a text's length or depth.
-pub fn build(
-    alloc: Global,
-    tokens: &[Token],
-    events: &[Event<Act>],
-) -> Result<Program, AllocError>
+pub fn build(alloc: Global, tokens: &[Token], events: &[Event<Act>]) -> Result<Program, AllocError>
     ensures { IfOk result (λ program. program ≡ program_of tokens.now events.now) }
 {
     let mut parts = nothing(alloc);
