@@ -2,7 +2,6 @@
 #![tactic(auto)]
 
 mod build;
-mod build_stub;
 mod grammar;
 mod laws;
 mod parser;

@@ -9,7 +9,7 @@ ghost use Rattle.pale_text.specs.declared.refusal.TextStop.TheVariants.{NoMemory
 ghost use Rattle.pale_text.specs.ProgramWords.{kinds_in};
 ghost use Rattle.pale_text.specs.ProgramReading.{program_rows, max_levels, IsProgram, IsShallow, IsParsedAs, place_at, IsParseStop};
 
-use crate::build_stub::build;
+use crate::build::build;
 use crate::grammar::ProgramGrammar;
 use grammar_engine::{Event, ReadStop, read};
 use pale_text::{Act, Pos, Program, ProgramKind, Refusal, RefusalKind, TextStop, Token, TokenList};
