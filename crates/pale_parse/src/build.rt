@@ -16,4 +16,4 @@ mod statements;
 mod takes;
 mod words;
 
-pub use builder::build;
+pub(crate) use builder::build;
