@@ -1,6 +1,17 @@
 pub mod Fronts
 pub mod Lexing
+pub mod Making
+pub mod MakingAssertions
+pub mod MakingConditions
+pub mod MakingDeclarations
+pub mod MakingParts
+pub mod MakingRoutes
+pub mod MakingStatements
+pub mod MakingWords
 pub mod Places
+pub mod ProgramGrammar
+pub mod ProgramReading
+pub mod ProgramWords
 pub mod Refusals
 pub mod Spelled
 pub mod Spelling
