@@ -5,3 +5,8 @@ pub mod CellLists
 pub mod Stores
 pub mod StoreCodes
 pub mod StoreBodies
+pub mod Faults
+pub mod Lines
+pub mod Spelling
+pub mod Saying
+pub mod Reading
