@@ -5,4 +5,4 @@ pub mod CellLists
 pub mod Stores
 pub mod StoreCodes
 pub mod StoreBodies
-pub mod Spelling
+pub mod StoreText

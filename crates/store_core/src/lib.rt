@@ -1,7 +1,7 @@
 //! Types, variables, values and stores, as everything above means them. A table is a list of named things, and a store is
 //! a finite map from cell numbers to cells, with the variables' values and the next number.
 //! `specs/Tables.antt` says what a table is and what it knows; `specs/Stores.antt` what a store is, how a call changes it, and
-//! when it fits its tables and is fresh; `specs/Spelling.antt` how it is written as a text. No crate above looks at how names are looked up or where a cell is kept.
+//! when it fits its tables and is fresh; `specs/StoreText.antt` how it is written as a text. No crate above looks at how names are looked up or where a cell is kept.
 #![tactic(auto)]
 
 mod ids;

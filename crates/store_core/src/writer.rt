@@ -5,7 +5,7 @@ ghost use Rattle.std.specs.Fmt.{decimal};
 ghost use Rattle.store_core.specs.Tables.{fields_of};
 ghost use Rattle.store_core.specs.Stores.{Fits};
 ghost use Rattle.store_core.specs.StoreBodies.{cell_entry, cells_of, HasSlots};
-ghost use Rattle.store_core.specs.Spelling.{cell_text, value_text, slot_text, slots_text, variant_text, var_line, var_lines, cell_line, cell_lines, store_text_of};
+ghost use Rattle.store_core.specs.StoreText.{cell_text, value_text, slot_text, slots_text, variant_text, var_line, var_lines, cell_line, cell_lines, store_text_of};
 
 use crate::ids::{CellId, FieldId, TypeId, VarId, VariantId};
 use crate::store::{CellBody, Store};

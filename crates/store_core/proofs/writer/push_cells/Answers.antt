@@ -2,7 +2,7 @@ use Rattle.std.proofs.Common.{◌≡◌, ◌∙◌, ◌++◌, ap, arith, sym, So
 use Rattle.std.specs.Option.{option_map}
 use Rattle.std.proofs.lemmas.Option.{slice_get-map, slice_get-get_or}
 use Rattle.store_core.specs.StoreBodies.{cell_entry, cells_of}
-use Rattle.store_core.specs.Spelling.{cell_line}
+use Rattle.store_core.specs.StoreText.{cell_line}
 use Rattle.store_core.proofs.Writing.{flat_map_next}
 use Rattle.store_core.proofs.writer.push_cells.Goals as goal
 

@@ -1,7 +1,7 @@
 use Rattle.std.proofs.Common.{◌≡◌, ◌++◌, take}
 use Rattle.std.specs.List.{flat_map}
 use Rattle.store_core.specs.StoreBodies.{cells_of}
-use Rattle.store_core.specs.Spelling.{cell_line}
+use Rattle.store_core.specs.StoreText.{cell_line}
 use Rattle.store_core.proofs.writer.push_cells.Given as goal
 
 -- the lines of the cells so far

@@ -2,7 +2,7 @@ use Rattle.std.proofs.Common.{◌≡◌, ◌∙◌, ◌++◌, ap, arith, sym, So
 use Rattle.std.specs.Option.{option_map}
 use Rattle.std.specs.List.{zip}
 use Rattle.store_core.specs.Tables.{fields_of}
-use Rattle.store_core.specs.Spelling.{slot_text}
+use Rattle.store_core.specs.StoreText.{slot_text}
 use Rattle.store_core.proofs.Adding.{at_known}
 use Rattle.store_core.proofs.Writing.{flat_map_next, flat_map_all, slice_get-zip, zip_within}
 use Rattle.store_core.proofs.writer.push_fields.Goals as goal

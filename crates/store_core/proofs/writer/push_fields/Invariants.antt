@@ -1,7 +1,7 @@
 use Rattle.std.proofs.Common.{◌≡◌, ◌++◌, take}
 use Rattle.std.specs.List.{flat_map, zip}
 use Rattle.store_core.specs.Tables.{fields_of}
-use Rattle.store_core.specs.Spelling.{slot_text}
+use Rattle.store_core.specs.StoreText.{slot_text}
 use Rattle.store_core.proofs.writer.push_fields.Given as goal
 
 -- the fields so far

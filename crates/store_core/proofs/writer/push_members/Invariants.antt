@@ -1,6 +1,6 @@
 use Rattle.std.proofs.Common.{◌≡◌, ◌++◌, take, codes}
 use Rattle.std.specs.List.{flat_map}
-use Rattle.store_core.specs.Spelling.{cell_text}
+use Rattle.store_core.specs.StoreText.{cell_text}
 use Rattle.store_core.proofs.writer.push_members.Given as goal
 
 -- the members so far, each after a space

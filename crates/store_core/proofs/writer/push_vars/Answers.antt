@@ -1,7 +1,7 @@
 use Rattle.std.proofs.Common.{◌≡◌, ◌∙◌, ◌++◌, ap, arith, sym, Some, slice_get}
 use Rattle.std.specs.Option.{option_map}
 use Rattle.std.specs.List.{zip}
-use Rattle.store_core.specs.Spelling.{var_line}
+use Rattle.store_core.specs.StoreText.{var_line}
 use Rattle.store_core.proofs.Adding.{at_known}
 use Rattle.store_core.proofs.Writing.{flat_map_next, flat_map_all, slice_get-zip, zip_within}
 use Rattle.store_core.proofs.writer.push_vars.Goals as goal

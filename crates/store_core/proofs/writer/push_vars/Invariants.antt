@@ -1,6 +1,6 @@
 use Rattle.std.proofs.Common.{◌≡◌, ◌++◌, take}
 use Rattle.std.specs.List.{flat_map, zip}
-use Rattle.store_core.specs.Spelling.{var_line}
+use Rattle.store_core.specs.StoreText.{var_line}
 use Rattle.store_core.proofs.writer.push_vars.Given as goal
 
 -- the lines of the variables so far
