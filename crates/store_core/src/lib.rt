@@ -4,16 +4,20 @@
 //! when it fits its tables and is fresh; `specs/StoreText.antt` how it is written as a text. No crate above looks at how names are looked up or where a cell is kept.
 #![tactic(auto)]
 
+mod fault;
 mod ids;
 mod kind;
+mod read;
 mod store;
 mod types;
 mod value;
 mod vars;
 mod writer;
 
+pub use fault::{StoreFault, StoreKind};
 pub use ids::{CellId, FieldId, TypeId, VarId, VariantId};
 pub use kind::{ByteList, FieldKind, Owner, Route, VarKind};
+pub use read::read_store;
 pub use store::Store;
 pub use types::TypeTable;
 pub use value::{CellList, Class, Value};
