@@ -8,3 +8,4 @@ pub mod Changes
 pub mod Steps
 pub mod Writing
 pub mod Fitting
+pub mod ReadFits
