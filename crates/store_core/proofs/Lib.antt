@@ -9,3 +9,9 @@ pub mod Steps
 pub mod Writing
 pub mod Fitting
 pub mod ReadFits
+pub mod Words
+pub mod Spelled
+pub mod SpelledLines
+pub mod ToldValues
+pub mod ToldCells
+pub mod RoundTrip

@@ -1,5 +1,5 @@
 -- A store that was read fits its tables. The mentions that are no fault at the end are those of each value that was said.
-use Rattle.std.proofs.Common.{◌≡◌, ℕ, zero, suc, ◌+◌, ◌<◌, ◌≤◌, ◌==◌, ◌&&◌, max, Bool, true, false, cond, not, nat_lt, List, [], ◌∷◌, ◌++◌, length, map, slice_set, Option, Some, None, Result, Ok, Err, IfSome, inl, inr, ◌⊎◌, refl, sym, ap, ◌∙◌, subst, arith, slice_get, position, codes}
+use Rattle.std.proofs.Common.{◌≡◌, ℕ, zero, suc, ◌+◌, ◌<◌, ◌≤◌, ◌==◌, ◌&&◌, Bool, true, false, cond, not, nat_lt, List, [], ◌∷◌, ◌++◌, length, map, slice_set, Option, Some, None, Result, Ok, Err, IfSome, inl, inr, ◌⊎◌, refl, sym, ◌∙◌, subst, arith, slice_get, position, codes}
 use Rattle.std.specs.Option.{option_map, option_map_or}
 use Rattle.std.specs.List.{AllByRecursion, find}
 use Rattle.std.specs.Ordering.{nat_cmp, eq_by_cmp, match_ordering}
@@ -7,9 +7,10 @@ use Rattle.std.specs.declared.cmp.Ordering.{Ordering}
 use Rattle.std.specs.declared.cmp.Ordering.TheVariants.{Less, Equal, Greater}
 use Rattle.std.proofs.lemmas.Cmp.{ranked, nat_cmp_total}
 use Rattle.std.specs.BTreeSet.{insert_key}
-use Rattle.std.specs.FinMap.{get, insert, keys, empty, contains_key, get-insert, get-empty}
+use Rattle.std.specs.FinMap.{get, insert, keys, contains_key, get-insert, get-empty}
 use Rattle.store_core.specs.declared.ids.TypeId.{TypeId}
 use Rattle.store_core.specs.declared.ids.VariantId.{VariantId}
+use Rattle.store_core.specs.declared.ids.FieldId.{FieldId}
 use Rattle.store_core.specs.declared.ids.VarId.{VarId}
 use Rattle.store_core.specs.declared.ids.CellId.{CellId}
 use Rattle.store_core.specs.declared.value.Value.{Value}
@@ -20,7 +21,6 @@ use Rattle.store_core.specs.declared.kind.VarKind.{VarKind}
 use Rattle.store_core.specs.declared.kind.VarKind.TheVariants as var
 use Rattle.store_core.specs.declared.fault.StoreKind.{StoreKind}
 use Rattle.store_core.specs.declared.fault.StoreKind.TheVariants.{Repeated}
-use Rattle.store_core.specs.declared.fault.StoreFault.{StoreFault}
 use Rattle.store_core.specs.declared.read.holds.Holds.{Holds}
 use Rattle.store_core.specs.declared.read.holds.Holds.TheVariants as holds
 use Rattle.store_core.specs.declared.read.holds.Mention.{Mention}
@@ -32,10 +32,10 @@ use Rattle.store_core.specs.declared.read.spelled.Line.{Line}
 use Rattle.store_core.specs.declared.read.spelled.Line.TheVariants as line
 use Rattle.store_core.specs.Tables.{TypeEntry, FieldEntry, VarEntry, fields_of, field_at, field_names, variants_of, variant_count, type_at, type_named, var_named, var_at, place_of, is_had, has_field, KnowsVariant}
 use Rattle.store_core.specs.CellLists.{AreRising}
-use Rattle.store_core.specs.Stores.{StoreMap, CellEntry, CellFits, Fits, FieldFits, VarFits, VarsFit, SlotsFit, NamesType, IsAbove, cell_of}
+use Rattle.store_core.specs.Stores.{StoreMap, CellEntry, CellFits, Fits, FieldFits, VarFits, VarsFit, SlotsFit, NamesType, cell_of}
 use Rattle.store_core.specs.Spelling.{line_of, all_of}
 use Rattle.store_core.specs.Lines.{lines_of}
-use Rattle.store_core.specs.Saying.{or_fault, unless_said, Said, nothing_said, say_var, say_field, say_fields, say_cell, cell_said, field_had, variant_named, named_in, value_for, set_of, members_after, cells_numbered, mentions_of, field_holds, var_holds}
+use Rattle.store_core.specs.Saying.{unless_said, Said, nothing_said, say_var, say_field, say_fields, say_cell, cell_said, field_had, variant_named, named_in, value_for, set_of, members_after, cells_numbered, mentions_of, field_holds, var_holds}
 use Rattle.store_core.specs.Reading.{reading, read_text, read_lines, read_end, say_line, checked, store_said, next_after, is_misnamed}
 use Rattle.std.specs.Str.{bytes_eq}
 use Rattle.store_core.proofs.Names.{position-cons}
@@ -82,11 +82,11 @@ position_within p (x ∷ xs) i e = by (p x) (position p xs) (λ j is. position_w
 -- ---- values
 
 -- the cell named is not one of another type
-abbrev Fine : StoreMap → Mention → Type 0
+abbrev pub Fine : StoreMap → Mention → Type 0
 Fine s m = is_misnamed s m ≡ false
 
 -- a value of what may stand there
-abbrev HoldsFit : StoreMap → Holds → Value → Type 0
+abbrev pub HoldsFit : StoreMap → Holds → Value → Type 0
 HoldsFit s holds.Truth (value.Bool b) = Unit {0}
 HoldsFit s (holds.Reference target) (value.Cell c) = IfSome c (NamesType s target)
 HoldsFit s (holds.Set target) (value.Cells cells) = AreRising cells × AllByRecursion (NamesType s target) cells
@@ -149,9 +149,10 @@ set_fit s n target numbers x e fine = elim (cases (members_after [] numbers)) [
   | inl none ↦ absurd (let e1 = rw none at e in cc)
   | inr members ↦ let e1 = rw members.1 at e in
       let same : value.Cells (cells_numbered members.0) ≡ x = cc in
-      subst (HoldsFit s (holds.Set target)) same
-      (AreRising-numbered members.0 (members-Rise [] numbers members.0 tt members.1),
-      names_types s n target (cells_numbered members.0) (subst (λ y. AllByRecursion (Fine s) (mentions_of n (holds.Set target) y)) (sym same) fine))
+      subst (HoldsFit s (holds.Set target)) same (
+        AreRising-numbered members.0 (members-Rise [] numbers members.0 tt members.1),
+        names_types s n target (cells_numbered members.0) (subst (λ y. AllByRecursion (Fine s) (mentions_of n (holds.Set target) y)) (sym same) fine),
+      )
 ]
 
 holds_fit : (s : StoreMap) (n : ℕ) (h : Holds) (sp : Spelled) (x : Value) → value_for h sp ≡ Ok x → AllByRecursion (Fine s) (mentions_of n h x) → HoldsFit s h x
@@ -258,7 +259,7 @@ var_fits types vars s n said given more e before fine =
     subst (SaidFits types vars s) here.is (record {
       cells = so_far.cells;
       values = SaidVars-set s vars said.vars here.v.0 here.entry here.x so_far.values here.at
-        (VarFits-holds s here.entry.kind here.x (holds_fit s n (var_holds here.entry.kind) given.value here.x here.value (All-right (Fine s) said.mentions _ all)));
+          (VarFits-holds s here.entry.kind here.x (holds_fit s n (var_holds here.entry.kind) given.value here.x here.value (All-right (Fine s) said.mentions _ all)));
     })
 
 -- ---- a line `cell`
@@ -291,17 +292,21 @@ last_of true true c e = e
 last_of true false c e = absurd (cc)
 last_of false b c e = absurd (cc)
 
--- the variant has the field at this place
-had_at : (types : List TypeEntry) (v : VariantId) (name : List ℕ) (i : ℕ) (f : FieldEntry) → field_had types v name ≡ Ok i → field_at types (record { ty = v.ty; index = i }) ≡ Some f → is_had v.index f ≡ true
+-- the variant has the field
+record IsHad (v : VariantId) (f : FieldId) (entry : FieldEntry) : Type 0 where
+  of : f.ty ≡ v.ty
+  had : is_had v.index entry ≡ true
+
+had_at : (types : List TypeEntry) (v : VariantId) (name : List ℕ) (f : FieldId) (entry : FieldEntry) → field_had types v name ≡ Ok f → field_at types f ≡ Some entry → IsHad v f entry
 unfolding field_had
-had_at types v name i f e at = elim (cases (place_of name (field_names (fields_of types v.ty)))) [
+had_at types v name f entry e at = elim (cases (place_of name (field_names (fields_of types v.ty)))) [
   | inl none ↦ absurd (let e1 = rw none at e in cc)
   | inr place ↦ let e1 = rw place.1 at e in elim (bool_cases (has_field types v (record { ty = v.ty; index = place.0 }))) [
     | inl lacks ↦ absurd (let e2 = rw lacks at e1 in cc)
     | inr holds ↦ let e2 = rw holds at e1 in
-        let same : place.0 ≡ i = cc in
-        let has = subst (λ k. has_field types v (record { ty = v.ty; index = k }) ≡ true) same holds in
-        last_of (v.ty.0 == v.ty.0) (nat_lt v.index (variant_count types v.ty)) (is_had v.index f) (rw at at has)
+        let same : record { ty = v.ty; index = place.0 } ≡ f = cc in
+        subst (λ (g : FieldId). field_at types g ≡ Some entry → IsHad v g entry) same
+        (λ here. record { of = refl; had = last_of (v.ty.0 == v.ty.0) (nat_lt v.index (variant_count types v.ty)) (is_had v.index entry) (rw here at holds) }) at
   ]
 ]
 
@@ -310,16 +315,18 @@ slots_step : (types : List TypeEntry) (v : VariantId) (values : List (Option Val
 unfolding say_field
 slots_step types v values given more e all = elim (result_cases (field_had types v given.name)) [
   | inl fault ↦ absurd (let e1 = rw fault.1 at e in cc)
-  | inr i ↦ let e1 = rw i.1 at e in elim (cases (field_at types (record { ty = v.ty; index = i.0 }))) [
+  | inr f ↦ let e1 = rw f.1 at e in elim (cases (field_at types f.0)) [
     | inl none ↦ absurd (let e2 = rw none at e1 in cc)
-    | inr f ↦ let e2 = rw f.1 at e1 in elim (unless_cases (slice_get values i.0) (value_for (field_holds f.0.kind) given.value)) [
+    | inr entry ↦ let e2 = rw entry.1 at e1 in elim (unless_cases (slice_get values f.0.index) (value_for (field_holds entry.0.kind) given.value)) [
       | inl again ↦ absurd (let e3 = rw again at e2 in cc)
-      | inr new ↦ let e3 = rw new at e2 in elim (result_cases (value_for (field_holds f.0.kind) given.value)) [
+      | inr new ↦ let e3 = rw new at e2 in elim (result_cases (value_for (field_holds entry.0.kind) given.value)) [
         | inl fault ↦ absurd (let e4 = rw fault.1 at e3 in cc)
         | inr x ↦ let e4 = rw x.1 at e3 in
-            let same : slice_set values i.0 (Some x.0) ≡ more = cc in
+            let same : slice_set values f.0.index (Some x.0) ≡ more = cc in
+            let is = had_at types v given.name f.0 entry.0 f.1 entry.1 in
+            let there = subst (λ (t : TypeId). slice_get (fields_of types t) f.0.index ≡ Some entry.0) is.of entry.1 in
             subst (SlotsSaid v.index (fields_of types v.ty)) same
-            (SlotsSaid-set v.index (fields_of types v.ty) values i.0 f.0 x.0 given.value all f.1 (had_at types v given.name i.0 f.0 i.1 f.1) x.1)
+            (SlotsSaid-set v.index (fields_of types v.ty) values f.0.index entry.0 x.0 given.value all there is.had x.1)
       ]
     ]
   ]
@@ -346,9 +353,10 @@ slots_fit s n index (f ∷ fs) (Some x ∷ xs) named all e fine = elim (cases (n
   | inl none ↦ absurd (let e1 = rw none at e in cc)
   | inr more ↦ let e1 = rw more.1 at e in
       let same : named ≡ mentions_of n (field_holds f.kind) x ++ more.0 = cc in
-      let both = subst (AllByRecursion (Fine s)) same fine in
-      ((all.0.0, FieldFits-holds s f.kind x (holds_fit s n (field_holds f.kind) all.0.1.0 x all.0.1.1 (All-left (Fine s) (mentions_of n (field_holds f.kind) x) more.0 both))),
-      slots_fit s n index fs xs more.0 all.1 more.1 (All-right (Fine s) (mentions_of n (field_holds f.kind) x) more.0 both))
+      let both = subst (AllByRecursion (Fine s)) same fine in (
+        (all.0.0, FieldFits-holds s f.kind x (holds_fit s n (field_holds f.kind) all.0.1.0 x all.0.1.1 (All-left (Fine s) (mentions_of n (field_holds f.kind) x) more.0 both))),
+        slots_fit s n index fs xs more.0 all.1 more.1 (All-right (Fine s) (mentions_of n (field_holds f.kind) x) more.0 both),
+      )
 ]
 
 -- the variant is one of the type
@@ -418,12 +426,12 @@ cells_fit types vars s n said cell more e before = elim (bool_cases (contains_ke
         let after : Said = record { cells = insert said.cells cell.number entry.0.0; vars = said.vars; mentions = said.mentions ++ entry.0.1 } in
         let same : after ≡ more = cc in
         subst (λ (m : Said). AllByRecursion (Fine s) m.mentions → SaidFits types vars s m) same (λ fine.
-          let so_far = before (All-left (Fine s) said.mentions entry.0.1 fine) in
-          record {
-            cells = λ m. subst (λ (o : Option CellEntry). IfSome o (CellFits types s)) (sym (get-insert nat_cmp_total said.cells cell.number entry.0.0 m))
-                (cond_IfSome (eq_by_cmp nat_cmp m cell.number) entry.0.0 (get said.cells m) (CellFits types s) (cell_fits types s n cell entry.0 entry.1 (All-right (Fine s) said.mentions entry.0.1 fine)) (so_far.cells m));
-            values = so_far.values;
-          })
+        let so_far = before (All-left (Fine s) said.mentions entry.0.1 fine) in
+        record {
+          cells = λ m. subst (λ (o : Option CellEntry). IfSome o (CellFits types s)) (sym (get-insert nat_cmp_total said.cells cell.number entry.0.0 m))
+              (cond_IfSome (eq_by_cmp nat_cmp m cell.number) entry.0.0 (get said.cells m) (CellFits types s) (cell_fits types s n cell entry.0 entry.1 (All-right (Fine s) said.mentions entry.0.1 fine)) (so_far.cells m));
+          values = so_far.values;
+        })
   ]
 ]
 
@@ -474,12 +482,12 @@ end_fits types vars s n said [] e before = elim (cases (all_of (λ x. x) said.va
     | inl none ↦ let e2 = rw none at e1 in
         let same : store_said said values.0 ≡ s = cc in
         subst (λ (t : StoreMap). (AllByRecursion (Fine t) said.mentions → SaidFits types vars t said) → Fits types vars t) same (λ holds.
-          let fit = holds (all_fine (store_said said values.0) said.mentions none) in
-          record {
-            cells = λ c. fit.cells c.0;
-            values = VarsFit-said (store_said said values.0) vars said.vars values.0 values.1 fit.values;
-            above = below_next (keys said.cells) (next_after (keys said.cells)) (omega arith);
-          }) before
+        let fit = holds (all_fine (store_said said values.0) said.mentions none) in
+        record {
+          cells = λ c. fit.cells c.0;
+          values = VarsFit-said (store_said said values.0) vars said.vars values.0 values.1 fit.values;
+          above = below_next (keys said.cells) (next_after (keys said.cells)) (omega arith);
+        }) before
   ]
 ]
 
