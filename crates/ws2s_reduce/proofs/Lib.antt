@@ -1,0 +1,6 @@
+pub mod ConnectivesLemmas
+pub mod NamesLemmas
+pub mod PositionsLemmas
+pub mod PredicatesLemmas
+pub mod SentencesLemmas
+pub mod TextsLemmas

@@ -1,0 +1,9 @@
+//! The reduction of WS2S texts to core formulas.
+//!
+//! `specs/Reducing.antt` is the reduction as a function on checked texts. The module `laws` says that it keeps the
+//! meaning: functions with empty bodies, whose clauses hold of all texts.
+#![tactic(auto)]
+
+mod laws;
+
+pub use laws::reductions_mean_the_text;
