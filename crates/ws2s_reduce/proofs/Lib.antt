@@ -1,4 +1,5 @@
 pub mod ConnectivesLemmas
+pub mod CountsLemmas
 pub mod NamesLemmas
 pub mod PositionsLemmas
 pub mod PredicatesLemmas

@@ -1,9 +1,10 @@
 //! The reduction of WS2S texts to core formulas.
 //!
 //! `specs/Reducing.antt` is the reduction as a function on checked texts. The module `laws` says that it keeps the
-//! meaning: functions with empty bodies, whose clauses hold of all texts.
+//! meaning, and `examples` are worked ones: functions with empty bodies, whose clauses hold of all texts.
 #![tactic(auto)]
 
+pub mod examples;
 mod laws;
 
 pub use laws::reductions_mean_the_text;
