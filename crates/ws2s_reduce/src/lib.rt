@@ -6,5 +6,6 @@
 
 pub mod examples;
 mod laws;
+mod size;
 
 pub use laws::reductions_mean_the_text;
