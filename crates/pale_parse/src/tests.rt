@@ -1,11 +1,12 @@
 mod texts;
 mod towers;
+mod trees;
 
 ghost use Rattle.std.specs.Prelude.{◌<◌, length};
 
 use crate::parse;
-use pale_text::{Assertion, Declaration, Program, Route, TextStop, lex};
-use std::alloc::{AllocError, AllocFailed, Global};
+use pale_text::{Program, TextStop, lex};
+use std::alloc::{AllocError, Global};
 use std::test::Fail;
 use texts::TEXTS;
 use towers::{TOWERS, Tower};
