@@ -10,6 +10,7 @@ mod laws;
 mod lexer;
 mod piece;
 mod place;
+mod reading;
 mod refusal;
 #[cfg(test)]
 mod tests;
@@ -23,6 +24,7 @@ pub use grammar::{
 pub use laws::{spelled_tokens_are_read, stray_byte_is_one, tokens_are_one};
 pub use lexer::lex;
 pub use place::{Pos, Span};
+pub use reading::read_tokens;
 pub use refusal::{Refusal, RefusalKind, TextStop};
 pub use token::{ByteList, Mark, Token, TokenKind, TokenList};
 pub use tree::{
