@@ -2,3 +2,4 @@ pub mod Walks
 pub mod Destinations
 pub mod WellFormed
 pub mod Laws
+pub mod Searches

@@ -5,9 +5,12 @@
 #![tactic(auto)]
 
 mod fault;
+mod followed;
 mod laws;
+mod search;
 
 pub use fault::{Place, WfFault};
+pub use followed::Followed;
 pub use laws::{
     data_walks_stay_in_one_tree, renaming_cells_renames_walks, walks_go_by_cases,
     walks_join_live_cells, walks_see_cells_alone,
