@@ -1,0 +1,11 @@
+use Rattle.routing_expr.proofs.SpotLemmas.{IsReaching-start, IsReaching-next, IsReaching-all}
+use Rattle.routing_expr.proofs.search.Search.reach.Goals as goal
+
+pub loop-index-init : goal.loop-index-init
+loop-index-init c = ?
+
+pub loop-index-preserved : goal.loop-index-preserved
+loop-index-preserved c = ?
+
+pub returns : goal.returns
+returns c = ?
