@@ -28,12 +28,17 @@ use Rattle.routing_expr.specs.Spots.{Follows, IsAtEnd}
 use Rattle.routing_expr.proofs.GatheringLemmas.{below_suc, Contains-at, place_in, Contains-one, Contains-here, Contains-cases, Contains-there, Contains-map, map-Contains, Gathers-push, Gathers-none}
 use Rattle.routing_expr.proofs.MachineLemmas.{Path-then}
 
+-- what is read past the end of a list of spots
+abbrev pub no_spot : Spot
+no_spot = record { place = 0; cell = record { 0 = 0 } }
+
+
 abbrev pub spot : ℕ → CellId → Spot
 spot p c = record { place = p; cell = c }
 
 -- ---- the set of spots
 
-abbrev same_spot : Spot → Spot → Bool
+abbrev pub same_spot : Spot → Spot → Bool
 same_spot = (spot_eq.ghosts).eq
 
 both_true : (b c : Bool) → b && c ≡ true → (b ≡ true) × (c ≡ true)
@@ -223,7 +228,8 @@ pub below-last : (cells : List CellId) (last : CellId) (n : ℕ) → AreRising c
 below-last [] last n rising at less = tt
 below-last (c ∷ []) last n rising at less = let same = ap (λ (x : CellId). x.0) (same_Some c last at) in (omega arith, tt)
 below-last (c ∷ d ∷ cells) last n rising at less =
-    let tail = below-last (d ∷ cells) last n rising.1 at less in
+    let place : length (c ∷ d ∷ cells) - 1 ≡ suc (length (d ∷ cells) - 1) = omega arith in
+    let tail = below-last (d ∷ cells) last n rising.1 (sym (ap (λ k. slice_get (c ∷ d ∷ cells) k) place) ∙ at) less in
     let first = rising.0.0 in
     let second = tail.0 in
     (omega arith, tail)

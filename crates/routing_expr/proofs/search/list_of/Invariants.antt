@@ -5,4 +5,4 @@ use Rattle.routing_expr.proofs.search.list_of.Given as goal
 
 -- the cells so far are listed
 abbrev pub invariant-loop-cell : goal.invariant-loop-cell
-invariant-loop-cell l = Lists (Before (FirstCell l.cells.items) l.cell-index) l.list
+invariant-loop-cell l = Lists (Before (FirstCell l.cell-items) l.cell-index) l.list
