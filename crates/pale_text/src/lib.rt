@@ -2,9 +2,6 @@
 //! `specs/Spelling.antt` says what spells a token, and `specs/Lexing.antt` which tokens a text has and where it has none.
 //! `laws` has what callers may rest on: a text is read in one way, and tokens that a printer keeps apart are read again.
 //! The parsers of both languages stand on `lex` and on these types, and no crate above looks at how bytes are read.
-//!
-//! Also what program text means: its kinds of tokens, its grammar, the trees of programs, and which tokens are which
-//! program (`specs/ProgramReading.antt`). `read_tokens` reads the tokens of either language by its grammar.
 #![tactic(auto)]
 
 mod front;
