@@ -9,6 +9,8 @@ mod ids;
 mod kind;
 mod read;
 mod store;
+#[cfg(test)]
+mod tests;
 mod types;
 mod value;
 mod vars;

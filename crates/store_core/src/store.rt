@@ -18,11 +18,11 @@ use std::marker::Model;
 
 /// A live cell.
 #[derive(Drop)]
-struct CellBody {
-    number: u32,
-    variant: VariantId,
+pub(crate) struct CellBody {
+    pub(crate) number: u32,
+    pub(crate) variant: VariantId,
     /// The value of each field of its type by the field's number, `None` where its variant hasn't the field.
-    values: Items<Option<Value>>,
+    pub(crate) values: Items<Option<Value>>,
 }
 
 /// A finite map from cell numbers to cells, with a value for each variable and a number above every cell number ever used.
@@ -102,7 +102,15 @@ fn blank_values(
 }
 
 impl Store {
-    ghost use Rattle.store_core.specs.StoreBodies.{cell_entry};
+    ghost use Rattle.store_core.specs.StoreBodies.{cell_entry, store_of, IsKept};
+
+    /// The store of these cells, whose numbers rise and are below the next.
+    pub(crate) fn of(cells: Vec<CellBody>, vars: Items<Value>, next: u32) -> Store
+        requires { IsKept cells.items next }
+        ensures { result ≡ store_of cells.items vars next }
+    {
+        Store { cells, vars, next }
+    }
 
     /// No cell, the next number 1, and each variable null, false or the empty set.
     pub fn empty(alloc: Global, vars: &VarTable) -> Result<Store, AllocError>
