@@ -6,3 +6,5 @@ pub mod Rising
 pub mod Cells
 pub mod Changes
 pub mod Steps
+pub mod LineLemmas
+pub mod SpellingLemmas

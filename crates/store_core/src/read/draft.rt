@@ -68,6 +68,7 @@ impl Draft {
     }
 
     /// Adds a variable's value. After a fault nothing is known of the draft.
+    #[tactic(auto, unfolding(crate::specs::Saying::say_var))]
     fn say_var(
         &mut self,
         alloc: Global,
@@ -96,6 +97,7 @@ impl Draft {
     }
 
     /// Adds a cell. After a fault nothing is known of the draft.
+    #[tactic(auto, unfolding(crate::specs::Saying::say_cell))]
     fn say_cell(
         &mut self,
         alloc: Global,
@@ -118,6 +120,7 @@ impl Draft {
     }
 
     /// Adds what a line says. After a fault nothing is known of the draft.
+    #[tactic(auto, unfolding(crate::specs::Reading::say_line))]
     pub fn say_line(
         &mut self,
         alloc: Global,

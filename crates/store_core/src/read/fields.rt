@@ -45,6 +45,7 @@ fn variant_named(
 }
 
 /// The field of the variant that has this name.
+#[tactic(auto, unfolding(crate::specs::Saying::field_had))]
 fn field_had(types: &TypeTable, v: VariantId, name: &[u8]) -> Result<FieldId, StoreKind>
     ensures { result ≡ field_had types.now v name.now }
 {
@@ -59,6 +60,7 @@ fn field_had(types: &TypeTable, v: VariantId, name: &[u8]) -> Result<FieldId, St
 }
 
 /// Puts a field's value among those given so far.
+#[tactic(auto, unfolding(crate::specs::Saying::say_field))]
 fn say_field(
     alloc: Global,
     types: &TypeTable,
@@ -150,6 +152,7 @@ fn named_in(
 }
 
 /// A cell, and where it names others.
+#[tactic(auto, unfolding(crate::specs::Saying::cell_said))]
 pub fn cell_said(
     alloc: Global,
     types: &TypeTable,

@@ -11,6 +11,7 @@ use plain_data::Items;
 use std::alloc::{AllocError, Global};
 
 /// A name and a value.
+#[tactic(auto, unfolding(crate::specs::Spelling::given_of))]
 fn given_of(alloc: Global, name: &[u8], value: &[u8]) -> Result<Option<Given>, AllocError>
     ensures { IfOk result (λ given. given ≡ given_of name.now value.now) }
 {
@@ -24,6 +25,7 @@ fn given_of(alloc: Global, name: &[u8], value: &[u8]) -> Result<Option<Given>, A
 }
 
 /// `F=VALUE`.
+#[tactic(auto, unfolding(crate::specs::Spelling::field_of))]
 fn field_of(alloc: Global, word: &[u8]) -> Result<Option<Given>, AllocError>
     ensures { IfOk result (λ given. given ≡ field_of word.now) }
 {
@@ -48,6 +50,7 @@ fn all_fields(alloc: Global, words: &[ByteList]) -> Result<Option<Items<Given>>,
 }
 
 /// The names of a type and of one of its variants.
+#[tactic(auto, unfolding(crate::specs::Spelling::variant_of))]
 fn variant_of(
     alloc: Global,
     ty: &[u8],
@@ -65,6 +68,7 @@ fn variant_of(
 }
 
 /// `T`, or `T:V`.
+#[tactic(auto, unfolding(crate::specs::Spelling::type_of))]
 fn type_of(alloc: Global, word: &[u8]) -> Result<Option<(ByteList, Option<ByteList>)>, AllocError>
     ensures { IfOk result (λ named. named ≡ type_of word.now) }
 {
@@ -115,6 +119,7 @@ fn cell_line(alloc: Global, parts: &[ByteList]) -> Result<Option<Line>, AllocErr
 }
 
 /// What a line between `store` and `end` says, where it has a form.
+#[tactic(auto, unfolding(crate::specs::Spelling::line_of))]
 pub fn line_of(alloc: Global, bytes: &[u8]) -> Result<Option<Line>, AllocError>
     ensures { IfOk result (λ line. line ≡ line_of bytes.now) }
 {
@@ -123,6 +128,7 @@ pub fn line_of(alloc: Global, bytes: &[u8]) -> Result<Option<Line>, AllocError>
 }
 
 /// What the parts of a line say, where they have a form.
+#[tactic(auto, unfolding(crate::specs::Spelling::line_in))]
 fn line_in(alloc: Global, parts: &[ByteList]) -> Result<Option<Line>, AllocError>
     ensures { IfOk result (λ line. line ≡ line_in parts.now) }
 {

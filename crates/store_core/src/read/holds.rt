@@ -79,6 +79,7 @@ fn cells_numbered(alloc: Global, numbers: &BTreeSet<u32>) -> Result<CellList, Al
 }
 
 /// The set of these cells.
+#[tactic(auto, unfolding(crate::specs::Saying::set_of))]
 fn set_of(alloc: Global, numbers: &[u32]) -> Result<Value, StoreKind>
     ensures value { IfOk result (λ value. set_of numbers.now ≡ Ok value) }
     ensures stop { IfErr result (IsStop (set_of numbers.now)) }
@@ -89,6 +90,7 @@ fn set_of(alloc: Global, numbers: &[u32]) -> Result<Value, StoreKind>
 }
 
 /// The value, where a value of this class may stand.
+#[tactic(auto, unfolding(crate::specs::Saying::value_for))]
 pub fn value_for(alloc: Global, holds: Holds, value: &Spelled) -> Result<Value, StoreKind>
     ensures value { IfOk result (λ x. value_for holds value.now ≡ Ok x) }
     ensures stop { IfErr result (IsStop (value_for holds value.now)) }

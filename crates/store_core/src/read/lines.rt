@@ -1,7 +1,7 @@
 //! A text cut into lines, and a line into its parts.
 
-ghost use Rattle.std.specs.Prelude.{◌≡◌, ◌<◌, ◌∷◌, length, option_map, IfOk};
-ghost use Rattle.store_core.specs.Lines.{lines_of, parts_of};
+ghost use Rattle.std.specs.Prelude.{◌≡◌, ◌<◌, ◌∷◌, ◌==◌, ◌&&◌, not, length, position, option_map, IfOk};
+ghost use Rattle.store_core.specs.Lines.{lines_of, parts_of, braced_after};
 ghost use Rattle.store_core.specs.Spelling.{cut_at};
 
 use crate::kind::ByteList;
@@ -9,25 +9,41 @@ use plain_data::Items;
 use std::alloc::{AllocError, Global};
 use std::mem;
 
+/// The place of the first such byte.
+fn place_of(byte: u8, text: &[u8]) -> Option<usize>
+    ensures { result ≡ position (λ b. b == byte) text.now }
+{
+    text.iter().position(|b| *b == byte)
+}
+
 /// The first line of a text that isn't over, without its LF, and the lines after it.
 pub fn split_line(text: &[u8]) -> (&[u8], &[u8])
     requires { 0 < length text.now }
     ensures lines { lines_of text.now ≡ result.0.now ∷ lines_of result.1.now }
     ensures less { length result.1.now < length text.now }
 {
-    match text.iter().position(|byte| *byte == b'\n') {
+    match place_of(b'\n', text) {
         Some(end) => (&text[..end], &text[end + 1..]),
         None => (text, &text[text.len()..]),
     }
 }
 
 /// Whether what follows this byte stands in braces.
-fn braced_after(braced: bool, byte: u8) -> bool {
+fn braced_after(braced: bool, byte: u8) -> bool
+    ensures { result ≡ braced_after braced byte }
+{
     match byte {
         b'{' => true,
         b'}' => false,
         _ => braced,
     }
+}
+
+/// Whether a line is cut at this byte.
+fn is_cut(braced: bool, byte: u8) -> bool
+    ensures { result ≡ (not braced && byte == 32) }
+{
+    !braced && byte == b' '
 }
 
 /// The parts of a line, cut at each space that doesn't stand in braces.
@@ -38,7 +54,7 @@ pub fn parts_of(alloc: Global, line: &[u8]) -> Result<Items<ByteList>, AllocErro
     let mut part = Items::new(alloc);
     let mut braced = false;
     for byte in line {
-        if !braced && *byte == b' ' {
+        if is_cut(braced, *byte) {
             parts.push(mem::replace(&mut part, Items::new(alloc)))?;
         } else {
             part.push(*byte)?;
@@ -53,6 +69,6 @@ pub fn parts_of(alloc: Global, line: &[u8]) -> Result<Items<ByteList>, AllocErro
 pub fn cut_at(byte: u8, word: &[u8]) -> Option<(&[u8], &[u8])>
     ensures { option_map (λ cut. (cut.0.now, cut.1.now)) result ≡ cut_at byte word.now }
 {
-    let place = word.iter().position(|b| *b == byte)?;
+    let place = place_of(byte, word)?;
     Some((&word[..place], &word[place + 1..]))
 }

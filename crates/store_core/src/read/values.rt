@@ -1,6 +1,7 @@
 //! Words read as names, numbers and values.
 
 ghost use Rattle.std.specs.Prelude.{◌≡◌, option_map, IfOk};
+ghost use Rattle.std.specs.List.{list_all};
 ghost use Rattle.store_core.specs.Spelling.{is_name_part, is_name, name_of, number_after, number_of, all_of, before_close, numbers_of, counted_of, value_of};
 
 use crate::kind::ByteList;
@@ -19,6 +20,13 @@ fn is_name_part(byte: u8) -> bool
     byte.is_ascii_alphanumeric() || byte == b'_'
 }
 
+/// Whether each byte may stand in a name after its first.
+fn are_name_parts(bytes: &[u8]) -> bool
+    ensures { result ≡ list_all is_name_part bytes.now }
+{
+    bytes.iter().all(|byte| is_name_part(*byte))
+}
+
 /// Whether a word is a name.
 fn is_name(word: &[u8]) -> bool
     ensures { result ≡ is_name word.now }
@@ -26,10 +34,11 @@ fn is_name(word: &[u8]) -> bool
     let Some((first, others)) = word.split_first() else {
         return false;
     };
-    first.is_ascii_alphabetic() && others.iter().all(|byte| is_name_part(*byte))
+    first.is_ascii_alphabetic() && are_name_parts(others)
 }
 
 /// The name that a word is.
+#[tactic(auto, unfolding(crate::specs::Spelling::name_of))]
 pub fn name_of(alloc: Global, word: &[u8]) -> Result<Option<ByteList>, AllocError>
     ensures { IfOk result (λ name. name ≡ name_of word.now) }
 {
@@ -54,10 +63,13 @@ fn number_after(digits: &[u8]) -> Option<u32>
 }
 
 /// The number that a word spells, without leading zeros.
+#[tactic(auto, unfolding(crate::specs::Spelling::number_of))]
 pub fn number_of(word: &[u8]) -> Option<u32>
     ensures { result ≡ number_of word.now }
 {
-    let (first, _) = word.split_first()?;
+    let Some((first, _)) = word.split_first() else {
+        return None;
+    };
     if *first == b'0' {
         return None;
     }
@@ -68,7 +80,9 @@ pub fn number_of(word: &[u8]) -> Option<u32>
 fn before_close(word: &[u8]) -> Option<&[u8]>
     ensures { option_map (λ front. front.now) result ≡ before_close word.now }
 {
-    let (last, front) = word.split_last()?;
+    let Some((last, front)) = word.split_last() else {
+        return None;
+    };
     if *last == b'}' { Some(front) } else { None }
 }
 
@@ -87,6 +101,7 @@ fn all_numbers(alloc: Global, words: &[ByteList]) -> Result<Option<Items<u32>>, 
 }
 
 /// The numbers in braces.
+#[tactic(auto, unfolding(crate::specs::Spelling::numbers_of))]
 fn numbers_of(alloc: Global, inside: &[u8]) -> Result<Option<Items<u32>>, AllocError>
     ensures { IfOk result (λ numbers. numbers ≡ numbers_of inside.now) }
 {
@@ -98,6 +113,7 @@ fn numbers_of(alloc: Global, inside: &[u8]) -> Result<Option<Items<u32>>, AllocE
 }
 
 /// A number, or numbers in braces.
+#[tactic(auto, unfolding(crate::specs::Spelling::counted_of))]
 fn counted_of(alloc: Global, word: &[u8]) -> Result<Option<Spelled>, AllocError>
     ensures { IfOk result (λ value. value ≡ counted_of word.now) }
 {
@@ -120,6 +136,7 @@ fn counted_of(alloc: Global, word: &[u8]) -> Result<Option<Spelled>, AllocError>
 }
 
 /// The value that a word spells.
+#[tactic(auto, unfolding(crate::specs::Spelling::value_of))]
 pub fn value_of(alloc: Global, word: &[u8]) -> Result<Option<Spelled>, AllocError>
     ensures { IfOk result (λ value. value ≡ value_of word.now) }
 {

@@ -1,0 +1,123 @@
+-- Names, numbers and values, read byte by byte and word by word.
+use Rattle.std.proofs.Common.{◌≡◌, ◌≢◌, ℕ, zero, suc, ◌+◌, ◌-◌, ◌*◌, ◌<◌, ◌≤◌, ◌==◌, ◌&&◌, nat_le, nat_lt, Bool, true, false, cond, List, [], ◌∷◌, ◌++◌, length, Option, Some, None, refl, sym, ap, ◌∙◌, arith, append_assoc}
+use Rattle.std.specs.Option.{option_map}
+use Rattle.std.specs.List.{list_all}
+use Rattle.std.specs.Char.{is_ascii_digit, digit_value}
+use Rattle.std.specs.Str.Parse.{digits_value_after}
+use Rattle.std.proofs.lemmas.List.{append-nil}
+use Rattle.std.proofs.lemmas.Bool.Decides.{nat_tests}
+use Rattle.store_core.specs.declared.read.spelled.Spelled.{Spelled}
+use Rattle.store_core.specs.declared.read.spelled.Spelled.TheVariants as spelled
+use Rattle.store_core.specs.Lines.{parts_of}
+use Rattle.store_core.specs.Spelling.{◌>>=◌, all_of, number_after, number_of, before_close, numbers_of, counted_of}
+
+-- ---- all of a list
+
+-- one more is spelled
+pub all_of-more : {A B : Type 0} (f : A → Option B) (ys : List B) (x : A) (xs : List A) (y : B) → f x ≡ Some y
+    → option_map (λ rest. ys ++ rest) (all_of f (x ∷ xs)) ≡ option_map (λ rest. (ys ++ y ∷ []) ++ rest) (all_of f xs)
+all_of-more {A = A} {B = B} f ys x xs y is = ap (λ o. option_map (λ rest. ys ++ rest) (o >>= (λ z. option_map (λ zs. z ∷ zs) (all_of f xs)))) is ∙ by (all_of f xs)
+  where
+    by : (o : Option (List B)) → option_map (λ rest. ys ++ rest) (option_map (λ zs. y ∷ zs) o) ≡ option_map (λ rest. (ys ++ y ∷ []) ++ rest) o
+    by None = refl
+    by (Some zs) = ap Some (sym (append_assoc ys (y ∷ []) zs))
+
+-- one that isn't leaves none
+pub all_of-none : {A B : Type 0} (f : A → Option B) (ys : List B) (x : A) (xs : List A) → f x ≡ None → option_map (λ rest. ys ++ rest) (all_of f (x ∷ xs)) ≡ None
+all_of-none f ys x xs is = ap (λ o. option_map (λ rest. ys ++ rest) (o >>= (λ z. option_map (λ zs. z ∷ zs) (all_of f xs)))) is
+
+-- none are left
+pub all_of-end : {A B : Type 0} (f : A → Option B) (ys : List B) (xs : List A) → xs ≡ [] → option_map (λ rest. ys ++ rest) (all_of f xs) ≡ Some ys
+all_of-end f ys xs is = ap (λ l. option_map (λ rest. ys ++ rest) (all_of f l)) is ∙ ap Some (append-nil ys)
+
+-- nothing before them
+pub all_of-whole : {A B : Type 0} (f : A → Option B) (xs : List A) → option_map (λ rest. [] ++ rest) (all_of f xs) ≡ all_of f xs
+all_of-whole {B = B} f xs = by (all_of f xs)
+  where
+    by : (o : Option (List B)) → option_map (λ rest. [] ++ rest) o ≡ o
+    by None = refl
+    by (Some zs) = refl
+
+-- ---- numbers
+
+digits-grow : (front : ℕ) (ds : List ℕ) → front ≤ digits_value_after 10 front ds
+digits-grow front [] = omega arith
+digits-grow front (d ∷ ds) = let more = digits-grow (front * 10 + digit_value d) ds in omega (arith, more)
+
+digit_is : (d : ℕ) → is_ascii_digit d ≡ true → digit_value d ≡ d - 48
+digit_is d is = grind (arith, nat_tests)
+
+-- a digit is taken off
+pub number_after-digit : (front d : ℕ) (ds : List ℕ) → is_ascii_digit d ≡ true → number_after front (d ∷ ds) ≡ number_after (front * 10 + (d - 48)) ds
+unfolding number_after
+number_after-digit front d ds is =
+    ap (λ t. cond ((t && list_all is_ascii_digit ds) && nat_le (digits_value_after 10 (front * 10 + digit_value d) ds) 1000000) (Some (digits_value_after 10 (front * 10 + digit_value d) ds)) None) is
+    ∙ ap (λ v. cond (list_all is_ascii_digit ds && nat_le (digits_value_after 10 (front * 10 + v) ds) 1000000) (Some (digits_value_after 10 (front * 10 + v) ds)) None) (digit_is d is)
+
+-- another byte spells no number
+pub number_after-stray : (front d : ℕ) (ds : List ℕ) → is_ascii_digit d ≡ false → number_after front (d ∷ ds) ≡ None
+unfolding number_after
+number_after-stray front d ds is =
+    ap (λ t. cond ((t && list_all is_ascii_digit ds) && nat_le (digits_value_after 10 (front * 10 + digit_value d) ds) 1000000) (Some (digits_value_after 10 (front * 10 + digit_value d) ds)) None) is
+
+too_great : (t : Bool) (n : ℕ) → 1000000 < n → cond (t && nat_le n 1000000) (Some n) None ≡ None
+too_great true n great = let not_le : nat_le n 1000000 ≡ false = grind (arith, nat_tests) in ap (λ u. cond u (Some n) None) not_le
+too_great false n great = refl
+
+-- a digit more makes it too great
+pub number_after-great : (front d : ℕ) (ds : List ℕ) → 100000 < front → number_after front (d ∷ ds) ≡ None
+unfolding number_after
+number_after-great front d ds great =
+    too_great (list_all is_ascii_digit (d ∷ ds)) (digits_value_after 10 (front * 10 + digit_value d) ds) (let more = digits-grow (front * 10 + digit_value d) ds in omega (arith, more))
+
+-- no digit is left
+pub number_after-end : (front : ℕ) (ds : List ℕ) → ds ≡ [] → number_after front ds ≡ cond (nat_le front 1000000) (Some front) None
+unfolding number_after
+number_after-end front ds is = ap (λ l. cond (list_all is_ascii_digit l && nat_le (digits_value_after 10 front l) 1000000) (Some (digits_value_after 10 front l)) None) is
+
+pub number_of-cons : (word : List ℕ) (first : ℕ) (others : List ℕ) → word ≡ first ∷ others → number_of word ≡ cond (first == 48) None (number_after 0 word)
+unfolding number_of
+number_of-cons word first others is = ap number_of is ∙ ap (λ l. cond (first == 48) None (number_after 0 l)) (sym is)
+
+pub number_of-none : (word : List ℕ) → length word ≡ 0 → number_of word ≡ None
+unfolding number_of
+number_of-none [] none = refl
+number_of-none (b ∷ bs) none = absurd (omega arith)
+
+-- ---- braces
+
+closed : (t : Bool) (b : ℕ) (front : List ℕ) → option_map (λ f. b ∷ f) (cond t (Some front) None) ≡ cond t (Some (b ∷ front)) None
+closed true b front = refl
+closed false b front = refl
+
+pub before_close-push : (front : List ℕ) (last : ℕ) → before_close (front ++ last ∷ []) ≡ cond (last == 125) (Some front) None
+unfolding before_close
+before_close-push [] last = refl
+before_close-push (b ∷ []) last = closed (last == 125) b []
+before_close-push (b ∷ d ∷ front) last = ap (option_map (λ f. b ∷ f)) (before_close-push (d ∷ front) last) ∙ closed (last == 125) b (d ∷ front)
+
+pub before_close-none : (word : List ℕ) → length word ≡ 0 → before_close word ≡ None
+unfolding before_close
+before_close-none [] none = refl
+before_close-none (b ∷ bs) none = absurd (omega arith)
+
+pub numbers_of-nothing : (inside : List ℕ) → (length inside == 0) ≡ true → numbers_of inside ≡ Some []
+unfolding numbers_of
+numbers_of-nothing [] none = refl
+numbers_of-nothing (b ∷ bs) none = absurd (grind (arith, nat_tests))
+
+pub numbers_of-some : (inside : List ℕ) → (length inside == 0) ≡ false → numbers_of inside ≡ all_of number_of (parts_of inside)
+unfolding numbers_of
+numbers_of-some [] some = absurd (cc)
+numbers_of-some (b ∷ bs) some = refl
+
+pub counted_of-none : (word : List ℕ) → length word ≡ 0 → counted_of word ≡ None
+unfolding counted_of
+counted_of-none [] none = refl
+counted_of-none (b ∷ bs) none = absurd (omega arith)
+
+pub counted_of-cons : (word : List ℕ) (first : ℕ) (others : List ℕ) → word ≡ first ∷ others
+    → counted_of word ≡ cond (first == 123) (option_map spelled.Numbers (before_close others >>= numbers_of)) (option_map spelled.Number (number_of word))
+unfolding counted_of
+counted_of-cons word first others is =
+    ap counted_of is ∙ ap (λ l. cond (first == 123) (option_map spelled.Numbers (before_close others >>= numbers_of)) (option_map spelled.Number (number_of l))) (sym is)
