@@ -1,5 +1,5 @@
 -- Names, numbers and values, read byte by byte and word by word.
-use Rattle.std.proofs.Common.{◌≡◌, ◌≢◌, ℕ, zero, suc, ◌+◌, ◌-◌, ◌*◌, ◌<◌, ◌≤◌, ◌==◌, ◌&&◌, nat_le, nat_lt, Bool, true, false, cond, List, [], ◌∷◌, ◌++◌, length, Option, Some, None, refl, sym, ap, ◌∙◌, arith, append_assoc}
+use Rattle.std.proofs.Common.{◌≡◌, ◌≢◌, ℕ, zero, suc, ◌+◌, ◌-◌, ◌*◌, ◌<◌, ◌≤◌, ◌==◌, ◌&&◌, nat_le, nat_lt, Bool, true, false, cond, List, [], ◌∷◌, ◌++◌, length, Option, Some, None, refl, sym, ap, ◌∙◌, arith, append_assoc, get_or, drop}
 use Rattle.std.specs.Option.{option_map}
 use Rattle.std.specs.List.{list_all}
 use Rattle.std.specs.Char.{is_ascii_digit, digit_value}
@@ -8,8 +8,10 @@ use Rattle.std.proofs.lemmas.List.{append-nil}
 use Rattle.std.proofs.lemmas.Bool.Decides.{nat_tests}
 use Rattle.store_core.specs.declared.read.spelled.Spelled.{Spelled}
 use Rattle.store_core.specs.declared.read.spelled.Spelled.TheVariants as spelled
+use Rattle.store_core.specs.declared.read.spelled.Line.{Line}
+use Rattle.store_core.specs.declared.read.spelled.Line.TheVariants as line
 use Rattle.store_core.specs.Lines.{parts_of}
-use Rattle.store_core.specs.Spelling.{◌>>=◌, all_of, number_after, number_of, before_close, numbers_of, counted_of}
+use Rattle.store_core.specs.Spelling.{◌>>=◌, all_of, number_after, number_of, before_close, numbers_of, counted_of, given_of, var_line, cell_in, cell_line}
 
 -- ---- all of a list
 
@@ -121,3 +123,33 @@ pub counted_of-cons : (word : List ℕ) (first : ℕ) (others : List ℕ) → wo
 unfolding counted_of
 counted_of-cons word first others is =
     ap counted_of is ∙ ap (λ l. cond (first == 123) (option_map spelled.Numbers (before_close others >>= numbers_of)) (option_map spelled.Number (number_of l))) (sym is)
+
+-- ---- forms
+
+pub var_line-two : (parts : List (List ℕ)) (name value : List ℕ) → length parts ≡ 2 → name ≡ get_or parts 0 name → value ≡ get_or parts 1 value
+    → var_line parts ≡ option_map line.Var (given_of name value)
+unfolding var_line
+var_line-two [] name value two first second = absurd (omega arith)
+var_line-two (a ∷ []) name value two first second = absurd (omega arith)
+var_line-two (a ∷ b ∷ []) name value two first second = ap (λ n. option_map line.Var (given_of n b)) (sym first) ∙ ap (λ v. option_map line.Var (given_of name v)) (sym second)
+var_line-two (a ∷ b ∷ d ∷ parts) name value two first second = absurd (omega arith)
+
+pub var_line-other : (parts : List (List ℕ)) → length parts ≢ 2 → var_line parts ≡ None
+unfolding var_line
+var_line-other [] other = refl
+var_line-other (a ∷ []) other = refl
+var_line-other (a ∷ b ∷ []) other = absurd (other refl)
+var_line-other (a ∷ b ∷ d ∷ parts) other = refl
+
+pub cell_line-more : (parts : List (List ℕ)) (number ty : List ℕ) → 2 ≤ length parts → number ≡ get_or parts 0 number → ty ≡ get_or parts 1 ty
+    → cell_line parts ≡ cell_in number ty (drop 2 parts)
+unfolding cell_line
+cell_line-more [] number ty two first second = absurd (omega arith)
+cell_line-more (a ∷ []) number ty two first second = absurd (omega arith)
+cell_line-more (a ∷ b ∷ parts) number ty two first second = ap (λ n. cell_in n b parts) (sym first) ∙ ap (λ t. cell_in number t parts) (sym second)
+
+pub cell_line-fewer : (parts : List (List ℕ)) → length parts < 2 → cell_line parts ≡ None
+unfolding cell_line
+cell_line-fewer [] fewer = refl
+cell_line-fewer (a ∷ []) fewer = refl
+cell_line-fewer (a ∷ b ∷ parts) fewer = absurd (omega arith)

@@ -1,5 +1,6 @@
 -- What the lines of a store text add to what those before them have said.
 use Rattle.std.specs.Prelude.{◌≡◌, ◌≢◌, ℕ, ◌==◌, List, [], ◌∷◌, ◌++◌, map, slice_get, slice_set, Option, Some, None, option_map, Result, Ok, Err, if◌then◌else◌}
+use Rattle.std.specs.Option.{option_and_then}
 use Rattle.std.specs.List.{list_any}
 use Rattle.std.specs.Ordering.{nat_cmp}
 use Rattle.std.specs.FinMap.{FinMap, insert, contains_key, empty}
@@ -138,11 +139,19 @@ abbrev pub say_fields : List TypeEntry → VariantId → List (Option Value) →
 say_fields types v values [] = Ok values
 say_fields types v values (given ∷ others) = say_field types v values given >>= (λ more. say_fields types v more others)
 
--- where the fields name cells; none where the variant has a field that no value was given
+-- where a field's value names cells; none where the variant has the field and no value was given
+abbrev pub named_by : ℕ → ℕ → FieldEntry → Option Value → Option (List Mention)
+named_by line index f (Some x) = Some (mentions_of line (field_holds f.kind) x)
+named_by line index f None = if is_had index f then None else Some []
+
+-- where the fields name cells; none where one lacks
 abbrev pub named_in : ℕ → ℕ → List FieldEntry → List (Option Value) → Option (List Mention)
-named_in line index (f ∷ fs) (Some x ∷ xs) = option_map (λ more. mentions_of line (field_holds f.kind) x ++ more) (named_in line index fs xs)
-named_in line index (f ∷ fs) (None ∷ xs) = if is_had index f then None else named_in line index fs xs
+named_in line index (f ∷ fs) (x ∷ xs) = option_and_then (λ named. option_map (λ more. named ++ more) (named_in line index fs xs)) (named_by line index f x)
 named_in line index _ _ = Some []
+
+-- the same of the field at a place
+abbrev pub named_at : ℕ → ℕ → List FieldEntry → ℕ → Option Value → Option (List Mention)
+named_at line index fields place x = option_and_then (λ f. named_by line index f x) (slice_get fields place)
 
 -- a cell's variant with the values of its fields, and where they name cells
 unfoldable pub cell_said : List TypeEntry → ℕ → CellLine → Result (CellEntry × List Mention) StoreKind

@@ -56,7 +56,7 @@ impl Draft {
         ensures { IfOk result (λ draft. draft ≡ nothing_said vars.now) }
     {
         let mut values = Items::new(alloc);
-        for _ in 0..vars.vars() {
+        for _place in 0..vars.vars() {
             values.push(None)?;
         }
         Ok(Draft {

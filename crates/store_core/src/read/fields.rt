@@ -1,8 +1,8 @@
 //! A line `cell` against the table of types.
 
-ghost use Rattle.std.specs.Prelude.{◌≡◌, length, map, None, Ok, IfOk, IfErr, OnOk};
-ghost use Rattle.store_core.specs.Tables.{fields_of};
-ghost use Rattle.store_core.specs.Saying.{IsStop, or_fault, variant_named, field_had, say_field, say_fields, named_in, cell_said};
+ghost use Rattle.std.specs.Prelude.{◌≡◌, ◌≢◌, ◌<◌, ◌++◌, length, map, None, Ok, IfOk, IfErr, OnOk, IsSomeAnd};
+ghost use Rattle.store_core.specs.Tables.{fields_of, KnowsVariant};
+ghost use Rattle.store_core.specs.Saying.{IsStop, or_fault, variant_named, field_had, say_field, say_fields, named_in, named_at, cell_said};
 ghost use Rattle.store_core.specs.DraftBodies.{said_cell};
 ghost use Rattle.store_core.specs.declared.fault.StoreKind.TheVariants as stop;
 
@@ -30,7 +30,9 @@ fn variant_named(
     ty: TypeId,
     name: &Option<ByteList>,
 ) -> Result<VariantId, StoreKind>
-    ensures { result ≡ variant_named types.now ty name.now }
+    ensures value { result ≡ variant_named types.now ty name.now }
+    ensures known { IfOk result (KnowsVariant types.now) }
+    ensures within { IfOk result (λ v. v.ty ≡ ty) }
 {
     match name {
         None => match types.unnamed(ty) {
@@ -71,6 +73,7 @@ fn say_field(
     requires { length values.old ≡ length (fields_of types.now v.ty) }
     ensures said { OnOk result (say_field types.now v values.old given.now ≡ Ok values.new) }
     ensures stop { IfErr result (IsStop (say_field types.now v values.old given.now)) }
+    ensures len { length values.new ≡ length values.old }
 {
     let field = field_had(types, v, given.name.as_slice())?;
     let Some(kind) = types.kind(field) else {
@@ -95,7 +98,7 @@ fn no_values(
     ensures stop { IfErr result (λ kind. kind ≡ stop.NoMemory) }
 {
     let mut values = Items::new(alloc);
-    for _ in 0..types.fields(ty) {
+    for _place in 0..types.fields(ty) {
         values.push(None)?;
     }
     Ok(values)
@@ -110,12 +113,41 @@ fn say_fields(
 ) -> Result<Items<Option<Value>>, StoreKind>
     ensures values { IfOk result (λ values. say_fields types.now v (map (λ f. None) (fields_of types.now v.ty)) fields.now ≡ Ok values) }
     ensures stop { IfErr result (IsStop (say_fields types.now v (map (λ f. None) (fields_of types.now v.ty)) fields.now)) }
+    ensures len { IfOk result (λ values. length values ≡ length (fields_of types.now v.ty)) }
 {
     let mut values = no_values(alloc, types, v.ty)?;
     for given in fields {
         say_field(alloc, types, v, &mut values, given)?;
     }
     Ok(values)
+}
+
+/// Notes where the value of the field at a place names cells; `Missing` where the variant has it and there is no value.
+fn note_field(
+    named: &mut Items<Mention>,
+    types: &TypeTable,
+    v: VariantId,
+    line: u32,
+    index: u32,
+    value: &Option<Value>,
+) -> Result<(), StoreKind>
+    requires known { KnowsVariant types.now v }
+    requires within { index < length (fields_of types.now v.ty) }
+    ensures named { OnOk result (IsSomeAnd (named_at line v.index (fields_of types.now v.ty) index value.now) (λ more. named.new ≡ named.old ++ more)) }
+    ensures stop { IfErr result (λ kind. kind ≢ stop.NoMemory → (kind ≡ stop.Missing) × (named_at line v.index (fields_of types.now v.ty) index value.now ≡ None)) }
+{
+    let field = FieldId { ty: v.ty, index };
+    let Some(value) = value else {
+        if types.has(v, field) {
+            return Err(StoreKind::Missing);
+        }
+        return Ok(());
+    };
+    let Some(kind) = types.kind(field) else {
+        return Err(StoreKind::Missing);
+    };
+    note(named, line, field_holds(kind), value)?;
+    Ok(())
 }
 
 /// Where a cell's fields name cells; `Missing` where a field of the variant has no value.
@@ -126,27 +158,14 @@ fn named_in(
     line: u32,
     values: &[Option<Value>],
 ) -> Result<Items<Mention>, StoreKind>
-    requires { length values.now ≡ length (fields_of types.now v.ty) }
+    requires known { KnowsVariant types.now v }
+    requires each { length values.now ≡ length (fields_of types.now v.ty) }
     ensures named { IfOk result (λ named. or_fault stop.Missing (named_in line v.index (fields_of types.now v.ty) values.now) ≡ Ok named) }
     ensures stop { IfErr result (IsStop (or_fault stop.Missing (named_in line v.index (fields_of types.now v.ty) values.now))) }
 {
     let mut named = Items::new(alloc);
-    for (index, value) in values.iter().enumerate() {
-        let field = FieldId {
-            ty: v.ty,
-            index: index as u32,
-        };
-        let Some(kind) = types.kind(field) else {
-            unreachable!()
-        };
-        match value {
-            Some(value) => note(&mut named, line, field_holds(kind), value)?,
-            None => {
-                if types.has(v, field) {
-                    return Err(StoreKind::Missing);
-                }
-            }
-        }
+    for index in 0..types.fields(v.ty) {
+        note_field(&mut named, types, v, line, index, &values[index as usize])?;
     }
     Ok(named)
 }

@@ -1,7 +1,7 @@
 //! The forms of the lines between `store` and `end`.
 
 ghost use Rattle.std.specs.Prelude.{◌≡◌, IfOk};
-ghost use Rattle.store_core.specs.Spelling.{all_of, given_of, field_of, variant_of, type_of, var_line, cell_line, line_in, line_of};
+ghost use Rattle.store_core.specs.Spelling.{all_of, given_of, field_of, variant_of, type_of, var_line, cell_in, cell_line, line_in, line_of};
 
 use crate::kind::ByteList;
 use crate::read::lines::{cut_at, parts_of};
@@ -94,20 +94,23 @@ fn var_line(alloc: Global, parts: &[ByteList]) -> Result<Option<Line>, AllocErro
     }
 }
 
-/// `N TYPE F=VALUE ..`, after `cell`.
-fn cell_line(alloc: Global, parts: &[ByteList]) -> Result<Option<Line>, AllocError>
-    ensures { IfOk result (λ line. line ≡ cell_line parts.now) }
+/// A number, a type and fields.
+#[tactic(auto, unfolding(crate::specs::Spelling::cell_in))]
+fn cell_in(
+    alloc: Global,
+    number: &[u8],
+    ty: &[u8],
+    fields: &[ByteList],
+) -> Result<Option<Line>, AllocError>
+    ensures { IfOk result (λ line. line ≡ cell_in number.now ty.now fields.now) }
 {
-    if parts.len() < 2 {
-        return Ok(None);
-    }
-    let Some(number) = number_of(parts[0].as_slice()) else {
+    let Some(number) = number_of(number) else {
         return Ok(None);
     };
-    let Some((ty, variant)) = type_of(alloc, parts[1].as_slice())? else {
+    let Some((ty, variant)) = type_of(alloc, ty)? else {
         return Ok(None);
     };
-    let Some(fields) = all_fields(alloc, &parts[2..])? else {
+    let Some(fields) = all_fields(alloc, fields)? else {
         return Ok(None);
     };
     Ok(Some(Line::Cell(CellLine {
@@ -116,6 +119,16 @@ fn cell_line(alloc: Global, parts: &[ByteList]) -> Result<Option<Line>, AllocErr
         variant,
         fields,
     })))
+}
+
+/// `N TYPE F=VALUE ..`, after `cell`.
+fn cell_line(alloc: Global, parts: &[ByteList]) -> Result<Option<Line>, AllocError>
+    ensures { IfOk result (λ line. line ≡ cell_line parts.now) }
+{
+    if parts.len() < 2 {
+        return Ok(None);
+    }
+    cell_in(alloc, parts[0].as_slice(), parts[1].as_slice(), &parts[2..])
 }
 
 /// What a line between `store` and `end` says, where it has a form.
