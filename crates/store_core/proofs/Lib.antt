@@ -8,3 +8,5 @@ pub mod Changes
 pub mod Steps
 pub mod LineLemmas
 pub mod SpellingLemmas
+pub mod SayingLemmas
+pub mod DraftLemmas

@@ -8,6 +8,7 @@ use Rattle.std.proofs.lemmas.List.{append-nil}
 use Rattle.std.proofs.lemmas.Bool.Decides.{nat_tests}
 use Rattle.store_core.specs.declared.read.spelled.Spelled.{Spelled}
 use Rattle.store_core.specs.declared.read.spelled.Spelled.TheVariants as spelled
+use Rattle.store_core.specs.declared.read.spelled.Given.{Given}
 use Rattle.store_core.specs.declared.read.spelled.Line.{Line}
 use Rattle.store_core.specs.declared.read.spelled.Line.TheVariants as line
 use Rattle.store_core.specs.Lines.{parts_of}
@@ -133,6 +134,12 @@ var_line-two [] name value two first second = absurd (omega arith)
 var_line-two (a ∷ []) name value two first second = absurd (omega arith)
 var_line-two (a ∷ b ∷ []) name value two first second = ap (λ n. option_map line.Var (given_of n b)) (sym first) ∙ ap (λ v. option_map line.Var (given_of name v)) (sym second)
 var_line-two (a ∷ b ∷ d ∷ parts) name value two first second = absurd (omega arith)
+
+-- the same where the two parts are read through references
+pub var_line-given : (parts : List (List ℕ)) (a b name value : List ℕ) (given : Option Given) → length parts ≡ 2 → a ≡ get_or parts 0 a → b ≡ get_or parts 1 b → name ≡ a → value ≡ b
+    → given ≡ given_of name value → option_map line.Var given ≡ var_line parts
+var_line-given parts a b name value given two first second named valued is =
+    ap (option_map line.Var) (is ∙ (λ i. given_of (named i) (valued i))) ∙ sym (var_line-two parts a b two first second)
 
 pub var_line-other : (parts : List (List ℕ)) → length parts ≢ 2 → var_line parts ≡ None
 unfolding var_line

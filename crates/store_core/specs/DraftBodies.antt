@@ -1,5 +1,7 @@
 -- What the lines have said, as a draft keeps it.
 use Rattle.std.specs.Prelude.{◌≡◌, ℕ, List, map, Option}
+use Rattle.std.specs.List.Sorted.{IsStrictlySortedBy}
+use Rattle.std.specs.Ordering.{nat_cmp}
 use Rattle.std.specs.FinMap.{from_sorted}
 use Rattle.store_core.specs.declared.value.Value.{Value}
 use Rattle.store_core.specs.declared.read.fields.SaidCell.{SaidCell}
@@ -18,6 +20,7 @@ said_cells cells = map (λ e. (e.0, said_cell e.1)) cells
 abbrev pub said_of : List (ℕ × SaidCell) → List (Option Value) → List Mention → Said
 said_of cells vars mentions = record { cells = from_sorted (said_cells cells); vars = vars; mentions = mentions }
 
--- the next number is kept up to date
-abbrev pub IsUpToDate : List (ℕ × SaidCell) → ℕ → Type 0
-IsUpToDate cells next = next ≡ next_after (map (λ e. e.0) cells)
+-- the numbers rise, and the next number is kept up to date
+pub record IsUpToDate (cells : List (ℕ × SaidCell)) (above : ℕ) : Type 0 where
+  pub rising : IsStrictlySortedBy nat_cmp (map (λ e. e.0) cells)
+  pub next : above ≡ next_after (map (λ e. e.0) cells)

@@ -158,8 +158,8 @@ unfoldable pub cell_said : List TypeEntry → ℕ → CellLine → Result (CellE
 cell_said types line cell = do
   ty ← or_fault UnknownName (type_named types cell.ty)
   v ← variant_named types ty cell.variant
-  values ← say_fields types v (map (λ f. None) (fields_of types ty)) cell.fields
-  named ← or_fault Missing (named_in line v.index (fields_of types ty) values)
+  values ← say_fields types v (map (λ f. None) (fields_of types v.ty)) cell.fields
+  named ← or_fault Missing (named_in line v.index (fields_of types v.ty) values)
   Ok (record { variant = v; values = values }, named)
 
 -- a cell: from the left its number is new, the type and the variant are there, each field is as `say_field` wants it, and no

@@ -1,6 +1,6 @@
 //! What the lines of a text have said so far, and the store that they make.
 
-ghost use Rattle.std.specs.Prelude.{◌≡◌, ◌≢◌, ◌<◌, map, Some, Ok, None, IfOk, IfErr, IsSomeAnd, OnOk};
+ghost use Rattle.std.specs.Prelude.{◌≡◌, ◌≢◌, ◌<◌, length, map, Some, Ok, None, IfOk, IfErr, IsSomeAnd, OnOk};
 ghost use Rattle.store_core.specs.Saying.{IsStop, or_fault, nothing_said, say_var, say_cell};
 ghost use Rattle.store_core.specs.Spelling.{line_of, all_of};
 ghost use Rattle.store_core.specs.Reading.{say_line, store_said};
@@ -76,8 +76,10 @@ impl Draft {
         line: u32,
         given: &Given,
     ) -> Result<(), StoreKind>
+        requires { length self.old.vars ≡ length vars.now }
         ensures said { OnOk result (say_var vars.now line self.old given.now ≡ Ok self.new) }
         ensures stop { IfErr result (IsStop (say_var vars.now line self.old given.now)) }
+        ensures len { length self.new.vars ≡ length self.old.vars }
     {
         let Some(v) = vars.find(given.name.as_slice()) else {
             return Err(StoreKind::UnknownName);
@@ -108,6 +110,7 @@ impl Draft {
         requires { cell.now.number < 4294967295 }
         ensures said { OnOk result (say_cell types.now line self.old cell.now ≡ Ok self.new) }
         ensures stop { IfErr result (IsStop (say_cell types.now line self.old cell.now)) }
+        ensures len { length self.new.vars ≡ length self.old.vars }
     {
         if self.cells.contains_key(&cell.number) {
             return Err(StoreKind::Repeated);
@@ -129,8 +132,10 @@ impl Draft {
         line: u32,
         bytes: &[u8],
     ) -> Result<(), StoreKind>
+        requires { length self.old.vars ≡ length vars.now }
         ensures said { OnOk result (say_line types.now vars.now line self.old (line_of bytes.now) ≡ Ok self.new) }
         ensures stop { IfErr result (IsStop (say_line types.now vars.now line self.old (line_of bytes.now))) }
+        ensures len { length self.new.vars ≡ length self.old.vars }
     {
         match line_of(alloc, bytes)? {
             None => Err(StoreKind::Syntax),

@@ -32,7 +32,6 @@ fn variant_named(
 ) -> Result<VariantId, StoreKind>
     ensures value { result ≡ variant_named types.now ty name.now }
     ensures known { IfOk result (KnowsVariant types.now) }
-    ensures within { IfOk result (λ v. v.ty ≡ ty) }
 {
     match name {
         None => match types.unnamed(ty) {
