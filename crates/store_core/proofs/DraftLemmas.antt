@@ -51,15 +51,16 @@ some_said (Some c) = refl
 pub contains_key-said : (es : List (ℕ × SaidCell)) (q : ℕ) → IsStrictlySortedBy nat_cmp (map (λ e. e.0) es) → contains_key (from_sorted {R = nat_cmp} (said_cells es)) q ≡ is_some (lookup (is_at (nat_cmp q)) es)
 contains_key-said es q rising = ap is_some (get-from_sorted nat_cmp (said_cells es) q (sorted_said es rising) ∙ find-said q es) ∙ some_said (lookup (is_at (nat_cmp q)) es)
 
+put_by : (k : ℕ) (c : SaidCell) (e : ℕ × SaidCell) (es : List (ℕ × SaidCell)) (o : Ordering) → said_cells (insert_entry nat_cmp es k c) ≡ put nat_cmp k (said_cell c) (said_cells es)
+    → said_cells (match_ordering o ((k, c) ∷ e ∷ es) ((e.0, c) ∷ es) (e ∷ insert_entry nat_cmp es k c))
+        ≡ by_order o ((k, said_cell c) ∷ said_cells (e ∷ es)) ((e.0, said_cell c) ∷ said_cells es) ((e.0, said_cell e.1) ∷ put nat_cmp k (said_cell c) (said_cells es))
+put_by k c e es Less deeper = refl
+put_by k c e es Equal deeper = refl
+put_by k c e es Greater deeper = ap (λ l. (e.0, said_cell e.1) ∷ l) deeper
+
 put-said : (k : ℕ) (c : SaidCell) (es : List (ℕ × SaidCell)) → said_cells (insert_entry nat_cmp es k c) ≡ put nat_cmp k (said_cell c) (said_cells es)
 put-said k c [] = refl
-put-said k c (e ∷ es) = by (nat_cmp k e.0)
-  where
-    by : (o : Ordering) → said_cells (match_ordering o ((k, c) ∷ e ∷ es) ((e.0, c) ∷ es) (e ∷ insert_entry nat_cmp es k c))
-        ≡ by_order o ((k, said_cell c) ∷ said_cells (e ∷ es)) ((e.0, said_cell c) ∷ said_cells es) ((e.0, said_cell e.1) ∷ put nat_cmp k (said_cell c) (said_cells es))
-    by Less = refl
-    by Equal = refl
-    by Greater = ap (λ l. (e.0, said_cell e.1) ∷ l) (put-said k c es)
+put-said k c (e ∷ es) = put_by k c e es (nat_cmp k e.0) (put-said k c es)
 
 -- a cell more
 pub insert-said : (es : List (ℕ × SaidCell)) (k : ℕ) (c : SaidCell) → IsStrictlySortedBy nat_cmp (map (λ e. e.0) es) → IsStrictlySortedBy nat_cmp (map (λ e. e.0) (insert_entry nat_cmp es k c))

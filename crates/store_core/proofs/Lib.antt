@@ -10,3 +10,4 @@ pub mod LineLemmas
 pub mod SpellingLemmas
 pub mod SayingLemmas
 pub mod DraftLemmas
+pub mod ReadingLemmas

@@ -6,6 +6,7 @@ use Rattle.std.specs.List.Sorted.{IsStrictlySortedBy}
 use Rattle.std.specs.Ordering.{nat_cmp, is_eq}
 use Rattle.std.specs.declared.cmp.Ordering.TheVariants.{Less}
 use Rattle.std.specs.BTreeSet.{insert_key}
+use Rattle.std.specs.FinMap.{insert, contains_key}
 use Rattle.std.proofs.lemmas.Cmp.{ranked}
 use Rattle.std.proofs.lemmas.Bool.Decides.{nat_tests}
 use Rattle.std.proofs.lemmas.List.{append-nil, at_drop_more}
@@ -17,13 +18,14 @@ use Rattle.store_core.specs.declared.ids.FieldId.{FieldId}
 use Rattle.store_core.specs.declared.kind.FieldKind.{FieldKind}
 use Rattle.store_core.specs.declared.value.Value.{Value}
 use Rattle.store_core.specs.declared.fault.StoreKind.{StoreKind}
-use Rattle.store_core.specs.declared.fault.StoreKind.TheVariants.{Missing, UnknownName}
+use Rattle.store_core.specs.declared.fault.StoreKind.TheVariants.{Missing, UnknownName, Repeated}
 use Rattle.store_core.specs.declared.read.holds.Mention.{Mention}
 use Rattle.store_core.specs.declared.ids.TypeId.{TypeId}
 use Rattle.store_core.specs.declared.read.spelled.CellLine.{CellLine}
 use Rattle.store_core.specs.Tables.{TypeEntry, FieldEntry, fields_of, type_named, variant_count, field_at, field_named, place_of, field_names, has_field, is_had, KnowsVariant}
 use Rattle.store_core.specs.CellLists.{AreRising}
-use Rattle.store_core.specs.Saying.{◌>>=◌, IsStop, or_fault, members_after, cells_numbered, field_had, field_holds, mentions_of, named_by, named_in, named_at, variant_named, say_fields, cell_said}
+use Rattle.store_core.specs.Stores.{CellEntry}
+use Rattle.store_core.specs.Saying.{◌>>=◌, IsStop, or_fault, members_after, cells_numbered, field_had, field_holds, mentions_of, named_by, named_in, named_at, variant_named, say_fields, cell_said, Said, say_cell}
 use Rattle.store_core.proofs.Adding.{at_known}
 
 -- ---- faults
@@ -191,3 +193,20 @@ pub cell_said-stop : (types : List TypeEntry) (line : ℕ) (cell : CellLine) (ty
     → variant_named types ty cell.variant ≡ Ok v → say_fields types v (map (λ f. None) (fields_of types v.ty)) cell.fields ≡ Err kind → cell_said types line cell ≡ Err kind
 unfolding cell_said
 cell_said-stop types line cell ty v kind typed variant fields = rw typed (rw variant (rw fields refl))
+
+-- a cell's number again
+pub say_cell-again : (types : List TypeEntry) (line : ℕ) (said : Said) (cell : CellLine) → contains_key said.cells cell.number ≡ true → say_cell types line said cell ≡ Err Repeated
+unfolding say_cell
+say_cell-again types line said cell again = rw again refl
+
+-- the first fault of a line `cell` behind its number
+pub say_cell-stop : (types : List TypeEntry) (line : ℕ) (said : Said) (cell : CellLine) (kind : StoreKind) → contains_key said.cells cell.number ≡ false → cell_said types line cell ≡ Err kind
+    → say_cell types line said cell ≡ Err kind
+unfolding say_cell
+say_cell-stop types line said cell kind new stop = rw new (rw stop refl)
+
+-- a new cell
+pub say_cell-new : (types : List TypeEntry) (line : ℕ) (said : Said) (cell : CellLine) (new : CellEntry × List Mention) → contains_key said.cells cell.number ≡ false → cell_said types line cell ≡ Ok new
+    → say_cell types line said cell ≡ Ok (record { cells = insert said.cells cell.number new.0; vars = said.vars; mentions = said.mentions ++ new.1 })
+unfolding say_cell
+say_cell-new types line said cell new absent fine = rw absent (rw fine refl)

@@ -1,18 +1,20 @@
 -- Names, numbers and values, read byte by byte and word by word.
-use Rattle.std.proofs.Common.{◌≡◌, ◌≢◌, ℕ, zero, suc, ◌+◌, ◌-◌, ◌*◌, ◌<◌, ◌≤◌, ◌==◌, ◌&&◌, nat_le, nat_lt, Bool, true, false, cond, List, [], ◌∷◌, ◌++◌, length, Option, Some, None, refl, sym, ap, ◌∙◌, arith, append_assoc, get_or, drop}
+use Rattle.std.proofs.Common.{◌≡◌, ◌≢◌, ℕ, zero, suc, ◌+◌, ◌-◌, ◌*◌, ◌<◌, ◌≤◌, ◌==◌, ◌&&◌, nat_le, nat_lt, Bool, true, false, cond, List, [], ◌∷◌, ◌++◌, length, Option, Some, None, refl, sym, ap, ◌∙◌, arith, append_assoc, get_or, drop, codes, subst}
 use Rattle.std.specs.Option.{option_map}
 use Rattle.std.specs.List.{list_all}
 use Rattle.std.specs.Char.{is_ascii_digit, digit_value}
 use Rattle.std.specs.Str.Parse.{digits_value_after}
+use Rattle.std.specs.Str.{bytes_eq}
 use Rattle.std.proofs.lemmas.List.{append-nil}
 use Rattle.std.proofs.lemmas.Bool.Decides.{nat_tests}
 use Rattle.store_core.specs.declared.read.spelled.Spelled.{Spelled}
 use Rattle.store_core.specs.declared.read.spelled.Spelled.TheVariants as spelled
 use Rattle.store_core.specs.declared.read.spelled.Given.{Given}
+use Rattle.store_core.specs.declared.read.spelled.CellLine.{CellLine}
 use Rattle.store_core.specs.declared.read.spelled.Line.{Line}
 use Rattle.store_core.specs.declared.read.spelled.Line.TheVariants as line
 use Rattle.store_core.specs.Lines.{parts_of}
-use Rattle.store_core.specs.Spelling.{◌>>=◌, all_of, number_after, number_of, before_close, numbers_of, counted_of, given_of, var_line, cell_in, cell_line}
+use Rattle.store_core.specs.Spelling.{◌>>=◌, all_of, number_after, number_of, before_close, numbers_of, counted_of, given_of, field_of, type_of, var_line, cell_in, cell_line, line_in, line_of}
 
 -- ---- all of a list
 
@@ -160,3 +162,71 @@ unfolding cell_line
 cell_line-fewer [] fewer = refl
 cell_line-fewer (a ∷ []) fewer = refl
 cell_line-fewer (a ∷ b ∷ parts) fewer = absurd (omega arith)
+
+-- ---- how great a cell's number is
+
+number_after-small : (front : ℕ) (digits : List ℕ) (n : ℕ) → number_after front digits ≡ Some n → n ≤ 1000000
+unfolding number_after
+number_after-small front digits n is = by (list_all is_ascii_digit digits) (digits_value_after 10 front digits) is
+  where
+    within : (m : ℕ) (t : Bool) → nat_le m 1000000 ≡ t → cond t (Some m) None ≡ Some n → n ≤ 1000000
+    within m true le e = let same : m ≡ n = cc in let fits : m ≤ 1000000 = grind (arith, nat_tests) in omega arith
+    within m false le e = absurd (cc)
+
+    by : (t : Bool) (m : ℕ) → cond (t && nat_le m 1000000) (Some m) None ≡ Some n → n ≤ 1000000
+    by true m e = within m (nat_le m 1000000) refl e
+    by false m e = absurd (cc)
+
+number_of-small : (word : List ℕ) (n : ℕ) → number_of word ≡ Some n → n ≤ 1000000
+unfolding number_of
+number_of-small [] n is = absurd (cc)
+number_of-small (b ∷ bs) n is = by (b == 48) is
+  where
+    by : (t : Bool) → cond t None (number_after 0 (b ∷ bs)) ≡ Some n → n ≤ 1000000
+    by true e = absurd (cc)
+    by false e = number_after-small 0 (b ∷ bs) n e
+
+cell_in-small : (number ty : List ℕ) (fields : List (List ℕ)) (cell : CellLine) → cell_in number ty fields ≡ Some (line.Cell cell) → cell.number ≤ 1000000
+unfolding cell_in
+cell_in-small number ty fields cell is = by (number_of number) refl (type_of ty) (all_of field_of fields) is
+  where
+    by : (n : Option ℕ) → number_of number ≡ n → (t : Option (List ℕ × Option (List ℕ))) (fs : Option (List Given))
+        → n >>= (λ m. t >>= (λ u. fs >>= (λ gs. Some (line.Cell (record { number = m; ty = u.0; variant = u.1; fields = gs }))))) ≡ Some (line.Cell cell) → cell.number ≤ 1000000
+    by None read t fs e = absurd (cc)
+    by (Some n) read None fs e = absurd (cc)
+    by (Some n) read (Some t) None e = absurd (cc)
+    by (Some n) read (Some t) (Some gs) e =
+        let same : record { number = n; ty = t.0; variant = t.1; fields = gs } ≡ cell = cc in
+        subst (λ (c : CellLine). c.number ≤ 1000000) same (number_of-small number n read)
+
+cell_line-small : (parts : List (List ℕ)) (cell : CellLine) → cell_line parts ≡ Some (line.Cell cell) → cell.number ≤ 1000000
+unfolding cell_line
+cell_line-small [] cell is = absurd (cc)
+cell_line-small (a ∷ []) cell is = absurd (cc)
+cell_line-small (a ∷ b ∷ parts) cell is = cell_in-small a b parts cell is
+
+var_line-no_cell : (parts : List (List ℕ)) (cell : CellLine) → var_line parts ≡ Some (line.Cell cell) → ⊥
+unfolding var_line
+var_line-no_cell [] cell is = absurd (cc)
+var_line-no_cell (a ∷ []) cell is = absurd (cc)
+var_line-no_cell (a ∷ b ∷ []) cell is = by (given_of a b) is
+  where
+    by : (o : Option Given) → option_map line.Var o ≡ Some (line.Cell cell) → ⊥
+    by None e = absurd (cc)
+    by (Some g) e = absurd (cc)
+var_line-no_cell (a ∷ b ∷ d ∷ parts) cell is = absurd (cc)
+
+line_in-small : (parts : List (List ℕ)) (cell : CellLine) → line_in parts ≡ Some (line.Cell cell) → cell.number ≤ 1000000
+unfolding line_in
+line_in-small [] cell is = absurd (cc)
+line_in-small (word ∷ others) cell is = by (bytes_eq word (codes "var")) (bytes_eq word (codes "cell")) is
+  where
+    by : (t u : Bool) → cond t (var_line others) (cond u (cell_line others) None) ≡ Some (line.Cell cell) → cell.number ≤ 1000000
+    by true u e = absurd (var_line-no_cell others cell e)
+    by false true e = cell_line-small others cell e
+    by false false e = absurd (cc)
+
+-- a cell's number in a line is at most 1,000,000
+pub line_of-small : (bytes : List ℕ) (cell : CellLine) → line_of bytes ≡ Some (line.Cell cell) → cell.number ≤ 1000000
+unfolding line_of
+line_of-small bytes cell is = line_in-small (parts_of bytes) cell is

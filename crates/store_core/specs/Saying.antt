@@ -1,5 +1,5 @@
 -- What the lines of a store text add to what those before them have said.
-use Rattle.std.specs.Prelude.{◌≡◌, ◌≢◌, ℕ, ◌==◌, List, [], ◌∷◌, ◌++◌, map, slice_get, slice_set, Option, Some, None, option_map, Result, Ok, Err, if◌then◌else◌}
+use Rattle.std.specs.Prelude.{◌≡◌, ◌≢◌, ℕ, ◌==◌, List, [], ◌∷◌, ◌++◌, map, slice_get, slice_set, Option, Some, None, option_map, Result, Ok, Err, if◌then◌else◌, Bool, true, false}
 use Rattle.std.specs.Option.{option_and_then}
 use Rattle.std.specs.List.{list_any}
 use Rattle.std.specs.Ordering.{nat_cmp}
@@ -99,18 +99,17 @@ mentions_of line _ _ = []
 
 -- ---- a line `var`
 
--- the variable has no value yet
-abbrev pub unless_said : {A : Type 0} → Option (Option Value) → Result A StoreKind → Result A StoreKind
-unless_said (Some (Some x)) then_what = Err Repeated
-unless_said (Some None) then_what = then_what
-unless_said None then_what = then_what
+-- a value was given before
+abbrev pub is_said : Option (Option Value) → Bool
+is_said (Some (Some x)) = true
+is_said _ = false
 
 -- a variable's value: from the left the name is there, it is new, and the value is of its class
 unfoldable pub say_var : List VarEntry → ℕ → Said → Given → Result Said StoreKind
 say_var vars line said given = do
   v ← or_fault UnknownName (var_named vars given.name)
   kind ← or_fault UnknownName (option_map (λ entry. entry.kind) (var_at vars v))
-  x ← unless_said (slice_get said.vars v.0) (value_for (var_holds kind) given.value)
+  x ← (if is_said (slice_get said.vars v.0) then Err Repeated else value_for (var_holds kind) given.value)
   Ok (record { cells = said.cells; vars = slice_set said.vars v.0 (Some x); mentions = said.mentions ++ mentions_of line (var_holds kind) x })
 
 -- ---- a line `cell`
@@ -131,7 +130,7 @@ unfoldable pub say_field : List TypeEntry → VariantId → List (Option Value) 
 say_field types v values given = do
   f ← field_had types v given.name
   kind ← or_fault UnknownName (option_map (λ entry. entry.kind) (field_at types f))
-  x ← unless_said (slice_get values f.index) (value_for (field_holds kind) given.value)
+  x ← (if is_said (slice_get values f.index) then Err Repeated else value_for (field_holds kind) given.value)
   Ok (slice_set values f.index (Some x))
 
 -- the values of these fields, from the left

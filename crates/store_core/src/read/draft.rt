@@ -11,7 +11,7 @@ ghost use Rattle.store_core.specs.declared.fault.StoreKind.TheVariants as stop;
 use crate::fault::StoreKind;
 use crate::read::fields::{SaidCell, cell_said};
 use crate::read::forms::line_of;
-use crate::read::holds::{Mention, note, value_for, var_holds};
+use crate::read::holds::{Mention, is_said, note, value_for, var_holds};
 use crate::read::spelled::{CellLine, Given, Line};
 use crate::store::{CellBody, Store};
 use crate::types::TypeTable;
@@ -88,7 +88,7 @@ impl Draft {
             return Err(StoreKind::UnknownName);
         };
         let place = v.0 as usize;
-        if let Some(Some(_)) = self.vars.get(place) {
+        if is_said(&self.vars, place) {
             return Err(StoreKind::Repeated);
         }
         let holds = var_holds(*kind);

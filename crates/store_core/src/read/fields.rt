@@ -9,7 +9,7 @@ ghost use Rattle.store_core.specs.declared.fault.StoreKind.TheVariants as stop;
 use crate::fault::StoreKind;
 use crate::ids::{FieldId, TypeId, VariantId};
 use crate::kind::ByteList;
-use crate::read::holds::{Mention, field_holds, note, value_for};
+use crate::read::holds::{Mention, field_holds, is_said, note, value_for};
 use crate::read::spelled::{CellLine, Given};
 use crate::types::TypeTable;
 use crate::value::Value;
@@ -79,7 +79,7 @@ fn say_field(
         return Err(StoreKind::UnknownName);
     };
     let place = field.index as usize;
-    if let Some(Some(_)) = values.get(place) {
+    if is_said(values, place) {
         return Err(StoreKind::Repeated);
     }
     let value = value_for(alloc, field_holds(kind), &given.value)?;

@@ -1,7 +1,7 @@
 //! Which values a variable or field may hold, and which cells a value names.
 
-ghost use Rattle.std.specs.Prelude.{◌≡◌, [], ◌++◌, map, Some, Ok, IfOk, IfErr, OnOk};
-ghost use Rattle.store_core.specs.Saying.{IsStop, field_holds, var_holds, members_after, cells_numbered, set_of, value_for, mentions_of, mention};
+ghost use Rattle.std.specs.Prelude.{◌≡◌, [], ◌++◌, map, slice_get, Some, Ok, IfOk, IfErr, OnOk};
+ghost use Rattle.store_core.specs.Saying.{IsStop, field_holds, var_holds, is_said, members_after, cells_numbered, set_of, value_for, mentions_of, mention};
 
 use crate::fault::StoreKind;
 use crate::ids::{CellId, TypeId};
@@ -51,6 +51,13 @@ pub fn var_holds(kind: VarKind) -> Holds
         VarKind::Data(target) | VarKind::Pointer(target) => Holds::Reference(target),
         VarKind::LogicSet(target) => Holds::Set(target),
     }
+}
+
+/// Whether a value was given for a place.
+pub fn is_said(values: &Items<Option<Value>>, place: usize) -> bool
+    ensures { result ≡ is_said (slice_get values.now place) }
+{
+    matches!(values.get(place), Some(Some(_)))
 }
 
 /// The members of a set by number; one again is `Repeated`.
