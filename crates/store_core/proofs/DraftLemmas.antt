@@ -53,7 +53,7 @@ contains_key-said es q rising = ap is_some (get-from_sorted nat_cmp (said_cells 
 
 put_by : (k : ℕ) (c : SaidCell) (e : ℕ × SaidCell) (es : List (ℕ × SaidCell)) (o : Ordering) → said_cells (insert_entry nat_cmp es k c) ≡ put nat_cmp k (said_cell c) (said_cells es)
     → said_cells (match_ordering o ((k, c) ∷ e ∷ es) ((e.0, c) ∷ es) (e ∷ insert_entry nat_cmp es k c))
-        ≡ by_order o ((k, said_cell c) ∷ said_cells (e ∷ es)) ((e.0, said_cell c) ∷ said_cells es) ((e.0, said_cell e.1) ∷ put nat_cmp k (said_cell c) (said_cells es))
+    ≡ by_order o ((k, said_cell c) ∷ said_cells (e ∷ es)) ((e.0, said_cell c) ∷ said_cells es) ((e.0, said_cell e.1) ∷ put nat_cmp k (said_cell c) (said_cells es))
 put_by k c e es Less deeper = refl
 put_by k c e es Equal deeper = refl
 put_by k c e es Greater deeper = ap (λ l. (e.0, said_cell e.1) ∷ l) deeper

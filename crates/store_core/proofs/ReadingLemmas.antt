@@ -56,6 +56,11 @@ read_end-store n said after store made = by (all_of (λ x. x) said.vars) made
 
 -- ---- line by line
 
+-- a text that is over has no line
+pub lines_of-over : (text : List ℕ) → (length text == 0) ≡ true → lines_of text ≡ []
+lines_of-over [] over = refl
+lines_of-over (b ∷ bs) over = absurd (grind (arith, nat_tests))
+
 module _ (types : List TypeEntry) (vars : List VarEntry) where
   pub reading-nothing : (text : List ℕ) → (length text == 0) ≡ true → reading types vars text ≡ fault_at 1 kind.Missing
   unfolding reading read_text

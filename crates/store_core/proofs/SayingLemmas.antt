@@ -22,10 +22,13 @@ use Rattle.store_core.specs.declared.fault.StoreKind.TheVariants.{Missing, Unkno
 use Rattle.store_core.specs.declared.read.holds.Mention.{Mention}
 use Rattle.store_core.specs.declared.ids.TypeId.{TypeId}
 use Rattle.store_core.specs.declared.read.spelled.CellLine.{CellLine}
-use Rattle.store_core.specs.Tables.{TypeEntry, FieldEntry, fields_of, type_named, variant_count, field_at, field_named, place_of, field_names, has_field, is_had, KnowsVariant}
+use Rattle.store_core.specs.declared.ids.VarId.{VarId}
+use Rattle.store_core.specs.declared.kind.VarKind.{VarKind}
+use Rattle.store_core.specs.declared.read.spelled.Given.{Given}
+use Rattle.store_core.specs.Tables.{TypeEntry, FieldEntry, VarEntry, var_named, var_at, fields_of, type_named, variant_count, field_at, field_named, place_of, field_names, has_field, is_had, KnowsVariant}
 use Rattle.store_core.specs.CellLists.{AreRising}
 use Rattle.store_core.specs.Stores.{CellEntry}
-use Rattle.store_core.specs.Saying.{◌>>=◌, IsStop, or_fault, members_after, cells_numbered, field_had, field_holds, mentions_of, named_by, named_in, named_at, variant_named, say_fields, cell_said, Said, say_cell}
+use Rattle.store_core.specs.Saying.{◌>>=◌, IsStop, or_fault, members_after, cells_numbered, field_had, field_holds, mentions_of, named_by, named_in, named_at, variant_named, say_fields, cell_said, Said, say_cell, is_said, value_for, var_holds, say_var}
 use Rattle.store_core.proofs.Adding.{at_known}
 
 -- ---- faults
@@ -210,3 +213,11 @@ pub say_cell-new : (types : List TypeEntry) (line : ℕ) (said : Said) (cell : C
     → say_cell types line said cell ≡ Ok (record { cells = insert said.cells cell.number new.0; vars = said.vars; mentions = said.mentions ++ new.1 })
 unfolding say_cell
 say_cell-new types line said cell new absent fine = rw absent (rw fine refl)
+
+-- ---- a variable
+
+-- the fault of a variable's value
+pub say_var-stop : (vars : List VarEntry) (line : ℕ) (said : Said) (given : Given) (v : VarId) (kind : VarKind) (stop : StoreKind) → var_named vars given.name ≡ Some v
+    → option_map (λ entry. entry.kind) (var_at vars v) ≡ Some kind → is_said (slice_get said.vars v.0) ≡ false → value_for (var_holds kind) given.value ≡ Err stop → say_var vars line said given ≡ Err stop
+unfolding say_var
+say_var-stop vars line said given v kind stop named kinded new why = rw named (rw kinded (rw new (rw why refl)))

@@ -1,7 +1,8 @@
 //! A store text as the store that it spells.
 
-ghost use Rattle.std.specs.Prelude.{◌≡◌, ◌<◌, ◌+◌, ◌≤◌, length, Ok, IfOk, IfErr};
+ghost use Rattle.std.specs.Prelude.{◌≡◌, ◌<◌, ◌+◌, ◌≤◌, length, codes, Ok, IfOk, IfErr};
 ghost use Rattle.std.specs.List.{find};
+ghost use Rattle.std.specs.Str.{bytes_eq};
 ghost use Rattle.store_core.specs.Lines.{lines_of};
 ghost use Rattle.store_core.specs.Reading.{IsFaultOf, reading, read_end, is_misnamed, IsFault};
 
@@ -42,7 +43,7 @@ pub fn read_store(
         return Err(fault_at(1, StoreKind::Missing));
     }
     let (first, mut left) = split_line(text);
-    if first != b"store".as_slice() {
+    if !is_start(first) {
         return Err(fault_at(1, StoreKind::Syntax));
     }
     let mut draft = match Draft::new(alloc, vars) {
@@ -52,7 +53,7 @@ pub fn read_store(
     let mut line = 2;
     while !left.is_empty() {
         let (front, after) = split_line(left);
-        if front == b"end".as_slice() {
+        if is_end(front) {
             return read_end(alloc, draft, line, after);
         }
         if let Err(kind) = draft.say_line(alloc, types, vars, line, front) {
@@ -62,6 +63,20 @@ pub fn read_store(
         left = after;
     }
     Err(fault_at(line, StoreKind::Missing))
+}
+
+/// Whether a line is `store`.
+fn is_start(line: &[u8]) -> bool
+    ensures { result ≡ bytes_eq line.now (codes "store") }
+{
+    line == b"store".as_slice()
+}
+
+/// Whether a line is `end`.
+fn is_end(line: &[u8]) -> bool
+    ensures { result ≡ bytes_eq line.now (codes "end") }
+{
+    line == b"end".as_slice()
 }
 
 /// A fault of this kind at a line.

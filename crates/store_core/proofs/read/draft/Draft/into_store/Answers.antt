@@ -13,6 +13,7 @@ pub returns-clause-store : goal.returns-clause-store
 returns-clause-store c =
     let made = c.of.ensures
     ∙ (λ i. record { cells = from_sorted (c.in_ok-bodies.ensures.cells i); vars = c.in_ok-values.values; next = (c.self.invariant.next ∙ sym (ap next_after (keys-said c.self.inside.cells.entries c.self.invariant.rising))) i })
-    ∙ ap (λ said. store_said said c.in_ok-values.values) c.self.view_is in
-    (ap (λ (s : Said). s.mentions) c.self.view_is,
-    subst (λ o. IsSomeAnd o (λ values. c.of.result ≡ store_said c.args.self values)) (sym (ap (λ (s : Said). all_of (λ x. x) s.vars) (sym c.self.view_is) ∙ c.in_ok-values.ensures.values)) made)
+    ∙ ap (λ said. store_said said c.in_ok-values.values) c.self.view_is in (
+      ap (λ (s : Said). s.mentions) c.self.view_is,
+      subst (λ o. IsSomeAnd o (λ values. c.of.result ≡ store_said c.args.self values)) (sym (ap (λ (s : Said). all_of (λ x. x) s.vars) (sym c.self.view_is) ∙ c.in_ok-values.ensures.values)) made,
+    )
