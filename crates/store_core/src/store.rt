@@ -102,7 +102,7 @@ fn blank_values(
 }
 
 impl Store {
-    ghost use Rattle.store_core.specs.StoreBodies.{cell_entry, store_of, IsKept};
+    ghost use Rattle.store_core.specs.StoreBodies.{cell_entry, cells_of, store_of, IsKept};
 
     /// The store of these cells, whose numbers rise and are below the next.
     pub(crate) fn of(cells: Vec<CellBody>, vars: Items<Value>, next: u32) -> Store
@@ -154,6 +154,20 @@ impl Store {
     {
         let place = self.place(c)?;
         at(self.cells.as_slice(), place)
+    }
+
+    /// The live cells by number.
+    pub(crate) fn bodies(&self) -> &[CellBody]
+        ensures { cells_of result.now ≡ entries self.now.cells }
+    {
+        self.cells.as_slice()
+    }
+
+    /// The value of each variable by its number.
+    pub(crate) fn values(&self) -> &[Value]
+        ensures { result.now ≡ self.now.vars }
+    {
+        self.vars.as_slice()
     }
 
     /// The type of a cell; `None` exactly for a cell that isn't live. Takes no memory.
