@@ -149,9 +149,10 @@ set_fit s n target numbers x e fine = elim (cases (members_after [] numbers)) [
   | inl none ↦ absurd (let e1 = rw none at e in cc)
   | inr members ↦ let e1 = rw members.1 at e in
       let same : value.Cells (cells_numbered members.0) ≡ x = cc in
-      subst (HoldsFit s (holds.Set target)) same
-      (AreRising-numbered members.0 (members-Rise [] numbers members.0 tt members.1),
-      names_types s n target (cells_numbered members.0) (subst (λ y. AllByRecursion (Fine s) (mentions_of n (holds.Set target) y)) (sym same) fine))
+      subst (HoldsFit s (holds.Set target)) same (
+        AreRising-numbered members.0 (members-Rise [] numbers members.0 tt members.1),
+        names_types s n target (cells_numbered members.0) (subst (λ y. AllByRecursion (Fine s) (mentions_of n (holds.Set target) y)) (sym same) fine),
+      )
 ]
 
 holds_fit : (s : StoreMap) (n : ℕ) (h : Holds) (sp : Spelled) (x : Value) → value_for h sp ≡ Ok x → AllByRecursion (Fine s) (mentions_of n h x) → HoldsFit s h x
@@ -258,7 +259,7 @@ var_fits types vars s n said given more e before fine =
     subst (SaidFits types vars s) here.is (record {
       cells = so_far.cells;
       values = SaidVars-set s vars said.vars here.v.0 here.entry here.x so_far.values here.at
-        (VarFits-holds s here.entry.kind here.x (holds_fit s n (var_holds here.entry.kind) given.value here.x here.value (All-right (Fine s) said.mentions _ all)));
+          (VarFits-holds s here.entry.kind here.x (holds_fit s n (var_holds here.entry.kind) given.value here.x here.value (All-right (Fine s) said.mentions _ all)));
     })
 
 -- ---- a line `cell`
@@ -346,9 +347,10 @@ slots_fit s n index (f ∷ fs) (Some x ∷ xs) named all e fine = elim (cases (n
   | inl none ↦ absurd (let e1 = rw none at e in cc)
   | inr more ↦ let e1 = rw more.1 at e in
       let same : named ≡ mentions_of n (field_holds f.kind) x ++ more.0 = cc in
-      let both = subst (AllByRecursion (Fine s)) same fine in
-      ((all.0.0, FieldFits-holds s f.kind x (holds_fit s n (field_holds f.kind) all.0.1.0 x all.0.1.1 (All-left (Fine s) (mentions_of n (field_holds f.kind) x) more.0 both))),
-      slots_fit s n index fs xs more.0 all.1 more.1 (All-right (Fine s) (mentions_of n (field_holds f.kind) x) more.0 both))
+      let both = subst (AllByRecursion (Fine s)) same fine in (
+        (all.0.0, FieldFits-holds s f.kind x (holds_fit s n (field_holds f.kind) all.0.1.0 x all.0.1.1 (All-left (Fine s) (mentions_of n (field_holds f.kind) x) more.0 both))),
+        slots_fit s n index fs xs more.0 all.1 more.1 (All-right (Fine s) (mentions_of n (field_holds f.kind) x) more.0 both),
+      )
 ]
 
 -- the variant is one of the type
@@ -418,12 +420,12 @@ cells_fit types vars s n said cell more e before = elim (bool_cases (contains_ke
         let after : Said = record { cells = insert said.cells cell.number entry.0.0; vars = said.vars; mentions = said.mentions ++ entry.0.1 } in
         let same : after ≡ more = cc in
         subst (λ (m : Said). AllByRecursion (Fine s) m.mentions → SaidFits types vars s m) same (λ fine.
-          let so_far = before (All-left (Fine s) said.mentions entry.0.1 fine) in
-          record {
-            cells = λ m. subst (λ (o : Option CellEntry). IfSome o (CellFits types s)) (sym (get-insert nat_cmp_total said.cells cell.number entry.0.0 m))
-                (cond_IfSome (eq_by_cmp nat_cmp m cell.number) entry.0.0 (get said.cells m) (CellFits types s) (cell_fits types s n cell entry.0 entry.1 (All-right (Fine s) said.mentions entry.0.1 fine)) (so_far.cells m));
-            values = so_far.values;
-          })
+        let so_far = before (All-left (Fine s) said.mentions entry.0.1 fine) in
+        record {
+          cells = λ m. subst (λ (o : Option CellEntry). IfSome o (CellFits types s)) (sym (get-insert nat_cmp_total said.cells cell.number entry.0.0 m))
+              (cond_IfSome (eq_by_cmp nat_cmp m cell.number) entry.0.0 (get said.cells m) (CellFits types s) (cell_fits types s n cell entry.0 entry.1 (All-right (Fine s) said.mentions entry.0.1 fine)) (so_far.cells m));
+          values = so_far.values;
+        })
   ]
 ]
 
@@ -474,12 +476,12 @@ end_fits types vars s n said [] e before = elim (cases (all_of (λ x. x) said.va
     | inl none ↦ let e2 = rw none at e1 in
         let same : store_said said values.0 ≡ s = cc in
         subst (λ (t : StoreMap). (AllByRecursion (Fine t) said.mentions → SaidFits types vars t said) → Fits types vars t) same (λ holds.
-          let fit = holds (all_fine (store_said said values.0) said.mentions none) in
-          record {
-            cells = λ c. fit.cells c.0;
-            values = VarsFit-said (store_said said values.0) vars said.vars values.0 values.1 fit.values;
-            above = below_next (keys said.cells) (next_after (keys said.cells)) (omega arith);
-          }) before
+        let fit = holds (all_fine (store_said said values.0) said.mentions none) in
+        record {
+          cells = λ c. fit.cells c.0;
+          values = VarsFit-said (store_said said values.0) vars said.vars values.0 values.1 fit.values;
+          above = below_next (keys said.cells) (next_after (keys said.cells)) (omega arith);
+        }) before
   ]
 ]
 

@@ -11,3 +11,4 @@ pub mod Lines
 pub mod Spelling
 pub mod Saying
 pub mod Reading
+pub mod DraftBodies

@@ -78,6 +78,10 @@ read_text types vars (line ∷ lines) =
 unfoldable pub reading : List TypeEntry → List VarEntry → List ℕ → Result StoreMap StoreFault
 reading types vars text = read_text types vars (lines_of text)
 
+-- the fault is this one, unless memory ran out
+abbrev pub IsFaultOf : Result StoreMap StoreFault → StoreFault → Type 0
+IsFaultOf read fault = fault.kind ≢ kind.NoMemory → read ≡ Err fault
+
 -- the fault is the text's first, unless memory ran out
 abbrev pub IsFault : List TypeEntry → List VarEntry → List ℕ → StoreFault → Type 0
-IsFault types vars text fault = fault.kind ≢ kind.NoMemory → reading types vars text ≡ Err fault
+IsFault types vars text fault = IsFaultOf (reading types vars text) fault

@@ -1,11 +1,12 @@
 -- What the lines of a store text add to what those before them have said.
-use Rattle.std.specs.Prelude.{ℕ, ◌==◌, List, [], ◌∷◌, ◌++◌, map, slice_get, slice_set, Option, Some, None, option_map, Result, Ok, Err, if◌then◌else◌}
+use Rattle.std.specs.Prelude.{◌≡◌, ◌≢◌, ℕ, ◌==◌, List, [], ◌∷◌, ◌++◌, map, slice_get, slice_set, Option, Some, None, option_map, Result, Ok, Err, if◌then◌else◌}
 use Rattle.std.specs.List.{list_any}
 use Rattle.std.specs.Ordering.{nat_cmp}
 use Rattle.std.specs.FinMap.{FinMap, insert, contains_key, empty}
 use Rattle.std.specs.BTreeSet.{insert_key}
 use Rattle.store_core.specs.declared.ids.TypeId.{TypeId}
 use Rattle.store_core.specs.declared.ids.VariantId.{VariantId}
+use Rattle.store_core.specs.declared.ids.FieldId.{FieldId}
 use Rattle.store_core.specs.declared.ids.CellId.{CellId}
 use Rattle.store_core.specs.declared.kind.FieldKind.{FieldKind}
 use Rattle.store_core.specs.declared.kind.FieldKind.TheVariants as field
@@ -14,7 +15,7 @@ use Rattle.store_core.specs.declared.kind.VarKind.TheVariants as var
 use Rattle.store_core.specs.declared.value.Value.{Value}
 use Rattle.store_core.specs.declared.value.Value.TheVariants as value
 use Rattle.store_core.specs.declared.fault.StoreKind.{StoreKind}
-use Rattle.store_core.specs.declared.fault.StoreKind.TheVariants.{UnknownName, WrongType, Repeated, Missing}
+use Rattle.store_core.specs.declared.fault.StoreKind.TheVariants.{UnknownName, WrongType, Repeated, Missing, NoMemory}
 use Rattle.store_core.specs.declared.read.holds.Holds.{Holds}
 use Rattle.store_core.specs.declared.read.holds.Holds.TheVariants as holds
 use Rattle.store_core.specs.declared.read.holds.Mention.{Mention}
@@ -34,6 +35,10 @@ abbrev pub ◌>>=◌ : {A B : Type 0} → Result A StoreKind → (A → Result B
 abbrev pub or_fault : {A : Type 0} → StoreKind → Option A → Result A StoreKind
 or_fault kind None = Err kind
 or_fault kind (Some x) = Ok x
+
+-- the fault is this one, unless memory ran out
+abbrev pub IsStop : {A : Type 0} → Result A StoreKind → StoreKind → Type 0
+IsStop said kind = kind ≢ NoMemory → said ≡ Err kind
 
 -- what the lines so far have said: the cells, the value of each variable that a line has given, and where cells are named
 pub record Said : Type 0 where
@@ -81,10 +86,14 @@ value_for (holds.Reference target) (spelled.Number n) = Ok (value.Cell (Some (re
 value_for (holds.Set target) (spelled.Numbers numbers) = set_of numbers
 value_for _ _ = Err WrongType
 
+-- that a line names a cell where one of this type may stand
+abbrev pub mention : ℕ → TypeId → CellId → Mention
+mention line target c = record { line = line; target = target; cell = c }
+
 -- where a value names cells
 abbrev pub mentions_of : ℕ → Holds → Value → List Mention
-mentions_of line (holds.Reference target) (value.Cell (Some c)) = record { line = line; target = target; cell = c } ∷ []
-mentions_of line (holds.Set target) (value.Cells cells) = map (λ c. record { line = line; target = target; cell = c }) cells
+mentions_of line (holds.Reference target) (value.Cell (Some c)) = mention line target c ∷ []
+mentions_of line (holds.Set target) (value.Cells cells) = map (mention line target) cells
 mentions_of line _ _ = []
 
 -- ---- a line `var`
@@ -99,9 +108,9 @@ unless_said None then_what = then_what
 unfoldable pub say_var : List VarEntry → ℕ → Said → Given → Result Said StoreKind
 say_var vars line said given = do
   v ← or_fault UnknownName (var_named vars given.name)
-  entry ← or_fault UnknownName (var_at vars v)
-  x ← unless_said (slice_get said.vars v.0) (value_for (var_holds entry.kind) given.value)
-  Ok (record { cells = said.cells; vars = slice_set said.vars v.0 (Some x); mentions = said.mentions ++ mentions_of line (var_holds entry.kind) x })
+  kind ← or_fault UnknownName (option_map (λ entry. entry.kind) (var_at vars v))
+  x ← unless_said (slice_get said.vars v.0) (value_for (var_holds kind) given.value)
+  Ok (record { cells = said.cells; vars = slice_set said.vars v.0 (Some x); mentions = said.mentions ++ mentions_of line (var_holds kind) x })
 
 -- ---- a line `cell`
 
@@ -111,18 +120,18 @@ variant_named types ty None = or_fault Missing (unnamed_of types ty)
 variant_named types ty (Some name) = or_fault UnknownName (option_map (λ i. record { ty = ty; index = i }) (place_of name (variants_of types ty)))
 
 -- the field of the variant that has this name
-unfoldable pub field_had : List TypeEntry → VariantId → List ℕ → Result ℕ StoreKind
+unfoldable pub field_had : List TypeEntry → VariantId → List ℕ → Result FieldId StoreKind
 field_had types v name = do
   f ← or_fault UnknownName (field_named types v.ty name)
-  if has_field types v f then Ok f.index else Err UnknownName
+  if has_field types v f then Ok f else Err UnknownName
 
 -- a field's value: from the left the variant has the field, it is new, and the value is of its class
 unfoldable pub say_field : List TypeEntry → VariantId → List (Option Value) → Given → Result (List (Option Value)) StoreKind
 say_field types v values given = do
-  i ← field_had types v given.name
-  entry ← or_fault UnknownName (field_at types (record { ty = v.ty; index = i }))
-  x ← unless_said (slice_get values i) (value_for (field_holds entry.kind) given.value)
-  Ok (slice_set values i (Some x))
+  f ← field_had types v given.name
+  kind ← or_fault UnknownName (option_map (λ entry. entry.kind) (field_at types f))
+  x ← unless_said (slice_get values f.index) (value_for (field_holds kind) given.value)
+  Ok (slice_set values f.index (Some x))
 
 -- the values of these fields, from the left
 abbrev pub say_fields : List TypeEntry → VariantId → List (Option Value) → List Given → Result (List (Option Value)) StoreKind
