@@ -10,6 +10,7 @@ use Rattle.std.specs.BTreeSet.{insert_key}
 use Rattle.std.specs.FinMap.{get, insert, keys, empty, contains_key, get-insert, get-empty}
 use Rattle.store_core.specs.declared.ids.TypeId.{TypeId}
 use Rattle.store_core.specs.declared.ids.VariantId.{VariantId}
+use Rattle.store_core.specs.declared.ids.FieldId.{FieldId}
 use Rattle.store_core.specs.declared.ids.VarId.{VarId}
 use Rattle.store_core.specs.declared.ids.CellId.{CellId}
 use Rattle.store_core.specs.declared.value.Value.{Value}
@@ -292,17 +293,21 @@ last_of true true c e = e
 last_of true false c e = absurd (cc)
 last_of false b c e = absurd (cc)
 
--- the variant has the field at this place
-had_at : (types : List TypeEntry) (v : VariantId) (name : List ℕ) (i : ℕ) (f : FieldEntry) → field_had types v name ≡ Ok i → field_at types (record { ty = v.ty; index = i }) ≡ Some f → is_had v.index f ≡ true
+-- the variant has the field
+record IsHad (v : VariantId) (f : FieldId) (entry : FieldEntry) : Type 0 where
+  of : f.ty ≡ v.ty
+  had : is_had v.index entry ≡ true
+
+had_at : (types : List TypeEntry) (v : VariantId) (name : List ℕ) (f : FieldId) (entry : FieldEntry) → field_had types v name ≡ Ok f → field_at types f ≡ Some entry → IsHad v f entry
 unfolding field_had
-had_at types v name i f e at = elim (cases (place_of name (field_names (fields_of types v.ty)))) [
+had_at types v name f entry e at = elim (cases (place_of name (field_names (fields_of types v.ty)))) [
   | inl none ↦ absurd (let e1 = rw none at e in cc)
   | inr place ↦ let e1 = rw place.1 at e in elim (bool_cases (has_field types v (record { ty = v.ty; index = place.0 }))) [
     | inl lacks ↦ absurd (let e2 = rw lacks at e1 in cc)
     | inr holds ↦ let e2 = rw holds at e1 in
-        let same : place.0 ≡ i = cc in
-        let has = subst (λ k. has_field types v (record { ty = v.ty; index = k }) ≡ true) same holds in
-        last_of (v.ty.0 == v.ty.0) (nat_lt v.index (variant_count types v.ty)) (is_had v.index f) (rw at at has)
+        let same : record { ty = v.ty; index = place.0 } ≡ f = cc in
+        subst (λ (g : FieldId). field_at types g ≡ Some entry → IsHad v g entry) same
+        (λ here. record { of = refl; had = last_of (v.ty.0 == v.ty.0) (nat_lt v.index (variant_count types v.ty)) (is_had v.index entry) (rw here at holds) }) at
   ]
 ]
 
@@ -311,16 +316,18 @@ slots_step : (types : List TypeEntry) (v : VariantId) (values : List (Option Val
 unfolding say_field
 slots_step types v values given more e all = elim (result_cases (field_had types v given.name)) [
   | inl fault ↦ absurd (let e1 = rw fault.1 at e in cc)
-  | inr i ↦ let e1 = rw i.1 at e in elim (cases (field_at types (record { ty = v.ty; index = i.0 }))) [
+  | inr f ↦ let e1 = rw f.1 at e in elim (cases (field_at types f.0)) [
     | inl none ↦ absurd (let e2 = rw none at e1 in cc)
-    | inr f ↦ let e2 = rw f.1 at e1 in elim (unless_cases (slice_get values i.0) (value_for (field_holds f.0.kind) given.value)) [
+    | inr entry ↦ let e2 = rw entry.1 at e1 in elim (unless_cases (slice_get values f.0.index) (value_for (field_holds entry.0.kind) given.value)) [
       | inl again ↦ absurd (let e3 = rw again at e2 in cc)
-      | inr new ↦ let e3 = rw new at e2 in elim (result_cases (value_for (field_holds f.0.kind) given.value)) [
+      | inr new ↦ let e3 = rw new at e2 in elim (result_cases (value_for (field_holds entry.0.kind) given.value)) [
         | inl fault ↦ absurd (let e4 = rw fault.1 at e3 in cc)
         | inr x ↦ let e4 = rw x.1 at e3 in
-            let same : slice_set values i.0 (Some x.0) ≡ more = cc in
+            let same : slice_set values f.0.index (Some x.0) ≡ more = cc in
+            let is = had_at types v given.name f.0 entry.0 f.1 entry.1 in
+            let there = subst (λ (t : TypeId). slice_get (fields_of types t) f.0.index ≡ Some entry.0) is.of entry.1 in
             subst (SlotsSaid v.index (fields_of types v.ty)) same
-            (SlotsSaid-set v.index (fields_of types v.ty) values i.0 f.0 x.0 given.value all f.1 (had_at types v given.name i.0 f.0 i.1 f.1) x.1)
+            (SlotsSaid-set v.index (fields_of types v.ty) values f.0.index entry.0 x.0 given.value all there is.had x.1)
       ]
     ]
   ]
