@@ -9,3 +9,7 @@ pub mod Steps
 pub mod Writing
 pub mod Fitting
 pub mod ReadFits
+pub mod Words
+pub mod Spelled
+pub mod SpelledLines
+pub mod RoundTrip

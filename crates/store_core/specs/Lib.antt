@@ -12,3 +12,4 @@ pub mod Spelling
 pub mod Saying
 pub mod Reading
 pub mod DraftBodies
+pub mod Writable
