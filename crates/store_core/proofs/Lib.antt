@@ -12,4 +12,6 @@ pub mod ReadFits
 pub mod Words
 pub mod Spelled
 pub mod SpelledLines
+pub mod ToldValues
+pub mod ToldCells
 pub mod RoundTrip

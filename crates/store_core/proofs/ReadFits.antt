@@ -83,11 +83,11 @@ position_within p (x ∷ xs) i e = by (p x) (position p xs) (λ j is. position_w
 -- ---- values
 
 -- the cell named is not one of another type
-abbrev Fine : StoreMap → Mention → Type 0
+abbrev pub Fine : StoreMap → Mention → Type 0
 Fine s m = is_misnamed s m ≡ false
 
 -- a value of what may stand there
-abbrev HoldsFit : StoreMap → Holds → Value → Type 0
+abbrev pub HoldsFit : StoreMap → Holds → Value → Type 0
 HoldsFit s holds.Truth (value.Bool b) = Unit {0}
 HoldsFit s (holds.Reference target) (value.Cell c) = IfSome c (NamesType s target)
 HoldsFit s (holds.Set target) (value.Cells cells) = AreRising cells × AllByRecursion (NamesType s target) cells
