@@ -1,5 +1,5 @@
 -- A store that was read fits its tables. The mentions that are no fault at the end are those of each value that was said.
-use Rattle.std.proofs.Common.{◌≡◌, ℕ, zero, suc, ◌+◌, ◌<◌, ◌≤◌, ◌==◌, ◌&&◌, max, Bool, true, false, cond, not, nat_lt, List, [], ◌∷◌, ◌++◌, length, map, slice_set, Option, Some, None, Result, Ok, Err, IfSome, inl, inr, ◌⊎◌, refl, sym, ap, ◌∙◌, subst, arith, slice_get, position, codes}
+use Rattle.std.proofs.Common.{◌≡◌, ℕ, zero, suc, ◌+◌, ◌<◌, ◌≤◌, ◌==◌, ◌&&◌, Bool, true, false, cond, not, nat_lt, List, [], ◌∷◌, ◌++◌, length, map, slice_set, Option, Some, None, Result, Ok, Err, IfSome, inl, inr, ◌⊎◌, refl, sym, ◌∙◌, subst, arith, slice_get, position, codes}
 use Rattle.std.specs.Option.{option_map, option_map_or}
 use Rattle.std.specs.List.{AllByRecursion, find}
 use Rattle.std.specs.Ordering.{nat_cmp, eq_by_cmp, match_ordering}
@@ -7,7 +7,7 @@ use Rattle.std.specs.declared.cmp.Ordering.{Ordering}
 use Rattle.std.specs.declared.cmp.Ordering.TheVariants.{Less, Equal, Greater}
 use Rattle.std.proofs.lemmas.Cmp.{ranked, nat_cmp_total}
 use Rattle.std.specs.BTreeSet.{insert_key}
-use Rattle.std.specs.FinMap.{get, insert, keys, empty, contains_key, get-insert, get-empty}
+use Rattle.std.specs.FinMap.{get, insert, keys, contains_key, get-insert, get-empty}
 use Rattle.store_core.specs.declared.ids.TypeId.{TypeId}
 use Rattle.store_core.specs.declared.ids.VariantId.{VariantId}
 use Rattle.store_core.specs.declared.ids.FieldId.{FieldId}
@@ -21,7 +21,6 @@ use Rattle.store_core.specs.declared.kind.VarKind.{VarKind}
 use Rattle.store_core.specs.declared.kind.VarKind.TheVariants as var
 use Rattle.store_core.specs.declared.fault.StoreKind.{StoreKind}
 use Rattle.store_core.specs.declared.fault.StoreKind.TheVariants.{Repeated}
-use Rattle.store_core.specs.declared.fault.StoreFault.{StoreFault}
 use Rattle.store_core.specs.declared.read.holds.Holds.{Holds}
 use Rattle.store_core.specs.declared.read.holds.Holds.TheVariants as holds
 use Rattle.store_core.specs.declared.read.holds.Mention.{Mention}
@@ -33,10 +32,10 @@ use Rattle.store_core.specs.declared.read.spelled.Line.{Line}
 use Rattle.store_core.specs.declared.read.spelled.Line.TheVariants as line
 use Rattle.store_core.specs.Tables.{TypeEntry, FieldEntry, VarEntry, fields_of, field_at, field_names, variants_of, variant_count, type_at, type_named, var_named, var_at, place_of, is_had, has_field, KnowsVariant}
 use Rattle.store_core.specs.CellLists.{AreRising}
-use Rattle.store_core.specs.Stores.{StoreMap, CellEntry, CellFits, Fits, FieldFits, VarFits, VarsFit, SlotsFit, NamesType, IsAbove, cell_of}
+use Rattle.store_core.specs.Stores.{StoreMap, CellEntry, CellFits, Fits, FieldFits, VarFits, VarsFit, SlotsFit, NamesType, cell_of}
 use Rattle.store_core.specs.Spelling.{line_of, all_of}
 use Rattle.store_core.specs.Lines.{lines_of}
-use Rattle.store_core.specs.Saying.{or_fault, unless_said, Said, nothing_said, say_var, say_field, say_fields, say_cell, cell_said, field_had, variant_named, named_in, value_for, set_of, members_after, cells_numbered, mentions_of, field_holds, var_holds}
+use Rattle.store_core.specs.Saying.{unless_said, Said, nothing_said, say_var, say_field, say_fields, say_cell, cell_said, field_had, variant_named, named_in, value_for, set_of, members_after, cells_numbered, mentions_of, field_holds, var_holds}
 use Rattle.store_core.specs.Reading.{reading, read_text, read_lines, read_end, say_line, checked, store_said, next_after, is_misnamed}
 use Rattle.std.specs.Str.{bytes_eq}
 use Rattle.store_core.proofs.Names.{position-cons}

@@ -1,8 +1,8 @@
 -- What is written of a store is read as that store: a line after the other.
-use Rattle.std.proofs.Common.{◌≡◌, ℕ, zero, suc, ◌+◌, ◌<◌, ◌≤◌, Bool, true, false, cond, not, T, ◌&&◌, List, [], ◌∷◌, ◌++◌, length, map, slice_get, slice_set, Option, Some, None, Result, Ok, Err, IfSome, refl, sym, ap, ◌∙◌, subst, arith, append_assoc, codes}
+use Rattle.std.proofs.Common.{◌≡◌, ℕ, zero, suc, ◌+◌, ◌<◌, Bool, true, false, cond, T, ◌&&◌, List, [], ◌∷◌, ◌++◌, length, map, slice_get, slice_set, Option, Some, None, Ok, IfSome, refl, sym, ap, ◌∙◌, subst, arith, append_assoc, codes}
 use Rattle.std.specs.Option.{option_map, option_map_or, is_some}
 use Rattle.std.specs.List.{AllByRecursion, flat_map, find, zip}
-use Rattle.std.specs.Ordering.{nat_cmp, is_lt, is_eq, eq_by_cmp}
+use Rattle.std.specs.Ordering.{nat_cmp, is_lt, is_eq}
 use Rattle.std.specs.declared.cmp.Ordering.TheVariants.{Less, Greater}
 use Rattle.std.specs.Cmp.{nat_cmp_is}
 use Rattle.std.proofs.lemmas.Cmp.{ranked, nat_cmp_total}
@@ -10,31 +10,26 @@ use Rattle.std.proofs.lemmas.List.{append-nil, length_push}
 use Rattle.std.proofs.lemmas.List.Folds.{flat_map-map}
 use Rattle.std.proofs.lemmas.Option.{slice_get-map}
 use Rattle.std.specs.FinMap.Entries.{below_all, by_order}
-use Rattle.std.specs.FinMap.{entries, entries_sorted, insert, keys, empty, contains_key, is_sorted, put, get-entries, entries-insert, entries-from_sorted, same_entries_map, len-entries, len-empty}
+use Rattle.std.specs.FinMap.{entries, entries_sorted, insert, keys, empty, contains_key, is_sorted, put, get-entries, entries-insert, same_entries_map, len-entries, len-empty}
 use Rattle.std.specs.FinMap as fin
-use Rattle.store_core.specs.declared.ids.CellId.{CellId}
 use Rattle.store_core.specs.declared.value.Value.{Value}
-use Rattle.store_core.specs.declared.fault.StoreKind.TheVariants.{UnknownName, WrongType, Repeated, Missing}
 use Rattle.store_core.specs.declared.read.holds.Mention.{Mention}
-use Rattle.store_core.specs.declared.read.spelled.Line.{Line}
-use Rattle.store_core.specs.declared.read.spelled.Line.TheVariants as line
-use Rattle.store_core.specs.Tables.{TypeEntry, FieldEntry, VarEntry, fields_of, variants_of, field_names, var_names, var_named, var_at, type_at, type_names, IsTypeTable, IsTypeEntry, IsVarTable, AreDistinct}
-use Rattle.store_core.specs.Stores.{StoreMap, CellEntry, CellFits, Fits, VarsFit, VarFits, cell_of}
+use Rattle.store_core.specs.Tables.{TypeEntry, VarEntry, fields_of, field_names, var_names, var_named, type_at, IsTypeTable, IsTypeEntry, IsVarTable, AreDistinct}
+use Rattle.store_core.specs.Stores.{StoreMap, CellEntry, CellFits, Fits, VarsFit, VarFits}
 use Rattle.store_core.specs.StoreText.{store_text_of, variant_text, var_lines, cell_lines}
 use Rattle.store_core.specs.Lines.{lines_of}
 use Rattle.store_core.specs.Spelling.{is_name, all_of, line_of}
-use Rattle.store_core.specs.Saying.{Said, nothing_said, say_var, say_cell, cell_said, mentions_of, var_holds, value_for}
+use Rattle.store_core.specs.Saying.{Said, nothing_said, say_var, say_cell, mentions_of, var_holds}
 use Rattle.store_core.specs.Reading.{reading, read_text, read_lines, read_end, say_line, checked, store_said, is_misnamed, next_after}
-use Rattle.store_core.specs.Writable.{AreNames, HasNames, HaveNames, IsWritable, IsTellable, IsTellableCell, NamesTellable}
+use Rattle.store_core.specs.Writable.{AreNames, HasNames, HaveNames, IsWritable, IsTellableCell, NamesTellable}
 use Rattle.store_core.proofs.Names.{place_of-at}
-use Rattle.store_core.proofs.Adding.{at_known}
 use Rattle.store_core.proofs.Bodies.{AllByRecursion-at}
 use Rattle.store_core.proofs.Fitting.{cell_at, entry_fits}
 use Rattle.store_core.proofs.ReadFits.{Fine}
 use Rattle.store_core.proofs.Words.{HasNoLine, lines_cons}
-use Rattle.store_core.proofs.SpelledLines.{given, givens, var_told, var_read, var_has_no_line, type_word, cell_told, cell_read, cell_has_no_line}
+use Rattle.store_core.proofs.SpelledLines.{given, var_told, var_read, var_has_no_line, type_word, cell_told, cell_read, cell_has_no_line}
 use Rattle.store_core.proofs.ToldValues.{slice_get-front, slice_set-front, holds_var, value_told, value_fine, fine_append}
-use Rattle.store_core.proofs.ToldCells.{type_known, CellTold, cell_back}
+use Rattle.store_core.proofs.ToldCells.{type_known, cell_back}
 
 -- ---- the lines of the text
 

@@ -1,26 +1,21 @@
 -- What is spelled of values and lines is read as those values and lines.
-use Rattle.std.proofs.Common.{◌≡◌, ℕ, zero, suc, ◌<◌, ◌≤◌, ◌==◌, ◌&&◌, ◌^◌, Bool, true, false, IsTrue, cond, nat_le, List, [], ◌∷◌, ◌++◌, length, map, Option, Some, None, IfSome, refl, sym, ap, ◌∙◌, subst, arith, get_or, append_assoc, codes}
-use Rattle.std.specs.Option.{option_map, option_map_or}
-use Rattle.std.specs.List.{AllByRecursion, flat_map, join_by, list_all, zip}
+use Rattle.std.proofs.Common.{◌≡◌, ℕ, ◌<◌, ◌≤◌, ◌==◌, ◌&&◌, ◌^◌, Bool, true, false, cond, nat_le, List, [], ◌∷◌, ◌++◌, length, map, Some, None, refl, sym, ap, ◌∙◌, arith, get_or, codes}
+use Rattle.std.specs.Option.{option_map}
+use Rattle.std.specs.List.{AllByRecursion, flat_map, join_by, list_all}
 use Rattle.std.specs.Fmt.{decimal}
 use Rattle.std.specs.Char.{is_ascii_digit, is_ascii_alphabetic}
 use Rattle.std.specs.Str.{bytes_eq}
 use Rattle.std.specs.Str.Parse.{digits_value_after}
 use Rattle.std.proofs.lemmas.Fmt.{decimal_is_IsNumeral, decimal_nonempty, first_decimal}
-use Rattle.std.proofs.lemmas.List.{append-nil}
 use Rattle.store_core.specs.declared.ids.CellId.{CellId}
 use Rattle.store_core.specs.declared.value.Value.{Value}
 use Rattle.store_core.specs.declared.value.Value.TheVariants as value
 use Rattle.store_core.specs.declared.read.spelled.Spelled.{Spelled}
 use Rattle.store_core.specs.declared.read.spelled.Spelled.TheVariants as spelled
-use Rattle.store_core.specs.declared.read.spelled.Given.{Given}
-use Rattle.store_core.specs.declared.read.spelled.Line.{Line}
-use Rattle.store_core.specs.declared.read.spelled.Line.TheVariants as line
-use Rattle.store_core.specs.Tables.{FieldEntry, field_names}
-use Rattle.store_core.specs.StoreText.{value_text, cell_text, slots_text}
-use Rattle.store_core.specs.Lines.{parts_of, parts_from}
-use Rattle.store_core.specs.Spelling.{◌>>=◌, is_name, is_name_part, all_of, name_of, number_of, number_after, before_close, numbers_of, counted_of, value_of, given_of, field_of, variant_of, type_of, line_in, line_of, var_line, cell_line}
-use Rattle.store_core.specs.Writable.{AreNames, IsTellable, NamesTellable}
+use Rattle.store_core.specs.StoreText.{value_text, cell_text}
+use Rattle.store_core.specs.Lines.{parts_of}
+use Rattle.store_core.specs.Spelling.{◌>>=◌, is_name, is_name_part, all_of, number_of, number_after, before_close, numbers_of, counted_of, value_of}
+use Rattle.store_core.specs.Writable.{IsTellable, NamesTellable}
 use Rattle.store_core.proofs.Words.{IsWord, IsWord-parts, IsWord-braces, IsInside, AreParts, parts_all, AreDigits, AreDigits-decimal, AreParts-digits, spaced, parts_words}
 
 -- ---- names

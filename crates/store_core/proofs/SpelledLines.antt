@@ -1,19 +1,15 @@
 -- The written lines are read as what they tell.
-use Rattle.std.proofs.Common.{◌≡◌, ℕ, ◌<◌, ◌≤◌, ◌==◌, ◌^◌, Bool, false, true, List, [], ◌∷◌, ◌++◌, map, Option, Some, None, IfSome, refl, sym, ap, ◌∙◌, subst, arith, append_assoc, codes}
+use Rattle.std.proofs.Common.{◌≡◌, ℕ, ◌==◌, false, true, List, [], ◌∷◌, ◌++◌, Option, Some, None, IfSome, refl, sym, ap, ◌∙◌, subst, append_assoc, codes}
 use Rattle.std.specs.Option.{option_map, option_map_or}
-use Rattle.std.specs.List.{AllByRecursion, flat_map, zip}
+use Rattle.std.specs.List.{AllByRecursion}
 use Rattle.std.specs.Fmt.{decimal}
 use Rattle.std.proofs.lemmas.List.{append-nil}
-use Rattle.store_core.specs.declared.ids.CellId.{CellId}
 use Rattle.store_core.specs.declared.value.Value.{Value}
 use Rattle.store_core.specs.declared.read.spelled.Given.{Given}
-use Rattle.store_core.specs.declared.read.spelled.CellLine.{CellLine}
-use Rattle.store_core.specs.declared.read.spelled.Line.{Line}
 use Rattle.store_core.specs.declared.read.spelled.Line.TheVariants as line
 use Rattle.store_core.specs.Tables.{FieldEntry, field_names}
-use Rattle.store_core.specs.StoreText.{value_text, cell_text, slot_text, slots_text}
-use Rattle.store_core.specs.Lines.{parts_of, parts_from}
-use Rattle.store_core.specs.Spelling.{◌>>=◌, is_name, all_of, name_of, number_of, value_of, given_of, field_of, variant_of, type_of, line_in, line_of, var_line, cell_line}
+use Rattle.store_core.specs.StoreText.{value_text, slots_text}
+use Rattle.store_core.specs.Spelling.{◌>>=◌, is_name, all_of, name_of, given_of, field_of, variant_of, type_of, line_in, line_of, var_line, cell_line}
 use Rattle.store_core.specs.Writable.{AreNames, IsTellable, NamesTellable}
 use Rattle.store_core.proofs.Words.{IsWord, IsWord-parts, IsWord-append, IsWord-equals, IsWord-colon, HasNoLine, HasNoLine-words, AreParts, plain_part, spaced, parts_words, cut_front, cut_none}
 use Rattle.store_core.proofs.Spelled.{name_parts, number_read, spelled_of, value_read, IsWord-value, IsWord-cell}

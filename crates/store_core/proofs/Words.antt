@@ -1,13 +1,13 @@
 -- How a text of words falls into lines, and a line into its words.
-use Rattle.std.proofs.Common.{◌≡◌, ℕ, zero, suc, ◌+◌, ◌*◌, ◌<◌, ◌≤◌, ◌==◌, ◌&&◌, ◌^◌, ◌/◌, ◌%◌, Bool, true, false, IsTrue, cond, not, List, [], ◌∷◌, ◌++◌, length, map, take, drop, Option, Some, None, inl, inr, refl, sym, ap, ◌∙◌, subst, arith, position, append_assoc, codes}
+use Rattle.std.proofs.Common.{◌≡◌, ℕ, suc, ◌+◌, ◌<◌, ◌==◌, ◌&&◌, ◌^◌, ◌%◌, Bool, true, false, cond, List, [], ◌∷◌, ◌++◌, length, take, drop, Some, None, refl, sym, ap, ◌∙◌, arith, position, append_assoc, codes}
 use Rattle.std.specs.Option.{option_map}
 use Rattle.std.specs.List.{AllByRecursion, flat_map, list_all, onto_first}
 use Rattle.std.specs.Fmt.{decimal}
 use Rattle.std.specs.Char.{is_ascii_digit}
 use Rattle.std.proofs.lemmas.Fmt.{decimal_by_steps}
 use Rattle.std.proofs.lemmas.List.{append-nil}
-use Rattle.store_core.specs.Lines.{lines_of, parts_of, parts_from, braced_after}
-use Rattle.store_core.specs.Spelling.{is_name, is_name_part, cut_at}
+use Rattle.store_core.specs.Lines.{lines_of, parts_from, braced_after}
+use Rattle.store_core.specs.Spelling.{is_name_part, cut_at}
 use Rattle.store_core.proofs.Names.{position-cons}
 
 -- ---- bytes
