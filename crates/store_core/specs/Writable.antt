@@ -1,5 +1,5 @@
 -- Which tables and stores a store text can tell: the names are names of the language, and cells have numbers that a text may name.
-use Rattle.std.specs.Prelude.{◌≡◌, ℕ, ◌≤◌, IsTrue, List, Option, IfSome}
+use Rattle.std.specs.Prelude.{◌≡◌, ℕ, ◌≤◌, IsTrue, List, IfSome}
 use Rattle.std.specs.List.{AllByRecursion}
 use Rattle.std.specs.FinMap.{keys}
 use Rattle.store_core.specs.declared.ids.CellId.{CellId}

@@ -1,4 +1,4 @@
-use Rattle.std.proofs.Common.{◌≡◌, ◌∙◌, ◌++◌, ap, arith, sym, Some, slice_get}
+use Rattle.std.proofs.Common.{◌≡◌, ◌∙◌, ◌++◌, ap, arith, sym, Some}
 use Rattle.std.specs.Option.{option_map}
 use Rattle.std.specs.List.{zip}
 use Rattle.store_core.specs.Tables.{fields_of}
