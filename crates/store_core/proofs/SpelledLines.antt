@@ -140,7 +140,6 @@ cell_words number ty fields slots =
 
 module _ (number : ℕ) (name : List ℕ) (variant : Option (List ℕ)) (fields : List FieldEntry) (slots : List (Option Value)) (tellable : IsTellable (record { 0 = number })) (is : is_name name ≡ true)
     (of : IfSome variant (λ v. is_name v ≡ true)) (names : AreNames (field_names fields)) (all : AreTellable slots) where
-
   words : AllByRecursion IsWord (decimal number ∷ type_word name variant ∷ field_words fields slots)
   words = (IsWord-cell (record { 0 = number }) tellable, (IsWord-type name variant is of, AreWords-fields fields slots names all))
 

@@ -1,5 +1,10 @@
 //! Tables made by hand. A change that a table doesn't allow is left out.
 
+ghost use Rattle.std.specs.Prelude.{◌≡◌, ◌<◌, length, None, IsTrue, IsSomeAnd};
+ghost use Rattle.std.specs.Option.{option_copied};
+ghost use Rattle.store_core.specs.Tables.{place_of, field_names, fields_of, owner_type, KnowsOwner};
+ghost use Rattle.store_core.specs.Stores.{class_of};
+
 use crate::*;
 use plain_data::Items;
 use std::alloc::{AllocError, Global};
@@ -31,21 +36,29 @@ fn add_variant(types: &mut TypeTable, ty: TypeId, name: &[u8]) -> Result<(), All
     Ok(())
 }
 
-fn type_of(owner: Owner) -> TypeId {
+fn type_of(owner: Owner) -> TypeId
+    ensures { result ≡ owner_type owner }
+{
     match owner {
         Owner::Common(ty) => ty,
         Owner::Variant(v) => v.ty,
     }
 }
 
-fn is_known(types: &TypeTable, owner: Owner) -> bool {
+fn is_known(types: &TypeTable, owner: Owner) -> bool
+    ensures { IsTrue result → KnowsOwner types.now owner }
+{
     match owner {
         Owner::Common(ty) => ty.0 < types.types(),
         Owner::Variant(v) => v.index < types.variants(v.ty),
     }
 }
 
-fn has_room(types: &TypeTable, owner: Owner, name: &[u8]) -> bool {
+fn has_room(types: &TypeTable, owner: Owner, name: &[u8]) -> bool
+    ensures known { IsTrue result → KnowsOwner types.now owner }
+    ensures new { IsTrue result → place_of name.now (field_names (fields_of types.now (owner_type owner))) ≡ None }
+    ensures room { IsTrue result → length (fields_of types.now (owner_type owner)) < 32 }
+{
     let ty = type_of(owner);
     is_known(types, owner) && types.find_field(ty, name).is_none() && types.fields(ty) < 9
 }
@@ -135,7 +148,9 @@ pub fn put(
     }
 }
 
-fn is_alike(old: Option<&Value>, value: &Value) -> bool {
+fn is_alike(old: Option<&Value>, value: &Value) -> bool
+    ensures { IsTrue result → IsSomeAnd (option_copied old.entry) (λ old. class_of value.now ≡ class_of old) }
+{
     match old {
         Some(old) => old.class() == value.class(),
         None => false,
