@@ -15,3 +15,8 @@ pub mod SpelledLines
 pub mod ToldValues
 pub mod ToldCells
 pub mod RoundTrip
+pub mod LineLemmas
+pub mod SpellingLemmas
+pub mod SayingLemmas
+pub mod DraftLemmas
+pub mod ReadingLemmas

@@ -11,6 +11,8 @@ mod kind;
 mod laws;
 mod read;
 mod store;
+#[cfg(test)]
+mod tests;
 mod types;
 mod value;
 mod vars;
