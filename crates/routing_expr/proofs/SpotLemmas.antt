@@ -32,7 +32,6 @@ use Rattle.routing_expr.proofs.MachineLemmas.{Path-then}
 abbrev pub no_spot : Spot
 no_spot = record { place = 0; cell = record { 0 = 0 } }
 
-
 abbrev pub spot : ℕ → CellId → Spot
 spot p c = record { place = p; cell = c }
 

@@ -26,6 +26,6 @@ returns-then-last-cell c =
     (Contains-at c.args.list.now (length c.args.list.now - 1) c.args.cell (sym c.in-Some.ensures ∙ (λ i. Some (record { 0 = c.if-last-cell.true i }))))
 
 pub returns : goal.returns
-returns c = OnOk-pushed c.push-2.result c.args.list.now c.push-2.new.self c.args.cell c.push-2.ensures.ok c.requires.rising 
+returns c = OnOk-pushed c.push-2.result c.args.list.now c.push-2.new.self c.args.cell c.push-2.ensures.ok c.requires.rising
     (below-last c.args.list.now c.in-Some.last c.args.cell.0 c.requires.rising (sym c.in-Some.ensures)
     (less c.in-Some.last c.args.cell (AllByRecursion-at (λ d. d.0 ≤ c.args.cell.0) c.args.list.now (length c.args.list.now - 1) c.in-Some.last c.requires.last (sym c.in-Some.ensures)) c.if-last-cell.false))

@@ -35,9 +35,9 @@ returns c =
     let s = c.args.self.now.store.now in
     let n = c.loop-spot.spot-index in
     let all = HasAll-gathered c.loop-spot.cells.items (Before (SpotCell spots (IsAtEnd s c.args.target)) n)
-        (subst (λ l. Gathers [] c.loop-spot.cells.items (Before (SpotCell l (IsAtEnd s c.args.target)) n)) c.as_slice-spot-items.ensures.keys c.loop-spot.invariant) in
+    (subst (λ l. Gathers [] c.loop-spot.cells.items (Before (SpotCell l (IsAtEnd s c.args.target)) n)) c.as_slice-spot-items.ensures.keys c.loop-spot.invariant) in
     let enough = subst (λ l. length l ≤ n) c.as_slice-spot-items.ensures.keys c.loop-spot-test.false in
     IfOk-by c.list_of.result c.list_of.ensures (λ list lists. Lists-alike _ _ list (λ d.
-        let one = all d in
-        let two = SpotCell-all spots s c.args.target n enough d in
-        (λ there. two.0 (one.0 there), λ h. one.1 (two.1 h))) lists)
+    let one = all d in
+    let two = SpotCell-all spots s c.args.target n enough d in
+    (λ there. two.0 (one.0 there), λ h. one.1 (two.1 h))) lists)
