@@ -9,6 +9,7 @@ pub mod Steps
 pub mod Writing
 pub mod Fitting
 pub mod ReadFits
+pub mod ReadNext
 pub mod Words
 pub mod Spelled
 pub mod SpelledLines
