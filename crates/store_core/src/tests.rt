@@ -242,34 +242,53 @@ fn stores_are_read_and_written(rt: HostRuntime) -> Result<(), Fail> {
     Ok(())
 }
 
+const PLAIN: VariantId = VariantId { ty: NODE, index: 0 };
+
+const UP: FieldId = FieldId { ty: MARK, index: 1 };
+
+fn types_are_told(types: &TypeTable) -> bool {
+    types.types() == 4
+        && types.type_name(DBL) == Some(b"Dbl".as_slice())
+        && types.find_type(b"Tree") == Some(TREE)
+}
+
+fn variants_are_told(types: &TypeTable) -> bool {
+    types.unnamed(NODE) == Some(PLAIN)
+        && types.variants(TREE) == 2
+        && types.variant_name(second(MARK)) == Some(b"hot".as_slice())
+        && types.find_variant(TREE, b"node") == Some(second(TREE))
+}
+
+fn fields_are_told(types: &TypeTable) -> bool {
+    types.fields(MARK) == 3
+        && types.find_field(MARK, b"up") == Some(UP)
+        && types.field_name(UP) == Some(b"up".as_slice())
+        && matches!(types.kind(UP), Some(FieldKind::Bool))
+}
+
+fn owners_are_told(types: &TypeTable) -> bool {
+    types.owner(UP) == Some(Owner::Variant(second(MARK)))
+        && types.has(second(MARK), UP)
+        && !types.has(VariantId { ty: MARK, index: 0 }, UP)
+}
+
+fn vars_are_told(vars: &VarTable) -> bool {
+    vars.vars() == 3
+        && vars.find(b"b") == Some(VarId(2))
+        && vars.name(VarId(1)) == Some(b"S".as_slice())
+        && vars.kind(VarId(0)) == Some(&VarKind::Data(NODE))
+}
+
 #[test]
 fn tables_answer_by_number_and_by_name(rt: HostRuntime) -> Result<(), Fail> {
     let alloc = rt.alloc();
     let types = made_types(alloc)?;
-    let plain = VariantId { ty: NODE, index: 0 };
-    let up = FieldId { ty: MARK, index: 1 };
-    assert_eq!(rt; types.types(), 4);
-    assert_eq!(rt; types.type_name(DBL), Some(b"Dbl".as_slice()));
-    assert_eq!(rt; types.find_type(b"Tree"), Some(TREE));
-    assert_eq!(rt; types.unnamed(NODE), Some(plain));
-    assert_eq!(rt; types.unnamed(TREE), None);
-    assert_eq!(rt; types.variants(NODE), 1);
-    assert_eq!(rt; types.variants(TREE), 2);
-    assert_eq!(rt; types.variant_name(second(MARK)), Some(b"hot".as_slice()));
-    assert_eq!(rt; types.variant_name(plain), None);
-    assert_eq!(rt; types.find_variant(TREE, b"node"), Some(second(TREE)));
-    assert_eq!(rt; types.fields(MARK), 3);
-    assert_eq!(rt; types.find_field(MARK, b"up"), Some(up));
-    assert_eq!(rt; types.field_name(up), Some(b"up".as_slice()));
-    assert_eq!(rt; types.owner(up), Some(Owner::Variant(second(MARK))));
-    assert!(rt; matches!(types.kind(up), Some(FieldKind::Bool)));
-    assert!(rt; types.has(second(MARK), up));
-    assert!(rt; !types.has(VariantId { ty: MARK, index: 0 }, up));
     let vars = made_vars(alloc, &VARS)?;
-    assert_eq!(rt; vars.vars(), 3);
-    assert_eq!(rt; vars.find(b"b"), Some(VarId(2)));
-    assert_eq!(rt; vars.name(VarId(1)), Some(b"S".as_slice()));
-    assert_eq!(rt; vars.kind(VarId(0)), Some(&VarKind::Data(NODE)));
+    assert!(rt; types_are_told(&types));
+    assert!(rt; variants_are_told(&types));
+    assert!(rt; fields_are_told(&types));
+    assert!(rt; owners_are_told(&types));
+    assert!(rt; vars_are_told(&vars));
     Ok(())
 }
 
@@ -279,11 +298,10 @@ fn a_store_is_made_and_changed(rt: HostRuntime) -> Result<(), Fail> {
     let types = made_types(alloc)?;
     let vars = made_vars(alloc, &VARS)?;
     let mut store = Store::empty(alloc, &vars)?;
-    let plain = VariantId { ty: NODE, index: 0 };
     let next = FieldId { ty: NODE, index: 0 };
     for number in 1..4 {
         assert_eq!(rt; store.next(), number);
-        assert_eq!(rt; put(&mut store, &types, plain)?, Some(CellId(number)));
+        assert_eq!(rt; put(&mut store, &types, PLAIN)?, Some(CellId(number)));
     }
     set_field(&mut store, CellId(2), next, Value::Cell(Some(CellId(3))));
     remove(&mut store, CellId(1));
@@ -296,7 +314,7 @@ fn a_store_is_made_and_changed(rt: HostRuntime) -> Result<(), Fail> {
     assert_eq!(rt; store.cells(), 2);
     assert_eq!(rt; store.cell_at(0), Some(CellId(2)));
     assert_eq!(rt; store.type_of(CellId(1)), None);
-    assert_eq!(rt; store.variant_of(CellId(3)), Some(plain));
+    assert_eq!(rt; store.variant_of(CellId(3)), Some(PLAIN));
     assert!(rt;
         matches!(
             store.field(CellId(2), next),
