@@ -1,5 +1,10 @@
 //! Lists of cells of one type, as a store and as a text.
 
+ghost use Rattle.std.specs.Prelude.{◌≡◌, IsTrue, IsSomeAnd};
+ghost use Rattle.std.specs.Option.{option_copied};
+ghost use Rattle.store_core.specs.declared.value.Class.TheVariants.{Reference};
+ghost use Rattle.store_core.specs.Stores.{class_of};
+
 use std::alloc::{AllocError, Global};
 use store_core::{
     CellId, FieldId, FieldKind, Owner, Store, TypeId, TypeTable, Value, VarId, VarKind, VarTable,
@@ -29,8 +34,18 @@ fn head_vars(alloc: Global) -> Result<VarTable, AllocError> {
     Ok(vars)
 }
 
-fn is_reference(value: Option<&Value>) -> bool {
+fn is_reference(value: Option<&Value>) -> bool
+    ensures { IsTrue result → IsSomeAnd (option_copied value.entry) (λ v. class_of v ≡ Reference) }
+{
     matches!(value, Some(Value::Cell(_)))
+}
+
+/// What the variable `head` names.
+fn head_of(store: &Store) -> Option<CellId> {
+    match store.var(HEAD) {
+        Some(Value::Cell(head)) => *head,
+        _ => None,
+    }
 }
 
 /// Puts a cell before the first of the list.
@@ -38,13 +53,12 @@ fn put(store: &mut Store, types: &TypeTable) -> Result<(), AllocError> {
     if types.variants(NODE) == 0 || store.next() == u32::MAX {
         return Ok(());
     }
+    let head = head_of(store);
     let cell = store.put_cell(types, NODE_CELL)?;
-    let head = match store.var(HEAD) {
-        Some(Value::Cell(head)) => *head,
-        _ => return Ok(()),
-    };
     if is_reference(store.field(cell, NEXT)) {
         store.set_field(cell, NEXT, Value::Cell(head));
+    }
+    if is_reference(store.var(HEAD)) {
         store.set_var(HEAD, Value::Cell(Some(cell)));
     }
     Ok(())

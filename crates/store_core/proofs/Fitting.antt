@@ -17,13 +17,13 @@ use Rattle.store_core.specs.Tables.{TypeEntry, FieldEntry, VarEntry, fields_of}
 use Rattle.store_core.specs.Stores.{StoreMap, CellEntry, CellFits, VarsFit, SlotsFit, cell_of}
 use Rattle.store_core.specs.StoreBodies.{cell_entry, cells_of, HasSlots}
 
-first : (a b : Bool) → T (a && b) → T a
-first true b p = tt
-first false b p = p
+pub T-first : (a b : Bool) → T (a && b) → T a
+T-first true b p = tt
+T-first false b p = p
 
-second : (a b : Bool) → T (a && b) → T b
-second true b p = p
-second false b p = absurd p
+pub T-second : (a b : Bool) → T (a && b) → T b
+T-second true b p = p
+T-second false b p = absurd p
 
 less : (o : Ordering) → T (is_lt o) → o ≡ Less
 less Less p = refl
@@ -35,8 +35,8 @@ above_at : (es : List (ℕ × CellEntry)) (k : ℕ) → T (below_all nat_cmp k e
 above_at [] k below i e at = absurd (cc)
 above_at (d ∷ es) k below zero e at =
     let is : d ≡ e = cc in
-    subst (λ (x : ℕ × CellEntry). k < x.0) is (ranked k d.0 Less (sym (less (nat_cmp k d.0) (first _ _ below))))
-above_at (d ∷ es) k below (suc i) e at = above_at es k (second _ _ below) i e at
+    subst (λ (x : ℕ × CellEntry). k < x.0) is (ranked k d.0 Less (sym (less (nat_cmp k d.0) (T-first _ _ below))))
+above_at (d ∷ es) k below (suc i) e at = above_at es k (T-second _ _ below) i e at
 
 -- the entry at a place is found under its key
 pub find_entry : (es : List (ℕ × CellEntry)) → T (is_sorted nat_cmp es) → (i : ℕ) (e : ℕ × CellEntry) → slice_get es i ≡ Some e → find nat_cmp e.0 es ≡ Some e.1
@@ -45,8 +45,8 @@ find_entry (d ∷ es) sorted zero e at =
     let is : d ≡ e = cc in
     ap (λ t. cond t (Some d.1) (find nat_cmp e.0 es)) (ap is_eq (sym (nat_cmp_is e.0 d.0 Equal (ap (λ (x : ℕ × CellEntry). x.0) (sym is))))) ∙ ap (λ (x : ℕ × CellEntry). Some x.1) is
 find_entry (d ∷ es) sorted (suc i) e at =
-    ap (λ t. cond t (Some d.1) (find nat_cmp e.0 es)) (ap is_eq (sym (nat_cmp_is e.0 d.0 Greater (above_at es d.0 (first _ _ sorted) i e at))))
-    ∙ find_entry es (second _ _ sorted) i e at
+    ap (λ t. cond t (Some d.1) (find nat_cmp e.0 es)) (ap is_eq (sym (nat_cmp_is e.0 d.0 Greater (above_at es d.0 (T-first _ _ sorted) i e at))))
+    ∙ find_entry es (T-second _ _ sorted) i e at
 
 -- the cell under a key is that of its entry
 pub cell_at : (s : StoreMap) (i : ℕ) (e : ℕ × CellEntry) → slice_get (entries s.cells) i ≡ Some e → cell_of s (record { 0 = e.0 }) ≡ Some e.1

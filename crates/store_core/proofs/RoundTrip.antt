@@ -24,7 +24,7 @@ use Rattle.store_core.specs.Reading.{reading, read_text, read_lines, read_end, a
 use Rattle.store_core.specs.Writable.{AreNames, HasNames, HaveNames, IsWritable, IsTellableCell, NamesTellable}
 use Rattle.store_core.proofs.Names.{place_of-at}
 use Rattle.store_core.proofs.Bodies.{AllByRecursion-at}
-use Rattle.store_core.proofs.Fitting.{cell_at, entry_fits}
+use Rattle.store_core.proofs.Fitting.{T-first, T-second, cell_at, entry_fits}
 use Rattle.store_core.proofs.ReadFits.{Fine}
 use Rattle.store_core.proofs.Words.{HasNoLine, lines_cons}
 use Rattle.store_core.proofs.SpelledLines.{given, var_told, var_read, var_has_no_line, type_word, cell_told, cell_read, cell_has_no_line}
@@ -129,29 +129,21 @@ vars_read types vars s tail distinct (v ∷ rest) (x ∷ xs) front done n said i
 
 -- ---- the lines of the cells
 
-first : (a b : Bool) → T (a && b) → T a
-first true b p = tt
-first false b p = p
-
-second : (a b : Bool) → T (a && b) → T b
-second true b p = p
-second false b p = absurd p
-
 abbrev AreBelow : ℕ → List (ℕ × CellEntry) → Type 0
 AreBelow k es = AllByRecursion (λ e. e.0 < k) es
 
 -- in a sorted list those before an entry have smaller keys
 below_later : (a k : ℕ) (c : CellEntry) (front rest : List (ℕ × CellEntry)) → T (below_all nat_cmp a (front ++ (k, c) ∷ rest)) → a < k
-below_later a k c [] rest below = less (nat_cmp a k) refl (first _ _ below)
+below_later a k c [] rest below = less (nat_cmp a k) refl (T-first _ _ below)
   where
     less : (o : _) → nat_cmp a k ≡ o → T (is_lt o) → a < k
     less Less e p = ranked a k Less (sym e)
     less _ e p = absurd p
-below_later a k c (e ∷ front) rest below = below_later a k c front rest (second _ _ below)
+below_later a k c (e ∷ front) rest below = below_later a k c front rest (T-second _ _ below)
 
 sorted_front : (front : List (ℕ × CellEntry)) (k : ℕ) (c : CellEntry) (rest : List (ℕ × CellEntry)) → T (is_sorted nat_cmp (front ++ (k, c) ∷ rest)) → AreBelow k front
 sorted_front [] k c rest sorted = tt
-sorted_front (e ∷ front) k c rest sorted = (below_later e.0 k c front rest (first _ _ sorted), sorted_front front k c rest (second _ _ sorted))
+sorted_front (e ∷ front) k c rest sorted = (below_later e.0 k c front rest (T-first _ _ sorted), sorted_front front k c rest (T-second _ _ sorted))
 
 put_last : (front : List (ℕ × CellEntry)) (k : ℕ) (c : CellEntry) → AreBelow k front → put nat_cmp k c front ≡ front ++ (k, c) ∷ []
 put_last [] k c below = refl

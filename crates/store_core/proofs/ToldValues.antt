@@ -22,6 +22,7 @@ use Rattle.store_core.specs.declared.read.holds.Mention.{Mention}
 use Rattle.store_core.specs.CellLists.{AreRising}
 use Rattle.store_core.specs.Stores.{StoreMap, CellEntry, FieldFits, VarFits, NamesType, cell_of}
 use Rattle.store_core.specs.Saying.{or_fault, value_for, set_of, members_after, cells_numbered, mentions_of, field_holds, var_holds}
+use Rattle.store_core.proofs.Growing.{AllByRecursion-push, AllByRecursion-weaker}
 use Rattle.store_core.proofs.ReadFits.{Fine, HoldsFit}
 use Rattle.store_core.proofs.Spelled.{spelled_of}
 
@@ -76,14 +77,6 @@ none_is : (ns : List ℕ) (n : ℕ) → AllByRecursion (λ m. m < n) ns → list
 none_is [] n all = refl
 none_is (m ∷ ns) n all = let apart : (m == n) ≡ false = grind (arith, all.0) in rw apart (none_is ns n all.1)
 
-all_push : (P : ℕ → Type 0) (ns : List ℕ) (n : ℕ) → AllByRecursion P ns → P n → AllByRecursion P (ns ++ n ∷ [])
-all_push P [] n all last = (last, tt)
-all_push P (m ∷ ns) n all last = (all.0, all_push P ns n all.1 last)
-
-all_step : (P Q : ℕ → Type 0) → ((m : ℕ) → P m → Q m) → (ns : List ℕ) → AllByRecursion P ns → AllByRecursion Q ns
-all_step P Q step [] all = tt
-all_step P Q step (m ∷ ns) all = (step m all.0, all_step P Q step ns all.1)
-
 -- the members so far are below the next
 abbrev below_first : List ℕ → List CellId → Type 0
 below_first so_far [] = Unit {0}
@@ -99,7 +92,7 @@ members_told (c ∷ cells) so_far rising below =
   where
     still : (cells : List CellId) → AllByRecursion (λ d. c.0 < d.0) cells → below_first (so_far ++ c.0 ∷ []) cells
     still [] all = tt
-    still (d ∷ cells) all = all_push (λ m. m < d.0) so_far c.0 (all_step (λ m. m < c.0) (λ m. m < d.0) (λ m lt. omega (arith, all.0)) so_far below) all.0
+    still (d ∷ cells) all = AllByRecursion-push (λ m. m < d.0) so_far c.0 (AllByRecursion-weaker (λ m. m < c.0) (λ m. m < d.0) (λ m lt. omega (arith, all.0)) so_far below) all.0
 
 numbered_again : (cells : List CellId) → cells_numbered (map (λ c. c.0) cells) ≡ cells
 numbered_again [] = refl
