@@ -1,6 +1,6 @@
 -- One event after the other: what the events that are left make stays the same.
-use Rattle.std.proofs.Common.{◌≡◌, ℕ, ◌+◌, ◌<◌, suc, List, [], ◌∷◌, Option, length, get_or, drop, refl, sym, ap, ◌∙◌, add-one}
-use Rattle.std.proofs.Math.Seq.{drop-cons, drop-length}
+use Rattle.std.proofs.Common.{◌≡◌, ℕ, ◌+◌, ◌<◌, suc, List, ◌∷◌, Option, length, get_or, drop, sym, ap, ◌∙◌, add-one}
+use Rattle.std.proofs.Math.Seq.{drop-cons}
 use Rattle.grammar_engine.specs.declared.symbol.Event.{Event}
 use Rattle.grammar_engine.specs.declared.symbol.Event.TheVariants as event
 use Rattle.piles.specs.Piles.{rest}

@@ -1,6 +1,6 @@
 -- What is known of the rows of the grammar of WS2S text. grammar_engine's `is_predictable` says what is meant by each of
 -- these, and is tried on each part.
-use Rattle.std.specs.Prelude.{ℕ, List, [], ◌∷◌, ◌++◌}
+use Rattle.std.specs.Prelude.{ℕ, List, [], ◌∷◌}
 use Rattle.grammar_engine.specs.Predicting.{Hints}
 use Rattle.pale_text.specs.declared.token.Mark.{Mark}
 use Rattle.pale_text.specs.declared.token.Mark.TheVariants as mark

@@ -1,5 +1,5 @@
 -- The source tree of a WS2S text by what happens in its reading: what each act makes of the parts made before it.
-use Rattle.std.specs.Prelude.{List, [], ◌∷◌, ◌++◌, true, false, Option, None, Some}
+use Rattle.std.specs.Prelude.{List, [], ◌∷◌, ◌++◌, true, false, Option, None}
 use Rattle.grammar_engine.specs.declared.symbol.Event.{Event}
 use Rattle.grammar_engine.specs.declared.symbol.Event.TheVariants as event
 use Rattle.piles.specs.Piles.{top, rest}
@@ -8,7 +8,6 @@ use Rattle.pale_text.specs.MakingParts.{nowhere, place_of}
 use Rattle.pale_text.specs.declared.token.Token.{Token}
 use Rattle.ws2s_syntax.specs.declared.declaration.Class.{Class}
 use Rattle.ws2s_syntax.specs.declared.declaration.Class.TheVariants as class
-use Rattle.ws2s_syntax.specs.declared.formula.Connective.{Connective}
 use Rattle.ws2s_syntax.specs.declared.formula.Connective.TheVariants as connective
 use Rattle.ws2s_syntax.specs.declared.formula.Quantifier.{Quantifier}
 use Rattle.ws2s_syntax.specs.declared.formula.Quantifier.TheVariants as quantifier
@@ -20,10 +19,8 @@ use Rattle.ws2s_syntax.specs.declared.source.SourceBase.TheVariants as base
 use Rattle.ws2s_syntax.specs.declared.source.SourceFormula.{SourceFormula, out-SourceFormula}
 use Rattle.ws2s_syntax.specs.declared.source.SourceFormula.TheVariants as formula
 use Rattle.ws2s_syntax.specs.declared.source.SourceFormula.TheOpen.{SourceFormula-F}
-use Rattle.ws2s_syntax.specs.declared.source.SourceItem.{SourceItem}
 use Rattle.ws2s_syntax.specs.declared.source.SourceItem.TheVariants as item
 use Rattle.ws2s_syntax.specs.declared.source.SourceName.{SourceName}
-use Rattle.ws2s_syntax.specs.declared.source.SourceParameter.{SourceParameter}
 use Rattle.ws2s_syntax.specs.declared.source.SourceTerm.{SourceTerm}
 use Rattle.ws2s_parse.specs.declared.build.binding.Binding.{Binding}
 use Rattle.ws2s_parse.specs.declared.grammar.act.SourceAct.{SourceAct}

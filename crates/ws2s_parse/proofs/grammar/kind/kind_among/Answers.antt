@@ -1,4 +1,4 @@
-use Rattle.std.proofs.Common.{◌≡◌, ap, sym, ◌∙◌}
+use Rattle.std.proofs.Common.{ap, sym, ◌∙◌}
 use Rattle.ws2s_parse.proofs.WordLemmas.{kind_found, found_among}
 use Rattle.ws2s_parse.proofs.grammar.kind.kind_among.Goals as goal
 
