@@ -6,3 +6,6 @@ pub mod CarryLemmas
 pub mod AloneLemmas
 pub mod RenamingLemmas
 pub mod RenamedLemmas
+pub mod KeyLemmas
+pub mod PlaceLemmas
+pub mod SharedLemmas

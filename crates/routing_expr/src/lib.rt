@@ -4,11 +4,23 @@
 //! is a backbone, when it is well-formed and which of its faults comes first, and `specs/Laws.antt` what holds of all walks.
 #![tactic(auto)]
 
+mod dangling;
 mod fault;
+mod first_fault;
 mod laws;
+mod leak;
+mod names;
+mod numbers;
+mod places;
+mod shared;
+mod wrong_field;
 
 pub use fault::{Place, WfFault};
+pub use first_fault::well_formed;
 pub use laws::{
     data_walks_stay_in_one_tree, renaming_cells_renames_walks, walks_go_by_cases,
     walks_join_live_cells, walks_see_cells_alone,
 };
+
+#[cfg(test)]
+mod tests;
