@@ -5,3 +5,4 @@ pub mod Places
 pub mod Sets
 pub mod Naming
 pub mod Laws
+pub mod Searches
