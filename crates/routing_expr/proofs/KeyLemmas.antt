@@ -1,5 +1,5 @@
 -- The numbers of a store's live cells, by places.
-use Rattle.std.proofs.Common.{◌≡◌, ◌≢◌, ℕ, zero, suc, ◌<◌, ◌≤◌, Bool, true, false, cond, T, ◌&&◌, List, [], ◌∷◌, length, map, Some, None, IsSome, is_some, refl, sym, ap, ◌∙◌, subst, arith, slice_get, inl, inr}
+use Rattle.std.proofs.Common.{◌≡◌, ◌≢◌, ℕ, zero, suc, ◌<◌, ◌≤◌, Bool, true, false, cond, T, ◌&&◌, List, [], ◌∷◌, length, map, Option, Some, None, IsSome, is_some, refl, sym, ap, ◌∙◌, subst, arith, slice_get, inl, inr}
 use Rattle.std.specs.Ordering.{nat_cmp, eq_by_cmp, is_lt}
 use Rattle.std.specs.declared.cmp.Ordering.TheVariants.{Less, Equal, Greater}
 use Rattle.std.specs.Cmp.{nat_cmp_is}
@@ -43,6 +43,18 @@ found_at (e ∷ es) q h = elim (cases_eq q e.0) [
     differs : (x y : ℕ) → x ≢ y → eq_by_cmp nat_cmp x y ≡ false
     differs x y ne = grind (arith, nat_tests)
 
+found_either : {X : Type 0} (t : Bool) (x : X) (o : Option X) → IsSome o → IsSome (cond t (Some x) o)
+found_either true x o h = refl
+found_either false x o h = h
+
+finds_at : (es : List (ℕ × CellEntry)) (q j : ℕ) → slice_get (map (λ e. e.0) es) j ≡ Some q → IsSome (find nat_cmp q es)
+finds_at [] q j at = absurd (cc)
+finds_at (e ∷ es) q zero at = let same : e.0 ≡ q = cc in subst (λ t. IsSome (cond t (Some e.1) (find nat_cmp q es))) (sym (itself q e.0 same)) refl
+  where
+    itself : (x y : ℕ) → y ≡ x → eq_by_cmp nat_cmp x y ≡ true
+    itself x y same = grind (arith, nat_tests)
+finds_at (e ∷ es) q (suc j) at = found_either (eq_by_cmp nat_cmp q e.0) e.1 (find nat_cmp q es) (finds_at es q j at)
+
 module _ (s : StoreMap) where
   -- the numbers rise
   pub keys-rise : (i j a b : ℕ) → i < j → slice_get (keys s.cells) i ≡ Some a → slice_get (keys s.cells) j ≡ Some b → a < b
@@ -51,3 +63,7 @@ module _ (s : StoreMap) where
   -- each live cell has a place
   pub key_of_live : (c : CellId) → IsLive s c → (j : ℕ) × (slice_get (keys s.cells) j ≡ Some c.0)
   key_of_live c h = found_at (entries s.cells) c.0 (subst IsSome (get-entries s.cells c.0) h)
+
+  -- each place has a live cell
+  pub live_of_key : (c : CellId) (j : ℕ) → slice_get (keys s.cells) j ≡ Some c.0 → IsLive s c
+  live_of_key c j at = subst IsSome (sym (get-entries s.cells c.0)) (finds_at (entries s.cells) c.0 j at)

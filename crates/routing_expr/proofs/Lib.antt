@@ -9,3 +9,4 @@ pub mod RenamedLemmas
 pub mod KeyLemmas
 pub mod PlaceLemmas
 pub mod SharedLemmas
+pub mod LeakLemmas

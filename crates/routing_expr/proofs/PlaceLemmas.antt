@@ -59,7 +59,8 @@ listing_alike P Q places alike h = record {
 field_id : (f g : FieldId) → f.ty.0 ≡ g.ty.0 → f.index ≡ g.index → f ≡ g
 field_id f g e h = ap (λ (n : ℕ). record { ty = record { 0 = n }; index = f.index }) e ∙ ap (λ (n : ℕ). record { ty = g.ty; index = n }) h
 
-typed : (o : Option CellEntry) (f : FieldId) (ty : TypeId) → IsSome (option_and_then (λ cell. field_of cell f) o) → option_map (λ (cell : CellEntry). cell.variant.ty) o ≡ Some ty → f.ty.0 ≡ ty.0
+-- a field that a cell has is one of its type
+pub typed : (o : Option CellEntry) (f : FieldId) (ty : TypeId) → IsSome (option_and_then (λ cell. field_of cell f) o) → option_map (λ (cell : CellEntry). cell.variant.ty) o ≡ Some ty → f.ty.0 ≡ ty.0
 typed None f ty there of = absurd (false≢true there)
 typed (Some cell) f ty there of =
     elim (cases_eq cell.variant.ty.0 f.ty.0) [

@@ -50,8 +50,8 @@ module _ (types : List TypeEntry) (vars : List VarEntry) (s : StoreMap) where
       λ h. elim (cases_lt h.place n) [
         | inl less ↦ inl (record { place = h.place; below = less; names = h.names })
         | inr more ↦
-          let here : h.place ≡ n = omega (arith, h.below) in
-          inr (subst (λ o. IsSomeAnd o (λ q. NamesLive types vars s q c)) at (subst (λ k. NamesAt types vars s places k c) here h.names))
+            let here : h.place ≡ n = omega (arith, h.below) in
+            inr (subst (λ o. IsSomeAnd o (λ q. NamesLive types vars s q c)) at (subst (λ k. NamesAt types vars s places k c) here h.names))
       ],
     )
 
@@ -65,8 +65,8 @@ module _ (types : List TypeEntry) (vars : List VarEntry) (s : StoreMap) where
       λ h. elim (cases_lt h.place n) [
         | inl less ↦ inl (record { place = h.place; below = less; names = h.names; before = h.before })
         | inr more ↦
-          let here : h.place ≡ n = omega (arith, h.below) in
-          inr (subst (λ o. IsSomeAnd o (λ q. NamesLive types vars s q c)) at (subst (λ k. NamesAt types vars s places k c) here h.names), subst (λ k. IsNamedBelow types vars s places k c) here h.before)
+            let here : h.place ≡ n = omega (arith, h.below) in
+            inr (subst (λ o. IsSomeAnd o (λ q. NamesLive types vars s q c)) at (subst (λ k. NamesAt types vars s places k c) here h.names), subst (λ k. IsNamedBelow types vars s places k c) here h.before)
       ],
     )
 
@@ -110,10 +110,10 @@ module _ (types : List TypeEntry) (vars : List VarEntry) (s : StoreMap) where
               one = first.0;
               other = second.0;
               apart = λ same. not_itself first.0
-                (subst (λ q. ComesBefore first.0 q) (sym same)
-                (subst (λ q. ComesBefore first.0 q) (get_or_from_slice_get places h.place second.0 first.0 second.1)
-                (subst (λ q. ComesBefore q (get_or places h.place first.0)) (get_or_from_slice_get places h.before.place first.0 first.0 first.1)
-                (are.in_order h.before.place h.place first.0 h.before.below (slice_get_within places h.place second.0 second.1)))));
+                  (subst (λ q. ComesBefore first.0 q) (sym same)
+                  (subst (λ q. ComesBefore first.0 q) (get_or_from_slice_get places h.place second.0 first.0 second.1)
+                  (subst (λ q. ComesBefore q (get_or places h.place first.0)) (get_or_from_slice_get places h.before.place first.0 first.0 first.1)
+                  (are.in_order h.before.place h.place first.0 h.before.below (slice_get_within places h.place second.0 second.1)))));
               by_one = first.2.names;
               by_other = second.2.names;
             }

@@ -4,5 +4,6 @@ pub mod WellFormed
 pub mod Places
 pub mod Sets
 pub mod Naming
+pub mod Reaching
 pub mod Laws
 pub mod Searches

@@ -32,9 +32,9 @@ returns-then-is_none c = counts_none _ _ (λ d h.
 
 pub returns : goal.returns
 returns c = on_ok_weaker c.add.result (counts_alike _ _ _ _ (λ d. (
-    λ same. record {
-      live = subst (λ e. IsLive c.args.store.now e) (sym same) (sym (live_typed _) ∙ sym (ap is_some c.type_of.ensures) ∙ c.if-is_none.ensures);
-      names = (c.named_cell.ensures d).1 (c.in-Some.is ∙ ap (λ e. Some e) (sym same));
-    },
-    λ h. same_cell c.in-Some.is ((c.named_cell.ensures d).0 h.names),
-  ))) c.add.ensures
+  λ same. record {
+    live = subst (λ e. IsLive c.args.store.now e) (sym same) (sym (live_typed _) ∙ sym (ap is_some c.type_of.ensures) ∙ c.if-is_none.ensures);
+    names = (c.named_cell.ensures d).1 (c.in-Some.is ∙ ap (λ e. Some e) (sym same));
+  },
+  λ h. same_cell c.in-Some.is ((c.named_cell.ensures d).0 h.names),
+))) c.add.ensures
