@@ -6,4 +6,7 @@ pub mod Sets
 pub mod Naming
 pub mod Reaching
 pub mod Laws
+pub mod Gathering
 pub mod Searches
+pub mod Machines
+pub mod Spots

@@ -2,21 +2,28 @@
 //!
 //! `specs/Walks.antt` says what a walk is, `specs/Destinations.antt` what a destination is, `specs/WellFormed.antt` when a store
 //! is a backbone, when it is well-formed and which of its faults comes first, and `specs/Laws.antt` what holds of all walks.
+//! `specs/Machines.antt` says what a route is taken apart into.
 #![tactic(auto)]
 
+mod calls;
 mod dangling;
 mod fault;
 mod first_fault;
 mod followed;
+mod indexing;
 mod laws;
 mod leak;
+mod links;
+mod machine;
 mod names;
 mod numbers;
 mod places;
 mod search;
 mod shared;
+mod steps;
 mod wrong_field;
 
+pub use calls::{destinations, ends};
 pub use fault::{Place, WfFault};
 pub use first_fault::well_formed;
 pub use followed::Followed;
