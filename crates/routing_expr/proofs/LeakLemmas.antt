@@ -113,7 +113,7 @@ module _ (types : List TypeEntry) (vars : List VarEntry) (s : StoreMap) where
     λ h. elim (cases_lt h.field.index n) [
       | inl less ↦ inl (record { field = h.field; below = less; names = h.names })
       | inr more ↦
-        inr (subst (λ p. Names types vars s p c) (the_field s parent ty n of parent h.field refl (omega (arith, h.below)) (there types vars s _ c h.names)) h.names)
+          inr (subst (λ p. Names types vars s p c) (the_field s parent ty n of parent h.field refl (omega (arith, h.below)) (there types vars s _ c h.names)) h.names)
     ],
   )
 
@@ -124,10 +124,10 @@ module _ (types : List TypeEntry) (vars : List VarEntry) (s : StoreMap) where
     λ h. record {
       field = h.field;
       below =
-        let w = known_within (fields_of types h.field.ty) h.field.index _ h.names.place in
-        let same : h.field.ty ≡ ty = ap (λ (k : ℕ). record { 0 = k }) (typed (cell_of s parent) h.field ty (there types vars s (place.Field parent h.field) c h.names) of) in
-        let count : length (fields_of types h.field.ty) ≡ length (fields_of types ty) = ap (λ t. length (fields_of types t)) same in
-        omega arith;
+          let w = known_within (fields_of types h.field.ty) h.field.index _ h.names.place in
+          let same : h.field.ty ≡ ty = ap (λ (k : ℕ). record { 0 = k }) (typed (cell_of s parent) h.field ty (there types vars s (place.Field parent h.field) c h.names) of) in
+          let count : length (fields_of types h.field.ty) ≡ length (fields_of types ty) = ap (λ t. length (fields_of types t)) same in
+          omega arith;
       names = h.names;
     },
   )

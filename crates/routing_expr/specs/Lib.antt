@@ -5,6 +5,7 @@ pub mod Places
 pub mod Sets
 pub mod Naming
 pub mod Reaching
+pub mod Judging
 pub mod Laws
 pub mod Gathering
 pub mod Searches
