@@ -10,3 +10,4 @@ pub mod KeyLemmas
 pub mod PlaceLemmas
 pub mod SharedLemmas
 pub mod LeakLemmas
+pub mod JudgeLemmas

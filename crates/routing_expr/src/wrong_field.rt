@@ -1,6 +1,7 @@
 //! Pointer fields that aren't the only destination of their cell.
 
-ghost use Rattle.std.specs.Prelude.{◌≡◌, ◌↔◌, IsTrue, IfOk, IfNone, IfSome, OnTrue, OnFalse};
+ghost use Rattle.std.specs.Prelude.{◌≡◌, ◌↔◌, IsTrue, IfOk, IfNone, IfSome};
+ghost use Rattle.std.specs.Bool.{OnTrue, OnFalse};
 ghost use Rattle.store_core.specs.declared.ids.CellId.{CellId};
 ghost use Rattle.store_core.specs.declared.ids.FieldId.{FieldId};
 ghost use Rattle.routing_expr.specs.declared.followed.Followed.TheVariants as followed;
