@@ -11,3 +11,5 @@ pub mod PlaceLemmas
 pub mod SharedLemmas
 pub mod LeakLemmas
 pub mod JudgeLemmas
+pub mod FittingLemmas
+pub mod FaultLemmas
