@@ -13,3 +13,7 @@ pub mod LeakLemmas
 pub mod JudgeLemmas
 pub mod FittingLemmas
 pub mod FaultLemmas
+pub mod GatheringLemmas
+pub mod MachineLemmas
+pub mod RangeLemmas
+pub mod IndexLemmas

@@ -1,9 +1,11 @@
 -- What a route is taken apart into: places, and ways between them. (Thompson, CACM 1968, "Regular expression search
 -- algorithm".)
-use Rattle.std.specs.Prelude.{◌≡◌, ◌↔◌, ◌<◌, ◌≤◌, ◌++◌, ℕ, List, map, Contains}
+use Rattle.std.specs.Prelude.{◌≡◌, ◌↔◌, ◌<◌, ◌≤◌, ◌+◌, ◌++◌, ℕ, List, map, sum_by, Contains}
 use Rattle.store_core.specs.declared.ids.CellId.{CellId}
 use Rattle.store_core.specs.declared.kind.Route.{Route}
 use Rattle.store_core.specs.declared.kind.Route.TheVariants as route
+use Rattle.store_core.specs.declared.kind.Route.TheOpen.{Route-F}
+use Rattle.store_core.specs.declared.kind.Route.TheFolds.{fold-Route}
 use Rattle.store_core.specs.Tables.{TypeEntry}
 use Rattle.store_core.specs.Stores.{StoreMap, IsLive}
 use Rattle.routing_expr.specs.declared.machine.Test.{Test}
@@ -50,6 +52,29 @@ part_of part = record { from = part.from; label = along part.route.now; to = par
 
 abbrev pub arcs_of : Plan → List Arc
 arcs_of plan = map arc_of plan.edges.items ++ map part_of plan.parts.items
+
+-- ---- how much is left
+
+abbrev pub part_count_of_node : Route-F ℕ → ℕ
+part_count_of_node (Route-F.Down name) = 0
+part_count_of_node (Route-F.Up name) = 0
+part_count_of_node Route-F.UpAny = 0
+part_count_of_node Route-F.Root = 0
+part_count_of_node Route-F.Leaf = 0
+part_count_of_node (Route-F.IsType ty) = 0
+part_count_of_node (Route-F.IsVariant v) = 0
+part_count_of_node (Route-F.IsBool name truth) = 0
+part_count_of_node (Route-F.Then first second) = first + second + 2
+part_count_of_node (Route-F.Or one other) = one + other + 2
+part_count_of_node (Route-F.Star round) = round + 1
+
+-- how many parts a route is taken apart into, with those that they are taken apart into
+abbrev pub part_count : Route → ℕ
+part_count = fold-Route ℕ part_count_of_node
+
+-- how many parts are still to be gone through, those that they are taken apart into included
+abbrev pub parts_left : Plan → ℕ
+parts_left plan = sum_by (λ part. part_count part.route.now + 1) plan.parts.items
 
 -- ---- what it means
 
