@@ -1,3 +1,4 @@
+mod WordLemmas
 pub mod LexLemmas
 pub mod ListLemmas
 pub mod MarkLemmas

@@ -1,9 +1,14 @@
 -- Lists that grow by what belongs in them.
 use Rattle.std.proofs.Common.{◌≡◌, ◌⊎◌, inl, inr, ◌↔◌, ◌<◌, ◌≤◌, ◌+◌, ◌-◌, ◌++◌, ◌∷◌, [], ℕ, zero, suc, List, map, length, get_or, take, drop, refl, sym, ap, ◌∙◌, subst, slice_get, Some, arith, Contains}
 use Rattle.std.proofs.lemmas.List.Elements.{Contains-push, Contains-push_cases, Contains-append_left, Contains-append_right, Contains-append_cases, Contains-get_or}
+use Rattle.std.proofs.lemmas.Bool.{cases_lt}
 use Rattle.std.proofs.lemmas.Option.{slice_get-get_or, slice_get_within, get_or_from_slice_get, slice_get-map}
 use Rattle.std.specs.Option.{option_map}
 use Rattle.routing_expr.specs.Gathering.{Gathers, HasAll, Before, Grows}
+
+-- a number below the next one
+pub below_suc : (i n : ℕ) → i < n + 1 → (i < n) ⊎ (i ≡ n)
+below_suc i n h = elim (cases_lt i n) [ inl below ↦ inl below | inr above ↦ inr (omega arith) ]
 
 module _ {X : Type 0} where
   -- an element and its place
@@ -36,12 +41,14 @@ module _ {X : Type 0} where
   pub Gathers-push : (xs : List X) (y : X) → Gathers xs (xs ++ y ∷ []) (λ x. x ≡ y)
   Gathers-push xs y x = (
     λ h. elim (Contains-push_cases xs y x h) [ inl here ↦ inl here | inr same ↦ inr (sym same) ],
-    λ h. elim h [ inl here ↦ Contains-append_left xs (y ∷ []) x here | inr same ↦ subst (λ z. Contains (xs ++ y ∷ []) z) (sym same) (Contains-push xs y) ])
+    λ h. elim h [ inl here ↦ Contains-append_left xs (y ∷ []) x here | inr same ↦ subst (λ z. Contains (xs ++ y ∷ []) z) (sym same) (Contains-push xs y) ],
+  )
 
   pub Gathers-alike : (xs ys : List X) (P Q : X → Type 0) → Gathers xs ys P → ((x : X) → P x ↔ Q x) → Gathers xs ys Q
   Gathers-alike xs ys P Q h alike x = (
     λ there. elim ((h x).0 there) [ inl old ↦ inl old | inr new ↦ inr ((alike x).0 new) ],
-    λ either. (h x).1 (elim either [ inl old ↦ inl old | inr new ↦ inr ((alike x).1 new) ]))
+    λ either. (h x).1 (elim either [ inl old ↦ inl old | inr new ↦ inr ((alike x).1 new) ]),
+  )
 
   pub Gathers-both : (xs ys zs : List X) (P Q : X → Type 0) → Gathers xs ys P → Gathers ys zs Q → Gathers xs zs (λ x. P x ⊎ Q x)
   Gathers-both xs ys zs P Q one two x = (
@@ -52,7 +59,8 @@ module _ {X : Type 0} where
     λ either. elim either [
       | inl old ↦ (two x).1 (inl ((one x).1 (inl old)))
       | inr new ↦ elim new [ inl p ↦ (two x).1 (inl ((one x).1 (inr p))) | inr q ↦ (two x).1 (inr q) ]
-    ])
+    ],
+  )
 
   -- one more in the middle, and at the end
   pub Gathers-first : (xs zs : List X) (y : X) → Gathers (xs ++ zs) ((xs ++ y ∷ []) ++ zs) (λ x. x ≡ y)
@@ -63,11 +71,12 @@ module _ {X : Type 0} where
     ],
     λ either. elim either [
       | inl old ↦ elim (Contains-append_cases xs zs x old) [
-          | inl front ↦ Contains-append_left (xs ++ y ∷ []) zs x ((Gathers-push xs y x).1 (inl front))
-          | inr back ↦ Contains-append_right (xs ++ y ∷ []) zs x back
-        ]
+        | inl front ↦ Contains-append_left (xs ++ y ∷ []) zs x ((Gathers-push xs y x).1 (inl front))
+        | inr back ↦ Contains-append_right (xs ++ y ∷ []) zs x back
+      ]
       | inr new ↦ Contains-append_left (xs ++ y ∷ []) zs x ((Gathers-push xs y x).1 (inr new))
-    ])
+    ],
+  )
 
   pub Gathers-last : (xs zs : List X) (y : X) → Gathers (zs ++ xs) (zs ++ (xs ++ y ∷ [])) (λ x. x ≡ y)
   Gathers-last xs zs y x = (
@@ -77,11 +86,12 @@ module _ {X : Type 0} where
     ],
     λ either. elim either [
       | inl old ↦ elim (Contains-append_cases zs xs x old) [
-          | inl front ↦ Contains-append_left zs (xs ++ y ∷ []) x front
-          | inr back ↦ Contains-append_right zs (xs ++ y ∷ []) x ((Gathers-push xs y x).1 (inl back))
-        ]
+        | inl front ↦ Contains-append_left zs (xs ++ y ∷ []) x front
+        | inr back ↦ Contains-append_right zs (xs ++ y ∷ []) x ((Gathers-push xs y x).1 (inl back))
+      ]
       | inr new ↦ Contains-append_right zs (xs ++ y ∷ []) x ((Gathers-push xs y x).1 (inr new))
-    ])
+    ],
+  )
 
   pub HasAll-gathered : (ys : List X) (P : X → Type 0) → Gathers [] ys P → HasAll ys P
   HasAll-gathered ys P h x = (λ there. elim ((h x).0 there) [ inl none ↦ absurd (Contains-none x none) | inr new ↦ new ], λ new. (h x).1 (inr new))
@@ -107,13 +117,7 @@ module _ {X : Type 0} where
   Gathers-next At n xs ys zs one two = Gathers-alike xs zs (λ x. Before At n x ⊎ At n x) (Before At (n + 1)) (Gathers-both xs ys zs (Before At n) (At n) one two) alike
     where
       last : (x : X) (h : Before At (n + 1) x) → Before At n x ⊎ At n x
-      last x h = elim (place_cases h.place n h.before) [ inl below ↦ inl (record { place = h.place; before = below; at = h.at }) | inr same ↦ inr (subst (λ i. At i x) same h.at) ]
-        where
-          place_cases : (i n : ℕ) → i < n + 1 → (i < n) ⊎ (i ≡ n)
-          place_cases i n h = elim (split i n) [ inl below ↦ inl below | inr above ↦ inr (omega arith) ]
-            where
-              split : (i n : ℕ) → (i < n) ⊎ (n ≤ i)
-              split i n = grind arith
+      last x h = elim (below_suc h.place n h.before) [ inl below ↦ inl (record { place = h.place; before = below; at = h.at }) | inr same ↦ inr (subst (λ i. At i x) same h.at) ]
 
       alike : (x : X) → (Before At n x ⊎ At n x) ↔ Before At (n + 1) x
       alike x = (
@@ -121,7 +125,8 @@ module _ {X : Type 0} where
           | inl h ↦ let below = h.before in record { place = h.place; before = omega arith; at = h.at }
           | inr at ↦ record { place = n; before = omega arith; at = at }
         ],
-        last x)
+        last x,
+      )
 
   -- ---- what goes to the end
 

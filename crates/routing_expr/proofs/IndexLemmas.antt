@@ -57,9 +57,10 @@ pub Leads-field : (types : List TypeEntry) (s : StoreMap) (fields : Fields) (f :
     Some ty ≡ option_map (λ (cell : CellEntry). cell.variant.ty) (cell_of s a) → Leads types s fields f a b →
     (f ≡ record { ty = ty; index = f.index }) × (f.index < length (fields_of types ty))
 Leads-field types s fields f a b ty typed h =
-    let same = field-type s a f ty _ typed h.value in
-    ((λ i. record { ty = same i; index = f.index }),
-     subst (λ t. f.index < length (fields_of types t)) same (IsSomeAnd-within (fields_of types f.ty) f.index _ h.kind))
+    let same = field-type s a f ty _ typed h.value in (
+      (λ i. record { ty = same i; index = f.index }),
+      subst (λ t. f.index < length (fields_of types t)) same (IsSomeAnd-within (fields_of types f.ty) f.index _ h.kind),
+    )
 
 -- ---- links place by place
 
@@ -78,10 +79,11 @@ pub LinkAt-child : (types : List TypeEntry) (s : StoreMap) (followed : Followed)
 LinkAt-child types s followed parent ty index child leads x = (
   λ same. subst (λ y. LinkAt types s followed parent ty index y) (sym same) (record { parent_is = refl; field_is = refl; is = (leads child).0 refl }),
   λ h.
-    let step : Leads types s (fields_in followed) (record { ty = ty; index = index }) parent x.child =
-        subst (λ f. Leads types s (fields_in followed) f parent x.child) h.field_is (subst (λ p. Leads types s (fields_in followed) x.field p x.child) h.parent_is h.is) in
-    let child_is = same_Some child x.child ((leads x.child).1 step) in
-    λ i. record { child = sym child_is i; parent = h.parent_is i; field = h.field_is i })
+      let step : Leads types s (fields_in followed) (record { ty = ty; index = index }) parent x.child =
+      subst (λ f. Leads types s (fields_in followed) f parent x.child) h.field_is (subst (λ p. Leads types s (fields_in followed) x.field p x.child) h.parent_is h.is) in
+      let child_is = same_Some child x.child ((leads x.child).1 step) in
+      λ i. record { child = sym child_is i; parent = h.parent_is i; field = h.field_is i },
+)
 
 pub LinkAt-none : (types : List TypeEntry) (s : StoreMap) (followed : Followed) (parent : CellId) (ty : TypeId) (index : ℕ) →
     ((d : CellId) → (None ≡ Some d) ↔ Leads types s (fields_in followed) (record { ty = ty; index = index }) parent d) →
@@ -99,10 +101,11 @@ pub LinkAt-all : (types : List TypeEntry) (s : StoreMap) (followed : Followed) (
 LinkAt-all types s followed parent ty n typed enough x = (
   λ h. (h.at.parent_is, h.at.is),
   λ h.
-    let step : Leads types s (fields_in followed) x.field parent x.child = subst (λ p. Leads types s (fields_in followed) x.field p x.child) h.0 h.1 in
-    let of_type = Leads-field types s (fields_in followed) x.field parent x.child ty typed step in
-    let inside = of_type.1 in
-    record { place = x.field.index; before = omega arith; at = record { parent_is = h.0; field_is = of_type.0; is = h.1 } })
+      let step : Leads types s (fields_in followed) x.field parent x.child = subst (λ p. Leads types s (fields_in followed) x.field p x.child) h.0 h.1 in
+      let of_type = Leads-field types s (fields_in followed) x.field parent x.child ty typed step in
+      let inside = of_type.1 in
+      record { place = x.field.index; before = omega arith; at = record { parent_is = h.0; field_is = of_type.0; is = h.1 } },
+)
 
 -- a dead cell has no link
 pub LinkAt-dead : (types : List TypeEntry) (s : StoreMap) (followed : Followed) (parent : CellId) → None ≡ option_map (λ (cell : CellEntry). cell.variant.ty) (cell_of s parent) →
@@ -126,18 +129,20 @@ CellAt-parent types s followed place parent is x = by (slice_get (keys s.cells) 
         ((x.parent ≡ parent) × IsLink types s (fields_in followed) x) ↔ CellAt types s followed place x
     by None at is = absurd (cc)
     by (Some number) at is =
-        let same : parent.0 ≡ number = ap (λ (c : CellId). c.0) (same_Some parent (record { 0 = number }) is) in
-        (λ h. record { at = at ∙ ap Some (sym same ∙ sym (ap (λ (c : CellId). c.0) h.0)); is = h.1 },
-         λ h. let numbers : number ≡ x.parent.0 = same_Some number x.parent.0 (sym at ∙ h.at) in ((λ i. record { 0 = sym (same ∙ numbers) i }), h.is))
+        let same : parent.0 ≡ number = ap (λ (c : CellId). c.0) (same_Some parent (record { 0 = number }) is) in (
+          λ h. record { at = at ∙ ap Some (sym same ∙ sym (ap (λ (c : CellId). c.0) h.0)); is = h.1 },
+          λ h. let numbers : number ≡ x.parent.0 = same_Some number x.parent.0 (sym at ∙ h.at) in ((λ i. record { 0 = sym (same ∙ numbers) i }), h.is),
+        )
 
 pub CellAt-all : (types : List TypeEntry) (s : StoreMap) (followed : Followed) (n : ℕ) → length (keys s.cells) ≤ n →
     (x : Link) → Before (CellAt types s followed) n x ↔ IsLink types s (fields_in followed) x
 CellAt-all types s followed n enough x = (
   λ h. h.at.is,
   λ h.
-    let key = key_of_live s x.parent (Leads-live types s (fields_in followed) x.field x.parent x.child h).0 in
-    let inside = slice_get_within (keys s.cells) key.0 x.parent.0 key.1 in
-    record { place = key.0; before = omega arith; at = record { at = key.1; is = h } })
+      let key = key_of_live s x.parent (Leads-live types s (fields_in followed) x.field x.parent x.child h).0 in
+      let inside = slice_get_within (keys s.cells) key.0 x.parent.0 key.1 in
+      record { place = key.0; before = omega arith; at = record { at = key.1; is = h } },
+)
 
 -- a list put in order has the same
 pub HasAll-sorted : {X : Type 0} (P : X → Type 0) (xs ys : List X) → IsPermutation xs ys → HasAll xs P → HasAll ys P

@@ -17,3 +17,5 @@ pub mod GatheringLemmas
 pub mod MachineLemmas
 pub mod RangeLemmas
 pub mod IndexLemmas
+pub mod StepLemmas
+pub mod SpotLemmas

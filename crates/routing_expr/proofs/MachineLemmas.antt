@@ -73,21 +73,27 @@ module _ (types : List TypeEntry) (s : StoreMap) (fields : Fields) (from to n : 
       let here = below both (Contains-here both rest) in
       elim ((made x).0 held) [
         | inl there ↦
-            let inside = below x (Contains-there both rest x there) in
-            (λ _. go p a x b q c (Contains-there both rest x there) at takes (back.0 (λ e. apart x.to n inside.1 e)),
-             λ same. absurd (apart x.from n inside.0 (at ∙ same)))
+            let inside = below x (Contains-there both rest x there) in (
+              λ _. go p a x b q c (Contains-there both rest x there) at takes (back.0 (λ e. apart x.to n inside.1 e)),
+              λ same. absurd (apart x.from n inside.0 (at ∙ same)),
+            )
         | inr new ↦ elim new [
-            | inl one ↦
-                (λ _. let m = back.1 (ap (λ (y : Arc). y.to) one) in
-                    go p a both m.0 q c (Contains-here both rest) (sym (ap (λ (y : Arc). y.from) one) ∙ at)
-                    ((Walk-Then types s fields first second a m.0).1 (b, subst (λ (y : Arc). Takes types s fields y.label a b) one takes, m.1)) m.2,
-                 λ same. absurd (apart from n here.0 (sym (ap (λ (y : Arc). y.from) one) ∙ at ∙ same)))
-            | inr two ↦
-                (λ elsewhere. absurd (elsewhere (sym at ∙ ap (λ (y : Arc). y.from) two)),
-                 λ same. (b, subst (λ (y : Arc). Takes types s fields y.label a b) two takes,
-                    subst (λ t. Path types s fields (both ∷ rest) t b q c) (ap (λ (y : Arc). y.to) two)
-                    (back.0 (λ e. apart to n here.1 (sym (ap (λ (y : Arc). y.to) two) ∙ e)))))
-          ]
+          | inl one ↦ (
+            λ _. let m = back.1 (ap (λ (y : Arc). y.to) one) in
+                go p a both m.0 q c (Contains-here both rest) (sym (ap (λ (y : Arc). y.from) one) ∙ at)
+                ((Walk-Then types s fields first second a m.0).1 (b, subst (λ (y : Arc). Takes types s fields y.label a b) one takes, m.1)) m.2,
+            λ same. absurd (apart from n here.0 (sym (ap (λ (y : Arc). y.from) one) ∙ at ∙ same)),
+          )
+          | inr two ↦ (
+            λ elsewhere. absurd (elsewhere (sym at ∙ ap (λ (y : Arc). y.from) two)),
+            λ same. (
+              b,
+              subst (λ (y : Arc). Takes types s fields y.label a b) two takes,
+              subst (λ t. Path types s fields (both ∷ rest) t b q c) (ap (λ (y : Arc). y.to) two)
+                  (back.0 (λ e. apart to n here.1 (sym (ap (λ (y : Arc). y.to) two) ∙ e))),
+            ),
+          )
+        ]
       ]
 
 -- either route, between the same places
@@ -107,15 +113,15 @@ module _ (types : List TypeEntry) (s : StoreMap) (fields : Fields) (from to : �
   either-back (go p a x b q c held at takes path) = elim ((made x).0 held) [
     | inl there ↦ go p a x b q c (Contains-there either rest x there) at takes (either-back path)
     | inr new ↦ elim new [
-        | inl first ↦
-            go p a either b q c (Contains-here either rest) (sym (ap (λ (y : Arc). y.from) first) ∙ at)
-            ((Walk-Or types s fields one other a b).1 (inl (subst (λ (y : Arc). Takes types s fields y.label a b) first takes)))
-            (subst (λ t. Path types s fields (either ∷ rest) t b q c) (ap (λ (y : Arc). y.to) first) (either-back path))
-        | inr second ↦
-            go p a either b q c (Contains-here either rest) (sym (ap (λ (y : Arc). y.from) second) ∙ at)
-            ((Walk-Or types s fields one other a b).1 (inr (subst (λ (y : Arc). Takes types s fields y.label a b) second takes)))
-            (subst (λ t. Path types s fields (either ∷ rest) t b q c) (ap (λ (y : Arc). y.to) second) (either-back path))
-      ]
+      | inl first ↦
+          go p a either b q c (Contains-here either rest) (sym (ap (λ (y : Arc). y.from) first) ∙ at)
+          ((Walk-Or types s fields one other a b).1 (inl (subst (λ (y : Arc). Takes types s fields y.label a b) first takes)))
+          (subst (λ t. Path types s fields (either ∷ rest) t b q c) (ap (λ (y : Arc). y.to) first) (either-back path))
+      | inr second ↦
+          go p a either b q c (Contains-here either rest) (sym (ap (λ (y : Arc). y.from) second) ∙ at)
+          ((Walk-Or types s fields one other a b).1 (inr (subst (λ (y : Arc). Takes types s fields y.label a b) second takes)))
+          (subst (λ t. Path types s fields (either ∷ rest) t b q c) (ap (λ (y : Arc). y.to) second) (either-back path))
+    ]
   ]
 
 -- rounds, at a place of their own
@@ -144,30 +150,36 @@ module _ (types : List TypeEntry) (s : StoreMap) (fields : Fields) (from to n : 
       let here = below rounds (Contains-here rounds rest) in
       elim ((made x).0 held) [
         | inl there ↦
-            let inside = below x (Contains-there rounds rest x there) in
-            (λ _. go p a x b q c (Contains-there rounds rest x there) at takes (back.0 (λ e. apart x.to n inside.1 e)),
-             λ same. absurd (apart x.from n inside.0 (at ∙ same)))
+            let inside = below x (Contains-there rounds rest x there) in (
+              λ _. go p a x b q c (Contains-there rounds rest x there) at takes (back.0 (λ e. apart x.to n inside.1 e)),
+              λ same. absurd (apart x.from n inside.0 (at ∙ same)),
+            )
         | inr new ↦ elim new [
-            | inl enter ↦
-                (λ _. let m = back.1 (ap (λ (y : Arc). y.to) enter) in
-                    let stays = subst (λ (y : Arc). Takes types s fields y.label a b) enter takes in
-                    go p a rounds m.0 q c (Contains-here rounds rest) (sym (ap (λ (y : Arc). y.from) enter) ∙ at)
-                    ((Walk-Star types s fields round a m.0).1 (subst (λ z. Chain s (Walk types s fields round) z m.0) (sym stays.0) m.1)) m.2,
-                 λ same. absurd (apart from n here.0 (sym (ap (λ (y : Arc). y.from) enter) ∙ at ∙ same)))
-            | inr later ↦ elim later [
-                | inl again ↦
-                    (λ elsewhere. absurd (elsewhere (sym at ∙ ap (λ (y : Arc). y.from) again)),
-                     λ same. let m = back.1 (ap (λ (y : Arc). y.to) again) in
-                        (m.0, go_round a b m.0 (subst (λ (y : Arc). Takes types s fields y.label a b) again takes) m.1, m.2))
-                | inr leave ↦
-                    (λ elsewhere. absurd (elsewhere (sym at ∙ ap (λ (y : Arc). y.from) leave)),
-                     λ same.
-                        let stays = subst (λ (y : Arc). Takes types s fields y.label a b) leave takes in
-                        (b, subst (λ z. Chain s (Walk types s fields round) a z) stays.0 (stay a stays.1),
-                        subst (λ t. Path types s fields (rounds ∷ rest) t b q c) (ap (λ (y : Arc). y.to) leave)
-                        (back.0 (λ e. apart to n here.1 (sym (ap (λ (y : Arc). y.to) leave) ∙ e)))))
-              ]
+          | inl enter ↦ (
+            λ _. let m = back.1 (ap (λ (y : Arc). y.to) enter) in
+                let stays = subst (λ (y : Arc). Takes types s fields y.label a b) enter takes in
+                go p a rounds m.0 q c (Contains-here rounds rest) (sym (ap (λ (y : Arc). y.from) enter) ∙ at)
+                ((Walk-Star types s fields round a m.0).1 (subst (λ z. Chain s (Walk types s fields round) z m.0) (sym stays.0) m.1)) m.2,
+            λ same. absurd (apart from n here.0 (sym (ap (λ (y : Arc). y.from) enter) ∙ at ∙ same)),
+          )
+          | inr later ↦ elim later [
+            | inl again ↦ (
+              λ elsewhere. absurd (elsewhere (sym at ∙ ap (λ (y : Arc). y.from) again)),
+              λ same. let m = back.1 (ap (λ (y : Arc). y.to) again) in
+                  (m.0, go_round a b m.0 (subst (λ (y : Arc). Takes types s fields y.label a b) again takes) m.1, m.2),
+            )
+            | inr leave ↦ (
+              λ elsewhere. absurd (elsewhere (sym at ∙ ap (λ (y : Arc). y.from) leave)),
+              λ same.
+                  let stays = subst (λ (y : Arc). Takes types s fields y.label a b) leave takes in (
+                    b,
+                    subst (λ z. Chain s (Walk types s fields round) a z) stays.0 (stay a stays.1),
+                    subst (λ t. Path types s fields (rounds ∷ rest) t b q c) (ap (λ (y : Arc). y.to) leave)
+                        (back.0 (λ e. apart to n here.1 (sym (ap (λ (y : Arc). y.to) leave) ∙ e))),
+                  ),
+            )
           ]
+        ]
       ]
 
 -- ---- plans
@@ -192,7 +204,8 @@ module _ (whole : Route) (rest now : List Arc) (n : ℕ) where
   IsPlan-same old plan made = record {
     means = λ types s fields a b. (
       λ w. Path-more types s fields (old ∷ rest) now to ((plan.means types s fields a b).0 w),
-      λ path. (plan.means types s fields a b).1 (Path-more types s fields now (old ∷ rest) back path));
+      λ path. (plan.means types s fields a b).1 (Path-more types s fields now (old ∷ rest) back path),
+    );
     two = plan.two;
     below = λ x held. plan.below x (back x held);
   }
@@ -213,14 +226,15 @@ module _ (whole : Route) (rest now : List Arc) (n : ℕ) where
       λ w. forward types s fields (then_arc from to first second) rest now (others _ made)
           (both-there types s fields from to n first second rest now plan.below made) ((plan.means types s fields a b).0 w),
       λ path. (plan.means types s fields a b).1
-          ((both-back types s fields from to n first second rest now plan.below made path (above n 1 plan.two (omega arith))).0 (above n 0 plan.two (omega arith))));
+          ((both-back types s fields from to n first second rest now plan.below made path (above n 1 plan.two (omega arith))).0 (above n 0 plan.two (omega arith))),
+    );
     two = let two = plan.two in omega arith;
     below = λ x held. elim ((made x).0 held) [
       | inl there ↦ let h = plan.below x (Contains-there (then_arc from to first second) rest x there) in (omega arith, omega arith)
       | inr new ↦ let h = plan.below (then_arc from to first second) (Contains-here (then_arc from to first second) rest) in elim new [
-          | inl one ↦ inside (n + 1) x (arc from (along first) n) one (omega arith, omega arith)
-          | inr two ↦ inside (n + 1) x (arc n (along second) to) two (omega arith, omega arith)
-        ]
+        | inl one ↦ inside (n + 1) x (arc from (along first) n) one (omega arith, omega arith)
+        | inr two ↦ inside (n + 1) x (arc n (along second) to) two (omega arith, omega arith)
+      ]
     ];
   }
 
@@ -230,14 +244,15 @@ module _ (whole : Route) (rest now : List Arc) (n : ℕ) where
     means = λ types s fields a b. (
       λ w. forward types s fields (or_arc from to one other) rest now (others _ made)
           (either-there types s fields from to one other rest now made) ((plan.means types s fields a b).0 w),
-      λ path. (plan.means types s fields a b).1 (either-back types s fields from to one other rest now made path));
+      λ path. (plan.means types s fields a b).1 (either-back types s fields from to one other rest now made path),
+    );
     two = plan.two;
     below = λ x held. elim ((made x).0 held) [
       | inl there ↦ plan.below x (Contains-there (or_arc from to one other) rest x there)
       | inr new ↦ let h = plan.below (or_arc from to one other) (Contains-here (or_arc from to one other) rest) in elim new [
-          | inl first ↦ inside n x (arc from (along one) to) first h
-          | inr second ↦ inside n x (arc from (along other) to) second h
-        ]
+        | inl first ↦ inside n x (arc from (along one) to) first h
+        | inr second ↦ inside n x (arc from (along other) to) second h
+      ]
     ];
   }
 
@@ -248,17 +263,18 @@ module _ (whole : Route) (rest now : List Arc) (n : ℕ) where
       λ w. forward types s fields (star_arc from to round) rest now (others _ made)
           (rounds-there types s fields from to n round rest now plan.below made) ((plan.means types s fields a b).0 w),
       λ path. (plan.means types s fields a b).1
-          ((rounds-back types s fields from to n round rest now plan.below made path (above n 1 plan.two (omega arith))).0 (above n 0 plan.two (omega arith))));
+          ((rounds-back types s fields from to n round rest now plan.below made path (above n 1 plan.two (omega arith))).0 (above n 0 plan.two (omega arith))),
+    );
     two = let two = plan.two in omega arith;
     below = λ x held. elim ((made x).0 held) [
       | inl there ↦ let h = plan.below x (Contains-there (star_arc from to round) rest x there) in (omega arith, omega arith)
       | inr new ↦ let h = plan.below (star_arc from to round) (Contains-here (star_arc from to round) rest) in elim new [
-          | inl enter ↦ inside (n + 1) x (arc from live n) enter (omega arith, omega arith)
-          | inr later ↦ elim later [
-              | inl again ↦ inside (n + 1) x (arc n (along round) n) again (omega arith, omega arith)
-              | inr leave ↦ inside (n + 1) x (arc n live to) leave (omega arith, omega arith)
-            ]
+        | inl enter ↦ inside (n + 1) x (arc from live n) enter (omega arith, omega arith)
+        | inr later ↦ elim later [
+          | inl again ↦ inside (n + 1) x (arc n (along round) n) again (omega arith, omega arith)
+          | inr leave ↦ inside (n + 1) x (arc n live to) leave (omega arith, omega arith)
         ]
+      ]
     ];
   }
 
@@ -267,7 +283,8 @@ pub IsPlan-whole : (whole : Route) → IsPlan whole (arc 0 (along whole) 1 ∷ [
 IsPlan-whole whole = record {
   means = λ types s fields a b. (
     λ w. go 0 a (arc 0 (along whole) 1) b 1 b (Contains-here (arc 0 (along whole) 1) []) refl w (stop 1 b),
-    λ path. walked types s fields path refl refl);
+    λ path. walked types s fields path refl refl,
+  );
   two = omega arith;
   below = λ x held. inside 2 x (arc 0 (along whole) 1) (Contains-one (arc 0 (along whole) 1) x held) (omega arith, omega arith);
 }
@@ -336,7 +353,8 @@ pub IsPlan-alike : (whole : Route) (one other : List Arc) (n : ℕ) → ((x : Ar
 IsPlan-alike whole one other n alike plan = record {
   means = λ types s fields a b. (
     λ w. Path-more types s fields one other (λ x. (alike x).0) ((plan.means types s fields a b).0 w),
-    λ path. (plan.means types s fields a b).1 (Path-more types s fields other one (λ x. (alike x).1) path));
+    λ path. (plan.means types s fields a b).1 (Path-more types s fields other one (λ x. (alike x).1) path),
+  );
   two = plan.two;
   below = λ x held. plan.below x ((alike x).1 held);
 }
@@ -355,7 +373,8 @@ IsPlan-popped whole edges parts rest part n is plan = IsPlan-alike whole _ _ n a
       λ h. elim (Contains-cases (part_of part) (map arc_of edges ++ map part_of rest) x h) [
         | inl same ↦ (part-added edges rest parts part is x).1 (inr same)
         | inr there ↦ (part-added edges rest parts part is x).1 (inl there)
-      ])
+      ],
+    )
 
 -- no part is left, and the edges are put in order
 pub Means-sorted : (whole : Route) (edges sorted : List Edge) (parts : List Part) (n : ℕ) → parts ≡ [] → IsPermutation edges sorted →
@@ -373,16 +392,18 @@ Means-sorted whole edges sorted parts n none order plan = (IsPlan-alike whole _ 
         | inl front ↦ moved edges sorted order x front
         | inr back ↦ absurd (Contains-none x (subst (λ l. Contains (map part_of l) x) none back))
       ],
-      λ h. Contains-append_left (map arc_of edges) (map part_of parts) x (moved sorted edges (IsPermutation-sym edges sorted order) x h))
+      λ h. Contains-append_left (map arc_of edges) (map part_of parts) x (moved sorted edges (IsPermutation-sym edges sorted order) x h),
+    )
 
 -- the ways from one place, by the edges from it
 pub HasAll-edges : (edges part : List Edge) (p : ℕ) → HasAll part (λ e. Contains edges e × (e.from ≡ p)) →
     HasAll (map arc_of part) (λ x. Contains (map arc_of edges) x × (x.from ≡ p))
 HasAll-edges edges part p all x = (
   λ h.
-    let m = map-Contains arc_of part x h in
-    let k = (all m.0).0 m.1 in
-    (subst (λ y. Contains (map arc_of edges) y) m.2 (Contains-map arc_of edges m.0 k.0), sym (ap (λ (y : Arc). y.from) m.2) ∙ k.1),
+      let m = map-Contains arc_of part x h in
+      let k = (all m.0).0 m.1 in
+      (subst (λ y. Contains (map arc_of edges) y) m.2 (Contains-map arc_of edges m.0 k.0), sym (ap (λ (y : Arc). y.from) m.2) ∙ k.1),
   λ h.
-    let m = map-Contains arc_of edges x h.0 in
-    subst (λ y. Contains (map arc_of part) y) m.2 (Contains-map arc_of part m.0 ((all m.0).1 (m.1, ap (λ (y : Arc). y.from) m.2 ∙ h.1))))
+      let m = map-Contains arc_of edges x h.0 in
+      subst (λ y. Contains (map arc_of part) y) m.2 (Contains-map arc_of part m.0 ((all m.0).1 (m.1, ap (λ (y : Arc). y.from) m.2 ∙ h.1))),
+)

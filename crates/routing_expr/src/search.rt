@@ -1,6 +1,6 @@
 //! Searches for the ends of walks.
 
-ghost use Rattle.std.specs.Prelude.{◌≡◌, ◌≤◌, ◌⊎◌, IsTrue, IfOk, OnOk, map, Contains, ◌↔◌};
+ghost use Rattle.std.specs.Prelude.{◌≡◌, ◌≤◌, ◌-◌, length, slice_get, ◌⊎◌, IsTrue, IfOk, OnOk, map, Contains, ◌↔◌};
 ghost use Rattle.std.specs.List.{AllByRecursion};
 ghost use Rattle.store_core.specs.declared.ids.CellId.{CellId};
 ghost use Rattle.store_core.specs.CellLists.{AreRising};
@@ -9,7 +9,7 @@ ghost use Rattle.routing_expr.specs.Destinations.{EndsWalk};
 ghost use Rattle.routing_expr.specs.Gathering.{HasAll, Grows};
 ghost use Rattle.routing_expr.specs.Searches.{Lists, IsIndexed, IsWanted, fields_in};
 ghost use Rattle.routing_expr.specs.Machines.{label_of, arc_of, Takes, Path};
-ghost use Rattle.routing_expr.specs.Spots.{Follows};
+ghost use Rattle.routing_expr.specs.Spots.{Follows, IsAtEnd};
 
 use crate::followed::Followed;
 use crate::links::Links;
@@ -70,7 +70,7 @@ impl<'a> Search<'a> {
         ensures { OnOk result (Grows spots.old.keys spots.new.keys (λ spot. (spot.place ≡ edge.now.to) × Takes self.now.types.now self.now.store.now (fields_in self.now.followed) (label_of edge.now.step) from spot.cell)) }
     {
         let cells = self.next(edge.step, from)?;
-        for cell in cells.as_slice() {
+        for cell in &cells {
             spots.insert(Spot {
                 place: edge.to,
                 cell: *cell,
@@ -123,8 +123,14 @@ impl<'a> Search<'a> {
     {
         match target {
             None => true,
-            Some(ty) => self.store.type_of(cell) == Some(ty),
+            Some(ty) => self.is_of_type(ty, cell),
         }
+    }
+
+    fn is_at_end(&self, spot: Spot, target: Option<TypeId>) -> bool
+        ensures { IsTrue result ↔ IsAtEnd self.now.store.now target spot }
+    {
+        spot.place == END && self.is_wanted(spot.cell, target)
     }
 
     /// The cells at the end of the machine that are wanted, by number.
@@ -133,7 +139,7 @@ impl<'a> Search<'a> {
     {
         let mut cells = Vec::new(self.alloc);
         for spot in spots.as_slice() {
-            if spot.place == END && self.is_wanted(spot.cell, target) {
+            if self.is_at_end(*spot, target) {
                 cells.push(spot.cell)?;
             }
         }
@@ -167,26 +173,34 @@ impl<'a> Search<'a> {
     }
 }
 
-/// Adds a cell whose number is that of no cell before it, or the last one's.
+fn last_of(list: &CellList) -> Option<CellId>
+    ensures { result ≡ slice_get list.now (length list.now - 1) }
+{
+    list.as_slice().last().copied()
+}
+
+/// Adds a cell whose number is no less than that of any before it, unless it is the last one.
 fn push_once(list: &mut CellList, cell: CellId) -> Result<(), AllocError>
     requires rising { AreRising list.old }
     requires last { AllByRecursion (λ d. d.0 ≤ cell.0) list.old }
     ensures { OnOk result (Lists (λ d. Contains list.old d ⊎ (d ≡ cell)) list.new) }
 {
-    match list.as_slice().last() {
-        Some(last) if last.0 == cell.0 => Ok(()),
-        _ => list.push(cell),
+    let Some(last) = last_of(list) else {
+        return list.push(cell);
+    };
+    if last.0 == cell.0 {
+        return Ok(());
     }
+    list.push(cell)
 }
 
 /// The cells, each once, by number.
-fn list_of(alloc: Global, cells: Vec<CellId>) -> Result<CellList, AllocError>
+fn list_of(alloc: Global, mut cells: Vec<CellId>) -> Result<CellList, AllocError>
     ensures { IfOk result (Lists (Contains cells.items)) }
 {
-    let mut cells = cells;
     cells.sort_by_key(|cell| cell.0)?;
     let mut list = CellList::new(alloc);
-    for cell in cells.as_slice() {
+    for cell in &cells {
         push_once(&mut list, *cell)?;
     }
     Ok(list)

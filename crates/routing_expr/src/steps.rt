@@ -2,8 +2,9 @@
 
 ghost use Rattle.std.specs.Prelude.{◌≡◌, ◌↔◌, Some, IfOk, IsTrue, IsSomeAnd};
 ghost use Rattle.store_core.specs.declared.ids.CellId.{CellId};
+ghost use Rattle.store_core.specs.declared.ids.FieldId.{FieldId};
 ghost use Rattle.store_core.specs.Tables.{field_at};
-ghost use Rattle.routing_expr.specs.Walks.{DataAlone, LeadsByName, IsParent, IsFollowed, IsRoot, IsLeaf, HasTruth};
+ghost use Rattle.routing_expr.specs.Walks.{DataAlone, IsNamed, LeadsByName, IsParent, IsFollowed, IsRoot, IsLeaf, IsOfType, IsOfVariant, HasTruth};
 ghost use Rattle.routing_expr.specs.Gathering.{HasAll};
 ghost use Rattle.routing_expr.specs.Searches.{fields_in, IsIndexed};
 ghost use Rattle.routing_expr.specs.Machines.{label_of, label_of_test, Takes};
@@ -13,7 +14,26 @@ use crate::indexing::child_at;
 use crate::machine::{Step, Test};
 use crate::search::Search;
 use std::alloc::AllocError;
-use store_core::{CellId, FieldId, FieldKind, Value};
+use store_core::{CellId, FieldId, FieldKind, TypeId, TypeTable, Value, VariantId};
+
+/// The field of this name that a type has, of which there is one at most.
+fn field_named(types: &TypeTable, ty: TypeId, name: &[u8]) -> Option<FieldId>
+    ensures { (f : FieldId) → (result ≡ Some f) ↔ ((f.ty ≡ ty) × IsNamed types.now f name.now) }
+{
+    if ty.0 >= types.types() {
+        return None;
+    }
+    types.find_field(ty, name)
+}
+
+fn is_named(types: &TypeTable, field: FieldId, name: &[u8]) -> bool
+    ensures { IsTrue result ↔ IsNamed types.now field name.now }
+{
+    match field_named(types, field.ty, name) {
+        Some(found) => found == field,
+        None => false,
+    }
+}
 
 impl Search<'_> {
     /// The cell to which the field of this name leads.
@@ -21,7 +41,7 @@ impl Search<'_> {
         ensures { (d : CellId) → (result ≡ Some d) ↔ LeadsByName self.now.types.now self.now.store.now (fields_in self.now.followed) name.now from d }
     {
         let ty = self.store.type_of(from)?;
-        let field = self.types.find_field(ty, name)?;
+        let field = field_named(self.types, ty, name)?;
         child_at(self.types, self.store, self.followed, from, field)
     }
 
@@ -38,7 +58,7 @@ impl Search<'_> {
     {
         let mut parents = Vec::new(self.alloc);
         for link in self.links.to(from) {
-            if self.types.find_field(link.field.ty, name) == Some(link.field) {
+            if is_named(self.types, link.field, name) {
                 parents.push(link.parent)?;
             }
         }
@@ -95,12 +115,30 @@ impl Search<'_> {
         let Some(ty) = self.store.type_of(cell) else {
             return false;
         };
-        let Some(field) = self.types.find_field(ty, name) else {
+        let Some(field) = field_named(self.types, ty, name) else {
             return false;
         };
         match self.store.field(cell, field) {
             Some(Value::Bool(held)) => *held == truth,
             _ => false,
+        }
+    }
+
+    pub(crate) fn is_of_type(&self, ty: TypeId, cell: CellId) -> bool
+        ensures { IsTrue result ↔ IsOfType self.now.store.now ty cell }
+    {
+        match self.store.type_of(cell) {
+            Some(found) => found == ty,
+            None => false,
+        }
+    }
+
+    fn is_of_variant(&self, v: VariantId, cell: CellId) -> bool
+        ensures { IsTrue result ↔ IsOfVariant self.now.store.now v cell }
+    {
+        match self.store.variant_of(cell) {
+            Some(found) => found == v,
+            None => false,
         }
     }
 
@@ -112,10 +150,21 @@ impl Search<'_> {
             Test::Live => self.store.type_of(cell).is_some(),
             Test::Root => self.is_root(cell),
             Test::Leaf => self.is_leaf(cell),
-            Test::IsType(ty) => self.store.type_of(cell) == Some(ty),
-            Test::IsVariant(v) => self.store.variant_of(cell) == Some(v),
+            Test::IsType(ty) => self.is_of_type(ty, cell),
+            Test::IsVariant(v) => self.is_of_variant(v, cell),
             Test::IsBool(name, truth) => self.has_truth(name, truth, cell),
         }
+    }
+
+    /// The cell, where there is one.
+    fn just(&self, cell: Option<CellId>) -> Result<Vec<CellId>, AllocError>
+        ensures { IfOk result (λ cells. HasAll cells.items (λ d. cell ≡ Some d)) }
+    {
+        let mut cells = Vec::new(self.alloc);
+        if let Some(cell) = cell {
+            cells.push(cell)?;
+        }
+        Ok(cells)
     }
 
     /// The cells to which a step leads.
@@ -123,21 +172,12 @@ impl Search<'_> {
         requires { IsIndexed self.now }
         ensures { IfOk result (λ cells. HasAll cells.items (Takes self.now.types.now self.now.store.now (fields_in self.now.followed) (label_of step.entry) from)) }
     {
-        let mut cells = Vec::new(self.alloc);
         match step {
-            Step::Up(name) => return self.parents(name, from),
-            Step::UpAny => return self.all_parents(from),
-            Step::Down(name) => {
-                if let Some(child) = self.child(name, from) {
-                    cells.push(child)?;
-                }
-            }
-            Step::Stay(test) => {
-                if self.passes(test, from) {
-                    cells.push(from)?;
-                }
-            }
+            Step::Down(name) => self.just(self.child(name, from)),
+            Step::Up(name) => self.parents(name, from),
+            Step::UpAny => self.all_parents(from),
+            Step::Stay(test) if self.passes(test, from) => self.just(Some(from)),
+            Step::Stay(_) => self.just(None),
         }
-        Ok(cells)
     }
 }

@@ -1,5 +1,5 @@
 -- A store that was read fits its tables. The mentions that are no fault at the end are those of each value that was said.
-use Rattle.std.proofs.Common.{◌≡◌, ℕ, zero, suc, ◌+◌, ◌<◌, ◌≤◌, ◌==◌, ◌&&◌, Bool, true, false, cond, not, nat_lt, List, [], ◌∷◌, ◌++◌, length, map, slice_set, Option, Some, None, Result, Ok, Err, IfSome, inl, inr, ◌⊎◌, refl, sym, ◌∙◌, subst, arith, slice_get, position, codes}
+use Rattle.std.proofs.Common.{◌≡◌, ℕ, zero, suc, ◌+◌, ◌<◌, ◌≤◌, ◌==◌, ◌&&◌, Bool, true, false, cond, not, nat_lt, List, [], ◌∷◌, ◌++◌, length, map, slice_set, Option, Some, None, Result, Ok, Err, IfSome, inl, inr, ◌⊎◌, refl, sym, ap, ◌∙◌, subst, arith, slice_get, position, codes}
 use Rattle.std.specs.Option.{option_map, option_map_or}
 use Rattle.std.specs.List.{AllByRecursion, find}
 use Rattle.std.specs.Ordering.{nat_cmp, eq_by_cmp, match_ordering}
@@ -35,8 +35,8 @@ use Rattle.store_core.specs.CellLists.{AreRising}
 use Rattle.store_core.specs.Stores.{StoreMap, CellEntry, CellFits, Fits, FieldFits, VarFits, VarsFit, SlotsFit, NamesType, cell_of}
 use Rattle.store_core.specs.Spelling.{line_of, all_of}
 use Rattle.store_core.specs.Lines.{lines_of}
-use Rattle.store_core.specs.Saying.{unless_said, Said, nothing_said, say_var, say_field, say_fields, say_cell, cell_said, field_had, variant_named, named_in, value_for, set_of, members_after, cells_numbered, mentions_of, field_holds, var_holds}
-use Rattle.store_core.specs.Reading.{reading, read_text, read_lines, read_end, say_line, checked, store_said, next_after, is_misnamed}
+use Rattle.store_core.specs.Saying.{is_said, Said, nothing_said, say_var, say_field, say_fields, say_cell, cell_said, field_had, variant_named, named_in, value_for, set_of, members_after, cells_numbered, mentions_of, field_holds, var_holds}
+use Rattle.store_core.specs.Reading.{reading, read_text, read_lines, read_end, after_end, say_line, checked, store_said, next_after, is_misnamed}
 use Rattle.std.specs.Str.{bytes_eq}
 use Rattle.store_core.proofs.Names.{position-cons}
 use Rattle.store_core.proofs.Growing.{AllByRecursion-weaker}
@@ -55,12 +55,6 @@ result_cases (Ok x) = inr (x, refl)
 pub bool_cases : (b : Bool) → (b ≡ false) ⊎ (b ≡ true)
 bool_cases false = inl refl
 bool_cases true = inr refl
-
--- where something was said before there is a fault, and else what follows
-unless_cases : {A : Type 0} (o : Option (Option Value)) (r : Result A StoreKind) → (unless_said o r ≡ Err Repeated) ⊎ (unless_said o r ≡ r)
-unless_cases (Some (Some x)) r = inl refl
-unless_cases (Some None) r = inr refl
-unless_cases None r = inr refl
 
 All-left : {X : Type 0} (P : X → Type 0) (xs ys : List X) → AllByRecursion P (xs ++ ys) → AllByRecursion P xs
 All-left P [] ys all = tt
@@ -240,9 +234,9 @@ var_said vars n said given more e = elim (cases (var_named vars given.name)) [
   | inl none ↦ absurd (let e1 = rw none at e in cc)
   | inr v ↦ let e1 = rw v.1 at e in elim (cases (var_at vars v.0)) [
     | inl none ↦ absurd (let e2 = rw none at e1 in cc)
-    | inr entry ↦ let e2 = rw entry.1 at e1 in elim (unless_cases (slice_get said.vars v.0.0) (value_for (var_holds entry.0.kind) given.value)) [
-      | inl again ↦ absurd (let e3 = rw again at e2 in cc)
-      | inr new ↦ let e3 = rw new at e2 in elim (result_cases (value_for (var_holds entry.0.kind) given.value)) [
+    | inr entry ↦ let e2 = rw entry.1 at e1 in elim (bool_cases (is_said (slice_get said.vars v.0.0))) [
+      | inr again ↦ absurd (let e3 = rw again at e2 in cc)
+      | inl new ↦ let e3 = rw new at e2 in elim (result_cases (value_for (var_holds entry.0.kind) given.value)) [
         | inl fault ↦ absurd (let e4 = rw fault.1 at e3 in cc)
         | inr x ↦ let e4 = rw x.1 at e3 in record { v = v.0; entry = entry.0; x = x.0; at = entry.1; value = x.1; is = cc }
       ]
@@ -317,9 +311,9 @@ slots_step types v values given more e all = elim (result_cases (field_had types
   | inl fault ↦ absurd (let e1 = rw fault.1 at e in cc)
   | inr f ↦ let e1 = rw f.1 at e in elim (cases (field_at types f.0)) [
     | inl none ↦ absurd (let e2 = rw none at e1 in cc)
-    | inr entry ↦ let e2 = rw entry.1 at e1 in elim (unless_cases (slice_get values f.0.index) (value_for (field_holds entry.0.kind) given.value)) [
-      | inl again ↦ absurd (let e3 = rw again at e2 in cc)
-      | inr new ↦ let e3 = rw new at e2 in elim (result_cases (value_for (field_holds entry.0.kind) given.value)) [
+    | inr entry ↦ let e2 = rw entry.1 at e1 in elim (bool_cases (is_said (slice_get values f.0.index))) [
+      | inr again ↦ absurd (let e3 = rw again at e2 in cc)
+      | inl new ↦ let e3 = rw new at e2 in elim (result_cases (value_for (field_holds entry.0.kind) given.value)) [
         | inl fault ↦ absurd (let e4 = rw fault.1 at e3 in cc)
         | inr x ↦ let e4 = rw x.1 at e3 in
             let same : slice_set values f.0.index (Some x.0) ≡ more = cc in
@@ -346,7 +340,10 @@ slots_fit s n index [] [] named all e fine = tt
 slots_fit s n index [] (x ∷ xs) named all e fine = absurd all
 slots_fit s n index (f ∷ fs) [] named all e fine = absurd all
 slots_fit s n index (f ∷ fs) (None ∷ xs) named all e fine = elim (bool_cases (is_had index f)) [
-  | inl lacks ↦ (lacks, slots_fit s n index fs xs named all (rw lacks at e) fine)
+  | inl lacks ↦ let e1 = rw lacks at e in elim (cases (named_in n index fs xs)) [
+    | inl none ↦ absurd (let e2 = rw none at e1 in cc)
+    | inr more ↦ let e2 = rw more.1 at e1 in let same : more.0 ≡ named = cc in (lacks, slots_fit s n index fs xs named all (more.1 ∙ ap Some same) fine)
+  ]
   | inr holds ↦ absurd (let e1 = rw holds at e in cc)
 ]
 slots_fit s n index (f ∷ fs) (Some x ∷ xs) named all e fine = elim (cases (named_in n index fs xs)) [
@@ -359,28 +356,24 @@ slots_fit s n index (f ∷ fs) (Some x ∷ xs) named all e fine = elim (cases (n
       )
 ]
 
--- the variant is one of the type
-record IsVariantOf (types : List TypeEntry) (ty : TypeId) (v : VariantId) : Type 0 where
-  of : v.ty ≡ ty
-  known : KnowsVariant types v
-
-variant_is : (types : List TypeEntry) (ty : TypeId) (name : Option (List ℕ)) (v : VariantId) → variant_named types ty name ≡ Ok v → IsVariantOf types ty v
-variant_is types ty None v e = elim (cases (type_at types ty)) [
+-- the variant that is named is there
+variant_known : (types : List TypeEntry) (ty : TypeId) (name : Option (List ℕ)) (v : VariantId) → variant_named types ty name ≡ Ok v → KnowsVariant types v
+variant_known types ty None v e = elim (cases (type_at types ty)) [
   | inl none ↦ absurd (let e1 = rw none at e in cc)
   | inr t ↦ let e1 = rw t.1 at e in elim (bool_cases (length t.0.variants == 0)) [
     | inl lacks ↦ absurd (let e2 = rw lacks at e1 in cc)
     | inr holds ↦ let e2 = rw holds at e1 in
         let same : record { ty = ty; index = 0 } ≡ v = cc in
         let count : variant_count types ty ≡ 1 = rw t.1 (rw holds refl) in
-        subst (IsVariantOf types ty) same (record { of = refl; known = omega (arith, count) })
+        subst (KnowsVariant types) same (omega (arith, count))
   ]
 ]
-variant_is types ty (Some name) v e = elim (cases (place_of name (variants_of types ty))) [
+variant_known types ty (Some name) v e = elim (cases (place_of name (variants_of types ty))) [
   | inl none ↦ absurd (let e1 = rw none at e in cc)
   | inr place ↦ let e1 = rw place.1 at e in
       let same : record { ty = ty; index = place.0 } ≡ v = cc in
       let within = position_within _ (variants_of types ty) place.0 place.1 in
-      subst (IsVariantOf types ty) same (record { of = refl; known = counted (type_at types ty) place.0 within })
+      subst (KnowsVariant types) same (counted (type_at types ty) place.0 within)
 ]
   where
     counted : (o : Option TypeEntry) (i : ℕ) → i < length (option_map_or (λ t. t.variants) o []) → i < option_map_or (λ t. cond (length t.variants == 0) 1 (length t.variants)) o 0
@@ -393,19 +386,16 @@ cell_fits types s n cell new e = elim (cases (type_named types cell.ty)) [
   | inl none ↦ absurd (let e1 = rw none at e in cc)
   | inr ty ↦ let e1 = rw ty.1 at e in elim (result_cases (variant_named types ty.0 cell.variant)) [
     | inl fault ↦ absurd (let e2 = rw fault.1 at e1 in cc)
-    | inr v ↦ let e2 = rw v.1 at e1 in elim (result_cases (say_fields types v.0 (map (λ f. None) (fields_of types ty.0)) cell.fields)) [
+    | inr v ↦ let e2 = rw v.1 at e1 in elim (result_cases (say_fields types v.0 (map (λ f. None) (fields_of types v.0.ty)) cell.fields)) [
       | inl fault ↦ absurd (let e3 = rw fault.1 at e2 in cc)
-      | inr values ↦ let e3 = rw values.1 at e2 in elim (cases (named_in n v.0.index (fields_of types ty.0) values.0)) [
+      | inr values ↦ let e3 = rw values.1 at e2 in elim (cases (named_in n v.0.index (fields_of types v.0.ty) values.0)) [
         | inl none ↦ absurd (let e4 = rw none at e3 in cc)
         | inr named ↦ let e4 = rw named.1 at e3 in
             let entry : CellEntry = record { variant = v.0; values = values.0 } in
             let same : (entry, named.0) ≡ new = cc in
-            let is = variant_is types ty.0 cell.variant v.0 v.1 in
-            let given = subst (λ (t : TypeId). say_fields types v.0 (map (λ f. None) (fields_of types t)) cell.fields ≡ Ok values.0) (sym is.of) values.1 in
-            let all = slots_all types v.0 (map (λ f. None) (fields_of types v.0.ty)) cell.fields values.0 given (SlotsSaid-none v.0.index (fields_of types v.0.ty)) in
-            let lacks = subst (λ (t : TypeId). named_in n v.0.index (fields_of types t) values.0 ≡ Some named.0) (sym is.of) named.1 in
+            let all = slots_all types v.0 (map (λ f. None) (fields_of types v.0.ty)) cell.fields values.0 values.1 (SlotsSaid-none v.0.index (fields_of types v.0.ty)) in
             subst (λ (p : CellEntry × List Mention). AllByRecursion (Fine s) p.1 → CellFits types s p.0) same
-            (λ fine. record { variant = is.known; values = slots_fit s n v.0.index (fields_of types v.0.ty) values.0 named.0 all lacks fine })
+            (λ fine. record { variant = variant_known types ty.0 cell.variant v.0 v.1; values = slots_fit s n v.0.index (fields_of types v.0.ty) values.0 named.0 all named.1 fine })
       ]
     ]
   ]
@@ -470,7 +460,7 @@ all_fine s (m ∷ mentions) none = elim (bool_cases (is_misnamed s m)) [
 ]
 
 end_fits : (types : List TypeEntry) (vars : List VarEntry) (s : StoreMap) (n : ℕ) (said : Said) (after : List (List ℕ)) → read_end n said after ≡ Ok s → (AllByRecursion (Fine s) said.mentions → SaidFits types vars s said) → Fits types vars s
-unfolding read_end checked
+unfolding read_end after_end checked
 end_fits types vars s n said (line ∷ lines) e before = elim (cases (all_of (λ x. x) said.vars)) [
   | inl none ↦ absurd (let e1 = rw none at e in cc)
   | inr values ↦ absurd (let e1 = rw values.1 at e in cc)

@@ -20,7 +20,7 @@ use Rattle.store_core.specs.StoreText.{store_text_of, variant_text, var_lines, c
 use Rattle.store_core.specs.Lines.{lines_of}
 use Rattle.store_core.specs.Spelling.{is_name, all_of, line_of}
 use Rattle.store_core.specs.Saying.{Said, nothing_said, say_var, say_cell, mentions_of, var_holds}
-use Rattle.store_core.specs.Reading.{reading, read_text, read_lines, read_end, say_line, checked, store_said, is_misnamed, next_after}
+use Rattle.store_core.specs.Reading.{reading, read_text, read_lines, read_end, after_end, say_line, checked, store_said, is_misnamed, next_after}
 use Rattle.store_core.specs.Writable.{AreNames, HasNames, HaveNames, IsWritable, IsTellableCell, NamesTellable}
 use Rattle.store_core.proofs.Names.{place_of-at}
 use Rattle.store_core.proofs.Bodies.{AllByRecursion-at}
@@ -253,7 +253,7 @@ none_misnamed s (m ∷ ms) fine = ap (λ t. cond t (Some m) (find (is_misnamed s
 
 end_read : (types : List TypeEntry) (vars : List VarEntry) (s : StoreMap) (n : ℕ) (said : Said) → entries said.cells ≡ entries s.cells → said.vars ≡ map Some s.vars → s.next ≡ next_after (keys s.cells) → AllByRecursion (Fine s) said.mentions
     → read_lines types vars n said (codes "end" ∷ []) ≡ Ok s
-unfolding read_lines read_end checked
+unfolding read_lines read_end after_end checked
 end_read types vars s n said cells values next fine =
     let same : said.cells ≡ s.cells = same_entries_map said.cells s.cells cells in
     let store : store_said said s.vars ≡ s = (λ i. record { cells = same i; vars = s.vars; next = next_after (keys (same i)) }) ∙ ap (λ m. record { cells = s.cells; vars = s.vars; next = m }) (sym next) in

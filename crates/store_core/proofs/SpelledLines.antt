@@ -9,7 +9,7 @@ use Rattle.store_core.specs.declared.read.spelled.Given.{Given}
 use Rattle.store_core.specs.declared.read.spelled.Line.TheVariants as line
 use Rattle.store_core.specs.Tables.{FieldEntry, field_names}
 use Rattle.store_core.specs.StoreText.{value_text, slots_text}
-use Rattle.store_core.specs.Spelling.{◌>>=◌, is_name, all_of, name_of, given_of, field_of, variant_of, type_of, line_in, line_of, var_line, cell_line}
+use Rattle.store_core.specs.Spelling.{◌>>=◌, is_name, all_of, name_of, given_of, field_of, variant_of, type_of, line_in, line_of, var_line, cell_line, cell_in}
 use Rattle.store_core.specs.Writable.{AreNames, IsTellable, NamesTellable}
 use Rattle.store_core.proofs.Words.{IsWord, IsWord-parts, IsWord-append, IsWord-equals, IsWord-colon, HasNoLine, HasNoLine-words, AreParts, plain_part, spaced, parts_words, cut_front, cut_none}
 use Rattle.store_core.proofs.Spelled.{name_parts, number_read, spelled_of, value_read, IsWord-value, IsWord-cell}
@@ -140,12 +140,11 @@ cell_words number ty fields slots =
 
 module _ (number : ℕ) (name : List ℕ) (variant : Option (List ℕ)) (fields : List FieldEntry) (slots : List (Option Value)) (tellable : IsTellable (record { 0 = number })) (is : is_name name ≡ true)
     (of : IfSome variant (λ v. is_name v ≡ true)) (names : AreNames (field_names fields)) (all : AreTellable slots) where
-
   words : AllByRecursion IsWord (decimal number ∷ type_word name variant ∷ field_words fields slots)
   words = (IsWord-cell (record { 0 = number }) tellable, (IsWord-type name variant is of, AreWords-fields fields slots names all))
 
   pub cell_read : line_of (cell_told number (type_word name variant) fields slots) ≡ Some (line.Cell (record { number = number; ty = name; variant = variant; fields = givens fields slots }))
-  unfolding line_of line_in cell_line
+  unfolding line_of line_in cell_line cell_in
   cell_read =
       ap line_of (cell_words number (type_word name variant) fields slots)
       ∙ ap line_in (parts_words (codes "cell") (decimal number ∷ type_word name variant ∷ field_words fields slots) IsWord-celled words)

@@ -123,7 +123,7 @@ names_fine : (s : StoreMap) (n index : ℕ) (fields : List FieldEntry) (slots : 
 names_fine s n index [] [] fits = record { named = []; is = refl; fine = tt }
 names_fine s n index [] (x ∷ slots) fits = absurd fits
 names_fine s n index (f ∷ fields) [] fits = absurd fits
-names_fine s n index (f ∷ fields) (None ∷ slots) fits = let rest = names_fine s n index fields slots fits.1 in record { named = rest.named; is = rw fits.0 rest.is; fine = rest.fine }
+names_fine s n index (f ∷ fields) (None ∷ slots) fits = let rest = names_fine s n index fields slots fits.1 in record { named = rest.named; is = rw fits.0 (ap (option_map (λ more. [] ++ more)) rest.is); fine = rest.fine }
 names_fine s n index (f ∷ fields) (Some x ∷ slots) fits =
     let rest = names_fine s n index fields slots fits.1 in
     record {

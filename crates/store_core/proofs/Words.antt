@@ -125,7 +125,6 @@ IsWord-braces inside is = record { line = (refl, HasNoLine-append inside (125 �
 abbrev pub spaced : List (List ℕ) → List ℕ
 spaced words = flat_map (λ w. 32 ∷ w) words
 
-
 -- a line of words falls into its words
 pub parts_words : (w : List ℕ) (words : List (List ℕ)) → IsWord w → AllByRecursion IsWord words → parts_from false (w ++ spaced words) ≡ w ∷ words
 parts_words w [] is all = is.passes [] ∙ onto_all-cons w [] [] ∙ ap (λ u. u ∷ []) (append-nil w)

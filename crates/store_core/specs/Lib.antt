@@ -11,4 +11,5 @@ pub mod Lines
 pub mod Spelling
 pub mod Saying
 pub mod Reading
+pub mod DraftBodies
 pub mod Writable

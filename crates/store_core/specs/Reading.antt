@@ -41,14 +41,15 @@ checked store mentions = option_map_or (λ m. Err (record { line = m.line; kind 
 abbrev pub fault_at : ℕ → StoreKind → Result StoreMap StoreFault
 fault_at n kind = Err (record { line = n; kind = kind })
 
--- with the line `end` every variable has a value, nothing follows, and the cells named are of their types
+-- after the line `end` nothing follows, and the cells named are of their types
+unfoldable pub after_end : ℕ → StoreMap → List Mention → List (List ℕ) → Result StoreMap StoreFault
+after_end n store mentions [] = checked store mentions
+after_end n store mentions (line ∷ lines) = fault_at (n + 1) kind.Syntax
+
+-- at the line `end` every variable has a value
 unfoldable pub read_end : ℕ → Said → List (List ℕ) → Result StoreMap StoreFault
 read_end n said after =
-    option_map_or (λ values. end_with (store_said said values) after) (all_of (λ x. x) said.vars) (fault_at n kind.Missing)
-  where
-    end_with : StoreMap → List (List ℕ) → Result StoreMap StoreFault
-    end_with store [] = checked store said.mentions
-    end_with store (line ∷ lines) = fault_at (n + 1) kind.Syntax
+    option_map_or (λ values. after_end n (store_said said values) said.mentions after) (all_of (λ x. x) said.vars) (fault_at n kind.Missing)
 
 -- what a line `var` or `cell` adds to what was said
 unfoldable pub say_line : List TypeEntry → List VarEntry → ℕ → Said → Option Line → Result Said StoreKind

@@ -1,5 +1,6 @@
 -- What the lines of a store text add to what those before them have said.
-use Rattle.std.specs.Prelude.{◌≡◌, ◌≢◌, ℕ, ◌==◌, List, [], ◌∷◌, ◌++◌, map, slice_get, slice_set, Option, Some, None, option_map, Result, Ok, Err, if◌then◌else◌}
+use Rattle.std.specs.Prelude.{◌≡◌, ◌≢◌, ℕ, ◌==◌, List, [], ◌∷◌, ◌++◌, map, slice_get, slice_set, Option, Some, None, option_map, Result, Ok, Err, if◌then◌else◌, Bool, true, false}
+use Rattle.std.specs.Option.{option_and_then}
 use Rattle.std.specs.List.{list_any}
 use Rattle.std.specs.Ordering.{nat_cmp}
 use Rattle.std.specs.FinMap.{FinMap, insert, contains_key, empty}
@@ -98,18 +99,17 @@ mentions_of line _ _ = []
 
 -- ---- a line `var`
 
--- the variable has no value yet
-abbrev pub unless_said : {A : Type 0} → Option (Option Value) → Result A StoreKind → Result A StoreKind
-unless_said (Some (Some x)) then_what = Err Repeated
-unless_said (Some None) then_what = then_what
-unless_said None then_what = then_what
+-- a value was given before
+abbrev pub is_said : Option (Option Value) → Bool
+is_said (Some (Some x)) = true
+is_said _ = false
 
 -- a variable's value: from the left the name is there, it is new, and the value is of its class
 unfoldable pub say_var : List VarEntry → ℕ → Said → Given → Result Said StoreKind
 say_var vars line said given = do
   v ← or_fault UnknownName (var_named vars given.name)
   kind ← or_fault UnknownName (option_map (λ entry. entry.kind) (var_at vars v))
-  x ← unless_said (slice_get said.vars v.0) (value_for (var_holds kind) given.value)
+  x ← (if is_said (slice_get said.vars v.0) then Err Repeated else value_for (var_holds kind) given.value)
   Ok (record { cells = said.cells; vars = slice_set said.vars v.0 (Some x); mentions = said.mentions ++ mentions_of line (var_holds kind) x })
 
 -- ---- a line `cell`
@@ -130,7 +130,7 @@ unfoldable pub say_field : List TypeEntry → VariantId → List (Option Value) 
 say_field types v values given = do
   f ← field_had types v given.name
   kind ← or_fault UnknownName (option_map (λ entry. entry.kind) (field_at types f))
-  x ← unless_said (slice_get values f.index) (value_for (field_holds kind) given.value)
+  x ← (if is_said (slice_get values f.index) then Err Repeated else value_for (field_holds kind) given.value)
   Ok (slice_set values f.index (Some x))
 
 -- the values of these fields, from the left
@@ -138,19 +138,27 @@ abbrev pub say_fields : List TypeEntry → VariantId → List (Option Value) →
 say_fields types v values [] = Ok values
 say_fields types v values (given ∷ others) = say_field types v values given >>= (λ more. say_fields types v more others)
 
--- where the fields name cells; none where the variant has a field that no value was given
+-- where a field's value names cells; none where the variant has the field and no value was given
+abbrev pub named_by : ℕ → ℕ → FieldEntry → Option Value → Option (List Mention)
+named_by line index f (Some x) = Some (mentions_of line (field_holds f.kind) x)
+named_by line index f None = if is_had index f then None else Some []
+
+-- where the fields name cells; none where one lacks
 abbrev pub named_in : ℕ → ℕ → List FieldEntry → List (Option Value) → Option (List Mention)
-named_in line index (f ∷ fs) (Some x ∷ xs) = option_map (λ more. mentions_of line (field_holds f.kind) x ++ more) (named_in line index fs xs)
-named_in line index (f ∷ fs) (None ∷ xs) = if is_had index f then None else named_in line index fs xs
+named_in line index (f ∷ fs) (x ∷ xs) = option_and_then (λ named. option_map (λ more. named ++ more) (named_in line index fs xs)) (named_by line index f x)
 named_in line index _ _ = Some []
+
+-- the same of the field at a place
+abbrev pub named_at : ℕ → ℕ → List FieldEntry → ℕ → Option Value → Option (List Mention)
+named_at line index fields place x = option_and_then (λ f. named_by line index f x) (slice_get fields place)
 
 -- a cell's variant with the values of its fields, and where they name cells
 unfoldable pub cell_said : List TypeEntry → ℕ → CellLine → Result (CellEntry × List Mention) StoreKind
 cell_said types line cell = do
   ty ← or_fault UnknownName (type_named types cell.ty)
   v ← variant_named types ty cell.variant
-  values ← say_fields types v (map (λ f. None) (fields_of types ty)) cell.fields
-  named ← or_fault Missing (named_in line v.index (fields_of types ty) values)
+  values ← say_fields types v (map (λ f. None) (fields_of types v.ty)) cell.fields
+  named ← or_fault Missing (named_in line v.index (fields_of types v.ty) values)
   Ok (record { variant = v; values = values }, named)
 
 -- a cell: from the left its number is new, the type and the variant are there, each field is as `say_field` wants it, and no

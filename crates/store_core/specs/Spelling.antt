@@ -107,13 +107,17 @@ unfoldable pub var_line : List (List ℕ) → Option Line
 var_line (name ∷ value ∷ []) = option_map line.Var (given_of name value)
 var_line _ = None
 
--- `N TYPE F=VALUE ..`, after `cell`
-unfoldable pub cell_line : List (List ℕ) → Option Line
-cell_line (number ∷ ty ∷ fields) = do
+-- a number, a type and fields
+unfoldable pub cell_in : List ℕ → List ℕ → List (List ℕ) → Option Line
+cell_in number ty fields = do
   n ← number_of number
   t ← type_of ty
   fs ← all_of field_of fields
   Some (line.Cell (record { number = n; ty = t.0; variant = t.1; fields = fs }))
+
+-- `N TYPE F=VALUE ..`, after `cell`
+unfoldable pub cell_line : List (List ℕ) → Option Line
+cell_line (number ∷ ty ∷ fields) = cell_in number ty fields
 cell_line _ = None
 
 -- `var NAME VALUE` or `cell N TYPE F=VALUE ..`

@@ -11,6 +11,8 @@ mod kind;
 mod laws;
 mod read;
 mod store;
+#[cfg(test)]
+mod tests;
 mod types;
 mod value;
 mod vars;
@@ -19,7 +21,7 @@ mod writer;
 pub use fault::{StoreFault, StoreKind};
 pub use ids::{CellId, FieldId, TypeId, VarId, VariantId};
 pub use kind::{ByteList, FieldKind, Owner, Route, VarKind};
-pub use laws::{read_stores_fit, written_stores_are_read};
+pub use laws::{read_stores_fit, read_stores_go_on, written_stores_are_read};
 pub use read::read_store;
 pub use store::Store;
 pub use types::TypeTable;

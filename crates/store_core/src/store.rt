@@ -102,7 +102,15 @@ fn blank_values(
 }
 
 impl Store {
-    ghost use Rattle.store_core.specs.StoreBodies.{cell_entry, cells_of};
+    ghost use Rattle.store_core.specs.StoreBodies.{cell_entry, cells_of, store_of, IsKept};
+
+    /// The store of these cells, whose numbers rise and are below the next.
+    pub(crate) fn of(cells: Vec<CellBody>, vars: Items<Value>, next: u32) -> Store
+        requires { IsKept cells.items next }
+        ensures { result ≡ store_of cells.items vars next }
+    {
+        Store { cells, vars, next }
+    }
 
     /// No cell, the next number 1, and each variable null, false or the empty set.
     pub fn empty(alloc: Global, vars: &VarTable) -> Result<Store, AllocError>

@@ -19,7 +19,6 @@ slice_bounds-result-count c =
 pub slice_bounds-result-start : goal.slice_bounds-result-start
 slice_bounds-result-start c = let le : c.partition_point-start.result ≤ c.partition_point-end.result = slice_bounds-result-count c in omega arith
 
-
 pub returns : goal.returns
 returns c =
     let links = c.as_slice-links.result.now in

@@ -1,0 +1,719 @@
+-- What is known of the rows of the grammar of programs. grammar_engine's `is_predictable` says what is meant by each of
+-- these, and is tried on each part.
+use Rattle.std.specs.Prelude.{ℕ, List, [], ◌∷◌, ◌++◌}
+use Rattle.grammar_engine.specs.Predicting.{Hints}
+use Rattle.pale_text.specs.declared.token.Mark.{Mark}
+use Rattle.pale_text.specs.declared.token.Mark.TheVariants as mark
+use Rattle.pale_text.specs.declared.grammar.kind.ProgramKind.{ProgramKind}
+use Rattle.pale_text.specs.declared.grammar.kind.ProgramKind.TheVariants as kind
+use Rattle.pale_text.specs.declared.grammar.part.ProgramPart.{ProgramPart}
+use Rattle.pale_text.specs.declared.grammar.part.ProgramPart.TheVariants as part
+use Rattle.pale_parse.specs.declared.tables.choice.ProgramChoice.{ProgramChoice}
+use Rattle.pale_parse.specs.declared.tables.choice.ProgramChoice.TheVariants as row
+
+-- a number for each kind
+unfoldable pub mark_number : Mark → ℕ
+mark_number mark.Equivalent = 31
+mark_number mark.SameAs = 32
+mark_number mark.Implies = 33
+mark_number mark.NotSame = 34
+mark_number mark.NotEqual = 35
+mark_number mark.AndAlso = 36
+mark_number mark.OrElse = 37
+mark_number mark.Equals = 38
+mark_number mark.Bang = 39
+mark_number mark.Tilde = 40
+mark_number mark.Ampersand = 41
+mark_number mark.Bar = 42
+mark_number mark.Less = 43
+mark_number mark.Greater = 44
+mark_number mark.LeftParen = 45
+mark_number mark.RightParen = 46
+mark_number mark.LeftBracket = 47
+mark_number mark.RightBracket = 48
+mark_number mark.LeftBrace = 49
+mark_number mark.RightBrace = 50
+mark_number mark.Colon = 51
+mark_number mark.Semicolon = 52
+mark_number mark.Comma = 53
+mark_number mark.Dot = 54
+mark_number mark.Star = 55
+mark_number mark.Plus = 56
+mark_number mark.Caret = 57
+mark_number mark.Dollar = 58
+mark_number mark.At = 59
+mark_number mark.Question = 60
+
+unfoldable pub number_of : ProgramKind → ℕ
+number_of kind.Name = 0
+number_of kind.Number = 1
+number_of kind.Type = 2
+number_of kind.Bool = 3
+number_of kind.Data = 4
+number_of kind.Pointer = 5
+number_of kind.Pred = 6
+number_of kind.Set = 7
+number_of kind.Proc = 8
+number_of kind.Returns = 9
+number_of kind.Logic = 10
+number_of kind.Pre = 11
+number_of kind.Post = 12
+number_of kind.Skip = 13
+number_of kind.If = 14
+number_of kind.Else = 15
+number_of kind.While = 16
+number_of kind.Split = 17
+number_of kind.Assert = 18
+number_of kind.Free = 19
+number_of kind.New = 20
+number_of kind.Null = 21
+number_of kind.True = 22
+number_of kind.False = 23
+number_of kind.Call = 24
+number_of kind.Keep = 25
+number_of kind.Ex = 26
+number_of kind.All = 27
+number_of kind.In = 28
+number_of kind.Sub = 29
+number_of kind.Root = 30
+number_of (kind.Mark sign) = mark_number sign
+
+-- a number for each part
+unfoldable pub label_of : ProgramPart → ℕ
+label_of part.Declaration = 0
+label_of part.Type = 1
+label_of part.Variant = 2
+label_of part.Field = 3
+label_of part.Route = 4
+label_of part.NextAlternative = 5
+label_of part.Sequence = 6
+label_of part.NextRepeated = 7
+label_of part.Repeated = 8
+label_of part.Star = 9
+label_of part.Step = 10
+label_of part.UpName = 11
+label_of part.VariantTest = 12
+label_of part.Predicate = 13
+label_of part.PredicateParameters = 14
+label_of part.NextPredicateParameter = 15
+label_of part.PredicateParameter = 16
+label_of part.Bracketed = 17
+label_of part.Procedure = 18
+label_of part.Returns = 19
+label_of part.Logic = 20
+label_of part.NextLogicParameter = 21
+label_of part.LogicParameter = 22
+label_of part.Pre = 23
+label_of part.Post = 24
+label_of part.Parameters = 25
+label_of part.NextParameter = 26
+label_of part.Parameter = 27
+label_of part.Local = 28
+label_of part.Block = 29
+label_of part.Statement = 30
+label_of part.Else = 31
+label_of part.CallRest = 32
+label_of part.NextResult = 33
+label_of part.Arguments = 34
+label_of part.Argued = 35
+label_of part.NextArgument = 36
+label_of part.LogicArguments = 37
+label_of part.Argument = 38
+label_of part.Keep = 39
+label_of part.Value = 40
+label_of part.NewVariant = 41
+label_of part.Condition = 42
+label_of part.NextConjunction = 43
+label_of part.Conjunction = 44
+label_of part.NextLiteral = 45
+label_of part.Literal = 46
+label_of part.LiteralRelation = 47
+label_of part.Term = 48
+label_of part.Path = 49
+label_of part.PathStep = 50
+label_of part.Iff = 51
+label_of part.NextImplication = 52
+label_of part.Implication = 53
+label_of part.Implied = 54
+label_of part.OrChain = 55
+label_of part.NextAndChain = 56
+label_of part.AndChain = 57
+label_of part.NextNegation = 58
+label_of part.Negation = 59
+label_of part.Quantified = 60
+label_of part.SetWord = 61
+label_of part.NextBound = 62
+label_of part.Primary = 63
+label_of part.NameRest = 64
+label_of part.UsedPaths = 65
+label_of part.NextUsedPath = 66
+label_of part.PathAloneStep = 67
+label_of part.NameRelation = 68
+label_of part.Relation = 69
+
+-- the kinds with which each row may begin
+unfoldable pub starts_of : ProgramChoice → List ProgramKind
+starts_of row.ATypeDeclaration = kind.Type ∷ []
+starts_of row.APredicateDeclaration = kind.Pred ∷ []
+starts_of row.AProcedureDeclaration = kind.Proc ∷ []
+starts_of row.TypeDeclared = kind.Type ∷ []
+starts_of row.VariantDeclared = kind.Mark mark.Bar ∷ []
+starts_of row.BoolFieldDeclared = kind.Bool ∷ []
+starts_of row.DataFieldDeclared = kind.Data ∷ []
+starts_of row.PointerFieldDeclared = kind.Pointer ∷ []
+starts_of row.RouteOfSequences = kind.Name ∷ kind.Mark mark.Caret ∷ kind.Mark mark.Dollar ∷ kind.Root ∷ kind.Mark mark.At ∷
+    kind.Mark mark.Question ∷ kind.Mark mark.Bang ∷ kind.Mark mark.LeftParen ∷ []
+starts_of row.AlternativeAfterPlus = kind.Mark mark.Plus ∷ []
+starts_of row.SequenceOfRepeated = kind.Name ∷ kind.Mark mark.Caret ∷ kind.Mark mark.Dollar ∷ kind.Root ∷ kind.Mark mark.At ∷
+    kind.Mark mark.Question ∷ kind.Mark mark.Bang ∷ kind.Mark mark.LeftParen ∷ []
+starts_of row.RepeatedAfterDot = kind.Mark mark.Dot ∷ []
+starts_of row.StepWithStars = kind.Name ∷ kind.Mark mark.Caret ∷ kind.Mark mark.Dollar ∷ kind.Root ∷ kind.Mark mark.At ∷
+    kind.Mark mark.Question ∷ kind.Mark mark.Bang ∷ kind.Mark mark.LeftParen ∷ []
+starts_of row.OneStar = kind.Mark mark.Star ∷ []
+starts_of row.StepDown = kind.Name ∷ []
+starts_of row.StepUp = kind.Mark mark.Caret ∷ []
+starts_of row.LeafTest = kind.Mark mark.Dollar ∷ []
+starts_of row.RootTest = kind.Root ∷ []
+starts_of row.TypeTest = kind.Mark mark.At ∷ []
+starts_of row.TrueTest = kind.Mark mark.Question ∷ []
+starts_of row.FalseTest = kind.Mark mark.Bang ∷ []
+starts_of row.RouteGroup = kind.Mark mark.LeftParen ∷ []
+starts_of row.UpByName = kind.Name ∷ []
+starts_of row.TestedVariant = kind.Mark mark.Colon ∷ []
+starts_of row.PredicateDeclared = kind.Pred ∷ []
+starts_of row.PredicateParametersInOrder = kind.Name ∷ kind.Set ∷ kind.Bool ∷ []
+starts_of row.PredicateParameterAfterComma = kind.Mark mark.Comma ∷ []
+starts_of row.CellDeclared = kind.Name ∷ []
+starts_of row.SetDeclared = kind.Set ∷ []
+starts_of row.BoolDeclared = kind.Bool ∷ []
+starts_of row.AssertionInBrackets = kind.Mark mark.LeftBracket ∷ []
+starts_of row.ProcedureDeclared = kind.Proc ∷ []
+starts_of row.ResultsDeclared = kind.Returns ∷ []
+starts_of row.LogicDeclared = kind.Logic ∷ []
+starts_of row.LogicParameterAfterComma = kind.Mark mark.Comma ∷ []
+starts_of row.LogicSetDeclared = kind.Set ∷ []
+starts_of row.LogicBoolDeclared = kind.Bool ∷ []
+starts_of row.PreDeclared = kind.Pre ∷ []
+starts_of row.PostDeclared = kind.Post ∷ []
+starts_of row.ParametersInOrder = kind.Data ∷ kind.Pointer ∷ kind.Bool ∷ []
+starts_of row.ParameterAfterComma = kind.Mark mark.Comma ∷ []
+starts_of row.DataDeclared = kind.Data ∷ []
+starts_of row.PointerDeclared = kind.Pointer ∷ []
+starts_of row.BoolVariableDeclared = kind.Bool ∷ []
+starts_of row.LocalDeclared = kind.Data ∷ kind.Pointer ∷ kind.Bool ∷ []
+starts_of row.BlockOfStatements = kind.Mark mark.LeftBrace ∷ []
+starts_of row.Skip = kind.Skip ∷ []
+starts_of row.If = kind.If ∷ []
+starts_of row.While = kind.While ∷ []
+starts_of row.Split = kind.Split ∷ []
+starts_of row.Assert = kind.Assert ∷ []
+starts_of row.Free = kind.Free ∷ []
+starts_of row.Call = kind.Call ∷ []
+starts_of row.Assign = kind.Name ∷ []
+starts_of row.ElseBlock = kind.Else ∷ []
+starts_of row.CallWithoutResults = kind.Mark mark.LeftParen ∷ []
+starts_of row.CallWithResults = kind.Mark mark.Comma ∷ kind.Mark mark.Equals ∷ []
+starts_of row.ResultAfterComma = kind.Mark mark.Comma ∷ []
+starts_of row.ArgumentsOfBothKinds = kind.Name ∷ kind.Null ∷ kind.True ∷ kind.False ∷ kind.Mark mark.Semicolon ∷
+    kind.Mark mark.RightParen ∷ []
+starts_of row.ArgumentsInOrder = kind.Name ∷ kind.Null ∷ kind.True ∷ kind.False ∷ []
+starts_of row.ArgumentAfterComma = kind.Mark mark.Comma ∷ []
+starts_of row.LogicArgumentsInOrder = kind.Mark mark.Semicolon ∷ []
+starts_of row.ANameArgument = kind.Name ∷ []
+starts_of row.ANullArgument = kind.Null ∷ []
+starts_of row.ATrueArgument = kind.True ∷ []
+starts_of row.AFalseArgument = kind.False ∷ []
+starts_of row.Kept = kind.Keep ∷ []
+starts_of row.NewCell = kind.New ∷ []
+starts_of row.ConditionValue = kind.Mark mark.Bang ∷ kind.Mark mark.LeftParen ∷ kind.True ∷ kind.False ∷ kind.Null ∷ kind.Name ∷ []
+starts_of row.VariantOfNew = kind.Mark mark.Colon ∷ []
+starts_of row.ConditionOfConjunctions = kind.Mark mark.Bang ∷ kind.Mark mark.LeftParen ∷ kind.True ∷ kind.False ∷ kind.Null ∷
+    kind.Name ∷ []
+starts_of row.ConjunctionAfterOr = kind.Mark mark.OrElse ∷ []
+starts_of row.ConjunctionOfLiterals = kind.Mark mark.Bang ∷ kind.Mark mark.LeftParen ∷ kind.True ∷ kind.False ∷ kind.Null ∷ kind.Name ∷ []
+starts_of row.LiteralAfterAnd = kind.Mark mark.AndAlso ∷ []
+starts_of row.NotLiteral = kind.Mark mark.Bang ∷ []
+starts_of row.ConditionGroup = kind.Mark mark.LeftParen ∷ []
+starts_of row.TrueLiteral = kind.True ∷ []
+starts_of row.FalseLiteral = kind.False ∷ []
+starts_of row.TermLiteral = kind.Null ∷ kind.Name ∷ []
+starts_of row.SameLiteral = kind.Mark mark.SameAs ∷ []
+starts_of row.NotSameLiteral = kind.Mark mark.NotSame ∷ []
+starts_of row.VariantLiteral = kind.Mark mark.Colon ∷ []
+starts_of row.NullTerm = kind.Null ∷ []
+starts_of row.PathAsTerm = kind.Name ∷ []
+starts_of row.PathOfSteps = kind.Name ∷ []
+starts_of row.NameAfterDot = kind.Mark mark.Dot ∷ []
+starts_of row.IffOfImplications = kind.Mark mark.Tilde ∷ kind.Ex ∷ kind.All ∷ kind.Mark mark.LeftParen ∷ kind.True ∷ kind.False ∷
+    kind.Null ∷ kind.Name ∷ []
+starts_of row.ImplicationAfterIff = kind.Mark mark.Equivalent ∷ []
+starts_of row.ImplicationOfChain = kind.Mark mark.Tilde ∷ kind.Ex ∷ kind.All ∷ kind.Mark mark.LeftParen ∷ kind.True ∷ kind.False ∷
+    kind.Null ∷ kind.Name ∷ []
+starts_of row.ImplicationAfterArrow = kind.Mark mark.Implies ∷ []
+starts_of row.OrOfAndChains = kind.Mark mark.Tilde ∷ kind.Ex ∷ kind.All ∷ kind.Mark mark.LeftParen ∷ kind.True ∷ kind.False ∷
+    kind.Null ∷ kind.Name ∷ []
+starts_of row.AndChainAfterBar = kind.Mark mark.Bar ∷ []
+starts_of row.AndOfNegations = kind.Mark mark.Tilde ∷ kind.Ex ∷ kind.All ∷ kind.Mark mark.LeftParen ∷ kind.True ∷ kind.False ∷
+    kind.Null ∷ kind.Name ∷ []
+starts_of row.NegationAfterAmpersand = kind.Mark mark.Ampersand ∷ []
+starts_of row.NotAssertion = kind.Mark mark.Tilde ∷ []
+starts_of row.ExQuantified = kind.Ex ∷ []
+starts_of row.AllQuantified = kind.All ∷ []
+starts_of row.PrimaryAlone = kind.Mark mark.LeftParen ∷ kind.True ∷ kind.False ∷ kind.Null ∷ kind.Name ∷ []
+starts_of row.BoundWithBody = kind.Set ∷ kind.Name ∷ []
+starts_of row.OverSets = kind.Set ∷ []
+starts_of row.BoundAfterComma = kind.Mark mark.Comma ∷ []
+starts_of row.AssertionGroup = kind.Mark mark.LeftParen ∷ []
+starts_of row.TruePrimary = kind.True ∷ []
+starts_of row.FalsePrimary = kind.False ∷ []
+starts_of row.NullPrimary = kind.Null ∷ []
+starts_of row.NamePrimary = kind.Name ∷ []
+starts_of row.UseOfName = kind.Mark mark.LeftParen ∷ []
+starts_of row.LongerPath = kind.Mark mark.Dot ∷ []
+starts_of row.RelationOfName = kind.Mark mark.Equals ∷ kind.Mark mark.NotEqual ∷ kind.In ∷ kind.Sub ∷ kind.Mark mark.Less ∷
+    kind.Mark mark.Colon ∷ []
+starts_of row.UsedPathsInOrder = kind.Name ∷ []
+starts_of row.UsedPathAfterComma = kind.Mark mark.Comma ∷ []
+starts_of row.PathAloneAfterDot = kind.Mark mark.Dot ∷ []
+starts_of row.RelationOfPath = kind.Mark mark.Equals ∷ kind.Mark mark.NotEqual ∷ kind.In ∷ kind.Sub ∷ kind.Mark mark.Less ∷
+    kind.Mark mark.Colon ∷ []
+starts_of row.SameTerm = kind.Mark mark.Equals ∷ []
+starts_of row.DifferentTerm = kind.Mark mark.NotEqual ∷ []
+starts_of row.MemberOfSet = kind.In ∷ []
+starts_of row.SubsetOfSet = kind.Sub ∷ []
+starts_of row.WalkToTerm = kind.Mark mark.Less ∷ []
+starts_of row.OfThisVariant = kind.Mark mark.Colon ∷ []
+
+-- With which tokens, and which part there, a part could go on where it may end. First those of
+-- a path
+abbrev pub path_tail : List (ProgramKind × ProgramPart)
+path_tail = (kind.Mark mark.Dot, part.PathStep) ∷ []
+
+-- a step of a route
+abbrev pub step_tail : List (ProgramKind × ProgramPart)
+step_tail = (kind.Name, part.UpName) ∷ (kind.Mark mark.Colon, part.VariantTest) ∷ []
+
+-- a step with its stars
+abbrev pub repeated_tail : List (ProgramKind × ProgramPart)
+repeated_tail = (kind.Mark mark.Star, part.Star) ∷ step_tail
+
+-- routes one after the other
+abbrev pub sequence_tail : List (ProgramKind × ProgramPart)
+sequence_tail = (kind.Mark mark.Dot, part.NextRepeated) ∷ repeated_tail
+
+-- a route
+abbrev pub route_tail : List (ProgramKind × ProgramPart)
+route_tail = (kind.Mark mark.Plus, part.NextAlternative) ∷ sequence_tail
+
+-- a literal
+abbrev pub literal_tail : List (ProgramKind × ProgramPart)
+literal_tail = (kind.Mark mark.SameAs, part.LiteralRelation) ∷ (kind.Mark mark.NotSame, part.LiteralRelation) ∷
+    (kind.Mark mark.Colon, part.LiteralRelation) ∷ path_tail
+
+-- a conjunction of literals
+abbrev pub conjunction_tail : List (ProgramKind × ProgramPart)
+conjunction_tail = (kind.Mark mark.AndAlso, part.NextLiteral) ∷ literal_tail
+
+-- a condition
+abbrev pub condition_tail : List (ProgramKind × ProgramPart)
+condition_tail = (kind.Mark mark.OrElse, part.NextConjunction) ∷ conjunction_tail
+
+-- what follows the name that begins an assertion
+abbrev pub name_rest_tail : List (ProgramKind × ProgramPart)
+name_rest_tail = (kind.Mark mark.Dot, part.PathAloneStep) ∷ (kind.Mark mark.Equals, part.NameRelation) ∷
+    (kind.Mark mark.NotEqual, part.NameRelation) ∷ (kind.In, part.NameRelation) ∷ (kind.Sub, part.NameRelation) ∷
+    (kind.Mark mark.Less, part.NameRelation) ∷ (kind.Mark mark.Colon, part.NameRelation) ∷ path_tail
+
+-- an assertion without prefixes and connectives
+abbrev pub primary_tail : List (ProgramKind × ProgramPart)
+primary_tail = (kind.Mark mark.LeftParen, part.NameRest) ∷ (kind.Mark mark.Dot, part.NameRest) ∷
+    (kind.Mark mark.Equals, part.NameRest) ∷ (kind.Mark mark.NotEqual, part.NameRest) ∷ (kind.In, part.NameRest) ∷
+    (kind.Sub, part.NameRest) ∷ (kind.Mark mark.Less, part.NameRest) ∷ (kind.Mark mark.Colon, part.NameRest) ∷ name_rest_tail
+
+-- an assertion: the body of a quantifier ends where the assertion does
+abbrev pub assertion_tail : List (ProgramKind × ProgramPart)
+assertion_tail = (kind.Mark mark.Equivalent, part.NextImplication) ∷ (kind.Mark mark.Implies, part.Implied) ∷
+    (kind.Mark mark.Bar, part.NextAndChain) ∷ (kind.Mark mark.Ampersand, part.NextNegation) ∷ primary_tail
+
+-- then of each part
+unfoldable pub tails_of : ProgramPart → List (ProgramKind × ProgramPart)
+tails_of part.Declaration = (kind.Mark mark.Bar, part.Variant) ∷ []
+tails_of part.Type = (kind.Mark mark.Bar, part.Variant) ∷ []
+tails_of part.Variant = []
+tails_of part.Field = []
+tails_of part.Route = route_tail
+tails_of part.NextAlternative = sequence_tail
+tails_of part.Sequence = sequence_tail
+tails_of part.NextRepeated = repeated_tail
+tails_of part.Repeated = repeated_tail
+tails_of part.Star = []
+tails_of part.Step = step_tail
+tails_of part.UpName = []
+tails_of part.VariantTest = []
+tails_of part.Predicate = []
+tails_of part.PredicateParameters = (kind.Mark mark.Comma, part.NextPredicateParameter) ∷ []
+tails_of part.NextPredicateParameter = []
+tails_of part.PredicateParameter = []
+tails_of part.Bracketed = []
+tails_of part.Procedure = []
+tails_of part.Returns = []
+tails_of part.Logic = (kind.Mark mark.Comma, part.NextLogicParameter) ∷ []
+tails_of part.NextLogicParameter = []
+tails_of part.LogicParameter = []
+tails_of part.Pre = []
+tails_of part.Post = []
+tails_of part.Parameters = (kind.Mark mark.Comma, part.NextParameter) ∷ []
+tails_of part.NextParameter = []
+tails_of part.Parameter = []
+tails_of part.Local = []
+tails_of part.Block = []
+tails_of part.Statement = (kind.Else, part.Else) ∷ []
+tails_of part.Else = []
+tails_of part.CallRest = (kind.Keep, part.Keep) ∷ []
+tails_of part.NextResult = []
+tails_of part.Arguments = (kind.Keep, part.Keep) ∷ []
+tails_of part.Argued = (kind.Mark mark.Comma, part.NextArgument) ∷ []
+tails_of part.NextArgument = []
+tails_of part.LogicArguments = (kind.Mark mark.Comma, part.NextArgument) ∷ []
+tails_of part.Argument = []
+tails_of part.Keep = []
+tails_of part.Value = (kind.Mark mark.Colon, part.NewVariant) ∷ condition_tail
+tails_of part.NewVariant = []
+tails_of part.Condition = condition_tail
+tails_of part.NextConjunction = conjunction_tail
+tails_of part.Conjunction = conjunction_tail
+tails_of part.NextLiteral = literal_tail
+tails_of part.Literal = literal_tail
+tails_of part.LiteralRelation = path_tail
+tails_of part.Term = path_tail
+tails_of part.Path = path_tail
+tails_of part.PathStep = []
+tails_of part.Iff = assertion_tail
+tails_of part.NextImplication = assertion_tail
+tails_of part.Implication = assertion_tail
+tails_of part.Implied = assertion_tail
+tails_of part.OrChain = assertion_tail
+tails_of part.NextAndChain = assertion_tail
+tails_of part.AndChain = assertion_tail
+tails_of part.NextNegation = assertion_tail
+tails_of part.Negation = assertion_tail
+tails_of part.Quantified = assertion_tail
+tails_of part.SetWord = []
+tails_of part.NextBound = []
+tails_of part.Primary = primary_tail
+tails_of part.NameRest = name_rest_tail
+tails_of part.UsedPaths = (kind.Mark mark.Comma, part.NextUsedPath) ∷ path_tail
+tails_of part.NextUsedPath = path_tail
+tails_of part.PathAloneStep = []
+tails_of part.NameRelation = path_tail
+tails_of part.Relation = path_tail
+
+-- of a whole text
+abbrev pub text_tail : List (ProgramKind × ProgramPart)
+text_tail = (kind.Type, part.Declaration) ∷ (kind.Pred, part.Declaration) ∷ (kind.Proc, part.Declaration) ∷
+    (kind.Mark mark.Bar, part.Variant) ∷ []
+
+-- how many moves may lie before the first token
+unfoldable pub cost_of : ProgramPart → ℕ
+cost_of part.Declaration = 1
+cost_of part.Type = 0
+cost_of part.Variant = 0
+cost_of part.Field = 0
+cost_of part.Route = 3
+cost_of part.NextAlternative = 0
+cost_of part.Sequence = 2
+cost_of part.NextRepeated = 0
+cost_of part.Repeated = 1
+cost_of part.Star = 0
+cost_of part.Step = 0
+cost_of part.UpName = 0
+cost_of part.VariantTest = 0
+cost_of part.Predicate = 0
+cost_of part.PredicateParameters = 1
+cost_of part.NextPredicateParameter = 0
+cost_of part.PredicateParameter = 0
+cost_of part.Bracketed = 0
+cost_of part.Procedure = 0
+cost_of part.Returns = 0
+cost_of part.Logic = 0
+cost_of part.NextLogicParameter = 0
+cost_of part.LogicParameter = 0
+cost_of part.Pre = 0
+cost_of part.Post = 0
+cost_of part.Parameters = 1
+cost_of part.NextParameter = 0
+cost_of part.Parameter = 0
+cost_of part.Local = 1
+cost_of part.Block = 0
+cost_of part.Statement = 1
+cost_of part.Else = 0
+cost_of part.CallRest = 2
+cost_of part.NextResult = 0
+cost_of part.Arguments = 4
+cost_of part.Argued = 1
+cost_of part.NextArgument = 0
+cost_of part.LogicArguments = 0
+cost_of part.Argument = 0
+cost_of part.Keep = 0
+cost_of part.Value = 6
+cost_of part.NewVariant = 0
+cost_of part.Condition = 4
+cost_of part.NextConjunction = 0
+cost_of part.Conjunction = 3
+cost_of part.NextLiteral = 0
+cost_of part.Literal = 2
+cost_of part.LiteralRelation = 1
+cost_of part.Term = 1
+cost_of part.Path = 0
+cost_of part.PathStep = 0
+cost_of part.Iff = 5
+cost_of part.NextImplication = 0
+cost_of part.Implication = 4
+cost_of part.Implied = 0
+cost_of part.OrChain = 3
+cost_of part.NextAndChain = 0
+cost_of part.AndChain = 2
+cost_of part.NextNegation = 0
+cost_of part.Negation = 1
+cost_of part.Quantified = 1
+cost_of part.SetWord = 0
+cost_of part.NextBound = 0
+cost_of part.Primary = 0
+cost_of part.NameRest = 3
+cost_of part.UsedPaths = 1
+cost_of part.NextUsedPath = 0
+cost_of part.PathAloneStep = 0
+cost_of part.NameRelation = 2
+cost_of part.Relation = 0
+
+-- the place of a row that comes to an end soonest
+unfoldable pub sample_of : ProgramPart → ℕ
+sample_of part.Declaration = 0
+sample_of part.Type = 0
+sample_of part.Variant = 0
+sample_of part.Field = 0
+sample_of part.Route = 0
+sample_of part.NextAlternative = 0
+sample_of part.Sequence = 0
+sample_of part.NextRepeated = 0
+sample_of part.Repeated = 0
+sample_of part.Star = 0
+sample_of part.Step = 0
+sample_of part.UpName = 0
+sample_of part.VariantTest = 0
+sample_of part.Predicate = 0
+sample_of part.PredicateParameters = 0
+sample_of part.NextPredicateParameter = 0
+sample_of part.PredicateParameter = 0
+sample_of part.Bracketed = 0
+sample_of part.Procedure = 0
+sample_of part.Returns = 0
+sample_of part.Logic = 0
+sample_of part.NextLogicParameter = 0
+sample_of part.LogicParameter = 0
+sample_of part.Pre = 0
+sample_of part.Post = 0
+sample_of part.Parameters = 0
+sample_of part.NextParameter = 0
+sample_of part.Parameter = 0
+sample_of part.Local = 0
+sample_of part.Block = 0
+sample_of part.Statement = 0
+sample_of part.Else = 0
+sample_of part.CallRest = 0
+sample_of part.NextResult = 0
+sample_of part.Arguments = 0
+sample_of part.Argued = 0
+sample_of part.NextArgument = 0
+sample_of part.LogicArguments = 0
+sample_of part.Argument = 0
+sample_of part.Keep = 0
+sample_of part.Value = 0
+sample_of part.NewVariant = 0
+sample_of part.Condition = 0
+sample_of part.NextConjunction = 0
+sample_of part.Conjunction = 0
+sample_of part.NextLiteral = 0
+sample_of part.Literal = 2
+sample_of part.LiteralRelation = 2
+sample_of part.Term = 0
+sample_of part.Path = 0
+sample_of part.PathStep = 0
+sample_of part.Iff = 0
+sample_of part.NextImplication = 0
+sample_of part.Implication = 0
+sample_of part.Implied = 0
+sample_of part.OrChain = 0
+sample_of part.NextAndChain = 0
+sample_of part.AndChain = 0
+sample_of part.NextNegation = 0
+sample_of part.Negation = 3
+sample_of part.Quantified = 0
+sample_of part.SetWord = 0
+sample_of part.NextBound = 0
+sample_of part.Primary = 1
+sample_of part.NameRest = 0
+sample_of part.UsedPaths = 0
+sample_of part.NextUsedPath = 0
+sample_of part.PathAloneStep = 0
+sample_of part.NameRelation = 0
+sample_of part.Relation = 2
+
+-- the kind of the token with which that row begins
+unfoldable pub begin_of : ProgramPart → ProgramKind
+begin_of part.Declaration = kind.Type
+begin_of part.Type = kind.Type
+begin_of part.Variant = kind.Mark mark.Bar
+begin_of part.Field = kind.Bool
+begin_of part.Route = kind.Name
+begin_of part.NextAlternative = kind.Mark mark.Plus
+begin_of part.Sequence = kind.Name
+begin_of part.NextRepeated = kind.Mark mark.Dot
+begin_of part.Repeated = kind.Name
+begin_of part.Star = kind.Mark mark.Star
+begin_of part.Step = kind.Name
+begin_of part.UpName = kind.Name
+begin_of part.VariantTest = kind.Mark mark.Colon
+begin_of part.Predicate = kind.Pred
+begin_of part.PredicateParameters = kind.Name
+begin_of part.NextPredicateParameter = kind.Mark mark.Comma
+begin_of part.PredicateParameter = kind.Name
+begin_of part.Bracketed = kind.Mark mark.LeftBracket
+begin_of part.Procedure = kind.Proc
+begin_of part.Returns = kind.Returns
+begin_of part.Logic = kind.Logic
+begin_of part.NextLogicParameter = kind.Mark mark.Comma
+begin_of part.LogicParameter = kind.Set
+begin_of part.Pre = kind.Pre
+begin_of part.Post = kind.Post
+begin_of part.Parameters = kind.Data
+begin_of part.NextParameter = kind.Mark mark.Comma
+begin_of part.Parameter = kind.Data
+begin_of part.Local = kind.Data
+begin_of part.Block = kind.Mark mark.LeftBrace
+begin_of part.Statement = kind.Skip
+begin_of part.Else = kind.Else
+begin_of part.CallRest = kind.Mark mark.LeftParen
+begin_of part.NextResult = kind.Mark mark.Comma
+begin_of part.Arguments = kind.Mark mark.RightParen
+begin_of part.Argued = kind.Name
+begin_of part.NextArgument = kind.Mark mark.Comma
+begin_of part.LogicArguments = kind.Mark mark.Semicolon
+begin_of part.Argument = kind.Name
+begin_of part.Keep = kind.Keep
+begin_of part.Value = kind.New
+begin_of part.NewVariant = kind.Mark mark.Colon
+begin_of part.Condition = kind.True
+begin_of part.NextConjunction = kind.Mark mark.OrElse
+begin_of part.Conjunction = kind.True
+begin_of part.NextLiteral = kind.Mark mark.AndAlso
+begin_of part.Literal = kind.True
+begin_of part.LiteralRelation = kind.Mark mark.Colon
+begin_of part.Term = kind.Null
+begin_of part.Path = kind.Name
+begin_of part.PathStep = kind.Mark mark.Dot
+begin_of part.Iff = kind.True
+begin_of part.NextImplication = kind.Mark mark.Equivalent
+begin_of part.Implication = kind.True
+begin_of part.Implied = kind.Mark mark.Implies
+begin_of part.OrChain = kind.True
+begin_of part.NextAndChain = kind.Mark mark.Bar
+begin_of part.AndChain = kind.True
+begin_of part.NextNegation = kind.Mark mark.Ampersand
+begin_of part.Negation = kind.True
+begin_of part.Quantified = kind.Name
+begin_of part.SetWord = kind.Set
+begin_of part.NextBound = kind.Mark mark.Comma
+begin_of part.Primary = kind.True
+begin_of part.NameRest = kind.Mark mark.LeftParen
+begin_of part.UsedPaths = kind.Name
+begin_of part.NextUsedPath = kind.Mark mark.Comma
+begin_of part.PathAloneStep = kind.Mark mark.Dot
+begin_of part.NameRelation = kind.In
+begin_of part.Relation = kind.In
+
+-- more than the sizes of the parts of that row together
+unfoldable pub size_of : ProgramPart → ℕ
+size_of part.Declaration = 2
+size_of part.Type = 1
+size_of part.Variant = 1
+size_of part.Field = 1
+size_of part.Route = 4
+size_of part.NextAlternative = 4
+size_of part.Sequence = 3
+size_of part.NextRepeated = 3
+size_of part.Repeated = 2
+size_of part.Star = 1
+size_of part.Step = 1
+size_of part.UpName = 1
+size_of part.VariantTest = 1
+size_of part.Predicate = 8
+size_of part.PredicateParameters = 2
+size_of part.NextPredicateParameter = 2
+size_of part.PredicateParameter = 1
+size_of part.Bracketed = 7
+size_of part.Procedure = 1
+size_of part.Returns = 3
+size_of part.Logic = 2
+size_of part.NextLogicParameter = 2
+size_of part.LogicParameter = 1
+size_of part.Pre = 8
+size_of part.Post = 8
+size_of part.Parameters = 2
+size_of part.NextParameter = 2
+size_of part.Parameter = 1
+size_of part.Local = 2
+size_of part.Block = 1
+size_of part.Statement = 1
+size_of part.Else = 2
+size_of part.CallRest = 2
+size_of part.NextResult = 1
+size_of part.Arguments = 1
+size_of part.Argued = 2
+size_of part.NextArgument = 2
+size_of part.LogicArguments = 2
+size_of part.Argument = 1
+size_of part.Keep = 8
+size_of part.Value = 1
+size_of part.NewVariant = 1
+size_of part.Condition = 3
+size_of part.NextConjunction = 3
+size_of part.Conjunction = 2
+size_of part.NextLiteral = 2
+size_of part.Literal = 1
+size_of part.LiteralRelation = 1
+size_of part.Term = 1
+size_of part.Path = 1
+size_of part.PathStep = 1
+size_of part.Iff = 6
+size_of part.NextImplication = 6
+size_of part.Implication = 5
+size_of part.Implied = 6
+size_of part.OrChain = 4
+size_of part.NextAndChain = 4
+size_of part.AndChain = 3
+size_of part.NextNegation = 3
+size_of part.Negation = 2
+size_of part.Quantified = 7
+size_of part.SetWord = 1
+size_of part.NextBound = 1
+size_of part.Primary = 1
+size_of part.NameRest = 1
+size_of part.UsedPaths = 2
+size_of part.NextUsedPath = 2
+size_of part.PathAloneStep = 1
+size_of part.NameRelation = 2
+size_of part.Relation = 1
+
+unfoldable pub program_hints : Hints ProgramPart ProgramChoice ProgramKind
+program_hints = record {
+  number = number_of;
+  label = label_of;
+  starts = starts_of;
+  tails = tails_of;
+  text_tail = text_tail;
+  cost = cost_of;
+  sample = sample_of;
+  begin = begin_of;
+  size = size_of;
+}

@@ -1,0 +1,4 @@
+pub mod Building
+pub mod Hints
+pub mod TableLaws
+pub mod Tables

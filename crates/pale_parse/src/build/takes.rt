@@ -1,0 +1,122 @@
+//! What was made last, taken for something larger. Where there is none, something plain stands for it.
+
+ghost use Rattle.std.specs.Prelude.{◌≡◌, [], None};
+ghost use Rattle.piles.specs.Piles.{top, rest};
+ghost use Rattle.pale_text.specs.MakingParts.{nameless, nowhere};
+ghost use Rattle.pale_text.specs.MakingWords.{pathless, termless};
+ghost use Rattle.pale_text.specs.MakingRoutes.{routeless};
+ghost use Rattle.pale_text.specs.MakingConditions.{conditionless};
+ghost use Rattle.pale_text.specs.MakingAssertions.{assertionless, quantifierless};
+ghost use Rattle.pale_text.specs.MakingStatements.{bracketless, valueless};
+
+use crate::build::near::{nameless, nowhere};
+use pale_text::{
+    Assertion, Block, Bracketed, Condition, Name, Path, Pos, Quantifier, QuantifierKind, Route,
+    Term, Value,
+};
+use piles::Pile;
+use plain_data::Items;
+use std::alloc::Global;
+
+pub fn take_name(alloc: Global, names: &mut Pile<Name>) -> Name
+    ensures taken { result ≡ top nameless names.old }
+    ensures left { names.new ≡ rest names.old }
+{
+    names.take_or(nameless(alloc))
+}
+
+pub fn take_place(places: &mut Pile<Pos>) -> Pos
+    ensures taken { result ≡ top nowhere places.old }
+    ensures left { places.new ≡ rest places.old }
+{
+    places.take_or(nowhere())
+}
+
+/// Stands where no path is known.
+pub fn pathless(alloc: Global) -> Path
+    ensures { result ≡ pathless }
+{
+    Path {
+        base: nameless(alloc),
+        fields: Items::new(alloc),
+    }
+}
+
+pub fn take_path(alloc: Global, paths: &mut Pile<Path>) -> Path
+    ensures taken { result ≡ top pathless paths.old }
+    ensures left { paths.new ≡ rest paths.old }
+{
+    paths.take_or(pathless(alloc))
+}
+
+pub fn take_term(terms: &mut Pile<Term>) -> Term
+    ensures taken { result ≡ top termless terms.old }
+    ensures left { terms.new ≡ rest terms.old }
+{
+    terms.take_or(Term::Null(nowhere()))
+}
+
+pub fn take_route(routes: &mut Pile<Route>) -> Route
+    ensures taken { result ≡ top routeless routes.old }
+    ensures left { routes.new ≡ rest routes.old }
+{
+    routes.take_or(Route::UpAny)
+}
+
+pub fn take_condition(conditions: &mut Pile<Condition>) -> Condition
+    ensures taken { result ≡ top conditionless conditions.old }
+    ensures left { conditions.new ≡ rest conditions.old }
+{
+    conditions.take_or(Condition::True(nowhere()))
+}
+
+pub fn take_assertion(assertions: &mut Pile<Assertion>) -> Assertion
+    ensures taken { result ≡ top assertionless assertions.old }
+    ensures left { assertions.new ≡ rest assertions.old }
+{
+    assertions.take_or(Assertion::True)
+}
+
+pub fn take_quantifier(alloc: Global, quantifiers: &mut Pile<Quantifier>) -> Quantifier
+    ensures taken { result ≡ top quantifierless quantifiers.old }
+    ensures left { quantifiers.new ≡ rest quantifiers.old }
+{
+    quantifiers.take_or(Quantifier {
+        kind: QuantifierKind::Ex,
+        place: nowhere(),
+        of_sets: false,
+        names: Items::new(alloc),
+        ty: nameless(alloc),
+    })
+}
+
+pub fn take_bracketed(brackets: &mut Pile<Bracketed>) -> Bracketed
+    ensures taken { result ≡ top bracketless brackets.old }
+    ensures left { brackets.new ≡ rest brackets.old }
+{
+    brackets.take_or(Bracketed {
+        place: nowhere(),
+        assertion: Assertion::True,
+    })
+}
+
+pub fn take_block(alloc: Global, blocks: &mut Pile<Block>) -> Block
+    ensures taken { result ≡ top [] blocks.old }
+    ensures left { blocks.new ≡ rest blocks.old }
+{
+    blocks.take_or(Items::new(alloc))
+}
+
+pub fn take_else(elses: &mut Pile<Option<Block>>) -> Option<Block>
+    ensures taken { result ≡ top None elses.old }
+    ensures left { elses.new ≡ rest elses.old }
+{
+    elses.take_or(None)
+}
+
+pub fn take_value(values: &mut Pile<Value>) -> Value
+    ensures taken { result ≡ top valueless values.old }
+    ensures left { values.new ≡ rest values.old }
+{
+    values.take_or(Value::Condition(nowhere(), Condition::True(nowhere())))
+}

@@ -1,0 +1,62 @@
+//! The grammar of programs, as the reader of grammars takes it.
+
+ghost use Rattle.std.specs.Prelude.{◌≡◌};
+ghost use Rattle.pale_text.specs.ProgramGrammar.{program_grammar};
+ghost use Rattle.pale_parse.specs.Tables.{program_rules};
+ghost use Rattle.pale_parse.specs.Hints.{program_hints};
+ghost use Rattle.pale_parse.specs.TableLaws.{program_named, program_sound};
+
+use crate::tables::{ProgramChoice, ProgramSymbol, choices_of, number_of, row_of, starts_of};
+use grammar_engine::{Grammar, Symbol};
+use pale_text::{Act, ProgramKind, ProgramPart};
+
+/// The grammar of programs.
+pub(crate) struct ProgramGrammar;
+
+/// What a whole text is.
+static TEXT: [ProgramSymbol; 1] = [Symbol::Many(ProgramPart::Declaration)];
+
+impl Grammar for ProgramGrammar {
+    type Nonterminal = ProgramPart;
+
+    type Choice = ProgramChoice;
+
+    type Act = Act;
+
+    type Kind = ProgramKind;
+
+    ghost grammar = { program_grammar };
+
+    ghost rules = { program_rules };
+
+    ghost hints = { program_hints };
+
+    #[tactic(auto, unfolding(crate::specs::Tables::program_rules))]
+    fn choices(part: ProgramPart) -> &'static [ProgramChoice] {
+        choices_of(part)
+    }
+
+    #[tactic(auto, unfolding(crate::specs::Tables::program_rules))]
+    fn row(choice: ProgramChoice) -> &'static [ProgramSymbol] {
+        row_of(choice)
+    }
+
+    #[tactic(auto, unfolding(crate::specs::Tables::program_rules))]
+    fn text() -> &'static [ProgramSymbol] {
+        &TEXT
+    }
+
+    #[tactic(auto, unfolding(crate::specs::Hints::program_hints))]
+    fn starts(choice: ProgramChoice) -> &'static [ProgramKind] {
+        starts_of(choice)
+    }
+
+    #[tactic(auto, unfolding(crate::specs::Hints::program_hints))]
+    fn number(kind: ProgramKind) -> u32 {
+        number_of(kind)
+    }
+
+    ghost named = { program_named };
+
+    ghost sound = { program_sound };
+}

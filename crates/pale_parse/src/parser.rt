@@ -1,0 +1,48 @@
+//! Programs from their tokens.
+
+ghost use Rattle.std.specs.Prelude.{◌≡◌, List, IfOk, IfErr, IsOkUnless};
+ghost use Rattle.grammar_engine.specs.Readings.{Step};
+ghost use Rattle.pale_text.specs.declared.grammar.act.Act.{Act as ProgramAct};
+ghost use Rattle.pale_text.specs.declared.tree.declaration.Program.{Program as ProgramTree};
+ghost use Rattle.pale_text.specs.declared.refusal.TextStop.TheVariants.{NoMemory};
+ghost use Rattle.pale_text.specs.ProgramWords.{kinds_in};
+ghost use Rattle.pale_text.specs.ProgramReading.{IsProgram, IsShallow, IsParsedAs, IsParseStop};
+
+use crate::build::build;
+use crate::grammar::ProgramGrammar;
+use pale_text::{Program, ProgramKind, TextStop, Token, TokenList, read_tokens};
+use plain_data::Items;
+use std::alloc::{AllocError, Global};
+
+/// How many levels a program may open at once.
+const MAX_LEVELS: u32 = 200;
+
+/// The program that these tokens are.
+///
+/// `Refused` is `syntax` at the first token that no program has after those before it, or at the text's end where the
+/// tokens are no program yet; or `deep` at the first token that opens a level above the limit. The one that stands first
+/// is named. `NoMemory` says nothing of the tokens. The time is linear in the tokens, and neither the length nor the
+/// depth of a text takes stack.
+pub fn parse(alloc: Global, list: &TokenList) -> Result<Program, TextStop>
+    ensures program { IfOk result (IsParsedAs list.now.tokens) }
+    ensures stop { IfErr result (IsParseStop list.now) }
+    // The tokens are no other program.
+    ensures only { (steps : List (Step ProgramAct)) (tree : ProgramTree) → IsProgram list.now.tokens steps tree → IfOk result (λ read. read ≡ tree) }
+    // A program with so few levels is read, unless memory runs out.
+    ensures complete { (steps : List (Step ProgramAct)) (tree : ProgramTree) → IsProgram list.now.tokens steps tree → IsShallow steps → IsOkUnless result NoMemory }
+{
+    let kinds = kinds_in(alloc, list.tokens.as_slice())?;
+    let events = read_tokens::<ProgramGrammar>(alloc, list, kinds.as_slice(), MAX_LEVELS)?;
+    Ok(build(alloc, list.tokens.as_slice(), events.as_slice())?)
+}
+
+/// The kinds of the tokens.
+fn kinds_in(alloc: Global, tokens: &[Token]) -> Result<Items<ProgramKind>, AllocError>
+    ensures { IfOk result (λ kinds. kinds ≡ kinds_in tokens.now) }
+{
+    let mut kinds = Items::new(alloc);
+    for token in tokens {
+        kinds.push(ProgramKind::of(&token.kind))?;
+    }
+    Ok(kinds)
+}

@@ -1,0 +1,163 @@
+//! The rows of each part.
+
+ghost use Rattle.std.specs.Prelude.{◌≡◌};
+ghost use Rattle.pale_parse.specs.Tables.{choices_of};
+
+use super::choice::ProgramChoice;
+use pale_text::ProgramPart;
+
+/// The rows of a part.
+#[tactic(auto, unfolding(crate::specs::Tables::choices_of))]
+pub(crate) fn choices_of(part: ProgramPart) -> &'static [ProgramChoice]
+    ensures { result.now ≡ choices_of part }
+{
+    match part {
+        ProgramPart::Declaration => &[
+            ProgramChoice::ATypeDeclaration,
+            ProgramChoice::APredicateDeclaration,
+            ProgramChoice::AProcedureDeclaration,
+        ],
+        ProgramPart::Type => &[ProgramChoice::TypeDeclared],
+        ProgramPart::Variant => &[ProgramChoice::VariantDeclared],
+        ProgramPart::Field => &[
+            ProgramChoice::BoolFieldDeclared,
+            ProgramChoice::DataFieldDeclared,
+            ProgramChoice::PointerFieldDeclared,
+        ],
+        ProgramPart::Route => &[ProgramChoice::RouteOfSequences],
+        ProgramPart::NextAlternative => &[ProgramChoice::AlternativeAfterPlus],
+        ProgramPart::Sequence => &[ProgramChoice::SequenceOfRepeated],
+        ProgramPart::NextRepeated => &[ProgramChoice::RepeatedAfterDot],
+        ProgramPart::Repeated => &[ProgramChoice::StepWithStars],
+        ProgramPart::Star => &[ProgramChoice::OneStar],
+        ProgramPart::Step => &[
+            ProgramChoice::StepDown,
+            ProgramChoice::StepUp,
+            ProgramChoice::LeafTest,
+            ProgramChoice::RootTest,
+            ProgramChoice::TypeTest,
+            ProgramChoice::TrueTest,
+            ProgramChoice::FalseTest,
+            ProgramChoice::RouteGroup,
+        ],
+        ProgramPart::UpName => &[ProgramChoice::UpByName],
+        ProgramPart::VariantTest => &[ProgramChoice::TestedVariant],
+        ProgramPart::Predicate => &[ProgramChoice::PredicateDeclared],
+        ProgramPart::PredicateParameters => &[ProgramChoice::PredicateParametersInOrder],
+        ProgramPart::NextPredicateParameter => &[ProgramChoice::PredicateParameterAfterComma],
+        ProgramPart::PredicateParameter => &[
+            ProgramChoice::CellDeclared,
+            ProgramChoice::SetDeclared,
+            ProgramChoice::BoolDeclared,
+        ],
+        ProgramPart::Bracketed => &[ProgramChoice::AssertionInBrackets],
+        ProgramPart::Procedure => &[ProgramChoice::ProcedureDeclared],
+        ProgramPart::Returns => &[ProgramChoice::ResultsDeclared],
+        ProgramPart::Logic => &[ProgramChoice::LogicDeclared],
+        ProgramPart::NextLogicParameter => &[ProgramChoice::LogicParameterAfterComma],
+        ProgramPart::LogicParameter => &[
+            ProgramChoice::LogicSetDeclared,
+            ProgramChoice::LogicBoolDeclared,
+        ],
+        ProgramPart::Pre => &[ProgramChoice::PreDeclared],
+        ProgramPart::Post => &[ProgramChoice::PostDeclared],
+        ProgramPart::Parameters => &[ProgramChoice::ParametersInOrder],
+        ProgramPart::NextParameter => &[ProgramChoice::ParameterAfterComma],
+        ProgramPart::Parameter => &[
+            ProgramChoice::DataDeclared,
+            ProgramChoice::PointerDeclared,
+            ProgramChoice::BoolVariableDeclared,
+        ],
+        ProgramPart::Local => &[ProgramChoice::LocalDeclared],
+        ProgramPart::Block => &[ProgramChoice::BlockOfStatements],
+        ProgramPart::Statement => &[
+            ProgramChoice::Skip,
+            ProgramChoice::If,
+            ProgramChoice::While,
+            ProgramChoice::Split,
+            ProgramChoice::Assert,
+            ProgramChoice::Free,
+            ProgramChoice::Call,
+            ProgramChoice::Assign,
+        ],
+        ProgramPart::Else => &[ProgramChoice::ElseBlock],
+        ProgramPart::CallRest => &[
+            ProgramChoice::CallWithoutResults,
+            ProgramChoice::CallWithResults,
+        ],
+        ProgramPart::NextResult => &[ProgramChoice::ResultAfterComma],
+        ProgramPart::Arguments => &[ProgramChoice::ArgumentsOfBothKinds],
+        ProgramPart::Argued => &[ProgramChoice::ArgumentsInOrder],
+        ProgramPart::NextArgument => &[ProgramChoice::ArgumentAfterComma],
+        ProgramPart::LogicArguments => &[ProgramChoice::LogicArgumentsInOrder],
+        ProgramPart::Argument => &[
+            ProgramChoice::ANameArgument,
+            ProgramChoice::ANullArgument,
+            ProgramChoice::ATrueArgument,
+            ProgramChoice::AFalseArgument,
+        ],
+        ProgramPart::Keep => &[ProgramChoice::Kept],
+        ProgramPart::Value => &[ProgramChoice::NewCell, ProgramChoice::ConditionValue],
+        ProgramPart::NewVariant => &[ProgramChoice::VariantOfNew],
+        ProgramPart::Condition => &[ProgramChoice::ConditionOfConjunctions],
+        ProgramPart::NextConjunction => &[ProgramChoice::ConjunctionAfterOr],
+        ProgramPart::Conjunction => &[ProgramChoice::ConjunctionOfLiterals],
+        ProgramPart::NextLiteral => &[ProgramChoice::LiteralAfterAnd],
+        ProgramPart::Literal => &[
+            ProgramChoice::NotLiteral,
+            ProgramChoice::ConditionGroup,
+            ProgramChoice::TrueLiteral,
+            ProgramChoice::FalseLiteral,
+            ProgramChoice::TermLiteral,
+        ],
+        ProgramPart::LiteralRelation => &[
+            ProgramChoice::SameLiteral,
+            ProgramChoice::NotSameLiteral,
+            ProgramChoice::VariantLiteral,
+        ],
+        ProgramPart::Term => &[ProgramChoice::NullTerm, ProgramChoice::PathAsTerm],
+        ProgramPart::Path => &[ProgramChoice::PathOfSteps],
+        ProgramPart::PathStep => &[ProgramChoice::NameAfterDot],
+        ProgramPart::Iff => &[ProgramChoice::IffOfImplications],
+        ProgramPart::NextImplication => &[ProgramChoice::ImplicationAfterIff],
+        ProgramPart::Implication => &[ProgramChoice::ImplicationOfChain],
+        ProgramPart::Implied => &[ProgramChoice::ImplicationAfterArrow],
+        ProgramPart::OrChain => &[ProgramChoice::OrOfAndChains],
+        ProgramPart::NextAndChain => &[ProgramChoice::AndChainAfterBar],
+        ProgramPart::AndChain => &[ProgramChoice::AndOfNegations],
+        ProgramPart::NextNegation => &[ProgramChoice::NegationAfterAmpersand],
+        ProgramPart::Negation => &[
+            ProgramChoice::NotAssertion,
+            ProgramChoice::ExQuantified,
+            ProgramChoice::AllQuantified,
+            ProgramChoice::PrimaryAlone,
+        ],
+        ProgramPart::Quantified => &[ProgramChoice::BoundWithBody],
+        ProgramPart::SetWord => &[ProgramChoice::OverSets],
+        ProgramPart::NextBound => &[ProgramChoice::BoundAfterComma],
+        ProgramPart::Primary => &[
+            ProgramChoice::AssertionGroup,
+            ProgramChoice::TruePrimary,
+            ProgramChoice::FalsePrimary,
+            ProgramChoice::NullPrimary,
+            ProgramChoice::NamePrimary,
+        ],
+        ProgramPart::NameRest => &[
+            ProgramChoice::UseOfName,
+            ProgramChoice::LongerPath,
+            ProgramChoice::RelationOfName,
+        ],
+        ProgramPart::UsedPaths => &[ProgramChoice::UsedPathsInOrder],
+        ProgramPart::NextUsedPath => &[ProgramChoice::UsedPathAfterComma],
+        ProgramPart::PathAloneStep => &[ProgramChoice::PathAloneAfterDot],
+        ProgramPart::NameRelation => &[ProgramChoice::RelationOfPath],
+        ProgramPart::Relation => &[
+            ProgramChoice::SameTerm,
+            ProgramChoice::DifferentTerm,
+            ProgramChoice::MemberOfSet,
+            ProgramChoice::SubsetOfSet,
+            ProgramChoice::WalkToTerm,
+            ProgramChoice::OfThisVariant,
+        ],
+    }
+}

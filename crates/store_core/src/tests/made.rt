@@ -1,0 +1,185 @@
+//! Tables made by hand. A change that a table doesn't allow is left out.
+
+ghost use Rattle.std.specs.Prelude.{◌≡◌, ◌<◌, length, None, IsTrue, IsSomeAnd};
+ghost use Rattle.std.specs.Option.{option_copied};
+ghost use Rattle.store_core.specs.Tables.{place_of, field_names, fields_of, owner_type, KnowsOwner};
+ghost use Rattle.store_core.specs.Stores.{class_of};
+
+use crate::*;
+use plain_data::Items;
+use std::alloc::{AllocError, Global};
+
+pub const NODE: TypeId = TypeId(0);
+
+pub const DBL: TypeId = TypeId(1);
+
+pub const TREE: TypeId = TypeId(2);
+
+pub const MARK: TypeId = TypeId(3);
+
+/// The second variant of a type with two.
+pub fn second(ty: TypeId) -> VariantId {
+    VariantId { ty, index: 1 }
+}
+
+fn add_type(types: &mut TypeTable, name: &[u8]) -> Result<(), AllocError> {
+    if types.find_type(name).is_none() && types.types() < 9 {
+        types.add_type(name)?;
+    }
+    Ok(())
+}
+
+fn add_variant(types: &mut TypeTable, ty: TypeId, name: &[u8]) -> Result<(), AllocError> {
+    if ty.0 < types.types() && types.find_variant(ty, name).is_none() && types.variants(ty) < 9 {
+        types.add_variant(ty, name)?;
+    }
+    Ok(())
+}
+
+fn type_of(owner: Owner) -> TypeId
+    ensures { result ≡ owner_type owner }
+{
+    match owner {
+        Owner::Common(ty) => ty,
+        Owner::Variant(v) => v.ty,
+    }
+}
+
+fn is_known(types: &TypeTable, owner: Owner) -> bool
+    ensures { IsTrue result → KnowsOwner types.now owner }
+{
+    match owner {
+        Owner::Common(ty) => ty.0 < types.types(),
+        Owner::Variant(v) => v.index < types.variants(v.ty),
+    }
+}
+
+fn has_room(types: &TypeTable, owner: Owner, name: &[u8]) -> bool
+    ensures known { IsTrue result → KnowsOwner types.now owner }
+    ensures new { IsTrue result → place_of name.now (field_names (fields_of types.now (owner_type owner))) ≡ None }
+    ensures room { IsTrue result → length (fields_of types.now (owner_type owner)) < 32 }
+{
+    let ty = type_of(owner);
+    is_known(types, owner) && types.find_field(ty, name).is_none() && types.fields(ty) < 9
+}
+
+fn add_bool(types: &mut TypeTable, owner: Owner, name: &[u8]) -> Result<(), AllocError> {
+    if has_room(types, owner, name) {
+        types.add_field(owner, name, FieldKind::Bool)?;
+    }
+    Ok(())
+}
+
+fn add_data(
+    types: &mut TypeTable,
+    owner: Owner,
+    name: &[u8],
+    target: TypeId,
+) -> Result<(), AllocError> {
+    if has_room(types, owner, name) && target.0 < types.types() {
+        types.add_field(owner, name, FieldKind::Data(target))?;
+    }
+    Ok(())
+}
+
+/// A pointer field with the route `^next`.
+fn add_pointer(
+    alloc: Global,
+    types: &mut TypeTable,
+    owner: Owner,
+    name: &[u8],
+    target: TypeId,
+) -> Result<(), AllocError> {
+    let route = Route::Up(Items::from_slice(alloc, b"next")?);
+    if has_room(types, owner, name) && target.0 < types.types() {
+        types.add_field(owner, name, FieldKind::Pointer(target, route))?;
+    }
+    Ok(())
+}
+
+/// `type Node = { data next: Node; }`, `type Dbl = { data next: Dbl; pointer prev: Dbl [^next]; }`,
+/// `type Tree = { } | leaf { } | node { data left: Tree; data right: Tree; }` and
+/// `type Mark = { bool on; } | cold { } | hot { bool up; pointer at: Node [^next]; }`.
+pub fn made_types(alloc: Global) -> Result<TypeTable, AllocError> {
+    let mut types = TypeTable::new(alloc);
+    for name in ["Node", "Dbl", "Tree", "Mark"] {
+        add_type(&mut types, name.as_bytes())?;
+    }
+    for (ty, name) in [
+        (TREE, "leaf"),
+        (TREE, "node"),
+        (MARK, "cold"),
+        (MARK, "hot"),
+    ] {
+        add_variant(&mut types, ty, name.as_bytes())?;
+    }
+    add_data(&mut types, Owner::Common(NODE), b"next", NODE)?;
+    add_data(&mut types, Owner::Common(DBL), b"next", DBL)?;
+    add_pointer(alloc, &mut types, Owner::Common(DBL), b"prev", DBL)?;
+    add_data(&mut types, Owner::Variant(second(TREE)), b"left", TREE)?;
+    add_data(&mut types, Owner::Variant(second(TREE)), b"right", TREE)?;
+    add_bool(&mut types, Owner::Common(MARK), b"on")?;
+    add_bool(&mut types, Owner::Variant(second(MARK)), b"up")?;
+    add_pointer(alloc, &mut types, Owner::Variant(second(MARK)), b"at", NODE)?;
+    Ok(types)
+}
+
+/// The variables of these names and kinds.
+pub fn made_vars(alloc: Global, list: &[(&str, VarKind)]) -> Result<VarTable, AllocError> {
+    let mut vars = VarTable::new(alloc);
+    for (name, kind) in list {
+        if vars.find(name.as_bytes()).is_none() && vars.vars() < 9 {
+            vars.add(name.as_bytes(), *kind)?;
+        }
+    }
+    Ok(vars)
+}
+
+/// A new cell of the variant; `None` where there is none of it.
+pub fn put(
+    store: &mut Store,
+    types: &TypeTable,
+    v: VariantId,
+) -> Result<Option<CellId>, AllocError> {
+    if v.index < types.variants(v.ty) && store.next() < 9 {
+        Ok(Some(store.put_cell(types, v)?))
+    } else {
+        Ok(None)
+    }
+}
+
+fn is_alike(old: Option<&Value>, value: &Value) -> bool
+    ensures { IsTrue result → IsSomeAnd (option_copied old.entry) (λ old. class_of value.now ≡ class_of old) }
+{
+    match old {
+        Some(old) => old.class() == value.class(),
+        None => false,
+    }
+}
+
+pub fn set_field(store: &mut Store, c: CellId, f: FieldId, value: Value) {
+    if is_alike(store.field(c, f), &value) {
+        store.set_field(c, f, value);
+    }
+}
+
+pub fn set_var(store: &mut Store, v: VarId, value: Value) {
+    if is_alike(store.var(v), &value) {
+        store.set_var(v, value);
+    }
+}
+
+pub fn remove(store: &mut Store, c: CellId) {
+    if store.type_of(c).is_some() {
+        store.remove(c);
+    }
+}
+
+/// The set of a cell.
+pub fn set_with(alloc: Global, c: CellId) -> Result<CellList, AllocError> {
+    let mut cells = CellList::new(alloc);
+    if cells.is_empty() {
+        cells.push(c)?;
+    }
+    Ok(cells)
+}

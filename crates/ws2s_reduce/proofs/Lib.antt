@@ -1,0 +1,9 @@
+pub mod ConnectivesLemmas
+pub mod CountsLemmas
+pub mod NamesLemmas
+pub mod NodesLemmas
+pub mod PositionsLemmas
+pub mod PredicatesLemmas
+pub mod SentencesLemmas
+pub mod SizesLemmas
+pub mod TextsLemmas
