@@ -33,4 +33,6 @@ pub use laws::{
 };
 
 #[cfg(test)]
+mod fault_tests;
+#[cfg(test)]
 mod walk_tests;
