@@ -7,6 +7,12 @@ pub mod AloneLemmas
 pub mod RenamingLemmas
 pub mod RenamedLemmas
 pub mod KeyLemmas
+pub mod PlaceLemmas
+pub mod SharedLemmas
+pub mod LeakLemmas
+pub mod JudgeLemmas
+pub mod FittingLemmas
+pub mod FaultLemmas
 pub mod GatheringLemmas
 pub mod MachineLemmas
 pub mod RangeLemmas

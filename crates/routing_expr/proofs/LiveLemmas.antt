@@ -20,7 +20,7 @@ and_then_some (Some cell) g x e = refl
 pub IsLive-field_value : (s : StoreMap) (c : CellId) (f : FieldId) (x : Value) → field_value s c f ≡ Some x → IsLive s c
 IsLive-field_value s c f x e = and_then_some (cell_of s c) (λ cell. field_of cell f) x e
 
-IsSome-and : {X : Type 0} (o : Option X) (P : X → Type 0) → IsSomeAnd o P → IsSome o
+pub IsSome-and : {X : Type 0} (o : Option X) (P : X → Type 0) → IsSomeAnd o P → IsSome o
 IsSome-and None P h = absurd h
 IsSome-and (Some x) P h = refl
 

@@ -1,6 +1,11 @@
 pub mod Walks
 pub mod Destinations
 pub mod WellFormed
+pub mod Places
+pub mod Sets
+pub mod Naming
+pub mod Reaching
+pub mod Judging
 pub mod Laws
 pub mod Gathering
 pub mod Searches

@@ -6,22 +6,33 @@
 #![tactic(auto)]
 
 mod calls;
+mod dangling;
 mod fault;
+mod first_fault;
 mod followed;
 mod indexing;
 mod laws;
+mod leak;
 mod links;
 mod machine;
+mod names;
+mod numbers;
+mod places;
 mod search;
+mod shared;
 mod steps;
+mod wrong_field;
 
 pub use calls::{destinations, ends};
 pub use fault::{Place, WfFault};
+pub use first_fault::well_formed;
 pub use followed::Followed;
 pub use laws::{
     data_walks_stay_in_one_tree, renaming_cells_renames_walks, walks_go_by_cases,
     walks_join_live_cells, walks_see_cells_alone,
 };
 
+#[cfg(test)]
+mod fault_tests;
 #[cfg(test)]
 mod walk_tests;
