@@ -4,6 +4,9 @@
 //! bool `b` besides. A box has the data fields `n`, to a node, and `l`, to a box, and the pointer `q`. A change that a table
 //! or a store doesn't allow is left out.
 
+ghost use Rattle.std.specs.Prelude.{◌≡◌, ◌<◌, length, List, None, IsTrue};
+ghost use Rattle.store_core.specs.Tables.{TypeEntry, place_of, field_names, fields_of, owner_type, KnowsOwner, KnowsRoute};
+
 use std::alloc::{AllocError, Global};
 use store_core::{
     CellId, FieldId, FieldKind, Owner, Route, Store, TypeId, TypeTable, Value, VarTable, VariantId,
@@ -32,45 +35,61 @@ fn add_variant(types: &mut TypeTable, name: &str) -> Result<(), AllocError> {
     Ok(())
 }
 
-/// Whether the owner is in the table.
-fn is_known(types: &TypeTable, owner: Owner) -> bool {
-    match owner {
-        Owner::Common(ty) => ty.0 < types.types(),
-        Owner::Variant(v) => v.index < types.variants(v.ty),
-    }
-}
-
-fn type_of(owner: Owner) -> TypeId {
+fn type_of(owner: Owner) -> TypeId
+    ensures { result ≡ owner_type owner }
+{
     match owner {
         Owner::Common(ty) => ty,
         Owner::Variant(v) => v.ty,
     }
 }
 
-/// A bool field, a data field of the type, or a pointer field with the route `root`.
-fn kind_of(pointer: bool, target: Option<TypeId>) -> FieldKind {
-    match target {
-        None => FieldKind::Bool,
-        Some(ty) if pointer => FieldKind::Pointer(ty, Route::Root),
-        Some(ty) => FieldKind::Data(ty),
+fn is_known(types: &TypeTable, owner: Owner) -> bool
+    ensures { IsTrue result → KnowsOwner types.now owner }
+{
+    match owner {
+        Owner::Common(ty) => ty.0 < types.types(),
+        Owner::Variant(v) => v.index < types.variants(v.ty),
     }
 }
 
-fn add_field(
+fn has_room(types: &TypeTable, owner: Owner, name: &[u8]) -> bool
+    ensures known { IsTrue result → KnowsOwner types.now owner }
+    ensures new { IsTrue result → place_of name.now (field_names (fields_of types.now (owner_type owner))) ≡ None }
+    ensures room { IsTrue result → length (fields_of types.now (owner_type owner)) < 32 }
+{
+    let ty = type_of(owner);
+    is_known(types, owner) && types.find_field(ty, name).is_none() && types.fields(ty) < 9
+}
+
+fn add_bool(types: &mut TypeTable, owner: Owner, name: &[u8]) -> Result<(), AllocError> {
+    if has_room(types, owner, name) {
+        types.add_field(owner, name, FieldKind::Bool)?;
+    }
+    Ok(())
+}
+
+fn add_data(
     types: &mut TypeTable,
     owner: Owner,
-    name: &str,
-    pointer: bool,
-    target: Option<TypeId>,
+    name: &[u8],
+    target: TypeId,
 ) -> Result<(), AllocError> {
-    let ty = type_of(owner);
-    if is_known(types, owner)
-        && is_known(types, Owner::Common(NODE))
-        && is_known(types, Owner::Common(BOX))
-        && types.find_field(ty, name.as_bytes()).is_none()
-        && types.fields(ty) < 10
-    {
-        types.add_field(owner, name.as_bytes(), kind_of(pointer, target))?;
+    if has_room(types, owner, name) && target.0 < types.types() {
+        types.add_field(owner, name, FieldKind::Data(target))?;
+    }
+    Ok(())
+}
+
+fn to_root() -> Route
+    ensures { (types : List TypeEntry) → KnowsRoute types result }
+{
+    Route::Root
+}
+
+fn add_pointer(types: &mut TypeTable, owner: Owner, name: &[u8]) -> Result<(), AllocError> {
+    if has_room(types, owner, name) && NODE.0 < types.types() {
+        types.add_field(owner, name, FieldKind::Pointer(NODE, to_root()))?;
     }
     Ok(())
 }
@@ -81,14 +100,14 @@ pub fn made_types(alloc: Global) -> Result<TypeTable, AllocError> {
     add_type(&mut types, "Box")?;
     add_variant(&mut types, "leaf")?;
     add_variant(&mut types, "fork")?;
-    add_field(&mut types, Owner::Common(NODE), "m", false, None)?;
-    add_field(&mut types, Owner::Common(NODE), "p", true, Some(NODE))?;
-    add_field(&mut types, Owner::Variant(FORK), "l", false, Some(NODE))?;
-    add_field(&mut types, Owner::Variant(FORK), "r", false, Some(NODE))?;
-    add_field(&mut types, Owner::Variant(FORK), "b", false, None)?;
-    add_field(&mut types, Owner::Common(BOX), "n", false, Some(NODE))?;
-    add_field(&mut types, Owner::Common(BOX), "l", false, Some(BOX))?;
-    add_field(&mut types, Owner::Common(BOX), "q", true, Some(NODE))?;
+    add_bool(&mut types, Owner::Common(NODE), b"m")?;
+    add_pointer(&mut types, Owner::Common(NODE), b"p")?;
+    add_data(&mut types, Owner::Variant(FORK), b"l", NODE)?;
+    add_data(&mut types, Owner::Variant(FORK), b"r", NODE)?;
+    add_bool(&mut types, Owner::Variant(FORK), b"b")?;
+    add_data(&mut types, Owner::Common(BOX), b"n", NODE)?;
+    add_data(&mut types, Owner::Common(BOX), b"l", BOX)?;
+    add_pointer(&mut types, Owner::Common(BOX), b"q")?;
     Ok(types)
 }
 

@@ -86,5 +86,5 @@ pub fn lists(cells: &CellList, digits: &str) -> bool {
         && cells
             .iter()
             .zip(digits.iter())
-            .all(|(cell, digit)| cell.0 == *digit as u32 - 48)
+            .all(|(cell, digit)| cell.0.wrapping_add(48) == *digit as u32)
 }
