@@ -26,7 +26,11 @@ pub(crate) fn declare(alloc: Global, shape: Shape) -> Result<(TypeTable, TypeId)
         Shape::Tree => {
             types.add_field(Owner::Common(ty), b"left", FieldKind::Data(ty))?;
             types.add_field(Owner::Common(ty), b"right", FieldKind::Data(ty))?;
-            types.add_field(Owner::Common(ty), b"up", FieldKind::Pointer(ty, Route::UpAny))?;
+            types.add_field(
+                Owner::Common(ty),
+                b"up",
+                FieldKind::Pointer(ty, Route::UpAny),
+            )?;
         }
     }
     Ok((types, ty))
