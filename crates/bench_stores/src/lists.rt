@@ -1,9 +1,9 @@
 //! Lists of cells of one type, as a store and as a text.
 
-ghost use Rattle.std.specs.Prelude.{◌≡◌, IsTrue, IsSomeAnd};
+ghost use Rattle.std.specs.Prelude.{◌≡◌, ◌<◌, length, IsTrue, IsSomeAnd};
 ghost use Rattle.std.specs.Option.{option_copied};
 ghost use Rattle.store_core.specs.declared.value.Class.TheVariants.{Reference};
-ghost use Rattle.store_core.specs.Stores.{class_of};
+ghost use Rattle.store_core.specs.Stores.{Fits, class_of};
 
 use std::alloc::{AllocError, Global};
 use store_core::{
@@ -98,32 +98,53 @@ pub struct Report {
     pub written: usize,
 }
 
-/// Reads a text that many times, and writes what was read that many times.
-fn read_and_write(
+/// Writes a store that many times; the length of its text.
+fn write(
+    alloc: Global,
+    types: &TypeTable,
+    vars: &VarTable,
+    store: &Store,
+    writes: u32,
+) -> Result<usize, AllocError>
+    requires { Fits types.now vars.now store.now }
+{
+    let mut written = 0;
+    for _round in 0..writes {
+        written = store_text(alloc, types, vars, store)?.len();
+    }
+    Ok(written)
+}
+
+/// Reads a text that many times; how many cells it has.
+fn read(alloc: Global, types: &TypeTable, vars: &VarTable, text: &[u8], reads: u32) -> usize
+    requires { length text.now < u32.MAX }
+{
+    let mut cells = 0;
+    for _round in 0..reads {
+        if let Ok(store) = read_store(alloc, types, vars, text) {
+            cells = store.cells();
+        }
+    }
+    cells
+}
+
+/// Reads a text, and writes what was read that many times; the length of its text, 0 where it isn't read.
+fn write_again(
     alloc: Global,
     types: &TypeTable,
     vars: &VarTable,
     text: &[u8],
-    reads: u32,
     writes: u32,
-) -> Result<(usize, usize), AllocError> {
-    let mut read = 0;
-    let mut written = 0;
-    if text.len() >= 4_294_967_295 {
-        return Ok((read, written));
-    }
-    for _round in 0..reads {
-        if let Ok(store) = read_store(alloc, types, vars, text) {
-            read = store.cells();
+) -> Result<usize, AllocError>
+    requires { length text.now < u32.MAX }
+{
+    match read_store(alloc, types, vars, text) {
+        Err(_) => Ok(0),
+        Ok(store) => {
+            read_stores_fit();
+            write(alloc, types, vars, &store, writes)
         }
     }
-    if let Ok(store) = read_store(alloc, types, vars, text) {
-        read_stores_fit();
-        for _round in 0..writes {
-            written = store_text(alloc, types, vars, &store)?.len();
-        }
-    }
-    Ok((read, written))
 }
 
 /// Makes a list, reads the text of one and writes it again, each that many times.
@@ -141,10 +162,12 @@ pub fn run(
         made = make(alloc, &types, &vars, cells)?.cells();
     }
     let text = text_of(alloc, cells)?;
-    let (read, written) = read_and_write(alloc, &types, &vars, text.as_slice(), reads, writes)?;
+    if text.len() >= 4_294_967_295 {
+        return Err(AllocError);
+    }
     Ok(Report {
         made,
-        read,
-        written,
+        read: read(alloc, &types, &vars, text.as_slice(), reads),
+        written: write_again(alloc, &types, &vars, text.as_slice(), writes)?,
     })
 }
