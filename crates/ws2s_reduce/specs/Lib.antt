@@ -1,3 +1,4 @@
+pub mod Building
 pub mod Examples
 pub mod Reducing
 pub mod Sizes

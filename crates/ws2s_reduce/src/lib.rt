@@ -5,7 +5,9 @@
 #![tactic(auto)]
 
 pub mod examples;
+mod forms;
 mod laws;
 mod size;
+mod task;
 
 pub use laws::reductions_mean_the_text;
