@@ -30,7 +30,7 @@ count-false : (next : ℕ) → node_count (false_at next) ≡ 5
 count-false next =
     simp (count-Ex2 (track next) (And (Single (track next)) (Not (Single (track next)))), count-And (Single (track next)) (Not (Single (track next))), count-Not (Single (track next)), count-Single (track next)) refl
 
-count-true : (next : ℕ) → node_count (true_at next) ≡ 6
+pub count-true : (next : ℕ) → node_count (true_at next) ≡ 6
 count-true next = count-Not (false_at next) ∙ ap (λ n. n + 1) (count-false next)
 
 count-empty : (next x : ℕ) → node_count (empty_at next x) ≡ 5

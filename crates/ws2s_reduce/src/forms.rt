@@ -1,6 +1,6 @@
 //! The abbreviations of core formulas.
 
-ghost use Rattle.std.specs.Prelude.{◌≡◌, IfOk};
+ghost use Rattle.std.specs.Prelude.{◌≡◌, ◌+◌, fold, List, [], ◌∷◌, IfOk};
 ghost use Rattle.ws2s_core.specs.declared.formula.Formula.TheVariants.{And, Ex2};
 ghost use Rattle.ws2s_reduce.specs.Reducing.{track, false_at, true_at, and_list, or, imp, iff, ex1, all1, all2, empty_at, equal};
 ghost use Rattle.ws2s_reduce.specs.Building.{joined_of, quantified_at, wrapped};
@@ -8,6 +8,20 @@ ghost use Rattle.ws2s_reduce.specs.Building.{joined_of, quantified_at, wrapped};
 use std::alloc::{AllocError, Global};
 use ws2s_core::{Formula, Track};
 use ws2s_syntax::{Connective, Quantifier};
+
+/// The track that so many bound ones follow.
+///
+/// # Errors
+///
+/// There is no such track, as in no reduction of 65,536 nodes.
+pub fn later(next: u32, bound: u32) -> Result<u32, AllocError>
+    ensures { IfOk result (λ track. track ≡ next + bound) }
+{
+    match next.checked_add(bound) {
+        Some(track) => Ok(track),
+        None => Err(AllocError),
+    }
+}
 
 /// Never satisfied; binds the track.
 pub fn false_at(alloc: Global, next: u32) -> Result<Formula, AllocError>
@@ -122,4 +136,47 @@ pub fn equal(alloc: Global, left: u32, right: u32) -> Result<Formula, AllocError
 {
     let within = Formula::Sub(Track(left), Track(right));
     Formula::and(alloc, within, Formula::Sub(Track(right), Track(left)))
+}
+
+/// Quantifiers that bind so many tracks from this one on, the first of them outside.
+pub fn wrapped(
+    alloc: Global,
+    quantifier: Quantifier,
+    first: u32,
+    names: u32,
+    inner: Formula,
+) -> Result<Formula, AllocError>
+    ensures { IfOk result (λ formula. formula ≡ wrapped quantifier first names inner) }
+{
+    let mut formula = inner;
+    let mut left = names;
+    while left > 0 {
+        left -= 1;
+        let own = later(first, left)?;
+        formula = quantified(alloc, quantifier, own, formula)?;
+    }
+    Ok(formula)
+}
+
+/// A formula and others, joined from the left.
+fn and_all(alloc: Global, first: Formula, others: Vec<Formula>) -> Result<Formula, AllocError>
+    ensures { IfOk result (λ formula. formula ≡ fold And first others.items) }
+{
+    let mut whole = first;
+    for formula in others {
+        whole = Formula::and(alloc, whole, formula)?;
+    }
+    Ok(whole)
+}
+
+/// The conjunction of formulas, joined from the left; True of none.
+pub fn and_list(alloc: Global, next: u32, formulas: Vec<Formula>) -> Result<Formula, AllocError>
+    ensures { IfOk result (λ formula. formula ≡ and_list next formulas.items) }
+{
+    let mut formulas = formulas;
+    if formulas.is_empty() {
+        return true_at(alloc, next);
+    }
+    let first = formulas.remove(0);
+    and_all(alloc, first, formulas)
 }

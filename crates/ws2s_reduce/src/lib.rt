@@ -9,5 +9,6 @@ mod forms;
 mod laws;
 mod size;
 mod task;
+mod term;
 
 pub use laws::reductions_mean_the_text;
