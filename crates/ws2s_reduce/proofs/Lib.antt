@@ -6,4 +6,6 @@ pub mod PositionsLemmas
 pub mod PredicatesLemmas
 pub mod SentencesLemmas
 pub mod SizesLemmas
+pub mod SmallLemmas
+pub mod TermsLemmas
 pub mod TextsLemmas

@@ -1,3 +1,5 @@
+pub mod Building
 pub mod Examples
 pub mod Reducing
 pub mod Sizes
+pub mod Terms

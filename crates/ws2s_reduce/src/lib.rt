@@ -5,7 +5,10 @@
 #![tactic(auto)]
 
 pub mod examples;
+mod forms;
 mod laws;
 mod size;
+mod task;
+mod term;
 
 pub use laws::reductions_mean_the_text;

@@ -1,13 +1,16 @@
 //! How large reductions are, counted without building them.
 
-ghost use Rattle.std.specs.Prelude.{◌≡◌, ◌+◌, ◌*◌, ◌≤◌, min, map, fold, IfOk};
+ghost use Rattle.std.specs.Prelude.{◌≡◌, ◌↔◌, ◌+◌, ◌*◌, ◌≤◌, min, not, IsTrue, map, fold, count_by, IfOk};
 ghost use Rattle.std.specs.List.{sum_by};
 ghost use Rattle.ws2s_syntax.specs.Sentences.{Sentence, joined, sentence_of};
-ghost use Rattle.ws2s_reduce.specs.Sizes.{term_size, argument_size, atom_size, joined_size, quantifier_size, sentence_size, formulas_size, sizes_in, AreSizes};
-ghost use Rattle.ws2s_reduce.specs.Reducing.{no_reductions, reductions_from};
+ghost use Rattle.ws2s_reduce.specs.Sizes.{term_size, argument_size, atom_size, joined_size, quantifier_size, sentence_size, formulas_size, sizes_in, AreSizes, IsSmall};
+ghost use Rattle.ws2s_reduce.specs.Reducing.{no_reductions, reductions_from, reductions_of, holds_of, breaks_of};
+ghost use Rattle.ws2s_syntax.specs.Checked.{Text};
 
 use std::alloc::{AllocError, Global};
-use ws2s_syntax::{Argument, Atom, Base, Connective, Predicate, Quantifier, Term, TextFormula};
+use ws2s_syntax::{
+    Argument, Atom, Base, Connective, Free, Predicate, Quantifier, Term, TextFormula, Ws2sText,
+};
 
 /// Sizes are told apart up to this one; a greater one counts as it.
 const CAP: u64 = 65_537;
@@ -171,4 +174,38 @@ pub fn sizes_of_predicates(alloc: Global, predicates: &[Predicate]) -> Result<Ve
         sizes.push(size)?;
     }
     Ok(sizes)
+}
+
+/// How many of the variables are positions.
+fn count_of_positions(free: &[Free]) -> usize
+    ensures { result ≡ count_by (λ variable. not variable.set) free.now }
+{
+    free.iter().filter(|variable| !variable.set).count()
+}
+
+/// Whether both formulas of a text's reduction have at most 65,536 nodes, where its predicates have these sizes.
+fn is_small_with(free: &[Free], stated: &[TextFormula], sizes: &[u64]) -> bool
+    ensures { (text : Text) → text.free ≡ free.now → text.formulas ≡ stated.now →
+        AreSizes sizes.now (reductions_of text) →
+        IsTrue result ↔ (IsSmall (holds_of text) × IsSmall (breaks_of text)) }
+{
+    let size = size_of_formulas(stated, sizes);
+    let found = count_of_positions(free);
+    let positions = capped(found as u64);
+    2 * positions + size < 65_536
+}
+
+/// Whether both formulas of a text's reduction have at most 65,536 nodes, found without building them.
+///
+/// # Errors
+///
+/// Want of memory.
+pub fn is_small(alloc: Global, text: &Ws2sText) -> Result<bool, AllocError>
+    ensures { IfOk result (λ small. IsTrue small ↔ (IsSmall (holds_of text.now) × IsSmall (breaks_of text.now))) }
+{
+    let sizes = sizes_of_predicates(alloc, text.predicates().as_slice())?;
+    let free = text.free().as_slice();
+    let stated = text.formulas().as_slice();
+    let small = is_small_with(free, stated, sizes.as_slice());
+    Ok(small)
 }

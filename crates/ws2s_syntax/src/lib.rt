@@ -9,6 +9,8 @@ mod declaration;
 mod formula;
 mod name;
 mod source;
+#[cfg(test)]
+mod tests;
 mod text;
 
 pub use declaration::{ByteList, Class, ClassList, Free, FreeList, Predicate, PredicateList};
