@@ -1,3 +1,5 @@
 pub mod Checked
 pub mod Meaning
+pub mod NameTables
+pub mod Resolving
 pub mod Sentences
