@@ -1,1 +1,2 @@
+mod ResolvingLemmas
 pub mod SentencesLemmas

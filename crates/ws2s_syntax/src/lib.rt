@@ -10,6 +10,8 @@ mod formula;
 mod name;
 mod resolving;
 mod source;
+#[cfg(test)]
+mod tests;
 mod text;
 
 pub use declaration::{ByteList, Class, ClassList, Free, FreeList, Predicate, PredicateList};

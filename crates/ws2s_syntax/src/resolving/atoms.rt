@@ -89,7 +89,7 @@ pub fn resolve_use(
     alloc: Global,
     names: &Names,
     name: &SourceName,
-    terms: &Items<SourceTerm>,
+    terms: &[SourceTerm],
 ) -> Result<Atom, TextStop>
     ensures atom { IfOk result (λ found. resolved_use names.now name.now terms.now ≡ Ok found) }
     ensures stop { IfErr result (IsStop (resolved_use names.now name.now terms.now)) }
@@ -100,7 +100,7 @@ pub fn resolve_use(
             Err(refused(name.place, RefusalKind::Arity))
         }
         Meaning::Predicate(predicate, classes) => {
-            let arguments = resolve_arguments(alloc, names, classes.as_slice(), terms.as_slice())?;
+            let arguments = resolve_arguments(alloc, names, classes.as_slice(), terms)?;
             Ok(Atom::Use(*predicate, arguments))
         }
     }

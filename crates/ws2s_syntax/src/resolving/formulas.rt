@@ -128,49 +128,47 @@ pub fn resolve_formula(
     match formula {
         SourceFormula::Truth(value) => Ok(TextFormula::Atom(Atom::Truth(*value))),
         SourceFormula::Empty(set) => Ok(TextFormula::Atom(resolve_empty(names, set)?)),
-        SourceFormula::Same(left, right) => Ok(TextFormula::Atom(resolve_same(
-            alloc, names, left, right,
-        )?)),
-        SourceFormula::Differ(left, right) => Ok(negated(
-            alloc,
-            resolve_same(alloc, names, left, right)?,
-        )?),
-        SourceFormula::In(term, set) => Ok(TextFormula::Atom(resolve_in(alloc, names, term, set)?)),
-        SourceFormula::NotIn(term, set) => Ok(negated(
-            alloc,
-            resolve_in(alloc, names, term, set)?,
-        )?),
-        SourceFormula::Sub(term, set) => Ok(TextFormula::Atom(resolve_sub(
-            alloc, names, term, set,
-        )?)),
-        SourceFormula::Use(name, terms) => Ok(TextFormula::Atom(resolve_use(
-            alloc, names, name, terms,
-        )?)),
+        SourceFormula::Same(left, right) => {
+            let atom = resolve_same(alloc, names, left, right)?;
+            Ok(TextFormula::Atom(atom))
+        }
+        SourceFormula::Differ(left, right) => {
+            let atom = resolve_same(alloc, names, left, right)?;
+            Ok(negated(alloc, atom)?)
+        }
+        SourceFormula::In(term, set) => {
+            let atom = resolve_in(alloc, names, term, set)?;
+            Ok(TextFormula::Atom(atom))
+        }
+        SourceFormula::NotIn(term, set) => {
+            let atom = resolve_in(alloc, names, term, set)?;
+            Ok(negated(alloc, atom)?)
+        }
+        SourceFormula::Sub(term, set) => {
+            let atom = resolve_sub(alloc, names, term, set)?;
+            Ok(TextFormula::Atom(atom))
+        }
+        SourceFormula::Use(name, terms) => {
+            let atom = resolve_use(alloc, names, name, terms.as_slice())?;
+            Ok(TextFormula::Atom(atom))
+        }
         SourceFormula::Not(inner) => {
             let formula = resolve_formula(alloc, names, outer, inner.get())?;
             Ok(TextFormula::Not(Boxed::new(alloc, formula)?))
         }
-        SourceFormula::Implies(left, right) => resolve_implies(
-            alloc,
-            names,
-            outer,
-            left.get(),
-            right.get(),
-        ),
+        SourceFormula::Implies(left, right) => {
+            let one = resolve_formula(alloc, names, outer, left.get())?;
+            let other = resolve_formula(alloc, names, outer, right.get())?;
+            Ok(TextFormula::Implies(Boxed::new(alloc, one)?, Boxed::new(alloc, other)?))
+        }
         SourceFormula::Chain(connective, first, others) => {
             let one = resolve_formula(alloc, names, outer, first.get())?;
             let more = resolve_others(alloc, names, outer, others.as_slice())?;
             Ok(TextFormula::Chain(*connective, Boxed::new(alloc, one)?, more))
         }
         SourceFormula::Quantified(quantifier, bound, inner) => {
-            resolve_quantified(
-                alloc,
-                names,
-                outer,
-                *quantifier,
-                bound.as_slice(),
-                inner.get(),
-            )
+            let names_bound = bound.as_slice();
+            resolve_quantified(alloc, names, outer, *quantifier, names_bound, inner.get())
         }
     }
 }
