@@ -119,9 +119,12 @@ from_variable place steps (x, class.Position) = Ok (argument.Position (record { 
 from_variable place [] (x, class.Set) = Ok (argument.Set x)
 from_variable place (step ∷ steps) (x, class.Set) = refused place why.Kind
 
+unfoldable pub resolved_named : Names → SourceName → List Successor → Found Argument
+resolved_named names x steps = resolved_variable names x >>= from_variable x.place steps
+
 abbrev pub resolved_from : Names → SourceBase → List Successor → Found Argument
 resolved_from names (source_base.Root place) steps = Ok (argument.Position (record { base = base.Root; steps = steps }))
-resolved_from names (source_base.Name x) steps = resolved_variable names x >>= from_variable x.place steps
+resolved_from names (source_base.Name x) steps = resolved_named names x steps
 
 -- what a term stands for, a position or a set
 unfoldable pub resolved_side : Names → SourceTerm → Found Argument

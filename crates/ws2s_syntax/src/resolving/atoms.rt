@@ -15,6 +15,7 @@ use pale_text::{RefusalKind, TextStop};
 use plain_data::Items;
 use std::alloc::Global;
 
+#[tactic(auto, unfolding(crate::specs::Resolving::resolved_empty))]
 pub fn resolve_empty(names: &Names, set: &SourceName) -> Result<Atom, TextStop>
     ensures atom { IfOk result (λ found. resolved_empty names.now set.now ≡ Ok found) }
     ensures stop { IfErr result (IsStop (resolved_empty names.now set.now)) }
@@ -22,6 +23,7 @@ pub fn resolve_empty(names: &Names, set: &SourceName) -> Result<Atom, TextStop>
     Ok(Atom::Empty(resolve_set(names, set)?))
 }
 
+#[tactic(auto, unfolding(crate::specs::Resolving::resolved_in))]
 pub fn resolve_in(
     alloc: Global,
     names: &Names,
@@ -35,6 +37,7 @@ pub fn resolve_in(
     Ok(Atom::In(position, resolve_set(names, set)?))
 }
 
+#[tactic(auto, unfolding(crate::specs::Resolving::resolved_sub))]
 pub fn resolve_sub(
     alloc: Global,
     names: &Names,
@@ -49,6 +52,7 @@ pub fn resolve_sub(
 }
 
 /// Two positions or two sets: the right side has the class of the left.
+#[tactic(auto, unfolding(crate::specs::Resolving::resolved_same))]
 pub fn resolve_same(
     alloc: Global,
     names: &Names,
@@ -74,17 +78,19 @@ fn resolve_arguments(
     classes: &[Class],
     terms: &[SourceTerm],
 ) -> Result<Items<Argument>, TextStop>
+    requires { length classes.now ≡ length terms.now }
     ensures arguments { IfOk result (λ found. resolved_arguments names.now classes.now terms.now ≡ Ok found) }
     ensures stop { IfErr result (IsStop (resolved_arguments names.now classes.now terms.now)) }
 {
     let mut arguments = Items::new(alloc);
-    for (class, term) in classes.iter().zip(terms) {
-        let argument = resolve_argument(alloc, names, *class, term)?;
+    for (place, term) in terms.iter().enumerate() {
+        let argument = resolve_argument(alloc, names, classes[place], term)?;
         arguments.push(argument)?;
     }
     Ok(arguments)
 }
 
+#[tactic(auto, unfolding(crate::specs::Resolving::resolved_use))]
 pub fn resolve_use(
     alloc: Global,
     names: &Names,

@@ -26,6 +26,7 @@ fn class_bound(quantifier: Quantifier) -> Class
 }
 
 /// Makes a name of the item itself visible. So many names are visible outside of the item.
+#[tactic(auto, unfolding(crate::specs::Resolving::bound))]
 fn bind(names: &mut Names, outer: usize, class: Class, name: &SourceName) -> Result<(), TextStop>
     ensures names { OnOk result (bound outer class name.now names.old ≡ Ok names.new) }
     ensures stop { IfErr result (IsStop (bound outer class name.now names.old)) }

@@ -24,6 +24,7 @@ struct Stage {
 }
 
 /// Declares a free variable.
+#[tactic(auto, unfolding(crate::specs::Resolving::with_variable))]
 fn add_variable(
     alloc: Global,
     stage: &mut Stage,
@@ -72,6 +73,7 @@ fn classes_of(alloc: Global, parameters: &[SourceParameter]) -> Result<ClassList
 }
 
 /// Declares a predicate. Its name is looked at first, then its parameters and its body, where its name isn't visible.
+#[tactic(auto, unfolding(crate::specs::Resolving::with_predicate))]
 fn add_predicate(
     alloc: Global,
     stage: &mut Stage,
@@ -95,6 +97,7 @@ fn add_predicate(
     Ok(())
 }
 
+#[tactic(auto, unfolding(crate::specs::Resolving::with_formula))]
 fn add_formula(alloc: Global, stage: &mut Stage, formula: &SourceFormula) -> Result<(), TextStop>
     ensures stage { OnOk result (with_formula formula.now stage.old ≡ Ok stage.new) }
     ensures stop { IfErr result (IsStop (with_formula formula.now stage.old)) }
@@ -124,6 +127,7 @@ fn add_item(alloc: Global, stage: &mut Stage, item: &SourceItem) -> Result<(), T
 }
 
 /// The text that a source tree is, once its names are looked up.
+#[tactic(auto, unfolding(crate::specs::Resolving::resolved))]
 pub fn resolve(alloc: Global, source: &Source) -> Result<Ws2sText, TextStop>
     ensures text { IfOk result (λ found. resolved source.now ≡ Ok found) }
     ensures stop { IfErr result (IsStop (resolved source.now)) }

@@ -2,7 +2,7 @@
 
 ghost use Rattle.std.specs.Prelude.{◌≡◌, IfOk, IfErr};
 ghost use Rattle.ws2s_syntax.specs.declared.name.Argument.TheVariants as argument;
-ghost use Rattle.ws2s_syntax.specs.Resolving.{IsStop, first_place, from_variable, resolved_variable, resolved_set, resolved_side, resolved_position, resolved_set_side, resolved_argument, ◌>>=◌};
+ghost use Rattle.ws2s_syntax.specs.Resolving.{IsStop, first_place, resolved_variable, resolved_named, resolved_set, resolved_side, resolved_position, resolved_set_side, resolved_argument};
 
 use crate::declaration::Class;
 use crate::name::{Argument, Base, Name, SuccessorList, Term};
@@ -23,6 +23,7 @@ pub fn first_place(term: &SourceTerm) -> Pos
 }
 
 /// The variable of this name.
+#[tactic(auto, unfolding(crate::specs::Resolving::resolved_variable))]
 fn resolve_variable(names: &Names, name: &SourceName) -> Result<(Name, Class), TextStop>
     ensures variable { IfOk result (λ found. resolved_variable names.now name.now ≡ Ok found) }
     ensures stop { IfErr result (IsStop (resolved_variable names.now name.now)) }
@@ -34,6 +35,7 @@ fn resolve_variable(names: &Names, name: &SourceName) -> Result<(Name, Class), T
 }
 
 /// The set of this name.
+#[tactic(auto, unfolding(crate::specs::Resolving::resolved_set))]
 pub fn resolve_set(names: &Names, name: &SourceName) -> Result<Name, TextStop>
     ensures set { IfOk result (λ found. resolved_set names.now name.now ≡ Ok found) }
     ensures stop { IfErr result (IsStop (resolved_set names.now name.now)) }
@@ -54,14 +56,15 @@ fn make_term(alloc: Global, base: Base, steps: &SuccessorList) -> Result<Argumen
 }
 
 /// A term that begins with this name: a position, or a set, which has no successor.
+#[tactic(auto, unfolding(crate::specs::Resolving::resolved_named))]
 fn resolve_named(
     alloc: Global,
     names: &Names,
     name: &SourceName,
     steps: &SuccessorList,
 ) -> Result<Argument, TextStop>
-    ensures side { IfOk result (λ found. (resolved_variable names.now name.now >>= from_variable name.now.place steps.now) ≡ Ok found) }
-    ensures stop { IfErr result (IsStop (resolved_variable names.now name.now >>= from_variable name.now.place steps.now)) }
+    ensures side { IfOk result (λ found. resolved_named names.now name.now steps.now ≡ Ok found) }
+    ensures stop { IfErr result (IsStop (resolved_named names.now name.now steps.now)) }
 {
     let (variable, class) = resolve_variable(names, name)?;
     match class {
@@ -72,6 +75,7 @@ fn resolve_named(
 }
 
 /// A term as a side or an argument: a position, or a set.
+#[tactic(auto, unfolding(crate::specs::Resolving::resolved_side))]
 pub fn resolve_side(alloc: Global, names: &Names, term: &SourceTerm) -> Result<Argument, TextStop>
     ensures side { IfOk result (λ found. resolved_side names.now term.now ≡ Ok found) }
     ensures stop { IfErr result (IsStop (resolved_side names.now term.now)) }
@@ -83,6 +87,7 @@ pub fn resolve_side(alloc: Global, names: &Names, term: &SourceTerm) -> Result<A
 }
 
 /// A term that is a position.
+#[tactic(auto, unfolding(crate::specs::Resolving::resolved_position))]
 pub fn resolve_position(alloc: Global, names: &Names, term: &SourceTerm) -> Result<Term, TextStop>
     ensures position { IfOk result (λ found. resolved_position names.now term.now ≡ Ok found) }
     ensures stop { IfErr result (IsStop (resolved_position names.now term.now)) }
@@ -94,6 +99,7 @@ pub fn resolve_position(alloc: Global, names: &Names, term: &SourceTerm) -> Resu
 }
 
 /// A term that is a set.
+#[tactic(auto, unfolding(crate::specs::Resolving::resolved_set_side))]
 pub fn resolve_set_side(alloc: Global, names: &Names, term: &SourceTerm) -> Result<Name, TextStop>
     ensures set { IfOk result (λ found. resolved_set_side names.now term.now ≡ Ok found) }
     ensures stop { IfErr result (IsStop (resolved_set_side names.now term.now)) }
@@ -105,6 +111,7 @@ pub fn resolve_set_side(alloc: Global, names: &Names, term: &SourceTerm) -> Resu
 }
 
 /// An argument for a parameter of this class.
+#[tactic(auto, unfolding(crate::specs::Resolving::resolved_argument))]
 pub fn resolve_argument(
     alloc: Global,
     names: &Names,
