@@ -1,2 +1,3 @@
+mod FormsLemmas
 mod ResolvingLemmas
 pub mod SentencesLemmas

@@ -273,12 +273,16 @@ parameters_bound outer (p ∷ others) names = bound outer p.class p.name names >
 abbrev pub classes_of : List SourceParameter → List Class
 classes_of parameters = map (λ p. p.class) parameters
 
+-- a predicate's body, where its parameters are visible
+unfoldable pub resolved_body : List SourceParameter → SourceFormula → Resolving
+resolved_body parameters body names =
+    parameters_bound (length names) parameters names >>= resolved_formula (length names) body
+
 -- one predicate more: its name, its parameters, and its body, in which its own name isn't visible
 unfoldable pub with_predicate : SourceName → List SourceParameter → SourceFormula → Stage → Found Stage
 with_predicate x parameters body stage =
     declared stage.names x (meaning.Predicate (length stage.predicates) (classes_of parameters)) >>= λ names.
-    parameters_bound (length stage.names) parameters stage.names >>= λ inside.
-    resolved_formula (length stage.names) body inside >>= λ f.
+    resolved_body parameters body stage.names >>= λ f.
     Ok (record stage { names = names; predicates = stage.predicates ++ record { params = classes_of parameters; body = f } ∷ [] })
 
 -- one formula more

@@ -1,10 +1,10 @@
 //! Items of a text, and the text.
 
 ghost use Rattle.std.specs.Prelude.{◌≡◌, IfOk, IfErr, OnOk};
-ghost use Rattle.ws2s_syntax.specs.Resolving.{IsStop, classes_of, with_variable, with_variables, with_predicate, with_formula, with_item, resolved};
+ghost use Rattle.ws2s_syntax.specs.Resolving.{IsStop, classes_of, with_variable, with_variables, resolved_body, with_predicate, with_formula, with_item, resolved};
 
 use crate::declaration::{Class, ClassList, Free, FreeList, Predicate, PredicateList};
-use crate::formula::TextFormulaList;
+use crate::formula::{TextFormula, TextFormulaList};
 use crate::name::Name;
 use crate::resolving::formulas::{bind_parameters, resolve_formula};
 use crate::resolving::names::{Meaning, Names, number};
@@ -13,6 +13,9 @@ use crate::text::Ws2sText;
 use pale_text::TextStop;
 use plain_data::Items;
 use std::alloc::{AllocError, Global};
+
+/// A text of fewer than 2^32 bytes has no more variables.
+const MOST_VARIABLES: usize = 2_147_483_648;
 
 /// What the items so far declare and state.
 #[derive(Drop)]
@@ -72,8 +75,26 @@ fn classes_of(alloc: Global, parameters: &[SourceParameter]) -> Result<ClassList
     Ok(classes)
 }
 
+/// A predicate's body, where its parameters are visible.
+#[tactic(auto, unfolding(crate::specs::Resolving::resolved_body))]
+fn resolve_body(
+    alloc: Global,
+    names: &mut Names,
+    parameters: &[SourceParameter],
+    body: &SourceFormula,
+) -> Result<TextFormula, TextStop>
+    ensures formula { IfOk result (λ found. resolved_body parameters.now body.now names.old ≡ Ok found) }
+    ensures stop { IfErr result (IsStop (resolved_body parameters.now body.now names.old)) }
+    ensures names_stay { OnOk result (names.new ≡ names.old) }
+{
+    let outer = names.len();
+    bind_parameters(names, outer, parameters)?;
+    let formula = resolve_formula(alloc, names, outer, body)?;
+    names.close(outer);
+    Ok(formula)
+}
+
 /// Declares a predicate. Its name is looked at first, then its parameters and its body, where its name isn't visible.
-#[tactic(auto, unfolding(crate::specs::Resolving::with_predicate))]
 fn add_predicate(
     alloc: Global,
     stage: &mut Stage,
@@ -84,11 +105,8 @@ fn add_predicate(
     ensures stage { OnOk result (with_predicate name.now parameters.now body.now stage.old ≡ Ok stage.new) }
     ensures stop { IfErr result (IsStop (with_predicate name.now parameters.now body.now stage.old)) }
 {
-    let outer = stage.names.len();
     stage.names.check_new(name)?;
-    bind_parameters(&mut stage.names, outer, parameters)?;
-    let body = resolve_formula(alloc, &mut stage.names, outer, body)?;
-    stage.names.close(outer);
+    let body = resolve_body(alloc, &mut stage.names, parameters, body)?;
     let number = number(stage.predicates.len())?;
     let classes = classes_of(alloc, parameters)?;
     stage.names.add(name, Meaning::Predicate(number, classes))?;
@@ -147,5 +165,8 @@ pub fn resolve(alloc: Global, source: &Source) -> Result<Ws2sText, TextStop>
         predicates,
         formulas,
     } = stage;
+    if free.len() > MOST_VARIABLES {
+        return Err(TextStop::NoMemory);
+    }
     Ok(Ws2sText::new(free, predicates, formulas))
 }
