@@ -1,3 +1,1 @@
-mod FormsLemmas
-mod ResolvingLemmas
 pub mod SentencesLemmas

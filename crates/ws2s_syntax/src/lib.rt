@@ -8,16 +8,12 @@
 mod declaration;
 mod formula;
 mod name;
-mod resolving;
 mod source;
-#[cfg(test)]
-mod tests;
 mod text;
 
 pub use declaration::{ByteList, Class, ClassList, Free, FreeList, Predicate, PredicateList};
 pub use formula::{Atom, Connective, Quantifier, TextFormula, TextFormulaList};
 pub use name::{Argument, Base, Name, Successor, SuccessorList, Term};
-pub use resolving::resolve;
 pub use source::{
     Source, SourceBase, SourceFormula, SourceItem, SourceName, SourceParameter, SourceTerm,
 };

@@ -1,0 +1,3 @@
+mod FormsLemmas
+mod ResolvedLemmas
+mod ResolvingLemmas
