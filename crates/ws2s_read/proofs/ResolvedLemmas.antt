@@ -395,7 +395,7 @@ module _ (free : List Class) (signatures : List (List Class)) where
       (subst (λ s. IsTrue (is_sentence signatures (scope_of free local) s)) (sym (sentence-Quantified q (length xs) two.0))
       (quantified_checked outer q xs (sentence_of two.0) local names one.0 at one.1 (λ all inside. g.1 all one.0 two.0 inside two.1)))
 
-  pub formula_checked : (outer : ℕ) (f : SourceFormula) → IsCheckedBy outer (resolved_formula outer f)
+  formula_checked : (outer : ℕ) (f : SourceFormula) → IsCheckedBy outer (resolved_formula outer f)
   formula_checked outer = ind-SourceFormula (λ f. IsCheckedBy outer (resolved_formula outer f))
       (λ x y e. subst (λ (d : SourceFormula-F SourceFormula). IsCheckedBy outer (resolved_formula outer (roll-SourceFormula d))) e (made_checked outer y))
 
@@ -409,7 +409,7 @@ module _ (free : List Class) (signatures : List (List Class)) where
       subst (λ all. IsPlace outer all inside) (append_assoc local (p.class ∷ []) (classes_of ps))
       (parameters_place outer ps (local ++ p.class ∷ []) step.0 inside (bound_place outer p.class p.name local names step.0 at step.1) step.2)
 
-  pub body_checked : (ps : List SourceParameter) (body : SourceFormula) (names : Names) (f : TextFormula) → AllFit free [] signatures names →
+  body_checked : (ps : List SourceParameter) (body : SourceFormula) (names : Names) (f : TextFormula) → AllFit free [] signatures names →
       resolved_body ps body names ≡ Ok f → IsFine (classes_of ps) f
   unfolding resolved_body
   body_checked ps body names f fit e =

@@ -1,6 +1,7 @@
-//! WS2S texts from their source trees.
+//! WS2S texts from their bytes.
 //!
-//! `specs/Resolving.antt` says what is visible where, and which name or term is at fault first.
+//! `specs/TextReading.antt` says which bytes are which text, and `specs/Resolving.antt` what is visible where in a source
+//! tree, and which name or term is at fault first.
 #![tactic(auto)]
 
 mod atoms;
