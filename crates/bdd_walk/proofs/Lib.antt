@@ -11,3 +11,4 @@ pub mod KeysLemmas
 pub mod OneRootLemmas
 pub mod ManyRootsLemmas
 pub mod CallLemmas
+pub mod NumberingLemmas

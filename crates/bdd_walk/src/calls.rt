@@ -116,6 +116,7 @@ pub fn restrict(
     ensures tables { SameTables shelf.old shelf.new }
     ensures shelf { IsShelf shelf.new }
 {
+    // Only for its clause `shelf`.
     let _ = shelf.count();
     let walk = OneRoot {
         fixed: Some(FixedTrack { track, bit }),

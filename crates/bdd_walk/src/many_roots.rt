@@ -29,7 +29,7 @@ fn all_sides(
     requires { IsTrue (list_all (is_valid shelf.now) roots.now) }
     ensures { IfOk result (λ sides. sides.items ≡ map (side_at shelf.now track bit) roots.now) }
 {
-    let mut sides = Vec::new(alloc);
+    let mut sides = Vec::with_capacity(alloc, roots.len())?;
     push_sides(&mut sides, shelf, roots, track, bit)?;
     Ok(sides)
 }
@@ -48,7 +48,7 @@ fn past(
         ≡ map (side_at shelf.now track false) (take half roots.now) ++ map (side_at shelf.now track true) (drop half roots.now)) }
 {
     let (before, behind) = roots.split_at(half);
-    let mut sides = Vec::new(alloc);
+    let mut sides = Vec::with_capacity(alloc, roots.len())?;
     push_sides(&mut sides, shelf, before, track, false)?;
     push_sides(&mut sides, shelf, behind, track, true)?;
     Ok(sides)

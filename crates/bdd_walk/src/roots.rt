@@ -127,6 +127,7 @@ pub(crate) fn join_roots<L: LeafRule>(
         → Exceeds shelf.old (λ label. given (asked_of shelf.old roots.now dropped label)) }
     ensures may_ask_still { (asked : List ℕ) → L.may_ask rule.old asked → L.may_ask rule.new asked }
 {
+    // Only for its clause `shelf`.
     let _ = shelf.count();
     match dropped {
         Some(track) => join_dropped(alloc, shelf, roots, track, rule),

@@ -8,6 +8,7 @@ use super::*;
 use bdd_nodes::{NodeRef, Shelf};
 use plain_data::Items;
 use std::alloc::{AllocError, Global};
+use std::collections::HashMap;
 use std::test::Fail;
 
 /// Answers the digits of the states, as one decimal number, until it has been asked so often.
@@ -31,6 +32,38 @@ impl LeafRule for Digits {
         let number = states.as_slice().iter().fold(0u32, |number, state| {
             number.wrapping_mul(10).wrapping_add(*state)
         });
+        Ok(number % 0x8000_0000)
+    }
+}
+
+/// Numbers pairs of states in the order in which they are asked, and remembers them, until it has numbered so many.
+#[derive(Drop)]
+struct Numbering {
+    numbers: HashMap<(u32, u32), u32>,
+    left: u32,
+}
+
+impl LeafRule for Numbering {
+    ghost use Rattle.std.specs.Prelude.{◌≡◌, ◌%◌, ◌^◌, None, length, nat_eq, ◌&&◌, if◌then◌else◌, slice_index};
+    ghost use Rattle.std.specs.Option.{option_map};
+    ghost use Rattle.std.specs.HashMap.{get};
+
+    ghost answers = { λ rule states. if nat_eq (length states) 2 then option_map (λ number. number % 2 ^ 31) (get (λ one other. nat_eq one.0 other.0 && nat_eq one.1 other.1) rule.numbers (slice_index states 0, slice_index states 1)) else None };
+
+    ghost may_ask = { λ rule states. length states ≡ 2 };
+
+    fn leaf(&mut self, states: &StateList) -> Result<u32, AllocError> {
+        let states = states.as_slice();
+        let pair = (states[0], states[1]);
+        if let Some(number) = self.numbers.get(&pair) {
+            return Ok(*number % 0x8000_0000);
+        }
+        if self.left == 0 {
+            return Err(AllocError);
+        }
+        self.left -= 1;
+        let number = self.left;
+        self.numbers.insert(pair, number)?;
         Ok(number % 0x8000_0000)
     }
 }
@@ -141,10 +174,17 @@ fn a_join_stops_one_node_short(rt: HostRuntime) -> Result<(), Fail> {
             Err(stop) => {
                 assert_eq!(rt; stop, Stop::Limit);
                 assert_eq!(rt; want, None);
+                assert_eq!(rt; states(alloc, &shelf, first)?, [0, 1, 0, 1]);
+                assert_eq!(rt; states(alloc, &shelf, second)?, [0, 0, 1, 1]);
             }
         }
     }
     Ok(())
+}
+
+/// The numbers of the pairs that tracks 0 and 1 give where none, track 0, track 1 and both are set.
+fn remembered(rule: &Numbering) -> [Option<u32>; 4] {
+    [(0, 0), (1, 0), (0, 1), (1, 1)].map(|pair| rule.numbers.get(&pair).copied())
 }
 
 #[test]
@@ -156,13 +196,30 @@ fn a_refusing_rule_keeps_its_answers(rt: HostRuntime) -> Result<(), Fail> {
     let first = shelf.make(0, zero, one)?;
     let second = shelf.make(1, zero, one)?;
     let roots = Items::from_slice(alloc, &[first, second])?;
-    let mut rule = Digits { left: 3 };
+    let mut rule = Numbering {
+        numbers: HashMap::new(alloc),
+        left: 3,
+    };
     assert_eq!(rt;
         join(alloc, &mut shelf, &roots, None, &mut rule),
         Err(Stop::NoMemory)
     );
-    assert_eq!(rt; rule.left, 0);
-    assert_eq!(rt; shelf.count(), 2);
+    assert_eq!(rt; shelf.count() < 5, true);
+    assert_eq!(rt; states(alloc, &shelf, first)?, [0, 1, 0, 1]);
     assert_eq!(rt; states(alloc, &shelf, second)?, [0, 0, 1, 1]);
+    assert_eq!(rt; rule.numbers.len(), 3);
+    let before = remembered(&rule);
+    rule.left = 10;
+    let made = join(alloc, &mut shelf, &roots, None, &mut rule)?;
+    assert_eq!(rt; rule.left, 9);
+    let after = remembered(&rule);
+    let given = states(alloc, &shelf, made)?;
+    for label in 0..4usize {
+        assert_eq!(rt; after[label], Some(given[label]));
+        assert_eq!(rt;
+            before[label].is_none() || before[label] == after[label],
+            true
+        );
+    }
     Ok(())
 }

@@ -9,12 +9,51 @@ use crate::sides::{earlier, side_of, states_of};
 use crate::walk::{Step, Walk};
 use bdd_nodes::{NodeRef, Shelf};
 use std::alloc::{AllocError, Global};
+use std::hash::{Hash, Hasher};
 
 /// Two references in order.
-#[derive(Clone, Copy, Debug, PartialEq, Eq, Hash)]
+#[derive(Clone, Copy, Debug)]
 pub(crate) struct RefPair {
     pub(crate) left: NodeRef,
     pub(crate) right: NodeRef,
+}
+
+impl PartialEq for RefPair {
+    ghost use Rattle.std.specs.Prelude.{nat_eq};
+    ghost use Rattle.std.specs.Ordering.{on, eq_of_both};
+    ghost use Rattle.std.proofs.Common.{rules};
+    ghost use Rattle.std.specs.Cmp.Rules.{comparing};
+
+    ghost eq = { eq_of_both (on (λ pair. pair.left.word) nat_eq) (on (λ pair. pair.right.word) nat_eq) };
+
+    ghost laws = { Prim.search (comparing, rules) };
+
+    fn eq(&self, other: &RefPair) -> bool {
+        self.left == other.left && self.right == other.right
+    }
+}
+
+impl Eq for RefPair {
+    ghost use Rattle.std.proofs.Common.{rules};
+    ghost use Rattle.std.specs.Cmp.Rules.{comparing};
+
+    ghost laws = { Prim.search (comparing, rules) };
+}
+
+impl Hash for RefPair {
+    ghost use Rattle.std.specs.Prelude.{◌++◌};
+    ghost use Rattle.std.proofs.Common.{rules};
+    ghost use Rattle.std.specs.Cmp.Rules.{comparing, hashing};
+    ghost use Rattle.std.specs.Hash as fed;
+
+    ghost hash_input = { λ pair. fed.u32 pair.left.word ++ fed.u32 pair.right.word };
+
+    ghost respects_eq = { Prim.search (hashing, rules) };
+
+    fn hash<H: Hasher>(&self, state: &mut H) {
+        self.left.hash(state);
+        self.right.hash(state);
+    }
 }
 
 /// Keys that are two references.

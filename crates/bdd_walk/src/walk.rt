@@ -181,6 +181,7 @@ pub(crate) fn join_from<W: Walk, L: LeafRule>(
         → Exceeds shelf.old (λ label. given (W.asked walk.now shelf.old start label)) }
     ensures may_ask_still { (asked : List ℕ) → L.may_ask rule.old asked → L.may_ask rule.new asked }
 {
+    // Only for its clause `shelf`.
     let _ = shelf.count();
     let mut memo = HashMap::new(alloc);
     let mut stack = Vec::new(alloc);

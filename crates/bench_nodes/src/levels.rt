@@ -1,6 +1,6 @@
 //! Levels of random nodes.
 
-ghost use Rattle.std.specs.Prelude.{◌≡◌, ◌<◌, ◌≤◌, suc, IfOk, length, vec_len};
+ghost use Rattle.std.specs.Prelude.{◌≡◌, ◌<◌, ◌≤◌, suc, min, IfOk, length, vec_len};
 ghost use Rattle.bench_nodes.specs.Levels.{IsLevel};
 
 use bdd_nodes::{NodeRef, RefList, Shelf};
@@ -45,21 +45,22 @@ fn make_leaves(
     Ok(leaves)
 }
 
-/// As many nodes of a track over references that ask later tracks.
+/// So many nodes of a track over references that ask later tracks.
 fn make_level(
     alloc: Global,
     shelf: &mut Shelf,
     numbers: &mut Numbers,
     track: u32,
     below: &[NodeRef],
+    width: u32,
 ) -> Result<Vec<NodeRef>, AllocError>
     requires some { 0 < length below.now }
     requires sides { IsLevel shelf.old (suc track) below.now }
     ensures level { IfOk result (λ level. IsLevel shelf.new track level.items) }
-    ensures len { IfOk result (λ level. vec_len level ≡ length below.now) }
+    ensures len { IfOk result (λ level. vec_len level ≡ width) }
 {
     let mut level = Vec::new(alloc);
-    for _i in 0..below.len() {
+    for _i in 0..width {
         let low = below[numbers.below(below.len())];
         let high = below[numbers.below(below.len())];
         let made = shelf.make(track, low, high).or(Err(AllocError))?;
@@ -68,23 +69,26 @@ fn make_level(
     Ok(level)
 }
 
-/// One round: the top level over all the others.
-fn make_all(
+/// The top level over all the others, and over leaves of so many states.
+pub(crate) fn make_all(
     alloc: Global,
     shelf: &mut Shelf,
+    states: u32,
     width: u32,
     levels: u32,
 ) -> Result<Vec<NodeRef>, AllocError>
-    requires some { 0 < width }
-    requires fits { width < 1000000 }
-    ensures { IfOk result (λ level. IsLevel shelf.new 0 level.items) }
+    requires some { 0 < states }
+    requires fits { states < 1000000 }
+    requires nodes { 0 < width }
+    ensures level { IfOk result (λ level. IsLevel shelf.new 0 level.items) }
+    ensures len { IfOk result (λ level. min states width ≤ vec_len level) }
 {
     let mut numbers = Numbers {
         state: 88_172_645_463_325_252,
     };
-    let mut level = make_leaves(alloc, shelf, width, levels)?;
+    let mut level = make_leaves(alloc, shelf, states, levels)?;
     for track in (0..levels).rev() {
-        level = make_level(alloc, shelf, &mut numbers, track, &level)?;
+        level = make_level(alloc, shelf, &mut numbers, track, &level, width)?;
     }
     Ok(level)
 }
@@ -112,13 +116,13 @@ pub fn run(
     requires small { limit ≤ 16000000 }
 {
     let mut shelf = Shelf::open(alloc, limit)?;
-    make_all(alloc, &mut shelf, width, levels)?;
+    make_all(alloc, &mut shelf, width, width, levels)?;
     let made = shelf.count();
     for _round in 0..rounds {
-        make_all(alloc, &mut shelf, width, levels)?;
+        make_all(alloc, &mut shelf, width, width, levels)?;
     }
     let again = shelf.count();
-    let level = make_all(alloc, &mut shelf, width, levels)?;
+    let level = make_all(alloc, &mut shelf, width, width, levels)?;
     shelf.add_table(RefList::from_vec(level))?;
     for _collection in 0..collections {
         shelf.collect();

@@ -1,8 +1,10 @@
-//! Makes random nodes level by level, makes the same ones again in rounds, and collects them; prints counts alone.
-//! Its words: the shelf's limit, how many nodes a level, how many levels, how many rounds, and how many
-//! collections.
+//! Makes random nodes level by level, makes the same ones again in rounds, and collects them; then joins functions, each
+//! again in rounds; prints counts alone. Its words: the shelf's limit, how many nodes a level, how many levels, how many
+//! rounds, how many collections, and how many joins of two parities, of two random functions, and of three with a
+//! dropped track. Each has a shelf of its own.
 #![tactic(auto)]
 
+mod joins;
 mod levels;
 
 use anyhow::{Context, Result, ensure};
@@ -21,12 +23,21 @@ fn main(rt: HostRuntime) -> Result<()> {
     let levels = number(&mut words, "levels")?;
     let rounds = number(&mut words, "rounds")?;
     let collections = number(&mut words, "collections")?;
+    let parities = number(&mut words, "parities")?;
+    let twos = number(&mut words, "joins of two")?;
+    let threes = number(&mut words, "joins of three")?;
     ensure!(0 < limit && limit <= 16_000_000, "{limit} nodes");
-    ensure!(0 < width && width < 1_000_000, "{width} nodes a level");
+    ensure!(2 < width && width < 1_000_000, "{width} nodes a level");
     let report = levels::run(rt.alloc(), limit, width, levels, rounds, collections)?;
     let made = report.made;
     let again = report.again;
     let left = report.left;
     println!(rt; "{made} nodes, {again} after the rounds, {left} in the end")?;
+    let parity_nodes = joins::join_parities(rt.alloc(), limit, parities)?;
+    let two_nodes = joins::join_two(rt.alloc(), limit, width, levels, twos)?;
+    let three_nodes = joins::join_three(rt.alloc(), limit, width, levels, threes)?;
+    println!(rt;
+        "{parity_nodes} nodes with parities, {two_nodes} with joins of two, {three_nodes} with joins of three"
+    )?;
     Ok(())
 }

@@ -1,18 +1,16 @@
 //! Programs from their tokens.
 
-ghost use Rattle.std.specs.Prelude.{◌≡◌, List, IfOk, IfErr, IsOkUnless, MatchResult, map};
-ghost use Rattle.grammar_engine.specs.Readings.{Step, IsReading};
-ghost use Rattle.grammar_engine.specs.Answers.{AreLow, levels, event_of, IsParsed};
+ghost use Rattle.std.specs.Prelude.{◌≡◌, List, IfOk, IfErr, IsOkUnless};
+ghost use Rattle.grammar_engine.specs.Readings.{Step};
 ghost use Rattle.pale_text.specs.declared.grammar.act.Act.{Act as ProgramAct};
 ghost use Rattle.pale_text.specs.declared.tree.declaration.Program.{Program as ProgramTree};
-ghost use Rattle.pale_text.specs.declared.refusal.TextStop.TheVariants.{NoMemory, Refused};
+ghost use Rattle.pale_text.specs.declared.refusal.TextStop.TheVariants.{NoMemory};
 ghost use Rattle.pale_text.specs.ProgramWords.{kinds_in};
-ghost use Rattle.pale_text.specs.ProgramReading.{program_rows, max_levels, IsProgram, IsShallow, IsParsedAs, place_at, IsParseStop};
+ghost use Rattle.pale_text.specs.ProgramReading.{IsProgram, IsShallow, IsParsedAs, IsParseStop};
 
 use crate::build::build;
 use crate::grammar::ProgramGrammar;
-use grammar_engine::{Event, ReadStop, read};
-use pale_text::{Act, Pos, Program, ProgramKind, Refusal, RefusalKind, TextStop, Token, TokenList};
+use pale_text::{Program, ProgramKind, TextStop, Token, TokenList, read_tokens};
 use plain_data::Items;
 use std::alloc::{AllocError, Global};
 
@@ -33,22 +31,9 @@ pub fn parse(alloc: Global, list: &TokenList) -> Result<Program, TextStop>
     // A program with so few levels is read, unless memory runs out.
     ensures complete { (steps : List (Step ProgramAct)) (tree : ProgramTree) → IsProgram list.now.tokens steps tree → IsShallow steps → IsOkUnless result NoMemory }
 {
-    let events = read_events(alloc, list)?;
-    Ok(build(alloc, list.tokens.as_slice(), events.as_slice())?)
-}
-
-/// What happens in the reading of the tokens.
-fn read_events(alloc: Global, list: &TokenList) -> Result<Items<Event<Act>>, TextStop>
-    ensures exact { MatchResult result (IsParsed program_rows max_levels (kinds_in list.now.tokens)) (IsParseStop list.now) }
-    ensures complete { (steps : List (Step ProgramAct)) → IsReading program_rows (kinds_in list.now.tokens) steps → AreLow max_levels (levels steps) → IsOkUnless result NoMemory }
-{
     let kinds = kinds_in(alloc, list.tokens.as_slice())?;
-    match read::<ProgramGrammar>(alloc, kinds.as_slice(), MAX_LEVELS) {
-        Ok(events) => Ok(events),
-        Err(ReadStop::Wrong(number)) => Err(refused(list, number, RefusalKind::Syntax)),
-        Err(ReadStop::Deep(number)) => Err(refused(list, number, RefusalKind::Deep)),
-        Err(ReadStop::NoMemory) => Err(TextStop::NoMemory),
-    }
+    let events = read_tokens::<ProgramGrammar>(alloc, list, kinds.as_slice(), MAX_LEVELS)?;
+    Ok(build(alloc, list.tokens.as_slice(), events.as_slice())?)
 }
 
 /// The kinds of the tokens.
@@ -60,26 +45,4 @@ fn kinds_in(alloc: Global, tokens: &[Token]) -> Result<Items<ProgramKind>, Alloc
         kinds.push(ProgramKind::of(&token.kind))?;
     }
     Ok(kinds)
-}
-
-/// The refusal of the token with this number, or of the text's end behind the last one.
-fn refused(list: &TokenList, number: usize, kind: RefusalKind) -> TextStop
-    ensures { result ≡ Refused (record { line = (place_at list.now number).line; column = (place_at list.now number).column; kind = kind }) }
-{
-    let place = place_at(list, number);
-    TextStop::Refused(Refusal {
-        line: place.line,
-        column: place.column,
-        kind,
-    })
-}
-
-/// The place of the token with this number. Behind the last one is the text's end.
-fn place_at(list: &TokenList, number: usize) -> Pos
-    ensures { result ≡ place_at list.now number }
-{
-    match list.tokens.get(number) {
-        Some(token) => token.span.start,
-        None => list.end,
-    }
 }

@@ -15,3 +15,4 @@ pub mod ProgramWords
 pub mod Refusals
 pub mod Spelled
 pub mod Spelling
+pub mod TextStops

@@ -80,56 +80,65 @@ after_atom PathAlone near parts =
 after_atom ExtendPathAlone near parts =
     record parts {
       assertions = assertion.Truth (extended (path_alone (top assertionless parts.assertions)) (top nameless parts.names)) ∷ rest parts.assertions;
-      names = rest parts.names }
+      names = rest parts.names;
+    }
 after_atom TakePathBack near parts =
     record parts { terms = term.Path (path_alone (top assertionless parts.assertions)) ∷ parts.terms; assertions = rest parts.assertions }
 after_atom AddUsedPath near parts = record parts { used = parts.used ++ top pathless parts.paths ∷ []; paths = rest parts.paths }
 after_atom MakeUse near parts =
     record parts {
       assertions = assertion.Use (path_alone (top assertionless parts.assertions)).base parts.used ∷ rest parts.assertions;
-      used = [] }
+      used = [];
+    }
 after_atom MakeSame near parts =
     record parts {
       assertions = assertion.Same (top termless (rest parts.terms)) (top nowhere parts.places) (top termless parts.terms) ∷ parts.assertions;
       terms = rest (rest parts.terms);
-      places = rest parts.places }
+      places = rest parts.places;
+    }
 after_atom MakeDiffer near parts =
     record parts {
       assertions = assertion.Differ (top termless (rest parts.terms)) (top nowhere parts.places) (top termless parts.terms) ∷ parts.assertions;
       terms = rest (rest parts.terms);
-      places = rest parts.places }
+      places = rest parts.places;
+    }
 after_atom MakeMember near parts =
     record parts {
       assertions = assertion.Member (top termless parts.terms) (top nowhere parts.places) (top nameless parts.names) ∷ parts.assertions;
       terms = rest parts.terms;
       places = rest parts.places;
-      names = rest parts.names }
+      names = rest parts.names;
+    }
 after_atom MakeSubset near parts =
     record parts {
       assertions = assertion.Subset (top termless parts.terms) (top nowhere parts.places) (top nameless parts.names) ∷ parts.assertions;
       terms = rest parts.terms;
       places = rest parts.places;
-      names = rest parts.names }
+      names = rest parts.names;
+    }
 after_atom MakeWalk near parts =
     record parts {
       assertions =
-        assertion.Walk (top termless (rest parts.terms)) (top nowhere parts.places) (top routeless parts.routes) (top termless parts.terms)
-        ∷ parts.assertions;
+          assertion.Walk (top termless (rest parts.terms)) (top nowhere parts.places) (top routeless parts.routes) (top termless parts.terms)
+          ∷ parts.assertions;
       terms = rest (rest parts.terms);
       places = rest parts.places;
-      routes = rest parts.routes }
+      routes = rest parts.routes;
+    }
 after_atom MakeIs near parts =
     record parts {
       assertions = assertion.Is (top termless parts.terms) (top nowhere parts.places) (top nameless parts.names) ∷ parts.assertions;
       terms = rest parts.terms;
       places = rest parts.places;
-      names = rest parts.names }
+      names = rest parts.names;
+    }
 
 -- the last assertion and the one before it give way to what this makes of them
 abbrev pub joining : (Assertion → Assertion → Assertion) → Parts → Parts
 joining make parts =
     record parts {
-      assertions = make (top assertionless (rest parts.assertions)) (top assertionless parts.assertions) ∷ rest (rest parts.assertions) }
+      assertions = make (top assertionless (rest parts.assertions)) (top assertionless parts.assertions) ∷ rest (rest parts.assertions);
+    }
 
 abbrev pub after_connective : ConnectiveAct → Near → Parts → Parts
 after_connective JoinIff near parts = joining equivalent parts
@@ -140,7 +149,8 @@ after_connective JoinAnd near parts = joining both parts
 after_connective MakeNot near parts =
     record parts {
       assertions = assertion.Not (top nowhere parts.places) (top assertionless parts.assertions) ∷ rest parts.assertions;
-      places = rest parts.places }
+      places = rest parts.places;
+    }
 after_connective BeginEx near parts = record parts { quantifiers = begun quantifier.Ex (place_of near.last) ∷ parts.quantifiers }
 after_connective BeginAll near parts = record parts { quantifiers = begun quantifier.All (place_of near.last) ∷ parts.quantifiers }
 after_connective BindsSets near parts =
@@ -148,16 +158,19 @@ after_connective BindsSets near parts =
 after_connective AddBound near parts =
     record parts {
       quantifiers = binding (top quantifierless parts.quantifiers) (top nameless parts.names) ∷ rest parts.quantifiers;
-      names = rest parts.names }
+      names = rest parts.names;
+    }
 after_connective MakeQuantified near parts =
     record parts {
       assertions =
-        assertion.Quantified (over (top quantifierless parts.quantifiers) (top nameless parts.names)) (top assertionless parts.assertions)
-        ∷ rest parts.assertions;
+          assertion.Quantified (over (top quantifierless parts.quantifiers) (top nameless parts.names)) (top assertionless parts.assertions)
+          ∷ rest parts.assertions;
       quantifiers = rest parts.quantifiers;
-      names = rest parts.names }
+      names = rest parts.names;
+    }
 after_connective Bracket near parts =
     record parts {
       brackets = record { place = top nowhere parts.places; assertion = top assertionless parts.assertions } ∷ parts.brackets;
       places = rest parts.places;
-      assertions = rest parts.assertions }
+      assertions = rest parts.assertions;
+    }

@@ -50,25 +50,31 @@ after_condition SameAs near parts =
     record parts {
       conditions = condition.Same (top termless (rest parts.terms)) (top nowhere parts.places) (top termless parts.terms) ∷ parts.conditions;
       terms = rest (rest parts.terms);
-      places = rest parts.places }
+      places = rest parts.places;
+    }
 after_condition NotSameAs near parts =
     record parts {
       conditions = condition.Differ (top termless (rest parts.terms)) (top nowhere parts.places) (top termless parts.terms) ∷ parts.conditions;
       terms = rest (rest parts.terms);
-      places = rest parts.places }
+      places = rest parts.places;
+    }
 after_condition OfVariant near parts =
     record parts {
       conditions = condition.Is (top termless parts.terms) (top nowhere parts.places) (top nameless parts.names) ∷ parts.conditions;
       terms = rest parts.terms;
       places = rest parts.places;
-      names = rest parts.names }
+      names = rest parts.names;
+    }
 after_condition NotCondition near parts =
     record parts {
       conditions = condition.Not (top nowhere parts.places) (top conditionless parts.conditions) ∷ rest parts.conditions;
-      places = rest parts.places }
+      places = rest parts.places;
+    }
 after_condition JoinAndAlso near parts =
     record parts {
-      conditions = both_conditions (top conditionless (rest parts.conditions)) (top conditionless parts.conditions) ∷ rest (rest parts.conditions) }
+      conditions = both_conditions (top conditionless (rest parts.conditions)) (top conditionless parts.conditions) ∷ rest (rest parts.conditions);
+    }
 after_condition JoinOrElse near parts =
     record parts {
-      conditions = either_condition (top conditionless (rest parts.conditions)) (top conditionless parts.conditions) ∷ rest (rest parts.conditions) }
+      conditions = either_condition (top conditionless (rest parts.conditions)) (top conditionless parts.conditions) ∷ rest (rest parts.conditions);
+    }

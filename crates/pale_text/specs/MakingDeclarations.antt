@@ -50,13 +50,15 @@ after_type DataField near parts =
 after_type PointerField near parts =
     record (with_field (record { name = name_before parts; form = form.Pointer (last_name parts) (top routeless parts.routes) }) parts) {
       names = rest (rest parts.names);
-      routes = rest parts.routes }
+      routes = rest parts.routes;
+    }
 after_type EndCommon near parts = record parts { common = parts.fields; fields = [] }
 after_type AddVariant near parts =
     record parts {
       variants = parts.variants ++ record { name = last_name parts; fields = parts.fields } ∷ [];
       names = rest parts.names;
-      fields = [] }
+      fields = [];
+    }
 after_type AddType near parts =
     record (with_declaration (declaration.«Type» (type_of parts)) parts) { names = rest parts.names; common = []; variants = [] }
 
@@ -78,7 +80,8 @@ after_predicate AddPredicate near parts =
     record (with_declaration (declaration.Predicate (predicate_of parts)) parts) {
       names = rest parts.names;
       brackets = rest parts.brackets;
-      predicate_parameters = [] }
+      predicate_parameters = [];
+    }
 
 abbrev pub with_variable : Parameter → Parts → Parts
 with_variable one parts = record parts { variables = parts.variables ++ one ∷ [] }
@@ -90,16 +93,32 @@ with_logic one parts = record parts { logics = parts.logics ++ one ∷ [] }
 abbrev pub procedure_of : Parts → Procedure
 procedure_of parts =
     record {
-      place = top nowhere (rest parts.places); name = last_name parts; parameters = parts.parameters;
-      results = parts.results; logics = parts.logics; pre = parts.pre; post = parts.post; locals = parts.variables;
-      body = top [] parts.blocks; end = top nowhere parts.places }
+      place = top nowhere (rest parts.places);
+      name = last_name parts;
+      parameters = parts.parameters;
+      results = parts.results;
+      logics = parts.logics;
+      pre = parts.pre;
+      post = parts.post;
+      locals = parts.variables;
+      body = top [] parts.blocks;
+      end = top nowhere parts.places;
+    }
 
 -- these parts are taken
 abbrev pub without_procedure : Parts → Parts
 without_procedure parts =
     record parts {
-      places = rest (rest parts.places); names = rest parts.names; blocks = rest parts.blocks; variables = [];
-      parameters = []; results = []; logics = []; pre = None; post = None }
+      places = rest (rest parts.places);
+      names = rest parts.names;
+      blocks = rest parts.blocks;
+      variables = [];
+      parameters = [];
+      results = [];
+      logics = [];
+      pre = None;
+      post = None;
+    }
 
 abbrev pub after_procedure : ProcedureAct → Near → Parts → Parts
 after_procedure DataParameter near parts =

@@ -65,10 +65,35 @@ pub record Parts : Type 0 where
 abbrev pub nothing : Parts
 nothing =
     record {
-      names = []; places = []; paths = []; terms = []; routes = []; conditions = []; assertions = []; quantifiers = [];
-      brackets = []; blocks = []; elses = []; values = []; used = []; call_results = []; given = []; arguments = [];
-      keep = None; variables = []; parameters = []; results = []; logics = []; pre = None; post = None;
-      predicate_parameters = []; fields = []; common = []; variants = []; declarations = [] }
+      names = [];
+      places = [];
+      paths = [];
+      terms = [];
+      routes = [];
+      conditions = [];
+      assertions = [];
+      quantifiers = [];
+      brackets = [];
+      blocks = [];
+      elses = [];
+      values = [];
+      used = [];
+      call_results = [];
+      given = [];
+      arguments = [];
+      keep = None;
+      variables = [];
+      parameters = [];
+      results = [];
+      logics = [];
+      pre = None;
+      post = None;
+      predicate_parameters = [];
+      fields = [];
+      common = [];
+      variants = [];
+      declarations = [];
+    }
 
 -- the token read last, and the one that comes next
 pub record Near : Type 0 where

@@ -56,7 +56,8 @@ after_route IsType near parts = record parts { routes = route.IsType (top namele
 after_route NarrowToVariant near parts =
     record parts {
       routes = route.IsVariant (tested_type (top routeless parts.routes)) (top nameless parts.names) ∷ rest parts.routes;
-      names = rest parts.names }
+      names = rest parts.names;
+    }
 after_route IsTrue near parts =
     record parts { routes = route.IsBool (top nameless parts.names) true ∷ parts.routes; names = rest parts.names }
 after_route IsFalse near parts =

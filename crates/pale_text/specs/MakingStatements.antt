@@ -45,67 +45,86 @@ after_statement SetElse near parts = record parts { elses = Some (top [] parts.b
 after_statement MakeIf near parts =
     record parts {
       blocks =
-        with_statement
-        (statement.If (top nowhere parts.places) (top conditionless parts.conditions) (top [] parts.blocks) (top None parts.elses))
-        (rest parts.blocks);
+          with_statement
+          (statement.If (top nowhere parts.places) (top conditionless parts.conditions) (top [] parts.blocks) (top None parts.elses))
+          (rest parts.blocks);
       places = rest parts.places;
       conditions = rest parts.conditions;
-      elses = rest parts.elses }
+      elses = rest parts.elses;
+    }
 after_statement MakeWhile near parts =
     record parts {
       blocks =
-        with_statement
-        (statement.While (top nowhere parts.places) (top conditionless parts.conditions) (top bracketless parts.brackets) (top [] parts.blocks))
-        (rest parts.blocks);
+          with_statement
+          (statement.While (top nowhere parts.places) (top conditionless parts.conditions) (top bracketless parts.brackets) (top [] parts.blocks))
+          (rest parts.blocks);
       places = rest parts.places;
       conditions = rest parts.conditions;
-      brackets = rest parts.brackets }
+      brackets = rest parts.brackets;
+    }
 after_statement MakeSplit near parts =
     record parts {
       blocks = with_statement (statement.Split (top nowhere parts.places) (top bracketless parts.brackets)) parts.blocks;
       places = rest parts.places;
-      brackets = rest parts.brackets }
+      brackets = rest parts.brackets;
+    }
 after_statement MakeAssert near parts =
     record parts {
       blocks = with_statement (statement.Assert (top nowhere parts.places) (top bracketless parts.brackets)) parts.blocks;
       places = rest parts.places;
-      brackets = rest parts.brackets }
+      brackets = rest parts.brackets;
+    }
 after_statement MakeFree near parts =
     record parts {
       blocks = with_statement (statement.Free (top nowhere parts.places) (top nameless parts.names)) parts.blocks;
       places = rest parts.places;
-      names = rest parts.names }
+      names = rest parts.names;
+    }
 after_statement MakeNew near parts =
     record parts {
       values = value.New (top nowhere parts.places) (top nameless parts.names) None ∷ parts.values;
       places = rest parts.places;
-      names = rest parts.names }
+      names = rest parts.names;
+    }
 after_statement NarrowNew near parts =
     record parts { values = narrowed (top valueless parts.values) (top nameless parts.names) ∷ rest parts.values; names = rest parts.names }
 after_statement MakeValue near parts =
     record parts {
       values = value.Condition (top nowhere parts.places) (top conditionless parts.conditions) ∷ parts.values;
       places = rest parts.places;
-      conditions = rest parts.conditions }
+      conditions = rest parts.conditions;
+    }
 after_statement MakeAssign near parts =
     record parts {
       blocks = with_statement (statement.Assign (top pathless parts.paths) (top nowhere parts.places) (top valueless parts.values)) parts.blocks;
       paths = rest parts.paths;
       places = rest parts.places;
-      values = rest parts.values }
+      values = rest parts.values;
+    }
 
 -- the call whose parts these are
 abbrev pub call_of : Parts → Call
 call_of parts =
     record {
-      place = top nowhere parts.places; results = parts.call_results; callee = top nameless parts.names;
-      arguments = parts.given; logics = parts.arguments; keep = parts.keep }
+      place = top nowhere parts.places;
+      results = parts.call_results;
+      callee = top nameless parts.names;
+      arguments = parts.given;
+      logics = parts.arguments;
+      keep = parts.keep;
+    }
 
 -- these parts are taken
 abbrev pub without_call : Parts → Parts
 without_call parts =
     record parts {
-      places = rest parts.places; names = rest parts.names; call_results = []; given = []; arguments = []; keep = None }
+      places = rest parts.places;
+      names = rest parts.names;
+      call_results = [];
+      given = [];
+      arguments = [];
+      keep = None;
+    }
 
 abbrev pub with_argument : Argument → Parts → Parts
 with_argument one parts = record parts { arguments = parts.arguments ++ one ∷ [] }

@@ -2,6 +2,9 @@
 //! `specs/Spelling.antt` says what spells a token, and `specs/Lexing.antt` which tokens a text has and where it has none.
 //! `laws` has what callers may rest on: a text is read in one way, and tokens that a printer keeps apart are read again.
 //! The parsers of both languages stand on `lex` and on these types, and no crate above looks at how bytes are read.
+//!
+//! Also what program text means: its kinds of tokens, its grammar, the trees of programs, and which tokens are which
+//! program (`specs/ProgramReading.antt`). `read_tokens` reads the tokens of either language by its grammar.
 #![tactic(auto)]
 
 mod front;
@@ -10,6 +13,7 @@ mod laws;
 mod lexer;
 mod piece;
 mod place;
+mod reading;
 mod refusal;
 #[cfg(test)]
 mod tests;
@@ -23,6 +27,7 @@ pub use grammar::{
 pub use laws::{spelled_tokens_are_read, stray_byte_is_one, tokens_are_one};
 pub use lexer::lex;
 pub use place::{Pos, Span};
+pub use reading::read_tokens;
 pub use refusal::{Refusal, RefusalKind, TextStop};
 pub use token::{ByteList, Mark, Token, TokenKind, TokenList};
 pub use tree::{

@@ -6,3 +6,10 @@ pub mod CarryLemmas
 pub mod AloneLemmas
 pub mod RenamingLemmas
 pub mod RenamedLemmas
+pub mod KeyLemmas
+pub mod GatheringLemmas
+pub mod MachineLemmas
+pub mod RangeLemmas
+pub mod IndexLemmas
+pub mod StepLemmas
+pub mod SpotLemmas

@@ -2,12 +2,22 @@
 //!
 //! `specs/Walks.antt` says what a walk is, `specs/Destinations.antt` what a destination is, `specs/WellFormed.antt` when a store
 //! is a backbone, when it is well-formed and which of its faults comes first, and `specs/Laws.antt` what holds of all walks.
+//! `specs/Machines.antt` says what a route is taken apart into.
 #![tactic(auto)]
 
+mod calls;
 mod fault;
+mod followed;
+mod indexing;
 mod laws;
+mod links;
+mod machine;
+mod search;
+mod steps;
 
+pub use calls::{destinations, ends};
 pub use fault::{Place, WfFault};
+pub use followed::Followed;
 pub use laws::{
     data_walks_stay_in_one_tree, renaming_cells_renames_walks, walks_go_by_cases,
     walks_join_live_cells, walks_see_cells_alone,

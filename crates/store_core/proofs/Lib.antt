@@ -6,3 +6,12 @@ pub mod Rising
 pub mod Cells
 pub mod Changes
 pub mod Steps
+pub mod Writing
+pub mod Fitting
+pub mod ReadFits
+pub mod Words
+pub mod Spelled
+pub mod SpelledLines
+pub mod ToldValues
+pub mod ToldCells
+pub mod RoundTrip

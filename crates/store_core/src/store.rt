@@ -18,11 +18,11 @@ use std::marker::Model;
 
 /// A live cell.
 #[derive(Drop)]
-struct CellBody {
-    number: u32,
-    variant: VariantId,
+pub(crate) struct CellBody {
+    pub(crate) number: u32,
+    pub(crate) variant: VariantId,
     /// The value of each field of its type by the field's number, `None` where its variant hasn't the field.
-    values: Items<Option<Value>>,
+    pub(crate) values: Items<Option<Value>>,
 }
 
 /// A finite map from cell numbers to cells, with a value for each variable and a number above every cell number ever used.
@@ -102,7 +102,7 @@ fn blank_values(
 }
 
 impl Store {
-    ghost use Rattle.store_core.specs.StoreBodies.{cell_entry};
+    ghost use Rattle.store_core.specs.StoreBodies.{cell_entry, cells_of};
 
     /// No cell, the next number 1, and each variable null, false or the empty set.
     pub fn empty(alloc: Global, vars: &VarTable) -> Result<Store, AllocError>
@@ -146,6 +146,20 @@ impl Store {
     {
         let place = self.place(c)?;
         at(self.cells.as_slice(), place)
+    }
+
+    /// The live cells by number.
+    pub(crate) fn bodies(&self) -> &[CellBody]
+        ensures { cells_of result.now ≡ entries self.now.cells }
+    {
+        self.cells.as_slice()
+    }
+
+    /// The value of each variable by its number.
+    pub(crate) fn values(&self) -> &[Value]
+        ensures { result.now ≡ self.now.vars }
+    {
+        self.vars.as_slice()
     }
 
     /// The type of a cell; `None` exactly for a cell that isn't live. Takes no memory.

@@ -1,5 +1,4 @@
-use Rattle.std.proofs.Common.{◌≡◌, ℕ, List, ◌∙◌, sym, subst, arith}
-use Rattle.bdd_nodes.specs.declared.node_ref.NodeRef.{NodeRef}
+use Rattle.std.proofs.Common.{sym, subst, arith}
 use Rattle.bench_nodes.specs.Levels.{IsLevel}
 use Rattle.bench_nodes.proofs.LevelsLemmas.{IsLevel-push, IsFrom-leaf}
 use Rattle.bench_nodes.proofs.levels.make_leaves.Goals as goal

@@ -1,0 +1,39 @@
+use Rattle.std.proofs.Common.{◌≡◌, ◌++◌, ◌∷◌, [], sym, ap, ◌∙◌, subst, refl, get_or}
+use Rattle.std.proofs.lemmas.Bool.{false≢true}
+use Rattle.std.proofs.lemmas.Option.{slice_get-get_or}
+use Rattle.store_core.specs.declared.ids.FieldId.{FieldId}
+use Rattle.routing_expr.specs.Walks.{IsNamed}
+use Rattle.routing_expr.specs.Gathering.{Gathers, Before}
+use Rattle.routing_expr.specs.Searches.{fields_in}
+use Rattle.routing_expr.proofs.GatheringLemmas.{Gathers-none, Gathers-start, Gathers-next, Gathers-push, Gathers-alike, HasAll-gathered, HasAll-alike}
+use Rattle.routing_expr.proofs.StepLemmas.{LinkOf, LinkOf-one, LinkOf-not, LinkOf-named, no_link}
+use Rattle.routing_expr.proofs.search.Search.parents.Goals as goal
+use Rattle.routing_expr.proofs.search.Search.parents.Goals.{then-is_named+in_ok-push, else-is_named}
+
+pub loop-link-preserved : goal.loop-link-preserved
+loop-link-preserved c =
+    let links = c.to-link-items.result.now in
+    let P = λ (f : FieldId). IsNamed c.args.self.now.types.now f c.args.name.now in
+    let At = LinkOf links P in
+    let link = get_or links c.loop-link.link-index no_link in
+    let at = slice_get-get_or links c.loop-link.link-index no_link c.loop-link-test.true in
+    Gathers-next At c.loop-link.link-index [] c.loop-link.parents.items c.if-is_named.parents.items c.loop-link.invariant
+    (elim c.if-is_named.branch [
+      | then-is_named+in_ok-push w ↦
+          subst (λ l. Gathers c.loop-link.parents.items l (At c.loop-link.link-index)) (sym (ap (λ v. v.items) w.parents-is ∙ w.in_ok-push.ensures.items))
+          (Gathers-alike c.loop-link.parents.items (c.loop-link.parents.items ++ link.parent ∷ []) (λ x. x ≡ link.parent) (At c.loop-link.link-index) (Gathers-push c.loop-link.parents.items link.parent)
+          (LinkOf-one links P c.loop-link.link-index link at (w.if-is_named.ensures.0 refl)))
+      | else-is_named w ↦
+          subst (λ l. Gathers c.loop-link.parents.items l (At c.loop-link.link-index)) (sym (ap (λ v. v.items) w.parents-is))
+          (Gathers-none c.loop-link.parents.items (At c.loop-link.link-index) (LinkOf-not links P c.loop-link.link-index link at (λ p. false≢true (w.if-is_named.ensures.1 p))))
+    ])
+
+pub returns : goal.returns
+returns c =
+    let types = c.args.self.now.types.now in
+    let links = c.to-link-items.result.now in
+    let At = LinkOf links (λ f. IsNamed types f c.args.name.now) in
+    HasAll-alike c.loop-link.parents.items (Before At c.loop-link.link-index) _
+    (HasAll-gathered c.loop-link.parents.items (Before At c.loop-link.link-index) c.loop-link.invariant)
+    (LinkOf-named types c.args.self.now.store.now (fields_in c.args.self.now.followed) c.args.self.now.links.links.items links c.args.from
+    c.requires c.to-link-items.ensures c.args.name.now c.loop-link.link-index c.loop-link-test.false)

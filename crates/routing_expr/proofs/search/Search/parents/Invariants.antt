@@ -1,0 +1,9 @@
+use Rattle.std.proofs.Common.{[]}
+use Rattle.routing_expr.specs.Walks.{IsNamed}
+use Rattle.routing_expr.specs.Gathering.{Gathers, Before}
+use Rattle.routing_expr.proofs.StepLemmas.{LinkOf}
+use Rattle.routing_expr.proofs.search.Search.parents.Given as goal
+
+-- the parents by the links so far
+abbrev pub invariant-loop-link : goal.invariant-loop-link
+invariant-loop-link l = Gathers [] l.parents.items (Before (LinkOf l.link-items (λ f. IsNamed l.self.types.now f l.name)) l.link-index)

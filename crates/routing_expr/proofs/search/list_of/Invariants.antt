@@ -1,0 +1,8 @@
+use Rattle.routing_expr.specs.Gathering.{Before}
+use Rattle.routing_expr.specs.Searches.{Lists}
+use Rattle.routing_expr.proofs.SpotLemmas.{FirstCell}
+use Rattle.routing_expr.proofs.search.list_of.Given as goal
+
+-- the cells so far are listed
+abbrev pub invariant-loop-cell : goal.invariant-loop-cell
+invariant-loop-cell l = Lists (Before (FirstCell l.cell-items) l.cell-index) l.list

@@ -1,0 +1,36 @@
+-- What a search is asked for, and the index that it uses.
+use Rattle.std.specs.Prelude.{◌≡◌, ◌↔◌, List, Option, Some, None, Contains}
+use Rattle.store_core.specs.declared.ids.TypeId.{TypeId}
+use Rattle.store_core.specs.declared.ids.CellId.{CellId}
+use Rattle.store_core.specs.CellLists.{AreRising}
+use Rattle.store_core.specs.Tables.{TypeEntry}
+use Rattle.store_core.specs.Stores.{StoreMap}
+use Rattle.routing_expr.specs.declared.followed.Followed.{Followed}
+use Rattle.routing_expr.specs.declared.followed.Followed.TheVariants as followed
+use Rattle.routing_expr.specs.declared.links.Link.{Link}
+use Rattle.routing_expr.specs.declared.search.Search.{Search}
+use Rattle.routing_expr.specs.Walks.{Fields, DataAlone, DataAndPointers, Leads, IsOfType}
+use Rattle.routing_expr.specs.Gathering.{HasAll}
+
+-- the fields that are followed
+abbrev pub fields_in : Followed → Fields
+fields_in followed.Data = DataAlone
+fields_in followed.DataAndPointers = DataAndPointers
+
+-- the list has the cells that belong, each once, by number
+pub record Lists (Belongs : CellId → Type 0) (cells : List CellId) : Type 0 where
+  pub rising : AreRising cells
+  pub members : (d : CellId) → Contains cells d ↔ Belongs d
+
+-- the field of the parent is followed and leads to the child
+abbrev pub IsLink : List TypeEntry → StoreMap → Fields → Link → Type 0
+IsLink types s fields link = Leads types s fields link.field link.parent link.child
+
+-- the links are those of the store
+abbrev pub IsIndexed : Search → Type 0
+IsIndexed search = HasAll search.links.links.items (IsLink search.types.now search.store.now (fields_in search.followed))
+
+-- the cell is of the type, where there is one
+abbrev pub IsWanted : StoreMap → Option TypeId → CellId → Type 0
+IsWanted s None c = Unit {0}
+IsWanted s (Some target) c = IsOfType s target c

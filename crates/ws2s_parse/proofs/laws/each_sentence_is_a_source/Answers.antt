@@ -1,0 +1,13 @@
+use Rattle.std.proofs.Common.{map, refl}
+use Rattle.grammar_engine.specs.Answers.{event_of}
+use Rattle.ws2s_parse.specs.Making.{source_of}
+use Rattle.ws2s_parse.specs.SourceWords.{kinds_in}
+use Rattle.ws2s_parse.proofs.laws.each_sentence_is_a_source.Goals as goal
+
+pub returns : goal.returns
+returns c tokens steps any =
+    let counted = c.each_sentence_has_a_reading_that_counts.ensures.counts (kinds_in tokens) steps any in (
+      counted.0,
+      source_of tokens (map event_of counted.0),
+      record { reading = counted.1; made = refl },
+    )

@@ -1,0 +1,319 @@
+-- What is known of the rows of the grammar of WS2S text. grammar_engine's `is_predictable` says what is meant by each of
+-- these, and is tried on each part.
+use Rattle.std.specs.Prelude.{ℕ, List, [], ◌∷◌}
+use Rattle.grammar_engine.specs.Predicting.{Hints}
+use Rattle.pale_text.specs.declared.token.Mark.{Mark}
+use Rattle.pale_text.specs.declared.token.Mark.TheVariants as mark
+use Rattle.ws2s_parse.specs.declared.grammar.kind.SourceKind.{SourceKind}
+use Rattle.ws2s_parse.specs.declared.grammar.kind.SourceKind.TheVariants as kind
+use Rattle.ws2s_parse.specs.declared.grammar.part.SourcePart.{SourcePart}
+use Rattle.ws2s_parse.specs.declared.grammar.part.SourcePart.TheVariants as part
+use Rattle.ws2s_parse.specs.declared.tables.choice.SourceChoice.{SourceChoice}
+use Rattle.ws2s_parse.specs.declared.tables.choice.SourceChoice.TheVariants as row
+
+-- a number for each kind
+unfoldable pub mark_number : Mark → ℕ
+mark_number mark.Equivalent = 19
+mark_number mark.SameAs = 20
+mark_number mark.Implies = 21
+mark_number mark.NotSame = 22
+mark_number mark.NotEqual = 23
+mark_number mark.AndAlso = 24
+mark_number mark.OrElse = 25
+mark_number mark.Equals = 26
+mark_number mark.Bang = 27
+mark_number mark.Tilde = 28
+mark_number mark.Ampersand = 29
+mark_number mark.Bar = 30
+mark_number mark.Less = 31
+mark_number mark.Greater = 32
+mark_number mark.LeftParen = 33
+mark_number mark.RightParen = 34
+mark_number mark.LeftBracket = 35
+mark_number mark.RightBracket = 36
+mark_number mark.LeftBrace = 37
+mark_number mark.RightBrace = 38
+mark_number mark.Colon = 39
+mark_number mark.Semicolon = 40
+mark_number mark.Comma = 41
+mark_number mark.Dot = 42
+mark_number mark.Star = 43
+mark_number mark.Plus = 44
+mark_number mark.Caret = 45
+mark_number mark.Dollar = 46
+mark_number mark.At = 47
+mark_number mark.Question = 48
+
+unfoldable pub number_of : SourceKind → ℕ
+number_of kind.Name = 0
+number_of kind.Number = 1
+number_of kind.Zero = 2
+number_of kind.One = 3
+number_of kind.Ws2s = 4
+number_of kind.Var1 = 5
+number_of kind.Var2 = 6
+number_of kind.Pred = 7
+number_of kind.Ex1 = 8
+number_of kind.All1 = 9
+number_of kind.Ex2 = 10
+number_of kind.All2 = 11
+number_of kind.In = 12
+number_of kind.NotIn = 13
+number_of kind.Sub = 14
+number_of kind.Empty = 15
+number_of kind.Root = 16
+number_of kind.True = 17
+number_of kind.False = 18
+number_of (kind.Mark sign) = mark_number sign
+
+-- a number for each part
+unfoldable pub label_of : SourcePart → ℕ
+label_of part.Item = 0
+label_of part.Variables = 1
+label_of part.NextVariable = 2
+label_of part.Parameters = 3
+label_of part.NextParameter = 4
+label_of part.Parameter = 5
+label_of part.Formula = 6
+label_of part.NextImplication = 7
+label_of part.Implication = 8
+label_of part.Implied = 9
+label_of part.OrChain = 10
+label_of part.NextAndChain = 11
+label_of part.AndChain = 12
+label_of part.NextNegation = 13
+label_of part.Negation = 14
+label_of part.Bound = 15
+label_of part.NextBound = 16
+label_of part.Primary = 17
+label_of part.NameRest = 18
+label_of part.Arguments = 19
+label_of part.NextArgument = 20
+label_of part.Term = 21
+label_of part.Successor = 22
+label_of part.Child = 23
+label_of part.Relation = 24
+
+-- the kinds with which each row may begin
+unfoldable pub starts_of : SourceChoice → List SourceKind
+starts_of row.PositionsDeclared = kind.Var1 ∷ []
+starts_of row.SetsDeclared = kind.Var2 ∷ []
+starts_of row.PredicateDeclared = kind.Pred ∷ []
+starts_of row.FormulaStated = kind.Mark mark.Tilde ∷ kind.Ex1 ∷ kind.All1 ∷ kind.Ex2 ∷ kind.All2 ∷ kind.Mark mark.LeftParen ∷
+    kind.True ∷ kind.False ∷ kind.Empty ∷ kind.Root ∷ kind.Name ∷ []
+starts_of row.VariablesInOrder = kind.Name ∷ []
+starts_of row.VariableAfterComma = kind.Mark mark.Comma ∷ []
+starts_of row.ParametersInOrder = kind.Var1 ∷ kind.Var2 ∷ []
+starts_of row.ParameterAfterComma = kind.Mark mark.Comma ∷ []
+starts_of row.PositionParameterDeclared = kind.Var1 ∷ []
+starts_of row.SetParameterDeclared = kind.Var2 ∷ []
+starts_of row.IffOfImplications = kind.Mark mark.Tilde ∷ kind.Ex1 ∷ kind.All1 ∷ kind.Ex2 ∷ kind.All2 ∷ kind.Mark mark.LeftParen ∷
+    kind.True ∷ kind.False ∷ kind.Empty ∷ kind.Root ∷ kind.Name ∷ []
+starts_of row.ImplicationAfterIff = kind.Mark mark.Equivalent ∷ []
+starts_of row.ImplicationOfChain = kind.Mark mark.Tilde ∷ kind.Ex1 ∷ kind.All1 ∷ kind.Ex2 ∷ kind.All2 ∷ kind.Mark mark.LeftParen ∷
+    kind.True ∷ kind.False ∷ kind.Empty ∷ kind.Root ∷ kind.Name ∷ []
+starts_of row.ImplicationAfterArrow = kind.Mark mark.Implies ∷ []
+starts_of row.OrOfAndChains = kind.Mark mark.Tilde ∷ kind.Ex1 ∷ kind.All1 ∷ kind.Ex2 ∷ kind.All2 ∷ kind.Mark mark.LeftParen ∷
+    kind.True ∷ kind.False ∷ kind.Empty ∷ kind.Root ∷ kind.Name ∷ []
+starts_of row.AndChainAfterBar = kind.Mark mark.Bar ∷ []
+starts_of row.AndOfNegations = kind.Mark mark.Tilde ∷ kind.Ex1 ∷ kind.All1 ∷ kind.Ex2 ∷ kind.All2 ∷ kind.Mark mark.LeftParen ∷
+    kind.True ∷ kind.False ∷ kind.Empty ∷ kind.Root ∷ kind.Name ∷ []
+starts_of row.NegationAfterAmpersand = kind.Mark mark.Ampersand ∷ []
+starts_of row.NotFormula = kind.Mark mark.Tilde ∷ []
+starts_of row.Ex1Bound = kind.Ex1 ∷ []
+starts_of row.All1Bound = kind.All1 ∷ []
+starts_of row.Ex2Bound = kind.Ex2 ∷ []
+starts_of row.All2Bound = kind.All2 ∷ []
+starts_of row.PrimaryAlone = kind.Mark mark.LeftParen ∷ kind.True ∷ kind.False ∷ kind.Empty ∷ kind.Root ∷ kind.Name ∷ []
+starts_of row.BoundWithBody = kind.Name ∷ []
+starts_of row.BoundAfterComma = kind.Mark mark.Comma ∷ []
+starts_of row.FormulaGroup = kind.Mark mark.LeftParen ∷ []
+starts_of row.TruePrimary = kind.True ∷ []
+starts_of row.FalsePrimary = kind.False ∷ []
+starts_of row.EmptyPrimary = kind.Empty ∷ []
+starts_of row.RootPrimary = kind.Root ∷ []
+starts_of row.NamePrimary = kind.Name ∷ []
+starts_of row.UseOfName = kind.Mark mark.LeftParen ∷ []
+starts_of row.TermOfName = kind.Mark mark.Dot ∷ kind.Mark mark.Equals ∷ kind.Mark mark.NotEqual ∷ kind.In ∷ kind.NotIn ∷ kind.Sub ∷ []
+starts_of row.ArgumentsInOrder = kind.Root ∷ kind.Name ∷ []
+starts_of row.ArgumentAfterComma = kind.Mark mark.Comma ∷ []
+starts_of row.RootTerm = kind.Root ∷ []
+starts_of row.NameTerm = kind.Name ∷ []
+starts_of row.SuccessorAfterDot = kind.Mark mark.Dot ∷ []
+starts_of row.ZeroChild = kind.Zero ∷ []
+starts_of row.OneChild = kind.One ∷ []
+starts_of row.SameTerm = kind.Mark mark.Equals ∷ []
+starts_of row.DifferentTerm = kind.Mark mark.NotEqual ∷ []
+starts_of row.MemberOfSet = kind.In ∷ []
+starts_of row.NoMemberOfSet = kind.NotIn ∷ []
+starts_of row.WithinSet = kind.Sub ∷ []
+
+-- With which tokens, and which part there, a part could go on where it may end. First those of
+-- a term
+abbrev pub term_tail : List (SourceKind × SourcePart)
+term_tail = (kind.Mark mark.Dot, part.Successor) ∷ []
+
+-- a formula: the body of a quantifier ends where the formula does
+abbrev pub formula_tail : List (SourceKind × SourcePart)
+formula_tail = (kind.Mark mark.Equivalent, part.NextImplication) ∷ (kind.Mark mark.Implies, part.Implied) ∷
+    (kind.Mark mark.Bar, part.NextAndChain) ∷ (kind.Mark mark.Ampersand, part.NextNegation) ∷ term_tail
+
+-- then of each part
+unfoldable pub tails_of : SourcePart → List (SourceKind × SourcePart)
+tails_of part.Item = []
+tails_of part.Variables = (kind.Mark mark.Comma, part.NextVariable) ∷ []
+tails_of part.NextVariable = []
+tails_of part.Parameters = (kind.Mark mark.Comma, part.NextParameter) ∷ []
+tails_of part.NextParameter = []
+tails_of part.Parameter = []
+tails_of part.Formula = formula_tail
+tails_of part.NextImplication = formula_tail
+tails_of part.Implication = formula_tail
+tails_of part.Implied = formula_tail
+tails_of part.OrChain = formula_tail
+tails_of part.NextAndChain = formula_tail
+tails_of part.AndChain = formula_tail
+tails_of part.NextNegation = formula_tail
+tails_of part.Negation = formula_tail
+tails_of part.Bound = formula_tail
+tails_of part.NextBound = []
+tails_of part.Primary = term_tail
+tails_of part.NameRest = term_tail
+tails_of part.Arguments = (kind.Mark mark.Comma, part.NextArgument) ∷ term_tail
+tails_of part.NextArgument = term_tail
+tails_of part.Term = term_tail
+tails_of part.Successor = []
+tails_of part.Child = []
+tails_of part.Relation = term_tail
+
+-- of a whole text
+abbrev pub text_tail : List (SourceKind × SourcePart)
+text_tail = (kind.Var1, part.Item) ∷ (kind.Var2, part.Item) ∷ (kind.Pred, part.Item) ∷ (kind.Mark mark.Tilde, part.Item) ∷
+    (kind.Ex1, part.Item) ∷ (kind.All1, part.Item) ∷ (kind.Ex2, part.Item) ∷ (kind.All2, part.Item) ∷
+    (kind.Mark mark.LeftParen, part.Item) ∷ (kind.True, part.Item) ∷ (kind.False, part.Item) ∷ (kind.Empty, part.Item) ∷
+    (kind.Root, part.Item) ∷ (kind.Name, part.Item) ∷ []
+
+-- how many moves may lie before the first token
+unfoldable pub cost_of : SourcePart → ℕ
+cost_of part.Item = 6
+cost_of part.Variables = 0
+cost_of part.NextVariable = 0
+cost_of part.Parameters = 1
+cost_of part.NextParameter = 0
+cost_of part.Parameter = 0
+cost_of part.Formula = 5
+cost_of part.NextImplication = 0
+cost_of part.Implication = 4
+cost_of part.Implied = 0
+cost_of part.OrChain = 3
+cost_of part.NextAndChain = 0
+cost_of part.AndChain = 2
+cost_of part.NextNegation = 0
+cost_of part.Negation = 1
+cost_of part.Bound = 0
+cost_of part.NextBound = 0
+cost_of part.Primary = 0
+cost_of part.NameRest = 3
+cost_of part.Arguments = 1
+cost_of part.NextArgument = 0
+cost_of part.Term = 0
+cost_of part.Successor = 0
+cost_of part.Child = 0
+cost_of part.Relation = 0
+
+-- the place of a row that comes to an end soonest
+unfoldable pub sample_of : SourcePart → ℕ
+sample_of part.Item = 0
+sample_of part.Variables = 0
+sample_of part.NextVariable = 0
+sample_of part.Parameters = 0
+sample_of part.NextParameter = 0
+sample_of part.Parameter = 0
+sample_of part.Formula = 0
+sample_of part.NextImplication = 0
+sample_of part.Implication = 0
+sample_of part.Implied = 0
+sample_of part.OrChain = 0
+sample_of part.NextAndChain = 0
+sample_of part.AndChain = 0
+sample_of part.NextNegation = 0
+sample_of part.Negation = 5
+sample_of part.Bound = 0
+sample_of part.NextBound = 0
+sample_of part.Primary = 1
+sample_of part.NameRest = 0
+sample_of part.Arguments = 0
+sample_of part.NextArgument = 0
+sample_of part.Term = 0
+sample_of part.Successor = 0
+sample_of part.Child = 0
+sample_of part.Relation = 2
+
+-- the kind of the token with which that row begins
+unfoldable pub begin_of : SourcePart → SourceKind
+begin_of part.Item = kind.Var1
+begin_of part.Variables = kind.Name
+begin_of part.NextVariable = kind.Mark mark.Comma
+begin_of part.Parameters = kind.Var1
+begin_of part.NextParameter = kind.Mark mark.Comma
+begin_of part.Parameter = kind.Var1
+begin_of part.Formula = kind.True
+begin_of part.NextImplication = kind.Mark mark.Equivalent
+begin_of part.Implication = kind.True
+begin_of part.Implied = kind.Mark mark.Implies
+begin_of part.OrChain = kind.True
+begin_of part.NextAndChain = kind.Mark mark.Bar
+begin_of part.AndChain = kind.True
+begin_of part.NextNegation = kind.Mark mark.Ampersand
+begin_of part.Negation = kind.True
+begin_of part.Bound = kind.Name
+begin_of part.NextBound = kind.Mark mark.Comma
+begin_of part.Primary = kind.True
+begin_of part.NameRest = kind.Mark mark.LeftParen
+begin_of part.Arguments = kind.Root
+begin_of part.NextArgument = kind.Mark mark.Comma
+begin_of part.Term = kind.Root
+begin_of part.Successor = kind.Mark mark.Dot
+begin_of part.Child = kind.Zero
+begin_of part.Relation = kind.In
+
+-- more than the sizes of the parts of that row together
+unfoldable pub size_of : SourcePart → ℕ
+size_of part.Item = 2
+size_of part.Variables = 1
+size_of part.NextVariable = 1
+size_of part.Parameters = 2
+size_of part.NextParameter = 2
+size_of part.Parameter = 1
+size_of part.Formula = 6
+size_of part.NextImplication = 6
+size_of part.Implication = 5
+size_of part.Implied = 6
+size_of part.OrChain = 4
+size_of part.NextAndChain = 4
+size_of part.AndChain = 3
+size_of part.NextNegation = 3
+size_of part.Negation = 2
+size_of part.Bound = 7
+size_of part.NextBound = 1
+size_of part.Primary = 1
+size_of part.NameRest = 1
+size_of part.Arguments = 2
+size_of part.NextArgument = 2
+size_of part.Term = 1
+size_of part.Successor = 2
+size_of part.Child = 1
+size_of part.Relation = 1
+
+unfoldable pub source_hints : Hints SourcePart SourceChoice SourceKind
+source_hints = record {
+  number = number_of;
+  label = label_of;
+  starts = starts_of;
+  tails = tails_of;
+  text_tail = text_tail;
+  cost = cost_of;
+  sample = sample_of;
+  begin = begin_of;
+  size = size_of;
+}
