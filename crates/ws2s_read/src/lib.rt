@@ -9,9 +9,11 @@ mod formulas;
 mod items;
 mod laws;
 mod names;
+mod read;
 mod terms;
 #[cfg(test)]
 mod tests;
 
 pub use items::resolve;
 pub use laws::resolved_texts_are_checked;
+pub use read::read_ws2s;
