@@ -1,0 +1,4 @@
+mod FormsLemmas
+mod ResolvedLemmas
+mod ResolvingLemmas
+mod TextLemmas
