@@ -50,24 +50,50 @@ fn built(alloc: Global, tower: &Tower, count: usize) -> Result<Vec<u8>, AllocErr
     Ok(text)
 }
 
+/// Whether this is told of the text.
+fn is_told(alloc: Global, text: &[u8], want: &str) -> Result<bool, AllocError> {
+    if text.len() >= 100_000 {
+        return Ok(false);
+    }
+    let got = told(alloc, text)?;
+    Ok(got.as_str() == want)
+}
+
+/// Whether this is told of a tower's text.
+fn is_told_of(alloc: Global, tower: &Tower, count: usize, want: &str) -> Result<bool, AllocError> {
+    let text = built(alloc, tower, count)?;
+    is_told(alloc, text.as_slice(), want)
+}
+
+/// Whether no name is read where this word stands.
+fn is_reserved(alloc: Global, word: &str) -> Result<bool, AllocError> {
+    let text = format!(in alloc; "pred {word}() = [true];")?;
+    is_told(alloc, text.as_bytes(), "refused 1:6 syntax")
+}
+
 #[test]
 fn texts_are_programs_or_stop_there(rt: HostRuntime) -> Result<(), Fail> {
-    for (text, want) in TEXTS {
-        assert!(rt; text.len() < 100_000);
-        let got = told(rt.alloc(), text)?;
-        assert_eq!(rt; got.as_str(), want);
+    let alloc = rt.alloc();
+    for (text, want) in &TEXTS {
+        assert_eq!(rt; is_told(alloc, text, want)?, true, "of {want}");
     }
-    for word in RESERVED {
-        let text = format!(in rt.alloc(); "pred {word}() = [true];")?;
-        assert!(rt; text.len() < 100_000);
-        let got = told(rt.alloc(), text.as_bytes())?;
-        assert_eq!(rt; got.as_str(), "refused 1:6 syntax");
+    Ok(())
+}
+
+#[test]
+fn reserved_words_are_no_names(rt: HostRuntime) -> Result<(), Fail> {
+    let alloc = rt.alloc();
+    for word in &RESERVED {
+        assert_eq!(rt; is_reserved(alloc, word)?, true, "of {word}");
     }
-    for (tower, count, want) in TOWERS {
-        let text = built(rt.alloc(), &tower, count)?;
-        assert!(rt; text.len() < 100_000);
-        let got = told(rt.alloc(), text.as_slice())?;
-        assert_eq!(rt; got.as_str(), want);
+    Ok(())
+}
+
+#[test]
+fn levels_end_at_two_hundred(rt: HostRuntime) -> Result<(), Fail> {
+    let alloc = rt.alloc();
+    for (tower, count, want) in &TOWERS {
+        assert_eq!(rt; is_told_of(alloc, tower, *count, want)?, true, "of {want}");
     }
     Ok(())
 }
