@@ -11,8 +11,6 @@ mod grammar;
 mod laws;
 mod parser;
 mod tables;
-#[cfg(test)]
-mod tests;
 
 pub use laws::{each_sentence_is_a_program, one_program};
 pub use parser::parse;

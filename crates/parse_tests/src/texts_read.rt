@@ -4,7 +4,7 @@ mod trees;
 
 ghost use Rattle.std.specs.Prelude.{◌<◌, length};
 
-use crate::parse;
+use pale_parse::parse;
 use pale_text::{Program, TextStop, lex};
 use std::alloc::{AllocError, Global};
 use std::test::Fail;
