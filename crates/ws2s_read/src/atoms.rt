@@ -12,6 +12,7 @@ use plain_data::Items;
 use std::alloc::Global;
 use ws2s_syntax::{Argument, Atom, Class, SourceName, SourceTerm};
 
+/// A set that is empty.
 #[tactic(auto, unfolding(crate::specs::Resolving::resolved_empty))]
 pub fn resolve_empty(names: &Names, set: &SourceName) -> Result<Atom, TextStop>
     ensures atom { IfOk result (λ found. resolved_empty names.now set.now ≡ Ok found) }
@@ -20,6 +21,7 @@ pub fn resolve_empty(names: &Names, set: &SourceName) -> Result<Atom, TextStop>
     Ok(Atom::Empty(resolve_set(names, set)?))
 }
 
+/// A position in a set.
 #[tactic(auto, unfolding(crate::specs::Resolving::resolved_in))]
 pub fn resolve_in(
     alloc: Global,
@@ -34,6 +36,7 @@ pub fn resolve_in(
     Ok(Atom::In(position, resolve_set(names, set)?))
 }
 
+/// A set within a set.
 #[tactic(auto, unfolding(crate::specs::Resolving::resolved_sub))]
 pub fn resolve_sub(
     alloc: Global,
@@ -87,6 +90,7 @@ fn resolve_arguments(
     Ok(arguments)
 }
 
+/// A predicate of its arguments: their number is looked at first, and then each from the left.
 #[tactic(auto, unfolding(crate::specs::Resolving::resolved_use))]
 pub fn resolve_use(
     alloc: Global,

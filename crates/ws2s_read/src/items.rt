@@ -144,6 +144,13 @@ fn add_item(alloc: Global, stage: &mut Stage, item: &SourceItem) -> Result<(), T
 }
 
 /// The text that a source tree is, once its names are looked up.
+///
+/// # Errors
+///
+/// `Refused` is the first fault from the left: `duplicate` at a name that is declared or bound where it is visible,
+/// `unknown` at one that is used where it isn't, `kind` at a name or a term of another class than its place needs, and
+/// `arity` at the name of a predicate that is used with more or fewer arguments than it has parameters. `NoMemory` says
+/// nothing of the tree. A name is found by a table, so the time is linear in the tree.
 #[tactic(auto, unfolding(crate::specs::Resolving::resolved))]
 pub fn resolve(alloc: Global, source: &Source) -> Result<Ws2sText, TextStop>
     ensures text { IfOk result (λ found. resolved source.now ≡ Ok found) }
