@@ -1,5 +1,5 @@
 -- Names, terms and their tracks.
-use Rattle.std.proofs.Common.{◌≡◌, ◌≢◌, ℕ, suc, ◌+◌, ◌<◌, Bool, true, false, IsTrue, ◌↔◌, ◌⊎◌, inl, inr, List, [], ◌∷◌, ◌++◌, length, fold, reverse, Option, Some, None, slice_get, unwrap_or, refl, sym, ap, ◌∙◌, subst, arith, length-append}
+use Rattle.std.proofs.Common.{◌≡◌, ◌≢◌, ℕ, suc, ◌+◌, ◌<◌, true, false, IsTrue, ◌↔◌, inl, inr, List, [], ◌∷◌, ◌++◌, length, fold, reverse, Option, Some, None, slice_get, unwrap_or, refl, sym, ap, ◌∙◌, subst, arith, length-append}
 use Rattle.std.proofs.lemmas.Bool.{false≢true}
 use Rattle.std.proofs.lemmas.List.{reverse-reverse, reverse-append}
 use Rattle.std.proofs.lemmas.List.Sums.{fold-append}
@@ -7,8 +7,7 @@ use Rattle.std.proofs.lemmas.Option.{slice_get_within}
 use Rattle.tree_theory.specs.Assignments.{Position, PositionSet, Assignment, IsOnly, replace}
 use Rattle.tree_theory.proofs.AssignmentsLemmas.{replace-same, replace-other}
 use Rattle.tree_theory.proofs.ListedLemmas.{slice_get-front, slice_get-last, slice_get-push}
-use Rattle.ws2s_core.specs.declared.formula.Formula.{Formula}
-use Rattle.ws2s_core.specs.declared.formula.Formula.TheVariants.{Sub, Single, Succ0, Succ1, And}
+use Rattle.ws2s_core.specs.declared.formula.Formula.TheVariants.{Sub, Single}
 use Rattle.ws2s_core.specs.Satisfaction.{WSat}
 use Rattle.ws2s_core.proofs.SatisfactionLemmas.{WSat-Sub, WSat-Single, WSat-Succ0, WSat-Succ1, WSat-Root, WSat-And}
 use Rattle.ws2s_syntax.specs.declared.name.Name.{Name}
@@ -20,7 +19,7 @@ use Rattle.ws2s_syntax.specs.declared.name.Base.TheVariants.{Root, Variable}
 use Rattle.ws2s_syntax.specs.declared.name.Term.{Term}
 use Rattle.ws2s_syntax.specs.declared.declaration.Class.{Class}
 use Rattle.ws2s_syntax.specs.Checked.{Scope, class_of, is_position_class, is_set_class, is_position, is_set, is_base, is_term, with_class}
-use Rattle.ws2s_syntax.specs.Meaning.{Value, place, places, Env, value_of, position_in, set_in, set_of, position_of_base, letter_of, child, position_of, with_value}
+use Rattle.ws2s_syntax.specs.Meaning.{Value, Env, value_of, position_in, set_in, position_of_base, child, position_of, with_value}
 use Rattle.ws2s_reduce.specs.Reducing.{track, track_of, succ_of, is_base_at, is_stepped_at, is_at}
 use Rattle.ws2s_reduce.proofs.PositionsLemmas.{IsOnly-inside, IsOnly-same, IsOnly-along, bound_same, bound_other, WSat-ex_at}
 

@@ -1,5 +1,5 @@
 -- Reductions have the sizes that are counted.
-use Rattle.std.proofs.Common.{◌≡◌, ℕ, zero, suc, ◌+◌, ◌*◌, ◌<◌, min, Bool, true, false, cond, eqb, List, [], ◌∷◌, ◌++◌, length, map, fold, take, get_or, Option, Some, None, slice_get, unwrap_or, refl, sym, ap, ◌∙◌, subst, arith, eqb-true, eq-eqb, ne_eqb, zero-add, zero-le, ◌≢◌, length-append, add_assoc, add-one}
+use Rattle.std.proofs.Common.{◌≡◌, ℕ, zero, suc, ◌+◌, ◌*◌, ◌<◌, min, Bool, true, false, cond, eqb, List, [], ◌∷◌, ◌++◌, length, map, take, get_or, Option, Some, None, slice_get, unwrap_or, refl, sym, ap, ◌∙◌, subst, arith, eqb-true, zero-add, zero-le, ◌≢◌, add_assoc, add-one}
 use Rattle.std.specs.List.{sum_by}
 use Rattle.std.proofs.Math.Nat.{mul-suc}
 use Rattle.std.proofs.Math.Seq.{take-suc}
@@ -9,7 +9,7 @@ use Rattle.std.proofs.lemmas.Bool.{eqb-false}
 use Rattle.std.proofs.lemmas.Option.{slice_get_past}
 use Rattle.tree_theory.proofs.ListedLemmas.{slice_get-last}
 use Rattle.ws2s_core.specs.declared.formula.Formula.{Formula}
-use Rattle.ws2s_core.specs.declared.formula.Formula.TheVariants.{Sub, Single, Root, And, Not, Ex2}
+use Rattle.ws2s_core.specs.declared.formula.Formula.TheVariants.{Sub, Single, And, Not, Ex2}
 use Rattle.ws2s_core.specs.Sizes.{node_count}
 use Rattle.ws2s_syntax.specs.declared.name.Name.{Name}
 use Rattle.ws2s_syntax.specs.declared.name.Successor.{Successor}
@@ -22,8 +22,8 @@ use Rattle.ws2s_syntax.specs.declared.formula.Connective.{Connective}
 use Rattle.ws2s_syntax.specs.declared.formula.Quantifier.{Quantifier}
 use Rattle.ws2s_syntax.specs.declared.declaration.Predicate.{Predicate}
 use Rattle.ws2s_syntax.specs.Sentences.{Sentence, said, negated, implied, joined, quantified, sentence_of}
-use Rattle.ws2s_reduce.specs.Reducing.{track, false_at, true_at, or, imp, iff, ex1, all1, all2, empty_at, equal, track_of, succ_of, is_base_at, is_stepped_at, is_at, plain_name, Reductions, no_reductions, passed_term, used, atom_at, reduced, with_reduction, reductions_from}
-use Rattle.ws2s_reduce.specs.Sizes.{base_size, term_size, passed_term_size, argument_size, PredicateSizes, atom_size, joined_size, quantifier_size, sentence_size, sizes_in, AreSizes}
+use Rattle.ws2s_reduce.specs.Reducing.{track, false_at, true_at, imp, ex1, empty_at, equal, track_of, succ_of, is_base_at, is_stepped_at, is_at, plain_name, Reductions, no_reductions, passed_term, used, atom_at, reduced, with_reduction, reductions_from}
+use Rattle.ws2s_reduce.specs.Sizes.{base_size, term_size, passed_term_size, argument_size, PredicateSizes, atom_size, sentence_size, sizes_in, AreSizes}
 use Rattle.ws2s_reduce.proofs.CountsLemmas.{count-Sub, count-Single, count-Succ0, count-Succ1, count-Root, count-And, count-Not, count-Ex2}
 
 count-false : (next : ℕ) → node_count (false_at next) ≡ 5

@@ -74,20 +74,23 @@ reductions_to-past predicates rank k next given e =
     ∙ reductions-past (map (λ q. sentence_of q.body) (take rank predicates)) no_reductions 0 k next given
         (slice_get-map (λ q. sentence_of q.body) (take rank predicates) k ∙ ap (option_map (λ q. sentence_of q.body)) e)
 
-works_below : (predicates : List Predicate) (rank k : ℕ) → k < rank → works_to predicates rank k ≡ body_work (works_to predicates k) (slice_get predicates k)
+works_pick : (predicates : List Predicate) (rank k : ℕ) → k < suc rank →
+    (k < rank → works_to predicates rank k ≡ body_work (works_to predicates k) (slice_get predicates k)) →
+    (b : Bool) → eqb k rank ≡ b →
+    works_to predicates (suc rank) k ≡ body_work (works_to predicates k) (slice_get predicates k)
+works_pick predicates rank k below rest true is =
+    ap (λ b. cond b (body_work (works_to predicates rank) (slice_get predicates rank)) (works_to predicates rank k)) is
+    ∙ sym (ap (λ i. body_work (works_to predicates i) (slice_get predicates i)) (eqb-true k rank is))
+works_pick predicates rank k below rest false is =
+    let other = eqb-false k rank is in
+    ap (λ b. cond b (body_work (works_to predicates rank) (slice_get predicates rank)) (works_to predicates rank k)) is
+    ∙ rest (omega (arith, below, other))
+
+works_below : (predicates : List Predicate) (rank k : ℕ) → k < rank →
+    works_to predicates rank k ≡ body_work (works_to predicates k) (slice_get predicates k)
 works_below predicates zero k below = absurd (omega (arith, below))
-works_below predicates (suc rank) k below = pick (eqb k rank) refl
-  where
-    pick : (b : Bool) → eqb k rank ≡ b →
-        cond (eqb k rank) (body_work (works_to predicates rank) (slice_get predicates rank)) (works_to predicates rank k)
-        ≡ body_work (works_to predicates k) (slice_get predicates k)
-    pick true is =
-        ap (λ b. cond b (body_work (works_to predicates rank) (slice_get predicates rank)) (works_to predicates rank k)) is
-        ∙ sym (ap (λ i. body_work (works_to predicates i) (slice_get predicates i)) (eqb-true k rank is))
-    pick false is =
-        let other = eqb-false k rank is in
-        ap (λ b. cond b (body_work (works_to predicates rank) (slice_get predicates rank)) (works_to predicates rank k)) is
-        ∙ works_below predicates rank k (omega (arith, below, other))
+works_below predicates (suc rank) k below =
+    works_pick predicates rank k below (works_below predicates rank k) (eqb k rank) refl
 
 pub works_to-at : (predicates : List Predicate) (rank k : ℕ) (p : Predicate) → slice_get (take rank predicates) k ≡ Some p →
     works_to predicates rank k ≡ formula_work (works_to predicates k) p.body

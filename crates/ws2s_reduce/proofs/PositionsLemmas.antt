@@ -1,9 +1,9 @@
 -- Positions on tracks: sets of one position, and quantifiers over them.
-use Rattle.std.proofs.Common.{◌≡◌, ◌≢◌, ℕ, suc, ◌<◌, Bool, true, false, IsTrue, ◌↔◌, [], ◌∷◌, ◌++◌, length, refl, sym, ap, ◌∙◌, subst, arith}
-use Rattle.tree_theory.specs.Assignments.{Position, PositionSet, Assignment, IsFiniteSet, IsWithin, IsOnly, replace, is_same_position}
+use Rattle.std.proofs.Common.{◌≡◌, ◌≢◌, ℕ, suc, ◌<◌, true, false, IsTrue, ◌↔◌, [], ◌∷◌, length, refl, sym, ap, ◌∙◌, subst, arith}
+use Rattle.tree_theory.specs.Assignments.{Position, PositionSet, Assignment, IsFiniteSet, IsOnly, replace, is_same_position}
 use Rattle.tree_theory.proofs.AssignmentsLemmas.{replace-same, replace-other}
 use Rattle.ws2s_core.specs.declared.formula.Formula.{Formula}
-use Rattle.ws2s_core.specs.declared.formula.Formula.TheVariants.{Sub, Single, And, Ex2}
+use Rattle.ws2s_core.specs.declared.formula.Formula.TheVariants.{Single, And, Ex2}
 use Rattle.ws2s_core.specs.Satisfaction.{WSat}
 use Rattle.ws2s_core.proofs.ExamplesLemmas.{same_position-true, same_position-refl}
 use Rattle.ws2s_core.proofs.SatisfactionLemmas.{WSat-Single, WSat-And, WSat-Ex2}

@@ -1,5 +1,5 @@
 -- The reductions of a text's predicates mean what the predicates mean.
-use Rattle.std.proofs.Common.{◌≡◌, ◌≢◌, ℕ, suc, ◌+◌, ◌<◌, Bool, true, false, cond, eqb, IsTrue, ◌↔◌, ◌⊎◌, inl, inr, List, [], ◌∷◌, ◌++◌, length, map, Some, None, slice_get, refl, sym, ap, ◌∙◌, subst, arith, append_assoc, append-nil, eq-eqb, ne_eqb, length-append}
+use Rattle.std.proofs.Common.{◌≡◌, ◌≢◌, ℕ, suc, ◌<◌, Bool, true, false, cond, eqb, IsTrue, ◌↔◌, inl, inr, List, [], ◌∷◌, ◌++◌, length, map, Some, slice_get, refl, sym, ap, ◌∙◌, subst, arith, append_assoc, append-nil, eq-eqb, ne_eqb, length-append}
 use Rattle.std.proofs.Math.Numerals.{add-one}
 use Rattle.std.proofs.lemmas.Bool.{true≢false, and_parts}
 use Rattle.std.proofs.lemmas.Option.{slice_get_within}
@@ -9,7 +9,7 @@ use Rattle.ws2s_core.specs.declared.formula.Formula.{Formula}
 use Rattle.ws2s_core.specs.Satisfaction.{WSat}
 use Rattle.ws2s_syntax.specs.declared.declaration.Class.{Class}
 use Rattle.ws2s_syntax.specs.declared.declaration.Predicate.{Predicate}
-use Rattle.ws2s_syntax.specs.Sentences.{Sentence, sentence_of}
+use Rattle.ws2s_syntax.specs.Sentences.{sentence_of}
 use Rattle.ws2s_syntax.specs.Checked.{is_sentence, are_predicates}
 use Rattle.ws2s_syntax.specs.Meaning.{Value, Predicates, Means, no_predicates, with_predicate, predicates_from}
 use Rattle.ws2s_reduce.specs.Reducing.{Reductions, reduced, no_reductions, with_reduction, reductions_from}

@@ -1,11 +1,9 @@
 -- A sentence's reduction means the sentence.
-use Rattle.std.proofs.Common.{◌≡◌, ℕ, zero, suc, ◌+◌, ◌<◌, Bool, true, false, cond, eqb, IsTrue, ◌↔◌, ◌⊎◌, inl, inr, List, [], ◌∷◌, ◌++◌, length, map, fold, Option, Some, None, slice_get, refl, sym, ap, ◌∙◌, subst, arith, append_assoc, append-nil, eq-eqb, ne_eqb, length-append}
+use Rattle.std.proofs.Common.{◌≡◌, ℕ, suc, true, false, IsTrue, ◌↔◌, List, [], ◌∷◌, ◌++◌, map, fold, Option, Some, None, slice_get, refl, sym, ap, ◌∙◌, subst, append_assoc, append-nil}
 use Rattle.std.proofs.lemmas.Bool.{false≢true, and_parts}
-use Rattle.std.proofs.lemmas.Option.{slice_get_within}
-use Rattle.tree_theory.specs.Assignments.{Position, PositionSet, Assignment, IsOnly, replace}
-use Rattle.tree_theory.proofs.ListedLemmas.{slice_get-push}
+use Rattle.tree_theory.specs.Assignments.{Assignment, replace}
 use Rattle.ws2s_core.specs.declared.formula.Formula.{Formula}
-use Rattle.ws2s_core.specs.declared.formula.Formula.TheVariants.{Sub, And, Not, Ex2}
+use Rattle.ws2s_core.specs.declared.formula.Formula.TheVariants.{Sub}
 use Rattle.ws2s_core.specs.Satisfaction.{WSat}
 use Rattle.ws2s_core.proofs.SatisfactionLemmas.{WSat-Sub}
 use Rattle.ws2s_syntax.specs.declared.name.Name.{Name}
@@ -17,13 +15,12 @@ use Rattle.ws2s_syntax.specs.declared.formula.Atom.{Atom}
 use Rattle.ws2s_syntax.specs.declared.formula.Connective.{Connective}
 use Rattle.ws2s_syntax.specs.declared.formula.Quantifier.{Quantifier}
 use Rattle.ws2s_syntax.specs.declared.declaration.Class.{Class}
-use Rattle.ws2s_syntax.specs.declared.declaration.Predicate.{Predicate}
-use Rattle.ws2s_syntax.specs.Sentences.{Sentence, said, negated, implied, joined, quantified, sentence_of}
-use Rattle.ws2s_syntax.specs.Checked.{Scope, is_position, is_base, is_term, is_argument, are_arguments, are_arguments_of, is_atom, is_sentence, are_predicates, with_class}
-use Rattle.ws2s_syntax.specs.Meaning.{Value, place, places, Env, value_of, position_in, set_of, position_of_base, child, position_of, argument_value, Predicates, MeansAtom, with_value, Means, with_predicate, predicates_from}
-use Rattle.ws2s_reduce.specs.Reducing.{track, true_at, false_at, track_of, is_at, plain_name, Reductions, passed_term, passed, used, atom_at, reduced, with_reduction, reductions_from, all2}
+use Rattle.ws2s_syntax.specs.Sentences.{Sentence, said, negated, implied, joined, quantified}
+use Rattle.ws2s_syntax.specs.Checked.{Scope, is_position, is_base, is_term, is_argument, are_arguments, are_arguments_of, is_atom, is_sentence}
+use Rattle.ws2s_syntax.specs.Meaning.{Value, place, places, Env, value_of, position_in, set_of, position_of_base, child, position_of, argument_value, Predicates, MeansAtom, with_value, Means}
+use Rattle.ws2s_reduce.specs.Reducing.{track, track_of, is_at, plain_name, Reductions, passed_term, used, atom_at, reduced}
 use Rattle.ws2s_reduce.proofs.PositionsLemmas.{WSat-ex1, WSat-ex_at, IsOnly-along}
-use Rattle.ws2s_reduce.proofs.NamesLemmas.{IsHeldAs, IsHeld, Fits, Fits-bound, Fits-none, Fits-with, Fits-next, held_set, held_position, WSat-bound_term}
+use Rattle.ws2s_reduce.proofs.NamesLemmas.{Fits, Fits-bound, Fits-none, Fits-with, Fits-next, held_set, held_position, WSat-bound_term}
 use Rattle.ws2s_reduce.proofs.ConnectivesLemmas.{WSat-false, WSat-true, WSat-and, WSat-or, WSat-imp, WSat-iff, WSat-negated, WSat-all1, WSat-ex2, WSat-all2, WSat-inside, WSat-empty, WSat-equal, inside_same}
 
 -- both ways, one after the other

@@ -1,5 +1,5 @@
 -- Whether the formulas of a text's reduction are small.
-use Rattle.std.proofs.Common.{◌≡◌, ℕ, zero, suc, ◌+◌, ◌*◌, ◌<◌, ◌≤◌, min, Bool, true, false, not, cond, ◌↔◌, List, [], ◌∷◌, ◌++◌, length, map, fold, count_by, refl, sym, ap, ◌∙◌, subst, arith, zero-add}
+use Rattle.std.proofs.Common.{◌≡◌, ℕ, suc, ◌+◌, ◌*◌, ◌<◌, ◌≤◌, min, Bool, true, false, not, cond, ◌↔◌, List, [], ◌∷◌, ◌++◌, length, map, fold, count_by, refl, sym, ap, ◌∙◌, arith, zero-add}
 use Rattle.std.proofs.Math.Numerals.{one-add}
 use Rattle.std.proofs.lemmas.List.Recursion.{is_count_by}
 use Rattle.ws2s_core.specs.declared.formula.Formula.{Formula}
@@ -12,7 +12,7 @@ use Rattle.ws2s_syntax.specs.declared.formula.TextFormula.{TextFormula}
 use Rattle.ws2s_syntax.specs.Sentences.{Sentence, joined, sentence_of}
 use Rattle.ws2s_syntax.specs.Checked.{Text, class_of_free, free_classes}
 use Rattle.ws2s_reduce.specs.Reducing.{track, and_list, Reductions, reduced, reductions_of, formulas_of, singles_from, singles_of, holds_of, breaks_of}
-use Rattle.ws2s_reduce.specs.Sizes.{sentence_size, formulas_size, sizes_in, AreSizes, IsSmall}
+use Rattle.ws2s_reduce.specs.Sizes.{formulas_size, sizes_in, AreSizes, IsSmall}
 use Rattle.ws2s_reduce.proofs.CountsLemmas.{count-Single, count-And, count-Not}
 use Rattle.ws2s_reduce.proofs.NodesLemmas.{count-true, count-sentence}
 

@@ -143,3 +143,17 @@ module _ (predicates : List Predicate) (place : Place) (steps : List Step) (trac
           fit : length (tracks ++ tracks_from place.next names) ≡ length tracks + length (tracks_from place.next names) →
               place.start ≤ length (tracks ++ tracks_from place.next names)
           fit e = omega (arith, e, inside)
+
+-- one part of a chain less is left
+pub chain-next : (c : Connective) (place : Place) (others : List declared_formula.TextFormula) (left : ℕ) (d : declared_formula.TextFormula) (steps : List Step) →
+    left < length others →
+    to_build (get_or others left d) place ∷ to_apply (Op.Join c) ∷ (chain_steps c place (drop (suc left) others) ++ steps)
+    ≡ chain_steps c place (drop left others) ++ steps
+chain-next c place others left d steps inside = ap (λ all. chain_steps c place all ++ steps) (sym (drop-cons others left d inside))
+
+-- one track more
+pub tracks_from-last : (first names : ℕ) → tracks_from first names ++ (first + names) ∷ [] ≡ tracks_from first (suc names)
+tracks_from-last first zero = let e : first + 0 ≡ first = omega arith in ap (λ t. t ∷ []) e
+tracks_from-last first (suc names) =
+    let e : first + suc names ≡ suc first + names = omega arith in
+    ap (λ t. first ∷ (tracks_from (suc first) names ++ t ∷ [])) e ∙ ap (λ ts. first ∷ ts) (tracks_from-last (suc first) names)

@@ -1,13 +1,12 @@
 -- The reduction of a text means the text.
-use Rattle.std.proofs.Common.{◌≡◌, ℕ, zero, suc, ◌+◌, ◌<◌, IsTrue, ◌↔◌, List, [], ◌∷◌, ◌++◌, length, map, Option, Some, None, slice_get, All, refl, sym, ap, ap₂, ◌∙◌, subst, arith, zero-add}
+use Rattle.std.proofs.Common.{◌≡◌, ℕ, zero, suc, ◌+◌, ◌<◌, IsTrue, ◌↔◌, List, [], ◌∷◌, ◌++◌, length, map, Some, slice_get, All, refl, sym, ap, ap₂, ◌∙◌, subst, arith, zero-add}
 use Rattle.std.specs.List.{list_all}
 use Rattle.std.proofs.lemmas.Bool.{and_parts}
 use Rattle.std.proofs.lemmas.List.{length-map}
 use Rattle.std.proofs.lemmas.List.Elements.{All-nil, All-cons, All-head, All-tail}
 use Rattle.std.proofs.lemmas.Option.{slice_get_within}
 use Rattle.tree_theory.specs.Assignments.{Assignment}
-use Rattle.ws2s_core.specs.declared.formula.Formula.{Formula}
-use Rattle.ws2s_core.specs.declared.formula.Formula.TheVariants.{Single, Not}
+use Rattle.ws2s_core.specs.declared.formula.Formula.TheVariants.{Not}
 use Rattle.ws2s_core.specs.Satisfaction.{WSat}
 use Rattle.ws2s_core.proofs.SatisfactionLemmas.{WSat-Single, WSat-Not}
 use Rattle.ws2s_syntax.specs.declared.name.Name.{Name}
@@ -16,12 +15,12 @@ use Rattle.ws2s_syntax.specs.declared.declaration.Class.{Class}
 use Rattle.ws2s_syntax.specs.declared.formula.TextFormula.{TextFormula}
 use Rattle.ws2s_syntax.specs.Sentences.{sentence_of}
 use Rattle.ws2s_syntax.specs.Checked.{Text, IsChecked, class_of, class_of_free, free_classes, signatures_of, is_sentence, are_predicates}
-use Rattle.ws2s_syntax.specs.Meaning.{Value, place, places, Predicates, value_of, Means, predicates_of, Satisfies, IsGiven, GivesFrom, Gives}
-use Rattle.ws2s_reduce.specs.Reducing.{track, track_of, and_list, Reductions, reduced, reductions_of, formulas_of, singles_from, singles_of, holds_of, breaks_of}
+use Rattle.ws2s_syntax.specs.Meaning.{Value, place, places, value_of, Means, predicates_of, Satisfies, IsGiven, GivesFrom, Gives}
+use Rattle.ws2s_reduce.specs.Reducing.{track, track_of, and_list, reduced, reductions_of, formulas_of, singles_from, singles_of, holds_of, breaks_of}
 use Rattle.ws2s_reduce.proofs.PositionsLemmas.{IsOnly-same}
 use Rattle.ws2s_reduce.proofs.NamesLemmas.{IsHeldAs, IsHeld, Fits}
 use Rattle.ws2s_reduce.proofs.ConnectivesLemmas.{EachSat, EachSat-append, WSat-and_list}
-use Rattle.ws2s_reduce.proofs.SentencesLemmas.{Knows, WSat-sentence}
+use Rattle.ws2s_reduce.proofs.SentencesLemmas.{WSat-sentence}
 use Rattle.ws2s_reduce.proofs.PredicatesLemmas.{Knows-predicates}
 
 -- the values that an assignment gives are what the tracks hold

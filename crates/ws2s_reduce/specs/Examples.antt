@@ -1,5 +1,5 @@
 -- Texts of the worked examples.
-use Rattle.std.specs.Prelude.{ℕ, Bool, true, false, List, [], ◌∷◌}
+use Rattle.std.specs.Prelude.{ℕ, Bool, true, false, [], ◌∷◌}
 use Rattle.ws2s_syntax.specs.declared.name.Name as declared_name
 use Rattle.ws2s_syntax.specs.declared.name.Name.TheVariants.{Free, Local}
 use Rattle.ws2s_syntax.specs.declared.name.Successor.{Successor}
@@ -9,11 +9,9 @@ use Rattle.ws2s_syntax.specs.declared.name.Term.{Term}
 use Rattle.ws2s_syntax.specs.declared.name.Argument.{Argument}
 use Rattle.ws2s_syntax.specs.declared.formula.Atom as declared_atom
 use Rattle.ws2s_syntax.specs.declared.formula.Quantifier.{Quantifier}
-use Rattle.ws2s_syntax.specs.declared.formula.TextFormula.{TextFormula}
 use Rattle.ws2s_syntax.specs.declared.formula.TextFormula.TheVariants.{Atom, Not, Quantified}
 use Rattle.ws2s_syntax.specs.declared.declaration.Class.{Class}
 use Rattle.ws2s_syntax.specs.declared.declaration.Free as declared_free
-use Rattle.ws2s_syntax.specs.declared.declaration.Predicate.{Predicate}
 use Rattle.ws2s_syntax.specs.Checked.{Text}
 
 abbrev pub root : Term

@@ -1,6 +1,6 @@
 -- The reduction of a checked text to core formulas. A quantifier, of the text or of an abbreviation, binds the next
 -- track: those of the free variables come first, and each quantifier around it took one.
-use Rattle.std.specs.Prelude.{ℕ, suc, Bool, true, false, cond, ◌==◌, List, [], ◌∷◌, ◌++◌, length, map, fold, reverse, slice_get, unwrap_or, Option, Some, None}
+use Rattle.std.specs.Prelude.{ℕ, suc, true, false, cond, ◌==◌, List, [], ◌∷◌, ◌++◌, length, map, fold, reverse, slice_get, unwrap_or, Option, Some, None}
 use Rattle.ws2s_core.specs.declared.track.Track.{Track}
 use Rattle.ws2s_core.specs.declared.formula.Formula.{Formula}
 use Rattle.ws2s_core.specs.declared.formula.Formula.TheVariants.{Sub, Single, Succ0, Succ1, Root, And, Not, Ex2}

@@ -134,13 +134,13 @@ fn enter<'t>(
 ) -> Result<(), AllocError>
     requires { place.start ≤ length machine.old.tracks.items }
     ensures same { OnOk result ((predicates : List Predicate) (rank : ℕ) →
-        option_copied body ≡ slice_get (take rank predicates) place.rank →
+        option_copied body.entry ≡ slice_get (take rank predicates) place.rank →
         finished predicates (steps_of machine.new.tasks.items) machine.new.tracks.items (reverse machine.new.parts.items)
         ≡ finished predicates (steps_of machine.old.tasks.items) (take place.start machine.old.tracks.items)
             (reductions_to predicates rank place.rank place.next (drop place.start machine.old.tracks.items)
                 ∷ reverse machine.old.parts.items)) }
     ensures work { OnOk result ((predicates : List Predicate) (rank : ℕ) →
-        option_copied body ≡ slice_get (take rank predicates) place.rank →
+        option_copied body.entry ≡ slice_get (take rank predicates) place.rank →
         steps_work predicates (steps_of machine.new.tasks.items)
             ≤ works_to predicates rank place.rank + 1 + steps_work predicates (steps_of machine.old.tasks.items)) }
 {
@@ -250,10 +250,10 @@ fn step<'t>(
         (reverse machine.old.parts.items)) }
     ensures same { OnOk result (
         finished predicates.now (steps_of machine.new.tasks.items) machine.new.tracks.items (reverse machine.new.parts.items)
-        ≡ finished predicates.now (step_of task ∷ steps_of machine.old.tasks.items) machine.old.tracks.items
+        ≡ finished predicates.now (step_of task.entry ∷ steps_of machine.old.tasks.items) machine.old.tracks.items
             (reverse machine.old.parts.items)) }
     ensures less { OnOk result (steps_work predicates.now (steps_of machine.new.tasks.items)
-        < step_work predicates.now (step_of task) + steps_work predicates.now (steps_of machine.old.tasks.items)) }
+        < step_work predicates.now (step_of task.entry) + steps_work predicates.now (steps_of machine.old.tasks.items)) }
 {
     match task {
         Task::Build(formula, place) => build(alloc, machine, predicates, formula, place),

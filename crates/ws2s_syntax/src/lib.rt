@@ -8,6 +8,8 @@
 mod declaration;
 mod formula;
 mod name;
+#[cfg(test)]
+mod tests;
 mod text;
 
 pub use declaration::{ByteList, Class, ClassList, Free, FreeList, Predicate, PredicateList};

@@ -1,4 +1,4 @@
-use Rattle.std.proofs.Common.{◌≡◌, ℕ, ◌+◌, [], refl, ap, ◌∙◌}
+use Rattle.std.proofs.Common.{◌≡◌, [], refl, ap, ◌∙◌}
 use Rattle.ws2s_core.specs.declared.formula.Formula.TheVariants.{Sub, Single, Succ0, Root, And, Not, Ex2}
 use Rattle.ws2s_core.specs.Sizes.{node_count}
 use Rattle.ws2s_syntax.proofs.SentencesLemmas.{sentence-Atom}

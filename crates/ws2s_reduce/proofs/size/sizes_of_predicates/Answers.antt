@@ -1,4 +1,4 @@
-use Rattle.std.proofs.Common.{◌≡◌, ◌+◌, min, [], ◌∷◌, length, map, take, sym, ap, ◌∙◌, subst, length-append}
+use Rattle.std.proofs.Common.{◌+◌, min, [], ◌∷◌, length, map, take, sym, ap, ◌∙◌, subst, length-append}
 use Rattle.ws2s_syntax.specs.Sentences.{sentence_of}
 use Rattle.ws2s_reduce.specs.Reducing.{no_reductions, reductions_from}
 use Rattle.ws2s_reduce.specs.Sizes.{sentence_size, sizes_in, AreSizes}
