@@ -1,3 +1,5 @@
+pub mod AnswerLemmas
+pub mod BuiltLemmas
 pub mod ConnectivesLemmas
 pub mod CountsLemmas
 pub mod NamesLemmas

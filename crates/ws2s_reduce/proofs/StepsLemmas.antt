@@ -20,7 +20,7 @@ use Rattle.ws2s_syntax.proofs.SentencesLemmas.{sentence-Atom, sentence-Not, sent
 use Rattle.ws2s_reduce.specs.declared.task.Op.{Op}
 use Rattle.ws2s_reduce.specs.declared.task.Place.{Place}
 use Rattle.ws2s_reduce.specs.Reducing.{Reductions, reduced, used}
-use Rattle.ws2s_reduce.specs.Building.{joined_of, quantified_at, wrapped, tracks_from, applied, reductions_to, Step, to_build, to_forget, to_apply, finished, chain_steps, node_work, formula_work, works_to, step_work, steps_work}
+use Rattle.ws2s_reduce.specs.Building.{joined_of, quantified_at, wrapped, tracks_from, applied, reductions_to, Step, to_build, to_forget, to_apply, finished, chain_steps, atom_work, node_work, formula_work, works_to, step_work, steps_work}
 
 
 -- how many steps each form takes
@@ -28,6 +28,9 @@ module _ (known : ℕ → ℕ) where
   work-at : (f : declared_formula.TextFormula) (x : TextFormula-F declared_formula.TextFormula) → declared_formula.roll-TextFormula x ≡ f →
       formula_work known f ≡ node_work known (map-TextFormula declared_formula.TextFormula ℕ (formula_work known) x)
   work-at f x e = ap (formula_work known) (sym e) ∙ fold-roll-TextFormula ℕ (node_work known) x
+
+  pub work-Atom : (a : declared_atom.Atom) → formula_work known (Atom a) ≡ atom_work known a
+  work-Atom a = work-at (Atom a) (TextFormula-F.Atom a) (rolls-Atom a)
 
   pub work-Not : (f : declared_formula.TextFormula) → formula_work known (Negated f) ≡ formula_work known f + 2
   work-Not f = work-at (Negated f) (TextFormula-F.Not f) (rolls-Not f)

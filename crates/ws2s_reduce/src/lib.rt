@@ -13,6 +13,8 @@ mod size;
 mod task;
 mod tasks;
 mod term;
+#[cfg(test)]
+mod tests;
 
 pub use laws::reductions_mean_the_text;
 pub use reduction::{ReduceFault, Reduced, reduce};

@@ -155,6 +155,14 @@ fn enter<'t>(
     }
 }
 
+/// The tracks of the names that a formula may use.
+fn frame_of(alloc: Global, tracks: &[u32], start: usize) -> Result<Vec<u32>, AllocError>
+    requires { start ≤ length tracks.now }
+    ensures { IfOk result (λ frame. frame.items ≡ drop start tracks.now) }
+{
+    Vec::from_slice(alloc, &tracks[start..])
+}
+
 fn build_use<'t>(
     alloc: Global,
     machine: &mut Machine<'t>,
@@ -170,7 +178,8 @@ fn build_use<'t>(
         (works_to predicates.now place.rank predicate + length arguments.now + 3) machine.old machine.new) }
 {
     let kept = machine.tracks.len();
-    let frame = machine.tracks[place.start..].to_vec(alloc)?;
+    let tracks = machine.tracks.as_slice();
+    let frame = frame_of(alloc, tracks, place.start)?;
     let next = pass_arguments(alloc, machine, frame.as_slice(), arguments, place.next)?;
     let inside = Place {
         rank: predicate as usize,

@@ -1,10 +1,10 @@
 //! The two formulas of a text.
 
-ghost use Rattle.std.specs.Prelude.{◌≡◌, ◌++◌, length, map, IfOk, IfErr};
+ghost use Rattle.std.specs.Prelude.{◌≡◌, [], ◌∷◌, ◌++◌, length, map, IfOk, OnOk, IfErr};
 ghost use Rattle.ws2s_syntax.specs.Sentences.{sentence_of};
 ghost use Rattle.ws2s_syntax.specs.Checked.{class_of_free};
-ghost use Rattle.ws2s_reduce.specs.Reducing.{and_list, singles_from, holds_of, breaks_of};
-ghost use Rattle.ws2s_reduce.specs.Answer.{IsReduced};
+ghost use Rattle.ws2s_reduce.specs.Reducing.{and_list, singles_from, reduced, no_reductions, reductions_from, holds_of, breaks_of};
+ghost use Rattle.ws2s_reduce.specs.Answer.{IsReduced, free_from};
 ghost use Rattle.ws2s_reduce.specs.Sizes.{IsSmall};
 
 use crate::forms::{and_list, later};
@@ -48,20 +48,33 @@ impl From<AllocError> for ReduceFault {
     }
 }
 
+/// `Single` for a free variable that is a position.
+fn push_single(formulas: &mut Vec<Formula>, variable: &Free, track: u32) -> Result<(), AllocError>
+    ensures { OnOk result (formulas.new.items
+        ≡ formulas.old.items ++ singles_from track (class_of_free variable.now ∷ [])) }
+{
+    if !variable.set {
+        formulas.push(Formula::Single(Track(track)))?;
+    }
+    Ok(())
+}
+
 /// `Single` for each free variable that is a position.
-fn singles(alloc: Global, free: &[Free]) -> Result<Vec<Formula>, AllocError> {
+fn singles(alloc: Global, free: &[Free]) -> Result<Vec<Formula>, AllocError>
+    ensures { IfOk result (λ formulas. formulas.items ≡ singles_from 0 (map class_of_free free.now)) }
+{
     let mut formulas = Vec::new(alloc);
     let mut track = 0;
     for variable in free {
-        if !variable.set {
-            formulas.push(Formula::Single(Track(track)))?;
-        }
+        push_single(&mut formulas, variable, track)?;
         track = later(track, 1)?;
     }
     Ok(formulas)
 }
 
-fn tracks(alloc: Global, count: u32) -> Result<TrackList, AllocError> {
+fn tracks(alloc: Global, count: u32) -> Result<TrackList, AllocError>
+    ensures { IfOk result (λ tracks. tracks ≡ free_from 0 count) }
+{
     let mut tracks = Items::new(alloc);
     for track in 0..count {
         tracks.push(Track(track))?;
@@ -69,7 +82,10 @@ fn tracks(alloc: Global, count: u32) -> Result<TrackList, AllocError> {
     Ok(tracks)
 }
 
-fn formulas(alloc: Global, predicates: &[Predicate], stated: &[TextFormula], next: u32) -> Result<Vec<Formula>, AllocError> {
+fn formulas(alloc: Global, predicates: &[Predicate], stated: &[TextFormula], next: u32) -> Result<Vec<Formula>, AllocError>
+    ensures { IfOk result (λ formulas. formulas.items ≡ map (λ f. reduced (reductions_from no_reductions 0
+        (map (λ p. sentence_of p.body) predicates.now)) next [] (sentence_of f)) stated.now) }
+{
     let mut formulas = Vec::new(alloc);
     for formula in stated {
         let made = reduced(alloc, predicates, formula, next)?;
