@@ -14,7 +14,7 @@ singles_from-append n [] ys = let e : n ≡ n + 0 = omega arith in ap (λ k. sin
 singles_from-append n (Class.Position ∷ xs) ys =
     let e : suc n + length xs ≡ n + length (Class.Position ∷ xs) = omega arith in
     ap (λ fs. Single (track n) ∷ fs)
-        (singles_from-append (suc n) xs ys ∙ ap (λ k. singles_from (suc n) xs ++ singles_from k ys) e)
+    (singles_from-append (suc n) xs ys ∙ ap (λ k. singles_from (suc n) xs ++ singles_from k ys) e)
 singles_from-append n (Class.Set ∷ xs) ys =
     let e : suc n + length xs ≡ n + length (Class.Set ∷ xs) = omega arith in
     singles_from-append (suc n) xs ys ∙ ap (λ k. singles_from (suc n) xs ++ singles_from k ys) e
@@ -26,12 +26,12 @@ pub singles_from-next : (free : List Free) (i : ℕ) (d : Free) → i < length f
 singles_from-next free i d inside =
     let count = length-map (take i free) class_of_free ∙ length-take-le i free (omega (arith, inside)) in
     sym (
-      ap (λ k. singles_from 0 (map class_of_free (take k free))) (add-one i)
-      ∙ ap (λ all. singles_from 0 (map class_of_free all)) (take-suc free i d inside)
-      ∙ ap (singles_from 0) (map-append class_of_free (take i free) (get_or free i d ∷ []))
-      ∙ singles_from-append 0 (map class_of_free (take i free)) (class_of_free (get_or free i d) ∷ [])
-      ∙ ap (λ k. singles_from 0 (map class_of_free (take i free)) ++ singles_from k (class_of_free (get_or free i d) ∷ []))
-          (zero-add _ ∙ count)
+    ap (λ k. singles_from 0 (map class_of_free (take k free))) (add-one i)
+    ∙ ap (λ all. singles_from 0 (map class_of_free all)) (take-suc free i d inside)
+    ∙ ap (singles_from 0) (map-append class_of_free (take i free) (get_or free i d ∷ []))
+    ∙ singles_from-append 0 (map class_of_free (take i free)) (class_of_free (get_or free i d) ∷ [])
+    ∙ ap (λ k. singles_from 0 (map class_of_free (take i free)) ++ singles_from k (class_of_free (get_or free i d) ∷ []))
+    (zero-add _ ∙ count)
     )
 
 free_from-last : (first count : ℕ) → free_from first count ++ track (first + count) ∷ [] ≡ free_from first (suc count)

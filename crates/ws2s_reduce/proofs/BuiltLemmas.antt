@@ -3,6 +3,7 @@ use Rattle.std.proofs.Common.{◌≡◌, ℕ, zero, suc, ◌+◌, ◌<◌, ◌�
 use Rattle.std.specs.List.{sum}
 use Rattle.std.proofs.lemmas.Bool.{le-leb}
 use Rattle.std.proofs.lemmas.List.{reverse-append}
+use Rattle.std.proofs.lemmas.List.Sums.{sum_by-cons}
 use Rattle.std.specs.declared.result.Result.{Result}
 use Rattle.std.specs.declared.result.Result.TheVariants.{Ok, Err}
 use Rattle.ws2s_core.specs.declared.formula.Formula.{Formula}
@@ -42,17 +43,17 @@ module _ (predicates : List Predicate) (rank : ℕ) (place : Place) (steps : Lis
       ≡ finished predicates steps (take place.start tracks) (reductions_to predicates rank place.rank place.next (drop place.start tracks) ∷ parts)
   enter-Some p inside e =
       ap (λ b. cond b (finished predicates (to_forget place.start ∷ steps) tracks
-          (reduced (reductions_to predicates place.rank) place.next (drop place.start tracks) (sentence_of p.body) ∷ parts)) None)
-          (le-leb place.start (length tracks) inside)
+      (reduced (reductions_to predicates place.rank) place.next (drop place.start tracks) (sentence_of p.body) ∷ parts)) None)
+      (le-leb place.start (length tracks) inside)
       ∙ ap (λ f. finished predicates steps (take place.start tracks) (f ∷ parts))
-          (sym (reductions_to-at predicates rank place.rank place.next (drop place.start tracks) p e))
+      (sym (reductions_to-at predicates rank place.rank place.next (drop place.start tracks) p e))
 
   pub enter-None : slice_get (take rank predicates) place.rank ≡ None →
       finished predicates (to_forget place.start ∷ steps) tracks (true_at place.next ∷ parts)
       ≡ finished predicates steps (take place.start tracks) (reductions_to predicates rank place.rank place.next (drop place.start tracks) ∷ parts)
   enter-None e =
       ap (λ f. finished predicates steps (take place.start tracks) (f ∷ parts))
-          (sym (reductions_to-past predicates rank place.rank place.next (drop place.start tracks) e))
+      (sym (reductions_to-past predicates rank place.rank place.next (drop place.start tracks) e))
 
   pub enter-work : (p : Predicate) → slice_get (take rank predicates) place.rank ≡ Some p →
       steps_work predicates (to_build p.body place ∷ to_forget place.start ∷ steps)
@@ -79,10 +80,10 @@ IsBuilt-use predicates rank k next after kept frame args before mid now is_kept 
       entered
       ∙ passed.same predicates kept (reductions_to predicates rank k) [] (omega (arith, is_kept))
       ∙ ap₂ (λ xs ys. finished predicates (steps_of before.tasks.items) xs (used (reductions_to predicates rank k) next frame (args ++ []) ys ∷ reverse before.parts.items))
-          (ap (λ n. take n before.tracks.items) is_kept ∙ take_all before.tracks.items)
-          (ap (λ n. drop n before.tracks.items) is_kept ∙ drop_all before.tracks.items)
+      (ap (λ n. take n before.tracks.items) is_kept ∙ take_all before.tracks.items)
+      (ap (λ n. drop n before.tracks.items) is_kept ∙ drop_all before.tracks.items)
       ∙ ap (λ all. finished predicates (steps_of before.tasks.items) before.tracks.items (used (reductions_to predicates rank k) next frame all [] ∷ reverse before.parts.items))
-          (append-nil args);
+      (append-nil args);
   less = let h = passed.work predicates in omega (arith, h, work);
 }
 
@@ -94,7 +95,6 @@ IsMade predicates place before now f =
 
 -- the forms of formulas
 module _ (predicates : List Predicate) (place : Place) (before now : Machine) (inside : place.start ≤ length before.tracks.items) where
-
   module _ (parts : now.parts.items ≡ before.parts.items) where
     from_steps : (steps : List Step) (tracks : List ℕ) → steps_of now.tasks.items ≡ steps → now.tracks.items ≡ tracks →
         finished predicates (steps_of now.tasks.items) now.tracks.items (reverse now.parts.items) ≡ finished predicates steps tracks (reverse before.parts.items)
@@ -107,7 +107,12 @@ module _ (predicates : List Predicate) (place : Place) (before now : Machine) (i
         steps_work predicates (chain_steps c place others ++ steps)
         ≡ sum (map (formula_work (works_to predicates place.rank)) others) + length (map (formula_work (works_to predicates place.rank)) others) + steps_work predicates steps
     chain_work c [] steps = omega arith
-    chain_work c (f ∷ others) steps = let h = chain_work c others steps in omega (arith, h)
+    chain_work c (f ∷ others) steps =
+        let unfolded : steps_work predicates (chain_steps c place (f ∷ others) ++ steps)
+        ≡ formula_work (works_to predicates place.rank) f + (1 + steps_work predicates (chain_steps c place others ++ steps)) = refl in
+        let total = sum_by-cons (λ x. x) (formula_work (works_to predicates place.rank) f) (map (formula_work (works_to predicates place.rank)) others) in
+        let h = chain_work c others steps in
+        omega (arith, unfolded, total, h)
 
     pub Built-Chain : (c : Connective) (f : declared_formula.TextFormula) (others : List declared_formula.TextFormula) →
         steps_of now.tasks.items ≡ to_build f place ∷ (chain_steps c place others ++ steps_of before.tasks.items) → now.tracks.items ≡ before.tracks.items →
@@ -122,7 +127,7 @@ module _ (predicates : List Predicate) (place : Place) (before now : Machine) (i
 
     pub Built-Quantified : (q : Quantifier) (names : ℕ) (f : declared_formula.TextFormula) →
         steps_of now.tasks.items ≡ to_build f (record { rank = place.rank; start = place.start; next = place.next + names })
-            ∷ to_forget (length before.tracks.items) ∷ to_apply (Op.Wrap q place.next names) ∷ steps_of before.tasks.items →
+        ∷ to_forget (length before.tracks.items) ∷ to_apply (Op.Wrap q place.next names) ∷ steps_of before.tasks.items →
         now.tracks.items ≡ before.tracks.items ++ tracks_from place.next names →
         IsMade predicates place before now (Quantified q names f)
     Built-Quantified q names f steps tracks = record {

@@ -63,16 +63,16 @@ reductions_to-at predicates rank k next given p e =
     let h = slice_get-take predicates rank k p e in
     ap (λ i. reductions_to predicates rank i next given) (sym (zero-add k))
     ∙ reductions-at (map (λ q. sentence_of q.body) (take rank predicates)) no_reductions 0 k next given (sentence_of p.body)
-        (slice_get-map (λ q. sentence_of q.body) (take rank predicates) k ∙ ap (option_map (λ q. sentence_of q.body)) e)
+    (slice_get-map (λ q. sentence_of q.body) (take rank predicates) k ∙ ap (option_map (λ q. sentence_of q.body)) e)
     ∙ ap (λ bodies. reduced (reductions_from no_reductions 0 bodies) next given (sentence_of p.body))
-        (take-map (λ q. sentence_of q.body) k (take rank predicates) ∙ ap (map (λ q. sentence_of q.body)) (take-take k rank predicates (omega (arith, h.0))))
+    (take-map (λ q. sentence_of q.body) k (take rank predicates) ∙ ap (map (λ q. sentence_of q.body)) (take-take k rank predicates (omega (arith, h.0))))
 
 pub reductions_to-past : (predicates : List Predicate) (rank k next : ℕ) (given : List ℕ) → slice_get (take rank predicates) k ≡ None →
     reductions_to predicates rank k next given ≡ true_at next
 reductions_to-past predicates rank k next given e =
     ap (λ i. reductions_to predicates rank i next given) (sym (zero-add k))
     ∙ reductions-past (map (λ q. sentence_of q.body) (take rank predicates)) no_reductions 0 k next given
-        (slice_get-map (λ q. sentence_of q.body) (take rank predicates) k ∙ ap (option_map (λ q. sentence_of q.body)) e)
+    (slice_get-map (λ q. sentence_of q.body) (take rank predicates) k ∙ ap (option_map (λ q. sentence_of q.body)) e)
 
 works_pick : (predicates : List Predicate) (rank k : ℕ) → k < suc rank →
     (k < rank → works_to predicates rank k ≡ body_work (works_to predicates k) (slice_get predicates k)) →
@@ -114,7 +114,7 @@ IsPassed-more frame args arg next mid after before between now first second = re
       second.same predicates kept body rest (omega (arith, inside, first.longer))
       ∙ first.same predicates kept body (arg ∷ rest) inside
       ∙ ap (λ all. finished predicates (steps_of before.tasks.items) (take kept before.tracks.items) (used body next frame all (drop kept before.tracks.items) ∷ reverse before.parts.items))
-          (sym (append_assoc args (arg ∷ []) rest));
+      (sym (append_assoc args (arg ∷ []) rest));
   longer = omega (arith, first.longer, second.longer);
   work = λ predicates.
       let one = first.work predicates in
@@ -134,9 +134,9 @@ IsPassed-put frame arg next t before now puts tasks parts tracks = record {
       ∙ ap (λ all. finished predicates (steps_of before.tasks.items) (take kept now.tracks.items) (used body next frame rest (drop kept now.tracks.items) ∷ reverse all)) parts
       ∙ ap (λ all. finished predicates (steps_of before.tasks.items) (take kept all) (used body next frame rest (drop kept all) ∷ reverse before.parts.items)) tracks
       ∙ ap₂ (λ xs ys. finished predicates (steps_of before.tasks.items) xs (used body next frame rest ys ∷ reverse before.parts.items))
-          (take-append-le kept before.tracks.items (t ∷ []) inside) (drop-append-le kept before.tracks.items (t ∷ []) inside)
+      (take-append-le kept before.tracks.items (t ∷ []) inside) (drop-append-le kept before.tracks.items (t ∷ []) inside)
       ∙ ap (λ f. finished predicates (steps_of before.tasks.items) (take kept before.tracks.items) (f ∷ reverse before.parts.items))
-          (sym (puts body rest (drop kept before.tracks.items)));
+      (sym (puts body rest (drop kept before.tracks.items)));
   longer = let e = ap length tracks ∙ length-append before.tracks.items (t ∷ []) in omega (arith, e);
   work = λ predicates. let e = ap (λ all. steps_work predicates (steps_of all)) tasks in omega (arith, e);
 }
@@ -153,10 +153,10 @@ IsPassed-bound frame t next before now not_plain tasks parts tracks = record {
       ∙ ap (λ all. finished predicates (to_apply (Op.Bind next) ∷ steps_of before.tasks.items) (take kept now.tracks.items) (used body (next + 1) frame rest (drop kept now.tracks.items) ∷ all)) parts
       ∙ ap (λ all. finished predicates (to_apply (Op.Bind next) ∷ steps_of before.tasks.items) (take kept all) (used body (next + 1) frame rest (drop kept all) ∷ is_at (next + 1) frame t next ∷ reverse before.parts.items)) tracks
       ∙ ap₂ (λ xs ys. finished predicates (to_apply (Op.Bind next) ∷ steps_of before.tasks.items) xs (used body (next + 1) frame rest ys ∷ is_at (next + 1) frame t next ∷ reverse before.parts.items))
-          (take-append-le kept before.tracks.items (next ∷ []) inside) (drop-append-le kept before.tracks.items (next ∷ []) inside)
+      (take-append-le kept before.tracks.items (next ∷ []) inside) (drop-append-le kept before.tracks.items (next ∷ []) inside)
       ∙ ap (λ f. finished predicates (steps_of before.tasks.items) (take kept before.tracks.items) (f ∷ reverse before.parts.items))
-          (ap (λ n. Ex2 (track next) (And (is_at n frame t next) (used body n frame rest (drop kept before.tracks.items ++ next ∷ [])))) (add-one next)
-          ∙ sym (ap (λ found. passed_term found t next frame (drop kept before.tracks.items) (λ after with_arg. used body after frame rest with_arg)) not_plain));
+      (ap (λ n. Ex2 (track next) (And (is_at n frame t next) (used body n frame rest (drop kept before.tracks.items ++ next ∷ [])))) (add-one next)
+      ∙ sym (ap (λ found. passed_term found t next frame (drop kept before.tracks.items) (λ after with_arg. used body after frame rest with_arg)) not_plain));
   longer = let e = ap length tracks ∙ length-append before.tracks.items (next ∷ []) in omega (arith, e);
   work = λ predicates. let e = ap (steps_work predicates) tasks in omega (arith, e);
 }

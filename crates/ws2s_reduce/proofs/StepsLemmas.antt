@@ -22,7 +22,6 @@ use Rattle.ws2s_reduce.specs.declared.task.Place.{Place}
 use Rattle.ws2s_reduce.specs.Reducing.{Reductions, reduced, used}
 use Rattle.ws2s_reduce.specs.Building.{joined_of, quantified_at, wrapped, tracks_from, applied, reductions_to, Step, to_build, to_forget, to_apply, finished, chain_steps, atom_work, node_work, formula_work, works_to, step_work, steps_work}
 
-
 -- how many steps each form takes
 module _ (known : ℕ → ℕ) where
   work-at : (f : declared_formula.TextFormula) (x : TextFormula-F declared_formula.TextFormula) → declared_formula.roll-TextFormula x ≡ f →
@@ -77,8 +76,8 @@ reduced-quantified reductions q (suc names) next tracks s =
     let e : suc next + names ≡ next + suc names = omega arith in
     reduced-one reductions next tracks q (each_quantified q names s)
     ∙ ap (quantified_at q next) (
-      reduced-quantified reductions q names (suc next) (tracks ++ next ∷ []) s
-      ∙ ap₂ (λ n ts. wrapped q (suc next) names (reduced reductions n ts s)) e (append_assoc tracks (next ∷ []) (tracks_from (suc next) names))
+    reduced-quantified reductions q names (suc next) (tracks ++ next ∷ []) s
+    ∙ ap₂ (λ n ts. wrapped q (suc next) names (reduced reductions n ts s)) e (append_assoc tracks (next ∷ []) (tracks_from (suc next) names))
     )
 
 -- what becomes of the steps of each form
@@ -118,8 +117,8 @@ module _ (predicates : List Predicate) (place : Place) (steps : List Step) (trac
       taken first (chain_steps c place others ++ steps) parts
       ∙ same-others c others (here first) parts
       ∙ ap (λ f. finished predicates steps tracks (f ∷ parts)) (
-        reduced-chain (reductions_to predicates place.rank) place.next (drop place.start tracks) c others (sentence_of first)
-        ∙ ap (reduced (reductions_to predicates place.rank) place.next (drop place.start tracks)) (sym (sentence-Chain c first others))
+      reduced-chain (reductions_to predicates place.rank) place.next (drop place.start tracks) c others (sentence_of first)
+      ∙ ap (reduced (reductions_to predicates place.rank) place.next (drop place.start tracks)) (sym (sentence-Chain c first others))
       )
 
   pub same-Quantified : (q : Quantifier) (names : ℕ) (f : declared_formula.TextFormula) (parts : List Formula) →
@@ -131,10 +130,10 @@ module _ (predicates : List Predicate) (place : Place) (steps : List Step) (trac
       ap (λ b. cond b (finished predicates (to_forget (length tracks) ∷ to_apply (Op.Wrap q place.next names) ∷ steps) (tracks ++ tracks_from place.next names) (made ∷ parts)) None) fits
       ∙ ap (λ ts. finished predicates steps ts (wrapped q place.next names made ∷ parts)) (take-append_seam tracks (tracks_from place.next names))
       ∙ ap (λ f. finished predicates steps tracks (f ∷ parts)) (
-        ap (λ ts. wrapped q place.next names (reduced (reductions_to predicates place.rank) (place.next + names) ts (sentence_of f)))
-        (drop-append-le place.start tracks (tracks_from place.next names) inside)
-        ∙ sym (reduced-quantified (reductions_to predicates place.rank) q names place.next (drop place.start tracks) (sentence_of f))
-        ∙ ap (reduced (reductions_to predicates place.rank) place.next (drop place.start tracks)) (sym (sentence-Quantified q names f))
+      ap (λ ts. wrapped q place.next names (reduced (reductions_to predicates place.rank) (place.next + names) ts (sentence_of f)))
+      (drop-append-le place.start tracks (tracks_from place.next names) inside)
+      ∙ sym (reduced-quantified (reductions_to predicates place.rank) q names place.next (drop place.start tracks) (sentence_of f))
+      ∙ ap (reduced (reductions_to predicates place.rank) place.next (drop place.start tracks)) (sym (sentence-Quantified q names f))
       )
     where
       made : Formula

@@ -80,7 +80,7 @@ finished predicates [] tracks parts = Some parts
 finished predicates (to_build f place ∷ steps) tracks parts =
     if nat_le place.start (length tracks)
     then finished predicates steps tracks
-        (reduced (reductions_to predicates place.rank) place.next (drop place.start tracks) (sentence_of f) ∷ parts)
+    (reduced (reductions_to predicates place.rank) place.next (drop place.start tracks) (sentence_of f) ∷ parts)
     else None
 finished predicates (to_forget count ∷ steps) tracks parts = finished predicates steps (take count tracks) parts
 finished predicates (to_apply op ∷ steps) tracks parts =

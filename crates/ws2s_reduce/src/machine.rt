@@ -73,7 +73,13 @@ fn visible(predicates: &[Predicate], rank: usize, predicate: u32) -> Option<&Pre
 }
 
 /// A term that isn't a name is bound around the rest.
-fn bind_term(alloc: Global, machine: &mut Machine<'_>, frame: &[u32], term: &Term, next: u32) -> Result<u32, AllocError>
+fn bind_term(
+    alloc: Global,
+    machine: &mut Machine<'_>,
+    frame: &[u32],
+    term: &Term,
+    next: u32,
+) -> Result<u32, AllocError>
     ensures tasks { OnOk result (steps_of machine.new.tasks.items ≡ to_apply (Op.Bind next) ∷ steps_of machine.old.tasks.items) }
     ensures tracks { OnOk result (machine.new.tracks.items ≡ machine.old.tracks.items ++ next ∷ []) }
     ensures parts { OnOk result (reverse machine.new.parts.items
@@ -137,12 +143,12 @@ fn enter<'t>(
         option_copied body.entry ≡ slice_get (take rank predicates) place.rank →
         finished predicates (steps_of machine.new.tasks.items) machine.new.tracks.items (reverse machine.new.parts.items)
         ≡ finished predicates (steps_of machine.old.tasks.items) (take place.start machine.old.tracks.items)
-            (reductions_to predicates rank place.rank place.next (drop place.start machine.old.tracks.items)
-                ∷ reverse machine.old.parts.items)) }
+        (reductions_to predicates rank place.rank place.next (drop place.start machine.old.tracks.items)
+        ∷ reverse machine.old.parts.items)) }
     ensures work { OnOk result ((predicates : List Predicate) (rank : ℕ) →
         option_copied body.entry ≡ slice_get (take rank predicates) place.rank →
         steps_work predicates (steps_of machine.new.tasks.items)
-            ≤ works_to predicates rank place.rank + 1 + steps_work predicates (steps_of machine.old.tasks.items)) }
+        ≤ works_to predicates rank place.rank + 1 + steps_work predicates (steps_of machine.old.tasks.items)) }
 {
     machine.tasks.push(Task::Forget(place.start))?;
     match body {
@@ -174,7 +180,7 @@ fn build_use<'t>(
     requires { place.start ≤ length machine.old.tracks.items }
     ensures { OnOk result (IsBuilt predicates.now
         (used (reductions_to predicates.now place.rank predicate) place.next
-            (drop place.start machine.old.tracks.items) arguments.now [])
+        (drop place.start machine.old.tracks.items) arguments.now [])
         (works_to predicates.now place.rank predicate + length arguments.now + 3) machine.old machine.new) }
 {
     let kept = machine.tracks.len();
@@ -186,7 +192,12 @@ fn build_use<'t>(
         start: kept,
         next,
     };
-    enter(alloc, machine, visible(predicates, place.rank, predicate), inside)
+    enter(
+        alloc,
+        machine,
+        visible(predicates, place.rank, predicate),
+        inside,
+    )
 }
 
 fn build_atom<'t>(
@@ -209,10 +220,24 @@ fn build_atom<'t>(
         Atom::Empty(name) => empty_at(alloc, next, track_of(frame, *name))?,
         Atom::In(term, name) => in_at(alloc, next, frame, term, *name)?,
         Atom::SamePosition(left, right) => same_at(alloc, next, frame, left, right)?,
-        Atom::SameSet(left, right) => equal(alloc, track_of(frame, *left), track_of(frame, *right))?,
-        Atom::Sub(left, right) => Formula::Sub(Track(track_of(frame, *left)), Track(track_of(frame, *right))),
+        Atom::SameSet(left, right) => equal(
+            alloc,
+            track_of(frame, *left),
+            track_of(frame, *right),
+        )?,
+        Atom::Sub(left, right) => Formula::Sub(
+            Track(track_of(frame, *left)),
+            Track(track_of(frame, *right)),
+        ),
         Atom::Use(predicate, arguments) => {
-            return build_use(alloc, machine, predicates, *predicate, arguments.as_slice(), place);
+            return build_use(
+                alloc,
+                machine,
+                predicates,
+                *predicate,
+                arguments.as_slice(),
+                place,
+            );
         }
     };
     machine.parts.push(made)?;
@@ -229,7 +254,7 @@ fn build<'t>(
     requires { place.start ≤ length machine.old.tracks.items }
     ensures { OnOk result (IsBuilt predicates.now
         (reduced (reductions_to predicates.now place.rank) place.next (drop place.start machine.old.tracks.items)
-            (sentence_of formula.now))
+        (sentence_of formula.now))
         (formula_work (works_to predicates.now place.rank) formula.now) machine.old machine.new) }
 {
     let tasks = &mut machine.tasks;
@@ -244,7 +269,14 @@ fn build<'t>(
             push_chain(tasks, *connective, first.get(), others.as_slice(), place)
         }
         TextFormula::Quantified(quantifier, names, inner) => {
-            push_quantified(tasks, &mut machine.tracks, *quantifier, *names, inner.get(), place)
+            push_quantified(
+                tasks,
+                &mut machine.tracks,
+                *quantifier,
+                *names,
+                inner.get(),
+                place,
+            )
         }
     }
 }
@@ -260,7 +292,7 @@ fn step<'t>(
     ensures same { OnOk result (
         finished predicates.now (steps_of machine.new.tasks.items) machine.new.tracks.items (reverse machine.new.parts.items)
         ≡ finished predicates.now (step_of task.entry ∷ steps_of machine.old.tasks.items) machine.old.tracks.items
-            (reverse machine.old.parts.items)) }
+        (reverse machine.old.parts.items)) }
     ensures less { OnOk result (steps_work predicates.now (steps_of machine.new.tasks.items)
         < step_work predicates.now (step_of task.entry) + steps_work predicates.now (steps_of machine.old.tasks.items)) }
 {

@@ -82,7 +82,12 @@ fn tracks(alloc: Global, count: u32) -> Result<TrackList, AllocError>
     Ok(tracks)
 }
 
-fn formulas(alloc: Global, predicates: &[Predicate], stated: &[TextFormula], next: u32) -> Result<Vec<Formula>, AllocError>
+fn formulas(
+    alloc: Global,
+    predicates: &[Predicate],
+    stated: &[TextFormula],
+    next: u32,
+) -> Result<Vec<Formula>, AllocError>
     ensures { IfOk result (λ formulas. formulas.items ≡ map (λ f. reduced (reductions_from no_reductions 0
         (map (λ p. sentence_of p.body) predicates.now)) next [] (sentence_of f)) stated.now) }
 {
@@ -95,7 +100,12 @@ fn formulas(alloc: Global, predicates: &[Predicate], stated: &[TextFormula], nex
 }
 
 /// Each `var1` is one position, and these formulas hold.
-fn with_singles(alloc: Global, free: &[Free], next: u32, mut stated: Vec<Formula>) -> Result<Formula, AllocError>
+fn with_singles(
+    alloc: Global,
+    free: &[Free],
+    next: u32,
+    mut stated: Vec<Formula>,
+) -> Result<Formula, AllocError>
     ensures { IfOk result (λ formula. formula ≡
         and_list next (singles_from 0 (map class_of_free free.now) ++ stated.items)) }
 {
@@ -108,7 +118,12 @@ fn holds(alloc: Global, text: &Ws2sText, next: u32) -> Result<Formula, AllocErro
     requires { next ≡ length text.now.free }
     ensures { IfOk result (λ formula. formula ≡ holds_of text.now) }
 {
-    let stated = formulas(alloc, text.predicates().as_slice(), text.formulas().as_slice(), next)?;
+    let stated = formulas(
+        alloc,
+        text.predicates().as_slice(),
+        text.formulas().as_slice(),
+        next,
+    )?;
     with_singles(alloc, text.free().as_slice(), next, stated)
 }
 
@@ -116,7 +131,12 @@ fn breaks(alloc: Global, text: &Ws2sText, next: u32) -> Result<Formula, AllocErr
     requires { next ≡ length text.now.free }
     ensures { IfOk result (λ formula. formula ≡ breaks_of text.now) }
 {
-    let stated = formulas(alloc, text.predicates().as_slice(), text.formulas().as_slice(), next)?;
+    let stated = formulas(
+        alloc,
+        text.predicates().as_slice(),
+        text.formulas().as_slice(),
+        next,
+    )?;
     let whole = and_list(alloc, next, stated)?;
     let fails = Formula::not(alloc, whole)?;
     let mut one = Vec::new(alloc);

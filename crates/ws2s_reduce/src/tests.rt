@@ -31,8 +31,16 @@ fn left_child(alloc: Global) -> Result<Ws2sText, AllocError> {
 
 /// Some set on track 1 is the position on track 0, and the root's left child.
 fn left_child_holds(alloc: Global) -> Result<Formula, AllocError> {
-    let one = Formula::and(alloc, Formula::Single(Track(1)), Formula::Sub(Track(1), Track(0)))?;
-    let parent = Formula::and(alloc, Formula::Root(Track(2)), Formula::Succ0(Track(2), Track(1)))?;
+    let one = Formula::and(
+        alloc,
+        Formula::Single(Track(1)),
+        Formula::Sub(Track(1), Track(0)),
+    )?;
+    let parent = Formula::and(
+        alloc,
+        Formula::Root(Track(2)),
+        Formula::Succ0(Track(2), Track(1)),
+    )?;
     let child = Formula::ex2(alloc, Track(2), parent)?;
     Formula::ex2(alloc, Track(1), Formula::and(alloc, one, child)?)
 }
@@ -57,13 +65,21 @@ fn chain(alloc: Global, parts: u32, negated: bool) -> Result<Ws2sText, AllocErro
 #[test]
 fn a_position_is_single_in_both_formulas(rt: HostRuntime) -> Result<(), Fail> {
     let alloc = rt.alloc();
-    let Ok(reduced) = reduce(alloc, &left_child(alloc)?) else { return Err(Fail::from(AllocError)) };
+    let Ok(reduced) = reduce(alloc, &left_child(alloc)?) else {
+        return Err(Fail::from(AllocError))
+    };
     let mut interner = Interner::new(alloc);
     let holds = Formula::and(alloc, Formula::Single(Track(0)), left_child_holds(alloc)?)?;
     let fails = Formula::not(alloc, left_child_holds(alloc)?)?;
     let breaks = Formula::and(alloc, Formula::Single(Track(0)), fails)?;
-    assert_eq!(rt; intern(alloc, &mut interner, &reduced.holds)?, intern(alloc, &mut interner, &holds)?);
-    assert_eq!(rt; intern(alloc, &mut interner, &reduced.breaks)?, intern(alloc, &mut interner, &breaks)?);
+    assert_eq!(rt;
+        intern(alloc, &mut interner, &reduced.holds)?,
+        intern(alloc, &mut interner, &holds)?
+    );
+    assert_eq!(rt;
+        intern(alloc, &mut interner, &reduced.breaks)?,
+        intern(alloc, &mut interner, &breaks)?
+    );
     assert_eq!(rt; reduced.free.len(), 1);
     assert_eq!(rt; reduced.free.get(0).copied(), Some(Track(0)));
     Ok(())
@@ -72,10 +88,14 @@ fn a_position_is_single_in_both_formulas(rt: HostRuntime) -> Result<(), Fail> {
 #[test]
 fn formulas_have_at_most_65536_nodes(rt: HostRuntime) -> Result<(), Fail> {
     let alloc = rt.alloc();
-    let Ok(reduced) = reduce(alloc, &chain(alloc, 32_768, false)?) else { return Err(Fail::from(AllocError)) };
+    let Ok(reduced) = reduce(alloc, &chain(alloc, 32_768, false)?) else {
+        return Err(Fail::from(AllocError))
+    };
     assert_eq!(rt; reduced.holds.size(), 65_535);
     assert_eq!(rt; reduced.breaks.size(), 65_536);
-    let Err(fault) = reduce(alloc, &chain(alloc, 32_768, true)?) else { return Err(Fail::from(AllocError)) };
+    let Err(fault) = reduce(alloc, &chain(alloc, 32_768, true)?) else {
+        return Err(Fail::from(AllocError))
+    };
     assert_eq!(rt; fault, ReduceFault::BigFormula);
     Ok(())
 }

@@ -10,4 +10,4 @@ loop-name-preserved c =
     ∙ ap (λ all. all ++ (c.args.first + c.loop-name.name) ∷ []) c.loop-name.invariant
     ∙ append_assoc _ (tracks_from c.args.first c.loop-name.name) ((c.args.first + c.loop-name.name) ∷ [])
     ∙ ap (λ all. c.args.tracks.now.items ++ all)
-        (tracks_from-last c.args.first c.loop-name.name ∙ ap (tracks_from c.args.first) (sym (add-one c.loop-name.name)))
+    (tracks_from-last c.args.first c.loop-name.name ∙ ap (tracks_from c.args.first) (sym (add-one c.loop-name.name)))
