@@ -1,5 +1,6 @@
 pub mod AnswerLemmas
 pub mod BuiltLemmas
+pub mod CheckedLemmas
 pub mod ConnectivesLemmas
 pub mod CountsLemmas
 pub mod NamesLemmas
