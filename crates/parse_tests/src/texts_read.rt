@@ -12,7 +12,7 @@ use texts::TEXTS;
 use towers::{TOWERS, Tower};
 
 /// The words that are no names.
-const RESERVED: [&str; 29] = [
+static RESERVED: &[&str] = &[
     "type", "bool", "data", "pointer", "pred", "set", "proc", "returns", "logic", "pre", "post",
     "skip", "if", "else", "while", "split", "assert", "free", "new", "null", "true", "false",
     "call", "keep", "ex", "all", "in", "sub", "root",
@@ -74,7 +74,7 @@ fn is_reserved(alloc: Global, word: &str) -> Result<bool, AllocError> {
 #[test]
 fn texts_are_programs_or_stop_there(rt: HostRuntime) -> Result<(), Fail> {
     let alloc = rt.alloc();
-    for (text, want) in &TEXTS {
+    for (text, want) in TEXTS {
         assert_eq!(rt; is_told(alloc, text, want)?, true, "of {want}");
     }
     Ok(())
@@ -83,7 +83,7 @@ fn texts_are_programs_or_stop_there(rt: HostRuntime) -> Result<(), Fail> {
 #[test]
 fn reserved_words_are_no_names(rt: HostRuntime) -> Result<(), Fail> {
     let alloc = rt.alloc();
-    for word in &RESERVED {
+    for word in RESERVED {
         assert_eq!(rt; is_reserved(alloc, word)?, true, "of {word}");
     }
     Ok(())
@@ -92,7 +92,7 @@ fn reserved_words_are_no_names(rt: HostRuntime) -> Result<(), Fail> {
 #[test]
 fn levels_end_at_two_hundred(rt: HostRuntime) -> Result<(), Fail> {
     let alloc = rt.alloc();
-    for (tower, count, want) in &TOWERS {
+    for (tower, count, want) in TOWERS {
         assert_eq!(rt; is_told_of(alloc, tower, *count, want)?, true, "of {want}");
     }
     Ok(())

@@ -1,11 +1,16 @@
+pub mod AnswerLemmas
+pub mod BuiltLemmas
+pub mod CheckedLemmas
 pub mod ConnectivesLemmas
 pub mod CountsLemmas
 pub mod NamesLemmas
 pub mod NodesLemmas
+pub mod PassingLemmas
 pub mod PositionsLemmas
 pub mod PredicatesLemmas
 pub mod SentencesLemmas
 pub mod SizesLemmas
 pub mod SmallLemmas
+pub mod StepsLemmas
 pub mod TermsLemmas
 pub mod TextsLemmas

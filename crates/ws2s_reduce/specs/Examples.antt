@@ -91,3 +91,7 @@ predicate_used = record {
   predicates = record { params = Class.Position ∷ Class.Set ∷ []; body = Atom first_in_second } ∷ [];
   formulas = Atom root_at_set ∷ [];
 }
+
+-- `X sub X`
+abbrev pub within_itself : declared_atom.Atom
+within_itself = declared_atom.Atom.Sub (Free 0) (Free 0)

@@ -1,5 +1,7 @@
+pub mod Answer
 pub mod Building
 pub mod Examples
+pub mod Machines
 pub mod Reducing
 pub mod Sizes
 pub mod Terms

@@ -7,8 +7,12 @@
 pub mod examples;
 mod forms;
 mod laws;
+mod machine;
+mod reduction;
 mod size;
 mod task;
+mod tasks;
 mod term;
 
 pub use laws::reductions_mean_the_text;
+pub use reduction::{ReduceFault, Reduced, reduce};

@@ -1,7 +1,7 @@
 //! Texts, and whether they are programs or where they stop being one.
 
 /// Each text with `program` or with what is printed of its refusal.
-pub(super) const TEXTS: [(&[u8], &str); 237] = [
+pub(super) static TEXTS: &[(&[u8], &str)] = &[
     (b"", "program"),
     (b" \t\r\n", "program"),
     (b"# nothing but a comment \xff\x00", "program"),

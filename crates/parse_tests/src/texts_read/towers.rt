@@ -147,7 +147,7 @@ const WRONG_BEFORE: Tower = Tower {
 };
 
 /// Towers, how often each repeats its opener, and what is read of it. A body's `{` is a level too.
-pub(super) const TOWERS: [(Tower, usize, &str); 30] = [
+pub(super) static TOWERS: &[(Tower, usize, &str)] = &[
     (GROUP, 200, "program"),
     (GROUP, 201, "refused 1:213 deep"),
     (NOT, 200, "program"),

@@ -1,0 +1,17 @@
+-- What `reduce` answers.
+use Rattle.std.specs.Prelude.{◌≡◌, ℕ, zero, suc, List, [], ◌∷◌, length}
+use Rattle.ws2s_core.specs.declared.track.Track.{Track}
+use Rattle.ws2s_syntax.specs.Checked.{Text}
+use Rattle.ws2s_reduce.specs.declared.reduction.Reduced.{Reduced}
+use Rattle.ws2s_reduce.specs.Reducing.{track, holds_of, breaks_of}
+
+-- so many tracks, from this one on
+abbrev pub free_from : ℕ → ℕ → List Track
+free_from first zero = []
+free_from first (suc count) = track first ∷ free_from (suc first) count
+
+-- both formulas of the text, and the tracks of its free variables
+pub record IsReduced (text : Text) (reduced : Reduced) : Type 0 where
+  pub holds : reduced.holds ≡ holds_of text
+  pub breaks : reduced.breaks ≡ breaks_of text
+  pub free : reduced.free ≡ free_from 0 (length text.free)
