@@ -11,8 +11,6 @@ mod laws;
 mod names;
 mod read;
 mod terms;
-#[cfg(test)]
-mod tests;
 
 pub use items::resolve;
 pub use laws::resolved_texts_are_checked;
