@@ -31,8 +31,3 @@ pub use laws::{
     data_walks_stay_in_one_tree, renaming_cells_renames_walks, walks_go_by_cases,
     walks_join_live_cells, walks_see_cells_alone,
 };
-
-#[cfg(test)]
-mod fault_tests;
-#[cfg(test)]
-mod walk_tests;

@@ -10,8 +10,6 @@ mod laws;
 mod parser;
 mod source_grammar;
 mod tables;
-#[cfg(test)]
-mod tests;
 
 pub use grammar::{AtomAct, ConnectiveAct, ItemAct, SourceAct, SourceKind, SourcePart, TermAct};
 pub use laws::{each_sentence_is_a_source, one_source};
