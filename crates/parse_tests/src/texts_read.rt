@@ -8,7 +8,7 @@ use pale_parse::parse;
 use pale_text::{Program, TextStop, lex};
 use std::alloc::{AllocError, Global};
 use std::test::Fail;
-use texts::TEXTS;
+use texts::{FIFTH, FIRST, FOURTH, SECOND, SIXTH, THIRD};
 use towers::{TOWERS, Tower};
 
 /// The words that are no names.
@@ -72,9 +72,54 @@ fn is_reserved(alloc: Global, word: &str) -> Result<bool, AllocError> {
 }
 
 #[test]
-fn texts_are_programs_or_stop_there(rt: HostRuntime) -> Result<(), Fail> {
+fn first_texts_are_programs_or_stop_there(rt: HostRuntime) -> Result<(), Fail> {
     let alloc = rt.alloc();
-    for (text, want) in TEXTS {
+    for (text, want) in FIRST {
+        assert_eq!(rt; is_told(alloc, text, want)?, true, "of {want}");
+    }
+    Ok(())
+}
+
+#[test]
+fn second_texts_are_programs_or_stop_there(rt: HostRuntime) -> Result<(), Fail> {
+    let alloc = rt.alloc();
+    for (text, want) in SECOND {
+        assert_eq!(rt; is_told(alloc, text, want)?, true, "of {want}");
+    }
+    Ok(())
+}
+
+#[test]
+fn third_texts_are_programs_or_stop_there(rt: HostRuntime) -> Result<(), Fail> {
+    let alloc = rt.alloc();
+    for (text, want) in THIRD {
+        assert_eq!(rt; is_told(alloc, text, want)?, true, "of {want}");
+    }
+    Ok(())
+}
+
+#[test]
+fn fourth_texts_are_programs_or_stop_there(rt: HostRuntime) -> Result<(), Fail> {
+    let alloc = rt.alloc();
+    for (text, want) in FOURTH {
+        assert_eq!(rt; is_told(alloc, text, want)?, true, "of {want}");
+    }
+    Ok(())
+}
+
+#[test]
+fn fifth_texts_are_programs_or_stop_there(rt: HostRuntime) -> Result<(), Fail> {
+    let alloc = rt.alloc();
+    for (text, want) in FIFTH {
+        assert_eq!(rt; is_told(alloc, text, want)?, true, "of {want}");
+    }
+    Ok(())
+}
+
+#[test]
+fn sixth_texts_are_programs_or_stop_there(rt: HostRuntime) -> Result<(), Fail> {
+    let alloc = rt.alloc();
+    for (text, want) in SIXTH {
         assert_eq!(rt; is_told(alloc, text, want)?, true, "of {want}");
     }
     Ok(())

@@ -1,7 +1,7 @@
 //! Texts, and whether they are programs or where they stop being one.
 
-/// Each text with `program` or with what is printed of its refusal.
-pub(super) static TEXTS: &[(&[u8], &str)] = &[
+/// Texts, each with `program` or with what is printed of its refusal.
+pub(super) static FIRST: &[(&[u8], &str)] = &[
     (b"", "program"),
     (b" \t\r\n", "program"),
     (b"# nothing but a comment \xff\x00", "program"),
@@ -93,6 +93,10 @@ pub(super) static TEXTS: &[(&[u8], &str)] = &[
     (b"pred p() = [a & ex x: T: b | c];", "program"),
     (b"pred p() = [a => all x: T: b <=> c];", "program"),
     (b"pred p() = [a <=> ex x: T: b <=> c];", "program"),
+];
+
+/// Texts, each with `program` or with what is printed of its refusal.
+pub(super) static SECOND: &[(&[u8], &str)] = &[
     (b"pred p() = [a | all set S: T: b => c];", "program"),
     (b"pred p() = [(ex x: T: a) & (all x: T: b)];", "program"),
     (b"skip;", "refused 1:1 syntax"),
@@ -136,6 +140,10 @@ pub(super) static TEXTS: &[(&[u8], &str)] = &[
     (b"pred p() = true;", "refused 1:12 syntax"),
     (b"pred p() = [];", "refused 1:13 syntax"),
     (b"pred p() = [true;", "refused 1:17 syntax"),
+];
+
+/// Texts, each with `program` or with what is printed of its refusal.
+pub(super) static THIRD: &[(&[u8], &str)] = &[
     (b"pred p() = [true]", "refused 1:18 syntax"),
     (b"pred p() proc p() { }", "refused 1:10 syntax"),
     (b"proc () { }", "refused 1:6 syntax"),
@@ -185,6 +193,10 @@ pub(super) static TEXTS: &[(&[u8], &str)] = &[
     (b"proc p() { free x.f; }", "refused 1:18 syntax"),
     (b"proc p() { call = q(); }", "refused 1:17 syntax"),
     (b"proc p() { call r.f = q(); }", "refused 1:18 syntax"),
+];
+
+/// Texts, each with `program` or with what is printed of its refusal.
+pub(super) static FOURTH: &[(&[u8], &str)] = &[
     (b"proc p() { call r, = q(); }", "refused 1:20 syntax"),
     (b"proc p() { call r, s(x); }", "refused 1:21 syntax"),
     (b"proc p() { call r = q; }", "refused 1:22 syntax"),
@@ -225,6 +237,10 @@ pub(super) static TEXTS: &[(&[u8], &str)] = &[
     (b"proc p() { b = a | b; }", "refused 1:18 syntax"),
     (b"proc p() { b = a !=; }", "refused 1:20 syntax"),
     (b"proc p() { b = ~a; }", "refused 1:16 syntax"),
+];
+
+/// Texts, each with `program` or with what is printed of its refusal.
+pub(super) static FIFTH: &[(&[u8], &str)] = &[
     (b"proc p() { b = null.f; }", "refused 1:20 syntax"),
     (b"proc p() { b = x <f>y; }", "refused 1:18 syntax"),
     (b"pred p() = [a => ];", "refused 1:18 syntax"),
@@ -265,6 +281,10 @@ pub(super) static TEXTS: &[(&[u8], &str)] = &[
     (b"pred p() = [(a)(b)];", "refused 1:16 syntax"),
     (b"pred p() = [a => => b];", "refused 1:18 syntax"),
     (b"pred p() = [a <= b];", "refused 1:16 syntax"),
+];
+
+/// Texts, each with `program` or with what is printed of its refusal.
+pub(super) static SIXTH: &[(&[u8], &str)] = &[
     (b"pred p() = [a = > b];", "refused 1:17 syntax"),
     (b"pred p() = [x ~ y];", "refused 1:15 syntax"),
     (b"pred p() = [a && b];", "refused 1:15 syntax"),
