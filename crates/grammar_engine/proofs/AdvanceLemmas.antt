@@ -1,8 +1,8 @@
 -- Steps of the reader as moves.
 use Rattle.std.proofs.Common.{◌≡◌, ℕ, List, [], ◌∷◌, ◌++◌, map, Option, Some, None, sym, ◌∙◌, ap, subst, refl, append-nil, append_assoc, Result, Ok, Err, ◌==◌, Bool, true, false, length}
 use Rattle.std.proofs.lemmas.List.{map-append, nil_from_length}
-use Rattle.std.proofs.lemmas.Bool.{eqb-true, eq-eqb}
-use Rattle.std.specs.Prelude.{IfOk, vec_len}
+use Rattle.std.proofs.lemmas.Bool.{eqb-true}
+use Rattle.std.specs.Prelude.{IfOk}
 use Rattle.grammar_engine.specs.declared.symbol.Symbol.{Symbol}
 use Rattle.grammar_engine.specs.declared.symbol.Symbol.TheVariants.{Read, Open, Once, Maybe, Many, Act}
 use Rattle.grammar_engine.specs.declared.step.Fed.{Fed}
@@ -16,7 +16,7 @@ use Rattle.grammar_engine.specs.Readings.{Stack, Bottom, Row, Step}
 use Rattle.grammar_engine.specs.Answers.{event_of}
 use Rattle.grammar_engine.specs.Moves.{IsMove, AreMoves, stay, move, IsTake, IsTooDeep, IsStuck, IsReady}
 use Rattle.grammar_engine.specs.Frames.{pile, stack_of}
-use Rattle.grammar_engine.specs.Advancing.{MovesOnce, StaysReady, Takes, TakesToken, Exposed, Sticks, Feeds, Overflows, IsFed, Finishes, IsFinished}
+use Rattle.grammar_engine.specs.Advancing.{MovesOnce, StaysReady, Takes, TakesToken, Exposed, Sticks, IsFed, IsFinished}
 
 module _ {N P A K : Type 0} (rules : Rules N P A K) (hints : Hints N P K) where
   pub moves_by : (next : Option K) (row row' : List (Symbol N A K)) (d : ℕ) (t : Stack N A K) (done : List (Step A)) (old new : Work N A K) →

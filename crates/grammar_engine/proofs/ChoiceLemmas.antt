@@ -1,10 +1,9 @@
 -- Going over the choices of a nonterminal.
-use Rattle.std.proofs.Common.{◌≡◌, ℕ, zero, suc, ◌+◌, ◌<◌, ◌≤◌, ◌==◌, ◌||◌, Bool, true, false, List, [], ◌∷◌, ◌++◌, length, get_or, drop, drop-cons, add-one, inl, inr, sym, ◌∙◌, ap, subst, refl, arith, Option, Some}
+use Rattle.std.proofs.Common.{◌≡◌, ℕ, zero, suc, ◌+◌, ◌<◌, ◌≤◌, ◌==◌, ◌||◌, Bool, true, false, List, [], ◌∷◌, ◌++◌, length, get_or, drop, drop-cons, add-one, inl, inr, sym, ◌∙◌, ap, subst, refl, arith}
 use Rattle.std.proofs.lemmas.List.{drop_all}
 use Rattle.std.specs.List.{flat_map}
 use Rattle.grammar_engine.specs.Grammars.{Rules, IsOneOf}
-use Rattle.grammar_engine.specs.Predicting.{Hints, among, starts_of}
-use Rattle.grammar_engine.specs.Moves.{is_next}
+use Rattle.grammar_engine.specs.Predicting.{Hints, among}
 
 -- what stands at a place of a list is one of it
 pub one_of_at : {X : Type 0} (xs : List X) (i : ℕ) (x : X) → i < length xs → x ≡ get_or xs i x → IsOneOf x xs

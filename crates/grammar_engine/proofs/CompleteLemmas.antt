@@ -1,9 +1,8 @@
 -- What has a reading that counts and opens no level above the limit is not refused.
-use Rattle.std.proofs.Common.{◌≡◌, ℕ, zero, suc, ◌+◌, ◌<◌, ◌≤◌, List, [], ◌∷◌, ◌++◌, length, take, drop, Option, None, Some, sym, ◌∙◌, ap, subst, refl, arith, append-nil}
+use Rattle.std.proofs.Common.{◌≡◌, ℕ, zero, suc, ◌+◌, ◌≤◌, List, [], ◌∷◌, ◌++◌, take, drop, Some, sym, ◌∙◌, ap, subst, refl, arith, append-nil}
 use Rattle.std.specs.Prelude.{slice_get}
-use Rattle.grammar_engine.specs.declared.symbol.Symbol.TheVariants.{Once}
-use Rattle.grammar_engine.specs.Grammars.{Rules, IsOneOf}
-use Rattle.grammar_engine.specs.Readings.{Stack, Bottom, Row, Step, Reads, over, row_over, read, opened, acted, once, taken, left_out, again, ended, AnyEnd, IsNotBegun, IsAnyReading, IsReading}
+use Rattle.grammar_engine.specs.Grammars.{Rules}
+use Rattle.grammar_engine.specs.Readings.{Stack, Step, Reads, over, row_over, read, opened, acted, once, taken, left_out, again, ended, AnyEnd, IsNotBegun, IsAnyReading, IsReading}
 use Rattle.grammar_engine.specs.Answers.{levels, AreLow, NoneGoesOn, IsWrongAt, IsDeepAt}
 
 -- a list is its front and its rest

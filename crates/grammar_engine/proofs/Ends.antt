@@ -1,14 +1,14 @@
 -- Every stack can be read to its end, and every kind that a choice may begin with begins a sentence of it.
-use Rattle.std.proofs.Common.{◌≡◌, ℕ, zero, suc, ◌+◌, ◌<◌, ◌≤◌, ◌==◌, ◌||◌, Bool, true, false, List, [], ◌∷◌, Option, None, Some, ◌⊎◌, inl, inr, sym, ◌∙◌, ap, subst, refl, arith}
+use Rattle.std.proofs.Common.{◌≡◌, ℕ, zero, suc, ◌<◌, ◌≤◌, ◌==◌, Bool, true, false, List, [], ◌∷◌, Option, None, Some, inl, inr, sym, ◌∙◌, subst, refl, arith}
 use Rattle.grammar_engine.specs.declared.symbol.Symbol.{Symbol}
 use Rattle.grammar_engine.specs.declared.symbol.Symbol.TheVariants.{Read, Open, Once, Maybe, Many, Act}
 use Rattle.grammar_engine.specs.Grammars.{Rules, IsOneOf}
 use Rattle.grammar_engine.specs.Predicting.{Hints, IsSound, among, starts_of, own, may_begin, all_begin, moves, sizes, lead}
 use Rattle.grammar_engine.specs.Readings.{Stack, Bottom, Row, Step, Took, Did, Reads, over, row_over, read, opened, acted, once, taken, left_out, again, ended, AnyEnd, IsNotBegun}
 use Rattle.grammar_engine.specs.Moves.{first_of, is_next}
-use Rattle.grammar_engine.proofs.KindLists.{and_left, and_right, IsFine, IsShort, or_cases, false_true, kind_by, among_some, among_all, all_among_self, fine_choice, short_choice}
+use Rattle.grammar_engine.proofs.KindLists.{and_left, and_right, or_cases, false_true, kind_by, among_some, all_among_self, fine_choice, short_choice}
 use Rattle.grammar_engine.proofs.Firsts.{starts_well}
-use Rattle.grammar_engine.proofs.SafeStacks.{AreSafe, RowEndsWell, IsSafe, lead_at, safe_at, safe_choice, maybe_safe, lead_never, safe_bottom}
+use Rattle.grammar_engine.proofs.SafeStacks.{AreSafe, RowEndsWell, IsSafe, lead_at, safe_choice, maybe_safe, lead_never, safe_bottom}
 
 module _ {N P A K : Type 0} (rules : Rules N P A K) (hints : Hints N P K) (sound : IsSound rules hints) (MayEnd : N → List K → Type 0)
     (may_end : (n : N) (ks : List K) → is_next rules hints (starts_of rules hints n) (first_of ks) ≡ false → MayEnd n ks) where

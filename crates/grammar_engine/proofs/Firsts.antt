@@ -1,5 +1,5 @@
 -- With which tokens a reading may begin.
-use Rattle.std.proofs.Common.{◌≡◌, ℕ, ◌&&◌, Bool, true, false, List, [], ◌∷◌, refl}
+use Rattle.std.proofs.Common.{◌≡◌, ℕ, true, List, [], ◌∷◌}
 use Rattle.grammar_engine.specs.Grammars.{Rules, IsOneOf}
 use Rattle.grammar_engine.specs.Predicting.{Hints, IsSound, among, all_among, starts_of, covers}
 use Rattle.grammar_engine.specs.Readings.{Stack, Bottom, Row, Step, Reads, over, row_over, read, opened, acted, once, taken, left_out, again, ended}

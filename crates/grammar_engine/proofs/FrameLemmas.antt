@@ -1,5 +1,5 @@
 -- Frames that are put on and taken off.
-use Rattle.std.proofs.Common.{◌≡◌, ℕ, List, [], ◌∷◌, ◌++◌, refl}
+use Rattle.std.proofs.Common.{◌≡◌, List, [], ◌∷◌, ◌++◌, refl}
 use Rattle.grammar_engine.specs.declared.work.Frame.{Frame}
 use Rattle.grammar_engine.specs.Readings.{Stack, Row}
 use Rattle.grammar_engine.specs.Frames.{pile}

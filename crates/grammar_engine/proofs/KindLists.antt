@@ -1,11 +1,10 @@
 -- Lists of kinds, and what the test of a grammar says of its rows.
-use Rattle.std.proofs.Common.{◌≡◌, ℕ, zero, suc, ◌+◌, ◌<◌, ◌==◌, ◌&&◌, ◌||◌, not, Bool, true, false, nat_lt, List, [], ◌∷◌, ◌++◌, Option, None, Some, ◌⊎◌, inl, inr, sym, ◌∙◌, ap, subst, refl, ltb, eqb}
+use Rattle.std.proofs.Common.{◌≡◌, ℕ, zero, suc, ◌+◌, ◌<◌, ◌==◌, ◌&&◌, ◌||◌, not, Bool, true, false, nat_lt, List, [], ◌∷◌, ◌++◌, Option, None, Some, ◌⊎◌, inl, inr, sym, ◌∙◌, ap, subst, refl}
 use Rattle.std.specs.Prelude.{slice_get}
 use Rattle.std.specs.List.{flat_map}
 use Rattle.std.proofs.lemmas.Bool.{eqb-true, eq-eqb, ltb-true, and_parts}
-use Rattle.grammar_engine.specs.declared.symbol.Symbol.{Symbol}
 use Rattle.grammar_engine.specs.Grammars.{Rules, IsOneOf}
-use Rattle.grammar_engine.specs.Predicting.{Hints, IsSound, among, all_among, none_among, starts_of, covers, all_begin, moves, all_end_well, are_apart, sizes, lead, is_this, is_sample, is_fine_row, are_fine_rows, is_predictable}
+use Rattle.grammar_engine.specs.Predicting.{Hints, IsSound, among, all_among, none_among, starts_of, covers, all_begin, moves, all_end_well, are_apart, sizes, lead, is_this, is_sample, is_fine_row, are_fine_rows}
 
 pub or_cases : (x y : Bool) → (x || y) ≡ true → (x ≡ true) ⊎ (y ≡ true)
 or_cases true y h = inl refl

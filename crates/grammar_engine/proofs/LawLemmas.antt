@@ -1,13 +1,12 @@
 -- The laws of readings, by the grammar's own rows.
-use Rattle.std.proofs.Common.{◌≡◌, ℕ, suc, ◌+◌, List, [], ◌∷◌, ◌++◌, sym, ◌∙◌, ap, subst, refl, Option, Some, None, ◌⊎◌, inl, inr}
-use Rattle.grammar_engine.specs.declared.symbol.Symbol.{Symbol}
+use Rattle.std.proofs.Common.{◌≡◌, ℕ, suc, List, [], ◌∷◌, sym, ◌∙◌, ap, subst, inl, inr}
 use Rattle.grammar_engine.specs.declared.symbol.Symbol.TheVariants.{Many}
 use Rattle.grammar_engine.specs.Grammars.{Rows, Rules, IsOneOf, rules_of}
 use Rattle.grammar_engine.specs.Predicting.{Hints, IsSound, AreNamed}
-use Rattle.grammar_engine.specs.Readings.{Stack, Bottom, Row, Step, Took, Did, Reads, over, row_over, read, opened, acted, once, taken, left_out, again, ended, AnyEnd, IsNotBegun, IsAnyReading, IsReading}
+use Rattle.grammar_engine.specs.Readings.{Stack, Bottom, Row, Step, Took, Did, Reads, over, row_over, read, opened, acted, once, taken, left_out, again, ended, IsNotBegun, IsAnyReading, IsReading}
 use Rattle.grammar_engine.proofs.Firsts.{BeginsAmong, choice_starts}
 use Rattle.grammar_engine.proofs.KindLists.{only_choice, among_all}
-use Rattle.grammar_engine.proofs.SafeStacks.{IsSafe, text_ends_well}
+use Rattle.grammar_engine.proofs.SafeStacks.{text_ends_well}
 use Rattle.grammar_engine.proofs.Ends.{begun}
 use Rattle.grammar_engine.proofs.SentenceLemmas.{any_counts}
 use Rattle.grammar_engine.proofs.Inversions.{un_bottom, un_row, un_read, un_open, un_act, un_once, un_maybe, un_many}

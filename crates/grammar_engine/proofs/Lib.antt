@@ -12,3 +12,4 @@ pub mod SafeStacks
 pub mod SameRows
 pub mod SentenceLemmas
 pub mod StandsLemmas
+pub mod StopLemmas

@@ -1,14 +1,14 @@
 -- Moves lose no reading that counts and make none.
-use Rattle.std.proofs.Common.{◌≡◌, ℕ, suc, ◌+◌, ◌<◌, ◌≤◌, Bool, true, false, List, [], ◌∷◌, ◌++◌, append_assoc, Option, None, Some, ◌⊎◌, inl, inr, sym, ◌∙◌, ap, subst, refl, arith}
+use Rattle.std.proofs.Common.{◌≡◌, ℕ, ◌+◌, ◌<◌, ◌≤◌, true, false, List, [], ◌∷◌, ◌++◌, append_assoc, Option, inl, inr, sym, ◌∙◌, ap, subst, refl, arith}
 use Rattle.grammar_engine.specs.declared.symbol.Symbol.{Symbol}
 use Rattle.grammar_engine.specs.declared.symbol.Symbol.TheVariants.{Read, Open, Once, Maybe, Many, Act}
 use Rattle.grammar_engine.specs.Grammars.{Rules, IsOneOf}
-use Rattle.grammar_engine.specs.Predicting.{Hints, IsSound, among, all_among, starts_of, covers, moves}
-use Rattle.grammar_engine.specs.Readings.{Stack, Bottom, Row, Step, Took, Did, Reads, over, row_over, read, opened, acted, once, taken, left_out, again, ended, IsNotBegun}
-use Rattle.grammar_engine.specs.Moves.{first_of, is_next, IsMove, row_end, act, enter, take_it, leave_it, go_on, stop, AreMoves, stay, move, IsTake, take_read, take_open, IsTooDeep, IsStuck}
+use Rattle.grammar_engine.specs.Predicting.{Hints, IsSound, all_among, starts_of, covers, moves}
+use Rattle.grammar_engine.specs.Readings.{Stack, Bottom, Row, Step, Reads, row_over, acted, once, taken, left_out, again, ended, IsNotBegun}
+use Rattle.grammar_engine.specs.Moves.{first_of, is_next, IsMove, row_end, act, enter, take_it, leave_it, go_on, stop, AreMoves, stay, move, IsStuck}
 use Rattle.grammar_engine.proofs.KindLists.{and_right, false_true, among_all, only_choice, fine_choice}
 use Rattle.grammar_engine.proofs.Firsts.{BeginsAmong, choice_starts}
-use Rattle.grammar_engine.proofs.SafeStacks.{IsSafe, RowEndsWell, safe_choice}
+use Rattle.grammar_engine.proofs.SafeStacks.{IsSafe, safe_choice}
 use Rattle.grammar_engine.proofs.Ends.{not_begun, begun}
 use Rattle.grammar_engine.proofs.Inversions.{un_bottom, un_row, un_read, un_open, un_act, un_once, un_maybe, un_many}
 

@@ -1,10 +1,9 @@
 -- Stacks on which nothing takes for itself a token with which something before it could go on.
-use Rattle.std.proofs.Common.{◌≡◌, ℕ, ◌==◌, ◌&&◌, ◌||◌, not, Bool, true, false, if◌then◌else◌, List, [], ◌∷◌, map, Option, None, Some, ◌⊎◌, inl, inr, sym, ◌∙◌, ap, subst, refl}
-use Rattle.std.proofs.lemmas.Bool.{and_parts}
+use Rattle.std.proofs.Common.{◌≡◌, ℕ, ◌==◌, ◌&&◌, Bool, true, false, if◌then◌else◌, List, [], ◌∷◌, map, Option, None, Some, inl, inr, sym, ◌∙◌, subst, refl}
 use Rattle.grammar_engine.specs.declared.symbol.Symbol.{Symbol}
 use Rattle.grammar_engine.specs.declared.symbol.Symbol.TheVariants.{Read, Open, Once, Maybe, Many, Act}
 use Rattle.grammar_engine.specs.Grammars.{Rules, IsOneOf}
-use Rattle.grammar_engine.specs.Predicting.{Hints, IsSound, among, starts_of, is_pair, is_safe, are_safe, own, ends_well, all_end_well, lead}
+use Rattle.grammar_engine.specs.Predicting.{Hints, IsSound, among, starts_of, is_pair, is_safe, are_safe, own, all_end_well, lead}
 use Rattle.grammar_engine.specs.Readings.{Stack, Bottom, Row}
 use Rattle.grammar_engine.proofs.KindLists.{and_left, and_right, false_true, or_cases, kind_by, kind_is, label_by, not_true, begin_among, fine_choice}
 

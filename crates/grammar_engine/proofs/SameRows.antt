@@ -1,15 +1,15 @@
 -- Grammars with the same rows under other names have the same readings and the same answers.
-use Rattle.std.proofs.Common.{◌≡◌, ℕ, suc, ◌+◌, ◌≤◌, List, [], ◌∷◌, ◌++◌, map, length, take, drop, ◌⊎◌, inl, inr, sym, ◌∙◌, ap, subst, refl, Option, Some, None}
+use Rattle.std.proofs.Common.{◌≡◌, ℕ, List, [], ◌∷◌, ◌++◌, map, take, drop, inl, inr, sym, ap, subst, refl}
 use Rattle.std.specs.Prelude.{MatchResult, IsOkUnless, Result, Ok, Err}
 use Rattle.grammar_engine.specs.declared.symbol.Symbol.{Symbol}
-use Rattle.grammar_engine.specs.declared.symbol.Symbol.TheVariants.{Read, Open, Once, Maybe, Many, Act}
+use Rattle.grammar_engine.specs.declared.symbol.Symbol.TheVariants.{Many}
 use Rattle.grammar_engine.specs.declared.symbol.Event.{Event}
 use Rattle.grammar_engine.specs.declared.stop.ReadStop.{ReadStop}
 use Rattle.grammar_engine.specs.declared.stop.ReadStop.TheVariants as stop
 use Rattle.grammar_engine.specs.Grammars.{Rows, Rules, IsOneOf, rules_of}
 use Rattle.grammar_engine.specs.Predicting.{AreNamed}
-use Rattle.grammar_engine.specs.Readings.{Stack, Bottom, Row, Step, Took, Did, Reads, over, row_over, read, opened, acted, once, taken, left_out, again, ended, AnyEnd, IsNotBegun, IsAnyReading, IsReading}
-use Rattle.grammar_engine.specs.Answers.{levels, AreLow, IsParsed, NoneGoesOn, IsWrongAt, IsDeepAt}
+use Rattle.grammar_engine.specs.Readings.{Stack, Bottom, Row, Step, Reads, over, row_over, read, opened, acted, once, taken, left_out, again, ended, AnyEnd, IsNotBegun, IsAnyReading, IsReading}
+use Rattle.grammar_engine.specs.Answers.{levels, AreLow, IsParsed, NoneGoesOn}
 use Rattle.grammar_engine.specs.Stops.{IsStop}
 use Rattle.grammar_engine.proofs.CompleteLemmas.{not_wrong, not_deep}
 

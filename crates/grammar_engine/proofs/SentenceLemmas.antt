@@ -1,17 +1,16 @@
 -- Each sentence of the grammar as written has a reading that counts.
-use Rattle.std.proofs.Common.{◌≡◌, ℕ, zero, suc, ◌+◌, ◌<◌, ◌≤◌, ◌==◌, if◌then◌else◌, not, Bool, true, false, List, [], ◌∷◌, Option, None, Some, ◌⊎◌, inl, inr, sym, ◌∙◌, ap, subst, refl, arith}
+use Rattle.std.proofs.Common.{◌≡◌, ℕ, zero, suc, ◌+◌, ◌<◌, ◌≤◌, ◌==◌, if◌then◌else◌, Bool, true, false, List, [], ◌∷◌, ◌⊎◌, inl, inr, sym, ◌∙◌, subst, refl, arith}
 use Rattle.grammar_engine.specs.declared.symbol.Symbol.{Symbol}
 use Rattle.grammar_engine.specs.declared.symbol.Symbol.TheVariants.{Read, Open, Once, Maybe, Many, Act}
 use Rattle.grammar_engine.specs.Grammars.{Rules, IsOneOf}
-use Rattle.grammar_engine.specs.Predicting.{Hints, IsSound, among, starts_of, is_safe, own}
-use Rattle.grammar_engine.specs.Readings.{Stack, Bottom, Row, Step, Took, Did, Reads, over, row_over, read, opened, acted, once, taken, left_out, again, ended, AnyEnd, IsNotBegun, IsAnyReading, IsReading}
-use Rattle.grammar_engine.specs.Moves.{first_of, is_next}
-use Rattle.grammar_engine.proofs.KindLists.{false_true, not_true, kind_is, label_by, among_all}
+use Rattle.grammar_engine.specs.Predicting.{Hints, IsSound, among, starts_of, own}
+use Rattle.grammar_engine.specs.Readings.{Stack, Bottom, Row, Step, Took, Did, Reads, over, row_over, read, opened, acted, once, taken, left_out, again, ended, AnyEnd, IsNotBegun}
+use Rattle.grammar_engine.proofs.KindLists.{not_true, kind_is, label_by, among_all}
 use Rattle.grammar_engine.proofs.Firsts.{BeginsAmong, choice_starts}
-use Rattle.grammar_engine.proofs.SafeStacks.{IsSafe, AreSafe, RowEndsWell, safe_at, safe_choice, safe_past, maybe_safe, if_true}
+use Rattle.grammar_engine.proofs.SafeStacks.{IsSafe, AreSafe, safe_at, safe_choice, safe_past, maybe_safe, if_true}
 use Rattle.grammar_engine.proofs.Ends.{not_begun}
 use Rattle.grammar_engine.proofs.Inversions.{un_bottom, un_row, un_read, un_open, un_act, un_once, un_maybe, un_many}
-use Rattle.grammar_engine.proofs.MoveLemmas.{moves_at, moves_to, entered}
+use Rattle.grammar_engine.proofs.MoveLemmas.{moves_at, entered}
 
 module _ {N P A K : Type 0} (rules : Rules N P A K) where
   -- a stack with another bottom, and maybe other levels

@@ -1,21 +1,21 @@
 -- What is known of a reader between two tokens, and what follows from it.
-use Rattle.std.proofs.Common.{◌≡◌, ℕ, zero, suc, ◌+◌, ◌<◌, ◌≤◌, List, [], ◌∷◌, ◌++◌, map, length, take, drop, Option, None, Some, sym, ◌∙◌, ap, subst, refl, arith, append-nil, append_assoc, length-append}
+use Rattle.std.proofs.Common.{◌≡◌, ℕ, zero, suc, ◌≤◌, List, [], ◌∷◌, ◌++◌, map, length, take, drop, Option, None, Some, sym, ◌∙◌, ap, subst, refl, arith, append-nil, append_assoc, length-append}
 use Rattle.std.specs.Prelude.{slice_get}
 use Rattle.std.proofs.lemmas.List.{map-append}
 use Rattle.grammar_engine.specs.declared.symbol.Symbol.{Symbol}
 use Rattle.grammar_engine.specs.declared.symbol.Symbol.TheVariants.{Read, Open, Once, Maybe, Many, Act}
 use Rattle.grammar_engine.specs.declared.work.Work.{Work}
-use Rattle.grammar_engine.specs.Grammars.{Rules, IsOneOf}
+use Rattle.grammar_engine.specs.Grammars.{Rules}
 use Rattle.grammar_engine.specs.Predicting.{Hints, IsSound}
 use Rattle.grammar_engine.specs.Readings.{Stack, Bottom, Row, Step, Took, Did, Reads, over, read, opened, IsNotBegun, IsAnyReading, IsReading}
-use Rattle.grammar_engine.specs.Answers.{levels, event_of, AreLow, IsParsed, NoneGoesOn, IsWrongAt, GoesTooDeep, IsDeepAt}
-use Rattle.grammar_engine.specs.Moves.{first_of, IsMove, row_end, act, enter, take_it, leave_it, go_on, stop, AreMoves, stay, move, IsTake, take_read, take_open, IsTooDeep, IsStuck}
+use Rattle.grammar_engine.specs.Answers.{levels, event_of, AreLow, IsParsed, NoneGoesOn, IsWrongAt, IsDeepAt}
+use Rattle.grammar_engine.specs.Moves.{IsMove, row_end, act, enter, take_it, leave_it, go_on, stop, AreMoves, stay, move, IsTake, take_read, take_open, IsTooDeep}
 use Rattle.grammar_engine.specs.Frames.{stack_of}
 use Rattle.grammar_engine.specs.Advancing.{Sticks, Feeds, Overflows, Finishes}
 use Rattle.grammar_engine.proofs.SafeStacks.{IsSafe, text_ends_well}
 use Rattle.grammar_engine.proofs.Ends.{Ends, can_end, not_begun}
 use Rattle.grammar_engine.proofs.Inversions.{un_bottom, un_read, un_open}
-use Rattle.grammar_engine.proofs.MoveLemmas.{Leads, IsShallow, moves_lead, moves_safe, moves_shallow, stuck_reads_nothing}
+use Rattle.grammar_engine.proofs.MoveLemmas.{IsShallow, moves_lead, moves_safe, moves_shallow, stuck_reads_nothing}
 use Rattle.grammar_engine.proofs.SentenceLemmas.{any_counts}
 
 -- ---- levels

@@ -1,6 +1,5 @@
 -- What one step of the reader does to what is still to be read, and to what happened.
 use Rattle.std.specs.Prelude.{◌≡◌, ℕ, Bool, true, false, List, [], ◌∷◌, ◌++◌, map, Option, None, Some}
-use Rattle.grammar_engine.specs.declared.symbol.Event.{Event}
 use Rattle.grammar_engine.specs.declared.symbol.Symbol.{Symbol}
 use Rattle.grammar_engine.specs.declared.work.Work.{Work}
 use Rattle.grammar_engine.specs.declared.step.Advance.{Advance}

@@ -1,6 +1,5 @@
 -- What the frames of a reader stand for.
-use Rattle.std.specs.Prelude.{◌≡◌, ℕ, Bool, true, false, List, [], ◌∷◌, ◌++◌, map, Option, None, Some}
-use Rattle.grammar_engine.specs.declared.symbol.Event.{Event}
+use Rattle.std.specs.Prelude.{List, [], ◌∷◌}
 use Rattle.grammar_engine.specs.declared.work.Frame.{Frame}
 use Rattle.grammar_engine.specs.declared.work.Work.{Work}
 use Rattle.grammar_engine.specs.Readings.{Stack, Bottom, Row}

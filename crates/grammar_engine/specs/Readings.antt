@@ -1,9 +1,7 @@
 -- Which tokens have which readings under a grammar, and which reading counts.
-use Rattle.std.specs.Prelude.{◌≡◌, ℕ, suc, List, [], ◌∷◌}
+use Rattle.std.specs.Prelude.{ℕ, suc, List, [], ◌∷◌}
 use Rattle.grammar_engine.specs.declared.symbol.Symbol.{Symbol}
 use Rattle.grammar_engine.specs.declared.symbol.Symbol.TheVariants.{Read, Open, Once, Maybe, Many, Act}
-use Rattle.grammar_engine.specs.declared.symbol.Event.{Event}
-use Rattle.grammar_engine.specs.declared.symbol.Event.TheVariants as event
 use Rattle.grammar_engine.specs.Grammars.{Rules, IsOneOf}
 
 -- what is still to be read: the rest of a row, how many levels are open there, and what follows the row

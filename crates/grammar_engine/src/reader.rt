@@ -1,11 +1,11 @@
 //! Reading whole texts.
 
-ghost use Rattle.std.specs.Prelude.{List, IsOkUnless, MatchResult};
+ghost use Rattle.std.specs.Prelude.{ℕ, List, IsOkUnless, MatchResult};
 ghost use Rattle.grammar_engine.specs.Grammars.{rules_of};
 ghost use Rattle.grammar_engine.specs.Readings.{Step, IsReading};
-ghost use Rattle.grammar_engine.specs.Answers.{levels, AreLow, IsParsed};
-ghost use Rattle.grammar_engine.specs.Stops.{IsStop};
-ghost use Rattle.grammar_engine.specs.declared.stop.ReadStop.TheVariants.{NoMemory};
+ghost use Rattle.grammar_engine.specs.Answers.{levels, AreLow, IsParsed, IsWrongAt, IsDeepAt};
+ghost use Rattle.grammar_engine.specs.Stops.{IsStop, IsStopUnless};
+ghost use Rattle.grammar_engine.specs.declared.stop.ReadStop.TheVariants.{Wrong, Deep, NoMemory};
 
 use crate::grammar::Grammar;
 use crate::step::{Fed, feed, finish};
@@ -28,6 +28,9 @@ pub fn read<G: Grammar>(
     // What has such a reading is read, unless memory runs out.
     ensures complete { (steps : List (Step G.Act)) → IsReading (rules_of G.grammar) tokens.now steps →
         AreLow limit (levels steps) → IsOkUnless result NoMemory }
+    // The first wrong token, or the first that opens a level too many, is named, unless memory runs out.
+    ensures wrong { (place : ℕ) → IsWrongAt (rules_of G.grammar) limit tokens.now place → IsStopUnless result (Wrong place) }
+    ensures deep { (place : ℕ) → IsDeepAt (rules_of G.grammar) limit tokens.now place → IsStopUnless result (Deep place) }
 {
     read_by_name::<G>(alloc, tokens, limit)
 }

@@ -1,8 +1,7 @@
-use Rattle.std.proofs.Common.{◌≡◌, ◌≤◌, [], ◌∷◌, ◌++◌, Some, length, take, refl, sym, ◌∙◌, ap, subst, arith, length-take}
+use Rattle.std.proofs.Common.{[], ◌∷◌, ◌++◌, length, take, refl, sym, ◌∙◌, ap, subst, arith, length-take}
 use Rattle.std.proofs.lemmas.List.{take_more, take_all, drop_all}
 use Rattle.std.proofs.lemmas.Option.{slice_get_read}
 use Rattle.grammar_engine.specs.Readings.{Row, Bottom}
-use Rattle.grammar_engine.specs.Moves.{IsStuck}
 use Rattle.grammar_engine.proofs.StandsLemmas.{Stands, stands_first, stands_fed, stands_wrong, stands_short, stands_deep, stands_finished, text_safe}
 use Rattle.grammar_engine.proofs.CompleteLemmas.{rest_at}
 use Rattle.grammar_engine.proofs.reader.read_by_name.Goals as goal

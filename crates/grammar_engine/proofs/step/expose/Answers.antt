@@ -1,4 +1,4 @@
-use Rattle.std.proofs.Common.{◌≡◌, refl, sym, subst, ◌<◌}
+use Rattle.std.proofs.Common.{refl, sym, subst, ◌<◌}
 use Rattle.grammar_engine.specs.Frames.{stack_of}
 use Rattle.grammar_engine.proofs.AdvanceLemmas.{exposing_first, exposing_more, exposed_by, sticks_by, popped}
 use Rattle.grammar_engine.proofs.MoveLemmas.{moves_at, move_smaller}

@@ -1,6 +1,5 @@
-use Rattle.std.proofs.Common.{◌≡◌, refl, sym, subst}
+use Rattle.std.proofs.Common.{refl, subst}
 use Rattle.grammar_engine.specs.Moves.{IsReady}
-use Rattle.grammar_engine.specs.Frames.{stack_of}
 use Rattle.grammar_engine.proofs.AdvanceLemmas.{fed_by, popped}
 use Rattle.grammar_engine.proofs.step.feed.Goals as goal
 

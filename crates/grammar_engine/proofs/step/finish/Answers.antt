@@ -1,4 +1,4 @@
-use Rattle.std.proofs.Common.{◌≡◌, refl, sym, ◌∙◌, ap, subst, ◌==◌}
+use Rattle.std.proofs.Common.{◌∙◌, ap, ◌==◌}
 use Rattle.grammar_engine.proofs.AdvanceLemmas.{finished_by}
 use Rattle.grammar_engine.proofs.step.finish.Goals as goal
 

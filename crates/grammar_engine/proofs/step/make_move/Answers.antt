@@ -1,4 +1,4 @@
-use Rattle.std.proofs.Common.{◌≡◌, [], ◌∷◌, refl, sym, ◌∙◌, ap, append-nil}
+use Rattle.std.proofs.Common.{[], ◌∷◌, refl, sym, ◌∙◌, ap, append-nil}
 use Rattle.std.proofs.lemmas.List.{nil_from_length}
 use Rattle.grammar_engine.specs.declared.symbol.Symbol.TheVariants.{Once, Maybe, Many, Act}
 use Rattle.grammar_engine.specs.Readings.{Row, Did}

@@ -1,7 +1,7 @@
-use Rattle.std.proofs.Common.{◌≡◌, ◌∷◌, refl, sym, ◌∙◌, ap, subst, arith, suc, ◌<◌}
+use Rattle.std.proofs.Common.{◌∷◌, sym, ◌∙◌, ap, arith, suc}
 use Rattle.grammar_engine.specs.declared.symbol.Symbol.TheVariants.{Read, Open}
 use Rattle.grammar_engine.specs.Readings.{Row, Took}
-use Rattle.grammar_engine.specs.Moves.{IsTake, take_read, take_open}
+use Rattle.grammar_engine.specs.Moves.{take_read, take_open}
 use Rattle.grammar_engine.specs.Frames.{stack_of}
 use Rattle.grammar_engine.proofs.AdvanceLemmas.{takes_by}
 use Rattle.grammar_engine.proofs.step.take_token.Goals as goal
