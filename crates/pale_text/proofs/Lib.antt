@@ -5,3 +5,4 @@ pub mod MarkLemmas
 pub mod PieceLemmas
 pub mod ReadingLemmas
 pub mod SpelledLemmas
+pub mod StopLemmas

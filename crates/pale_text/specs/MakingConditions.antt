@@ -1,9 +1,8 @@
 -- What is made of the conditions of code.
-use Rattle.std.specs.Prelude.{List, [], ◌∷◌, ◌++◌}
+use Rattle.std.specs.Prelude.{[], ◌∷◌, ◌++◌}
 use Rattle.piles.specs.Piles.{top, rest}
 use Rattle.pale_text.specs.declared.grammar.act.ConditionAct.{ConditionAct}
 use Rattle.pale_text.specs.declared.grammar.act.ConditionAct.TheVariants.{TrueCondition, FalseCondition, TermAlone, TakeTermBack, SameAs, NotSameAs, OfVariant, NotCondition, JoinAndAlso, JoinOrElse}
-use Rattle.pale_text.specs.declared.place.Pos.{Pos}
 use Rattle.pale_text.specs.declared.tree.names.Term.{Term}
 use Rattle.pale_text.specs.declared.tree.condition.Condition.{Condition, out-Condition}
 use Rattle.pale_text.specs.declared.tree.condition.Condition.TheVariants as condition

@@ -1,5 +1,5 @@
 -- What is made of declarations.
-use Rattle.std.specs.Prelude.{List, [], ◌∷◌, ◌++◌, None, Some}
+use Rattle.std.specs.Prelude.{[], ◌∷◌, ◌++◌, None, Some}
 use Rattle.piles.specs.Piles.{top, rest}
 use Rattle.pale_text.specs.declared.grammar.act.TypeAct.{TypeAct}
 use Rattle.pale_text.specs.declared.grammar.act.TypeAct.TheVariants.{BoolField, DataField, PointerField, EndCommon, AddVariant, AddType}
@@ -21,7 +21,6 @@ use Rattle.pale_text.specs.declared.tree.declaration.PredicateParameter.{Predica
 use Rattle.pale_text.specs.declared.tree.declaration.PredicateParameter.TheVariants as predicate
 use Rattle.pale_text.specs.declared.tree.declaration.Procedure.{Procedure}
 use Rattle.pale_text.specs.declared.tree.declaration.TypeDeclaration.{TypeDeclaration}
-use Rattle.pale_text.specs.declared.tree.declaration.VariantDeclaration.{VariantDeclaration}
 use Rattle.pale_text.specs.MakingParts.{Parts, Near, nameless, nowhere}
 use Rattle.pale_text.specs.MakingRoutes.{routeless}
 use Rattle.pale_text.specs.MakingStatements.{bracketless}

@@ -1,5 +1,5 @@
 -- Where tokens stop being a sentence of a grammar, and how that is told of a text.
-use Rattle.std.specs.Prelude.{◌≡◌, ◌⊎◌, ℕ, List, Option, Some, None, slice_get}
+use Rattle.std.specs.Prelude.{◌≡◌, ◌⊎◌, ℕ, List, Option, Some, None, slice_get, Result, Ok, Err}
 use Rattle.grammar_engine.specs.Grammars.{Rules}
 use Rattle.grammar_engine.specs.Answers.{IsWrongAt, IsDeepAt}
 use Rattle.pale_text.specs.declared.place.Pos.{Pos}
@@ -36,3 +36,8 @@ module _ {N P A K : Type 0} (rules : Rules N P A K) (limit : ℕ) (kinds : List 
   abbrev pub IsTextStop : TokenList → TextStop → Type 0
   IsTextStop list (stop.Refused refusal) = IsRefused list refusal
   IsTextStop list stop.NoMemory = Unit {0}
+
+-- the result is this refusal, or that one stop
+abbrev pub IsRefusedUnless : {T : Type 0} → Result T TextStop → Refusal → TextStop → Type 0
+IsRefusedUnless (Ok value) refusal but = ⊥
+IsRefusedUnless (Err why) refusal but = (why ≡ stop.Refused refusal) ⊎ (why ≡ but)

@@ -4,8 +4,9 @@ ghost use Rattle.std.specs.Prelude.{◌≡◌, List, IsOkUnless, MatchResult};
 ghost use Rattle.grammar_engine.specs.Grammars.{rules_of};
 ghost use Rattle.grammar_engine.specs.Readings.{Step, IsReading};
 ghost use Rattle.grammar_engine.specs.Answers.{AreLow, levels, IsParsed};
+ghost use Rattle.pale_text.specs.declared.refusal.Refusal.{Refusal as RefusedThere};
 ghost use Rattle.pale_text.specs.declared.refusal.TextStop.TheVariants.{NoMemory, Refused};
-ghost use Rattle.pale_text.specs.TextStops.{place_at, IsTextStop};
+ghost use Rattle.pale_text.specs.TextStops.{place_at, IsRefused, IsRefusedUnless, IsTextStop};
 
 use crate::place::Pos;
 use crate::refusal::{Refusal, RefusalKind, TextStop};
@@ -29,6 +30,8 @@ pub fn read_tokens<G: Grammar>(
     ensures exact { MatchResult result (IsParsed (rules_of G.grammar) limit kinds.now) (IsTextStop (rules_of G.grammar) limit kinds.now list.now) }
     // What has such a reading is read, unless memory runs out.
     ensures complete { (steps : List (Step G.Act)) → IsReading (rules_of G.grammar) kinds.now steps → AreLow limit (levels steps) → IsOkUnless result NoMemory }
+    // The one refusal of the tokens is the answer, unless memory runs out.
+    ensures refused { (refusal : RefusedThere) → IsRefused (rules_of G.grammar) limit kinds.now list.now refusal → IsRefusedUnless result refusal NoMemory }
 {
     match read::<G>(alloc, kinds, limit) {
         Ok(events) => Ok(events),

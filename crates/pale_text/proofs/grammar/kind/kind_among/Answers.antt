@@ -1,4 +1,4 @@
-use Rattle.std.proofs.Common.{◌≡◌, ap, sym, ◌∙◌}
+use Rattle.std.proofs.Common.{ap, sym, ◌∙◌}
 use Rattle.pale_text.proofs.WordLemmas.{kind_found, found_among}
 use Rattle.pale_text.proofs.grammar.kind.kind_among.Goals as goal
 
