@@ -4,9 +4,11 @@ ghost use Rattle.std.specs.Prelude.{◌≡◌, List, IfOk, IfErr, IsOkUnless};
 ghost use Rattle.grammar_engine.specs.Readings.{Step};
 ghost use Rattle.pale_text.specs.declared.grammar.act.Act.{Act as ProgramAct};
 ghost use Rattle.pale_text.specs.declared.tree.declaration.Program.{Program as ProgramTree};
-ghost use Rattle.pale_text.specs.declared.refusal.TextStop.TheVariants.{NoMemory};
+ghost use Rattle.pale_text.specs.declared.refusal.Refusal.{Refusal as RefusedThere};
+ghost use Rattle.pale_text.specs.declared.refusal.TextStop.TheVariants.{NoMemory, Refused};
 ghost use Rattle.pale_text.specs.ProgramWords.{kinds_in};
 ghost use Rattle.pale_text.specs.ProgramReading.{IsProgram, IsShallow, IsParsedAs, IsParseStop};
+ghost use Rattle.pale_text.specs.TextStops.{IsRefusedUnless};
 
 use crate::build::build;
 use crate::grammar::ProgramGrammar;
@@ -30,6 +32,8 @@ pub fn parse(alloc: Global, list: &TokenList) -> Result<Program, TextStop>
     ensures only { (steps : List (Step ProgramAct)) (tree : ProgramTree) → IsProgram list.now.tokens steps tree → IfOk result (λ read. read ≡ tree) }
     // A program with so few levels is read, unless memory runs out.
     ensures complete { (steps : List (Step ProgramAct)) (tree : ProgramTree) → IsProgram list.now.tokens steps tree → IsShallow steps → IsOkUnless result NoMemory }
+    // The one refusal of the tokens is the answer, unless memory runs out.
+    ensures refused { (refusal : RefusedThere) → IsParseStop list.now (Refused refusal) → IsRefusedUnless result refusal NoMemory }
 {
     let kinds = kinds_in(alloc, list.tokens.as_slice())?;
     let events = read_tokens::<ProgramGrammar>(alloc, list, kinds.as_slice(), MAX_LEVELS)?;

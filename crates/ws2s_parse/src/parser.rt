@@ -2,7 +2,9 @@
 
 ghost use Rattle.std.specs.Prelude.{◌≡◌, List, IfOk, IfErr, IsOkUnless};
 ghost use Rattle.grammar_engine.specs.Readings.{Step};
-ghost use Rattle.pale_text.specs.declared.refusal.TextStop.TheVariants.{NoMemory};
+ghost use Rattle.pale_text.specs.declared.refusal.Refusal.{Refusal as RefusedThere};
+ghost use Rattle.pale_text.specs.declared.refusal.TextStop.TheVariants.{NoMemory, Refused};
+ghost use Rattle.pale_text.specs.TextStops.{IsRefusedUnless};
 ghost use Rattle.ws2s_syntax.specs.declared.source.Source.{Source as SourceTree};
 ghost use Rattle.ws2s_parse.specs.declared.grammar.act.SourceAct.{SourceAct};
 ghost use Rattle.ws2s_parse.specs.SourceWords.{kinds_in};
@@ -34,6 +36,8 @@ pub fn parse_source(alloc: Global, list: &TokenList) -> Result<Source, TextStop>
     ensures only { (steps : List (Step SourceAct)) (tree : SourceTree) → IsSource list.now.tokens steps tree → IfOk result (λ read. read ≡ tree) }
     // A text with so few levels is read, unless memory runs out.
     ensures complete { (steps : List (Step SourceAct)) (tree : SourceTree) → IsSource list.now.tokens steps tree → IsShallow steps → IsOkUnless result NoMemory }
+    // The one refusal of the tokens is the answer, unless memory runs out.
+    ensures refused { (refusal : RefusedThere) → IsParseStop list.now (Refused refusal) → IsRefusedUnless result refusal NoMemory }
 {
     let kinds = kinds_in(alloc, list.tokens.as_slice())?;
     let events = read_tokens::<SourceGrammar>(alloc, list, kinds.as_slice(), MAX_LEVELS)?;

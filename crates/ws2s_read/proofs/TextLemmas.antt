@@ -11,9 +11,12 @@ use Rattle.pale_text.specs.Lexing.{IsLexed, IsLexStop}
 use Rattle.pale_text.proofs.ReadingLemmas.{tokens_are_one, stray_is_one, lexed_or_stray}
 use Rattle.ws2s_syntax.specs.declared.source.Source.{Source}
 use Rattle.ws2s_syntax.specs.Checked.{Text}
-use Rattle.ws2s_parse.specs.SourceReading.{IsParsedAs, IsParseStop}
+use Rattle.grammar_engine.specs.Readings.{Step}
+use Rattle.ws2s_parse.specs.declared.grammar.act.SourceAct.{SourceAct}
+use Rattle.ws2s_parse.specs.SourceReading.{IsSource, IsShallow, IsParsedAs, IsParseStop}
 use Rattle.ws2s_read.specs.Resolving.{IsStop, resolved}
-use Rattle.ws2s_read.specs.TextReading.{IsReadAs, IsUnparsed, IsMisnamed, IsRefusedAs, stray, unparsed, misnamed, IsReadStop, IsRefusedUnless}
+use Rattle.ws2s_read.specs.TextReading.{IsReadAs, IsUnparsed, IsMisnamed, IsRefusedAs, stray, unparsed, misnamed, IsReadStop}
+use Rattle.pale_text.specs.TextStops.{IsRefusedUnless}
 
 -- ---- what a `?` passes on
 
@@ -44,7 +47,7 @@ lexed-stop bytes list (stop.Refused refusal) lexed is = absurd (lexed_or_stray b
 lexed-stop bytes list stop.NoMemory lexed is = refl
 
 -- a stray byte is one
-pub stray-stop : (bytes : List ℕ) (refusal : Refusal) (e : TextStop) → IsLexStop bytes (stop.Refused refusal) → IsLexStop bytes e →
+stray-stop : (bytes : List ℕ) (refusal : Refusal) (e : TextStop) → IsLexStop bytes (stop.Refused refusal) → IsLexStop bytes e →
     (e ≡ stop.Refused refusal) ⊎ (e ≡ stop.NoMemory)
 stray-stop bytes refusal (stop.Refused other) is is_too =
     let here : Pos = record { line = refusal.line; column = refusal.column } in
@@ -54,8 +57,15 @@ stray-stop bytes refusal (stop.Refused other) is is_too =
     inl (λ i. stop.Refused (record { line = (same i).line; column = (same i).column; kind = why i }))
 stray-stop bytes refusal stop.NoMemory is is_too = inr refl
 
-pub stray-lexed : (bytes : List ℕ) (list : TokenList) (refusal : Refusal) → IsLexed bytes list → IsLexStop bytes (stop.Refused refusal) → ⊥
+stray-lexed : (bytes : List ℕ) (list : TokenList) (refusal : Refusal) → IsLexed bytes list → IsLexStop bytes (stop.Refused refusal) → ⊥
 stray-lexed bytes list refusal lexed is = lexed_or_stray bytes list _ lexed is.1
+
+-- bytes that have no tokens are refused by their stray byte alone
+pub refused-lexing : (bytes : List ℕ) (refusal : Refusal) (e : TextStop) → IsRefusedAs bytes refusal → IsLexStop bytes e →
+    (e ≡ stop.Refused refusal) ⊎ (e ≡ stop.NoMemory)
+refused-lexing bytes refusal e (stray is) why = stray-stop bytes refusal e is why
+refused-lexing bytes refusal e (unparsed is) why = inr (lexed-stop bytes is.list e is.lexed why)
+refused-lexing bytes refusal e (misnamed is) why = inr (lexed-stop bytes is.list e is.lexed why)
 
 -- ---- the grammar
 
@@ -97,7 +107,7 @@ read-complete source other_source other (Err (stop.Refused refusal)) same found 
     let both : Ok other ≡ Err refusal = sym found ∙ ap resolved (sym same) ∙ is in absurd cc
 read-complete source other_source other (Err stop.NoMemory) same found is = refl
 
-pub read-misnamed : (source other_source : Source) (refusal : Refusal) (r : Result Text TextStop) → source ≡ other_source →
+read-misnamed : (source other_source : Source) (refusal : Refusal) (r : Result Text TextStop) → source ≡ other_source →
     resolved other_source ≡ Err refusal → IfOk r (λ text. resolved source ≡ Ok text) → IfErr r (IsStop (resolved source)) →
     IsRefusedUnless r refusal stop.NoMemory
 read-misnamed source other_source refusal (Ok text) same fault is stopped =
@@ -106,3 +116,32 @@ read-misnamed source other_source refusal (Err (stop.Refused other)) same fault 
     let both : Err other ≡ Err refusal = sym stopped ∙ ap resolved same ∙ fault in
     inl (let alike : other ≡ refusal = cc in ap stop.Refused alike)
 read-misnamed source other_source refusal (Err stop.NoMemory) same fault is stopped = inr refl
+
+-- ---- the one refusal
+
+-- the grammar's fault is that of the tokens that were read
+parse-why : (bytes : List ℕ) (list : TokenList) (refusal : Refusal) → IsLexed bytes list → (is : IsUnparsed bytes refusal) → IsParseStop list (stop.Refused refusal)
+parse-why bytes list refusal lexed is =
+    subst (λ l. IsParseStop l (stop.Refused refusal)) (tokens_are_one bytes is.list list is.lexed lexed) is.why
+
+-- bytes whose tokens have no source tree are refused by the grammar alone
+pub refused-parsing : (bytes : List ℕ) (list : TokenList) (refusal : Refusal) (e : TextStop) → IsLexed bytes list →
+    ((steps : List (Step SourceAct)) (tree : Source) → IsSource list.tokens steps tree → IsShallow steps → e ≡ stop.NoMemory) →
+    ((other : Refusal) → IsParseStop list (stop.Refused other) → (e ≡ stop.Refused other) ⊎ (e ≡ stop.NoMemory)) →
+    IsRefusedAs bytes refusal → (e ≡ stop.Refused refusal) ⊎ (e ≡ stop.NoMemory)
+refused-parsing bytes list refusal e lexed complete refused (stray is) = absurd (stray-lexed bytes list refusal lexed is)
+refused-parsing bytes list refusal e lexed complete refused (unparsed is) = refused refusal (parse-why bytes list refusal lexed is)
+refused-parsing bytes list refusal e lexed complete refused (misnamed is) =
+    let parsed = parsed-as bytes list is.list is.source lexed is.lexed is.parsed in
+    inr (complete parsed.steps is.source parsed.source parsed.shallow)
+
+-- bytes whose tokens have a source tree are refused by its names alone
+pub refused-names : (bytes : List ℕ) (list : TokenList) (source : Source) (refusal : Refusal) (r : Result Text TextStop) → IsLexed bytes list →
+    ((steps : List (Step SourceAct)) (tree : Source) → IsSource list.tokens steps tree → source ≡ tree) →
+    ((other : Refusal) → IsParseStop list (stop.Refused other) → ⊥) →
+    IfOk r (λ text. resolved source ≡ Ok text) → IfErr r (IsStop (resolved source)) → IsRefusedAs bytes refusal → IsRefusedUnless r refusal stop.NoMemory
+refused-names bytes list source refusal r lexed only refused text stopped (stray is) = absurd (stray-lexed bytes list refusal lexed is)
+refused-names bytes list source refusal r lexed only refused text stopped (unparsed is) = absurd (refused refusal (parse-why bytes list refusal lexed is))
+refused-names bytes list source refusal r lexed only refused text stopped (misnamed is) =
+    let parsed = parsed-as bytes list is.list is.source lexed is.lexed is.parsed in
+    read-misnamed source is.source refusal r (only parsed.steps is.source parsed.source) is.fault text stopped

@@ -1,5 +1,5 @@
 -- Which bytes are which WS2S text, and why bytes are refused: tokens come first, then the grammar, then names.
-use Rattle.std.specs.Prelude.{◌≡◌, ◌⊎◌, ℕ, List, Result, Ok, Err}
+use Rattle.std.specs.Prelude.{◌≡◌, ℕ, List, Result, Ok, Err}
 use Rattle.pale_text.specs.declared.refusal.Refusal.{Refusal}
 use Rattle.pale_text.specs.declared.refusal.TextStop.{TextStop}
 use Rattle.pale_text.specs.declared.refusal.TextStop.TheVariants as stop
@@ -42,8 +42,3 @@ pub data IsRefusedAs (bytes : List ℕ) (refusal : Refusal) : Type 0 where
 abbrev pub IsReadStop : List ℕ → TextStop → Type 0
 IsReadStop bytes (stop.Refused refusal) = IsRefusedAs bytes refusal
 IsReadStop bytes stop.NoMemory = Unit {0}
-
--- the result is this refusal, or that one stop
-abbrev pub IsRefusedUnless : {T : Type 0} → Result T TextStop → Refusal → TextStop → Type 0
-IsRefusedUnless (Ok value) refusal but = ⊥
-IsRefusedUnless (Err why) refusal but = (why ≡ stop.Refused refusal) ⊎ (why ≡ but)

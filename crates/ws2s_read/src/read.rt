@@ -2,10 +2,10 @@
 
 ghost use Rattle.std.specs.Prelude.{◌≡◌, ◌<◌, length, IfOk, IfErr, IsOkUnless};
 ghost use Rattle.pale_text.specs.declared.refusal.Refusal.{Refusal as RefusedThere};
-ghost use Rattle.pale_text.specs.declared.refusal.TextStop.TheVariants.{NoMemory, Refused};
-ghost use Rattle.pale_text.specs.Lexing.{IsLexStop};
+ghost use Rattle.pale_text.specs.declared.refusal.TextStop.TheVariants.{NoMemory};
+ghost use Rattle.pale_text.specs.TextStops.{IsRefusedUnless};
 ghost use Rattle.ws2s_syntax.specs.Checked.{Text};
-ghost use Rattle.ws2s_read.specs.TextReading.{IsReadAs, IsReadStop, IsMisnamed, IsRefusedUnless};
+ghost use Rattle.ws2s_read.specs.TextReading.{IsReadAs, IsReadStop, IsRefusedAs};
 
 use crate::items::resolve;
 use pale_text::{TextStop, lex};
@@ -28,9 +28,8 @@ pub fn read_ws2s(alloc: Global, text: &[u8]) -> Result<Ws2sText, TextStop>
     ensures only { (other : Text) → IsReadAs text.now other → IfOk result (λ read. read ≡ other) }
     // What is a text is read, unless memory runs out.
     ensures complete { (other : Text) → IsReadAs text.now other → IsOkUnless result NoMemory }
-    // A stray byte is refused, unless memory runs out; so is the first fault of a name or a term.
-    ensures stray { (refusal : RefusedThere) → IsLexStop text.now (Refused refusal) → IsRefusedUnless result refusal NoMemory }
-    ensures misnamed { (refusal : RefusedThere) → IsMisnamed text.now refusal → IsRefusedUnless result refusal NoMemory }
+    // The one refusal of the bytes is the answer, unless memory runs out.
+    ensures refused { (refusal : RefusedThere) → IsRefusedAs text.now refusal → IsRefusedUnless result refusal NoMemory }
 {
     let list = lex(alloc, text)?;
     let source = parse_source(alloc, &list)?;

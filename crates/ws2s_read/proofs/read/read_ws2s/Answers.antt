@@ -1,5 +1,4 @@
-use Rattle.std.proofs.Common.{inr}
-use Rattle.ws2s_read.proofs.TextLemmas.{passed-stop, passed-complete, passed-refused, lex-stop, lexed-stop, stray-stop, stray-lexed, parse-stop, parsed-as, read-text, read-stop, read-only, read-complete, read-misnamed}
+use Rattle.ws2s_read.proofs.TextLemmas.{passed-stop, passed-complete, passed-refused, lex-stop, lexed-stop, refused-lexing, refused-parsing, refused-names, parse-stop, parsed-as, read-text, read-stop, read-only, read-complete}
 use Rattle.ws2s_read.proofs.read.read_ws2s.Goals as goal
 
 -- no tokens
@@ -14,17 +13,11 @@ returns-in_err-list-clause-complete c = λ other reads.
     passed-complete c.from_residual.result e _ c.from_residual.ensures.1
     (lexed-stop c.args.text.now reads.list e reads.lexed c.in_err-list.ensures.stop)
 
-pub returns-in_err-list-clause-stray : goal.returns-in_err-list-clause-stray
-returns-in_err-list-clause-stray c = λ refusal is.
+pub returns-in_err-list-clause-refused : goal.returns-in_err-list-clause-refused
+returns-in_err-list-clause-refused c = λ refusal is.
     let e = c.in_err-list.field-0.0 in
     passed-refused c.from_residual.result e _ refusal c.from_residual.ensures.1
-    (stray-stop c.args.text.now refusal e is c.in_err-list.ensures.stop)
-
-pub returns-in_err-list-clause-misnamed : goal.returns-in_err-list-clause-misnamed
-returns-in_err-list-clause-misnamed c = λ refusal is.
-    let e = c.in_err-list.field-0.0 in
-    passed-refused c.from_residual.result e _ refusal c.from_residual.ensures.1
-    (inr (lexed-stop c.args.text.now is.list e is.lexed c.in_err-list.ensures.stop))
+    (refused-lexing c.args.text.now refusal e is c.in_err-list.ensures.stop)
 
 -- no source tree
 pub returns-in_err-source-clause-stop : goal.returns-in_err-source-clause-stop
@@ -40,16 +33,11 @@ returns-in_err-source-clause-complete c = λ other reads.
     passed-complete c.from_residual-in_err-source.result e _ c.from_residual-in_err-source.ensures.1
     (c.in_err-source.ensures.complete parsed.steps reads.source parsed.source parsed.shallow)
 
-pub returns-in_err-source-clause-stray : goal.returns-in_err-source-clause-stray
-returns-in_err-source-clause-stray c = λ refusal is.
-    absurd (stray-lexed c.args.text.now c.in_ok-list.list refusal c.in_ok-list.ensures.tokens is)
-
-pub returns-in_err-source-clause-misnamed : goal.returns-in_err-source-clause-misnamed
-returns-in_err-source-clause-misnamed c = λ refusal is.
+pub returns-in_err-source-clause-refused : goal.returns-in_err-source-clause-refused
+returns-in_err-source-clause-refused c = λ refusal is.
     let e = c.in_err-source.field-0.0 in
-    let parsed = parsed-as c.args.text.now c.in_ok-list.list is.list is.source c.in_ok-list.ensures.tokens is.lexed is.parsed in
     passed-refused c.from_residual-in_err-source.result e _ refusal c.from_residual-in_err-source.ensures.1
-    (inr (c.in_err-source.ensures.complete parsed.steps is.source parsed.source parsed.shallow))
+    (refused-parsing c.args.text.now c.in_ok-list.list refusal e c.in_ok-list.ensures.tokens c.in_err-source.ensures.complete c.in_err-source.ensures.refused is)
 
 -- names
 pub returns-clause-text : goal.returns-clause-text
@@ -74,12 +62,7 @@ returns-clause-complete c = λ other reads.
     read-complete c.in_ok-source.source reads.source other c.resolve.result
     (c.in_ok-source.ensures.only parsed.steps reads.source parsed.source) reads.found c.resolve.ensures.stop
 
-pub returns-clause-stray : goal.returns-clause-stray
-returns-clause-stray c = λ refusal is.
-    absurd (stray-lexed c.args.text.now c.in_ok-list.list refusal c.in_ok-list.ensures.tokens is)
-
-pub returns-clause-misnamed : goal.returns-clause-misnamed
-returns-clause-misnamed c = λ refusal is.
-    let parsed = parsed-as c.args.text.now c.in_ok-list.list is.list is.source c.in_ok-list.ensures.tokens is.lexed is.parsed in
-    read-misnamed c.in_ok-source.source is.source refusal c.resolve.result
-    (c.in_ok-source.ensures.only parsed.steps is.source parsed.source) is.fault c.resolve.ensures.text c.resolve.ensures.stop
+pub returns-clause-refused : goal.returns-clause-refused
+returns-clause-refused c = λ refusal is.
+    refused-names c.args.text.now c.in_ok-list.list c.in_ok-source.source refusal c.resolve.result c.in_ok-list.ensures.tokens c.in_ok-source.ensures.only
+    c.in_ok-source.ensures.refused c.resolve.ensures.text c.resolve.ensures.stop is
