@@ -20,7 +20,6 @@ use Rattle.store_core.specs.declared.kind.FieldKind.TheVariants as field
 use Rattle.store_core.specs.declared.kind.VarKind.{VarKind}
 use Rattle.store_core.specs.declared.kind.VarKind.TheVariants as var
 use Rattle.store_core.specs.declared.fault.StoreKind.{StoreKind}
-use Rattle.store_core.specs.declared.fault.StoreKind.TheVariants.{Repeated}
 use Rattle.store_core.specs.declared.read.holds.Holds.{Holds}
 use Rattle.store_core.specs.declared.read.holds.Holds.TheVariants as holds
 use Rattle.store_core.specs.declared.read.holds.Mention.{Mention}

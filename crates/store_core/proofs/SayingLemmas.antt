@@ -1,5 +1,5 @@
 -- What lines add to what was said, step by step.
-use Rattle.std.proofs.Common.{◌≡◌, ◌≢◌, ℕ, zero, suc, ◌+◌, ◌<◌, ◌≤◌, ◌==◌, ◌&&◌, ◌||◌, not, nat_lt, Bool, true, false, cond, List, [], ◌∷◌, ◌++◌, length, map, take, drop, get_or, slice_get, Option, Some, None, Result, Ok, Err, IsSomeAnd, IsErrAnd, IfErr, refl, sym, ap, ◌∙◌, subst, arith, append_assoc}
+use Rattle.std.proofs.Common.{◌≡◌, ℕ, zero, suc, ◌+◌, ◌<◌, ◌==◌, ◌&&◌, ◌||◌, not, nat_lt, Bool, true, false, cond, List, [], ◌∷◌, ◌++◌, length, map, take, drop, get_or, slice_get, Option, Some, None, Result, Ok, Err, IsSomeAnd, IsErrAnd, IfErr, refl, sym, ap, ◌∙◌, subst, arith, append_assoc}
 use Rattle.std.specs.Option.{option_map, option_and_then, option_map_or}
 use Rattle.std.specs.List.{list_any, AllByRecursion}
 use Rattle.std.specs.List.Sorted.{IsStrictlySortedBy}
@@ -18,14 +18,14 @@ use Rattle.store_core.specs.declared.ids.FieldId.{FieldId}
 use Rattle.store_core.specs.declared.kind.FieldKind.{FieldKind}
 use Rattle.store_core.specs.declared.value.Value.{Value}
 use Rattle.store_core.specs.declared.fault.StoreKind.{StoreKind}
-use Rattle.store_core.specs.declared.fault.StoreKind.TheVariants.{Missing, UnknownName, Repeated}
+use Rattle.store_core.specs.declared.fault.StoreKind.TheVariants.{UnknownName, Repeated}
 use Rattle.store_core.specs.declared.read.holds.Mention.{Mention}
 use Rattle.store_core.specs.declared.ids.TypeId.{TypeId}
 use Rattle.store_core.specs.declared.read.spelled.CellLine.{CellLine}
 use Rattle.store_core.specs.declared.ids.VarId.{VarId}
 use Rattle.store_core.specs.declared.kind.VarKind.{VarKind}
 use Rattle.store_core.specs.declared.read.spelled.Given.{Given}
-use Rattle.store_core.specs.Tables.{TypeEntry, FieldEntry, VarEntry, var_named, var_at, fields_of, type_named, variant_count, field_at, field_named, place_of, field_names, has_field, is_had, KnowsVariant}
+use Rattle.store_core.specs.Tables.{TypeEntry, FieldEntry, VarEntry, var_named, var_at, fields_of, type_named, variant_count, place_of, field_names, has_field, is_had, KnowsVariant}
 use Rattle.store_core.specs.CellLists.{AreRising}
 use Rattle.store_core.specs.Stores.{CellEntry}
 use Rattle.store_core.specs.Saying.{◌>>=◌, IsStop, or_fault, members_after, cells_numbered, field_had, field_holds, mentions_of, named_by, named_in, named_at, variant_named, say_fields, cell_said, Said, say_cell, is_said, value_for, var_holds, say_var}

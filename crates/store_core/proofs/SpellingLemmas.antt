@@ -1,5 +1,5 @@
 -- Names, numbers and values, read byte by byte and word by word.
-use Rattle.std.proofs.Common.{◌≡◌, ◌≢◌, ℕ, zero, suc, ◌+◌, ◌-◌, ◌*◌, ◌<◌, ◌≤◌, ◌==◌, ◌&&◌, nat_le, nat_lt, Bool, true, false, cond, List, [], ◌∷◌, ◌++◌, length, Option, Some, None, refl, sym, ap, ◌∙◌, arith, append_assoc, get_or, drop, codes, subst}
+use Rattle.std.proofs.Common.{◌≡◌, ◌≢◌, ℕ, ◌+◌, ◌-◌, ◌*◌, ◌<◌, ◌≤◌, ◌==◌, ◌&&◌, nat_le, Bool, true, false, cond, List, [], ◌∷◌, ◌++◌, length, Option, Some, None, refl, sym, ap, ◌∙◌, arith, append_assoc, get_or, drop, codes, subst}
 use Rattle.std.specs.Option.{option_map}
 use Rattle.std.specs.List.{list_all}
 use Rattle.std.specs.Char.{is_ascii_digit, digit_value}
@@ -7,11 +7,9 @@ use Rattle.std.specs.Str.Parse.{digits_value_after}
 use Rattle.std.specs.Str.{bytes_eq}
 use Rattle.std.proofs.lemmas.List.{append-nil}
 use Rattle.std.proofs.lemmas.Bool.Decides.{nat_tests}
-use Rattle.store_core.specs.declared.read.spelled.Spelled.{Spelled}
 use Rattle.store_core.specs.declared.read.spelled.Spelled.TheVariants as spelled
 use Rattle.store_core.specs.declared.read.spelled.Given.{Given}
 use Rattle.store_core.specs.declared.read.spelled.CellLine.{CellLine}
-use Rattle.store_core.specs.declared.read.spelled.Line.{Line}
 use Rattle.store_core.specs.declared.read.spelled.Line.TheVariants as line
 use Rattle.store_core.specs.Lines.{parts_of}
 use Rattle.store_core.specs.Spelling.{◌>>=◌, all_of, number_after, number_of, before_close, numbers_of, counted_of, given_of, field_of, type_of, var_line, cell_in, cell_line, line_in, line_of}

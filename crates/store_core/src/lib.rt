@@ -11,8 +11,6 @@ mod kind;
 mod laws;
 mod read;
 mod store;
-#[cfg(test)]
-mod tests;
 mod types;
 mod value;
 mod vars;

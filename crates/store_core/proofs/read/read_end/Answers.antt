@@ -1,4 +1,4 @@
-use Rattle.std.proofs.Common.{◌≡◌, Err, refl, ap, ◌∙◌, sym}
+use Rattle.std.proofs.Common.{Err, ap, ◌∙◌, sym}
 use Rattle.std.specs.List.{find}
 use Rattle.store_core.specs.declared.fault.StoreFault.{StoreFault}
 use Rattle.store_core.specs.Lines.{lines_of}

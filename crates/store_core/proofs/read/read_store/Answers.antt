@@ -1,9 +1,9 @@
-use Rattle.std.proofs.Common.{◌≡◌, ◌<◌, length, None, Ok, Err, IfOk, IfErr, refl, ap, ◌∙◌, sym, subst, arith}
+use Rattle.std.proofs.Common.{◌≡◌, length, None, Ok, Err, IfOk, IfErr, ap, ◌∙◌, sym, subst, arith}
 use Rattle.std.proofs.lemmas.List.{length-map}
 use Rattle.store_core.specs.declared.fault.StoreFault.{StoreFault}
 use Rattle.store_core.specs.Lines.{lines_of}
 use Rattle.store_core.specs.Saying.{Said}
-use Rattle.store_core.specs.Reading.{IsFaultOf, read_lines, read_end, reading}
+use Rattle.store_core.specs.Reading.{IsFaultOf, read_lines}
 use Rattle.store_core.proofs.ReadingLemmas.{reading-nothing, reading-other, reading-store, read_lines-over, read_lines-end, read_lines-said, lines_of-over}
 use Rattle.store_core.proofs.read.read_store.Goals as goal
 

@@ -1,4 +1,4 @@
-use Rattle.std.proofs.Common.{◌≡◌, None, map, ap, ◌∙◌, sym}
+use Rattle.std.proofs.Common.{None, map, ap, ◌∙◌, sym}
 use Rattle.store_core.specs.Tables.{type_named, fields_of}
 use Rattle.store_core.specs.Saying.{say_fields, cell_said}
 use Rattle.store_core.proofs.SayingLemmas.{stop_of, cell_said-stop}

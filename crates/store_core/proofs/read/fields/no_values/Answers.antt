@@ -1,4 +1,4 @@
-use Rattle.std.proofs.Common.{◌≡◌, ℕ, suc, ◌+◌, [], ◌∷◌, ◌++◌, take, map, None, ap, ◌∙◌, sym, arith}
+use Rattle.std.proofs.Common.{◌≡◌, suc, ◌+◌, [], ◌∷◌, ◌++◌, take, map, None, ap, ◌∙◌, arith}
 use Rattle.store_core.specs.Tables.{fields_of}
 use Rattle.store_core.proofs.Steps.{map_all}
 use Rattle.store_core.proofs.SayingLemmas.{none_more}

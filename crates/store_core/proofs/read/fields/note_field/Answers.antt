@@ -1,4 +1,4 @@
-use Rattle.std.proofs.Common.{◌≡◌, ◌++◌, Some, refl, ap, ◌∙◌, sym}
+use Rattle.std.proofs.Common.{◌≡◌, ◌++◌, refl, ap, ◌∙◌}
 use Rattle.store_core.specs.Tables.{fields_of}
 use Rattle.store_core.specs.Saying.{mentions_of}
 use Rattle.store_core.proofs.SayingLemmas.{named_at-lacks, named_at-other, named_at-given, not_past}

@@ -1,4 +1,4 @@
-use Rattle.std.proofs.Common.{◌≡◌, ◌<◌, length, sym, subst, arith}
+use Rattle.std.proofs.Common.{◌<◌, length, subst, arith}
 use Rattle.store_core.specs.Tables.{fields_of}
 use Rattle.store_core.proofs.SayingLemmas.{field_had-ty, some_within}
 use Rattle.store_core.proofs.read.fields.say_field.Goals as goal

@@ -1,5 +1,5 @@
-use Rattle.std.proofs.Common.{◌≡◌, ◌-◌, length, take, drop, IfOk, ap, ◌∙◌, sym, subst, arith}
-use Rattle.store_core.specs.Spelling.{cell_in, cell_line}
+use Rattle.std.proofs.Common.{◌≡◌, IfOk, ◌∙◌, sym, subst}
+use Rattle.store_core.specs.Spelling.{cell_in}
 use Rattle.store_core.proofs.LineLemmas.{rest_from}
 use Rattle.store_core.proofs.SpellingLemmas.{cell_line-more, cell_line-fewer}
 use Rattle.store_core.proofs.read.forms.cell_line.Goals as goal

@@ -1,4 +1,4 @@
-use Rattle.std.proofs.Common.{◌≡◌, ap, ◌∙◌, sym}
+use Rattle.std.proofs.Common.{ap, ◌∙◌, sym}
 use Rattle.std.specs.Option.{option_map}
 use Rattle.store_core.specs.declared.read.spelled.Line.TheVariants as line
 use Rattle.store_core.proofs.SpellingLemmas.{var_line-given, var_line-other}

@@ -1,4 +1,4 @@
-use Rattle.std.proofs.Common.{◌≡◌, ◌++◌, ap, ◌∙◌, sym, subst}
+use Rattle.std.proofs.Common.{◌++◌, ap, ◌∙◌, sym, subst}
 use Rattle.store_core.specs.CellLists.{AreRising}
 use Rattle.store_core.specs.Saying.{cells_numbered}
 use Rattle.store_core.proofs.SayingLemmas.{rising_keys, below_middle}

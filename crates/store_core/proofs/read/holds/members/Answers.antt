@@ -1,6 +1,5 @@
-use Rattle.std.proofs.Common.{◌≡◌, ℕ, List, [], ◌∷◌, ◌+◌, ◌==◌, true, None, get_or, drop, ap, ◌∙◌, sym}
+use Rattle.std.proofs.Common.{◌≡◌, [], ◌+◌, None, get_or, drop, ap, ◌∙◌, sym}
 use Rattle.std.specs.Option.{option_map}
-use Rattle.std.specs.List.{list_any}
 use Rattle.std.proofs.lemmas.List.{at_drop_more}
 use Rattle.store_core.specs.declared.value.Value.TheVariants as value
 use Rattle.store_core.specs.declared.fault.StoreKind.TheVariants.{Repeated}

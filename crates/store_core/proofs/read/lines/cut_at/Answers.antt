@@ -1,5 +1,4 @@
-use Rattle.std.proofs.Common.{◌≡◌, Some, option_map, take, drop, suc, ◌+◌, ap, ◌∙◌, sym}
-use Rattle.store_core.specs.Spelling.{cut_at}
+use Rattle.std.proofs.Common.{Some, option_map, take, drop, ◌+◌, ap, ◌∙◌}
 use Rattle.store_core.proofs.LineLemmas.{rest_from}
 use Rattle.store_core.proofs.read.lines.cut_at.Goals as goal
 

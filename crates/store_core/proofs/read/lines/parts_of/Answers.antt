@@ -1,4 +1,4 @@
-use Rattle.std.proofs.Common.{◌≡◌, ◌+◌, ◌∷◌, [], ◌++◌, false, true, get_or, drop, ap, ◌∙◌, sym, refl, length, arith, subst}
+use Rattle.std.proofs.Common.{◌≡◌, ◌+◌, ◌∷◌, [], ◌++◌, false, get_or, drop, ap, ◌∙◌, sym, arith}
 use Rattle.std.proofs.lemmas.List.{at_drop_more, drop_all, append-nil}
 use Rattle.store_core.specs.Lines.{parts_from}
 use Rattle.store_core.proofs.LineLemmas.{before, before_nothing, parts_at_space, parts_past_byte}

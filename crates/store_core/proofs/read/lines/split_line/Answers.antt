@@ -1,4 +1,4 @@
-use Rattle.std.proofs.Common.{◌≡◌, ◌∷◌, suc, ◌+◌, take, drop, length, ap, ◌∙◌, sym, add-one, arith}
+use Rattle.std.proofs.Common.{◌≡◌, ◌∷◌, suc, ◌+◌, take, drop, length, ap, ◌∙◌, sym, arith}
 use Rattle.std.proofs.lemmas.List.{drop_all}
 use Rattle.store_core.specs.Lines.{lines_of}
 use Rattle.store_core.proofs.LineLemmas.{lines_of-at, lines_of-whole, rest_from}

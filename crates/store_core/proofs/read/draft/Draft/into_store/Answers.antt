@@ -1,4 +1,4 @@
-use Rattle.std.proofs.Common.{◌≡◌, Some, IsSomeAnd, ap, ◌∙◌, sym, subst}
+use Rattle.std.proofs.Common.{◌≡◌, IsSomeAnd, ap, ◌∙◌, sym, subst}
 use Rattle.std.specs.FinMap.{from_sorted}
 use Rattle.store_core.specs.Spelling.{all_of}
 use Rattle.store_core.specs.Reading.{next_after, store_said}

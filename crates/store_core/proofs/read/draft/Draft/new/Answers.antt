@@ -1,4 +1,4 @@
-use Rattle.std.proofs.Common.{◌≡◌, ℕ, suc, ◌+◌, [], ◌∷◌, ◌++◌, take, map, None, ap, ◌∙◌, sym, arith}
+use Rattle.std.proofs.Common.{◌≡◌, suc, ◌+◌, [], ◌∷◌, ◌++◌, take, map, None, ap, ◌∙◌, arith}
 use Rattle.std.specs.FinMap.{from_sorted}
 use Rattle.store_core.specs.DraftBodies.{said_cells}
 use Rattle.store_core.proofs.Steps.{map_all}

@@ -1,4 +1,4 @@
-use Rattle.std.proofs.Common.{◌≡◌, ◌≤◌, Some, ap, ◌∙◌, sym, arith}
+use Rattle.std.proofs.Common.{Some, ap, ◌∙◌, sym, arith}
 use Rattle.store_core.proofs.SpellingLemmas.{line_of-small}
 use Rattle.store_core.proofs.read.draft.Draft.say_line.Goals as goal
 

@@ -1,4 +1,4 @@
-use Rattle.std.proofs.Common.{◌≡◌, slice_get, ap, ◌∙◌, sym}
+use Rattle.std.proofs.Common.{slice_get, ap, ◌∙◌, sym}
 use Rattle.store_core.specs.Tables.{var_named}
 use Rattle.store_core.specs.Saying.{Said, is_said, value_for, say_var}
 use Rattle.store_core.proofs.SayingLemmas.{stop_of, say_var-stop}

@@ -1,84 +1,13 @@
-//! Store texts worked by hand, and each call once.
+//! Each call of tables and stores once.
 
-mod made;
-mod texts;
-
-use super::*;
-use made::{
+use crate::made::{
     DBL, MARK, NODE, TREE, made_types, made_vars, put, remove, second, set_field, set_var, set_with,
 };
-use std::alloc::{AllocError, Global};
+use crate::texts_told::VARS;
 use std::test::Fail;
-use texts::{LINES, STORES, TEXTS, VARS};
-
-/// What the store that a text spells is written as, or the line and the kind of the text's fault.
-fn told(
-    alloc: Global,
-    types: &TypeTable,
-    vars: &VarTable,
-    text: &[u8],
-) -> Result<Vec<u8>, AllocError> {
-    let mut told = Vec::new(alloc);
-    if text.len() > 1_000_000 {
-        return Ok(told);
-    }
-    match read_store(alloc, types, vars, text) {
-        Ok(store) => store_text(alloc, types, vars, &store),
-        Err(fault) => {
-            told.extend_from_slice(fault.line.to_string(alloc)?.as_bytes())?;
-            told.push(b' ')?;
-            told.extend_from_slice(fault.kind.word().as_bytes())?;
-            Ok(told)
-        }
-    }
-}
-
-#[test]
-fn lines_are_refused_by_their_first_fault(rt: HostRuntime) -> Result<(), Fail> {
-    let alloc = rt.alloc();
-    let types = made_types(alloc)?;
-    let vars = made_vars(alloc, VARS)?;
-    for (line, kind) in LINES {
-        let text = format!(in alloc; "store\n{line}\n")?;
-        let want = format!(in alloc; "2 {kind}")?;
-        let told = told(alloc, &types, &vars, text.as_bytes())?;
-        assert_eq!(rt; told.as_slice(), want.as_bytes(), "at {line}");
-    }
-    Ok(())
-}
-
-#[test]
-fn texts_are_read_or_refused(rt: HostRuntime) -> Result<(), Fail> {
-    let alloc = rt.alloc();
-    let types = made_types(alloc)?;
-    let vars = made_vars(alloc, VARS)?;
-    for (text, want) in TEXTS {
-        let told = told(alloc, &types, &vars, text.as_bytes())?;
-        assert_eq!(rt; told.as_slice(), want.as_bytes(), "at {text}");
-    }
-    Ok(())
-}
-
-/// Whether a store text is written as it was read, over these variables.
-fn is_told_again(
-    alloc: Global,
-    types: &TypeTable,
-    list: &[(&str, VarKind)],
-    text: &str,
-) -> Result<bool, AllocError> {
-    let vars = made_vars(alloc, list)?;
-    let told = told(alloc, types, &vars, text.as_bytes())?;
-    Ok(told.as_slice() == text.as_bytes())
-}
-
-#[test]
-fn stores_are_read_and_written(rt: HostRuntime) -> Result<(), Fail> {
-    let types = made_types(rt.alloc())?;
-    for (list, text) in STORES {
-        assert!(rt; is_told_again(rt.alloc(), &types, list, text)?, "at {text}");
-    }
-    Ok(())
-}
+use store_core::{
+    CellId, FieldId, FieldKind, Owner, Store, TypeTable, Value, VarId, VarKind, VarTable, VariantId,
+};
 
 const PLAIN: VariantId = VariantId { ty: NODE, index: 0 };
 

@@ -5,20 +5,26 @@ ghost use Rattle.std.specs.Option.{option_copied};
 ghost use Rattle.store_core.specs.Tables.{place_of, field_names, fields_of, owner_type, KnowsOwner};
 ghost use Rattle.store_core.specs.Stores.{class_of};
 
-use crate::*;
-use plain_data::Items;
+use plain_data::{Boxed, Items};
 use std::alloc::{AllocError, Global};
+use store_core::{
+    CellId, CellList, FieldId, FieldKind, Owner, Route, Store, TypeId, TypeTable, Value, VarId,
+    VarKind, VarTable, VariantId,
+};
 
-pub const NODE: TypeId = TypeId(0);
+/// The type of a program that declares one.
+pub(crate) const ONLY: TypeId = TypeId(0);
 
-pub const DBL: TypeId = TypeId(1);
+pub(crate) const NODE: TypeId = TypeId(0);
 
-pub const TREE: TypeId = TypeId(2);
+pub(crate) const DBL: TypeId = TypeId(1);
 
-pub const MARK: TypeId = TypeId(3);
+pub(crate) const TREE: TypeId = TypeId(2);
+
+pub(crate) const MARK: TypeId = TypeId(3);
 
 /// The second variant of a type with two.
-pub fn second(ty: TypeId) -> VariantId {
+pub(crate) fn second(ty: TypeId) -> VariantId {
     VariantId { ty, index: 1 }
 }
 
@@ -83,7 +89,7 @@ fn add_data(
 }
 
 /// A pointer field with the route `^next`.
-fn add_pointer(
+fn add_back_pointer(
     alloc: Global,
     types: &mut TypeTable,
     owner: Owner,
@@ -97,10 +103,26 @@ fn add_pointer(
     Ok(())
 }
 
+/// A pointer field with the route `next*`.
+fn add_forward_pointer(
+    alloc: Global,
+    types: &mut TypeTable,
+    owner: Owner,
+    name: &[u8],
+    target: TypeId,
+) -> Result<(), AllocError> {
+    let round = Route::Down(Items::from_slice(alloc, b"next")?);
+    let route = Route::Star(Boxed::new(alloc, round)?);
+    if has_room(types, owner, name) && target.0 < types.types() {
+        types.add_field(owner, name, FieldKind::Pointer(target, route))?;
+    }
+    Ok(())
+}
+
 /// `type Node = { data next: Node; }`, `type Dbl = { data next: Dbl; pointer prev: Dbl [^next]; }`,
 /// `type Tree = { } | leaf { } | node { data left: Tree; data right: Tree; }` and
 /// `type Mark = { bool on; } | cold { } | hot { bool up; pointer at: Node [^next]; }`.
-pub fn made_types(alloc: Global) -> Result<TypeTable, AllocError> {
+pub(crate) fn made_types(alloc: Global) -> Result<TypeTable, AllocError> {
     let mut types = TypeTable::new(alloc);
     for name in ["Node", "Dbl", "Tree", "Mark"] {
         add_type(&mut types, name.as_bytes())?;
@@ -115,17 +137,68 @@ pub fn made_types(alloc: Global) -> Result<TypeTable, AllocError> {
     }
     add_data(&mut types, Owner::Common(NODE), b"next", NODE)?;
     add_data(&mut types, Owner::Common(DBL), b"next", DBL)?;
-    add_pointer(alloc, &mut types, Owner::Common(DBL), b"prev", DBL)?;
+    add_back_pointer(alloc, &mut types, Owner::Common(DBL), b"prev", DBL)?;
     add_data(&mut types, Owner::Variant(second(TREE)), b"left", TREE)?;
     add_data(&mut types, Owner::Variant(second(TREE)), b"right", TREE)?;
     add_bool(&mut types, Owner::Common(MARK), b"on")?;
     add_bool(&mut types, Owner::Variant(second(MARK)), b"up")?;
-    add_pointer(alloc, &mut types, Owner::Variant(second(MARK)), b"at", NODE)?;
+    add_back_pointer(alloc, &mut types, Owner::Variant(second(MARK)), b"at", NODE)?;
+    Ok(types)
+}
+
+/// The types that a program declares.
+#[derive(Clone, Copy)]
+pub(crate) enum Declared {
+    /// None.
+    Nothing,
+    /// `type Node = { data next: Node; }`
+    Lists,
+    /// `type Dbl = { data next: Dbl; pointer prev: Dbl [^next]; }`
+    DoubleLists,
+    /// `type Node = { data next: Node; pointer p: Node [next*]; }`
+    PointedLists,
+    /// `type Tree = { } | leaf { } | node { data left: Tree; data right: Tree; }`
+    Trees,
+    /// Those of `made_types`.
+    Four,
+}
+
+/// A type with the data field `next` to its own cells.
+fn add_list(types: &mut TypeTable, name: &[u8]) -> Result<(), AllocError> {
+    add_type(types, name)?;
+    add_data(types, Owner::Common(ONLY), b"next", ONLY)
+}
+
+fn add_tree(types: &mut TypeTable) -> Result<(), AllocError> {
+    add_type(types, b"Tree")?;
+    add_variant(types, ONLY, b"leaf")?;
+    add_variant(types, ONLY, b"node")?;
+    add_data(types, Owner::Variant(second(ONLY)), b"left", ONLY)?;
+    add_data(types, Owner::Variant(second(ONLY)), b"right", ONLY)
+}
+
+/// The table of these types.
+pub(crate) fn declared_types(alloc: Global, declared: Declared) -> Result<TypeTable, AllocError> {
+    let mut types = TypeTable::new(alloc);
+    match declared {
+        Declared::Nothing => {}
+        Declared::Lists => add_list(&mut types, b"Node")?,
+        Declared::DoubleLists => {
+            add_list(&mut types, b"Dbl")?;
+            add_back_pointer(alloc, &mut types, Owner::Common(ONLY), b"prev", ONLY)?;
+        }
+        Declared::PointedLists => {
+            add_list(&mut types, b"Node")?;
+            add_forward_pointer(alloc, &mut types, Owner::Common(ONLY), b"p", ONLY)?;
+        }
+        Declared::Trees => add_tree(&mut types)?,
+        Declared::Four => return made_types(alloc),
+    }
     Ok(types)
 }
 
 /// The variables of these names and kinds.
-pub fn made_vars(alloc: Global, list: &[(&str, VarKind)]) -> Result<VarTable, AllocError> {
+pub(crate) fn made_vars(alloc: Global, list: &[(&str, VarKind)]) -> Result<VarTable, AllocError> {
     let mut vars = VarTable::new(alloc);
     for (name, kind) in list {
         if vars.find(name.as_bytes()).is_none() && vars.vars() < 9 {
@@ -136,7 +209,7 @@ pub fn made_vars(alloc: Global, list: &[(&str, VarKind)]) -> Result<VarTable, Al
 }
 
 /// A new cell of the variant; `None` where there is none of it.
-pub fn put(
+pub(crate) fn put(
     store: &mut Store,
     types: &TypeTable,
     v: VariantId,
@@ -157,26 +230,26 @@ fn is_alike(old: Option<&Value>, value: &Value) -> bool
     }
 }
 
-pub fn set_field(store: &mut Store, c: CellId, f: FieldId, value: Value) {
+pub(crate) fn set_field(store: &mut Store, c: CellId, f: FieldId, value: Value) {
     if is_alike(store.field(c, f), &value) {
         store.set_field(c, f, value);
     }
 }
 
-pub fn set_var(store: &mut Store, v: VarId, value: Value) {
+pub(crate) fn set_var(store: &mut Store, v: VarId, value: Value) {
     if is_alike(store.var(v), &value) {
         store.set_var(v, value);
     }
 }
 
-pub fn remove(store: &mut Store, c: CellId) {
+pub(crate) fn remove(store: &mut Store, c: CellId) {
     if store.type_of(c).is_some() {
         store.remove(c);
     }
 }
 
 /// The set of a cell.
-pub fn set_with(alloc: Global, c: CellId) -> Result<CellList, AllocError> {
+pub(crate) fn set_with(alloc: Global, c: CellId) -> Result<CellList, AllocError> {
     let mut cells = CellList::new(alloc);
     if cells.is_empty() {
         cells.push(c)?;

@@ -1,17 +1,17 @@
-//! Store texts, and what is read of them.
+//! Store texts, and what is told of them.
 
-use super::made::{DBL, NODE, TREE};
-use crate::VarKind;
+use crate::made::NODE;
+use store_core::VarKind;
 
 /// `data x: Node`, `set S: Node` and `bool b`.
-pub static VARS: &[(&str, VarKind)] = &[
+pub(crate) static VARS: &[(&str, VarKind)] = &[
     ("x", VarKind::Data(NODE)),
     ("S", VarKind::LogicSet(NODE)),
     ("b", VarKind::Bool),
 ];
 
 /// The second line of a text whose first is `store`, and the kind of its fault.
-pub static LINES: &[(&str, &str)] = &[
+pub(crate) static LINES: &[(&str, &str)] = &[
     ("", "syntax"),
     ("store", "syntax"),
     ("end ", "syntax"),
@@ -88,7 +88,7 @@ pub static LINES: &[(&str, &str)] = &[
 ];
 
 /// A text, and the text of the store that it spells or its fault.
-pub static TEXTS: &[(&str, &str)] = &[
+pub(crate) static TEXTS: &[(&str, &str)] = &[
     ("", "1 missing"),
     ("\n", "1 syntax"),
     ("stores\n", "1 syntax"),
@@ -140,41 +140,5 @@ pub static TEXTS: &[(&str, &str)] = &[
     (
         "store\nvar b true\nvar S {}\nvar x null\ncell 2 Tree:node right=1 left=null\ncell 1 Tree:leaf\nend\n",
         "store\nvar x null\nvar S {}\nvar b true\ncell 1 Tree:leaf\ncell 2 Tree:node left=null right=1\nend\n",
-    ),
-];
-
-const BOOLS: &[(&str, VarKind)] = &[
-    ("a", VarKind::Bool),
-    ("b", VarKind::Bool),
-    ("v", VarKind::LogicBool),
-];
-
-const NODES: &[(&str, VarKind)] = &[
-    ("x", VarKind::Data(NODE)),
-    ("q", VarKind::Pointer(NODE)),
-    ("t", VarKind::Data(NODE)),
-];
-
-const OTHERS: &[(&str, VarKind)] = &[("d", VarKind::Data(DBL)), ("r", VarKind::Data(TREE))];
-
-/// A written store text over these variables.
-pub static STORES: &[(&[(&str, VarKind)], &str)] = &[
-    (BOOLS, "store\nvar a true\nvar b false\nvar v true\nend\n"),
-    (NODES, "store\nvar x null\nvar q null\nvar t null\nend\n"),
-    (
-        NODES,
-        "store\nvar x 1\nvar q null\nvar t null\ncell 1 Node next=2\ncell 2 Node next=null\nend\n",
-    ),
-    (
-        NODES,
-        "store\nvar x 1\nvar q 1\nvar t null\ncell 1 Node next=null\nend\n",
-    ),
-    (
-        OTHERS,
-        "store\nvar d 1\nvar r null\ncell 1 Dbl next=null prev=null\nend\n",
-    ),
-    (
-        OTHERS,
-        "store\nvar d null\nvar r 1\ncell 1 Tree:leaf\nend\n",
     ),
 ];
