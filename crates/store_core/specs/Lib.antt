@@ -1,4 +1,5 @@
 pub mod Tables
+pub mod Dropping
 pub mod TypeBodies
 pub mod VarBodies
 pub mod CellLists

@@ -8,6 +8,8 @@ mod made;
 #[cfg(test)]
 mod reading;
 #[cfg(test)]
+mod routes;
+#[cfg(test)]
 mod texts_told;
 #[cfg(test)]
 mod written;

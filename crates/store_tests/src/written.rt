@@ -2,8 +2,6 @@
 
 mod stores;
 
-ghost use Rattle.std.specs.Prelude.{◌<◌, length};
-
 use crate::made::{Declared, declared_types, made_vars};
 use crate::reading::told;
 use std::alloc::{AllocError, Global};
