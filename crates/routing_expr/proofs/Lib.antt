@@ -19,3 +19,4 @@ pub mod RangeLemmas
 pub mod IndexLemmas
 pub mod StepLemmas
 pub mod SpotLemmas
+pub mod KnownLemmas
