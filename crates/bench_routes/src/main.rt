@@ -1,0 +1,42 @@
+//! Asks in rounds whether a store is well-formed, and for the destinations of a route from its first cell; prints counts alone.
+//! Its words: `list` for a doubly linked list or `tree` for a tree with parent pointers, how many cells, and how many rounds of
+//! each.
+#![tactic(auto)]
+
+mod rounds;
+mod shapes;
+
+use crate::rounds::run;
+use crate::shapes::Shape;
+use anyhow::{Context, Result, bail, ensure};
+use std::env;
+
+fn number(words: &mut env::Args, name: &str) -> Result<u32> {
+    let word = words.next().context(format_args!("no {name}"))?;
+    word.as_str().parse::<u32>().context(format_args!("{name}"))
+}
+
+fn shape(words: &mut env::Args) -> Result<Shape> {
+    let word = words.next().context("no shape")?;
+    match word.as_str() {
+        "list" => Ok(Shape::List),
+        "tree" => Ok(Shape::Tree),
+        other => bail!("no shape {other:?}"),
+    }
+}
+
+fn main(rt: HostRuntime) -> Result<()> {
+    let mut words = env::args(&rt)?;
+    let _program = words.next();
+    let shape = shape(&mut words)?;
+    let cells = number(&mut words, "cells")?;
+    let judged = number(&mut words, "rounds of judging")?;
+    let searched = number(&mut words, "rounds of searching")?;
+    ensure!(0 < cells && cells <= 1_000_000, "{cells} cells");
+    let report = run(rt.alloc(), shape, cells, judged, searched)?;
+    let live = report.live;
+    let found = report.found;
+    let told = if report.well { "well-formed" } else { "faulty" };
+    println!(rt; "{live} cells, {told}, {found} destinations")?;
+    Ok(())
+}
