@@ -1,9 +1,8 @@
 -- A store that fits its tables is well-formed where it has no fault.
-use Rattle.std.proofs.Common.{◌≡◌, ◌⊎◌, ◌↔◌, ℕ, ◌<◌, List, length, get_or, Option, Some, None, IsSomeAnd, IfSome, refl, sym, ap, ◌∙◌, subst, inl, inr}
-use Rattle.std.specs.Prelude.{Any, All}
+use Rattle.std.proofs.Common.{◌≡◌, ◌⊎◌, ℕ, List, get_or, Option, Some, None, IsSomeAnd, IfSome, refl, sym, ap, ◌∙◌, subst, inl, inr}
 use Rattle.std.proofs.lemmas.Bool.{cases_eq}
 use Rattle.std.proofs.lemmas.List.{get_or_default}
-use Rattle.std.proofs.lemmas.List.Elements.{All-from_recursion, All-contains, Contains-get_or}
+use Rattle.std.proofs.lemmas.List.Elements.{All-from_recursion, All-contains}
 use Rattle.store_core.specs.declared.ids.TypeId.{TypeId}
 use Rattle.store_core.specs.declared.ids.VarId.{VarId}
 use Rattle.store_core.specs.declared.ids.FieldId.{FieldId}
@@ -19,8 +18,8 @@ use Rattle.store_core.specs.Stores.{StoreMap, CellEntry, cell_of, field_value, v
 use Rattle.routing_expr.specs.declared.fault.Place.{Place}
 use Rattle.routing_expr.specs.declared.fault.Place.TheVariants as place
 use Rattle.routing_expr.specs.Walks.{IsOfType}
-use Rattle.routing_expr.specs.Destinations.{EndsKind, Dest, IsOnlyDestination, IsPointer}
-use Rattle.routing_expr.specs.WellFormed.{value_at, Names, NamesDead, HoldsDead, IsDangling, IsShared, IsLeaked, IsWrongField, HoldsOfType, VarHoldsLive, FieldHoldsLive, SetHoldsLive, IsBackbone, IsWellFormed}
+use Rattle.routing_expr.specs.Destinations.{EndsKind, IsOnlyDestination, IsPointer}
+use Rattle.routing_expr.specs.WellFormed.{NamesDead, HoldsDead, IsDangling, IsShared, IsLeaked, IsWrongField, VarHoldsLive, FieldHoldsLive, SetHoldsLive, IsWellFormed}
 use Rattle.routing_expr.specs.Reaching.{IsInSomeTree}
 use Rattle.routing_expr.specs.Judging.{IsRightField}
 use Rattle.routing_expr.proofs.FittingLemmas.{IfSome-from, IfSome-at, IsSomeAnd-at, var_at_value, slot_at_value}

@@ -1,13 +1,12 @@
 -- What stands at the places of a store that fits its tables.
-use Rattle.std.proofs.Common.{◌≡◌, ℕ, zero, suc, Bool, true, false, cond, nat_eq, List, [], ◌∷◌, slice_get, Option, Some, None, IsSomeAnd, IfSome, refl, sym, ap, ◌∙◌, subst, inl, inr}
+use Rattle.std.proofs.Common.{◌≡◌, ℕ, zero, suc, Bool, true, false, cond, nat_eq, List, [], ◌∷◌, slice_get, Option, Some, None, IsSomeAnd, IfSome, refl, ap, subst, inl, inr}
 use Rattle.std.specs.Option.{option_and_then}
 use Rattle.std.proofs.lemmas.Bool.{cases_eq, ne_eqb}
-use Rattle.store_core.specs.declared.ids.TypeId.{TypeId}
 use Rattle.store_core.specs.declared.ids.VarId.{VarId}
 use Rattle.store_core.specs.declared.ids.FieldId.{FieldId}
 use Rattle.store_core.specs.declared.ids.CellId.{CellId}
 use Rattle.store_core.specs.declared.value.Value.{Value}
-use Rattle.store_core.specs.Tables.{TypeEntry, FieldEntry, VarEntry, field_at, var_at, fields_of}
+use Rattle.store_core.specs.Tables.{TypeEntry, FieldEntry, VarEntry, fields_of}
 use Rattle.store_core.specs.Stores.{StoreMap, CellEntry, cell_of, field_of, field_value, var_value, FieldFits, VarFits, SlotsFit, CellFits, VarsFit, Fits}
 
 -- what is shown of each value in a `Some`

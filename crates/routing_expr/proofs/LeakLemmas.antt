@@ -1,5 +1,5 @@
 -- What a search from the data variables along the data fields has reached.
-use Rattle.std.proofs.Common.{◌≡◌, ◌⊎◌, ◌↔◌, ℕ, zero, suc, ◌+◌, ◌<◌, ◌≤◌, List, [], ◌∷◌, ◌++◌, length, slice_get, Option, Some, None, IsSome, IfSome, IsSomeAnd, refl, sym, ap, ◌∙◌, subst, arith, inl, inr}
+use Rattle.std.proofs.Common.{◌≡◌, ◌⊎◌, ◌↔◌, ℕ, zero, suc, ◌+◌, ◌<◌, ◌≤◌, List, [], ◌∷◌, ◌++◌, length, slice_get, Option, Some, None, IfSome, IsSomeAnd, refl, sym, ap, ◌∙◌, subst, arith, inl, inr}
 use Rattle.std.specs.Prelude.{option_map, Contains}
 use Rattle.std.specs.FinMap.{keys}
 use Rattle.std.proofs.lemmas.Bool.{cases_lt}
@@ -8,15 +8,14 @@ use Rattle.store_core.specs.declared.ids.TypeId.{TypeId}
 use Rattle.store_core.specs.declared.ids.VarId.{VarId}
 use Rattle.store_core.specs.declared.ids.FieldId.{FieldId}
 use Rattle.store_core.specs.declared.ids.CellId.{CellId}
-use Rattle.store_core.specs.Tables.{TypeEntry, VarEntry, var_at, fields_of}
-use Rattle.store_core.specs.Stores.{StoreMap, CellEntry, IsLive, CellFits, cell_of}
-use Rattle.routing_expr.specs.declared.fault.Place.{Place}
+use Rattle.store_core.specs.Tables.{TypeEntry, VarEntry, fields_of}
+use Rattle.store_core.specs.Stores.{StoreMap, CellEntry, IsLive, cell_of}
 use Rattle.routing_expr.specs.declared.fault.Place.TheVariants as place
 use Rattle.routing_expr.specs.declared.leak.Reach.{Reach}
 use Rattle.routing_expr.specs.Walks.{DataAlone, IsParent, Chain, stay, go}
-use Rattle.routing_expr.specs.WellFormed.{Names, IsInTree, IsLeaked, IsFirstCell}
+use Rattle.routing_expr.specs.WellFormed.{Names, IsLeaked, IsFirstCell}
 use Rattle.routing_expr.specs.Sets.{Has}
-use Rattle.routing_expr.specs.Reaching.{IsRootCell, IsChild, IsInSomeTree, Reaches, IsReach, size_of}
+use Rattle.routing_expr.specs.Reaching.{IsRootCell, IsChild, IsInSomeTree, Reaches, IsReach}
 use Rattle.std.proofs.lemmas.List.Elements.{Contains-push, Contains-push_cases, Contains-append_left}
 use Rattle.routing_expr.proofs.LiveLemmas.{Leads-live}
 use Rattle.routing_expr.proofs.KeyLemmas.{key_of_live, live_of_key}

@@ -8,7 +8,7 @@ use Rattle.store_core.specs.declared.ids.CellId.{CellId}
 use Rattle.store_core.specs.declared.kind.Route.{Route}
 use Rattle.store_core.specs.declared.kind.Route.TheVariants as route
 use Rattle.store_core.specs.Tables.{TypeEntry}
-use Rattle.store_core.specs.Stores.{StoreMap, IsLive}
+use Rattle.store_core.specs.Stores.{StoreMap}
 use Rattle.routing_expr.specs.Walks.{Fields, Chain, stay, go as go_round, Walk}
 use Rattle.routing_expr.specs.declared.machine.Edge.{Edge}
 use Rattle.routing_expr.specs.declared.machine.Part.{Part}

@@ -1,6 +1,5 @@
 -- Cells that are named twice.
-use Rattle.std.proofs.Common.{◌≡◌, ◌⊎◌, ◌↔◌, ℕ, ◌+◌, ◌<◌, ◌≤◌, Bool, true, false, not, List, length, get_or, slice_get, Option, Some, None, IsSome, IsSomeAnd, is_some, refl, sym, ap, ◌∙◌, subst, arith, inl, inr}
-use Rattle.std.specs.Prelude.{option_map, Contains}
+use Rattle.std.proofs.Common.{◌≡◌, ◌⊎◌, ◌↔◌, ℕ, ◌+◌, ◌<◌, ◌≤◌, List, length, get_or, slice_get, Option, Some, None, IsSome, IsSomeAnd, refl, sym, ap, ◌∙◌, subst, arith, inl, inr}
 use Rattle.std.proofs.lemmas.Bool.{cases_order, cases_lt}
 use Rattle.std.proofs.lemmas.Option.{slice_get-get_or, slice_get_within, get_or_from_slice_get}
 use Rattle.store_core.specs.declared.ids.CellId.{CellId}
@@ -8,9 +7,8 @@ use Rattle.store_core.specs.Tables.{TypeEntry, VarEntry}
 use Rattle.store_core.specs.Stores.{StoreMap, IsLive}
 use Rattle.routing_expr.specs.declared.fault.Place.{Place}
 use Rattle.routing_expr.specs.declared.shared.Named.{Named}
-use Rattle.routing_expr.specs.WellFormed.{Names, ComesBefore, IsShared, value_at}
+use Rattle.routing_expr.specs.WellFormed.{Names, ComesBefore, IsShared}
 use Rattle.routing_expr.specs.Places.{IsThere, ArePlaces}
-use Rattle.routing_expr.specs.Sets.{Has}
 use Rattle.routing_expr.specs.Naming.{NamesLive, NamesAt, IsNamedBelow, IsNamedTwiceBelow, Counts}
 use Rattle.routing_expr.proofs.PlaceLemmas.{not_itself}
 

@@ -1,11 +1,9 @@
 -- A search finds what can be reached, each once, and lists it by number.
-use Rattle.std.proofs.Common.{◌≡◌, ◌↔◌, ◌⊎◌, inl, inr, ◌<◌, ◌≤◌, ◌+◌, ◌-◌, ◌&&◌, ◌++◌, ◌∷◌, [], ℕ, zero, suc, Bool, true, false, eqb, List, map, length, get_or, take, Option, Some, None, Result, Ok, Err, OnOk, if◌then◌else◌, refl, sym, ap, ◌∙◌, subst, arith, slice_get, eqb-true, Contains}
+use Rattle.std.proofs.Common.{◌≡◌, ◌↔◌, ◌⊎◌, inl, inr, ◌<◌, ◌≤◌, ◌+◌, ◌-◌, ◌&&◌, ◌++◌, ◌∷◌, [], ℕ, zero, suc, Bool, true, false, eqb, List, map, length, get_or, Option, Some, None, Result, Ok, Err, OnOk, if◌then◌else◌, refl, sym, ap, ◌∙◌, subst, arith, slice_get, eqb-true, Contains}
 use Rattle.std.specs.List.{list_any, AllByRecursion}
 use Rattle.std.specs.List.Sorted.{IsNonDecreasingBy, IsPermutation}
-use Rattle.std.proofs.lemmas.Bool.{false≢true, cases_lt}
+use Rattle.std.proofs.lemmas.Bool.{false≢true}
 use Rattle.std.proofs.lemmas.Option.{slice_get_within, slice_get-get_or, get_or_from_slice_get, same_Some}
-use Rattle.std.proofs.lemmas.List.{length-append}
-use Rattle.std.proofs.lemmas.List.Elements.{Contains-append_left}
 use Rattle.std.proofs.lemmas.List.Sorted.{Contains-permutation, IsPermutation-sym}
 use Rattle.indexmap.specs.IndexSet.{insert_key}
 use Rattle.indexmap.proofs.CallerLemmas.{Contains-list_any}
@@ -15,17 +13,16 @@ use Rattle.store_core.specs.declared.kind.Route.{Route}
 use Rattle.store_core.specs.CellLists.{AreRising}
 use Rattle.store_core.specs.Tables.{TypeEntry}
 use Rattle.store_core.specs.Stores.{StoreMap}
-use Rattle.store_core.proofs.Bodies.{AllByRecursion-at}
 use Rattle.store_core.proofs.Rising.{AreRising-push}
 use Rattle.routing_expr.specs.declared.search.Spot.{Spot}
 use Rattle.routing_expr.specs.declared.machine.Edge.{Edge}
 use Rattle.routing_expr.specs.contracts.search.SpotPartialEq.TheImpl as spot_eq
 use Rattle.routing_expr.specs.Walks.{Fields, Walk}
-use Rattle.routing_expr.specs.Gathering.{Gathers, HasAll, Before, Grows}
+use Rattle.routing_expr.specs.Gathering.{HasAll, Before, Grows}
 use Rattle.routing_expr.specs.Searches.{Lists, IsWanted}
 use Rattle.routing_expr.specs.Machines.{Arc, arc_of, label_of, Takes, Path, stop, go, Means}
 use Rattle.routing_expr.specs.Spots.{Follows, IsAtEnd}
-use Rattle.routing_expr.proofs.GatheringLemmas.{below_suc, Contains-at, place_in, Contains-one, Contains-here, Contains-cases, Contains-there, Contains-map, map-Contains, Gathers-push, Gathers-none}
+use Rattle.routing_expr.proofs.GatheringLemmas.{below_suc, Contains-at, place_in, Contains-one, Contains-here, Contains-there, Contains-map, map-Contains, Gathers-push}
 use Rattle.routing_expr.proofs.MachineLemmas.{Path-then}
 
 -- what is read past the end of a list of spots

@@ -1,10 +1,8 @@
 -- Where single steps lead, by names and by the index of links.
-use Rattle.std.proofs.Common.{◌≡◌, ◌↔◌, ◌⊎◌, inl, inr, ◌<◌, ◌≤◌, ◌+◌, ℕ, Bool, true, false, IsTrue, Result, Ok, Err, IfOk, List, [], map, length, get_or, Option, Some, None, IsSome, IsSomeAnd, refl, sym, ap, ◌∙◌, subst, arith, slice_get, Contains, position}
+use Rattle.std.proofs.Common.{◌≡◌, ◌↔◌, ◌<◌, ◌≤◌, ℕ, Bool, true, false, IsTrue, Result, Ok, Err, IfOk, List, [], length, get_or, Option, Some, None, IsSomeAnd, refl, sym, ap, ◌∙◌, subst, arith, slice_get, Contains}
 use Rattle.std.specs.Option.{option_map, option_map_or}
-use Rattle.std.specs.List.{AllByRecursion}
 use Rattle.std.specs.Str.{bytes_eq}
 use Rattle.std.proofs.lemmas.Option.{slice_get_within, slice_get-get_or, slice_get-map, same_Some}
-use Rattle.std.proofs.lemmas.Cmp.{nat_list_eq_equiv}
 use Rattle.std.proofs.lemmas.Slice.Eq.{bytes_eq-Decides}
 use Rattle.std.proofs.lemmas.List.Quantifiers.{position-Some}
 use Rattle.std.specs.Bool.{Decides}
@@ -22,7 +20,7 @@ use Rattle.routing_expr.specs.declared.machine.Test.{Test}
 use Rattle.routing_expr.specs.declared.machine.Test.TheVariants as test
 use Rattle.routing_expr.specs.Machines.{label_of_test, Takes}
 use Rattle.routing_expr.proofs.WalkLemmas.{Walk-Root, Walk-Leaf, Walk-IsType, Walk-IsVariant, Walk-IsBool}
-use Rattle.routing_expr.specs.Walks.{Fields, Stays, DataAlone, DataAndPointers, IsFollowed, Leads, LeadsByName, IsParent, IsNamed}
+use Rattle.routing_expr.specs.Walks.{Fields, Stays, DataAlone, IsFollowed, Leads, LeadsByName, IsParent, IsNamed}
 use Rattle.routing_expr.specs.Gathering.{HasAll, Before}
 use Rattle.routing_expr.specs.Searches.{IsLink}
 use Rattle.routing_expr.proofs.GatheringLemmas.{Contains-at, place_in}

@@ -1,5 +1,5 @@
 -- What a search is asked for, and the index that it uses.
-use Rattle.std.specs.Prelude.{◌≡◌, ◌↔◌, List, Option, Some, None, Contains}
+use Rattle.std.specs.Prelude.{◌↔◌, List, Option, Some, None, Contains}
 use Rattle.store_core.specs.declared.ids.TypeId.{TypeId}
 use Rattle.store_core.specs.declared.ids.CellId.{CellId}
 use Rattle.store_core.specs.CellLists.{AreRising}

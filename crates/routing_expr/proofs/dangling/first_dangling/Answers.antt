@@ -1,5 +1,4 @@
-use Rattle.std.proofs.Common.{arith, rules, Some, None, IsSome, IsSomeAnd, Option, inl, inr, refl}
-use Rattle.store_core.specs.declared.value.Value.{Value}
+use Rattle.std.proofs.Common.{arith, inl, inr}
 use Rattle.store_core.specs.Stores.{StoreMap}
 use Rattle.routing_expr.specs.declared.fault.Place.{Place}
 use Rattle.routing_expr.specs.WellFormed.{IsDangling, value_at}

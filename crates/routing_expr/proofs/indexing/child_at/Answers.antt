@@ -1,4 +1,4 @@
-use Rattle.std.proofs.Common.{◌≡◌, refl, sym, ap, ◌∙◌, subst, Some, None}
+use Rattle.std.proofs.Common.{◌≡◌, refl, sym, ◌∙◌, subst, Some, None}
 use Rattle.std.proofs.lemmas.Option.{same_Some}
 use Rattle.store_core.specs.declared.ids.CellId.{CellId}
 use Rattle.store_core.specs.Stores.{CellEntry, IsLive, cell_of}

@@ -1,5 +1,4 @@
-use Rattle.std.proofs.Common.{◌≡◌, ◌∙◌, ap, sym, subst, arith, List, ◌++◌, ◌∷◌, []}
-use Rattle.routing_expr.specs.declared.links.Link.{Link}
+use Rattle.std.proofs.Common.{◌≡◌, ◌∙◌, ap, sym, subst, arith, ◌++◌, ◌∷◌, []}
 use Rattle.routing_expr.specs.Gathering.{Gathers}
 use Rattle.routing_expr.proofs.GatheringLemmas.{Gathers-none, Gathers-start, Gathers-next, Gathers-push, Gathers-alike}
 use Rattle.routing_expr.proofs.IndexLemmas.{LinkAt, LinkAt-child, LinkAt-none, LinkAt-all, link}

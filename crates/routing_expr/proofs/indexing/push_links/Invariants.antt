@@ -1,5 +1,3 @@
-use Rattle.std.proofs.Common.{◌≡◌, ◌<◌}
-use Rattle.routing_expr.specs.declared.links.Link.{Link}
 use Rattle.routing_expr.specs.Gathering.{Gathers, Before}
 use Rattle.routing_expr.proofs.IndexLemmas.{LinkAt}
 use Rattle.routing_expr.proofs.indexing.push_links.Given as goal

@@ -1,7 +1,6 @@
-use Rattle.std.proofs.Common.{◌∙◌, sym, arith, inl, inr}
+use Rattle.std.proofs.Common.{sym, arith, inl, inr}
 use Rattle.std.specs.Prelude.{Contains}
-use Rattle.routing_expr.specs.Places.{IsThere, IsFieldBelow, IsFieldOf}
-use Rattle.routing_expr.proofs.PlaceLemmas.{listing_alike, fields_step, fields_all, before_field, no_field}
+use Rattle.routing_expr.proofs.PlaceLemmas.{listing_alike, fields_step, fields_all, before_field}
 use Rattle.routing_expr.proofs.places.add_fields.Goals as goal
 
 pub add_field-requires-clause-before : goal.add_field-requires-clause-before

@@ -1,4 +1,4 @@
-use Rattle.std.proofs.Common.{◌≡◌, ◌<◌, ℕ, ◌∙◌, refl, sym, ap, subst, arith, inl, inr, Some, None, length, slice_get, Option, get_or}
+use Rattle.std.proofs.Common.{◌≡◌, ℕ, ◌∙◌, refl, sym, ap, arith, inl, inr, Some, None, length, Option}
 use Rattle.std.specs.Prelude.{option_map}
 use Rattle.std.specs.FinMap.{keys}
 use Rattle.std.proofs.lemmas.Option.{slice_get-get_or}

@@ -1,4 +1,4 @@
-use Rattle.std.proofs.Common.{refl, sym, subst, arith, length, ◌∙◌, ◌+◌}
+use Rattle.std.proofs.Common.{refl, sym, subst, arith, ◌+◌}
 use Rattle.routing_expr.specs.Places.{IsListing, IsVarBelow}
 use Rattle.routing_expr.proofs.PlaceLemmas.{vars_step}
 use Rattle.routing_expr.proofs.places.list_vars.Goals as goal

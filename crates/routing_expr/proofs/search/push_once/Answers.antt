@@ -1,4 +1,4 @@
-use Rattle.std.proofs.Common.{◌≡◌, ◌<◌, ◌≤◌, ◌-◌, length, sym, ap, ◌∙◌, arith, Some}
+use Rattle.std.proofs.Common.{◌≡◌, ◌<◌, ◌≤◌, ◌-◌, length, sym, ◌∙◌, arith, Some}
 use Rattle.store_core.specs.declared.ids.CellId.{CellId}
 use Rattle.store_core.proofs.Bodies.{AllByRecursion-at}
 use Rattle.routing_expr.proofs.GatheringLemmas.{Contains-at}

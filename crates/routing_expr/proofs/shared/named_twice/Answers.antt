@@ -1,6 +1,5 @@
-use Rattle.std.proofs.Common.{◌↔◌, ◌∙◌, sym, refl, subst, arith, inl, inr, slice_get, Some, get_or}
+use Rattle.std.proofs.Common.{arith, inl, inr}
 use Rattle.std.proofs.lemmas.Option.{slice_get-get_or}
-use Rattle.store_core.specs.declared.ids.CellId.{CellId}
 use Rattle.routing_expr.proofs.SharedLemmas.{below_step, twice_step, twice_all}
 use Rattle.routing_expr.proofs.shared.named_twice.Goals as goal
 

@@ -1,4 +1,4 @@
-use Rattle.std.proofs.Common.{◌≡◌, ◌↔◌, ◌∙◌, sym, ap, subst, Some, IsTrue}
+use Rattle.std.proofs.Common.{◌↔◌, ◌∙◌, sym, ap, subst, Some, IsTrue}
 use Rattle.routing_expr.specs.Judging.{IsOnly}
 use Rattle.routing_expr.proofs.JudgeLemmas.{wrong_from, right_from}
 use Rattle.routing_expr.proofs.wrong_field.is_wrong_field.Goals as goal

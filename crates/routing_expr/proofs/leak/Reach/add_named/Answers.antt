@@ -1,7 +1,6 @@
-use Rattle.std.proofs.Common.{◌≡◌, ◌∙◌, ap, sym, Some, None, Option}
+use Rattle.std.proofs.Common.{◌∙◌, ap, sym, Some}
 use Rattle.std.proofs.lemmas.Option.{same_Some, none-some}
 use Rattle.std.proofs.lemmas.Result.{on_ok_weaker}
-use Rattle.store_core.specs.declared.ids.CellId.{CellId}
 use Rattle.routing_expr.proofs.LeakLemmas.{reaches_none, reaches_alike}
 use Rattle.routing_expr.proofs.leak.Reach.add_named.Goals as goal
 

@@ -1,4 +1,4 @@
-use Rattle.std.proofs.Common.{rules, arith, ◌≡◌, sym, subst, []}
+use Rattle.std.proofs.Common.{rules, arith, sym, subst, []}
 use Rattle.std.proofs.lemmas.List.Sorted.{IsNonDecreasingBy-from_sort_by_key}
 use Rattle.routing_expr.specs.declared.links.Link.{Link}
 use Rattle.routing_expr.specs.Gathering.{Gathers, Before}

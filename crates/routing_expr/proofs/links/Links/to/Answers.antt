@@ -1,5 +1,5 @@
-use Rattle.std.proofs.Common.{rules, arith, ◌≡◌, ◌≤◌, ◌-◌, take, drop, ◌↔◌, List, subst, sym, ap, ◌∙◌, Contains, ltb, leb, true, false}
-use Rattle.std.specs.List.Sorted.{IsPartitionPoint, IsNonDecreasingBy}
+use Rattle.std.proofs.Common.{rules, arith, ◌≡◌, ◌≤◌, ◌-◌, take, drop, subst, sym, Contains, ltb, leb}
+use Rattle.std.specs.List.Sorted.{IsNonDecreasingBy}
 use Rattle.std.proofs.lemmas.List.Sorted.{IsPartitionPoint-from_clause, IsPartitionedBy-leb, IsPartitionedBy-ltb}
 use Rattle.routing_expr.specs.declared.links.Link.{Link}
 use Rattle.routing_expr.specs.Gathering.{HasAll}

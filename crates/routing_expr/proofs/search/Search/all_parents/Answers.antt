@@ -3,7 +3,7 @@ use Rattle.std.proofs.lemmas.Bool.{false≢true}
 use Rattle.std.proofs.lemmas.Option.{slice_get-get_or}
 use Rattle.routing_expr.specs.Gathering.{Gathers, Before}
 use Rattle.routing_expr.specs.Searches.{fields_in}
-use Rattle.routing_expr.proofs.GatheringLemmas.{Gathers-none, Gathers-start, Gathers-next, Gathers-push, Gathers-alike, HasAll-gathered, HasAll-alike}
+use Rattle.routing_expr.proofs.GatheringLemmas.{Gathers-none, Gathers-next, Gathers-push, Gathers-alike, HasAll-gathered, HasAll-alike}
 use Rattle.routing_expr.proofs.StepLemmas.{LinkOf, LinkOf-one, LinkOf-not, LinkOf-parents, IsData, no_link}
 use Rattle.routing_expr.proofs.search.Search.all_parents.Goals as goal
 use Rattle.routing_expr.proofs.search.Search.all_parents.Goals.{then-is_data+in_ok-push, else-is_data}

@@ -1,7 +1,6 @@
 use Rattle.std.proofs.Common.{◌≡◌, sym, subst, get_or}
 use Rattle.std.proofs.lemmas.Option.{slice_get-get_or}
-use Rattle.store_core.specs.declared.ids.CellId.{CellId}
-use Rattle.routing_expr.specs.Gathering.{Grows, Before, HasAll}
+use Rattle.routing_expr.specs.Gathering.{Grows, HasAll}
 use Rattle.routing_expr.specs.Searches.{fields_in}
 use Rattle.routing_expr.specs.Machines.{label_of, Takes}
 use Rattle.routing_expr.proofs.GatheringLemmas.{Grows-start, Grows-next, Grows-alike}

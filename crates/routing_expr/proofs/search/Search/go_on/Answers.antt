@@ -1,4 +1,3 @@
-use Rattle.std.proofs.Common.{get_or}
 use Rattle.std.proofs.lemmas.Option.{slice_get-get_or}
 use Rattle.routing_expr.specs.Searches.{fields_in}
 use Rattle.routing_expr.proofs.GatheringLemmas.{Grows-start, Grows-next, Grows-alike}

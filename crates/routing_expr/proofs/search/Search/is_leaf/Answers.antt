@@ -1,7 +1,6 @@
 use Rattle.std.proofs.Common.{◌≡◌, Option, Some, None, is_some, true, sym, subst, refl, arith}
 use Rattle.std.proofs.lemmas.Bool.{false≢true}
 use Rattle.store_core.specs.declared.ids.CellId.{CellId}
-use Rattle.std.proofs.lemmas.Option.{same_Some}
 use Rattle.store_core.specs.Stores.{CellEntry, cell_of}
 use Rattle.routing_expr.specs.Walks.{Leads, DataAlone}
 use Rattle.routing_expr.proofs.IndexLemmas.{Leads-field, live-mapped}

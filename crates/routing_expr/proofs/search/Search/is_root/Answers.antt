@@ -1,4 +1,4 @@
-use Rattle.std.proofs.Common.{◌≡◌, Option, Some, None, IsSome, is_some, true, sym, ap, ◌∙◌, subst, refl, arith, get_or, inl, inr}
+use Rattle.std.proofs.Common.{◌≡◌, Option, Some, None, IsSome, is_some, true, sym, ap, ◌∙◌, subst, refl, get_or, inl, inr}
 use Rattle.std.specs.Option.{option_map}
 use Rattle.std.proofs.lemmas.Bool.{false≢true}
 use Rattle.std.proofs.lemmas.Option.{slice_get-get_or}

@@ -1,4 +1,4 @@
-use Rattle.std.proofs.Common.{◌≡◌, ◌↔◌, IfOk, sym, subst, refl, ap, Some, None}
+use Rattle.std.proofs.Common.{◌≡◌, IfOk, sym, subst, refl, ap, Some, None}
 use Rattle.std.proofs.lemmas.Bool.{false≢true}
 use Rattle.std.proofs.lemmas.Option.{same_Some}
 use Rattle.store_core.specs.declared.ids.CellId.{CellId}

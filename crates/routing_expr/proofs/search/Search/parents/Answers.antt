@@ -5,7 +5,7 @@ use Rattle.store_core.specs.declared.ids.FieldId.{FieldId}
 use Rattle.routing_expr.specs.Walks.{IsNamed}
 use Rattle.routing_expr.specs.Gathering.{Gathers, Before}
 use Rattle.routing_expr.specs.Searches.{fields_in}
-use Rattle.routing_expr.proofs.GatheringLemmas.{Gathers-none, Gathers-start, Gathers-next, Gathers-push, Gathers-alike, HasAll-gathered, HasAll-alike}
+use Rattle.routing_expr.proofs.GatheringLemmas.{Gathers-none, Gathers-next, Gathers-push, Gathers-alike, HasAll-gathered, HasAll-alike}
 use Rattle.routing_expr.proofs.StepLemmas.{LinkOf, LinkOf-one, LinkOf-not, LinkOf-named, no_link}
 use Rattle.routing_expr.proofs.search.Search.parents.Goals as goal
 use Rattle.routing_expr.proofs.search.Search.parents.Goals.{then-is_named+in_ok-push, else-is_named}

@@ -1,4 +1,4 @@
-use Rattle.std.proofs.Common.{◌≡◌, ◌↔◌, IsTrue, sym, subst}
+use Rattle.std.proofs.Common.{◌↔◌, IsTrue, sym, subst}
 use Rattle.routing_expr.specs.Searches.{fields_in}
 use Rattle.routing_expr.specs.Walks.{IsRoot, IsLeaf, IsOfType, IsOfVariant, HasTruth}
 use Rattle.routing_expr.specs.Machines.{label_of_test, Takes}

@@ -1,4 +1,4 @@
-use Rattle.std.proofs.Common.{◌≡◌, ◌≤◌, ◌∙◌, ap, sym, subst, map, length, arith}
+use Rattle.std.proofs.Common.{◌∙◌, ap, sym, map, arith}
 use Rattle.indexmap.specs.IndexSet.{insert_key}
 use Rattle.routing_expr.specs.Searches.{fields_in}
 use Rattle.routing_expr.specs.Machines.{arc_of}

@@ -1,13 +1,10 @@
-use Rattle.std.proofs.Common.{◌≡◌, ◌∙◌, ap, sym, subst, refl, true, false, not, Some, None, Option, IsSome, is_some, Ok, Err, Result}
+use Rattle.std.proofs.Common.{◌≡◌, ◌∙◌, ap, sym, subst, refl, Some, None, Option, is_some}
 use Rattle.std.specs.Prelude.{option_map}
 use Rattle.std.proofs.lemmas.Bool.{false≢true}
 use Rattle.std.proofs.lemmas.Option.{same_Some}
 use Rattle.std.proofs.lemmas.Result.{on_ok_weaker}
 use Rattle.store_core.specs.declared.ids.CellId.{CellId}
-use Rattle.store_core.specs.declared.ids.TypeId.{TypeId}
-use Rattle.store_core.specs.Stores.{CellEntry, IsLive, cell_of}
-use Rattle.routing_expr.specs.WellFormed.{Names}
-use Rattle.routing_expr.specs.Naming.{NamesLive, Counts}
+use Rattle.store_core.specs.Stores.{CellEntry, IsLive}
 use Rattle.routing_expr.proofs.SharedLemmas.{counts_none, counts_alike}
 use Rattle.routing_expr.proofs.shared.Named.add_place.Goals as goal
 
