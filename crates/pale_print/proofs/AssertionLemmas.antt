@@ -148,25 +148,55 @@ of-Quantified q inner =
 
 -- ---- the same at parts that are lent
 
-pub at-And : (a first lent : Assertion) (others slice : List Assertion) → a ≡ assertion.And first others → lent ≡ first → slice ≡ others →
-    assertion_tokens a ≡ (λ asked. chain (nat_lt 3 asked) mark.Ampersand 4 lent slice)
-at-And a first lent others slice is one rest =
-    ap assertion_tokens (is ∙ (λ i. assertion.And (sym one i) (sym rest i))) ∙ of-And lent slice
+pub at-Not : (a inner lent : Assertion) (place : Pos) → a ≡ assertion.Not place inner → lent ≡ inner →
+    assertion_tokens a ≡ (λ asked followed after. sign mark.Tilde >> assertion_tokens lent 4 followed >> after)
+at-Not a inner lent place is one = ap assertion_tokens (is ∙ (λ i. assertion.Not place (sym one i))) ∙ of-Not place lent
 
-pub at-Or : (a first lent : Assertion) (others slice : List Assertion) → a ≡ assertion.Or first others → lent ≡ first → slice ≡ others →
-    assertion_tokens a ≡ (λ asked. chain (nat_lt 2 asked) mark.Bar 3 lent slice)
-at-Or a first lent others slice is one rest =
-    ap assertion_tokens (is ∙ (λ i. assertion.Or (sym one i) (sym rest i))) ∙ of-Or lent slice
+-- a chain whose parts and flags were computed one by one
+lent_chain : (needed : Bool) (mark : Mark) (asked : ℕ) (first lent : Assertion) (others slice : List Assertion) (followed last before : Bool) (count : ℕ) →
+    lent ≡ first → slice ≡ others → last ≡ inside needed followed → count ≡ length others → before ≡ goes_on count last →
+    (after : List TokenKind) →
+    chain needed mark asked first others followed after
+    ≡ (opening needed >> assertion_tokens lent asked before >> assertion_operands mark asked slice last >> closing needed >> after)
+lent_chain needed mark asked first lent others slice followed last before count one rest last_is count_is before_is after =
+    let flag : before ≡ goes_on (length others) (inside needed followed) = before_is ∙ (λ i. goes_on (count_is i) (last_is i)) in
+    λ i. opening needed >> assertion_tokens (sym one i) asked (sym flag i) >> assertion_operands mark asked (sym rest i) (sym last_is i) >> closing needed >> after
 
-pub at-Iff : (a first lent : Assertion) (others slice : List Assertion) → a ≡ assertion.Iff first others → lent ≡ first → slice ≡ others →
-    assertion_tokens a ≡ (λ asked. chain (nat_lt 0 asked) mark.Equivalent 1 lent slice)
-at-Iff a first lent others slice is one rest =
-    ap assertion_tokens (is ∙ (λ i. assertion.Iff (sym one i) (sym rest i))) ∙ of-Iff lent slice
+pub at-And : (a first lent : Assertion) (others slice : List Assertion) (asked : ℕ) (followed last before : Bool) (count : ℕ) →
+    a ≡ assertion.And first others → lent ≡ first → slice ≡ others → last ≡ inside (nat_lt 3 asked) followed → count ≡ length others →
+    before ≡ goes_on count last → (after : List TokenKind) →
+    assertion_tokens a asked followed after
+    ≡ (opening (nat_lt 3 asked) >> assertion_tokens lent 4 before >> assertion_operands mark.Ampersand 4 slice last >> closing (nat_lt 3 asked) >> after)
+at-And a first lent others slice asked followed last before count is one rest last_is count_is before_is after =
+    (λ i. (ap assertion_tokens is ∙ of-And first others) i asked followed after)
+    ∙ lent_chain (nat_lt 3 asked) mark.Ampersand 4 first lent others slice followed last before count one rest last_is count_is before_is after
 
-pub at-Imp : (a left lent right given : Assertion) (place : Pos) → a ≡ assertion.Imp left place right → lent ≡ left → given ≡ right →
-    assertion_tokens a ≡ (λ asked. implication (nat_lt 1 asked) lent given)
-at-Imp a left lent right given place is one other =
-    ap assertion_tokens (is ∙ (λ i. assertion.Imp (sym one i) place (sym other i))) ∙ of-Imp lent place given
+pub at-Or : (a first lent : Assertion) (others slice : List Assertion) (asked : ℕ) (followed last before : Bool) (count : ℕ) →
+    a ≡ assertion.Or first others → lent ≡ first → slice ≡ others → last ≡ inside (nat_lt 2 asked) followed → count ≡ length others →
+    before ≡ goes_on count last → (after : List TokenKind) →
+    assertion_tokens a asked followed after
+    ≡ (opening (nat_lt 2 asked) >> assertion_tokens lent 3 before >> assertion_operands mark.Bar 3 slice last >> closing (nat_lt 2 asked) >> after)
+at-Or a first lent others slice asked followed last before count is one rest last_is count_is before_is after =
+    (λ i. (ap assertion_tokens is ∙ of-Or first others) i asked followed after)
+    ∙ lent_chain (nat_lt 2 asked) mark.Bar 3 first lent others slice followed last before count one rest last_is count_is before_is after
+
+pub at-Iff : (a first lent : Assertion) (others slice : List Assertion) (asked : ℕ) (followed last before : Bool) (count : ℕ) →
+    a ≡ assertion.Iff first others → lent ≡ first → slice ≡ others → last ≡ inside (nat_lt 0 asked) followed → count ≡ length others →
+    before ≡ goes_on count last → (after : List TokenKind) →
+    assertion_tokens a asked followed after
+    ≡ (opening (nat_lt 0 asked) >> assertion_tokens lent 1 before >> assertion_operands mark.Equivalent 1 slice last >> closing (nat_lt 0 asked) >> after)
+at-Iff a first lent others slice asked followed last before count is one rest last_is count_is before_is after =
+    (λ i. (ap assertion_tokens is ∙ of-Iff first others) i asked followed after)
+    ∙ lent_chain (nat_lt 0 asked) mark.Equivalent 1 first lent others slice followed last before count one rest last_is count_is before_is after
+
+pub at-Imp : (a left lent right given : Assertion) (place : Pos) (asked : ℕ) (followed last : Bool) →
+    a ≡ assertion.Imp left place right → lent ≡ left → given ≡ right → last ≡ inside (nat_lt 1 asked) followed → (after : List TokenKind) →
+    assertion_tokens a asked followed after
+    ≡ (opening (nat_lt 1 asked) >> assertion_tokens lent 2 true >> sign mark.Implies >> assertion_tokens given 1 last >> closing (nat_lt 1 asked) >> after)
+at-Imp a left lent right given place asked followed last is one other last_is after =
+    (λ i. (ap assertion_tokens is ∙ of-Imp left place right) i asked followed after)
+    ∙ (λ i. opening (nat_lt 1 asked) >> assertion_tokens (sym one i) 2 true >> sign mark.Implies >>
+    assertion_tokens (sym other i) 1 (sym last_is i) >> closing (nat_lt 1 asked) >> after)
 
 pub at-Quantified : (a inner lent : Assertion) (q : Quantifier) → a ≡ assertion.Quantified q inner → lent ≡ inner →
     assertion_tokens a ≡ (λ asked. governed q lent)

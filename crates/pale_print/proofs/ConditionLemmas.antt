@@ -77,6 +77,10 @@ of-Or first others =
 
 -- the same at parts that are lent
 
+pub at-Not : (c inner lent : Condition) (place : Pos) → c ≡ condition.Not place inner → lent ≡ inner →
+    condition_tokens c ≡ (λ asked after. sign mark.Bang >> condition_tokens lent 2 >> after)
+at-Not c inner lent place is one = ap condition_tokens (is ∙ (λ i. condition.Not place (sym one i))) ∙ of-Not place lent
+
 pub at-And : (c first lent : Condition) (others slice : List Condition) → c ≡ condition.And first others → lent ≡ first → slice ≡ others →
     condition_tokens c ≡ (λ asked. chain (nat_lt 1 asked) mark.AndAlso 2 lent slice)
 at-And c first lent others slice is one rest =

@@ -1,6 +1,5 @@
 -- How statements are spelled, form by form.
 use Rattle.std.proofs.Common.{◌≡◌, List, [], ◌∷◌, map, Option, Some, None, codes, refl, sym, ap, ◌∙◌}
-use Rattle.std.specs.Option.{option_map}
 use Rattle.pale_text.specs.declared.place.Pos.{Pos}
 use Rattle.pale_text.specs.declared.token.Mark.TheVariants as mark
 use Rattle.pale_text.specs.declared.token.TokenKind.{TokenKind}
@@ -17,8 +16,8 @@ use Rattle.pale_text.specs.declared.tree.statement.Statement.TheOpen.{Statement-
 use Rattle.pale_text.specs.declared.tree.statement.Statement.TheFolds.{map-Statement, fold-roll-Statement}
 use Rattle.pale_print.specs.Tokens.{Tokens, ◌>>◌, sign, word, each}
 use Rattle.pale_print.specs.AssertionTokens.{bracketed_tokens}
-use Rattle.pale_print.specs.StatementTokens.{call_tokens, block_tokens, else_tokens, statement_node, statement_tokens}
-use Rattle.pale_print.specs.Writing.{tested, skipped, said, freed, assigned, statements_tokens, braced, otherwise_tokens}
+use Rattle.pale_print.specs.StatementTokens.{call_tokens, block_tokens, statement_node, statement_tokens}
+use Rattle.pale_print.specs.Writing.{tested, skipped, said, freed, assigned, statements_tokens, braced}
 
 of_form : (x : Statement-F Statement) → statement_tokens (roll-Statement x) ≡ statement_node (map-Statement Statement Tokens statement_tokens x)
 unfolding statement_tokens
@@ -53,22 +52,9 @@ same_statements : (statements : List Statement) (after : List TokenKind) →
 same_statements [] after = refl
 same_statements (one ∷ others) after = ap (statement_tokens one) (same_statements others after)
 
--- the statements of a body one by one
-pub each-statements : (statements : List Statement) (after : List TokenKind) →
-    each statement_tokens statements after ≡ statements_tokens statements after
-each-statements [] after = refl
-each-statements (one ∷ others) after = ap (statement_tokens one) (each-statements others after)
-
-pub ruleset statements_again = (each-statements)
-
 same_block : (statements : List Statement) (after : List TokenKind) →
     block_tokens (map statement_tokens statements) after ≡ braced statements after
 same_block statements after = ap (λ rest. sign mark.LeftBrace >> rest) (same_statements statements (sign mark.RightBrace after))
-
-same_else : (otherwise : Option (List Statement)) (after : List TokenKind) →
-    else_tokens (option_map (map statement_tokens) otherwise) after ≡ otherwise_tokens otherwise after
-same_else None after = refl
-same_else (Some statements) after = ap (λ rest. word (codes "else") >> rest) (same_block statements after)
 
 pub of-While : (place : Pos) (c : Condition) (invariant : Bracketed) (body : List Statement) →
     statement_tokens (statement.While place c invariant body)
@@ -77,13 +63,40 @@ of-While place c invariant body =
     form _ (Statement-F.While place c invariant body) (sym (rolls-While place c invariant body))
     ∙ (λ i after. tested (codes "while") c >> bracketed_tokens invariant >> same_block body after i)
 
-pub of-If : (place : Pos) (c : Condition) (then : List Statement) (otherwise : Option (List Statement)) →
-    statement_tokens (statement.If place c then otherwise)
-    ≡ (λ after. tested (codes "if") c >> braced then >> otherwise_tokens otherwise >> after)
-of-If place c then otherwise =
-    form _ (Statement-F.If place c then otherwise) (sym (rolls-If place c then otherwise))
-    ∙ (λ i after. tested (codes "if") c >> same_block then (else_tokens (option_map (map statement_tokens) otherwise) after) i)
-    ∙ (λ i after. tested (codes "if") c >> braced then >> same_else otherwise after i)
+pub of-If_alone : (place : Pos) (c : Condition) (then : List Statement) →
+    statement_tokens (statement.If place c then None) ≡ (λ after. tested (codes "if") c >> braced then >> after)
+of-If_alone place c then =
+    form _ (Statement-F.If place c then None) (sym (rolls-If place c then None))
+    ∙ (λ i after. tested (codes "if") c >> same_block then after i)
 
--- each form
-pub ruleset statement_forms = (of-Skip, of-If, of-While, of-Split, of-Assert, of-Free, of-Call, of-Assign)
+pub of-If_else : (place : Pos) (c : Condition) (then other : List Statement) →
+    statement_tokens (statement.If place c then (Some other))
+    ≡ (λ after. tested (codes "if") c >> braced then >> word (codes "else") >> braced other >> after)
+of-If_else place c then other =
+    form _ (Statement-F.If place c then (Some other)) (sym (rolls-If place c then (Some other)))
+    ∙ (λ i after. tested (codes "if") c >> same_block then (word (codes "else") >> block_tokens (map statement_tokens other) >> after) i)
+    ∙ (λ i after. tested (codes "if") c >> braced then >> word (codes "else") >> same_block other after i)
+
+-- the same at parts that are lent
+
+pub at-While : (s : Statement) (place : Pos) (c : Condition) (invariant : Bracketed) (body slice : List Statement) →
+    s ≡ statement.While place c invariant body → slice ≡ body →
+    statement_tokens s ≡ (λ after. tested (codes "while") c >> bracketed_tokens invariant >> braced slice >> after)
+at-While s place c invariant body slice is rest =
+    ap statement_tokens (is ∙ (λ i. statement.While place c invariant (sym rest i))) ∙ of-While place c invariant slice
+
+pub at-If_alone : (s : Statement) (place : Pos) (c : Condition) (then slice : List Statement) (otherwise : Option (List Statement)) →
+    s ≡ statement.If place c then otherwise → slice ≡ then → otherwise ≡ None →
+    statement_tokens s ≡ (λ after. tested (codes "if") c >> braced slice >> after)
+at-If_alone s place c then slice otherwise is rest none =
+    ap statement_tokens (is ∙ (λ i. statement.If place c (sym rest i) (none i))) ∙ of-If_alone place c slice
+
+pub at-If_else : (s : Statement) (place : Pos) (c : Condition) (then slice other lent : List Statement) (otherwise : Option (List Statement)) →
+    s ≡ statement.If place c then otherwise → slice ≡ then → otherwise ≡ Some other → lent ≡ other →
+    statement_tokens s ≡ (λ after. tested (codes "if") c >> braced slice >> word (codes "else") >> braced lent >> after)
+at-If_else s place c then slice other lent otherwise is rest some given =
+    ap statement_tokens (is ∙ (λ i. statement.If place c (sym rest i) (some i)) ∙ (λ i. statement.If place c slice (Some (sym given i))))
+    ∙ of-If_else place c slice lent
+
+-- each form but those with blocks
+pub ruleset statement_forms = (of-Skip, of-Split, of-Assert, of-Free, of-Call, of-Assign)

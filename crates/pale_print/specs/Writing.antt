@@ -1,26 +1,29 @@
 -- What the steps of the printer do to its text, in words for what one step writes. Nothing outside of the crate cites this
 -- page.
-use Rattle.std.specs.Prelude.{◌≡◌, ℕ, zero, suc, Bool, true, false, List, [], ◌∷◌, ◌++◌, length, Option, Some, None, codes}
+use Rattle.std.specs.Prelude.{◌≡◌, ℕ, zero, suc, Bool, true, false, List, [], ◌∷◌, ◌++◌, length, codes}
 use Rattle.pale_text.specs.declared.token.Mark.{Mark}
 use Rattle.pale_text.specs.declared.token.Mark.TheVariants as mark
 use Rattle.pale_text.specs.declared.token.TokenKind.{TokenKind}
 use Rattle.pale_text.specs.declared.tree.assertion.Assertion.{Assertion}
 use Rattle.pale_text.specs.declared.tree.assertion.Bracketed.{Bracketed}
 use Rattle.pale_text.specs.declared.tree.assertion.Quantifier.{Quantifier}
+use Rattle.pale_text.specs.declared.tree.declaration.PredicateDeclaration.{PredicateDeclaration}
+use Rattle.pale_text.specs.declared.tree.declaration.PredicateParameter.{PredicateParameter}
 use Rattle.pale_text.specs.declared.tree.declaration.Procedure.{Procedure}
 use Rattle.pale_text.specs.declared.tree.condition.Condition.{Condition}
 use Rattle.pale_text.specs.declared.tree.names.Name.{Name}
 use Rattle.pale_text.specs.declared.tree.names.Path.{Path}
 use Rattle.pale_text.specs.declared.tree.names.Term.{Term}
 use Rattle.pale_text.specs.declared.tree.route.Route.{Route}
+use Rattle.pale_text.specs.declared.tree.statement.Call.{Call}
 use Rattle.pale_text.specs.declared.tree.statement.Statement.{Statement}
 use Rattle.pale_text.specs.declared.tree.statement.Value.{Value}
 use Rattle.pale_print.specs.Tokens.{Tokens, ◌>>◌, nothing, sign, word, each, separated, name_tokens, path_tokens, term_tokens}
 use Rattle.pale_print.specs.RouteTokens.{bool_test, route_tokens}
 use Rattle.pale_print.specs.ConditionTokens.{condition_tokens}
 use Rattle.pale_print.specs.AssertionTokens.{quantifier_word, set_word, assertion_tokens, bracketed_tokens}
-use Rattle.pale_print.specs.StatementTokens.{value_tokens, statement_tokens}
-use Rattle.pale_print.specs.DeclarationTokens.{local_tokens}
+use Rattle.pale_print.specs.StatementTokens.{argument_tokens, value_tokens, call_result_tokens, logic_argument_tokens, statement_tokens}
+use Rattle.pale_print.specs.DeclarationTokens.{predicate_parameter_tokens, parameters_tokens, results_tokens, logics_tokens, local_tokens}
 use Rattle.pale_print.specs.Spelling.{spelled}
 
 -- these tokens were written behind the text `before`, which made it `now`: so it is whatever comes after them
@@ -128,17 +131,40 @@ abbrev pub assigned : Path → Value → Tokens
 assigned p v after = path_tokens p >> sign mark.Equals >> value_tokens v >> sign mark.Semicolon >> after
 
 abbrev pub statements_tokens : List Statement → Tokens
-statements_tokens [] after = after
-statements_tokens (one ∷ others) after = statement_tokens one >> statements_tokens others >> after
+statements_tokens statements = each statement_tokens statements
 
 -- `{ .. }`
 abbrev pub braced : List Statement → Tokens
 braced statements after = sign mark.LeftBrace >> statements_tokens statements >> sign mark.RightBrace >> after
 
--- `else { .. }`, and nothing where there is no such block
-abbrev pub otherwise_tokens : Option (List Statement) → Tokens
-otherwise_tokens None after = after
-otherwise_tokens (Some statements) after = word (codes "else") >> braced statements >> after
+-- `call r , s = p (`
+abbrev pub call_head : Call → Tokens
+call_head c after = word (codes "call") >> call_result_tokens c.results >> name_tokens c.callee >> sign mark.LeftParen >> after
+
+-- `x , null ; S )`
+abbrev pub call_arguments : Call → Tokens
+call_arguments c after =
+    separated mark.Comma argument_tokens c.arguments >> logic_argument_tokens c.logics >> sign mark.RightParen >> after
+
+-- ---- declarations
+
+-- `[ R ]`
+abbrev pub route_in_brackets : Route → Tokens
+route_in_brackets r after = sign mark.LeftBracket >> route_tokens r 0 >> sign mark.RightBracket >> after
+
+-- `( .. )` of a predicate
+abbrev pub predicate_list : List PredicateParameter → Tokens
+predicate_list parameters after =
+    sign mark.LeftParen >> separated mark.Comma predicate_parameter_tokens parameters >> sign mark.RightParen >> after
+
+-- `pred p ( .. )`
+abbrev pub predicate_head : PredicateDeclaration → Tokens
+predicate_head p after = word (codes "pred") >> name_tokens p.name >> predicate_list p.parameters >> after
+
+-- `proc p ( .. ) returns ( .. ) logic ..`
+abbrev pub signature_tokens : Procedure → Tokens
+signature_tokens p after =
+    word (codes "proc") >> name_tokens p.name >> parameters_tokens p.parameters >> results_tokens p.results >> logics_tokens p.logics >> after
 
 -- `{ .. }` of a procedure
 abbrev pub body_tokens : Procedure → Tokens

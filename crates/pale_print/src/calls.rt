@@ -4,7 +4,7 @@ ghost use Rattle.std.specs.Prelude.{◌≡◌, OnOk, codes};
 ghost use Rattle.pale_text.specs.declared.token.Mark.TheVariants as mark;
 ghost use Rattle.pale_print.specs.Tokens.{separated};
 ghost use Rattle.pale_print.specs.StatementTokens.{argument_tokens, new_variant_tokens, value_tokens, clause_tokens, call_result_tokens, logic_argument_tokens, call_tokens};
-ghost use Rattle.pale_print.specs.Writing.{Writes};
+ghost use Rattle.pale_print.specs.Writing.{Writes, call_head, call_arguments};
 
 use crate::assertions::push_bracketed;
 use crate::conditions::push_condition;
@@ -101,17 +101,31 @@ fn push_logics(text: &mut Vec<u8>, logics: &[Argument]) -> Result<(), AllocError
     push_arguments(text, logics)
 }
 
-/// `call r , s = p ( x , null ; S ) keep [ a ] ;`
-pub fn push_call(text: &mut Vec<u8>, call: &Call) -> Result<(), AllocError>
-    ensures { OnOk result (Writes (call_tokens call.now) text.old.items text.new.items) }
+/// `call r , s = p (`
+fn push_call_head(text: &mut Vec<u8>, call: &Call) -> Result<(), AllocError>
+    ensures { OnOk result (Writes (call_head call.now) text.old.items text.new.items) }
 {
     push_word(text, b"call")?;
     push_results(text, call.results.as_slice())?;
     push_name(text, &call.callee)?;
-    push_mark(text, Mark::LeftParen)?;
+    push_mark(text, Mark::LeftParen)
+}
+
+/// `x , null ; S )`
+fn push_call_arguments(text: &mut Vec<u8>, call: &Call) -> Result<(), AllocError>
+    ensures { OnOk result (Writes (call_arguments call.now) text.old.items text.new.items) }
+{
     push_arguments(text, call.arguments.as_slice())?;
     push_logics(text, call.logics.as_slice())?;
-    push_mark(text, Mark::RightParen)?;
+    push_mark(text, Mark::RightParen)
+}
+
+/// `call r , s = p ( x , null ; S ) keep [ a ] ;`
+pub fn push_call(text: &mut Vec<u8>, call: &Call) -> Result<(), AllocError>
+    ensures { OnOk result (Writes (call_tokens call.now) text.old.items text.new.items) }
+{
+    push_call_head(text, call)?;
+    push_call_arguments(text, call)?;
     push_clause(text, b"keep", &call.keep)?;
     push_mark(text, Mark::Semicolon)
 }

@@ -5,7 +5,7 @@ ghost use Rattle.pale_text.specs.declared.token.Mark.TheVariants as mark;
 ghost use Rattle.pale_print.specs.Tokens.{each, each_behind, separated};
 ghost use Rattle.pale_print.specs.DeclarationTokens.{field_tokens, fields_tokens, variant_tokens, type_tokens, predicate_parameter_tokens, predicate_tokens, parameter_tokens, parameters_tokens, results_tokens, logic_parameter_tokens, logics_tokens, local_tokens, procedure_tokens, declaration_tokens};
 ghost use Rattle.pale_print.specs.Spelling.{spelling};
-ghost use Rattle.pale_print.specs.Writing.{Writes, body_tokens};
+ghost use Rattle.pale_print.specs.Writing.{Writes, route_in_brackets, predicate_list, predicate_head, signature_tokens, body_tokens};
 
 use crate::assertions::push_bracketed;
 use crate::calls::push_clause;
@@ -15,10 +15,19 @@ use crate::statements::push_statements;
 use crate::tokens::{push_mark, push_word};
 use pale_text::{
     Declaration, FieldDeclaration, FieldForm, LogicParameter, Mark, Parameter,
-    PredicateDeclaration, PredicateParameter, Procedure, Program, TypeDeclaration,
+    PredicateDeclaration, PredicateParameter, Procedure, Program, Route, TypeDeclaration,
     VariantDeclaration,
 };
 use std::alloc::{AllocError, Global};
+
+/// `[ R ]`
+fn push_route_in_brackets(text: &mut Vec<u8>, route: &Route) -> Result<(), AllocError>
+    ensures { OnOk result (Writes (route_in_brackets route.now) text.old.items text.new.items) }
+{
+    push_mark(text, Mark::LeftBracket)?;
+    push_route(text, route, 0)?;
+    push_mark(text, Mark::RightBracket)
+}
 
 /// `bool f ;`, `data f : T ;` or `pointer f : T [ R ] ;`
 fn push_field(text: &mut Vec<u8>, field: &FieldDeclaration) -> Result<(), AllocError>
@@ -28,20 +37,30 @@ fn push_field(text: &mut Vec<u8>, field: &FieldDeclaration) -> Result<(), AllocE
         FieldForm::Bool => {
             push_word(text, b"bool")?;
             push_name(text, &field.name)?;
+            push_mark(text, Mark::Semicolon)
         }
         FieldForm::Data(ty) => {
             push_word(text, b"data")?;
             push_typed(text, &field.name, ty)?;
+            push_mark(text, Mark::Semicolon)
         }
         FieldForm::Pointer(ty, route) => {
             push_word(text, b"pointer")?;
             push_typed(text, &field.name, ty)?;
-            push_mark(text, Mark::LeftBracket)?;
-            push_route(text, route, 0)?;
-            push_mark(text, Mark::RightBracket)?;
+            push_route_in_brackets(text, route)?;
+            push_mark(text, Mark::Semicolon)
         }
     }
-    push_mark(text, Mark::Semicolon)
+}
+
+/// The fields one by one.
+fn push_field_list(text: &mut Vec<u8>, fields: &[FieldDeclaration]) -> Result<(), AllocError>
+    ensures { OnOk result (Writes (each field_tokens fields.now) text.old.items text.new.items) }
+{
+    for field in fields {
+        push_field(text, field)?;
+    }
+    Ok(())
 }
 
 /// `{ .. }`
@@ -49,9 +68,7 @@ fn push_fields(text: &mut Vec<u8>, fields: &[FieldDeclaration]) -> Result<(), Al
     ensures { OnOk result (Writes (fields_tokens fields.now) text.old.items text.new.items) }
 {
     push_mark(text, Mark::LeftBrace)?;
-    for field in fields {
-        push_field(text, field)?;
-    }
+    push_field_list(text, fields)?;
     push_mark(text, Mark::RightBrace)
 }
 
@@ -115,15 +132,35 @@ fn push_predicate_parameters(
     Ok(())
 }
 
+/// `( .. )` of a predicate
+fn push_predicate_list(
+    text: &mut Vec<u8>,
+    parameters: &[PredicateParameter],
+) -> Result<(), AllocError>
+    ensures { OnOk result (Writes (predicate_list parameters.now) text.old.items text.new.items) }
+{
+    push_mark(text, Mark::LeftParen)?;
+    push_predicate_parameters(text, parameters)?;
+    push_mark(text, Mark::RightParen)
+}
+
+/// `pred p ( .. )`
+fn push_predicate_head(
+    text: &mut Vec<u8>,
+    predicate: &PredicateDeclaration,
+) -> Result<(), AllocError>
+    ensures { OnOk result (Writes (predicate_head predicate.now) text.old.items text.new.items) }
+{
+    push_word(text, b"pred")?;
+    push_name(text, &predicate.name)?;
+    push_predicate_list(text, predicate.parameters.as_slice())
+}
+
 /// `pred p ( .. ) = [ a ] ;`
 fn push_predicate(text: &mut Vec<u8>, predicate: &PredicateDeclaration) -> Result<(), AllocError>
     ensures { OnOk result (Writes (predicate_tokens predicate.now) text.old.items text.new.items) }
 {
-    push_word(text, b"pred")?;
-    push_name(text, &predicate.name)?;
-    push_mark(text, Mark::LeftParen)?;
-    push_predicate_parameters(text, predicate.parameters.as_slice())?;
-    push_mark(text, Mark::RightParen)?;
+    push_predicate_head(text, predicate)?;
     push_mark(text, Mark::Equals)?;
     push_bracketed(text, &predicate.body)?;
     push_mark(text, Mark::Semicolon)
@@ -198,20 +235,30 @@ fn push_logic(text: &mut Vec<u8>, logic: &LogicParameter) -> Result<(), AllocErr
     }
 }
 
-/// `logic ..`, and nothing where there are no logic variables.
-fn push_logics(text: &mut Vec<u8>, logics: &[LogicParameter]) -> Result<(), AllocError>
-    ensures { OnOk result (Writes (logics_tokens logics.now) text.old.items text.new.items) }
+/// Logic variables with commas between them.
+fn push_logic_list(text: &mut Vec<u8>, logics: &[LogicParameter]) -> Result<(), AllocError>
+    ensures { OnOk result (Writes (separated mark.Comma logic_parameter_tokens logics.now) text.old.items text.new.items) }
 {
     let Some((first, others)) = logics.split_first() else {
         return Ok(());
     };
-    push_word(text, b"logic")?;
     push_logic(text, first)?;
     for logic in others {
         push_mark(text, Mark::Comma)?;
         push_logic(text, logic)?;
     }
     Ok(())
+}
+
+/// `logic ..`, and nothing where there are no logic variables.
+fn push_logics(text: &mut Vec<u8>, logics: &[LogicParameter]) -> Result<(), AllocError>
+    ensures { OnOk result (Writes (logics_tokens logics.now) text.old.items text.new.items) }
+{
+    if logics.split_first().is_none() {
+        return Ok(());
+    }
+    push_word(text, b"logic")?;
+    push_logic_list(text, logics)
 }
 
 /// The variables that a body declares.
@@ -235,16 +282,22 @@ fn push_body(text: &mut Vec<u8>, procedure: &Procedure) -> Result<(), AllocError
     push_mark(text, Mark::RightBrace)
 }
 
-/// `proc p ( .. ) returns ( .. ) logic .. pre [ a ] post [ b ] { .. }`
-#[tactic(auto, using(crate::proofs::StatementLemmas::statements_again))]
-fn push_procedure(text: &mut Vec<u8>, procedure: &Procedure) -> Result<(), AllocError>
-    ensures { OnOk result (Writes (procedure_tokens procedure.now) text.old.items text.new.items) }
+/// `proc p ( .. ) returns ( .. ) logic ..`
+fn push_signature(text: &mut Vec<u8>, procedure: &Procedure) -> Result<(), AllocError>
+    ensures { OnOk result (Writes (signature_tokens procedure.now) text.old.items text.new.items) }
 {
     push_word(text, b"proc")?;
     push_name(text, &procedure.name)?;
     push_parameters(text, procedure.parameters.as_slice())?;
     push_results(text, procedure.results.as_slice())?;
-    push_logics(text, procedure.logics.as_slice())?;
+    push_logics(text, procedure.logics.as_slice())
+}
+
+/// `proc p ( .. ) returns ( .. ) logic .. pre [ a ] post [ b ] { .. }`
+fn push_procedure(text: &mut Vec<u8>, procedure: &Procedure) -> Result<(), AllocError>
+    ensures { OnOk result (Writes (procedure_tokens procedure.now) text.old.items text.new.items) }
+{
+    push_signature(text, procedure)?;
     push_clause(text, b"pre", &procedure.pre)?;
     push_clause(text, b"post", &procedure.post)?;
     push_body(text, procedure)

@@ -2,14 +2,14 @@
 
 ghost use Rattle.std.specs.Prelude.{◌≡◌, OnOk};
 ghost use Rattle.pale_print.specs.StatementTokens.{statement_tokens};
-ghost use Rattle.pale_print.specs.Writing.{Writes, tested, skipped, said, freed, assigned, statements_tokens, braced, otherwise_tokens};
+ghost use Rattle.pale_print.specs.Writing.{Writes, tested, skipped, said, freed, assigned, statements_tokens, braced};
 
 use crate::assertions::push_bracketed;
 use crate::calls::{push_call, push_value};
 use crate::conditions::push_condition;
 use crate::names::{push_name, push_path};
 use crate::tokens::{push_mark, push_word};
-use pale_text::{Block, Bracketed, Condition, Mark, Name, Path, Statement, Value};
+use pale_text::{Bracketed, Condition, Mark, Name, Path, Statement, Value};
 use std::alloc::AllocError;
 
 /// `if ( c )` or `while ( c )`
@@ -78,20 +78,6 @@ fn push_block(text: &mut Vec<u8>, statements: &[Statement]) -> Result<(), AllocE
     push_mark(text, Mark::RightBrace)
 }
 
-/// `else { .. }`, and nothing where there is no such block.
-#[cycle(statements)]
-fn push_else(text: &mut Vec<u8>, otherwise: &Option<Block>) -> Result<(), AllocError>
-    ensures { OnOk result (Writes (otherwise_tokens otherwise.now) text.old.items text.new.items) }
-{
-    match otherwise {
-        Some(block) => {
-            push_word(text, b"else")?;
-            push_block(text, block.as_slice())
-        }
-        None => Ok(()),
-    }
-}
-
 #[cycle(statements)]
 #[tactic(auto, using(crate::proofs::StatementLemmas::statement_forms))]
 fn push_statement(text: &mut Vec<u8>, statement: &Statement) -> Result<(), AllocError>
@@ -102,7 +88,11 @@ fn push_statement(text: &mut Vec<u8>, statement: &Statement) -> Result<(), Alloc
         Statement::If(_, condition, then, otherwise) => {
             push_test(text, b"if", condition)?;
             push_block(text, then.as_slice())?;
-            push_else(text, otherwise)
+            let Some(block) = otherwise else {
+                return Ok(());
+            };
+            push_word(text, b"else")?;
+            push_block(text, block.as_slice())
         }
         Statement::While(_, condition, invariant, body) => {
             push_test(text, b"while", condition)?;

@@ -4,7 +4,7 @@ use Rattle.pale_text.specs.declared.token.TokenKind.{TokenKind}
 use Rattle.pale_print.specs.Tokens.{each}
 use Rattle.pale_print.specs.DeclarationTokens.{field_tokens}
 use Rattle.pale_print.specs.Spelling.{spelled}
-use Rattle.pale_print.proofs.declarations.push_fields.Given as goal
+use Rattle.pale_print.proofs.declarations.push_field_list.Given as goal
 
 -- what is written and the fields that are left are all of them
 abbrev pub invariant-loop-field : goal.invariant-loop-field

@@ -4,7 +4,7 @@ use Rattle.pale_text.specs.declared.token.TokenKind.{TokenKind}
 use Rattle.pale_print.specs.Tokens.{each_behind}
 use Rattle.pale_print.specs.DeclarationTokens.{logic_parameter_tokens}
 use Rattle.pale_print.specs.Spelling.{spelled}
-use Rattle.pale_print.proofs.declarations.push_logics.Given as goal
+use Rattle.pale_print.proofs.declarations.push_logic_list.Given as goal
 
 -- what is written and the logic variables that are left are all but the first
 abbrev pub invariant-loop-logic : goal.invariant-loop-logic
