@@ -28,12 +28,7 @@ fn inside(group: bool, followed: bool) -> bool
 }
 
 /// `t in S` or `t sub S`
-fn push_related(
-    text: &mut Vec<u8>,
-    term: &Term,
-    word: &[u8],
-    set: &Name,
-) -> Result<(), AllocError>
+fn push_related(text: &mut Vec<u8>, term: &Term, word: &[u8], set: &Name) -> Result<(), AllocError>
     ensures { OnOk result (Writes (related term.now word.now set.now) text.old.items text.new.items) }
 {
     push_term(text, term)?;
@@ -42,12 +37,7 @@ fn push_related(
 }
 
 /// `t < R > u`
-fn push_walk(
-    text: &mut Vec<u8>,
-    from: &Term,
-    route: &Route,
-    to: &Term,
-) -> Result<(), AllocError>
+fn push_walk(text: &mut Vec<u8>, from: &Term, route: &Route, to: &Term) -> Result<(), AllocError>
     ensures { OnOk result (Writes (walked from.now route.now to.now) text.old.items text.new.items) }
 {
     push_term(text, from)?;

@@ -99,11 +99,7 @@ pub fn push_compared(
 }
 
 /// `t : v`
-pub fn push_variant_test(
-    text: &mut Vec<u8>,
-    term: &Term,
-    variant: &Name,
-) -> Result<(), AllocError>
+pub fn push_variant_test(text: &mut Vec<u8>, term: &Term, variant: &Name) -> Result<(), AllocError>
     ensures { OnOk result (Writes (variant_tested term.now variant.now) text.old.items text.new.items) }
 {
     push_term(text, term)?;

@@ -62,7 +62,11 @@ fn is_printed_in_assignment(alloc: Global, value: &str, want: &str) -> Result<bo
 fn declarations_are_printed_in_lines(rt: HostRuntime) -> Result<(), Fail> {
     let alloc = rt.alloc();
     for (text, want) in PROGRAMS {
-        assert_eq!(rt; is_printed(alloc, text, want.as_bytes())?, true, "of {want}");
+        assert_eq!(rt;
+            is_printed(alloc, text, want.as_bytes())?,
+            true,
+            "of {want}"
+        );
     }
     Ok(())
 }
@@ -71,7 +75,11 @@ fn declarations_are_printed_in_lines(rt: HostRuntime) -> Result<(), Fail> {
 fn relations_are_printed_with_spaces(rt: HostRuntime) -> Result<(), Fail> {
     let alloc = rt.alloc();
     for (body, want) in RELATIONS {
-        assert_eq!(rt; is_printed_in_predicate(alloc, body, want)?, true, "of {want}");
+        assert_eq!(rt;
+            is_printed_in_predicate(alloc, body, want)?,
+            true,
+            "of {want}"
+        );
     }
     Ok(())
 }
@@ -80,7 +88,11 @@ fn relations_are_printed_with_spaces(rt: HostRuntime) -> Result<(), Fail> {
 fn routes_keep_the_parentheses_that_they_need(rt: HostRuntime) -> Result<(), Fail> {
     let alloc = rt.alloc();
     for (body, want) in ROUTES {
-        assert_eq!(rt; is_printed_in_predicate(alloc, body, want)?, true, "of {want}");
+        assert_eq!(rt;
+            is_printed_in_predicate(alloc, body, want)?,
+            true,
+            "of {want}"
+        );
     }
     Ok(())
 }
@@ -89,7 +101,11 @@ fn routes_keep_the_parentheses_that_they_need(rt: HostRuntime) -> Result<(), Fai
 fn chains_keep_the_parentheses_that_they_need(rt: HostRuntime) -> Result<(), Fail> {
     let alloc = rt.alloc();
     for (body, want) in CHAINS {
-        assert_eq!(rt; is_printed_in_predicate(alloc, body, want)?, true, "of {want}");
+        assert_eq!(rt;
+            is_printed_in_predicate(alloc, body, want)?,
+            true,
+            "of {want}"
+        );
     }
     Ok(())
 }
@@ -98,7 +114,11 @@ fn chains_keep_the_parentheses_that_they_need(rt: HostRuntime) -> Result<(), Fai
 fn quantifiers_are_in_parentheses_where_an_operator_follows(rt: HostRuntime) -> Result<(), Fail> {
     let alloc = rt.alloc();
     for (body, want) in QUANTIFIERS {
-        assert_eq!(rt; is_printed_in_predicate(alloc, body, want)?, true, "of {want}");
+        assert_eq!(rt;
+            is_printed_in_predicate(alloc, body, want)?,
+            true,
+            "of {want}"
+        );
     }
     Ok(())
 }
@@ -107,7 +127,11 @@ fn quantifiers_are_in_parentheses_where_an_operator_follows(rt: HostRuntime) -> 
 fn statements_are_printed_in_lines(rt: HostRuntime) -> Result<(), Fail> {
     let alloc = rt.alloc();
     for (body, want) in STATEMENTS {
-        assert_eq!(rt; is_printed_in_procedure(alloc, body, want)?, true, "of {want}");
+        assert_eq!(rt;
+            is_printed_in_procedure(alloc, body, want)?,
+            true,
+            "of {want}"
+        );
     }
     Ok(())
 }
@@ -116,7 +140,11 @@ fn statements_are_printed_in_lines(rt: HostRuntime) -> Result<(), Fail> {
 fn conditions_keep_the_parentheses_that_they_need(rt: HostRuntime) -> Result<(), Fail> {
     let alloc = rt.alloc();
     for (value, want) in CONDITIONS {
-        assert_eq!(rt; is_printed_in_assignment(alloc, value, want)?, true, "of {want}");
+        assert_eq!(rt;
+            is_printed_in_assignment(alloc, value, want)?,
+            true,
+            "of {want}"
+        );
     }
     Ok(())
 }
@@ -125,7 +153,11 @@ fn conditions_keep_the_parentheses_that_they_need(rt: HostRuntime) -> Result<(),
 fn the_gallery_is_printed_as_its_files(rt: HostRuntime) -> Result<(), Fail> {
     let alloc = rt.alloc();
     for (text, want) in GALLERY {
-        assert_eq!(rt; is_printed(alloc, text.as_bytes(), want.as_bytes())?, true, "of {want}");
+        assert_eq!(rt;
+            is_printed(alloc, text.as_bytes(), want.as_bytes())?,
+            true,
+            "of {want}"
+        );
     }
     Ok(())
 }

@@ -49,7 +49,10 @@ pub(super) static ROUTES: &[(&str, &str)] = &[
 
 /// Chains and negations, each with its canonical spelling.
 pub(super) static CHAINS: &[(&str, &str)] = &[
-    ("a <=> b => c | d & ~e <=> f", "a <=> b => c | d & ~ e <=> f"),
+    (
+        "a <=> b => c | d & ~e <=> f",
+        "a <=> b => c | d & ~ e <=> f",
+    ),
     (
         "(a => b) => c <=> a => (b => c)",
         "( a => b ) => c <=> a => b => c",
@@ -102,35 +105,17 @@ pub(super) static QUANTIFIERS: &[(&str, &str)] = &[
     ("a & (ex x: T: b) & c", "a & ( ex x : T : b ) & c"),
     ("(a & ex x: T: b) | c", "a & ( ex x : T : b ) | c"),
     ("(ex x: T: a) | b", "( ex x : T : a ) | b"),
-    (
-        "a => (ex x: T: b) => c",
-        "a => ( ex x : T : b ) => c",
-    ),
-    (
-        "(a => ex x: T: b) <=> c",
-        "a => ( ex x : T : b ) <=> c",
-    ),
-    (
-        "(a => ex x: T: b) => c",
-        "( a => ex x : T : b ) => c",
-    ),
-    (
-        "a & (b => ex x: T: c) & d",
-        "a & ( b => ex x : T : c ) & d",
-    ),
-    (
-        "(a & ~ex x: T: b) => c",
-        "a & ~ ( ex x : T : b ) => c",
-    ),
+    ("a => (ex x: T: b) => c", "a => ( ex x : T : b ) => c"),
+    ("(a => ex x: T: b) <=> c", "a => ( ex x : T : b ) <=> c"),
+    ("(a => ex x: T: b) => c", "( a => ex x : T : b ) => c"),
+    ("a & (b => ex x: T: c) & d", "a & ( b => ex x : T : c ) & d"),
+    ("(a & ~ex x: T: b) => c", "a & ~ ( ex x : T : b ) => c"),
     (
         "(~(ex x: T: a | b) | c) & d",
         "( ~ ( ex x : T : a | b ) | c ) & d",
     ),
     ("(all x: T: a) <=> b", "( all x : T : a ) <=> b"),
-    (
-        "a <=> (all x: T: b) <=> c",
-        "a <=> ( all x : T : b ) <=> c",
-    ),
+    ("a <=> (all x: T: b) <=> c", "a <=> ( all x : T : b ) <=> c"),
     (
         "ex x: T: (ex y: T: a) & b",
         "ex x : T : ( ex y : T : a ) & b",

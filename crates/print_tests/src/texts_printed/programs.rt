@@ -42,10 +42,7 @@ pub(super) static PROGRAMS: &[(&[u8], &str)] = &[
         b"proc p() logic bool b { }",
         "proc p ( ) logic bool b {\n}\n",
     ),
-    (
-        b"proc p() pre [(a)] { }",
-        "proc p ( ) pre [ a ] {\n}\n",
-    ),
+    (b"proc p() pre [(a)] { }", "proc p ( ) pre [ a ] {\n}\n"),
     (
         b"proc p() post [a & (b)] { }",
         "proc p ( ) post [ a & b ] {\n}\n",

@@ -36,7 +36,10 @@ pub(super) static STATEMENTS: &[(&str, &str)] = &[
         "if ((a || b) && c) { while (true) [(a)] { } } else { }",
         "if ( ( a || b ) && c ) {\nwhile ( true ) [ a ] {\n}\n}\nelse {\n}\n",
     ),
-    ("bool b; data x: T; b = x.f;", "bool b ;\ndata x : T ;\nb = x . f ;\n"),
+    (
+        "bool b; data x: T; b = x.f;",
+        "bool b ;\ndata x : T ;\nb = x . f ;\n",
+    ),
 ];
 
 /// What is assigned, each with its canonical spelling.

@@ -1,4 +1,4 @@
-use Rattle.std.proofs.Common.{◌++◌, ◌∙◌, arith, drop, sym}
+use Rattle.std.proofs.Common.{◌++◌, ◌∙◌, arith, sym}
 use Rattle.std.proofs.lemmas.List.{at_drop_more}
 use Rattle.pale_text.specs.MakingParts.{nowhere}
 use Rattle.pale_print.specs.RouteTokens.{stars}
