@@ -1,5 +1,5 @@
 -- How formulas are resolved, form by form.
-use Rattle.std.proofs.Common.{◌≡◌, ℕ, Bool, List, map, length, Ok, refl, sym, ap, ◌∙◌, subst}
+use Rattle.std.proofs.Common.{◌≡◌, ℕ, Bool, List, map, Ok, refl, sym, ap, ◌∙◌, subst}
 use Rattle.pale_text.specs.declared.refusal.TextStop.{TextStop}
 use Rattle.ws2s_syntax.specs.declared.formula.Atom as declared_atom
 use Rattle.ws2s_syntax.specs.declared.formula.Connective.{Connective}

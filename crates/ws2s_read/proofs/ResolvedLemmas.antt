@@ -1,10 +1,9 @@
 -- What is found in a source tree is checked.
-use Rattle.std.proofs.Common.{◌≡◌, ℕ, zero, suc, ◌+◌, ◌-◌, ◌<◌, Bool, true, false, cond, IsTrue, ◌&&◌, List, [], ◌∷◌, ◌++◌, length, map, fold, Option, Some, None, slice_get, Ok, Err, refl, sym, ap, ◌∙◌, subst, arith, append_assoc, append-nil, length-append, ◌==◌}
-use Rattle.std.proofs.lemmas.Bool.{and_parts, eqb-true}
+use Rattle.std.proofs.Common.{◌≡◌, ℕ, ◌+◌, ◌-◌, Bool, true, false, cond, IsTrue, ◌&&◌, List, [], ◌∷◌, ◌++◌, length, map, fold, Option, Some, None, slice_get, Ok, refl, sym, ap, ◌∙◌, subst, arith, append_assoc, append-nil, length-append, ◌==◌}
+use Rattle.std.proofs.lemmas.Bool.{eqb-true}
 use Rattle.std.proofs.lemmas.List.{map-append, length-map}
 use Rattle.std.proofs.lemmas.List.Folds.{list_all-append}
 use Rattle.std.proofs.lemmas.Option.{slice_get_within}
-use Rattle.std.specs.Map.{lookup}
 use Rattle.std.specs.List.{list_all}
 use Rattle.std.specs.Str.{bytes_eq}
 use Rattle.tree_theory.proofs.ListedLemmas.{slice_get-front, slice_get-last}
@@ -27,7 +26,7 @@ use Rattle.ws2s_syntax.specs.declared.source.SourceName.{SourceName}
 use Rattle.ws2s_syntax.specs.declared.source.SourceBase.{SourceBase}
 use Rattle.ws2s_syntax.specs.declared.source.SourceTerm.{SourceTerm}
 use Rattle.ws2s_syntax.specs.declared.source.SourceFormula.{SourceFormula, roll-SourceFormula}
-use Rattle.ws2s_syntax.specs.declared.source.SourceFormula.TheVariants.{Truth, Empty, Same, Differ, In, NotIn, Sub, Use, Not, Implies, Chain, Quantified, rolls-Truth, rolls-Empty, rolls-Same, rolls-Differ, rolls-In, rolls-NotIn, rolls-Sub, rolls-Use, rolls-Not, rolls-Implies, rolls-Chain, rolls-Quantified}
+use Rattle.ws2s_syntax.specs.declared.source.SourceFormula.TheVariants.{rolls-Truth, rolls-Empty, rolls-Same, rolls-Differ, rolls-In, rolls-NotIn, rolls-Sub, rolls-Use, rolls-Not, rolls-Implies, rolls-Chain, rolls-Quantified}
 use Rattle.ws2s_syntax.specs.declared.source.SourceFormula.TheOpen.{SourceFormula-F}
 use Rattle.ws2s_syntax.specs.declared.source.SourceFormula.TheFolds.{map-SourceFormula, ind-SourceFormula}
 use Rattle.ws2s_syntax.specs.declared.source.SourceParameter.{SourceParameter}
@@ -36,9 +35,9 @@ use Rattle.ws2s_syntax.specs.declared.source.Source.{Source}
 use Rattle.ws2s_read.specs.declared.names.Meaning.{Meaning}
 use Rattle.ws2s_read.specs.declared.names.Meaning.TheVariants as stands_for
 use Rattle.ws2s_read.specs.declared.items.Stage.{Stage}
-use Rattle.ws2s_syntax.specs.Sentences.{Sentence, said, negated, implied, joined, quantified, each_quantified, sentence_of}
-use Rattle.ws2s_syntax.specs.Checked.{Text, text_of, Scope, class_of, is_position_class, is_set_class, is_set, is_position, is_term, is_argument, are_arguments, are_arguments_of, is_atom, class_bound, is_sentence, are_predicates, free_classes, class_of_free, signatures_of, is_checked}
-use Rattle.ws2s_read.specs.Resolving.{Found, ◌>>=◌, refused, Names, meaning_of, known_as, known, declared, first_place, as_variable, resolved_variable, as_set, resolved_set, from_variable, resolved_named, resolved_from, resolved_side, as_position_side, as_set_side, resolved_position, resolved_set_side, as_argument, resolved_argument, resolved_empty, resolved_in, resolved_sub, as_same, resolved_same, resolved_arguments, as_use, resolved_use, bound, all_bound, each_resolved, resolved_quantified, resolved_formula, with_variable, with_variables, parameters_bound, classes_of, resolved_body, stands_for_set, with_predicate, with_formula, with_item, with_items, nothing, resolved}
+use Rattle.ws2s_syntax.specs.Sentences.{Sentence, negated, joined, each_quantified, sentence_of}
+use Rattle.ws2s_syntax.specs.Checked.{Text, text_of, Scope, class_of, is_position_class, is_set_class, is_set, is_term, is_argument, are_arguments, are_arguments_of, is_atom, class_bound, is_sentence, are_predicates, class_of_free, is_checked}
+use Rattle.ws2s_read.specs.Resolving.{Found, ◌>>=◌, refused, Names, meaning_of, known_as, known, declared, first_place, as_variable, resolved_variable, as_set, resolved_set, from_variable, resolved_named, resolved_from, resolved_side, as_position_side, as_set_side, resolved_position, resolved_set_side, as_argument, resolved_argument, resolved_empty, resolved_in, resolved_sub, as_same, resolved_same, resolved_arguments, as_use, resolved_use, bound, all_bound, each_resolved, resolved_formula, with_variable, with_variables, parameters_bound, classes_of, resolved_body, stands_for_set, with_predicate, with_formula, with_item, with_items, nothing, resolved}
 use Rattle.ws2s_syntax.proofs.SentencesLemmas.{sentence-Atom, sentence-Not, sentence-Implies, sentence-Chain, sentence-Quantified}
 use Rattle.ws2s_read.proofs.ResolvingLemmas.{then-Ok, declared-Ok}
 use Rattle.ws2s_read.proofs.FormsLemmas.{stated, denied, at-Truth, at-Empty, at-Same, at-Differ, at-In, at-NotIn, at-Sub, at-Use, at-Not, at-Implies, at-Chain, at-Quantified}

@@ -15,7 +15,7 @@ use Rattle.grammar_engine.specs.Readings.{Step}
 use Rattle.ws2s_parse.specs.declared.grammar.act.SourceAct.{SourceAct}
 use Rattle.ws2s_parse.specs.SourceReading.{IsSource, IsShallow, IsParsedAs, IsParseStop}
 use Rattle.ws2s_read.specs.Resolving.{IsStop, resolved}
-use Rattle.ws2s_read.specs.TextReading.{IsReadAs, IsUnparsed, IsMisnamed, IsRefusedAs, stray, unparsed, misnamed, IsReadStop}
+use Rattle.ws2s_read.specs.TextReading.{IsReadAs, IsUnparsed, IsRefusedAs, stray, unparsed, misnamed, IsReadStop}
 use Rattle.pale_text.specs.TextStops.{IsRefusedUnless}
 
 -- ---- what a `?` passes on

@@ -1,6 +1,6 @@
 -- Names in source trees: what is visible where, and the first name or term at fault, from the left. Predicates and
 -- variables share one name space.
-use Rattle.std.specs.Prelude.{◌≡◌, ℕ, zero, suc, ◌-◌, ◌==◌, Bool, true, false, List, [], ◌∷◌, ◌++◌, length, map, Option, Some, None, is_some, Result, Ok, Err, if◌then◌else◌}
+use Rattle.std.specs.Prelude.{◌≡◌, ℕ, ◌-◌, ◌==◌, Bool, true, false, List, [], ◌∷◌, ◌++◌, length, map, Option, Some, None, is_some, Result, Ok, Err, if◌then◌else◌}
 use Rattle.std.specs.Map.{lookup}
 use Rattle.std.specs.Str.{bytes_eq}
 use Rattle.pale_text.specs.declared.place.Pos.{Pos}
@@ -18,8 +18,6 @@ use Rattle.ws2s_syntax.specs.declared.name.Argument.{Argument}
 use Rattle.ws2s_syntax.specs.declared.name.Argument.TheVariants as argument
 use Rattle.ws2s_syntax.specs.declared.declaration.Class.{Class}
 use Rattle.ws2s_syntax.specs.declared.declaration.Class.TheVariants as class
-use Rattle.ws2s_syntax.specs.declared.declaration.Free.{Free}
-use Rattle.ws2s_syntax.specs.declared.declaration.Predicate.{Predicate}
 use Rattle.ws2s_syntax.specs.declared.formula.Atom.{Atom}
 use Rattle.ws2s_syntax.specs.declared.formula.Atom.TheVariants as atom
 use Rattle.ws2s_syntax.specs.declared.formula.Quantifier.{Quantifier}

@@ -1,5 +1,5 @@
 -- Which bytes are which WS2S text, and why bytes are refused: tokens come first, then the grammar, then names.
-use Rattle.std.specs.Prelude.{◌≡◌, ℕ, List, Result, Ok, Err}
+use Rattle.std.specs.Prelude.{◌≡◌, ℕ, List, Ok, Err}
 use Rattle.pale_text.specs.declared.refusal.Refusal.{Refusal}
 use Rattle.pale_text.specs.declared.refusal.TextStop.{TextStop}
 use Rattle.pale_text.specs.declared.refusal.TextStop.TheVariants as stop

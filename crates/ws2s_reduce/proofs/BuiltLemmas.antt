@@ -1,5 +1,5 @@
 -- What one step of the machine does.
-use Rattle.std.proofs.Common.{◌≡◌, ℕ, zero, suc, ◌+◌, ◌<◌, ◌≤◌, Bool, true, false, cond, leb, List, [], ◌∷◌, ◌++◌, length, map, fold, reverse, take, drop, Option, Some, None, OnOk, slice_get, refl, sym, ap, ap₂, ◌∙◌, subst, arith, append_assoc, append-nil, add-one, length-append}
+use Rattle.std.proofs.Common.{◌≡◌, ℕ, ◌+◌, ◌≤◌, cond, List, [], ◌∷◌, ◌++◌, length, map, reverse, take, drop, Some, None, OnOk, slice_get, refl, sym, ap, ap₂, ◌∙◌, arith, append-nil}
 use Rattle.std.specs.List.{sum}
 use Rattle.std.proofs.lemmas.Bool.{le-leb}
 use Rattle.std.proofs.lemmas.List.{reverse-append}
@@ -7,24 +7,21 @@ use Rattle.std.proofs.lemmas.List.Sums.{sum_by-cons}
 use Rattle.std.specs.declared.result.Result.{Result}
 use Rattle.std.specs.declared.result.Result.TheVariants.{Ok, Err}
 use Rattle.ws2s_core.specs.declared.formula.Formula.{Formula}
-use Rattle.ws2s_core.specs.declared.formula.Formula.TheVariants.{And, Not, Ex2}
-use Rattle.ws2s_syntax.specs.declared.formula.Atom as declared_atom
 use Rattle.ws2s_syntax.specs.declared.formula.Connective.{Connective}
 use Rattle.ws2s_syntax.specs.declared.formula.Quantifier.{Quantifier}
 use Rattle.ws2s_syntax.specs.declared.formula.TextFormula as declared_formula
-use Rattle.ws2s_syntax.specs.declared.formula.TextFormula.TheVariants.{Atom, Not as Negated, Implies, Chain, Quantified}
+use Rattle.ws2s_syntax.specs.declared.formula.TextFormula.TheVariants.{Chain, Quantified}
 use Rattle.ws2s_syntax.specs.declared.declaration.Predicate.{Predicate}
 use Rattle.ws2s_syntax.specs.declared.name.Argument.{Argument}
-use Rattle.ws2s_syntax.specs.Sentences.{Sentence, sentence_of}
-use Rattle.ws2s_syntax.proofs.SentencesLemmas.{sentence-Atom}
+use Rattle.ws2s_syntax.specs.Sentences.{sentence_of}
 use Rattle.ws2s_reduce.specs.declared.task.Op.{Op}
 use Rattle.ws2s_reduce.specs.declared.task.Place.{Place}
 use Rattle.ws2s_reduce.specs.declared.task.Task.{Task}
 use Rattle.ws2s_reduce.specs.declared.machine.Machine.{Machine}
-use Rattle.ws2s_reduce.specs.Reducing.{true_at, Reductions, reduced, used, atom_at}
-use Rattle.ws2s_reduce.specs.Building.{reductions_to, Step, to_build, to_forget, to_apply, step_of, steps_of, finished, tracks_from, chain_steps, atom_work, formula_work, works_to, step_work, steps_work}
+use Rattle.ws2s_reduce.specs.Reducing.{true_at, reduced, used}
+use Rattle.ws2s_reduce.specs.Building.{reductions_to, Step, to_build, to_forget, to_apply, step_of, steps_of, finished, tracks_from, chain_steps, formula_work, works_to, steps_work}
 use Rattle.ws2s_reduce.specs.Machines.{IsPassed, IsBuilt}
-use Rattle.ws2s_reduce.proofs.StepsLemmas.{work-Atom, work-Not, work-Implies, work-Chain, work-Quantified, same-Not, same-Implies, same-Chain, same-Quantified}
+use Rattle.ws2s_reduce.proofs.StepsLemmas.{work-Chain, work-Quantified, same-Chain, same-Quantified}
 use Rattle.ws2s_reduce.proofs.PassingLemmas.{reductions_to-at, reductions_to-past, works_to-at}
 
 -- two facts, where there is a value

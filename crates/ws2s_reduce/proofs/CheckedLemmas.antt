@@ -1,9 +1,9 @@
 -- Texts of the tests are checked.
-use Rattle.std.proofs.Common.{◌≡◌, ℕ, zero, suc, ◌&&◌, Bool, true, false, List, [], ◌∷◌, ◌++◌, refl, ap, ◌∙◌}
+use Rattle.std.proofs.Common.{◌≡◌, ℕ, zero, suc, ◌&&◌, true, List, [], ◌∷◌, ◌++◌, refl, ap, ◌∙◌}
 use Rattle.ws2s_syntax.specs.declared.formula.Quantifier.{Quantifier}
 use Rattle.ws2s_syntax.specs.declared.formula.TextFormula.TheVariants.{Atom, Quantified}
 use Rattle.ws2s_syntax.specs.declared.declaration.Class.{Class}
-use Rattle.ws2s_syntax.specs.Sentences.{Sentence, said, each_quantified, sentence_of}
+use Rattle.ws2s_syntax.specs.Sentences.{said, each_quantified}
 use Rattle.ws2s_syntax.specs.Checked.{IsChecked, is_sentence}
 use Rattle.ws2s_syntax.proofs.SentencesLemmas.{sentence-Atom, sentence-Quantified}
 use Rattle.ws2s_reduce.specs.Examples.{variable, is_left_child, left_child, within_itself}

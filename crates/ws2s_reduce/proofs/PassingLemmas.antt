@@ -1,5 +1,5 @@
 -- Predicates' uses: what their reductions are, and the arguments that are passed.
-use Rattle.std.proofs.Common.{◌≡◌, ◌≢◌, ℕ, zero, suc, ◌+◌, ◌<◌, ◌≤◌, Bool, true, false, cond, eqb, List, [], ◌∷◌, ◌++◌, length, map, reverse, take, drop, Option, Some, None, option_map, slice_get, refl, sym, ap, ap₂, ◌∙◌, subst, arith, append_assoc, add-one, zero-add, length-append, eq-eqb, ne_eqb, eqb-true}
+use Rattle.std.proofs.Common.{◌≡◌, ℕ, zero, suc, ◌+◌, ◌<◌, Bool, true, false, cond, eqb, List, [], ◌∷◌, ◌++◌, length, map, reverse, take, drop, Some, None, option_map, slice_get, refl, sym, ap, ap₂, ◌∙◌, arith, append_assoc, add-one, zero-add, length-append, eq-eqb, ne_eqb, eqb-true}
 use Rattle.std.proofs.lemmas.Bool.{eqb-false}
 use Rattle.std.proofs.lemmas.List.{take-append-le, drop-append-le, take-take, take-map}
 use Rattle.std.proofs.lemmas.Option.{slice_get_within, slice_get-map}

@@ -1,11 +1,10 @@
 -- What becomes of the steps of each form.
-use Rattle.std.proofs.Common.{◌≡◌, ◌≢◌, ℕ, zero, suc, ◌+◌, ◌-◌, ◌<◌, ◌≤◌, Bool, true, false, cond, eqb, leb, IsTrue, List, [], ◌∷◌, ◌++◌, length, map, fold, reverse, take, drop, get_or, Option, Some, None, IsSome, option_and_then, slice_get, refl, sym, ap, ap₂, ◌∙◌, subst, arith, append_assoc, append-nil, add-one, zero-add, length-append, drop-cons}
+use Rattle.std.proofs.Common.{◌≡◌, ℕ, zero, suc, ◌+◌, ◌<◌, ◌≤◌, true, cond, leb, List, [], ◌∷◌, ◌++◌, length, map, fold, drop, get_or, None, refl, sym, ap, ap₂, ◌∙◌, arith, append_assoc, append-nil, length-append, drop-cons}
 use Rattle.std.specs.List.{sum}
 use Rattle.std.proofs.Math.Seq.{take-append_seam}
 use Rattle.std.proofs.lemmas.List.{drop-append-le}
 use Rattle.std.proofs.lemmas.Bool.{le-leb}
 use Rattle.ws2s_core.specs.declared.formula.Formula.{Formula}
-use Rattle.ws2s_core.specs.declared.formula.Formula.TheVariants.{Not}
 use Rattle.ws2s_syntax.specs.declared.formula.Atom as declared_atom
 use Rattle.ws2s_syntax.specs.declared.formula.Connective.{Connective}
 use Rattle.ws2s_syntax.specs.declared.formula.Quantifier.{Quantifier}
@@ -14,13 +13,12 @@ use Rattle.ws2s_syntax.specs.declared.formula.TextFormula.TheVariants.{Atom, Not
 use Rattle.ws2s_syntax.specs.declared.formula.TextFormula.TheOpen.{TextFormula-F}
 use Rattle.ws2s_syntax.specs.declared.formula.TextFormula.TheFolds.{map-TextFormula, fold-roll-TextFormula}
 use Rattle.ws2s_syntax.specs.declared.declaration.Predicate.{Predicate}
-use Rattle.ws2s_syntax.specs.declared.name.Argument.{Argument}
 use Rattle.ws2s_syntax.specs.Sentences.{Sentence, joined, quantified, each_quantified, sentence_of}
-use Rattle.ws2s_syntax.proofs.SentencesLemmas.{sentence-Atom, sentence-Not, sentence-Implies, sentence-Chain, sentence-Quantified}
+use Rattle.ws2s_syntax.proofs.SentencesLemmas.{sentence-Not, sentence-Implies, sentence-Chain, sentence-Quantified}
 use Rattle.ws2s_reduce.specs.declared.task.Op.{Op}
 use Rattle.ws2s_reduce.specs.declared.task.Place.{Place}
-use Rattle.ws2s_reduce.specs.Reducing.{Reductions, reduced, used}
-use Rattle.ws2s_reduce.specs.Building.{joined_of, quantified_at, wrapped, tracks_from, applied, reductions_to, Step, to_build, to_forget, to_apply, finished, chain_steps, atom_work, node_work, formula_work, works_to, step_work, steps_work}
+use Rattle.ws2s_reduce.specs.Reducing.{Reductions, reduced}
+use Rattle.ws2s_reduce.specs.Building.{joined_of, quantified_at, wrapped, tracks_from, reductions_to, Step, to_build, to_forget, to_apply, finished, chain_steps, atom_work, node_work, formula_work}
 
 -- how many steps each form takes
 module _ (known : ℕ → ℕ) where

@@ -1,4 +1,4 @@
-use Rattle.std.proofs.Common.{◌≡◌, ◌+◌, ◌∷◌, ◌++◌, length, sym, ap, ap₂, ◌∙◌, refl, subst}
+use Rattle.std.proofs.Common.{◌+◌, ◌∷◌, ◌++◌, length, sym, ap, ap₂, ◌∙◌, refl, subst}
 use Rattle.std.proofs.lemmas.Result.{on_ok_weaker}
 use Rattle.ws2s_reduce.specs.declared.machine.Machine.{Machine}
 use Rattle.ws2s_reduce.specs.declared.task.Op.{Op}

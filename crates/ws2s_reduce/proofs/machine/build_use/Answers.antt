@@ -1,4 +1,4 @@
-use Rattle.std.proofs.Common.{◌≡◌, ◌+◌, [], length, drop, sym, ap, ◌∙◌, refl, subst}
+use Rattle.std.proofs.Common.{◌+◌, [], length, drop, ap, ◌∙◌, subst}
 use Rattle.ws2s_reduce.specs.Reducing.{used}
 use Rattle.ws2s_reduce.specs.Building.{reductions_to, works_to}
 use Rattle.ws2s_reduce.specs.Machines.{IsBuilt}

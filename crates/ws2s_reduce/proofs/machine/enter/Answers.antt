@@ -1,9 +1,8 @@
-use Rattle.std.proofs.Common.{◌≡◌, ◌+◌, ◌≤◌, ◌∷◌, ◌++◌, [], List, reverse, sym, ap, ◌∙◌, subst, Some}
+use Rattle.std.proofs.Common.{◌+◌, ◌≤◌, ◌∷◌, reverse, sym, ap, ◌∙◌, subst}
 use Rattle.std.specs.Option.{option_copied}
 use Rattle.std.proofs.lemmas.Result.{on_ok_weaker}
 use Rattle.std.proofs.lemmas.List.{reverse-append}
 use Rattle.ws2s_reduce.specs.declared.task.Task.{Task}
-use Rattle.ws2s_reduce.specs.Reducing.{true_at}
 use Rattle.ws2s_reduce.specs.Building.{to_build, to_forget, steps_of, finished, works_to, steps_work}
 use Rattle.ws2s_reduce.proofs.BuiltLemmas.{steps_of-push, enter-Some, enter-None, enter-work}
 use Rattle.ws2s_reduce.proofs.machine.enter.Goals as goal
