@@ -11,12 +11,17 @@ use Rattle.pale_io.specs.Whole.{ReadsAll, WritesAll, WritesFront}
 use Rattle.pale_io.specs.declared.stops.WriteStop.{WriteStop}
 use Rattle.pale_io.specs.declared.stops.WriteStop.TheVariants.{Failed, NoMemory}
 use Rattle.pale_top.specs.declared.status.Status.{Status}
+use Rattle.pale_top.specs.declared.status.Status.TheVariants.{Text}
 use Rattle.pale_top.specs.declared.words.Mode.{Mode}
-use Rattle.pale_top.specs.declared.words.Mode.TheVariants.{Check}
+use Rattle.pale_top.specs.declared.words.Mode.TheVariants.{Check, Format}
 use Rattle.pale_top.specs.declared.words.Settings.{Settings}
 use Rattle.pale_top.specs.Words.{Gives, IsRefused}
 use Rattle.pale_top.proofs.WrittenLemmas.{Wrote-weaker, WroteAtMost-weaker}
-use Rattle.pale_top.specs.Output.{Answers, Begins, Checks, too_long, not_yet, report, EndsBy, IsAnswer, IsCutShort, Output, check, Reports, Wrote, WroteAtMost, status_of}
+use Rattle.pale_top.specs.Formatting.{Formats}
+use Rattle.pale_top.specs.Formatting as formatting
+use Rattle.pale_top.specs.Output.{Answers, Begins, Checks, too_long, not_yet, report, EndsBy, IsAnswer, IsCutShort, Output, asked, check, format, Reports, Wrote, WroteAtMost, status_of}
+use Rattle.pale_top.specs.Report.{too_long_line}
+use Rattle.pale_top.specs.Texts.{most_bytes}
 
 -- ---- the text that was read
 
@@ -57,18 +62,33 @@ program_whole : (procedure : Option BoolProc) (output : List ℕ) (status : Stat
 program_whole None output status reports cut = subst IsCutShort reports.1 cut
 program_whole (Some p) output status reports cut = triple_whole reports.judged (subst IsCutShort reports.ends cut)
 
-pub text_whole : (text output : List ℕ) (status : Status) → Checks text output status → IsCutShort status → ⊥
-text_whole text output status (too_long more) cut = cut
-text_whole text output status (not_yet within unread) cut = cut
-text_whole text output status (report program o s within reads reports) cut = program_whole program.procedure output status reports cut
+checked_whole : (text output : List ℕ) (status : Status) → Checks text output status → IsCutShort status → ⊥
+checked_whole text output status (too_long more) cut = cut
+checked_whole text output status (not_yet within unread) cut = cut
+checked_whole text output status (report program o s within reads reports) cut = program_whole program.procedure output status reports cut
+
+formatted_whole : (text output : List ℕ) (status : Status) → Formats text output status → IsCutShort status → ⊥
+formatted_whole text output status (formatting.too_long more) cut = cut
+formatted_whole text output status (formatting.stray refusal within stop) cut = cut
+formatted_whole text output status (formatting.unparsed list refusal within lexed stop) cut = cut
+formatted_whole text output status (formatting.program list tree within lexed parsed) cut = cut
+
+asked_whole : (mode : Mode) (text output : List ℕ) (status : Status) → asked mode text output status → IsCutShort status → ⊥
+asked_whole Check text output status checks cut = checked_whole text output status checks cut
+asked_whole Format text output status formats cut = formatted_whole text output status formats cut
 
 -- where the writing was cut short, what was written begins an output
-pub text_begun : (left before after : Option (List ℕ)) (text : List ℕ) (outcome : Result Status WriteStop) (status : Status) → IfSome left (λ bytes. text ≡ bytes)
-    → EndsBy outcome status → IfOk outcome (Wrote (Checks text) before after) → OnErr outcome (WroteAtMost (Checks text) before after)
-    → IsCutShort status → Begins Checks left before after
-text_begun left before after text (Ok answer) status told ends wrote begun cut = absurd (text_whole text wrote.output answer wrote.allowed (subst IsCutShort ends cut))
-text_begun left before after text (Err Failed) status told ends wrote begun cut = record { text = text; told = told; wrote = begun }
-text_begun left before after text (Err NoMemory) status told ends wrote begun cut = record { text = text; told = told; wrote = begun }
+pub text_begun : (mode : Mode) (left before after : Option (List ℕ)) (text : List ℕ) (outcome : Result Status WriteStop) (status : Status) → IfSome left (λ bytes. text ≡ bytes)
+    → EndsBy outcome status → IfOk outcome (Wrote (asked mode text) before after) → OnErr outcome (WroteAtMost (asked mode text) before after)
+    → IsCutShort status → Begins (asked mode) left before after
+text_begun mode left before after text (Ok answer) status told ends wrote begun cut = absurd (asked_whole mode text wrote.output answer wrote.allowed (subst IsCutShort ends cut))
+text_begun mode left before after text (Err Failed) status told ends wrote begun cut = record { text = text; told = told; wrote = begun }
+text_begun mode left before after text (Err NoMemory) status told ends wrote begun cut = record { text = text; told = told; wrote = begun }
+
+-- each mode refuses a text with too many bytes
+pub too_long_asked : (mode : Mode) (text : List ℕ) → most_bytes < length text → asked mode text too_long_line Text
+too_long_asked Check text more = too_long more
+too_long_asked Format text more = formatting.too_long more
 
 -- ---- a call that says one line
 
@@ -92,30 +112,29 @@ module _ (Allowed : List ℕ → List ℕ → Status → Type 0) (left before af
   line_begins (Err NoMemory) status ends whole said begun cut =
       record { text = text; told = told; wrote = inr (record { output = line; status = answer; allowed = allowed; written = begun }) }
 
--- ---- a call in the mode `check`
+-- ---- a call with words that ask for a mode
 
-module _ (words : List (List ℕ)) (settings : Settings) (gives : Gives words settings) (mode : settings.mode ≡ Check) (left before after : Option (List ℕ)) where
-  pub call_answers : (status : Status) → Answers Checks left before after status → Answers (Output words) left before after status
-  call_answers status answer = record {
-    text = answer.text;
-    told = answer.told;
-    wrote = Wrote-weaker (Checks answer.text) (Output words answer.text)
-        (λ output s checks. check settings output s gives mode checks) before after status answer.wrote;
-  }
+module _ (words : List (List ℕ)) (settings : Settings) (gives : Gives words settings) where
+  follows : (mode : Mode) → settings.mode ≡ mode → (text output : List ℕ) (status : Status) → asked mode text output status → Output words text output status
+  follows Check is text output status checks = check settings output status gives is checks
+  follows Format is text output status formats = format settings output status gives is formats
 
-  pub call_begins : Begins Checks left before after → Begins (Output words) left before after
-  call_begins begins = record {
-    text = begins.text;
-    told = begins.told;
-    wrote = WroteAtMost-weaker (Checks begins.text) (Output words begins.text)
-        (λ output s checks. check settings output s gives mode checks) before after begins.wrote;
-  }
+  module _ (left before after : Option (List ℕ)) where
+    pub call_answers : (status : Status) → Answers (asked settings.mode) left before after status → Answers (Output words) left before after status
+    call_answers status answer = record {
+      text = answer.text;
+      told = answer.told;
+      wrote = Wrote-weaker (asked settings.mode answer.text) (Output words answer.text) (follows settings.mode refl answer.text) before after status answer.wrote;
+    }
+
+    pub call_begins : Begins (asked settings.mode) left before after → Begins (Output words) left before after
+    call_begins begins = record {
+      text = begins.text;
+      told = begins.told;
+      wrote = WroteAtMost-weaker (asked settings.mode begins.text) (Output words begins.text) (follows settings.mode refl begins.text) before after begins.wrote;
+    }
 
 -- words that give settings aren't refused
 pub not_refused : (words : List (List ℕ)) (settings : Settings) → Gives words settings → IsRefused words → ⊥
 unfolding IsRefused
 not_refused words settings gives refused = refused gives.taken
-
--- `check` is the one mode
-pub only_mode : (mode : Mode) → mode ≡ Check
-only_mode Check = refl
