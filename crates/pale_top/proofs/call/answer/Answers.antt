@@ -4,7 +4,7 @@ use Rattle.pale_top.specs.declared.status.Status.TheVariants.{Text}
 use Rattle.pale_top.specs.Output.{asked}
 use Rattle.pale_top.specs.Report.{too_long_line}
 use Rattle.pale_top.specs.Texts.{most_bytes}
-use Rattle.pale_top.proofs.CallLemmas.{all_read, line_answers, line_begins, long_text, some_text, text_begun, too_long_asked}
+use Rattle.pale_top.proofs.CallLemmas.{all_read, line_answers, line_begins, long_text, no_read_fault, some_text, text_begun, too_long_asked, write_failed}
 use Rattle.pale_top.proofs.call.answer.Goals as goal
 
 pub returns-in-Ok-clause-begins : goal.returns-in-Ok-clause-begins
@@ -12,8 +12,23 @@ returns-in-Ok-clause-begins g c =
     let left = g.S.Source.left c.args.source.now in
     let text = c.deref.result.now in
     let told = subst (λ (t : List ℕ). IfSome left (λ bytes. t ≡ bytes)) (sym c.deref.ensures.value) c.in-Ok.ensures.whole.whole in
-    text_begun c.args.mode left (g.K.Sink.written c.args.sink.now) (g.K.Sink.written c.answer_text.new.sink) text c.answer_text.result c.ended.result told
+    text_begun c.args.mode text (g.K.Sink.written c.args.sink.now) (g.K.Sink.written c.answer_text.new.sink) left c.answer_text.result c.ended.result told
     c.ended.ensures c.answer_text.ensures.ok c.answer_text.ensures.err
+
+pub returns-in-Ok-clause-read_fault : goal.returns-in-Ok-clause-read_fault
+returns-in-Ok-clause-read_fault g c is =
+    absurd (no_read_fault c.args.mode c.deref.result.now (g.K.Sink.written c.args.sink.now) (g.K.Sink.written c.answer_text.new.sink) c.answer_text.result c.ended.result c.ended.ensures
+    c.answer_text.ensures.ok is)
+
+pub returns-in-Ok-clause-unwritten : goal.returns-in-Ok-clause-unwritten
+returns-in-Ok-clause-unwritten g c is =
+    absurd (no_read_fault c.args.mode c.deref.result.now (g.K.Sink.written c.args.sink.now) (g.K.Sink.written c.answer_text.new.sink) c.answer_text.result c.ended.result c.ended.ensures
+    c.answer_text.ensures.ok is)
+
+pub returns-in-Ok-clause-write_fault : goal.returns-in-Ok-clause-write_fault
+returns-in-Ok-clause-write_fault g c is =
+    c.answer_text.ensures.failed (write_failed c.args.mode c.deref.result.now (g.K.Sink.written c.args.sink.now) (g.K.Sink.written c.answer_text.new.sink) c.answer_text.result c.ended.result
+    c.ended.ensures c.answer_text.ensures.ok is)
 
 pub returns-in-Ok-clause-read : goal.returns-in-Ok-clause-read
 returns-in-Ok-clause-read g c _ = all_read most_bytes (g.S.Source.left c.args.source.now) (g.S.Source.left c.read_all.new.source) c.in-Ok.text.items c.in-Ok.ensures.whole
