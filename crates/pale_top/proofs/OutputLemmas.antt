@@ -1,5 +1,5 @@
 -- `format` has one output and one status for a text.
-use Rattle.std.proofs.Common.{◌≡◌, ◌∙◌, ◌<◌, ◌≤◌, ℕ, List, length, map, ap, subst, refl, sym, arith, inl, inr}
+use Rattle.std.proofs.Common.{◌≡◌, ◌∙◌, ℕ, List, ap, subst, refl, sym, arith, inl, inr}
 use Rattle.grammar_engine.specs.Grammars.{Rules}
 use Rattle.grammar_engine.specs.Readings.{Step}
 use Rattle.grammar_engine.proofs.CompleteLemmas.{not_deep, not_wrong}
@@ -20,7 +20,6 @@ use Rattle.pale_print.specs.Spelling.{spelling}
 use Rattle.pale_top.specs.declared.status.Status.{Status}
 use Rattle.pale_top.specs.Formatting.{Formats, too_long, stray, unparsed, program}
 use Rattle.pale_top.specs.Report.{refused_line}
-use Rattle.pale_top.specs.Texts.{most_bytes}
 
 -- ---- refusals
 

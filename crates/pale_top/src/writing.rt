@@ -8,11 +8,7 @@ use crate::Status;
 use pale_io::{Sink, WriteStop, write_all};
 
 /// Writes all that is left of an answer, which has this status.
-pub(crate) fn say<K: Sink>(
-    sink: &mut K,
-    bytes: &[u8],
-    status: Status,
-) -> Result<Status, WriteStop>
+pub(crate) fn say<K: Sink>(sink: &mut K, bytes: &[u8], status: Status) -> Result<Status, WriteStop>
     ensures ok { IfOk result (λ s. (s ≡ status) × WritesAll (K.written sink.old) (K.written sink.new) bytes.now) }
     ensures err { OnErr result (WritesFront (K.written sink.old) (K.written sink.new) bytes.now) }
     ensures failed { IsErrOf result WriteStop.Failed → Rose (K.faults sink.old) (K.faults sink.new) }

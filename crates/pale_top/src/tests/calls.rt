@@ -35,7 +35,8 @@ end
 triples 1 valid 0 invalid 1 limit 0
 ";
 
-const NEG_SPELLING: &str = "proc neg ( bool a ) returns ( bool b ) logic bool v pre [ a <=> v ] post [ b <=> ~ v ] {
+const NEG_SPELLING: &str =
+    "proc neg ( bool a ) returns ( bool b ) logic bool v pre [ a <=> v ] post [ b <=> ~ v ] {
 b = ! a ;
 }
 ";

@@ -24,14 +24,20 @@ fn words_give_their_settings_or_are_refused(rt: HostRuntime) -> Result<(), Fail>
         ("pale check --limit", refused),
         ("pale check --limit 0", refused),
         ("pale check --limit 1", given(Mode::Check, 1, 0)),
-        ("pale check --limit 16000000", given(Mode::Check, 16_000_000, 0)),
+        (
+            "pale check --limit 16000000",
+            given(Mode::Check, 16_000_000, 0),
+        ),
         ("pale check --limit 16000001", refused),
         ("pale check --limit x", refused),
         ("pale check --limit +5", given(Mode::Check, 5, 0)),
         ("pale check --limit 5 --limit 6", refused),
         ("pale check --limit=7", given(Mode::Check, 7, 0)),
         ("pale check --lim 7", refused),
-        ("pale check --seed 1000000", given(Mode::Check, 2_000_000, 1_000_000)),
+        (
+            "pale check --seed 1000000",
+            given(Mode::Check, 2_000_000, 1_000_000),
+        ),
         ("pale check --seed 1000001", refused),
         ("pale --seed 3 --limit 9 check", given(Mode::Check, 9, 3)),
         ("pale --limit 9 -- check", given(Mode::Check, 9, 0)),
@@ -49,10 +55,7 @@ fn words_ask_for_format_as_for_check(rt: HostRuntime) -> Result<(), Fail> {
     let refused = Err(WordsStop::Refused);
     let rows = [
         ("pale format", given(Mode::Format, 2_000_000, 0)),
-        (
-            "pale format --limit 5 --seed 9",
-            given(Mode::Format, 5, 9),
-        ),
+        ("pale format --limit 5 --seed 9", given(Mode::Format, 5, 9)),
         ("pale --seed 3 -- format", given(Mode::Format, 2_000_000, 3)),
         ("pale format extra", refused),
         ("pale format check", refused),
