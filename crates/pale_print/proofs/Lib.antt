@@ -1,0 +1,5 @@
+pub mod AssertionLemmas
+pub mod ConditionLemmas
+pub mod RouteLemmas
+pub mod StatementLemmas
+pub mod Written

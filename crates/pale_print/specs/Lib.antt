@@ -6,3 +6,4 @@ pub mod RouteTokens
 pub mod Spelling
 pub mod StatementTokens
 pub mod Tokens
+pub mod Writing

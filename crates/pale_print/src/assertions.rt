@@ -1,0 +1,174 @@
+//! Assertions.
+
+ghost use Rattle.std.specs.Prelude.{◌≡◌, OnOk, length};
+ghost use Rattle.pale_print.specs.AssertionTokens.{assertion_tokens, bracketed_tokens};
+ghost use Rattle.pale_print.specs.Writing.{Writes, goes_on, inside, related, walked, used, quantifier_words, quantifier_tokens, assertion_operands};
+
+use crate::names::{
+    push_compared, push_marked, push_name, push_names, push_path, push_paths, push_term,
+    push_variant_test,
+};
+use crate::routes::push_route;
+use crate::tokens::{close_group, open_group, push_mark, push_word};
+use pale_text::{Assertion, Bracketed, Mark, Name, Path, Quantifier, QuantifierKind, Route, Term};
+use std::alloc::AllocError;
+
+/// Whether an operator follows an operand behind which so many others of its chain stand.
+fn goes_on(others: usize, followed: bool) -> bool
+    ensures { result ≡ goes_on others followed }
+{
+    if others == 0 { followed } else { true }
+}
+
+/// Whether an operator follows what stands last in a group, or in no group where one follows it.
+fn inside(group: bool, followed: bool) -> bool
+    ensures { result ≡ inside group followed }
+{
+    if group { false } else { followed }
+}
+
+/// `t in S` or `t sub S`
+fn push_related(text: &mut Vec<u8>, term: &Term, word: &[u8], set: &Name) -> Result<(), AllocError>
+    ensures { OnOk result (Writes (related term.now word.now set.now) text.old.items text.new.items) }
+{
+    push_term(text, term)?;
+    push_word(text, word)?;
+    push_name(text, set)
+}
+
+/// `t < R > u`
+fn push_walk(text: &mut Vec<u8>, from: &Term, route: &Route, to: &Term) -> Result<(), AllocError>
+    ensures { OnOk result (Writes (walked from.now route.now to.now) text.old.items text.new.items) }
+{
+    push_term(text, from)?;
+    push_mark(text, Mark::Less)?;
+    push_route(text, route, 0)?;
+    push_mark(text, Mark::Greater)?;
+    push_term(text, to)
+}
+
+/// `p ( x , y . f )`
+fn push_use(text: &mut Vec<u8>, predicate: &Name, arguments: &[Path]) -> Result<(), AllocError>
+    ensures { OnOk result (Writes (used predicate.now arguments.now) text.old.items text.new.items) }
+{
+    push_name(text, predicate)?;
+    push_mark(text, Mark::LeftParen)?;
+    push_paths(text, arguments)?;
+    push_mark(text, Mark::RightParen)
+}
+
+/// `ex`, `all`, `ex set` or `all set`
+fn push_quantifier_words(text: &mut Vec<u8>, quantifier: &Quantifier) -> Result<(), AllocError>
+    ensures { OnOk result (Writes (quantifier_words quantifier.now) text.old.items text.new.items) }
+{
+    match quantifier.kind {
+        QuantifierKind::Ex => push_word(text, b"ex")?,
+        QuantifierKind::All => push_word(text, b"all")?,
+    }
+    if quantifier.of_sets {
+        push_word(text, b"set")?;
+    }
+    Ok(())
+}
+
+/// A quantifier up to what it governs.
+fn push_quantifier(text: &mut Vec<u8>, quantifier: &Quantifier) -> Result<(), AllocError>
+    ensures { OnOk result (Writes (quantifier_tokens quantifier.now) text.old.items text.new.items) }
+{
+    push_quantifier_words(text, quantifier)?;
+    push_names(text, quantifier.names.as_slice())?;
+    push_marked(text, Mark::Colon, &quantifier.ty)?;
+    push_mark(text, Mark::Colon)
+}
+
+/// Operands of a chain, each behind its operator.
+#[cycle(assertions)]
+fn push_operands(
+    text: &mut Vec<u8>,
+    mark: Mark,
+    asked: u8,
+    operands: &[Assertion],
+    followed: bool,
+) -> Result<(), AllocError>
+    ensures { OnOk result (Writes (assertion_operands mark asked operands.now followed) text.old.items text.new.items) }
+{
+    let mut left = operands.len();
+    for operand in operands {
+        left -= 1;
+        push_mark(text, mark)?;
+        push_assertion(text, operand, asked, goes_on(left, followed))?;
+    }
+    Ok(())
+}
+
+/// An assertion where its place asks so much, and where an operator follows or not.
+#[cycle(assertions)]
+#[tactic(auto, using(crate::proofs::AssertionLemmas::assertion_forms))]
+fn push_assertion(
+    text: &mut Vec<u8>,
+    assertion: &Assertion,
+    asked: u8,
+    followed: bool,
+) -> Result<(), AllocError>
+    ensures { OnOk result (Writes (assertion_tokens assertion.now asked followed) text.old.items text.new.items) }
+{
+    match assertion {
+        Assertion::True => push_word(text, b"true"),
+        Assertion::False => push_word(text, b"false"),
+        Assertion::Truth(path) => push_path(text, path),
+        Assertion::Same(left, _, right) => push_compared(text, left, Mark::Equals, right),
+        Assertion::Differ(left, _, right) => push_compared(text, left, Mark::NotEqual, right),
+        Assertion::Member(term, _, set) => push_related(text, term, b"in", set),
+        Assertion::Subset(term, _, set) => push_related(text, term, b"sub", set),
+        Assertion::Walk(from, _, route, to) => push_walk(text, from, route, to),
+        Assertion::Is(term, _, variant) => push_variant_test(text, term, variant),
+        Assertion::Use(predicate, arguments) => push_use(text, predicate, arguments.as_slice()),
+        Assertion::Not(_, inner) => {
+            push_mark(text, Mark::Tilde)?;
+            push_assertion(text, inner.get(), 4, followed)
+        }
+        Assertion::And(first, others) => {
+            let last = inside(asked > 3, followed);
+            open_group(text, asked > 3)?;
+            push_assertion(text, first.get(), 4, goes_on(others.len(), last))?;
+            push_operands(text, Mark::Ampersand, 4, others.as_slice(), last)?;
+            close_group(text, asked > 3)
+        }
+        Assertion::Or(first, others) => {
+            let last = inside(asked > 2, followed);
+            open_group(text, asked > 2)?;
+            push_assertion(text, first.get(), 3, goes_on(others.len(), last))?;
+            push_operands(text, Mark::Bar, 3, others.as_slice(), last)?;
+            close_group(text, asked > 2)
+        }
+        Assertion::Imp(left, _, right) => {
+            open_group(text, asked > 1)?;
+            push_assertion(text, left.get(), 2, true)?;
+            push_mark(text, Mark::Implies)?;
+            push_assertion(text, right.get(), 1, inside(asked > 1, followed))?;
+            close_group(text, asked > 1)
+        }
+        Assertion::Iff(first, others) => {
+            let last = inside(asked > 0, followed);
+            open_group(text, asked > 0)?;
+            push_assertion(text, first.get(), 1, goes_on(others.len(), last))?;
+            push_operands(text, Mark::Equivalent, 1, others.as_slice(), last)?;
+            close_group(text, asked > 0)
+        }
+        Assertion::Quantified(quantifier, inner) => {
+            open_group(text, followed)?;
+            push_quantifier(text, quantifier)?;
+            push_assertion(text, inner.get(), 0, false)?;
+            close_group(text, followed)
+        }
+    }
+}
+
+/// `[ a ]`
+pub fn push_bracketed(text: &mut Vec<u8>, bracketed: &Bracketed) -> Result<(), AllocError>
+    ensures { OnOk result (Writes (bracketed_tokens bracketed.now) text.old.items text.new.items) }
+{
+    push_mark(text, Mark::LeftBracket)?;
+    push_assertion(text, &bracketed.assertion, 0, false)?;
+    push_mark(text, Mark::RightBracket)
+}
