@@ -1,20 +1,7 @@
 //! Texts with what `check` writes for them and its status, worked out by hand from the rules of the language.
 
-use pale_io::{CleanSink, CleanSource};
-use pale_top::pale_main;
-use std::alloc::{AllocError, Global};
+use crate::calls::called;
 use std::test::Fail;
-
-/// What `pale check` writes for a text, and its status.
-pub fn checked(alloc: Global, text: &[u8]) -> Result<(Vec<u8>, u8), AllocError> {
-    let mut words = Vec::new(alloc);
-    words.push(String::from_str(alloc, "pale")?)?;
-    words.push(String::from_str(alloc, "check")?)?;
-    let mut source = CleanSource::new(Vec::from_slice(alloc, text)?);
-    let mut sink = CleanSink::new(alloc);
-    let status = pale_main(alloc, &words, &mut source, &mut sink);
-    Ok((Vec::from_slice(alloc, sink.written())?, status.number()))
-}
 
 /// The lines of a program whose one triple is valid, behind `triple 1 `.
 fn is_valid(written: &[u8], head: &str) -> bool {
@@ -32,7 +19,7 @@ fn a_text_without_procedure_has_no_triple(rt: HostRuntime) -> Result<(), Fail> {
         b"# nothing but \xff and \x00",
         b"# one line\n# another\n",
     ] {
-        let (written, status) = checked(rt.alloc(), text)?;
+        let (written, status) = called(rt.alloc(), "check", text)?;
         assert_eq!(rt;
             written.as_slice(),
             b"triples 0 valid 0 invalid 0 limit 0\n".as_slice(),
@@ -92,7 +79,7 @@ fn a_triple_that_no_values_fail_is_valid(rt: HostRuntime) -> Result<(), Fail> {
         ),
     ];
     for (text, head) in rows {
-        let (written, status) = checked(rt.alloc(), text.as_bytes())?;
+        let (written, status) = called(rt.alloc(), "check", text.as_bytes())?;
         assert!(rt; is_valid(&written, head), "{text}");
         assert_eq!(rt; status, 0, "{text}");
     }
@@ -125,7 +112,7 @@ fn the_values_that_fail_are_printed(rt: HostRuntime) -> Result<(), Fail> {
         ),
     ];
     for (text, report) in rows {
-        let (written, status) = checked(rt.alloc(), text.as_bytes())?;
+        let (written, status) = called(rt.alloc(), "check", text.as_bytes())?;
         let want = format!(in rt.alloc();
             "triple 1 {report}triples 1 valid 0 invalid 1 limit 0\n"
         )?;
@@ -189,7 +176,7 @@ fn a_text_that_is_no_program_of_bools_is_refused(rt: HostRuntime) -> Result<(), 
         "proc p() { \u{e9} }",
     ];
     for text in rows {
-        let (written, status) = checked(rt.alloc(), text.as_bytes())?;
+        let (written, status) = called(rt.alloc(), "check", text.as_bytes())?;
         assert_eq!(rt;
             written.as_slice(),
             b"refused 1:1 not-yet\n".as_slice(),

@@ -2,6 +2,10 @@
 #![tactic(auto)]
 
 #[cfg(test)]
+mod calls;
+#[cfg(test)]
 mod checks;
+#[cfg(test)]
+mod formats;
 #[cfg(test)]
 mod made;

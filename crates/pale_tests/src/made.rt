@@ -1,24 +1,8 @@
 //! Texts at the bounds of the language, one on each side.
 
-use crate::checks::checked;
+use crate::calls::{called, repeated};
 use std::alloc::{AllocError, Global};
 use std::test::Fail;
-
-/// A text that is a piece so many times, between two others.
-fn repeated(
-    alloc: Global,
-    front: &str,
-    piece: &str,
-    count: usize,
-    back: &str,
-) -> Result<String, AllocError> {
-    let mut text = String::from_str(alloc, front)?;
-    for _ in 0..count {
-        text.push_str(piece)?;
-    }
-    text.push_str(back)?;
-    Ok(text)
-}
 
 /// A procedure with so many parameters.
 fn with_names(alloc: Global, count: usize) -> Result<String, AllocError> {
@@ -94,7 +78,7 @@ fn each_bound_is_the_last_that_is_read(rt: HostRuntime) -> Result<(), Fail> {
         ),
     ];
     for (text, is_read) in rows {
-        let (written, status) = checked(alloc, text.as_bytes())?;
+        let (written, status) = called(alloc, "check", text.as_bytes())?;
         let want = if is_read {
             b"triple 1 p line 1 valid\ntriples 1 valid 1 invalid 0 limit 0\n".as_slice()
         } else {

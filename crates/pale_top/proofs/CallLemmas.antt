@@ -1,6 +1,6 @@
 -- What a call leaves, by what it read and wrote.
 use Rattle.std.proofs.Common.{◌≡◌, ◌∙◌, ◌+◌, ◌<◌, ◌≤◌, ℕ, List, [], length, replicate, refl, ap, subst, sym, arith, inr, Option, Some, None, Result, Ok, Err}
-use Rattle.std.specs.Prelude.{IfSome, IfOk, OnErr}
+use Rattle.std.specs.Prelude.{IfSome, IfOk, IsErrOf, OnErr}
 use Rattle.std.proofs.Math.ListN.{drop_of_length-le}
 use Rattle.std.proofs.lemmas.List.{length-replicate}
 use Rattle.bool_path.specs.declared.program.BoolProc.{BoolProc}
@@ -11,12 +11,17 @@ use Rattle.pale_io.specs.Whole.{ReadsAll, WritesAll, WritesFront}
 use Rattle.pale_io.specs.declared.stops.WriteStop.{WriteStop}
 use Rattle.pale_io.specs.declared.stops.WriteStop.TheVariants.{Failed, NoMemory}
 use Rattle.pale_top.specs.declared.status.Status.{Status}
+use Rattle.pale_top.specs.declared.status.Status.TheVariants.{Good, Bad, Words, Text, Limit, Memory, ReadFault, WriteFault}
 use Rattle.pale_top.specs.declared.words.Mode.{Mode}
-use Rattle.pale_top.specs.declared.words.Mode.TheVariants.{Check}
+use Rattle.pale_top.specs.declared.words.Mode.TheVariants.{Check, Format}
 use Rattle.pale_top.specs.declared.words.Settings.{Settings}
 use Rattle.pale_top.specs.Words.{Gives, IsRefused}
 use Rattle.pale_top.proofs.WrittenLemmas.{Wrote-weaker, WroteAtMost-weaker}
-use Rattle.pale_top.specs.Output.{Answers, Begins, Checks, too_long, not_yet, report, EndsBy, IsAnswer, IsCutShort, Output, check, Reports, Wrote, WroteAtMost, status_of}
+use Rattle.pale_top.specs.Formatting.{Formats}
+use Rattle.pale_top.specs.Formatting as formatting
+use Rattle.pale_top.specs.Output.{Answers, Begins, Checks, too_long, not_yet, report, EndsBy, IsAnswer, IsCutShort, Output, asked, check, format, Reports, Wrote, WroteAtMost, status_of}
+use Rattle.pale_top.specs.Report.{too_long_line}
+use Rattle.pale_top.specs.Texts.{most_bytes}
 
 -- ---- the text that was read
 
@@ -48,27 +53,78 @@ all_read most (Some left) after bytes reads =
 
 -- ---- the statuses of outputs
 
--- an output isn't cut short
-triple_whole : (judged : BoolJudged) → IsCutShort (status_of judged) → ⊥
-triple_whole Valid cut = cut
-triple_whole (Invalid values) cut = cut
+-- an output has one of these
+abbrev IsGiven : Status → Type 0
+IsGiven Good = Unit {0}
+IsGiven Bad = Unit {0}
+IsGiven Text = Unit {0}
+IsGiven status = ⊥
 
-program_whole : (procedure : Option BoolProc) (output : List ℕ) (status : Status) → Reports procedure output status → IsCutShort status → ⊥
-program_whole None output status reports cut = subst IsCutShort reports.1 cut
-program_whole (Some p) output status reports cut = triple_whole reports.judged (subst IsCutShort reports.ends cut)
+triple_given : (judged : BoolJudged) → IsGiven (status_of judged)
+triple_given Valid = tt
+triple_given (Invalid values) = tt
 
-pub text_whole : (text output : List ℕ) (status : Status) → Checks text output status → IsCutShort status → ⊥
-text_whole text output status (too_long more) cut = cut
-text_whole text output status (not_yet within unread) cut = cut
-text_whole text output status (report program o s within reads reports) cut = program_whole program.procedure output status reports cut
+program_given : (procedure : Option BoolProc) (output : List ℕ) (status : Status) → Reports procedure output status → IsGiven status
+program_given None output status reports = subst IsGiven (sym reports.1) tt
+program_given (Some p) output status reports = subst IsGiven (sym reports.ends) (triple_given reports.judged)
 
--- where the writing was cut short, what was written begins an output
-pub text_begun : (left before after : Option (List ℕ)) (text : List ℕ) (outcome : Result Status WriteStop) (status : Status) → IfSome left (λ bytes. text ≡ bytes)
-    → EndsBy outcome status → IfOk outcome (Wrote (Checks text) before after) → OnErr outcome (WroteAtMost (Checks text) before after)
-    → IsCutShort status → Begins Checks left before after
-text_begun left before after text (Ok answer) status told ends wrote begun cut = absurd (text_whole text wrote.output answer wrote.allowed (subst IsCutShort ends cut))
-text_begun left before after text (Err Failed) status told ends wrote begun cut = record { text = text; told = told; wrote = begun }
-text_begun left before after text (Err NoMemory) status told ends wrote begun cut = record { text = text; told = told; wrote = begun }
+checked_given : (text output : List ℕ) (status : Status) → Checks text output status → IsGiven status
+checked_given text output status (too_long more) = tt
+checked_given text output status (not_yet within unread) = tt
+checked_given text output status (report program o s within reads reports) = program_given program.procedure output status reports
+
+formatted_given : (text output : List ℕ) (status : Status) → Formats text output status → IsGiven status
+formatted_given text output status (formatting.too_long more) = tt
+formatted_given text output status (formatting.stray refusal within stop) = tt
+formatted_given text output status (formatting.unparsed list refusal within lexed stop) = tt
+formatted_given text output status (formatting.program list tree within lexed parsed) = tt
+
+asked_given : (mode : Mode) (text output : List ℕ) (status : Status) → asked mode text output status → IsGiven status
+asked_given Check text output status checks = checked_given text output status checks
+asked_given Format text output status formats = formatted_given text output status formats
+
+-- such an output isn't cut short
+given_whole : (status : Status) → IsGiven status → IsCutShort status → ⊥
+given_whole Memory given cut = given
+given_whole WriteFault given cut = given
+given_whole Good given cut = cut
+given_whole Bad given cut = cut
+given_whole Words given cut = cut
+given_whole Text given cut = cut
+given_whole Limit given cut = cut
+given_whole ReadFault given cut = cut
+
+-- what is written for a text in a mode, by what the sink left and how the call ended
+module _ (mode : Mode) (text : List ℕ) (before after : Option (List ℕ)) where
+  wrote_given : (answer status : Status) → status ≡ answer → Wrote (asked mode text) before after answer → IsGiven status
+  wrote_given answer status ends wrote = subst IsGiven (sym ends) (asked_given mode text wrote.output answer wrote.allowed)
+
+  -- where the writing was cut short, what was written begins an output
+  pub text_begun : (left : Option (List ℕ)) (outcome : Result Status WriteStop) (status : Status) → IfSome left (λ bytes. text ≡ bytes) → EndsBy outcome status
+      → IfOk outcome (Wrote (asked mode text) before after) → OnErr outcome (WroteAtMost (asked mode text) before after) → IsCutShort status → Begins (asked mode) left before after
+  text_begun left (Ok answer) status told ends wrote begun cut = absurd (given_whole status (wrote_given answer status ends wrote) cut)
+  text_begun left (Err Failed) status told ends wrote begun cut = record { text = text; told = told; wrote = begun }
+  text_begun left (Err NoMemory) status told ends wrote begun cut = record { text = text; told = told; wrote = begun }
+
+  -- it doesn't end as at a fault of the source
+  pub no_read_fault : (outcome : Result Status WriteStop) (status : Status) → EndsBy outcome status → IfOk outcome (Wrote (asked mode text) before after) → status ≡ ReadFault → ⊥
+  no_read_fault (Ok answer) status ends wrote is = subst IsGiven is (wrote_given answer status ends wrote)
+  no_read_fault (Err Failed) status ends wrote is = subst IsCutShort (sym ends ∙ is) tt
+  no_read_fault (Err NoMemory) status ends wrote is = subst IsCutShort (sym ends ∙ is) tt
+
+  -- and as at a fault of the sink only where the sink failed
+  pub write_failed : (outcome : Result Status WriteStop) (status : Status) → EndsBy outcome status → IfOk outcome (Wrote (asked mode text) before after) → status ≡ WriteFault
+      → IsErrOf outcome Failed
+  write_failed (Ok answer) status ends wrote is = absurd (subst IsGiven is (wrote_given answer status ends wrote))
+  write_failed (Err Failed) status ends wrote is = refl
+  write_failed (Err NoMemory) status ends wrote is =
+      let bad : Memory ≡ WriteFault = sym ends ∙ is in
+      cc
+
+-- each mode refuses a text with too many bytes
+pub too_long_asked : (mode : Mode) (text : List ℕ) → most_bytes < length text → asked mode text too_long_line Text
+too_long_asked Check text more = too_long more
+too_long_asked Format text more = formatting.too_long more
 
 -- ---- a call that says one line
 
@@ -92,30 +148,35 @@ module _ (Allowed : List ℕ → List ℕ → Status → Type 0) (left before af
   line_begins (Err NoMemory) status ends whole said begun cut =
       record { text = text; told = told; wrote = inr (record { output = line; status = answer; allowed = allowed; written = begun }) }
 
--- ---- a call in the mode `check`
+-- ---- a call with words that ask for a mode
 
-module _ (words : List (List ℕ)) (settings : Settings) (gives : Gives words settings) (mode : settings.mode ≡ Check) (left before after : Option (List ℕ)) where
-  pub call_answers : (status : Status) → Answers Checks left before after status → Answers (Output words) left before after status
-  call_answers status answer = record {
-    text = answer.text;
-    told = answer.told;
-    wrote = Wrote-weaker (Checks answer.text) (Output words answer.text)
-        (λ output s checks. check settings output s gives mode checks) before after status answer.wrote;
-  }
+module _ (words : List (List ℕ)) (settings : Settings) (gives : Gives words settings) where
+  follows : (mode : Mode) → settings.mode ≡ mode → (text output : List ℕ) (status : Status) → asked mode text output status → Output words text output status
+  follows Check is text output status checks = check settings output status gives is checks
+  follows Format is text output status formats = format settings output status gives is formats
 
-  pub call_begins : Begins Checks left before after → Begins (Output words) left before after
-  call_begins begins = record {
-    text = begins.text;
-    told = begins.told;
-    wrote = WroteAtMost-weaker (Checks begins.text) (Output words begins.text)
-        (λ output s checks. check settings output s gives mode checks) before after begins.wrote;
-  }
+  module _ (left before after : Option (List ℕ)) where
+    pub call_answers : (status : Status) → Answers (asked settings.mode) left before after status → Answers (Output words) left before after status
+    call_answers status answer = record {
+      text = answer.text;
+      told = answer.told;
+      wrote = Wrote-weaker (asked settings.mode answer.text) (Output words answer.text) (follows settings.mode refl answer.text) before after status answer.wrote;
+    }
+
+    pub call_begins : Begins (asked settings.mode) left before after → Begins (Output words) left before after
+    call_begins begins = record {
+      text = begins.text;
+      told = begins.told;
+      wrote = WroteAtMost-weaker (asked settings.mode begins.text) (Output words begins.text) (follows settings.mode refl begins.text) before after begins.wrote;
+    }
+
+-- no mode has an output with the status of the limit
+pub not_limit : (mode : Mode) (left before after : Option (List ℕ)) (status : Status) → (IsAnswer status → Answers (asked mode) left before after status) → status ≡ Limit → ⊥
+not_limit mode left before after status answers is =
+    let answer = answers (subst IsAnswer (sym is) tt) in
+    subst IsGiven is (asked_given mode answer.text answer.wrote.output status answer.wrote.allowed)
 
 -- words that give settings aren't refused
 pub not_refused : (words : List (List ℕ)) (settings : Settings) → Gives words settings → IsRefused words → ⊥
 unfolding IsRefused
 not_refused words settings gives refused = refused gives.taken
-
--- `check` is the one mode
-pub only_mode : (mode : Mode) → mode ≡ Check
-only_mode Check = refl

@@ -20,7 +20,7 @@ use Rattle.clap.specs.declared.parser.matches.ArgMatches.{ArgMatches}
 use Rattle.clap.proofs.CallerLemmas.{default_present, present_has_entry, required_present}
 use Rattle.clap.proofs.WalkLemmas.{first_value-rows, list_any-map, one_text-rows}
 use Rattle.pale_top.specs.declared.words.Mode.{Mode}
-use Rattle.pale_top.specs.declared.words.Mode.TheVariants.{Check}
+use Rattle.pale_top.specs.declared.words.Mode.TheVariants.{Check, Format}
 use Rattle.pale_top.specs.Words.{HasMode, HasNumber, HasValues, IsModeParser, command_with, mode_name, mode_names}
 use Rattle.pale_top.proofs.ArgsLemmas.{globals, id_is, negates, plain, required, rules_of, some_arg, takes, three, wants_default}
 use Rattle.pale_top.proofs.ValueLemmas.{value_held}
@@ -39,11 +39,13 @@ entry_found (x ∷ xs) id has = go has.0 has.1 has.2 (bytes_eq x.0.now id) refl 
 
 -- a text that is among the names is a mode's
 named_mode : (t : Text) → list_any (λ name. same_text false name t) mode_names ≡ true → (mode : Mode) × (t ≡ mode_name mode)
-named_mode t among = go (bytes_eq (codes "check") t) refl among
+named_mode t among = go (bytes_eq (codes "check") t) (bytes_eq (codes "format") t) refl refl among
   where
-    go : (b : Bool) → bytes_eq (codes "check") t ≡ b → (b || false) ≡ true → (mode : Mode) × (t ≡ mode_name mode)
-    go true same some = (Check, sym ((bytes_eq-Decides (codes "check") t).0 same))
-    go false same some = absurd (true≢false (sym some))
+    go : (check format : Bool) → bytes_eq (codes "check") t ≡ check → bytes_eq (codes "format") t ≡ format → (check || (format || false)) ≡ true
+        → (mode : Mode) × (t ≡ mode_name mode)
+    go true format same other some = (Check, sym ((bytes_eq-Decides (codes "check") t).0 same))
+    go false true other same some = (Format, sym ((bytes_eq-Decides (codes "format") t).0 same))
+    go false false one other some = absurd (true≢false (sym some))
 
 accepted_mode : (parser : ValueParser) → IsModeParser parser → (t : Text) → Accepts false parser t → (mode : Mode) × (t ≡ mode_name mode)
 accepted_mode parser is t accepted =

@@ -1,4 +1,6 @@
+pub mod Formatting
 pub mod Output
 pub mod Report
 pub mod Statuses
+pub mod Texts
 pub mod Words

@@ -12,8 +12,11 @@ use Rattle.pale_io.specs.declared.stops.WriteStop.TheVariants.{Failed, NoMemory}
 use Rattle.pale_io.specs.Whole.{WritesAll, WritesFront}
 use Rattle.pale_top.specs.declared.status.Status.{Status}
 use Rattle.pale_top.specs.declared.status.Status.TheVariants.{Good, Bad, Words, Text, Memory, ReadFault, WriteFault}
-use Rattle.pale_top.specs.declared.words.Mode.TheVariants.{Check}
+use Rattle.pale_top.specs.declared.words.Mode.{Mode}
+use Rattle.pale_top.specs.declared.words.Mode.TheVariants.{Check, Format}
 use Rattle.pale_top.specs.declared.words.Settings.{Settings}
+use Rattle.pale_top.specs.Texts.{most_bytes}
+use Rattle.pale_top.specs.Formatting.{Formats}
 use Rattle.pale_top.specs.Words.{Gives, IsRefused}
 use Rattle.pale_top.specs.Report.{invalid_line, not_yet_line, store_text, too_long_line, totals_line, usage_line, valid_line}
 
@@ -45,10 +48,6 @@ abbrev pub Reports : Option BoolProc → List ℕ → Status → Type 0
 Reports None output status = (output ≡ totals_line 0 0 0) × (status ≡ Good)
 Reports (Some p) output status = ReportsTriple p output status
 
--- the most bytes that a text may have
-abbrev pub most_bytes : ℕ
-most_bytes = 1048576
-
 -- what `check` writes for a text, and the status: the text has too many bytes, is no program of bools, or is one
 pub data Checks (text : List ℕ) : List ℕ → Status → Type 0 where
   too_long : most_bytes < length text → Checks text too_long_line Text
@@ -58,11 +57,18 @@ pub data Checks (text : List ℕ) : List ℕ → Status → Type 0 where
 
 -- ---- a call
 
+-- what a mode writes for a text, and the status
+abbrev pub asked : Mode → List ℕ → List ℕ → Status → Type 0
+asked Check = Checks
+asked Format = Formats
+
 -- what a call with these words writes for a text, and its status: the words are refused, or ask for a mode
 pub data Output (words : List (List ℕ)) (text : List ℕ) : List ℕ → Status → Type 0 where
   refused : IsRefused words → Output words text usage_line Words
   check : (settings : Settings) (output : List ℕ) (status : Status) → Gives words settings → settings.mode ≡ Check
       → Checks text output status → Output words text output status
+  format : (settings : Settings) (output : List ℕ) (status : Status) → Gives words settings → settings.mode ≡ Format
+      → Formats text output status → Output words text output status
 
 -- the status is an answer, and not a fault or want of memory
 abbrev pub IsAnswer : Status → Type 0

@@ -3,6 +3,8 @@ use Rattle.std.specs.Prelude.{ℕ, ◌+◌, Bool, List, ◌++◌, codes, if◌th
 use Rattle.std.specs.List.{flat_map, zip}
 use Rattle.std.specs.Fmt.{decimal}
 use Rattle.bool_path.specs.declared.program.BoolProc.{BoolProc}
+use Rattle.pale_text.specs.declared.refusal.Refusal.{Refusal}
+use Rattle.pale_text.specs.Refusals.{word_of}
 
 -- the line for words that are refused
 abbrev pub usage_line : List ℕ
@@ -11,6 +13,11 @@ usage_line = codes "usage: pale MODE [--limit N] [--seed N]\n"
 -- the line for a text with too many bytes
 abbrev pub too_long_line : List ℕ
 too_long_line = codes "refused too-long\n"
+
+-- `refused LINE:COLUMN KIND`
+abbrev pub refused_line : Refusal → List ℕ
+refused_line refusal =
+    codes "refused " ++ decimal refusal.line ++ codes ":" ++ decimal refusal.column ++ codes " " ++ word_of refusal.kind ++ codes "\n"
 
 -- the line for a text that is no program of bools
 abbrev pub not_yet_line : List ℕ

@@ -8,7 +8,7 @@ use Rattle.clap.specs.declared.builder.action.ArgAction.TheVariants.{Set}
 use Rattle.clap.specs.declared.builder.value_parser.ValueParser.{ValueParser}
 use Rattle.clap.specs.declared.builder.value_parser.ValueParser.TheVariants.{Names, Signed}
 use Rattle.pale_top.specs.declared.words.Mode.{Mode}
-use Rattle.pale_top.specs.declared.words.Mode.TheVariants.{Check}
+use Rattle.pale_top.specs.declared.words.Mode.TheVariants.{Check, Format}
 use Rattle.pale_top.specs.declared.words.Settings.{Settings}
 
 -- ---- the command
@@ -16,10 +16,11 @@ use Rattle.pale_top.specs.declared.words.Settings.{Settings}
 -- the name of a mode
 abbrev pub mode_name : Mode → Text
 mode_name Check = codes "check"
+mode_name Format = codes "format"
 
 -- the names of all modes
 abbrev pub mode_names : List Text
-mode_names = mode_name Check ∷ []
+mode_names = mode_name Check ∷ mode_name Format ∷ []
 
 -- a value that is lent; where it stands is of no account
 abbrev pub lent : {X : Type 0} → X → Bor X

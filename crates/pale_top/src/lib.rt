@@ -1,15 +1,20 @@
 //! What the program `pale` does with its words, over a source and a sink of bytes.
 //!
 //! `specs/Words.antt` has the command line and what it gives; `specs/Output.antt` says what a call writes and how it
-//! ends; `specs/Report.antt` has the lines, as bytes.
+//! ends, with `specs/Formatting.antt` for the mode `format`; `specs/Report.antt` has the lines, as bytes.
 #![tactic(auto)]
 
 mod call;
+mod check;
+mod format;
+mod laws;
 mod report;
 mod status;
 mod words;
+mod writing;
 
 pub use call::pale_main;
+pub use laws::formatting_is_one;
 pub use status::Status;
 pub use words::{Mode, Settings, WordsStop, read_words};
 

@@ -1,9 +1,10 @@
 //! The lines of a report, as bytes.
 ghost use Rattle.std.specs.Prelude.{◌≡◌, ◌+◌, ◌<◌, ◌^◌, ◌++◌, IfOk, OnOk, drop};
 ghost use Rattle.std.specs.Fmt.{decimal};
-ghost use Rattle.pale_top.specs.Report.{invalid_line, store_text, totals_line, triple_head, truth_word, valid_line, variable_line, variable_lines};
+ghost use Rattle.pale_top.specs.Report.{invalid_line, refused_line, store_text, totals_line, triple_head, truth_word, valid_line, variable_line, variable_lines};
 
 use bool_path::{BitList, BoolProc, ByteList};
+use pale_text::Refusal;
 use std::alloc::{AllocError, Global};
 
 fn push_number(alloc: Global, text: &mut Vec<u8>, number: u32) -> Result<(), AllocError>
@@ -70,6 +71,21 @@ pub(crate) fn invalid_report(
     push_number(alloc, &mut text, p.last)?;
     text.extend_from_slice(b"\n")?;
     push_store(&mut text, p, values)?;
+    Ok(text)
+}
+
+/// The line of a refused text: its first fault and where it stands.
+pub(crate) fn refused_line(alloc: Global, refusal: &Refusal) -> Result<Vec<u8>, AllocError>
+    ensures { IfOk result (λ text. text.items ≡ refused_line refusal.now) }
+{
+    let mut text = Vec::new(alloc);
+    text.extend_from_slice(b"refused ")?;
+    push_number(alloc, &mut text, refusal.line)?;
+    text.extend_from_slice(b":")?;
+    push_number(alloc, &mut text, refusal.column)?;
+    text.extend_from_slice(b" ")?;
+    text.extend_from_slice(refusal.kind.word().as_bytes())?;
+    text.extend_from_slice(b"\n")?;
     Ok(text)
 }
 

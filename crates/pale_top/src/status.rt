@@ -3,7 +3,7 @@
 /// How a call ends, by the number that the process gives back.
 #[derive(Clone, Copy, Debug, PartialEq, Eq)]
 pub enum Status {
-    /// Every triple is valid.
+    /// Every triple is valid, or the mode has no triples and did its work.
     Good,
     /// Some triple is invalid.
     Bad,

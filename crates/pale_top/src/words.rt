@@ -13,6 +13,8 @@ use std::alloc::{AllocError, Global};
 pub enum Mode {
     /// Reads a program and judges its triples.
     Check,
+    /// Writes a program in its canonical spelling.
+    Format,
 }
 
 /// What the words of a call ask for.
@@ -47,7 +49,7 @@ impl From<AllocError> for WordsStop {
 ghost use Rattle.clap.specs.declared.builder.value_parser.ValueParser.TheVariants.{Signed};
 ghost use Rattle.pale_top.specs.Words.{Gives, HasMode, HasNumber, HasSettings, HasValues, number_of, mode_rule, number_rule, IsRefused, IsModeParser, mode_name, command_with};
 
-static MODE_NAMES: [&str; 1] = ["check"];
+static MODE_NAMES: [&str; 2] = ["check", "format"];
 
 impl Mode {
     /// The mode of this name.
@@ -57,6 +59,7 @@ impl Mode {
     {
         match name {
             "check" => Some(Mode::Check),
+            "format" => Some(Mode::Format),
             _ => None,
         }
     }

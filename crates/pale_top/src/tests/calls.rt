@@ -35,6 +35,12 @@ end
 triples 1 valid 0 invalid 1 limit 0
 ";
 
+const NEG_SPELLING: &str =
+    "proc neg ( bool a ) returns ( bool b ) logic bool v pre [ a <=> v ] post [ b <=> ~ v ] {
+b = ! a ;
+}
+";
+
 const USAGE: &str = "usage: pale MODE [--limit N] [--seed N]\n";
 
 /// A call that ended: its status, what it wrote, and how often its source and its sink failed.
@@ -80,6 +86,11 @@ fn texts_and_words_have_their_reports(rt: HostRuntime) -> Result<(), Fail> {
         ("pale check extra", NEG, 2, USAGE),
         ("pale --help", NEG, 2, USAGE),
         ("pale check", "proc p() {", 3, "refused 1:1 not-yet\n"),
+        ("pale format", NEG, 0, NEG_SPELLING),
+        ("pale format --limit 1 --seed 9", NEG, 0, NEG_SPELLING),
+        ("pale format", "proc p() {", 3, "refused 1:11 syntax\n"),
+        ("pale format", "proc p() { % }", 3, "refused 1:12 char\n"),
+        ("pale format extra", NEG, 2, USAGE),
     ];
     for (line, text, number, report) in rows {
         let ended = call(rt.alloc(), line, text.as_bytes(), &[], &[])?;
@@ -106,31 +117,45 @@ fn one_byte_more_is_too_long(rt: HostRuntime) -> Result<(), Fail> {
 
 #[test]
 fn a_failed_read_leaves_nothing_written(rt: HostRuntime) -> Result<(), Fail> {
-    for read in 1..4 {
-        let ended = call(rt.alloc(), "pale check", NEG.as_bytes(), &[read], &[])?;
-        let (status, report) = if ended.read_faults > 0 {
-            (Status::ReadFault, "")
-        } else {
-            (Status::Good, NEG_REPORT)
-        };
-        assert_eq!(rt; ended.status, status);
-        assert_eq!(rt; ended.written.as_slice(), report.as_bytes());
+    for (line, output) in [("pale check", NEG_REPORT), ("pale format", NEG_SPELLING)] {
+        for read in 1..4 {
+            let ended = call(rt.alloc(), line, NEG.as_bytes(), &[read], &[])?;
+            let (status, report) = if ended.read_faults > 0 {
+                (Status::ReadFault, "")
+            } else {
+                (Status::Good, output)
+            };
+            assert_eq!(rt; ended.status, status, "{line}");
+            assert_eq!(rt; ended.written.as_slice(), report.as_bytes(), "{line}");
+        }
     }
     Ok(())
 }
 
 #[test]
 fn a_failed_write_leaves_a_front(rt: HostRuntime) -> Result<(), Fail> {
-    for write in 1..4 {
-        let ended = call(rt.alloc(), "pale check", WRONG.as_bytes(), &[], &[write])?;
-        let status = if ended.write_faults > 0 {
-            Status::WriteFault
-        } else {
-            Status::Bad
-        };
-        assert_eq!(rt; ended.status, status);
-        assert!(rt; WRONG_REPORT.as_bytes().starts_with(&ended.written));
-        assert!(rt; write > 1 || ended.written.is_empty());
+    let rows = [
+        ("pale check", WRONG, WRONG_REPORT, Status::Bad),
+        ("pale format", NEG, NEG_SPELLING, Status::Good),
+        (
+            "pale format",
+            "proc p() {",
+            "refused 1:11 syntax\n",
+            Status::Text,
+        ),
+    ];
+    for (line, text, output, good) in rows {
+        for write in 1..4 {
+            let ended = call(rt.alloc(), line, text.as_bytes(), &[], &[write])?;
+            let status = if ended.write_faults > 0 {
+                Status::WriteFault
+            } else {
+                good
+            };
+            assert_eq!(rt; ended.status, status, "{line}");
+            assert!(rt; output.as_bytes().starts_with(&ended.written), "{line}");
+            assert!(rt; write > 1 || ended.written.is_empty(), "{line}");
+        }
     }
     Ok(())
 }

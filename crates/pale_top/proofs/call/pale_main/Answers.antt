@@ -3,18 +3,22 @@ use Rattle.std.specs.String.{string_bytes}
 use Rattle.pale_top.specs.declared.status.Status.TheVariants.{Words}
 use Rattle.pale_top.specs.Output.{Output, refused}
 use Rattle.pale_top.specs.Report.{usage_line}
-use Rattle.pale_top.proofs.CallLemmas.{call_answers, call_begins, line_answers, line_begins, not_refused, only_mode, some_text}
+use Rattle.pale_top.proofs.CallLemmas.{call_answers, call_begins, line_answers, line_begins, not_limit, not_refused, some_text}
 use Rattle.pale_top.proofs.call.pale_main.Goals as goal
 
 pub returns-in-Ok-clause-answer : goal.returns-in-Ok-clause-answer
 returns-in-Ok-clause-answer g c is =
-    call_answers (map string_bytes c.args.words.now.items) c.in-Ok.settings c.in-Ok.ensures.ok (only_mode c.in-Ok.settings.mode) (g.S.Source.left c.args.source.now) (g.K.Sink.written c.args.sink.now)
-    (g.K.Sink.written c.check.new.sink) c.check.result (c.check.ensures.answer is)
+    call_answers (map string_bytes c.args.words.now.items) c.in-Ok.settings c.in-Ok.ensures.ok (g.S.Source.left c.args.source.now) (g.K.Sink.written c.args.sink.now)
+    (g.K.Sink.written c.answer.new.sink) c.answer.result (c.answer.ensures.answer is)
 
 pub returns-in-Ok-clause-begins : goal.returns-in-Ok-clause-begins
 returns-in-Ok-clause-begins g c cut =
-    call_begins (map string_bytes c.args.words.now.items) c.in-Ok.settings c.in-Ok.ensures.ok (only_mode c.in-Ok.settings.mode) (g.S.Source.left c.args.source.now) (g.K.Sink.written c.args.sink.now)
-    (g.K.Sink.written c.check.new.sink) (c.check.ensures.begins cut)
+    call_begins (map string_bytes c.args.words.now.items) c.in-Ok.settings c.in-Ok.ensures.ok (g.S.Source.left c.args.source.now) (g.K.Sink.written c.args.sink.now)
+    (g.K.Sink.written c.answer.new.sink) (c.answer.ensures.begins cut)
+
+pub returns-in-Ok-clause-limit : goal.returns-in-Ok-clause-limit
+returns-in-Ok-clause-limit g c =
+    not_limit c.in-Ok.settings.mode (g.S.Source.left c.args.source.now) (g.K.Sink.written c.args.sink.now) (g.K.Sink.written c.answer.new.sink) c.answer.result c.answer.ensures.answer
 
 pub returns-in-Ok-clause-unread : goal.returns-in-Ok-clause-unread
 returns-in-Ok-clause-unread g c refuses = absurd (not_refused (map string_bytes c.args.words.now.items) c.in-Ok.settings c.in-Ok.ensures.ok refuses)

@@ -6,7 +6,7 @@ use Rattle.pale_top.specs.declared.status.Status.TheVariants.{Good}
 use Rattle.pale_top.specs.Output.{Reports}
 use Rattle.pale_top.specs.Report.{totals_line}
 use Rattle.pale_top.proofs.WrittenLemmas.{line_begun}
-use Rattle.pale_top.proofs.call.check_program.Goals as goal
+use Rattle.pale_top.proofs.check.check_program.Goals as goal
 
 pub returns-in_ok-line-in-None-clause-err : goal.returns-in_ok-line-in-None-clause-err
 returns-in_ok-line-in-None-clause-err g c =

@@ -5,7 +5,7 @@ use Rattle.pale_top.specs.declared.status.Status.{Status}
 use Rattle.pale_top.specs.Output.{ReportsTriple, Wrote}
 use Rattle.pale_top.proofs.TripleLemmas.{report_begun, report_written, totals_begun, totals_written}
 use Rattle.pale_top.proofs.WrittenLemmas.{on_err}
-use Rattle.pale_top.proofs.call.check_triple.Goals as goal
+use Rattle.pale_top.proofs.check.check_triple.Goals as goal
 
 pub returns-in_err-write_all-clause-err : goal.returns-in_err-write_all-clause-err
 returns-in_err-write_all-clause-err g c =

@@ -6,7 +6,7 @@ use Rattle.pale_top.specs.Output.{Checks, Reports, Wrote}
 use Rattle.pale_top.specs.Output.{not_yet, report}
 use Rattle.pale_top.specs.Report.{not_yet_line}
 use Rattle.pale_top.proofs.WrittenLemmas.{Wrote-weaker, WroteAtMost-weaker, line_begun, line_written}
-use Rattle.pale_top.proofs.call.check_text.Goals as goal
+use Rattle.pale_top.proofs.check.check_text.Goals as goal
 
 pub returns-in-Ok-clause-ok : goal.returns-in-Ok-clause-ok
 returns-in-Ok-clause-ok g c =

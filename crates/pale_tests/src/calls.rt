@@ -1,0 +1,32 @@
+//! Calls of the program on a text in memory.
+
+use pale_io::{CleanSink, CleanSource};
+use pale_top::pale_main;
+use std::alloc::{AllocError, Global};
+
+/// What `pale MODE` writes for a text, and its status.
+pub fn called(alloc: Global, mode: &str, text: &[u8]) -> Result<(Vec<u8>, u8), AllocError> {
+    let mut words = Vec::new(alloc);
+    words.push(String::from_str(alloc, "pale")?)?;
+    words.push(String::from_str(alloc, mode)?)?;
+    let mut source = CleanSource::new(Vec::from_slice(alloc, text)?);
+    let mut sink = CleanSink::new(alloc);
+    let status = pale_main(alloc, &words, &mut source, &mut sink);
+    Ok((Vec::from_slice(alloc, sink.written())?, status.number()))
+}
+
+/// A text that is a piece so many times, between two others.
+pub fn repeated(
+    alloc: Global,
+    front: &str,
+    piece: &str,
+    count: usize,
+    back: &str,
+) -> Result<String, AllocError> {
+    let mut text = String::from_str(alloc, front)?;
+    for _ in 0..count {
+        text.push_str(piece)?;
+    }
+    text.push_str(back)?;
+    Ok(text)
+}
