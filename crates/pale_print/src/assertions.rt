@@ -1,4 +1,5 @@
-//! Assertions.
+//! Assertions. `<=>` binds 0, `=>` 1, `|` 2, `&` 3 and all others 4: one that binds less than its place asks is in
+//! parentheses, and a quantifier where an operator follows it, which its body would take.
 
 ghost use Rattle.std.specs.Prelude.{◌≡◌, OnOk, length};
 ghost use Rattle.pale_print.specs.AssertionTokens.{assertion_tokens, bracketed_tokens};

@@ -1,4 +1,4 @@
-//! Conditions of code.
+//! Conditions of code. `||` binds 0, `&&` 1 and all others 2: one that binds less than its place asks is in parentheses.
 
 ghost use Rattle.std.specs.Prelude.{◌≡◌, OnOk};
 ghost use Rattle.pale_print.specs.ConditionTokens.{condition_tokens};

@@ -1,4 +1,5 @@
-//! Routing expressions.
+//! Routing expressions. `+` binds 0, `.` 1, `*` 2 and a single step 3: one that binds less than its place asks is in
+//! parentheses.
 
 ghost use Rattle.std.specs.Prelude.{◌≡◌, OnOk};
 ghost use Rattle.pale_print.specs.RouteTokens.{stars, route_tokens};
