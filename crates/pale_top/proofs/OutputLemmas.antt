@@ -1,4 +1,4 @@
--- `format` has one output and one status for a text.
+-- A text has at most one output of `format`, with one status.
 use Rattle.std.proofs.Common.{◌≡◌, ◌∙◌, ℕ, List, ap, subst, refl, sym, arith, inl, inr}
 use Rattle.grammar_engine.specs.Grammars.{Rules}
 use Rattle.grammar_engine.specs.Readings.{Step}

@@ -7,7 +7,7 @@ ghost use Rattle.pale_top.specs.Formatting.{Formats};
 use pale_parse::one_program;
 use pale_text::{stray_byte_is_one, tokens_are_one};
 
-/// For each text `format` has one output and one status.
+/// A text has at most one output of `format`, with one status.
 pub fn formatting_is_one()
     ensures { (text one other : List ℕ) (status another : Status) →
         Formats text one status → Formats text other another → (one ≡ other) × (status ≡ another) }
