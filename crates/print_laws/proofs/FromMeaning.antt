@@ -1,0 +1,532 @@
+-- What each part of program text makes, and what becomes of the parts that were made before.
+use Rattle.std.proofs.Common.{◌≡◌, ◌⊎◌, inl, inr, ℕ, suc, Bool, true, false, List, [], ◌∷◌, ◌++◌, Option, None, Some}
+use Rattle.piles.specs.Piles.{top, rest}
+use Rattle.pale_text.specs.declared.grammar.kind.ProgramKind.TheVariants as kind
+use Rattle.pale_text.specs.declared.grammar.part.ProgramPart.{ProgramPart}
+use Rattle.pale_text.specs.declared.grammar.part.ProgramPart.TheVariants as part
+use Rattle.pale_text.specs.declared.place.Pos.{Pos}
+use Rattle.pale_text.specs.declared.token.Mark.{Mark}
+use Rattle.pale_text.specs.declared.token.Mark.TheVariants as mark
+use Rattle.pale_text.specs.declared.token.Token.{Token}
+use Rattle.pale_text.specs.declared.tree.names.Name.{Name}
+use Rattle.pale_text.specs.declared.tree.names.Path.{Path}
+use Rattle.pale_text.specs.declared.tree.names.Term.{Term}
+use Rattle.pale_text.specs.declared.tree.names.Term.TheVariants as term
+use Rattle.pale_text.specs.declared.tree.route.Route.{Route}
+use Rattle.pale_text.specs.declared.tree.route.Route.TheVariants as route
+use Rattle.pale_text.specs.declared.tree.condition.Condition.{Condition}
+use Rattle.pale_text.specs.declared.tree.assertion.Assertion.{Assertion}
+use Rattle.pale_text.specs.declared.tree.assertion.Assertion.TheVariants as assertion
+use Rattle.pale_text.specs.declared.tree.assertion.Bracketed.{Bracketed}
+use Rattle.pale_text.specs.declared.tree.assertion.Quantifier.{Quantifier}
+use Rattle.pale_text.specs.declared.tree.assertion.QuantifierKind.{QuantifierKind}
+use Rattle.pale_text.specs.declared.tree.statement.Argument.{Argument}
+use Rattle.pale_text.specs.declared.tree.statement.Statement.{Statement}
+use Rattle.pale_text.specs.declared.tree.statement.Value.{Value}
+use Rattle.pale_text.specs.declared.tree.declaration.Declaration.{Declaration}
+use Rattle.pale_text.specs.declared.tree.declaration.Declaration.TheVariants as declaration
+use Rattle.pale_text.specs.declared.tree.declaration.FieldDeclaration.{FieldDeclaration}
+use Rattle.pale_text.specs.declared.tree.declaration.LogicParameter.{LogicParameter}
+use Rattle.pale_text.specs.declared.tree.declaration.Parameter.{Parameter}
+use Rattle.pale_text.specs.declared.tree.declaration.PredicateDeclaration.{PredicateDeclaration}
+use Rattle.pale_text.specs.declared.tree.declaration.PredicateParameter.{PredicateParameter}
+use Rattle.pale_text.specs.declared.tree.declaration.Procedure.{Procedure}
+use Rattle.pale_text.specs.declared.tree.declaration.TypeDeclaration.{TypeDeclaration}
+use Rattle.pale_text.specs.declared.tree.declaration.VariantDeclaration.{VariantDeclaration}
+use Rattle.pale_text.specs.MakingParts.{Parts, nameless}
+use Rattle.pale_text.specs.MakingWords.{pathless, termless, extended}
+use Rattle.pale_text.specs.MakingRoutes.{routeless, tested_type, joined_then, joined_or, starred}
+use Rattle.pale_text.specs.MakingConditions.{conditionless, term_alone, both_conditions, either_condition}
+use Rattle.pale_text.specs.MakingAssertions.{assertionless, path_alone, both, either, equivalent, begun, quantifierless, of_sets, binding}
+use Rattle.pale_text.specs.MakingStatements.{valueless, narrowed, with_statement}
+use Rattle.pale_text.specs.ProgramWords.{kind_of, kinds_in}
+use Rattle.print_laws.specs.CanonicalNames.{IsFree, AreFree, IsFreePath, AreFreePaths, IsFreeTerm}
+use Rattle.print_laws.specs.CanonicalRoutes.{RoutePlace, IsCanonicalRoute, whole as whole_route, sequence, repeated, single}
+use Rattle.print_laws.specs.CanonicalConditions.{ConditionPlace, IsCanonicalCondition, whole as whole_condition, conjunction, literal}
+use Rattle.print_laws.specs.CanonicalAssertions.{AssertionPlace, IsCanonicalAssertion, IsCanonicalBracketed, whole, implication, disjunct, conjunct, operand}
+use Rattle.print_laws.specs.CanonicalStatements.{AreFreeArguments, IsFreeArgument, IsCanonicalClause, IsCanonicalValue, IsCanonicalStatement, AreCanonicalStatements}
+use Rattle.print_laws.specs.CanonicalDeclarations.{IsCanonicalField, AreCanonicalFields, IsCanonicalVariant, AreCanonicalVariants, IsCanonicalType, IsFreePredicateParameter, AreFreePredicateParameters, IsCanonicalPredicate, IsFreeParameter, AreFreeParameters, IsFreeLogic, AreFreeLogics, IsCanonicalProcedure}
+use Rattle.print_laws.proofs.Framework.{Counts}
+use Rattle.print_laws.proofs.FromRows.{Meaning}
+
+-- ---- what parts make
+
+pub record FreeName : Type 0 where
+  pub name : Name
+  pub free : IsFree name
+
+pub record PathMade : Type 0 where
+  pub path : Path
+  pub free : IsFreePath path
+
+pub record TermMade : Type 0 where
+  pub term : Term
+  pub free : IsFreeTerm term
+
+pub record RouteMade (p : RoutePlace) (room : ℕ) : Type 0 where
+  pub route : Route
+  pub canonical : IsCanonicalRoute p room route
+
+pub record ConditionMade (p : ConditionPlace) (room : ℕ) : Type 0 where
+  pub condition : Condition
+  pub canonical : IsCanonicalCondition p room condition
+
+-- a condition of the term before it
+pub record ConditionOfTerm (room : ℕ) : Type 0 where
+  pub of : Term → Condition
+  pub canonical : (t : Term) → IsFreeTerm t → IsCanonicalCondition literal room (of t)
+
+-- the tokens begin with this mark
+pub record BeginsWith (m : Mark) (tokens : List Token) : Type 0 where
+  pub first : Token
+  pub others : List Token
+  pub tokens_are : tokens ≡ first ∷ others
+  pub kind_is : kind_of first.kind ≡ kind.Mark m
+
+-- the tokens begin with an operator
+abbrev pub IsOperator : List Token → Type 0
+IsOperator tokens = (BeginsWith mark.Ampersand tokens ⊎ BeginsWith mark.Bar tokens) ⊎ (BeginsWith mark.Implies tokens ⊎ BeginsWith mark.Equivalent tokens)
+
+-- an operator comes next, where one is said to
+abbrev pub MayFollow : Bool → List Token → Type 0
+MayFollow false tokens = Unit {0}
+MayFollow true tokens = IsOperator tokens
+
+abbrev pub StopsAt : ProgramPart → List Token → Type 0
+StopsAt n tokens = Counts n (kinds_in tokens)
+
+-- the chains that end at these tokens, in each of which these tokens don't go on
+pub record EndsAnd (tokens : List Token) : Type 0 where
+  pub and : StopsAt part.NextNegation tokens
+
+pub record EndsOr (tokens : List Token) : Type 0 where
+  pub and : StopsAt part.NextNegation tokens
+  pub or : StopsAt part.NextAndChain tokens
+
+pub record EndsImplication (tokens : List Token) : Type 0 where
+  pub and : StopsAt part.NextNegation tokens
+  pub or : StopsAt part.NextAndChain tokens
+  pub imp : StopsAt part.Implied tokens
+
+pub record EndsIff (tokens : List Token) : Type 0 where
+  pub and : StopsAt part.NextNegation tokens
+  pub or : StopsAt part.NextAndChain tokens
+  pub imp : StopsAt part.Implied tokens
+  pub iff : StopsAt part.NextImplication tokens
+
+pub record AssertionMade (p : AssertionPlace) (room : ℕ) (end : List Token) : Type 0 where
+  pub assertion : Assertion
+  pub canonical : (followed : Bool) → MayFollow followed end → IsCanonicalAssertion p followed room assertion
+
+-- an assertion that ends with no quantifier
+pub record AtomMade (room : ℕ) : Type 0 where
+  pub assertion : Assertion
+  pub canonical : (followed : Bool) → IsCanonicalAssertion operand followed room assertion
+
+pub record AtomOfPath (room : ℕ) : Type 0 where
+  pub of : Path → Assertion
+  pub canonical : (p : Path) → IsFreePath p → (followed : Bool) → IsCanonicalAssertion operand followed room (of p)
+
+pub record AtomOfTerm (room : ℕ) : Type 0 where
+  pub of : Term → Assertion
+  pub canonical : (t : Term) → IsFreeTerm t → (followed : Bool) → IsCanonicalAssertion operand followed room (of t)
+
+-- what is implied, behind `=>`
+pub record ImpliedMade (room : ℕ) (end : List Token) : Type 0 where
+  pub place : Pos
+  pub inside : ℕ
+  pub opens : room ≡ suc inside
+  pub right : AssertionMade implication inside end
+
+-- a quantifier's names and type, and its body
+pub record QuantifiedMade (room : ℕ) : Type 0 where
+  pub quantifier : Quantifier → Quantifier
+  pub body : Assertion
+  pub canonical : (kind : QuantifierKind) (place : Pos) → IsCanonicalAssertion operand false (suc room) (assertion.Quantified (quantifier (begun kind place)) body)
+
+pub record BracketedMade (room : ℕ) : Type 0 where
+  pub bracketed : Bracketed
+  pub canonical : IsCanonicalBracketed room bracketed
+
+pub record BlockMade (room : ℕ) : Type 0 where
+  pub inside : ℕ
+  pub opens : room ≡ suc inside
+  pub block : List Statement
+  pub canonical : AreCanonicalStatements inside block
+
+pub record StatementMade (room : ℕ) : Type 0 where
+  pub statement : Statement
+  pub canonical : IsCanonicalStatement room statement
+
+pub record ValueMade (room : ℕ) : Type 0 where
+  pub value : Value
+  pub canonical : IsCanonicalValue room value
+
+pub record ArgumentMade : Type 0 where
+  pub argument : Argument
+  pub free : IsFreeArgument argument
+
+pub record ArgumentsMade : Type 0 where
+  pub arguments : List Argument
+  pub free : AreFreeArguments arguments
+
+pub record PathsMade : Type 0 where
+  pub paths : List Path
+  pub free : AreFreePaths paths
+
+-- the arguments of a call, and what it keeps
+pub record GivenMade (room : ℕ) : Type 0 where
+  pub given : List Argument
+  pub given_free : AreFreeArguments given
+  pub logics : List Argument
+  pub logics_free : AreFreeArguments logics
+  pub keep : Option Bracketed
+  pub keep_canonical : IsCanonicalClause room keep
+
+-- what a call's first name is: the procedure's, or the first of these results
+pub record ResultsMade : Type 0 where
+  pub more : List Name
+  pub more_free : AreFree more
+  pub callee : FreeName
+
+pub record CallMade (room : ℕ) : Type 0 where
+  pub results : Unit {0} ⊎ ResultsMade
+  pub given : GivenMade room
+
+pub record FieldMade (room : ℕ) : Type 0 where
+  pub field : FieldDeclaration
+  pub canonical : IsCanonicalField room field
+
+pub record VariantMade (room : ℕ) : Type 0 where
+  pub variant : VariantDeclaration
+  pub canonical : IsCanonicalVariant room variant
+
+pub record TypeMade (room : ℕ) : Type 0 where
+  pub type : TypeDeclaration
+  pub canonical : IsCanonicalType room type
+
+pub record PredicateParameterMade : Type 0 where
+  pub parameter : PredicateParameter
+  pub free : IsFreePredicateParameter parameter
+
+pub record PredicateParametersMade : Type 0 where
+  pub parameters : List PredicateParameter
+  pub free : AreFreePredicateParameters parameters
+
+pub record PredicateMade (room : ℕ) : Type 0 where
+  pub predicate : PredicateDeclaration
+  pub canonical : IsCanonicalPredicate room predicate
+
+pub record ParameterMade : Type 0 where
+  pub parameter : Parameter
+  pub free : IsFreeParameter parameter
+
+pub record ParametersMade : Type 0 where
+  pub parameters : List Parameter
+  pub free : AreFreeParameters parameters
+
+pub record LogicMade : Type 0 where
+  pub logic : LogicParameter
+  pub free : IsFreeLogic logic
+
+pub record LogicsMade : Type 0 where
+  pub logics : List LogicParameter
+  pub free : AreFreeLogics logics
+
+pub record ProcedureMade (room : ℕ) : Type 0 where
+  pub procedure : Procedure
+  pub canonical : IsCanonicalProcedure room procedure
+
+abbrev pub Made : ProgramPart → ℕ → List Token → List Token → Type 0
+Made part.Declaration room start end = TypeMade room ⊎ (PredicateMade room ⊎ ProcedureMade room)
+Made part.«Type» room start end = TypeMade room
+Made part.Variant room start end = VariantMade room
+Made part.Field room start end = FieldMade room
+Made part.Route room start end = RouteMade whole_route room
+Made part.NextAlternative room start end = RouteMade sequence room
+Made part.Sequence room start end = RouteMade sequence room
+Made part.NextRepeated room start end = RouteMade repeated room
+Made part.Repeated room start end = RouteMade repeated room
+Made part.Star room start end = Pos
+Made part.Step room start end = RouteMade single room
+Made part.UpName room start end = FreeName
+Made part.VariantTest room start end = FreeName
+Made part.Predicate room start end = PredicateMade room
+Made part.PredicateParameters room start end = PredicateParametersMade
+Made part.NextPredicateParameter room start end = PredicateParameterMade
+Made part.PredicateParameter room start end = PredicateParameterMade
+Made part.Bracketed room start end = BracketedMade room
+Made part.Procedure room start end = ProcedureMade room
+Made part.Returns room start end = ParametersMade
+Made part.Logic room start end = LogicsMade
+Made part.NextLogicParameter room start end = LogicMade
+Made part.LogicParameter room start end = LogicMade
+Made part.Pre room start end = BracketedMade room
+Made part.Post room start end = BracketedMade room
+Made part.Parameters room start end = ParametersMade
+Made part.NextParameter room start end = ParameterMade
+Made part.Parameter room start end = ParameterMade
+Made part.Local room start end = ParameterMade
+Made part.Block room start end = BlockMade room
+Made part.Statement room start end = StatementMade room
+Made part.Else room start end = BlockMade room
+Made part.CallRest room start end = CallMade room
+Made part.NextResult room start end = FreeName
+Made part.Arguments room start end = GivenMade room
+Made part.Argued room start end = ArgumentsMade
+Made part.NextArgument room start end = ArgumentMade
+Made part.LogicArguments room start end = ArgumentsMade
+Made part.Argument room start end = ArgumentMade
+Made part.Keep room start end = BracketedMade room
+Made part.Value room start end = ValueMade room
+Made part.NewVariant room start end = FreeName
+Made part.Condition room start end = ConditionMade whole_condition room
+Made part.NextConjunction room start end = ConditionMade conjunction room
+Made part.Conjunction room start end = ConditionMade conjunction room
+Made part.NextLiteral room start end = ConditionMade literal room
+Made part.Literal room start end = ConditionMade literal room
+Made part.LiteralRelation room start end = ConditionOfTerm room
+Made part.Term room start end = TermMade
+Made part.Path room start end = PathMade
+Made part.PathStep room start end = FreeName
+Made part.Iff room start end = AssertionMade whole room end × EndsIff end
+Made part.NextImplication room start end = BeginsWith mark.Equivalent start × AssertionMade implication room end × EndsImplication end
+Made part.Implication room start end = AssertionMade implication room end × EndsImplication end
+Made part.Implied room start end = BeginsWith mark.Implies start × ImpliedMade room end × EndsImplication end
+Made part.OrChain room start end = AssertionMade disjunct room end × EndsOr end
+Made part.NextAndChain room start end = BeginsWith mark.Bar start × AssertionMade conjunct room end × EndsAnd end
+Made part.AndChain room start end = AssertionMade conjunct room end × EndsAnd end
+Made part.NextNegation room start end = BeginsWith mark.Ampersand start × AssertionMade operand room end
+Made part.Negation room start end = AssertionMade operand room end
+Made part.Quantified room start end = QuantifiedMade room × EndsIff end
+Made part.SetWord room start end = Unit {0}
+Made part.NextBound room start end = FreeName
+Made part.Primary room start end = AtomMade room
+Made part.NameRest room start end = AtomOfPath room
+Made part.UsedPaths room start end = PathsMade
+Made part.NextUsedPath room start end = PathMade
+Made part.PathAloneStep room start end = FreeName
+Made part.NameRelation room start end = AtomOfTerm room
+Made part.Relation room start end = AtomOfTerm room
+
+-- ---- what becomes of the parts
+
+abbrev put_type : {room : ℕ} → TypeMade room → Parts → Parts
+put_type made parts =
+    record parts { declarations = parts.declarations ++ declaration.«Type» made.type ∷ []; common = []; variants = []; fields = [] }
+
+abbrev put_predicate : {room : ℕ} → PredicateMade room → Parts → Parts
+put_predicate made parts =
+    record parts { declarations = parts.declarations ++ declaration.Predicate made.predicate ∷ []; predicate_parameters = [] }
+
+abbrev put_procedure : {room : ℕ} → ProcedureMade room → Parts → Parts
+put_procedure made parts =
+    record parts {
+      declarations = parts.declarations ++ declaration.Procedure made.procedure ∷ [];
+      variables = [];
+      parameters = [];
+      results = [];
+      logics = [];
+      pre = None;
+      post = None;
+    }
+
+abbrev put_declaration : {room : ℕ} → TypeMade room ⊎ (PredicateMade room ⊎ ProcedureMade room) → Parts → Parts
+put_declaration (inl made) parts = put_type made parts
+put_declaration (inr (inl made)) parts = put_predicate made parts
+put_declaration (inr (inr made)) parts = put_procedure made parts
+
+abbrev put_given : {room : ℕ} → GivenMade room → Parts → Parts
+put_given made parts = record parts { given = made.given; arguments = made.logics; keep = made.keep }
+
+abbrev put_results : Unit {0} ⊎ ResultsMade → Parts → Parts
+put_results (inl _) parts = parts
+put_results (inr made) parts =
+    record parts {
+      call_results = (parts.call_results ++ top nameless parts.names ∷ []) ++ made.more;
+      names = made.callee.name ∷ rest parts.names;
+    }
+
+abbrev pub put : (n : ProgramPart) (room : ℕ) (start end : List Token) → Made n room start end → Parts → Parts
+put part.Declaration room start end made parts = put_declaration made parts
+put part.«Type» room start end made parts = put_type made parts
+put part.Variant room start end made parts = record parts { variants = parts.variants ++ made.variant ∷ []; fields = [] }
+put part.Field room start end made parts = record parts { fields = parts.fields ++ made.field ∷ [] }
+put part.Route room start end made parts = record parts { routes = made.route ∷ parts.routes }
+put part.NextAlternative room start end made parts = record parts { routes = joined_or (top routeless parts.routes) made.route ∷ rest parts.routes }
+put part.Sequence room start end made parts = record parts { routes = made.route ∷ parts.routes }
+put part.NextRepeated room start end made parts = record parts { routes = joined_then (top routeless parts.routes) made.route ∷ rest parts.routes }
+put part.Repeated room start end made parts = record parts { routes = made.route ∷ parts.routes }
+put part.Star room start end made parts = record parts { routes = starred (top routeless parts.routes) made ∷ rest parts.routes }
+put part.Step room start end made parts = record parts { routes = made.route ∷ parts.routes }
+put part.UpName room start end made parts = record parts { routes = route.Up made.name ∷ rest parts.routes }
+put part.VariantTest room start end made parts =
+    record parts { routes = route.IsVariant (tested_type (top routeless parts.routes)) made.name ∷ rest parts.routes }
+put part.Predicate room start end made parts = put_predicate made parts
+put part.PredicateParameters room start end made parts = record parts { predicate_parameters = made.parameters }
+put part.NextPredicateParameter room start end made parts = record parts { predicate_parameters = parts.predicate_parameters ++ made.parameter ∷ [] }
+put part.PredicateParameter room start end made parts = record parts { predicate_parameters = parts.predicate_parameters ++ made.parameter ∷ [] }
+put part.Bracketed room start end made parts = record parts { brackets = made.bracketed ∷ parts.brackets }
+put part.Procedure room start end made parts = put_procedure made parts
+put part.Returns room start end made parts = record parts { results = made.parameters; variables = [] }
+put part.Logic room start end made parts = record parts { logics = made.logics }
+put part.NextLogicParameter room start end made parts = record parts { logics = parts.logics ++ made.logic ∷ [] }
+put part.LogicParameter room start end made parts = record parts { logics = parts.logics ++ made.logic ∷ [] }
+put part.Pre room start end made parts = record parts { pre = Some made.bracketed }
+put part.Post room start end made parts = record parts { post = Some made.bracketed }
+put part.Parameters room start end made parts = record parts { variables = made.parameters }
+put part.NextParameter room start end made parts = record parts { variables = parts.variables ++ made.parameter ∷ [] }
+put part.Parameter room start end made parts = record parts { variables = parts.variables ++ made.parameter ∷ [] }
+put part.Local room start end made parts = record parts { variables = parts.variables ++ made.parameter ∷ [] }
+put part.Block room start end made parts = record parts { blocks = made.block ∷ parts.blocks }
+put part.Statement room start end made parts = record parts { blocks = with_statement made.statement parts.blocks }
+put part.Else room start end made parts = record parts { elses = Some made.block ∷ rest parts.elses }
+put part.CallRest room start end made parts = put_given made.given (put_results made.results parts)
+put part.NextResult room start end made parts = record parts { call_results = parts.call_results ++ made.name ∷ [] }
+put part.Arguments room start end made parts = put_given made parts
+put part.Argued room start end made parts = record parts { arguments = made.arguments }
+put part.NextArgument room start end made parts = record parts { arguments = parts.arguments ++ made.argument ∷ [] }
+put part.LogicArguments room start end made parts = record parts { arguments = made.arguments }
+put part.Argument room start end made parts = record parts { arguments = parts.arguments ++ made.argument ∷ [] }
+put part.Keep room start end made parts = record parts { keep = Some made.bracketed }
+put part.Value room start end made parts = record parts { values = made.value ∷ parts.values }
+put part.NewVariant room start end made parts = record parts { values = narrowed (top valueless parts.values) made.name ∷ rest parts.values }
+put part.Condition room start end made parts = record parts { conditions = made.condition ∷ parts.conditions }
+put part.NextConjunction room start end made parts =
+    record parts { conditions = either_condition (top conditionless parts.conditions) made.condition ∷ rest parts.conditions }
+put part.Conjunction room start end made parts = record parts { conditions = made.condition ∷ parts.conditions }
+put part.NextLiteral room start end made parts =
+    record parts { conditions = both_conditions (top conditionless parts.conditions) made.condition ∷ rest parts.conditions }
+put part.Literal room start end made parts = record parts { conditions = made.condition ∷ parts.conditions }
+put part.LiteralRelation room start end made parts =
+    record parts { conditions = made.of (term_alone (top conditionless parts.conditions)) ∷ rest parts.conditions }
+put part.Term room start end made parts = record parts { terms = made.term ∷ parts.terms }
+put part.Path room start end made parts = record parts { paths = made.path ∷ parts.paths }
+put part.PathStep room start end made parts = record parts { paths = extended (top pathless parts.paths) made.name ∷ rest parts.paths }
+put part.Iff room start end made parts = record parts { assertions = made.0.assertion ∷ parts.assertions }
+put part.NextImplication room start end made parts =
+    record parts { assertions = equivalent (top assertionless parts.assertions) made.1.assertion ∷ rest parts.assertions }
+put part.Implication room start end made parts = record parts { assertions = made.0.assertion ∷ parts.assertions }
+put part.Implied room start end made parts =
+    record parts { assertions = assertion.Imp (top assertionless parts.assertions) made.1.place made.1.right.assertion ∷ rest parts.assertions }
+put part.OrChain room start end made parts = record parts { assertions = made.0.assertion ∷ parts.assertions }
+put part.NextAndChain room start end made parts =
+    record parts { assertions = either (top assertionless parts.assertions) made.1.assertion ∷ rest parts.assertions }
+put part.AndChain room start end made parts = record parts { assertions = made.0.assertion ∷ parts.assertions }
+put part.NextNegation room start end made parts =
+    record parts { assertions = both (top assertionless parts.assertions) made.1.assertion ∷ rest parts.assertions }
+put part.Negation room start end made parts = record parts { assertions = made.assertion ∷ parts.assertions }
+put part.Quantified room start end made parts =
+    record parts {
+      assertions = assertion.Quantified (made.0.quantifier (top quantifierless parts.quantifiers)) made.0.body ∷ parts.assertions;
+      quantifiers = rest parts.quantifiers;
+    }
+put part.SetWord room start end made parts = record parts { quantifiers = of_sets (top quantifierless parts.quantifiers) ∷ rest parts.quantifiers }
+put part.NextBound room start end made parts =
+    record parts { quantifiers = binding (top quantifierless parts.quantifiers) made.name ∷ rest parts.quantifiers }
+put part.Primary room start end made parts = record parts { assertions = made.assertion ∷ parts.assertions }
+put part.NameRest room start end made parts =
+    record parts { assertions = made.of (path_alone (top assertionless parts.assertions)) ∷ rest parts.assertions }
+put part.UsedPaths room start end made parts = record parts { used = made.paths }
+put part.NextUsedPath room start end made parts = record parts { used = parts.used ++ made.path ∷ [] }
+put part.PathAloneStep room start end made parts =
+    record parts {
+      assertions = assertion.Truth (extended (path_alone (top assertionless parts.assertions)) made.name) ∷ rest parts.assertions;
+    }
+put part.NameRelation room start end made parts =
+    record parts { assertions = made.of (term.Path (path_alone (top assertionless parts.assertions))) ∷ rest parts.assertions }
+put part.Relation room start end made parts =
+    record parts { terms = rest parts.terms; assertions = made.of (top termless parts.terms) ∷ parts.assertions }
+
+-- ---- what has to hold before
+
+-- no arguments of a predicate are under way
+abbrev pub NoneUsed : Parts → Type 0
+NoneUsed parts = parts.used ≡ []
+
+-- nothing of a call is under way
+abbrev pub NoCall : Parts → Type 0
+NoCall parts = NoneUsed parts × (parts.call_results ≡ []) × (parts.given ≡ []) × (parts.arguments ≡ []) × (parts.keep ≡ None)
+
+-- no arguments of a call are under way
+abbrev pub NoArguments : Parts → Type 0
+NoArguments parts = NoneUsed parts × (parts.arguments ≡ []) × (parts.keep ≡ None)
+
+abbrev pub BeforeType : ℕ → Parts → Type 0
+BeforeType room parts = AreCanonicalFields room parts.fields × AreCanonicalVariants room parts.variants
+
+abbrev pub BeforePredicate : Parts → Type 0
+BeforePredicate parts = NoneUsed parts × AreFreePredicateParameters parts.predicate_parameters
+
+abbrev pub BeforeProcedure : ℕ → Parts → Type 0
+BeforeProcedure room parts =
+    NoCall parts × AreFreeParameters parts.variables × AreFreeParameters parts.results × AreFreeLogics parts.logics ×
+    IsCanonicalClause room parts.pre × IsCanonicalClause room parts.post
+
+abbrev pub BeforeDeclaration : ℕ → Parts → Type 0
+BeforeDeclaration room parts = BeforeType room parts × BeforePredicate parts × BeforeProcedure room parts
+
+abbrev pub Before : ProgramPart → ℕ → Parts → Type 0
+Before part.Declaration room parts = BeforeDeclaration room parts
+Before part.«Type» room parts = BeforeType room parts
+Before part.Variant room parts = AreCanonicalFields room parts.fields
+Before part.Predicate room parts = BeforePredicate parts
+Before part.PredicateParameters room parts = AreFreePredicateParameters parts.predicate_parameters
+Before part.Bracketed room parts = NoneUsed parts
+Before part.Procedure room parts = BeforeProcedure room parts
+Before part.Returns room parts = AreFreeParameters parts.variables
+Before part.Logic room parts = AreFreeLogics parts.logics
+Before part.Pre room parts = NoneUsed parts
+Before part.Post room parts = NoneUsed parts
+Before part.Parameters room parts = AreFreeParameters parts.variables
+Before part.Block room parts = NoCall parts
+Before part.Statement room parts = NoCall parts
+Before part.Else room parts = NoCall parts
+Before part.CallRest room parts = NoArguments parts
+Before part.Arguments room parts = NoArguments parts
+Before part.Argued room parts = AreFreeArguments parts.arguments
+Before part.LogicArguments room parts = AreFreeArguments parts.arguments
+Before part.Keep room parts = NoneUsed parts
+Before part.Iff room parts = NoneUsed parts
+Before part.NextImplication room parts = NoneUsed parts
+Before part.Implication room parts = NoneUsed parts
+Before part.Implied room parts = NoneUsed parts
+Before part.OrChain room parts = NoneUsed parts
+Before part.NextAndChain room parts = NoneUsed parts
+Before part.AndChain room parts = NoneUsed parts
+Before part.NextNegation room parts = NoneUsed parts
+Before part.Negation room parts = NoneUsed parts
+Before part.Quantified room parts = NoneUsed parts
+Before part.Primary room parts = NoneUsed parts
+Before part.NameRest room parts = NoneUsed parts
+Before part.UsedPaths room parts = AreFreePaths parts.used
+Before _ room parts = Unit {0}
+
+-- most parts come once only
+abbrev pub Between : ProgramPart → ℕ → Parts → Type 0
+Between part.Declaration room parts = BeforeDeclaration room parts
+Between part.Variant room parts = AreCanonicalFields room parts.fields
+Between part.Field room parts = Unit {0}
+Between part.NextAlternative room parts = Unit {0}
+Between part.NextRepeated room parts = Unit {0}
+Between part.Star room parts = Unit {0}
+Between part.NextPredicateParameter room parts = Unit {0}
+Between part.NextLogicParameter room parts = Unit {0}
+Between part.NextParameter room parts = Unit {0}
+Between part.Local room parts = Unit {0}
+Between part.Statement room parts = NoCall parts
+Between part.NextResult room parts = Unit {0}
+Between part.NextArgument room parts = Unit {0}
+Between part.NextConjunction room parts = Unit {0}
+Between part.NextLiteral room parts = Unit {0}
+Between part.PathStep room parts = Unit {0}
+Between part.NextImplication room parts = NoneUsed parts
+Between part.NextAndChain room parts = NoneUsed parts
+Between part.NextNegation room parts = NoneUsed parts
+Between part.NextBound room parts = Unit {0}
+Between part.NextUsedPath room parts = Unit {0}
+Between part.PathAloneStep room parts = Unit {0}
+Between _ room parts = ⊥
+
+abbrev pub program_meaning : Meaning
+program_meaning = record { Made = Made; put = put; Before = Before; Between = Between }
