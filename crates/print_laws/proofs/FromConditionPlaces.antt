@@ -12,7 +12,7 @@ use Rattle.pale_text.specs.MakingConditions.{and_by, or_by, both_conditions, eit
 use Rattle.pale_print.specs.Tokens.{◌>>◌, sign}
 use Rattle.pale_print.specs.RouteTokens.{Placed}
 use Rattle.pale_print.specs.ConditionTokens.{condition_node, condition_tokens}
-use Rattle.print_laws.specs.CanonicalConditions.{ConditionPlace, whole, conjunction, literal, asks, is_and_node, is_or_node, IsGrouped, IsCanonicalCondition, truth, falsehood, term, same, differ, is, not, and, or, group, AreCanonicalConditions, last, more}
+use Rattle.print_laws.specs.CanonicalConditions.{ConditionPlace, whole, conjunction, literal, asks, is_and_node, is_or_node, IsGrouped, IsCanonicalCondition, truth, falsehood, term, same, differ, of_variant, not, and, or, group, AreCanonicalConditions, last, more}
 
 -- ---- parentheses
 
@@ -45,7 +45,7 @@ mutual
   roomier (term p room t free) = term p (suc room) t free
   roomier (same p room t place u free free_too) = same p (suc room) t place u free free_too
   roomier (differ p room t place u free free_too) = differ p (suc room) t place u free free_too
-  roomier (is p room t place variant free free_too) = is p (suc room) t place variant free free_too
+  roomier (of_variant p room t place variant free free_too) = of_variant p (suc room) t place variant free free_too
   roomier (not p room place inner c) = not p (suc room) place inner (roomier c)
   roomier (and p room first others bare apart c cs) = and p (suc room) first others bare apart (roomier c) (roomier_all cs)
   roomier (or p room first others bare apart c cs) = or p (suc room) first others bare apart (roomier c) (roomier_all cs)
@@ -77,7 +77,7 @@ anywhere q (falsehood p room place) = falsehood q (suc room) place
 anywhere q (term p room t free) = term q (suc room) t free
 anywhere q (same p room t place u free free_too) = same q (suc room) t place u free free_too
 anywhere q (differ p room t place u free free_too) = differ q (suc room) t place u free free_too
-anywhere q (is p room t place variant free free_too) = is q (suc room) t place variant free free_too
+anywhere q (of_variant p room t place variant free free_too) = of_variant q (suc room) t place variant free free_too
 anywhere q (not p room place inner c) = not q (suc room) place inner (roomier c)
 anywhere whole (and p room first others bare apart c cs) = and whole (suc room) first others refl apart (roomier c) (roomier_all cs)
 anywhere conjunction (and p room first others bare apart c cs) = and conjunction (suc room) first others refl apart (roomier c) (roomier_all cs)
@@ -100,7 +100,7 @@ moved q (falsehood p room place) o a = falsehood q room place
 moved q (term p room t free) o a = term q room t free
 moved q (same p room t place u free free_too) o a = same q room t place u free free_too
 moved q (differ p room t place u free free_too) o a = differ q room t place u free free_too
-moved q (is p room t place variant free free_too) o a = is q room t place variant free free_too
+moved q (of_variant p room t place variant free free_too) o a = of_variant q room t place variant free free_too
 moved q (not p room place inner c) o a = not q room place inner c
 moved q (and p room first others bare apart c cs) o a = and q room first others (a refl bare) apart c cs
 moved q (or p room first others bare apart c cs) o a = or q room first others (o refl bare) apart c cs
@@ -136,7 +136,7 @@ or_from {room = room} {other = other} (same p n t place u free free_too) w c one
     or whole room (condition.Same t place u) (other ∷ []) refl refl (as_alternative c refl) (last conjunction room other one)
 or_from {room = room} {other = other} (differ p n t place u free free_too) w c one =
     or whole room (condition.Differ t place u) (other ∷ []) refl refl (as_alternative c refl) (last conjunction room other one)
-or_from {room = room} {other = other} (is p n t place variant free free_too) w c one =
+or_from {room = room} {other = other} (of_variant p n t place variant free free_too) w c one =
     or whole room (condition.Is t place variant) (other ∷ []) refl refl (as_alternative c refl) (last conjunction room other one)
 or_from {room = room} {other = other} (not p n place inner f) w c one =
     or whole room (condition.Not place inner) (other ∷ []) refl refl (as_alternative c refl) (last conjunction room other one)
@@ -162,7 +162,7 @@ and_from {room = room} {other = other} (same p n t place u free free_too) w c on
     and conjunction room (condition.Same t place u) (other ∷ []) refl refl (as_literal c refl) (last literal room other one)
 and_from {room = room} {other = other} (differ p n t place u free free_too) w c one =
     and conjunction room (condition.Differ t place u) (other ∷ []) refl refl (as_literal c refl) (last literal room other one)
-and_from {room = room} {other = other} (is p n t place variant free free_too) w c one =
+and_from {room = room} {other = other} (of_variant p n t place variant free free_too) w c one =
     and conjunction room (condition.Is t place variant) (other ∷ []) refl refl (as_literal c refl) (last literal room other one)
 and_from {room = room} {other = other} (not p n place inner f) w c one =
     and conjunction room (condition.Not place inner) (other ∷ []) refl refl (as_literal c refl) (last literal room other one)

@@ -10,7 +10,7 @@ use denote.Hole.Carrier.{roll, out}
 use Rattle.pale_text.specs.MakingParts.{Parts, name_of, place_of}
 use Rattle.pale_text.specs.MakingConditions.{both_conditions, either_condition}
 use Rattle.pale_text.specs.ProgramGrammar.{rows_of}
-use Rattle.print_laws.specs.CanonicalConditions.{ConditionPlace, whole, conjunction, literal, IsCanonicalCondition, truth, falsehood, term, same, differ, is, not}
+use Rattle.print_laws.specs.CanonicalConditions.{ConditionPlace, whole, conjunction, literal, IsCanonicalCondition, truth, falsehood, term, same, differ, of_variant, not}
 use Rattle.print_laws.proofs.FromRows.{Several, no_more, one_more, puts}
 use Rattle.print_laws.proofs.FromMeaning.{program_meaning, ConditionMade}
 use Rattle.print_laws.proofs.FromParts.{IsSoundRow, AreSoundRows, no_row, or_row, nth, free_name}
@@ -145,7 +145,7 @@ is_row = record { along = λ room last tokens parts goal g before.
     let v = g.4 in
     let place : Pos = place_of (Some g.0) in
     let x : Name = name_of (Some v.0) in
-    (Some v.0, v.1, record { of = λ t. condition.Is t place x; canonical = λ t free. is literal room t place x free (free_name v.0 v.3) }, v.4) }
+    (Some v.0, v.1, record { of = λ t. condition.Is t place x; canonical = λ t free. of_variant literal room t place x free (free_name v.0 v.3) }, v.4) }
 
 pub literal_relation_sound : AreSoundRows part.LiteralRelation (rows_of part.LiteralRelation)
 unfolding rows_of

@@ -45,7 +45,7 @@ use Rattle.print_laws.specs.CanonicalRoutes.{RoutePlace, IsCanonicalRoute, whole
 use Rattle.print_laws.specs.CanonicalConditions.{ConditionPlace, IsCanonicalCondition, whole as whole_condition, conjunction, literal}
 use Rattle.print_laws.specs.CanonicalAssertions.{AssertionPlace, IsCanonicalAssertion, IsCanonicalBracketed, whole, implication, disjunct, conjunct, operand}
 use Rattle.print_laws.specs.CanonicalStatements.{AreFreeArguments, IsFreeArgument, IsCanonicalClause, IsCanonicalValue, IsCanonicalStatement, AreCanonicalStatements}
-use Rattle.print_laws.specs.CanonicalDeclarations.{IsCanonicalField, AreCanonicalFields, IsCanonicalVariant, AreCanonicalVariants, IsCanonicalType, IsFreePredicateParameter, AreFreePredicateParameters, IsCanonicalPredicate, IsFreeParameter, AreFreeParameters, IsFreeLogic, AreFreeLogics, IsCanonicalProcedure}
+use Rattle.print_laws.specs.CanonicalDeclarations.{All, IsCanonicalField, IsCanonicalVariant, IsCanonicalType, IsFreePredicateParameter, IsCanonicalPredicate, IsFreeParameter, IsFreeLogicParameter, IsCanonicalProcedure}
 use Rattle.print_laws.proofs.Framework.{Counts}
 use Rattle.print_laws.proofs.FromRows.{Meaning}
 
@@ -211,7 +211,7 @@ pub record PredicateParameterMade : Type 0 where
 
 pub record PredicateParametersMade : Type 0 where
   pub parameters : List PredicateParameter
-  pub free : AreFreePredicateParameters parameters
+  pub free : All IsFreePredicateParameter parameters
 
 pub record PredicateMade (room : ℕ) : Type 0 where
   pub predicate : PredicateDeclaration
@@ -223,15 +223,15 @@ pub record ParameterMade : Type 0 where
 
 pub record ParametersMade : Type 0 where
   pub parameters : List Parameter
-  pub free : AreFreeParameters parameters
+  pub free : All IsFreeParameter parameters
 
 pub record LogicMade : Type 0 where
   pub logic : LogicParameter
-  pub free : IsFreeLogic logic
+  pub free : IsFreeLogicParameter logic
 
 pub record LogicsMade : Type 0 where
   pub logics : List LogicParameter
-  pub free : AreFreeLogics logics
+  pub free : All IsFreeLogicParameter logics
 
 pub record ProcedureMade (room : ℕ) : Type 0 where
   pub procedure : Procedure
@@ -453,14 +453,14 @@ abbrev pub NoArguments : Parts → Type 0
 NoArguments parts = NoneUsed parts × (parts.arguments ≡ []) × (parts.keep ≡ None)
 
 abbrev pub BeforeType : ℕ → Parts → Type 0
-BeforeType room parts = AreCanonicalFields room parts.fields × AreCanonicalVariants room parts.variants
+BeforeType room parts = All (IsCanonicalField room) parts.fields × All (IsCanonicalVariant room) parts.variants
 
 abbrev pub BeforePredicate : Parts → Type 0
-BeforePredicate parts = NoneUsed parts × AreFreePredicateParameters parts.predicate_parameters
+BeforePredicate parts = NoneUsed parts × All IsFreePredicateParameter parts.predicate_parameters
 
 abbrev pub BeforeProcedure : ℕ → Parts → Type 0
 BeforeProcedure room parts =
-    NoCall parts × AreFreeParameters parts.variables × AreFreeParameters parts.results × AreFreeLogics parts.logics ×
+    NoCall parts × All IsFreeParameter parts.variables × All IsFreeParameter parts.results × All IsFreeLogicParameter parts.logics ×
     IsCanonicalClause room parts.pre × IsCanonicalClause room parts.post
 
 abbrev pub BeforeDeclaration : ℕ → Parts → Type 0
@@ -469,16 +469,16 @@ BeforeDeclaration room parts = BeforeType room parts × BeforePredicate parts ×
 abbrev pub Before : ProgramPart → ℕ → Parts → Type 0
 Before part.Declaration room parts = BeforeDeclaration room parts
 Before part.«Type» room parts = BeforeType room parts
-Before part.Variant room parts = AreCanonicalFields room parts.fields
+Before part.Variant room parts = All (IsCanonicalField room) parts.fields
 Before part.Predicate room parts = BeforePredicate parts
-Before part.PredicateParameters room parts = AreFreePredicateParameters parts.predicate_parameters
+Before part.PredicateParameters room parts = All IsFreePredicateParameter parts.predicate_parameters
 Before part.Bracketed room parts = NoneUsed parts
 Before part.Procedure room parts = BeforeProcedure room parts
-Before part.Returns room parts = AreFreeParameters parts.variables
-Before part.Logic room parts = AreFreeLogics parts.logics
+Before part.Returns room parts = All IsFreeParameter parts.variables
+Before part.Logic room parts = All IsFreeLogicParameter parts.logics
 Before part.Pre room parts = NoneUsed parts
 Before part.Post room parts = NoneUsed parts
-Before part.Parameters room parts = AreFreeParameters parts.variables
+Before part.Parameters room parts = All IsFreeParameter parts.variables
 Before part.Block room parts = NoCall parts
 Before part.Statement room parts = NoCall parts
 Before part.Else room parts = NoCall parts
@@ -505,7 +505,7 @@ Before _ room parts = Unit {0}
 -- most parts come once only
 abbrev pub Between : ProgramPart → ℕ → Parts → Type 0
 Between part.Declaration room parts = BeforeDeclaration room parts
-Between part.Variant room parts = AreCanonicalFields room parts.fields
+Between part.Variant room parts = All (IsCanonicalField room) parts.fields
 Between part.Field room parts = Unit {0}
 Between part.NextAlternative room parts = Unit {0}
 Between part.NextRepeated room parts = Unit {0}
