@@ -331,7 +331,7 @@ put_procedure made parts =
       post = None;
     }
 
-abbrev put_declaration : {room : ℕ} → TypeMade room ⊎ (PredicateMade room ⊎ ProcedureMade room) → Parts → Parts
+abbrev pub put_declaration : {room : ℕ} → TypeMade room ⊎ (PredicateMade room ⊎ ProcedureMade room) → Parts → Parts
 put_declaration (inl made) parts = put_type made parts
 put_declaration (inr (inl made)) parts = put_predicate made parts
 put_declaration (inr (inr made)) parts = put_procedure made parts
