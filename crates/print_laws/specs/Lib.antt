@@ -1,0 +1,2 @@
+pub mod CanonicalNames
+pub mod CanonicalRoutes
