@@ -1,3 +1,8 @@
+pub mod AssertionShapes
+pub mod Assertions
+pub mod ConditionShapes
+pub mod Conditions
+pub mod Connectives
 pub mod Framework
 pub mod RouteShapes
 pub mod Routes

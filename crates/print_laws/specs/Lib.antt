@@ -1,2 +1,5 @@
+pub mod CanonicalAssertions
+pub mod CanonicalConditions
 pub mod CanonicalNames
 pub mod CanonicalRoutes
+pub mod CanonicalStatements
