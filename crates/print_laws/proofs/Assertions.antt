@@ -17,6 +17,7 @@ use Rattle.pale_text.specs.declared.tree.names.Name.{Name}
 use Rattle.pale_text.specs.declared.tree.names.Path.{Path}
 use Rattle.pale_text.specs.declared.tree.names.Term.{Term}
 use Rattle.pale_text.specs.declared.tree.names.Term.TheVariants as term
+use Rattle.pale_text.specs.declared.tree.route.Route.{Route}
 use Rattle.pale_text.specs.declared.tree.assertion.Assertion.{Assertion}
 use Rattle.pale_text.specs.declared.tree.assertion.Assertion.TheVariants as assertion
 use Rattle.pale_text.specs.MakingParts.{Parts}
@@ -45,12 +46,15 @@ ReadsAssertion aim d n tokens after parts a =
     Ends aim (Row (Once n ∷ row) d below) tokens parts
 
 -- an assertion at this place doesn't go on with these tokens
+abbrev pub StopsOperand : List TokenKind → Type 0
+StopsOperand after = Stops part.NameRest after × Stops part.PathAloneStep after × Stops part.NameRelation after × Stops part.PathStep after
+
 abbrev pub StopsAt : AssertionPlace → List TokenKind → Type 0
-StopsAt operand after = Stops part.NameRest after × Stops part.PathAloneStep after × Stops part.NameRelation after × Stops part.PathStep after
-StopsAt conjunct after = Stops part.NextNegation after × StopsAt operand after
-StopsAt disjunct after = Stops part.NextAndChain after × Stops part.NextNegation after × StopsAt operand after
-StopsAt implication after = Stops part.Implied after × Stops part.NextAndChain after × Stops part.NextNegation after × StopsAt operand after
-StopsAt whole after = Stops part.NextImplication after × Stops part.Implied after × Stops part.NextAndChain after × Stops part.NextNegation after × StopsAt operand after
+StopsAt operand after = StopsOperand after
+StopsAt conjunct after = Stops part.NextNegation after × StopsOperand after
+StopsAt disjunct after = Stops part.NextAndChain after × Stops part.NextNegation after × StopsOperand after
+StopsAt implication after = Stops part.Implied after × Stops part.NextAndChain after × Stops part.NextNegation after × StopsOperand after
+StopsAt whole after = Stops part.NextImplication after × Stops part.Implied after × Stops part.NextAndChain after × Stops part.NextNegation after × StopsOperand after
 
 pub operand_stops : (p : AssertionPlace) {after : List TokenKind} → StopsAt p after → StopsAt operand after
 operand_stops whole s = s.4
@@ -231,18 +235,18 @@ path_ends : (paths : List Path) (after : List TokenKind) → Stops part.PathStep
 path_ends [] after = path_at_paren after
 path_ends (p ∷ paths) after = path_at_comma _
 
-more_used : {aim : Aim} {row : List ProgramSymbol} {d : ℕ} {below : ProgramStack} {after : List TokenKind} {parts : Parts} (done paths : List Path) →
+more_used : {aim : Aim} {row : List ProgramSymbol} {d : ℕ} {below : ProgramStack} {after : List TokenKind} (parts : Parts) (done paths : List Path) →
     AreFreePaths paths → d ≤ aim.top →
     Ends aim (Row row d below) (token.Mark mark.RightParen ∷ after) (record parts { used = done ++ map placeless_path paths }) →
     Ends aim (Row (Many part.NextUsedPath ∷ row) d below) (each_behind mark.Comma path_tokens paths (token.Mark mark.RightParen ∷ after)) (record parts { used = done })
 unfolding program_grammar rows_of
-more_used {aim} {row} {d} {below} {after} {parts} done [] free low next =
+more_used {aim} {row} {d} {below} {after} parts done [] free low next =
     stops_there (next_at_paren after)
     (subst (λ l. Ends aim (Row row d below) (token.Mark mark.RightParen ∷ after) (record parts { used = l })) (append-nil done) next)
-more_used {aim} {row} {d} {below} {after} {parts} done (p ∷ paths) free low next =
+more_used {aim} {row} {d} {below} {after} parts done (p ∷ paths) free low next =
     goes_on (reads mark.Comma ∷ Once part.Path ∷ makes atoms.AddUsedPath ∷ []) (inl refl)
     (mark low (path_read p free.0 low (path_ends paths after) (does (λ n. refl) (row_ends
-    (more_used {parts = parts} (done ++ placeless_path p ∷ []) paths free.1 low
+    (more_used parts (done ++ placeless_path p ∷ []) paths free.1 low
     (subst (λ l. Ends aim (Row row d below) (token.Mark mark.RightParen ∷ after) (record parts { used = l }))
     (sym (append_assoc done (placeless_path p ∷ []) (map placeless_path paths))) next))))))
 
@@ -258,7 +262,7 @@ used_paths {aim} {row} {d} {below} {after} {parts} (p ∷ paths) free low none n
     (path_read p free.0 low (path_ends paths after) (does (λ n. refl)
     (subst (λ l. Ends aim (Row (Many part.NextUsedPath ∷ []) d (Row row d below)) (each_behind mark.Comma path_tokens paths (token.Mark mark.RightParen ∷ after))
     (record parts { used = l ++ placeless_path p ∷ [] })) (sym none)
-    (more_used {parts = parts} (placeless_path p ∷ []) paths free.1 low (row_ends next)))))
+    (more_used parts (placeless_path p ∷ []) paths free.1 low (row_ends next)))))
 
 pub use_read : {aim : Aim} {d : ℕ} {after : List TokenKind} {parts : Parts} (predicate : Name) (arguments : List Path) → IsFree predicate → AreFreePaths arguments →
     d ≤ aim.top → parts.used ≡ [] →

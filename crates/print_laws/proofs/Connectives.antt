@@ -318,7 +318,7 @@ mutual
       (mark_open_with (room_open d room aim.top low) (λ n. refl) (assertion_read c (room_in d room aim.top low) (lowest_for p followed after stops) none (makes connectives.MakeNot ∷ []) (Row row d below)
       (does (λ n. refl) (row_ends next))))))
   assertion_read {aim} {d} {after} {parts} (and p followed room first second others bare apart c cs) low stops none =
-      at_node p followed (Assertion-F.And first (second ∷ others))
+      at_node p followed (Assertion-F.And first (second ∷ others)) (assertion.And first (second ∷ others)) (rolls-And first (second ∷ others))
       (subst (λ (b : Bool). ReadsAssertion aim d (part_at p) (grouped b (chained mark.Ampersand 4 (assertion_tokens first) (assertion_tokens second ∷ map assertion_tokens others)) followed after) after parts
       (assertion.And (placeless_assertion first) (placeless_assertion second ∷ map placeless_assertion others))) (sym bare)
       (lift_and p followed bare stops (λ s row below next.
@@ -326,7 +326,7 @@ mutual
       (assertion_read c low (at_ampersand _) none (Many part.NextNegation ∷ []) (Row row d below)
       (more_and {parts = parts} cs (placeless_assertion first) (placeless_assertion first) [] (both-first first apart) low s none (row_ends next))))))
   assertion_read {aim} {d} {after} {parts} (or p followed room first second others bare apart c cs) low stops none =
-      at_node p followed (Assertion-F.Or first (second ∷ others))
+      at_node p followed (Assertion-F.Or first (second ∷ others)) (assertion.Or first (second ∷ others)) (rolls-Or first (second ∷ others))
       (subst (λ (b : Bool). ReadsAssertion aim d (part_at p) (grouped b (chained mark.Bar 3 (assertion_tokens first) (assertion_tokens second ∷ map assertion_tokens others)) followed after) after parts
       (assertion.Or (placeless_assertion first) (placeless_assertion second ∷ map placeless_assertion others))) (sym bare)
       (lift_or p followed bare stops (λ s row below next.
@@ -345,7 +345,7 @@ mutual
       (assertion_read c_right (room_in d room aim.top low) s none (makes connectives.MakeImp ∷ []) (Row [] d (Row row d below))
       (does (λ n. refl) (row_ends (row_ends next))))))))))
   assertion_read {aim} {d} {after} {parts} (iff p followed room first second others bare apart c cs) low stops none =
-      at_node p followed (Assertion-F.Iff first (second ∷ others))
+      at_node p followed (Assertion-F.Iff first (second ∷ others)) (assertion.Iff first (second ∷ others)) (rolls-Iff first (second ∷ others))
       (subst (λ (b : Bool). ReadsAssertion aim d (part_at p) (grouped b (chained mark.Equivalent 1 (assertion_tokens first) (assertion_tokens second ∷ map assertion_tokens others)) followed after) after parts
       (assertion.Iff (placeless_assertion first) (placeless_assertion second ∷ map placeless_assertion others))) (sym bare)
       (lift_iff p followed bare stops (λ s row below next.

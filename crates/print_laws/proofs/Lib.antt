@@ -1,5 +1,6 @@
 pub mod AssertionShapes
 pub mod Assertions
+pub mod Calls
 pub mod ConditionShapes
 pub mod Conditions
 pub mod Connectives
