@@ -96,12 +96,12 @@ argued_at_logics : (logics : List Argument) (after : List TokenKind) → Stops p
 argued_at_logics [] after = argued_at_paren after
 argued_at_logics (a ∷ logics) after = argued_at_semicolon _
 
-argued_read : {aim : Aim} {row : List ProgramSymbol} {d : ℕ} {below : ProgramStack} {after : List TokenKind} (parts : Parts) (arguments logics : List Argument) → AreFreeArguments arguments → d ≤ aim.top →
+argued_read : {aim : Aim} {row : List ProgramSymbol} {d : ℕ} {below : ProgramStack} (after : List TokenKind) (parts : Parts) (arguments logics : List Argument) → AreFreeArguments arguments → d ≤ aim.top →
     Ends aim (Row row d below) (logic_argument_tokens logics (token.Mark mark.RightParen ∷ after)) (record parts { arguments = map placeless_argument arguments }) →
     Ends aim (Row (Maybe part.Argued ∷ row) d below) (separated mark.Comma argument_tokens arguments (logic_argument_tokens logics (token.Mark mark.RightParen ∷ after))) (record parts { arguments = [] })
 unfolding program_grammar rows_of
-argued_read {after = after} parts [] logics free low next = leaves (argued_at_logics logics after) next
-argued_read {after = after} parts (a ∷ arguments) logics free low next =
+argued_read after parts [] logics free low next = leaves (argued_at_logics logics after) next
+argued_read after parts (a ∷ arguments) logics free low next =
     takes (Once part.Argument ∷ Many part.NextArgument ∷ []) (inl refl)
     (argument_read parts [] a free.0 low
     (more_arguments parts (placeless_argument a ∷ []) arguments free.1 low (next_at_logics logics after) (row_ends next)))
@@ -116,17 +116,17 @@ logics_read {after = after} parts (a ∷ logics) free low next =
     (mark low (argument_read parts [] a free.0 low
     (more_arguments parts (placeless_argument a ∷ []) logics free.1 low (next_at_paren after) (row_ends next))))
 
-keep_read : {aim : Aim} {row : List ProgramSymbol} {d room : ℕ} {below : ProgramStack} {after : List TokenKind} (parts : Parts) (keep : Option Bracketed) → IsCanonicalClause room keep → d + room ≤ aim.top →
+keep_read : {aim : Aim} {row : List ProgramSymbol} {d : ℕ} {below : ProgramStack} {after : List TokenKind} (room : ℕ) (parts : Parts) (keep : Option Bracketed) → IsCanonicalClause room keep → d + room ≤ aim.top →
     parts.used ≡ [] →
     Ends aim (Row row d below) (token.Mark mark.Semicolon ∷ after) (record parts { keep = option_map placeless_bracketed keep }) →
     Ends aim (Row (Maybe part.Keep ∷ row) d below) (clause_tokens (codes "keep") keep (token.Mark mark.Semicolon ∷ after)) (record parts { keep = None })
 unfolding program_grammar rows_of
-keep_read {after = after} parts None c low none next = leaves (keep_at_semicolon after) next
-keep_read {aim} {row} {d} {room} parts (Some b) c low none next =
+keep_read {after = after} room parts None c low none next = leaves (keep_at_semicolon after) next
+keep_read {aim} {row} {d} room parts (Some b) c low none next =
     takes (Read kind.Keep ∷ Once part.Bracketed ∷ makes calls.SetKeep ∷ []) (inl refl)
     (word is_keep (room_now d room aim.top low) (bracketed_read b c low none (does (λ n. refl) (row_ends next))))
 
-arguments_read : {aim : Aim} {row : List ProgramSymbol} {d room : ℕ} {below : ProgramStack} {after : List TokenKind} (parts : Parts) (arguments logics : List Argument) (keep : Option Bracketed) →
+arguments_read : {aim : Aim} {row : List ProgramSymbol} {d : ℕ} {below : ProgramStack} {after : List TokenKind} (room : ℕ) (parts : Parts) (arguments logics : List Argument) (keep : Option Bracketed) →
     AreFreeArguments arguments → AreFreeArguments logics → IsCanonicalClause room keep → d + room ≤ aim.top → parts.used ≡ [] →
     Ends aim (Row row d below) (token.Mark mark.Semicolon ∷ after)
     (record parts { given = map placeless_argument arguments; arguments = map placeless_argument logics; keep = option_map placeless_bracketed keep }) →
@@ -134,12 +134,12 @@ arguments_read : {aim : Aim} {row : List ProgramSymbol} {d room : ℕ} {below : 
     (separated mark.Comma argument_tokens arguments (logic_argument_tokens logics (token.Mark mark.RightParen ∷ clause_tokens (codes "keep") keep (token.Mark mark.Semicolon ∷ after))))
     (record parts { arguments = []; keep = None })
 unfolding program_grammar rows_of
-arguments_read {aim} {row} {d} {room} parts arguments logics keep free free_too c low none next =
+arguments_read {aim} {row} {d} room parts arguments logics keep free free_too c low none next =
     goes (Maybe part.Argued ∷ makes calls.TakeArguments ∷ Maybe part.LogicArguments ∷ reads mark.RightParen ∷ Maybe part.Keep ∷ []) (inl refl)
-    (argued_read (record parts { keep = None }) arguments logics free (room_now d room aim.top low) (does (λ n. refl)
+    (argued_read _ (record parts { keep = None }) arguments logics free (room_now d room aim.top low) (does (λ n. refl)
     (logics_read (record parts { keep = None; given = map placeless_argument arguments }) logics free_too (room_now d room aim.top low)
     (mark (room_now d room aim.top low)
-    (keep_read (record parts { given = map placeless_argument arguments; arguments = map placeless_argument logics }) keep c low none (row_ends next))))))
+    (keep_read room (record parts { given = map placeless_argument arguments; arguments = map placeless_argument logics }) keep c low none (row_ends next))))))
 
 -- ---- results
 
@@ -168,7 +168,7 @@ idle parts = record parts { call_results = []; given = []; arguments = []; keep 
 pub idle_already : (parts : Parts) → IsIdle parts → idle parts ≡ parts
 idle_already parts is = λ i. record parts { call_results = sym is.1 i; given = sym is.2 i; arguments = sym is.3 i; keep = sym is.4 i }
 
-call_by : {aim : Aim} {d room : ℕ} {below : ProgramStack} {after : List TokenKind} (parts : Parts) (done : List Statement) (blocks : List (List Statement)) (results : List Name) (callee : Name) (arguments logics : List Argument) (keep : Option Bracketed) →
+call_by : {aim : Aim} {d : ℕ} {below : ProgramStack} {after : List TokenKind} (room : ℕ) (parts : Parts) (done : List Statement) (blocks : List (List Statement)) (results : List Name) (callee : Name) (arguments logics : List Argument) (keep : Option Bracketed) →
     AreFree results → IsFree callee → AreFreeArguments arguments → AreFreeArguments logics → IsCanonicalClause room keep → d + room ≤ aim.top → parts.used ≡ [] →
     Ends aim below after
     (record (idle parts) {
@@ -189,26 +189,26 @@ call_by : {aim : Aim} {d room : ℕ} {below : ProgramStack} {after : List TokenK
     separated mark.Comma argument_tokens arguments (logic_argument_tokens logics (token.Mark mark.RightParen ∷ clause_tokens (codes "keep") keep (token.Mark mark.Semicolon ∷ after))))))
     (record (idle parts) { blocks = done ∷ blocks })
 unfolding program_grammar rows_of
-call_by {aim} {d} {room} {below} {after} parts done blocks [] callee arguments logics keep free free_callee free_arguments free_logics c low none next =
+call_by {aim} {d} {below} {after} room parts done blocks [] callee arguments logics keep free free_callee free_arguments free_logics c low none next =
     word_with is_call (room_now d room aim.top low) (λ n. refl) (word_with (is_name free_callee) (room_now d room aim.top low) (λ n. refl)
     (goes (reads mark.LeftParen ∷ Once part.Arguments ∷ []) (inl refl) (mark (room_now d room aim.top low)
-    (arguments_read (record parts { call_results = []; given = []; blocks = done ∷ blocks; places = nowhere ∷ parts.places; names = placeless_name callee ∷ parts.names }) arguments logics keep free_arguments free_logics c low none
+    (arguments_read room (record parts { call_results = []; given = []; blocks = done ∷ blocks; places = nowhere ∷ parts.places; names = placeless_name callee ∷ parts.names }) arguments logics keep free_arguments free_logics c low none
     (row_ends (mark (room_now d room aim.top low) (does (λ n. refl) (row_ends next))))))))
-call_by {aim} {d} {room} {below} {after} parts done blocks (first ∷ others) callee arguments logics keep free free_callee free_arguments free_logics c low none next =
+call_by {aim} {d} {below} {after} room parts done blocks (first ∷ others) callee arguments logics keep free free_callee free_arguments free_logics c low none next =
     word_with is_call (room_now d room aim.top low) (λ n. refl) (word_with (is_name free.0) (room_now d room aim.top low) (λ n. refl)
     (goes (makes calls.TakeResult ∷ Many part.NextResult ∷ reads mark.Equals ∷ Read kind.Name ∷ push_name ∷ reads mark.LeftParen ∷ Once part.Arguments ∷ []) (inr (inl refl)) (does (λ n. refl)
     (more_results (record parts { given = []; arguments = []; keep = None; blocks = done ∷ blocks; places = nowhere ∷ parts.places }) (placeless_name first ∷ []) others free.1 (room_now d room aim.top low)
     (mark (room_now d room aim.top low) (word_with (is_name free_callee) (room_now d room aim.top low) (λ n. refl) (mark (room_now d room aim.top low)
-    (arguments_read (record parts { call_results = placeless_name first ∷ map placeless_name others; given = []; blocks = done ∷ blocks; places = nowhere ∷ parts.places; names = placeless_name callee ∷ parts.names }) arguments logics keep free_arguments free_logics c low none
+    (arguments_read room (record parts { call_results = placeless_name first ∷ map placeless_name others; given = []; blocks = done ∷ blocks; places = nowhere ∷ parts.places; names = placeless_name callee ∷ parts.names }) arguments logics keep free_arguments free_logics c low none
     (row_ends (mark (room_now d room aim.top low) (does (λ n. refl) (row_ends next))))))))))))
 
-pub call_read : {aim : Aim} {d room : ℕ} {below : ProgramStack} {after : List TokenKind} (parts : Parts) (done : List Statement) (blocks : List (List Statement)) (c : Call) → IsCanonicalCall room c →
+pub call_read : {aim : Aim} {d : ℕ} {below : ProgramStack} {after : List TokenKind} (room : ℕ) (parts : Parts) (done : List Statement) (blocks : List (List Statement)) (c : Call) → IsCanonicalCall room c →
     d + room ≤ aim.top → IsIdle parts →
     Ends aim below after (record parts { blocks = (done ++ statement.Call (placeless_call c) ∷ []) ∷ blocks }) →
     Ends aim (Row (Read kind.Call ∷ mark_place ∷ Read kind.Name ∷ push_name ∷ Once part.CallRest ∷ reads mark.Semicolon ∷ makes calls.MakeCall ∷ []) d below) (call_tokens c after)
     (record parts { blocks = done ∷ blocks })
-call_read {aim} {d} {room} {below} {after} parts done blocks c is low at_rest next =
+call_read {aim} {d} {below} {after} room parts done blocks c is low at_rest next =
     subst (λ (ps : Parts). Ends aim (Row (Read kind.Call ∷ mark_place ∷ Read kind.Name ∷ push_name ∷ Once part.CallRest ∷ reads mark.Semicolon ∷ makes calls.MakeCall ∷ []) d below) (call_tokens c after) (record ps { blocks = done ∷ blocks }))
     (idle_already parts at_rest)
-    (call_by parts done blocks c.results c.callee c.arguments c.logics c.keep is.results is.callee is.arguments is.logics is.keep low at_rest.0
+    (call_by room parts done blocks c.results c.callee c.arguments c.logics c.keep is.results is.callee is.arguments is.logics is.keep low at_rest.0
     (subst (λ (ps : Parts). Ends aim below after (record ps { blocks = (done ++ statement.Call (placeless_call c) ∷ []) ∷ blocks })) (sym (idle_already parts at_rest)) next))

@@ -7,6 +7,7 @@ pub mod Connectives
 pub mod Framework
 pub mod RouteShapes
 pub mod Routes
+pub mod Statements
 pub mod Stopping
 pub mod Terms
 pub mod Words
