@@ -28,7 +28,7 @@ use Rattle.pale_print.specs.Tokens.{each_behind, name_tokens, term_tokens}
 use Rattle.pale_print.specs.RouteTokens.{Placed, grouped, chained}
 use Rattle.pale_print.specs.ConditionTokens.{condition_node, condition_tokens}
 use Rattle.print_laws.specs.CanonicalNames.{IsFree, IsFreeTerm}
-use Rattle.print_laws.specs.CanonicalConditions.{ConditionPlace, whole, conjunction, literal, asks, is_and_node, is_or_node, IsGrouped, IsCanonicalCondition, truth, falsehood, term, same, differ, is, not, and, or, group, AreCanonicalConditions, last, more}
+use Rattle.print_laws.specs.CanonicalConditions.{ConditionPlace, whole, conjunction, literal, asks, is_and_node, is_or_node, IsGrouped, IsCanonicalCondition, truth, falsehood, term, same, differ, of_variant, not, and, or, group, AreCanonicalConditions, last, more}
 use Rattle.print_laws.proofs.Framework.{ProgramStack, Stops, Aim, Ends, room_now, room_open, room_in, mark, mark_with, mark_open, mark_open_with, word_with, does, row_ends, goes, takes, leaves, goes_on, stops_there}
 use Rattle.print_laws.proofs.ConditionShapes.{both_conditions-first, both_conditions-more, either_condition-first, either_condition-more, term-alone}
 use Rattle.print_laws.proofs.Stopping.{at_mark}
@@ -200,7 +200,7 @@ mutual
   condition_read {aim} {d} (differ p room t place u free free_too) low stops =
       at_node p (Condition-F.Differ t place u) (condition.Differ t place u) (rolls-Differ t place u)
       (raised p stops (differ_read t u free free_too (room_now d room aim.top low) (lowest_stops p stops)))
-  condition_read {aim} {d} (is p room t place variant free free_too) low stops =
+  condition_read {aim} {d} (of_variant p room t place variant free free_too) low stops =
       at_node p (Condition-F.Is t place variant) (condition.Is t place variant) (rolls-Is t place variant)
       (raised p stops (is_read t variant free free_too (room_now d room aim.top low)))
   condition_read {aim} {d} (not p room place inner c) low stops =

@@ -30,7 +30,7 @@ use Rattle.pale_print.specs.Placeless.{nowhere, placeless_name, placeless_assert
 use Rattle.pale_print.specs.Tokens.{◌>>◌, sign, each_behind, separated, name_tokens}
 use Rattle.pale_print.specs.AssertionTokens.{Operand, grouped, chained, implied, set_word, operands, assertion_node, assertion_tokens, bracketed_tokens}
 use Rattle.print_laws.specs.CanonicalNames.{IsFree, AreFree}
-use Rattle.print_laws.specs.CanonicalAssertions.{AssertionPlace, whole, implication, disjunct, conjunct, operand, asks, is_and_node, is_or_node, is_iff_node, IsGrouped, IsCanonicalAssertion, truth, falsehood, path, same, differ, member, subset, walk, is, use_of, not, and, or, imp, iff, quantified, group, AreCanonicalAssertions, last, more, IsCanonicalBracketed}
+use Rattle.print_laws.specs.CanonicalAssertions.{AssertionPlace, whole, implication, disjunct, conjunct, operand, asks, is_and_node, is_or_node, is_iff_node, IsGrouped, IsCanonicalAssertion, truth, falsehood, path, same, differ, member, subset, walk, of_variant, use_of, not, and, or, imp, iff, quantified, group, AreCanonicalAssertions, last, more, IsCanonicalBracketed}
 use Rattle.print_laws.proofs.Framework.{ProgramStack, Stops, Aim, Ends, room_now, room_open, room_in, mark, mark_with, mark_open, mark_open_with, word, word_with, word_open_with, does, row_ends, goes, takes, leaves, goes_on, stops_there}
 use Rattle.print_laws.proofs.AssertionShapes.{both-first, both-more, either-first, either-more, equivalent-first, equivalent-more}
 use Rattle.print_laws.proofs.Stopping.{at_mark, at_word}
@@ -306,7 +306,7 @@ mutual
   assertion_read {aim} {d} {after} (walk p followed room t place r u free c free_too) low stops none =
       at_node p followed (Assertion-F.Walk t place r u) (assertion.Walk t place r u) (rolls-Walk t place r u) (raised p (stops_for p followed after stops) (as_negation
       (relation_read t free (room_now d room aim.top low) (at_less _) (walk_read u c free_too low (operand_stops p (stops_for p followed after stops))))))
-  assertion_read {aim} {d} {after} (is p followed room t place variant free free_too) low stops none =
+  assertion_read {aim} {d} {after} (of_variant p followed room t place variant free free_too) low stops none =
       at_node p followed (Assertion-F.Is t place variant) (assertion.Is t place variant) (rolls-Is t place variant) (raised p (stops_for p followed after stops) (as_negation
       (relation_read t free (room_now d room aim.top low) (at_colon _) (is_read variant free_too (room_now d room aim.top low)))))
   assertion_read {aim} {d} {after} (use_of p followed room predicate arguments free free_too) low stops none =

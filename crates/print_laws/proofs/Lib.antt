@@ -10,4 +10,5 @@ pub mod Routes
 pub mod Statements
 pub mod Stopping
 pub mod Terms
+pub mod Types
 pub mod Words

@@ -66,7 +66,7 @@ mutual
         IsCanonicalAssertion p followed room (assertion.Subset t place set)
     walk : (p : AssertionPlace) (followed : Bool) (room : ℕ) (t : Term) (place : Pos) (r : Route) (u : Term) → IsFreeTerm t → IsCanonicalRoute whole_route room r → IsFreeTerm u →
         IsCanonicalAssertion p followed room (assertion.Walk t place r u)
-    is : (p : AssertionPlace) (followed : Bool) (room : ℕ) (t : Term) (place : Pos) (variant : Name) → IsFreeTerm t → IsFree variant →
+    of_variant : (p : AssertionPlace) (followed : Bool) (room : ℕ) (t : Term) (place : Pos) (variant : Name) → IsFreeTerm t → IsFree variant →
         IsCanonicalAssertion p followed room (assertion.Is t place variant)
     use_of : (p : AssertionPlace) (followed : Bool) (room : ℕ) (predicate : Name) (arguments : List Path) → IsFree predicate → AreFreePaths arguments →
         IsCanonicalAssertion p followed room (assertion.Use predicate arguments)
