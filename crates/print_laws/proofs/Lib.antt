@@ -5,6 +5,8 @@ pub mod ConditionShapes
 pub mod Conditions
 pub mod Connectives
 pub mod Framework
+pub mod Procedures
+pub mod Programs
 pub mod RouteShapes
 pub mod Routes
 pub mod Statements
