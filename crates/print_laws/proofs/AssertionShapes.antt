@@ -18,7 +18,7 @@ pub opened_assertion : (P : Assertion → Type 0) → ((x : Assertion-F Assertio
 opened_assertion P h = ind-Assertion P (λ x y is. h x)
 
 -- an opened assertion without its places
-pub shape : Assertion-F Assertion → Assertion-F Assertion
+unfoldable pub shape : Assertion-F Assertion → Assertion-F Assertion
 shape Assertion-F.True = Assertion-F.True
 shape Assertion-F.False = Assertion-F.False
 shape (Assertion-F.Truth p) = Assertion-F.Truth (placeless_path p)

@@ -18,7 +18,7 @@ pub opened_condition : (P : Condition → Type 0) → ((x : Condition-F Conditio
 opened_condition P h = ind-Condition P (λ x y is. h x)
 
 -- an opened condition without its places
-pub shape : Condition-F Condition → Condition-F Condition
+unfoldable pub shape : Condition-F Condition → Condition-F Condition
 shape (Condition-F.True place) = Condition-F.True nowhere
 shape (Condition-F.False place) = Condition-F.False nowhere
 shape (Condition-F.Truth t) = Condition-F.Truth (placeless_term t)

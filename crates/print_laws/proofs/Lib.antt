@@ -5,6 +5,11 @@ pub mod ConditionShapes
 pub mod Conditions
 pub mod Connectives
 pub mod Framework
+pub mod PileLemmas
+pub mod PlacelessAssertions
+pub mod PlacelessConditions
+pub mod PlacelessForms
+pub mod PlacelessRoutes
 pub mod Procedures
 pub mod Programs
 pub mod RouteShapes

@@ -18,7 +18,7 @@ pub opened_route : (P : Route → Type 0) → ((x : Route-F Route) → P (roll-R
 opened_route P h = ind-Route P (λ x y is. h x)
 
 -- an opened route without its places
-pub shape : Route-F Route → Route-F Route
+unfoldable pub shape : Route-F Route → Route-F Route
 shape (Route-F.Down f) = Route-F.Down (placeless_name f)
 shape (Route-F.Up f) = Route-F.Up (placeless_name f)
 shape Route-F.UpAny = Route-F.UpAny
