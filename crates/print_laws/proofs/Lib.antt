@@ -9,6 +9,11 @@ pub mod PileLemmas
 pub mod PlacelessAssertions
 pub mod PlacelessConditions
 pub mod PlacelessForms
+pub mod PlacelessMaking
+pub mod PlacelessMakingAssertions
+pub mod PlacelessMakingDeclarations
+pub mod PlacelessMakingStatements
+pub mod PlacelessParts
 pub mod PlacelessRoutes
 pub mod Procedures
 pub mod Programs

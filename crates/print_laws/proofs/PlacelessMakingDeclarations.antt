@@ -1,0 +1,142 @@
+-- Each act makes the same of parts without their places.
+use Rattle.std.proofs.Common.{◌≡◌, Bool, true, false, List, [], ◌∷◌, ◌++◌, Option, Some, None, map, refl, sym, ap, ◌∙◌}
+use Rattle.std.specs.Option.{option_map}
+use Rattle.piles.specs.Piles.{top, rest}
+use Rattle.pale_text.specs.declared.place.Pos.{Pos}
+use Rattle.pale_text.specs.declared.token.Token.{Token}
+use Rattle.pale_text.specs.declared.tree.names.Name.{Name}
+use Rattle.pale_text.specs.declared.tree.names.Path.{Path}
+use Rattle.pale_text.specs.declared.tree.names.Term.{Term}
+use Rattle.pale_text.specs.declared.tree.names.Term.TheVariants as term
+use Rattle.pale_text.specs.declared.tree.route.Route.{Route}
+use Rattle.pale_text.specs.declared.tree.route.Route.TheVariants as route
+use Rattle.pale_text.specs.declared.tree.condition.Condition.{Condition}
+use Rattle.pale_text.specs.declared.tree.condition.Condition.TheVariants as condition
+use Rattle.pale_text.specs.declared.tree.assertion.Assertion.{Assertion}
+use Rattle.pale_text.specs.declared.tree.assertion.Assertion.TheVariants as assertion
+use Rattle.pale_text.specs.declared.tree.assertion.Bracketed.{Bracketed}
+use Rattle.pale_text.specs.declared.tree.assertion.Quantifier.{Quantifier}
+use Rattle.pale_text.specs.declared.tree.assertion.QuantifierKind.TheVariants as quantifier
+use Rattle.pale_text.specs.declared.tree.statement.Argument.TheVariants as argument
+use Rattle.pale_text.specs.declared.tree.statement.Call.{Call}
+use Rattle.pale_text.specs.declared.tree.statement.Statement.{Statement}
+use Rattle.pale_text.specs.declared.tree.statement.Statement.TheVariants as statement
+use Rattle.pale_text.specs.declared.tree.statement.Value.{Value}
+use Rattle.pale_text.specs.declared.tree.statement.Value.TheVariants as value
+use Rattle.pale_text.specs.declared.tree.declaration.Declaration.TheVariants as declaration
+use Rattle.pale_text.specs.declared.tree.declaration.FieldDeclaration.{FieldDeclaration}
+use Rattle.pale_text.specs.declared.tree.declaration.FieldForm.TheVariants as form
+use Rattle.pale_text.specs.declared.tree.declaration.LogicParameter.TheVariants as logic
+use Rattle.pale_text.specs.declared.tree.declaration.Parameter.TheVariants as parameter
+use Rattle.pale_text.specs.declared.tree.declaration.PredicateParameter.TheVariants as predicate
+use Rattle.pale_text.specs.MakingParts.{Parts, Near, nameless, place_of, name_of, name_bytes}
+use Rattle.pale_text.specs.MakingWords.{pathless, termless, path_at, extended, after_word}
+use Rattle.pale_text.specs.MakingRoutes.{routeless, tested_type, joined_then, joined_or, starred, after_route}
+use Rattle.pale_text.specs.MakingConditions.{conditionless, term_alone, both_conditions, either_condition, after_condition}
+use Rattle.pale_text.specs.MakingAssertions.{assertionless, path_alone, both, either, equivalent, begun, quantifierless, of_sets, binding, over, after_atom, after_connective}
+use Rattle.pale_text.specs.MakingStatements.{bracketless, valueless, narrowed, with_statement, call_of, after_statement, after_call}
+use Rattle.pale_text.specs.MakingDeclarations.{type_of, predicate_of, procedure_of, after_type, after_predicate, after_procedure}
+use Rattle.pale_print.specs.Placeless.{nowhere, placeless_name, placeless_path, placeless_term, placeless_route, placeless_condition, placeless_quantifier, placeless_assertion, placeless_bracketed, placeless_value, placeless_argument, placeless_call, placeless_statement, placeless_form, placeless_field, placeless_variant, placeless_type, placeless_predicate_parameter, placeless_predicate, placeless_parameter, placeless_logic, placeless_procedure, placeless_declaration}
+use Rattle.print_laws.proofs.PileLemmas.{map-last, top-map, rest-map, second-map, rest-rest-map}
+use Rattle.print_laws.proofs.PlacelessForms.{route-Down, route-Up, route-UpAny, route-Root, route-Leaf, route-IsType, route-IsVariant, route-IsBool, condition-True, condition-False, condition-Truth, condition-Same, condition-Differ, condition-Is, condition-Not, assertion-True, assertion-False, assertion-Truth, assertion-Same, assertion-Differ, assertion-Member, assertion-Subset, assertion-Walk, assertion-Is, assertion-Use, assertion-Not, assertion-Imp, assertion-Quantified, statement-Skip, statement-If, statement-While, statement-Split, statement-Assert, statement-Free, statement-Call, statement-Assign}
+use Rattle.print_laws.proofs.PlacelessParts.{placeless_parts, placeless_near, place_of-placeless, name_of-placeless, ap2, ap3, ap4, extended-placeless, binding-placeless, narrowed-placeless, with_statement-placeless, name1, name2, names1, names2, place1, place2, places1, places2, path1, path2, paths1, paths2, term1, term2, terms1, terms2, route1, route2, routes1, routes2, condition1, condition2, conditions1, conditions2, assertion1, assertion2, assertions1, assertions2, quantifier1, quantifier2, quantifiers1, quantifiers2, bracket1, bracket2, brackets1, brackets2, block1, block2, blocks1, blocks2, else1, else2, elses1, elses2, value1, value2, values1, values2}
+use Rattle.pale_text.specs.declared.grammar.act.TypeAct.{TypeAct}
+use Rattle.pale_text.specs.declared.grammar.act.TypeAct.TheVariants as type_act
+use Rattle.pale_text.specs.declared.grammar.act.PredicateAct.{PredicateAct}
+use Rattle.pale_text.specs.declared.grammar.act.PredicateAct.TheVariants as predicate_act
+use Rattle.pale_text.specs.declared.grammar.act.ProcedureAct.{ProcedureAct}
+use Rattle.pale_text.specs.declared.grammar.act.ProcedureAct.TheVariants as procedure_act
+
+pub type_placeless : (a : TypeAct) (near : Near) (parts : Parts) → placeless_parts (after_type a near parts) ≡ after_type a (placeless_near near) (placeless_parts parts)
+type_placeless type_act.BoolField near parts = λ i. record (placeless_parts parts) {
+  fields = (map-last placeless_field parts.fields (record { name = (top nameless parts.names); form = form.Bool }) ∙ ap (λ l. map placeless_field parts.fields ++ l ∷ []) (ap (λ n. record { name = n; form = form.Bool }) (name1 parts))) i;
+  names = names1 parts i;
+}
+type_placeless type_act.DataField near parts = λ i. record (placeless_parts parts) {
+  fields = (map-last placeless_field parts.fields (record { name = (top nameless (rest parts.names)); form = form.Data (top nameless parts.names) }) ∙ ap (λ l. map placeless_field parts.fields ++ l ∷ []) (ap2 (λ (n m : Name). record { name = n; form = form.Data m }) (name2 parts) (name1 parts))) i;
+  names = names2 parts i;
+}
+type_placeless type_act.PointerField near parts = λ i. record (placeless_parts parts) {
+  fields = (map-last placeless_field parts.fields (record { name = (top nameless (rest parts.names)); form = form.Pointer (top nameless parts.names) (top routeless parts.routes) }) ∙ ap (λ l. map placeless_field parts.fields ++ l ∷ []) (ap3 (λ (n m : Name) (r : Route). record { name = n; form = form.Pointer m r }) (name2 parts) (name1 parts) (route1 parts))) i;
+  names = names2 parts i;
+  routes = routes1 parts i;
+}
+type_placeless type_act.EndCommon near parts = refl
+type_placeless type_act.AddVariant near parts = λ i. record (placeless_parts parts) {
+  variants = (map-last placeless_variant parts.variants (record { name = (top nameless parts.names); fields = parts.fields }) ∙ ap (λ l. map placeless_variant parts.variants ++ l ∷ []) (ap (λ n. record { name = n; fields = map placeless_field parts.fields }) (name1 parts))) i;
+  names = names1 parts i;
+  fields = [];
+}
+type_placeless type_act.AddType near parts = λ i. record (placeless_parts parts) {
+  declarations = (map-last placeless_declaration parts.declarations (declaration.«Type» (type_of parts)) ∙ ap (λ l. map placeless_declaration parts.declarations ++ l ∷ []) (ap (λ n. declaration.«Type» (record { name = n; fields = map placeless_field parts.common; variants = map placeless_variant parts.variants })) (name1 parts))) i;
+  names = names1 parts i;
+  common = [];
+  variants = [];
+}
+
+pub predicate_placeless : (a : PredicateAct) (near : Near) (parts : Parts) → placeless_parts (after_predicate a near parts) ≡ after_predicate a (placeless_near near) (placeless_parts parts)
+predicate_placeless predicate_act.CellParameter near parts = λ i. record (placeless_parts parts) {
+  predicate_parameters = (map-last placeless_predicate_parameter parts.predicate_parameters (predicate.Cell (top nameless (rest parts.names)) (top nameless parts.names)) ∙ ap (λ l. map placeless_predicate_parameter parts.predicate_parameters ++ l ∷ []) (ap2 predicate.Cell (name2 parts) (name1 parts))) i;
+  names = names2 parts i;
+}
+predicate_placeless predicate_act.SetParameter near parts = λ i. record (placeless_parts parts) {
+  predicate_parameters = (map-last placeless_predicate_parameter parts.predicate_parameters (predicate.Set (top nameless (rest parts.names)) (top nameless parts.names)) ∙ ap (λ l. map placeless_predicate_parameter parts.predicate_parameters ++ l ∷ []) (ap2 predicate.Set (name2 parts) (name1 parts))) i;
+  names = names2 parts i;
+}
+predicate_placeless predicate_act.BoolParameter near parts = λ i. record (placeless_parts parts) {
+  predicate_parameters = (map-last placeless_predicate_parameter parts.predicate_parameters (predicate.Bool (top nameless parts.names)) ∙ ap (λ l. map placeless_predicate_parameter parts.predicate_parameters ++ l ∷ []) (ap predicate.Bool (name1 parts))) i;
+  names = names1 parts i;
+}
+predicate_placeless predicate_act.AddPredicate near parts = λ i. record (placeless_parts parts) {
+  declarations = (map-last placeless_declaration parts.declarations (declaration.Predicate (predicate_of parts)) ∙ ap (λ l. map placeless_declaration parts.declarations ++ l ∷ []) (ap2 (λ (n : Name) (b : Bracketed). declaration.Predicate (record { name = n; parameters = map placeless_predicate_parameter parts.predicate_parameters; body = b })) (name1 parts) (bracket1 parts))) i;
+  names = names1 parts i;
+  brackets = brackets1 parts i;
+  predicate_parameters = [];
+}
+
+procedure_of-placeless : (parts : Parts) → declaration.Procedure (placeless_procedure (procedure_of parts)) ≡ declaration.Procedure (procedure_of (placeless_parts parts))
+procedure_of-placeless parts = λ i. declaration.Procedure (record (procedure_of (placeless_parts parts)) { place = place2 parts i; name = name1 parts i; body = block1 parts i; end = place1 parts i })
+
+pub procedure_placeless : (a : ProcedureAct) (near : Near) (parts : Parts) → placeless_parts (after_procedure a near parts) ≡ after_procedure a (placeless_near near) (placeless_parts parts)
+procedure_placeless procedure_act.DataParameter near parts = λ i. record (placeless_parts parts) {
+  variables = (map-last placeless_parameter parts.variables (parameter.Data (top nameless (rest parts.names)) (top nameless parts.names)) ∙ ap (λ l. map placeless_parameter parts.variables ++ l ∷ []) (ap2 parameter.Data (name2 parts) (name1 parts))) i;
+  names = names2 parts i;
+}
+procedure_placeless procedure_act.PointerParameter near parts = λ i. record (placeless_parts parts) {
+  variables = (map-last placeless_parameter parts.variables (parameter.Pointer (top nameless (rest parts.names)) (top nameless parts.names)) ∙ ap (λ l. map placeless_parameter parts.variables ++ l ∷ []) (ap2 parameter.Pointer (name2 parts) (name1 parts))) i;
+  names = names2 parts i;
+}
+procedure_placeless procedure_act.BoolVariable near parts = λ i. record (placeless_parts parts) {
+  variables = (map-last placeless_parameter parts.variables (parameter.Bool (top nameless parts.names)) ∙ ap (λ l. map placeless_parameter parts.variables ++ l ∷ []) (ap parameter.Bool (name1 parts))) i;
+  names = names1 parts i;
+}
+procedure_placeless procedure_act.TakeParameters near parts = refl
+procedure_placeless procedure_act.TakeResults near parts = refl
+procedure_placeless procedure_act.LogicSet near parts = λ i. record (placeless_parts parts) {
+  logics = (map-last placeless_logic parts.logics (logic.Set (top nameless (rest parts.names)) (top nameless parts.names)) ∙ ap (λ l. map placeless_logic parts.logics ++ l ∷ []) (ap2 logic.Set (name2 parts) (name1 parts))) i;
+  names = names2 parts i;
+}
+procedure_placeless procedure_act.LogicBool near parts = λ i. record (placeless_parts parts) {
+  logics = (map-last placeless_logic parts.logics (logic.Bool (top nameless parts.names)) ∙ ap (λ l. map placeless_logic parts.logics ++ l ∷ []) (ap logic.Bool (name1 parts))) i;
+  names = names1 parts i;
+}
+procedure_placeless procedure_act.SetPre near parts = λ i. record (placeless_parts parts) {
+  pre = ap Some (bracket1 parts) i;
+  brackets = brackets1 parts i;
+}
+procedure_placeless procedure_act.SetPost near parts = λ i. record (placeless_parts parts) {
+  post = ap Some (bracket1 parts) i;
+  brackets = brackets1 parts i;
+}
+procedure_placeless procedure_act.AddProcedure near parts = λ i. record (placeless_parts parts) {
+  declarations = (map-last placeless_declaration parts.declarations (declaration.Procedure (procedure_of parts)) ∙ ap (λ l. map placeless_declaration parts.declarations ++ l ∷ []) (procedure_of-placeless parts)) i;
+  places = places2 parts i;
+  names = names1 parts i;
+  blocks = blocks1 parts i;
+  variables = [];
+  parameters = [];
+  results = [];
+  logics = [];
+  pre = None;
+  post = None;
+}
