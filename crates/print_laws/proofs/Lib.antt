@@ -1,5 +1,6 @@
 pub mod AssertionShapes
 pub mod Assertions
+pub mod BackLemmas
 pub mod Calls
 pub mod ConditionShapes
 pub mod Conditions
@@ -15,10 +16,12 @@ pub mod PlacelessMakingDeclarations
 pub mod PlacelessMakingStatements
 pub mod PlacelessParts
 pub mod PlacelessRoutes
+pub mod PlacelessRun
 pub mod Procedures
 pub mod Programs
 pub mod RouteShapes
 pub mod Routes
+pub mod SpelledLemmas
 pub mod Statements
 pub mod Stopping
 pub mod Terms
