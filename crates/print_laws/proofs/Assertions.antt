@@ -1,11 +1,9 @@
 -- Assertions are read as they are spelled.
-use Rattle.std.proofs.Common.{◌≡◌, ℕ, suc, ◌+◌, ◌≤◌, Bool, true, false, List, [], ◌∷◌, ◌++◌, map, refl, sym, ap, ◌∙◌, subst, append_assoc, append-nil, inl, inr}
+use Rattle.std.proofs.Common.{◌≡◌, ℕ, ◌+◌, ◌≤◌, List, [], ◌∷◌, ◌++◌, map, refl, sym, subst, append_assoc, append-nil, inl, inr}
 use Rattle.std.specs.Prelude.{codes}
-use Rattle.grammar_engine.specs.declared.symbol.Symbol.TheVariants.{Read, Open, Once, Maybe, Many, Act as Does}
+use Rattle.grammar_engine.specs.declared.symbol.Symbol.TheVariants.{Read, Once, Maybe, Many}
 use Rattle.grammar_engine.specs.Readings.{Row}
-use Rattle.pale_text.specs.declared.grammar.act.Act.TheVariants as act
 use Rattle.pale_text.specs.declared.grammar.act.AtomAct.TheVariants as atoms
-use Rattle.pale_text.specs.declared.grammar.act.ConnectiveAct.TheVariants as connectives
 use Rattle.pale_text.specs.declared.grammar.act.WordAct.TheVariants as words
 use Rattle.pale_text.specs.declared.grammar.kind.ProgramKind.TheVariants as kind
 use Rattle.pale_text.specs.declared.grammar.part.ProgramPart.{ProgramPart}
@@ -23,17 +21,17 @@ use Rattle.pale_text.specs.declared.tree.assertion.Assertion.TheVariants as asse
 use Rattle.pale_text.specs.MakingParts.{Parts}
 use Rattle.pale_text.specs.MakingWords.{extended}
 use Rattle.pale_text.specs.MakingAssertions.{path_alone}
-use Rattle.pale_text.specs.ProgramGrammar.{ProgramSymbol, program_grammar, rows_of, reads, opens, push_name, mark_place, atom as makes, word as says}
+use Rattle.pale_text.specs.ProgramGrammar.{ProgramSymbol, program_grammar, rows_of, reads, push_name, mark_place, atom as makes, word as says}
 use Rattle.pale_parse.specs.Tables.{program_rules, choices_of}
 use Rattle.pale_parse.specs.Hints.{program_hints, number_of, mark_number, starts_of}
 use Rattle.pale_print.specs.Placeless.{nowhere, placeless_name, placeless_path, placeless_term, placeless_route}
 use Rattle.pale_print.specs.Tokens.{each_behind, separated, name_tokens, path_tokens, term_tokens}
 use Rattle.pale_print.specs.RouteTokens.{route_tokens}
-use Rattle.print_laws.specs.CanonicalNames.{IsFree, AreFree, IsFreePath, AreFreePaths, IsFreeTerm}
+use Rattle.print_laws.specs.CanonicalNames.{IsFree, AreFree, AreFreePaths, IsFreeTerm}
 use Rattle.print_laws.specs.CanonicalRoutes.{IsCanonicalRoute, whole as whole_route}
 use Rattle.print_laws.specs.CanonicalAssertions.{AssertionPlace, whole, implication, disjunct, conjunct, operand}
 use Rattle.print_laws.proofs.AssertionShapes.{path-alone}
-use Rattle.print_laws.proofs.Framework.{ProgramStack, Stops, Aim, Ends, room_now, mark, mark_with, word_with, word, does, row_ends, goes, takes, leaves, goes_on, stops_there}
+use Rattle.print_laws.proofs.Framework.{ProgramStack, Stops, Aim, Ends, room_now, mark, mark_with, word_with, does, row_ends, goes, takes, leaves, goes_on, stops_there}
 use Rattle.print_laws.proofs.Stopping.{at_mark, at_word}
 use Rattle.print_laws.proofs.Terms.{path_read, term_read}
 use Rattle.print_laws.proofs.Routes.{at_greater, route_read}

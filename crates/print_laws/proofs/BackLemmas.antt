@@ -1,14 +1,13 @@
 -- The spelling of a canonical program is read back.
-use Rattle.std.proofs.Common.{◌≡◌, ℕ, ◌+◌, ◌≤◌, List, [], ◌∷◌, None, map, refl, sym, ap, ◌∙◌, subst, arith}
+use Rattle.std.proofs.Common.{◌≡◌, List, [], ◌∷◌, None, map, refl, sym, ap, ◌∙◌, subst, arith}
 use Rattle.grammar_engine.specs.Answers.{event_of}
 use Rattle.grammar_engine.specs.Readings.{IsReading}
 use Rattle.pale_text.specs.declared.token.Token.{Token}
-use Rattle.pale_text.specs.declared.token.TokenKind.{TokenKind}
 use Rattle.pale_text.specs.declared.tree.declaration.Program.{Program}
 use Rattle.pale_text.specs.Making.{run, program_of}
 use Rattle.pale_text.specs.MakingParts.{Parts, nothing}
 use Rattle.pale_text.specs.ProgramGrammar.{program_grammar}
-use Rattle.pale_text.specs.ProgramReading.{max_levels, program_rows, IsProgram}
+use Rattle.pale_text.specs.ProgramReading.{max_levels, program_rows}
 use Rattle.pale_text.specs.ProgramWords.{kind_of, kinds_in}
 use Rattle.pale_text.specs.Spelled.{kinds_of, IsReadAs}
 use Rattle.pale_text.proofs.SpelledLemmas.{spelled_tokens_are_read}

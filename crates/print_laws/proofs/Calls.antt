@@ -1,8 +1,8 @@
 -- Calls are read as they are spelled.
-use Rattle.std.proofs.Common.{◌≡◌, ℕ, suc, ◌+◌, ◌≤◌, Bool, true, false, List, [], ◌∷◌, ◌++◌, Option, Some, None, map, refl, sym, ap, ◌∙◌, subst, append_assoc, append-nil, inl, inr}
+use Rattle.std.proofs.Common.{◌≡◌, ℕ, ◌+◌, ◌≤◌, true, false, List, [], ◌∷◌, ◌++◌, Option, Some, None, map, refl, sym, subst, append_assoc, append-nil, inl, inr}
 use Rattle.std.specs.Prelude.{codes}
 use Rattle.std.specs.Option.{option_map}
-use Rattle.grammar_engine.specs.declared.symbol.Symbol.TheVariants.{Read, Open, Once, Maybe, Many, Act as Does}
+use Rattle.grammar_engine.specs.declared.symbol.Symbol.TheVariants.{Read, Once, Maybe, Many}
 use Rattle.grammar_engine.specs.Readings.{Row}
 use Rattle.pale_text.specs.declared.grammar.act.CallAct.TheVariants as calls
 use Rattle.pale_text.specs.declared.grammar.kind.ProgramKind.TheVariants as kind
@@ -18,16 +18,16 @@ use Rattle.pale_text.specs.declared.tree.statement.Call.{Call}
 use Rattle.pale_text.specs.declared.tree.statement.Statement.TheVariants as statement
 use Rattle.pale_text.specs.declared.tree.statement.Statement.{Statement}
 use Rattle.pale_text.specs.MakingParts.{Parts}
-use Rattle.pale_text.specs.ProgramGrammar.{ProgramSymbol, program_grammar, rows_of, reads, opens, push_name, mark_place, call as makes}
+use Rattle.pale_text.specs.ProgramGrammar.{ProgramSymbol, program_grammar, rows_of, reads, push_name, mark_place, call as makes}
 use Rattle.pale_parse.specs.Tables.{program_rules, choices_of}
 use Rattle.pale_parse.specs.Hints.{program_hints, number_of, mark_number, starts_of}
 use Rattle.pale_print.specs.Placeless.{nowhere, placeless_name, placeless_bracketed, placeless_argument, placeless_call}
 use Rattle.pale_print.specs.Tokens.{each_behind, separated, name_tokens}
-use Rattle.pale_print.specs.StatementTokens.{argument_tokens, truth_tokens, logic_argument_tokens, clause_tokens, call_result_tokens, call_tokens}
+use Rattle.pale_print.specs.StatementTokens.{argument_tokens, logic_argument_tokens, clause_tokens, call_result_tokens, call_tokens}
 use Rattle.print_laws.specs.CanonicalNames.{IsFree, AreFree}
 use Rattle.print_laws.specs.CanonicalStatements.{IsFreeArgument, AreFreeArguments, IsCanonicalClause, IsCanonicalCall}
-use Rattle.print_laws.proofs.Framework.{ProgramStack, Stops, Aim, Ends, room_now, mark, mark_with, word, word_with, does, row_ends, goes, takes, leaves, goes_on, stops_there}
-use Rattle.print_laws.proofs.Stopping.{at_mark, at_word}
+use Rattle.print_laws.proofs.Framework.{ProgramStack, Stops, Aim, Ends, room_now, mark, word, word_with, does, row_ends, goes, takes, leaves, goes_on, stops_there}
+use Rattle.print_laws.proofs.Stopping.{at_mark}
 use Rattle.print_laws.proofs.Connectives.{bracketed_read}
 use Rattle.print_laws.proofs.Words.{is_name, is_null, is_true, is_false, is_call, is_keep}
 

@@ -1,8 +1,5 @@
 -- Conditions that are opened: what the acts that join them make.
-use Rattle.std.proofs.Common.{◌≡◌, Bool, true, false, List, [], ◌∷◌, ◌++◌, map, refl, sym, ap, ◌∙◌, subst}
-use Rattle.pale_text.specs.declared.place.Pos.{Pos}
-use Rattle.pale_text.specs.declared.tree.names.Name.{Name}
-use Rattle.pale_text.specs.declared.tree.names.Path.{Path}
+use Rattle.std.proofs.Common.{◌≡◌, false, List, [], ◌∷◌, ◌++◌, refl, sym, ap, ◌∙◌}
 use Rattle.pale_text.specs.declared.tree.names.Term.{Term}
 use Rattle.pale_text.specs.declared.tree.condition.Condition.{Condition, out-Condition, roll-Condition, out-roll-Condition}
 use Rattle.pale_text.specs.declared.tree.condition.Condition.TheVariants as condition
@@ -10,7 +7,7 @@ use Rattle.pale_text.specs.declared.tree.condition.Condition.TheVariants.{rolls-
 use Rattle.pale_text.specs.declared.tree.condition.Condition.TheOpen.{Condition-F}
 use Rattle.pale_text.specs.declared.tree.condition.Condition.TheFolds.{fold-roll-Condition, ind-Condition, map-Condition}
 use Rattle.pale_text.specs.MakingConditions.{alone_in, and_by, both_conditions, either_condition, or_by, term_alone}
-use Rattle.pale_print.specs.Placeless.{nowhere, placeless_name, placeless_path, placeless_term, placeless_route, placeless_quantifier, placeless_condition_node, placeless_condition}
+use Rattle.pale_print.specs.Placeless.{nowhere, placeless_name, placeless_term, placeless_condition_node, placeless_condition}
 use Rattle.print_laws.specs.CanonicalConditions.{is_and_node, is_or_node}
 
 -- what is known of every opened condition is known of every condition

@@ -1,9 +1,8 @@
 -- Conditions are read as they are spelled.
 use Rattle.std.specs.Prelude.{nat_lt}
-use Rattle.std.proofs.Common.{◌≡◌, ℕ, suc, ◌+◌, ◌≤◌, Bool, true, false, List, [], ◌∷◌, ◌++◌, map, refl, sym, ap, ◌∙◌, subst, append_assoc, append-nil, inl, inr}
-use Rattle.grammar_engine.specs.declared.symbol.Symbol.TheVariants.{Read, Open, Once, Maybe, Many, Act as Does}
+use Rattle.std.proofs.Common.{◌≡◌, ℕ, ◌+◌, ◌≤◌, Bool, false, List, [], ◌∷◌, ◌++◌, map, refl, sym, subst, append_assoc, inl, inr}
+use Rattle.grammar_engine.specs.declared.symbol.Symbol.TheVariants.{Read, Once, Maybe, Many}
 use Rattle.grammar_engine.specs.Readings.{Row}
-use Rattle.pale_text.specs.declared.grammar.act.Act.TheVariants as act
 use Rattle.pale_text.specs.declared.grammar.act.ConditionAct.TheVariants as conditions
 use Rattle.pale_text.specs.declared.grammar.kind.ProgramKind.TheVariants as kind
 use Rattle.pale_text.specs.declared.grammar.part.ProgramPart.{ProgramPart}
@@ -28,7 +27,7 @@ use Rattle.pale_print.specs.Tokens.{each_behind, name_tokens, term_tokens}
 use Rattle.pale_print.specs.RouteTokens.{Placed, grouped, chained}
 use Rattle.pale_print.specs.ConditionTokens.{condition_node, condition_tokens}
 use Rattle.print_laws.specs.CanonicalNames.{IsFree, IsFreeTerm}
-use Rattle.print_laws.specs.CanonicalConditions.{ConditionPlace, whole, conjunction, literal, asks, is_and_node, is_or_node, IsGrouped, IsCanonicalCondition, truth, falsehood, term, same, differ, of_variant, not, and, or, group, AreCanonicalConditions, last, more}
+use Rattle.print_laws.specs.CanonicalConditions.{ConditionPlace, whole, conjunction, literal, asks, IsCanonicalCondition, truth, falsehood, term, same, differ, of_variant, not, and, or, group, AreCanonicalConditions, last, more}
 use Rattle.print_laws.proofs.Framework.{ProgramStack, Stops, Aim, Ends, room_now, room_open, room_in, mark, mark_with, mark_open, mark_open_with, word_with, does, row_ends, goes, takes, leaves, goes_on, stops_there}
 use Rattle.print_laws.proofs.ConditionShapes.{both_conditions-first, both_conditions-more, either_condition-first, either_condition-more, term-alone}
 use Rattle.print_laws.proofs.Stopping.{at_mark}

@@ -1,7 +1,7 @@
 -- All assertions are read as they are spelled.
 use Rattle.std.specs.Prelude.{nat_lt}
-use Rattle.std.proofs.Common.{◌≡◌, ℕ, suc, ◌+◌, ◌≤◌, Bool, true, false, List, [], ◌∷◌, ◌++◌, map, refl, sym, ap, ◌∙◌, subst, append_assoc, append-nil, inl, inr}
-use Rattle.grammar_engine.specs.declared.symbol.Symbol.TheVariants.{Read, Open, Once, Maybe, Many, Act as Does}
+use Rattle.std.proofs.Common.{◌≡◌, ℕ, ◌+◌, ◌≤◌, Bool, true, false, List, [], ◌∷◌, ◌++◌, map, refl, sym, subst, append_assoc, append-nil, inl, inr}
+use Rattle.grammar_engine.specs.declared.symbol.Symbol.TheVariants.{Read, Open, Once, Maybe, Many}
 use Rattle.grammar_engine.specs.Readings.{Row}
 use Rattle.pale_text.specs.declared.grammar.act.AtomAct.TheVariants as atoms
 use Rattle.pale_text.specs.declared.grammar.act.ConnectiveAct.TheVariants as connectives
@@ -22,15 +22,15 @@ use Rattle.pale_text.specs.declared.tree.assertion.Quantifier.{Quantifier}
 use Rattle.pale_text.specs.declared.tree.assertion.QuantifierKind.{QuantifierKind}
 use Rattle.pale_text.specs.declared.tree.assertion.QuantifierKind.TheVariants as quantifier
 use Rattle.pale_text.specs.MakingParts.{Parts, nameless}
-use Rattle.pale_text.specs.MakingAssertions.{both, either, equivalent, begun}
+use Rattle.pale_text.specs.MakingAssertions.{both, either, equivalent}
 use Rattle.pale_text.specs.ProgramGrammar.{ProgramSymbol, program_grammar, rows_of, reads, opens, push_name, mark_place, atom, connective as makes}
 use Rattle.pale_parse.specs.Tables.{program_rules, choices_of}
 use Rattle.pale_parse.specs.Hints.{program_hints, number_of, mark_number, starts_of}
 use Rattle.pale_print.specs.Placeless.{nowhere, placeless_name, placeless_assertion_node, placeless_assertion, placeless_bracketed}
-use Rattle.pale_print.specs.Tokens.{◌>>◌, sign, each_behind, separated, name_tokens}
+use Rattle.pale_print.specs.Tokens.{each_behind, name_tokens}
 use Rattle.pale_print.specs.AssertionTokens.{Operand, grouped, chained, implied, set_word, operands, assertion_node, assertion_tokens, bracketed_tokens}
 use Rattle.print_laws.specs.CanonicalNames.{IsFree, AreFree}
-use Rattle.print_laws.specs.CanonicalAssertions.{AssertionPlace, whole, implication, disjunct, conjunct, operand, asks, is_and_node, is_or_node, is_iff_node, IsGrouped, IsCanonicalAssertion, truth, falsehood, path, same, differ, member, subset, walk, of_variant, use_of, not, and, or, imp, iff, quantified, group, AreCanonicalAssertions, last, more, IsCanonicalBracketed}
+use Rattle.print_laws.specs.CanonicalAssertions.{AssertionPlace, whole, implication, disjunct, conjunct, operand, asks, IsCanonicalAssertion, truth, falsehood, path, same, differ, member, subset, walk, of_variant, use_of, not, and, or, imp, iff, quantified, group, AreCanonicalAssertions, last, more, IsCanonicalBracketed}
 use Rattle.print_laws.proofs.Framework.{ProgramStack, Stops, Aim, Ends, room_now, room_open, room_in, mark, mark_with, mark_open, mark_open_with, word, word_with, word_open_with, does, row_ends, goes, takes, leaves, goes_on, stops_there}
 use Rattle.print_laws.proofs.AssertionShapes.{both-first, both-more, either-first, either-more, equivalent-first, equivalent-more}
 use Rattle.print_laws.proofs.Stopping.{at_mark, at_word}

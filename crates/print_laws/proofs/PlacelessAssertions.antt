@@ -1,15 +1,11 @@
 -- What the acts that join assertions make, without places.
-use Rattle.std.proofs.Common.{◌≡◌, List, [], ◌∷◌, ◌++◌, map, refl, sym, ap, ◌∙◌}
-use Rattle.pale_text.specs.declared.place.Pos.{Pos}
-use Rattle.pale_text.specs.declared.tree.names.Name.{Name}
-use Rattle.pale_text.specs.declared.tree.names.Path.{Path}
-use Rattle.pale_text.specs.declared.tree.names.Term.{Term}
-use Rattle.pale_text.specs.declared.tree.assertion.Assertion.{Assertion, out-Assertion, roll-Assertion, out-roll-Assertion}
+use Rattle.std.proofs.Common.{◌≡◌, [], ◌∷◌, ◌++◌, refl, sym, ap, ◌∙◌}
+use Rattle.pale_text.specs.declared.tree.assertion.Assertion.{Assertion, roll-Assertion, out-roll-Assertion}
 use Rattle.pale_text.specs.declared.tree.assertion.Assertion.TheVariants as assertion
 use Rattle.pale_text.specs.declared.tree.assertion.Assertion.TheOpen.{Assertion-F}
 use Rattle.pale_text.specs.declared.tree.assertion.Assertion.TheFolds.{map-Assertion}
 use Rattle.pale_text.specs.MakingAssertions.{and_by, or_by, iff_by, both, either, equivalent, alone_in, path_alone}
-use Rattle.pale_print.specs.Placeless.{nowhere, placeless_path, placeless_assertion}
+use Rattle.pale_print.specs.Placeless.{placeless_path, placeless_assertion}
 use Rattle.print_laws.proofs.PileLemmas.{map-last}
 use Rattle.print_laws.proofs.PlacelessForms.{assertion-And, assertion-Or, assertion-Iff}
 use Rattle.print_laws.proofs.AssertionShapes.{opened_assertion, shape, placeless-out}

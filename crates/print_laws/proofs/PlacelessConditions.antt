@@ -1,15 +1,11 @@
 -- What the acts that join conditions make, without places.
-use Rattle.std.proofs.Common.{◌≡◌, List, [], ◌∷◌, ◌++◌, map, refl, sym, ap, ◌∙◌}
-use Rattle.pale_text.specs.declared.place.Pos.{Pos}
-use Rattle.pale_text.specs.declared.tree.names.Name.{Name}
-use Rattle.pale_text.specs.declared.tree.names.Path.{Path}
-use Rattle.pale_text.specs.declared.tree.names.Term.{Term}
-use Rattle.pale_text.specs.declared.tree.condition.Condition.{Condition, out-Condition, roll-Condition, out-roll-Condition}
+use Rattle.std.proofs.Common.{◌≡◌, [], ◌∷◌, ◌++◌, refl, sym, ap, ◌∙◌}
+use Rattle.pale_text.specs.declared.tree.condition.Condition.{Condition, roll-Condition, out-roll-Condition}
 use Rattle.pale_text.specs.declared.tree.condition.Condition.TheVariants as condition
 use Rattle.pale_text.specs.declared.tree.condition.Condition.TheOpen.{Condition-F}
 use Rattle.pale_text.specs.declared.tree.condition.Condition.TheFolds.{map-Condition}
 use Rattle.pale_text.specs.MakingConditions.{and_by, or_by, both_conditions, either_condition, alone_in, term_alone}
-use Rattle.pale_print.specs.Placeless.{nowhere, placeless_term, placeless_condition}
+use Rattle.pale_print.specs.Placeless.{placeless_term, placeless_condition}
 use Rattle.print_laws.proofs.PileLemmas.{map-last}
 use Rattle.print_laws.proofs.PlacelessForms.{condition-And, condition-Or}
 use Rattle.print_laws.proofs.ConditionShapes.{opened_condition, shape, placeless-out}

@@ -1,44 +1,23 @@
 -- Parts without their places.
-use Rattle.std.proofs.Common.{◌≡◌, Bool, true, false, List, [], ◌∷◌, ◌++◌, Option, Some, None, map, refl, sym, ap, ◌∙◌}
+use Rattle.std.proofs.Common.{◌≡◌, List, [], ◌∷◌, ◌++◌, Option, Some, None, map, refl, ap, ◌∙◌}
 use Rattle.std.specs.Option.{option_map}
 use Rattle.piles.specs.Piles.{top, rest}
-use Rattle.pale_text.specs.declared.place.Pos.{Pos}
 use Rattle.pale_text.specs.declared.token.Token.{Token}
 use Rattle.pale_text.specs.declared.tree.names.Name.{Name}
 use Rattle.pale_text.specs.declared.tree.names.Path.{Path}
-use Rattle.pale_text.specs.declared.tree.names.Term.{Term}
-use Rattle.pale_text.specs.declared.tree.names.Term.TheVariants as term
-use Rattle.pale_text.specs.declared.tree.route.Route.{Route}
-use Rattle.pale_text.specs.declared.tree.route.Route.TheVariants as route
-use Rattle.pale_text.specs.declared.tree.condition.Condition.{Condition}
-use Rattle.pale_text.specs.declared.tree.condition.Condition.TheVariants as condition
-use Rattle.pale_text.specs.declared.tree.assertion.Assertion.{Assertion}
-use Rattle.pale_text.specs.declared.tree.assertion.Assertion.TheVariants as assertion
-use Rattle.pale_text.specs.declared.tree.assertion.Bracketed.{Bracketed}
 use Rattle.pale_text.specs.declared.tree.assertion.Quantifier.{Quantifier}
-use Rattle.pale_text.specs.declared.tree.assertion.QuantifierKind.TheVariants as quantifier
-use Rattle.pale_text.specs.declared.tree.statement.Argument.TheVariants as argument
-use Rattle.pale_text.specs.declared.tree.statement.Call.{Call}
 use Rattle.pale_text.specs.declared.tree.statement.Statement.{Statement}
-use Rattle.pale_text.specs.declared.tree.statement.Statement.TheVariants as statement
 use Rattle.pale_text.specs.declared.tree.statement.Value.{Value}
 use Rattle.pale_text.specs.declared.tree.statement.Value.TheVariants as value
-use Rattle.pale_text.specs.declared.tree.declaration.Declaration.TheVariants as declaration
-use Rattle.pale_text.specs.declared.tree.declaration.FieldDeclaration.{FieldDeclaration}
-use Rattle.pale_text.specs.declared.tree.declaration.FieldForm.TheVariants as form
-use Rattle.pale_text.specs.declared.tree.declaration.LogicParameter.TheVariants as logic
-use Rattle.pale_text.specs.declared.tree.declaration.Parameter.TheVariants as parameter
-use Rattle.pale_text.specs.declared.tree.declaration.PredicateParameter.TheVariants as predicate
-use Rattle.pale_text.specs.MakingParts.{Parts, Near, nameless, place_of, name_of, name_bytes}
-use Rattle.pale_text.specs.MakingWords.{pathless, termless, path_at, extended, after_word}
-use Rattle.pale_text.specs.MakingRoutes.{routeless, tested_type, joined_then, joined_or, starred, after_route}
-use Rattle.pale_text.specs.MakingConditions.{conditionless, term_alone, both_conditions, either_condition, after_condition}
-use Rattle.pale_text.specs.MakingAssertions.{assertionless, path_alone, both, either, equivalent, begun, quantifierless, of_sets, binding, over, after_atom, after_connective}
-use Rattle.pale_text.specs.MakingStatements.{bracketless, valueless, narrowed, with_statement, call_of, after_statement, after_call}
-use Rattle.pale_text.specs.MakingDeclarations.{type_of, predicate_of, procedure_of, after_type, after_predicate, after_procedure}
-use Rattle.pale_print.specs.Placeless.{nowhere, placeless_name, placeless_path, placeless_term, placeless_route, placeless_condition, placeless_quantifier, placeless_assertion, placeless_bracketed, placeless_value, placeless_argument, placeless_call, placeless_statement, placeless_form, placeless_field, placeless_variant, placeless_type, placeless_predicate_parameter, placeless_predicate, placeless_parameter, placeless_logic, placeless_procedure, placeless_declaration}
+use Rattle.pale_text.specs.MakingParts.{Parts, Near, nameless, place_of, name_of}
+use Rattle.pale_text.specs.MakingWords.{pathless, termless, extended}
+use Rattle.pale_text.specs.MakingRoutes.{routeless}
+use Rattle.pale_text.specs.MakingConditions.{conditionless}
+use Rattle.pale_text.specs.MakingAssertions.{assertionless, quantifierless, binding}
+use Rattle.pale_text.specs.MakingStatements.{bracketless, valueless, narrowed, with_statement}
+use Rattle.pale_print.specs.Placeless.{nowhere, placeless_name, placeless_path, placeless_term, placeless_route, placeless_condition, placeless_quantifier, placeless_assertion, placeless_bracketed, placeless_value, placeless_argument, placeless_statement, placeless_field, placeless_variant, placeless_predicate_parameter, placeless_parameter, placeless_logic, placeless_declaration}
 use Rattle.print_laws.proofs.PileLemmas.{map-last, top-map, rest-map, second-map, rest-rest-map}
-use Rattle.print_laws.proofs.PlacelessForms.{route-Down, route-Up, route-UpAny, route-Root, route-Leaf, route-IsType, route-IsVariant, route-IsBool, condition-True, condition-False, condition-Truth, condition-Same, condition-Differ, condition-Is, condition-Not, assertion-True, assertion-False, assertion-Truth, assertion-Same, assertion-Differ, assertion-Member, assertion-Subset, assertion-Walk, assertion-Is, assertion-Use, assertion-Not, assertion-Imp, assertion-Quantified, statement-Skip, statement-If, statement-While, statement-Split, statement-Assert, statement-Free, statement-Call, statement-Assign}
+use Rattle.print_laws.proofs.PlacelessForms.{route-UpAny, condition-True, assertion-True}
 
 -- the parts with every place in them set to one and the same
 abbrev pub placeless_parts : Parts → Parts

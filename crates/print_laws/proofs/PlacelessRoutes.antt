@@ -1,10 +1,7 @@
 -- What the acts that join routes make, without places.
-use Rattle.std.proofs.Common.{◌≡◌, List, [], ◌∷◌, ◌++◌, map, refl, sym, ap, ◌∙◌}
+use Rattle.std.proofs.Common.{◌≡◌, [], ◌∷◌, ◌++◌, refl, sym, ap, ◌∙◌}
 use Rattle.pale_text.specs.declared.place.Pos.{Pos}
-use Rattle.pale_text.specs.declared.tree.names.Name.{Name}
-use Rattle.pale_text.specs.declared.tree.names.Path.{Path}
-use Rattle.pale_text.specs.declared.tree.names.Term.{Term}
-use Rattle.pale_text.specs.declared.tree.route.Route.{Route, out-Route, roll-Route, out-roll-Route}
+use Rattle.pale_text.specs.declared.tree.route.Route.{Route, roll-Route, out-roll-Route}
 use Rattle.pale_text.specs.declared.tree.route.Route.TheVariants as route
 use Rattle.pale_text.specs.declared.tree.route.Route.TheOpen.{Route-F}
 use Rattle.pale_text.specs.declared.tree.route.Route.TheFolds.{map-Route}

@@ -1,5 +1,5 @@
 -- The tree of a text without its places is that of its tokens without theirs.
-use Rattle.std.proofs.Common.{◌≡◌, List, [], ◌∷◌, Option, None, Some, map, refl, sym, ap, ◌∙◌}
+use Rattle.std.proofs.Common.{◌≡◌, List, [], ◌∷◌, Option, None, Some, map, refl, ap, ◌∙◌}
 use Rattle.std.specs.Option.{option_map}
 use Rattle.grammar_engine.specs.declared.symbol.Event.{Event}
 use Rattle.grammar_engine.specs.declared.symbol.Event.TheVariants as event

@@ -1,8 +1,8 @@
 -- Procedures are read as they are spelled.
-use Rattle.std.proofs.Common.{◌≡◌, ℕ, suc, ◌+◌, ◌≤◌, Bool, true, false, List, [], ◌∷◌, ◌++◌, Option, Some, None, map, refl, sym, ap, ◌∙◌, subst, append_assoc, append-nil, arith, inl, inr}
+use Rattle.std.proofs.Common.{◌≡◌, ℕ, suc, ◌+◌, ◌≤◌, List, [], ◌∷◌, ◌++◌, Option, Some, None, map, refl, sym, ap, subst, append_assoc, append-nil, arith, inl, inr}
 use Rattle.std.specs.Prelude.{codes}
 use Rattle.std.specs.Option.{option_map}
-use Rattle.grammar_engine.specs.declared.symbol.Symbol.TheVariants.{Read, Open, Once, Maybe, Many, Act as Does}
+use Rattle.grammar_engine.specs.declared.symbol.Symbol.TheVariants.{Read, Once, Maybe, Many}
 use Rattle.grammar_engine.specs.Readings.{Row}
 use Rattle.pale_text.specs.declared.grammar.act.ProcedureAct.TheVariants as procedures
 use Rattle.pale_text.specs.declared.grammar.act.StatementAct.TheVariants as statements
@@ -11,7 +11,6 @@ use Rattle.pale_text.specs.declared.grammar.part.ProgramPart.TheVariants as part
 use Rattle.pale_text.specs.declared.token.Mark.TheVariants as mark
 use Rattle.pale_text.specs.declared.token.TokenKind.{TokenKind}
 use Rattle.pale_text.specs.declared.token.TokenKind.TheVariants as token
-use Rattle.pale_text.specs.declared.tree.names.Name.{Name}
 use Rattle.pale_text.specs.declared.tree.assertion.Bracketed.{Bracketed}
 use Rattle.pale_text.specs.declared.tree.statement.Statement.{Statement}
 use Rattle.pale_text.specs.declared.tree.declaration.Declaration.{Declaration}
@@ -25,12 +24,11 @@ use Rattle.pale_text.specs.MakingParts.{Parts}
 use Rattle.pale_text.specs.ProgramGrammar.{ProgramSymbol, program_grammar, rows_of, reads, opens, push_name, mark_place, procedure as makes, statement as states}
 use Rattle.pale_parse.specs.Tables.{program_rules, choices_of}
 use Rattle.pale_parse.specs.Hints.{program_hints, number_of, mark_number, starts_of}
-use Rattle.pale_print.specs.Placeless.{nowhere, placeless_name, placeless_bracketed, placeless_statement, placeless_parameter, placeless_logic, placeless_procedure}
+use Rattle.pale_print.specs.Placeless.{nowhere, placeless_name, placeless_bracketed, placeless_parameter, placeless_logic, placeless_procedure}
 use Rattle.pale_print.specs.Tokens.{each, each_behind, separated}
 use Rattle.pale_print.specs.StatementTokens.{clause_tokens, statement_tokens}
 use Rattle.pale_print.specs.DeclarationTokens.{parameter_tokens, results_tokens, logic_parameter_tokens, logics_tokens, local_tokens, procedure_tokens}
-use Rattle.print_laws.specs.CanonicalNames.{IsFree}
-use Rattle.print_laws.specs.CanonicalStatements.{IsCanonicalClause, AreCanonicalStatements}
+use Rattle.print_laws.specs.CanonicalStatements.{IsCanonicalClause}
 use Rattle.print_laws.specs.CanonicalDeclarations.{All, IsFreeParameter, IsFreeLogicParameter, IsCanonicalProcedure}
 use Rattle.print_laws.proofs.Framework.{ProgramStack, Stops, Aim, Ends, room_now, mark, mark_with, mark_open, word, word_with, does, row_ends, goes, takes, leaves, goes_on, stops_there}
 use Rattle.print_laws.proofs.Stopping.{at_mark, at_word}

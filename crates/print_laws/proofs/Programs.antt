@@ -1,21 +1,20 @@
 -- A program whose spelling is canonical is read as it is spelled.
-use Rattle.std.proofs.Common.{◌≡◌, ℕ, suc, ◌+◌, ◌≤◌, List, [], ◌∷◌, ◌++◌, map, refl, sym, subst, append_assoc, append-nil, inl, inr}
+use Rattle.std.proofs.Common.{ℕ, ◌+◌, ◌≤◌, List, [], ◌∷◌, ◌++◌, map, refl, sym, subst, append_assoc, append-nil, inl, inr}
 use Rattle.grammar_engine.specs.declared.symbol.Symbol.TheVariants.{Once, Many}
 use Rattle.grammar_engine.specs.Readings.{Bottom, Row, over}
 use Rattle.pale_text.specs.declared.grammar.part.ProgramPart.TheVariants as part
-use Rattle.pale_text.specs.declared.token.TokenKind.{TokenKind}
 use Rattle.pale_text.specs.declared.tree.declaration.Declaration.{Declaration}
 use Rattle.pale_text.specs.declared.tree.declaration.Declaration.TheVariants as declaration
 use Rattle.pale_text.specs.declared.tree.declaration.Program.{Program}
 use Rattle.pale_text.specs.ProgramGrammar.{ProgramSymbol, program_grammar, rows_of}
 use Rattle.pale_parse.specs.Tables.{program_rules, choices_of}
 use Rattle.pale_parse.specs.Hints.{program_hints, number_of, mark_number, starts_of}
-use Rattle.pale_print.specs.Placeless.{placeless_declaration, placeless}
+use Rattle.pale_print.specs.Placeless.{placeless_declaration}
 use Rattle.pale_print.specs.Tokens.{each}
 use Rattle.pale_print.specs.DeclarationTokens.{declaration_tokens, program_tokens}
 use Rattle.print_laws.specs.CanonicalDeclarations.{All, IsCanonicalDeclaration, IsCanonical}
 use Rattle.print_laws.proofs.Framework.{ProgramStack, Stops, Aim, Ends, row_ends, goes_on, stops_there}
-use Rattle.print_laws.proofs.Stopping.{at_mark, at_word}
+use Rattle.print_laws.proofs.Stopping.{at_word}
 use Rattle.print_laws.proofs.Types.{declared, type_read, predicate_read}
 use Rattle.print_laws.proofs.Procedures.{procedure_read}
 use Rattle.print_laws.proofs.Words.{is_type, is_pred, is_proc}

@@ -1,9 +1,8 @@
 -- Routes are read as they are spelled.
 use Rattle.std.specs.Prelude.{nat_lt}
-use Rattle.std.proofs.Common.{◌≡◌, ℕ, suc, ◌+◌, ◌≤◌, Bool, true, false, List, [], ◌∷◌, ◌++◌, map, refl, sym, ap, ◌∙◌, subst, append_assoc, append-nil, inl, inr}
-use Rattle.grammar_engine.specs.declared.symbol.Symbol.TheVariants.{Read, Open, Once, Maybe, Many, Act as Does}
+use Rattle.std.proofs.Common.{◌≡◌, ℕ, ◌+◌, ◌≤◌, Bool, true, false, List, [], ◌∷◌, ◌++◌, map, refl, sym, subst, append_assoc, inl, inr}
+use Rattle.grammar_engine.specs.declared.symbol.Symbol.TheVariants.{Read, Once, Maybe, Many}
 use Rattle.grammar_engine.specs.Readings.{Row}
-use Rattle.pale_text.specs.declared.grammar.act.Act.TheVariants as act
 use Rattle.pale_text.specs.declared.grammar.act.RouteAct.TheVariants as routes
 use Rattle.pale_text.specs.declared.grammar.kind.ProgramKind.TheVariants as kind
 use Rattle.pale_text.specs.declared.grammar.part.ProgramPart.{ProgramPart}
@@ -12,7 +11,6 @@ use Rattle.pale_text.specs.declared.place.Pos.{Pos}
 use Rattle.pale_text.specs.declared.token.Mark.TheVariants as mark
 use Rattle.pale_text.specs.declared.token.TokenKind.{TokenKind}
 use Rattle.pale_text.specs.declared.token.TokenKind.TheVariants as token
-use Rattle.pale_text.specs.declared.tree.names.Name.{Name}
 use Rattle.pale_text.specs.declared.tree.route.Route.{Route, roll-Route}
 use Rattle.pale_text.specs.declared.tree.route.Route.TheVariants as route
 use Rattle.pale_text.specs.declared.tree.route.Route.TheVariants.{rolls-Down, rolls-Up, rolls-UpAny, rolls-Root, rolls-Leaf, rolls-IsType, rolls-IsVariant, rolls-IsBool, rolls-Then, rolls-Or, rolls-Star}
@@ -26,8 +24,7 @@ use Rattle.pale_parse.specs.Hints.{program_hints, number_of, mark_number, starts
 use Rattle.pale_print.specs.Placeless.{nowhere, placeless_name, placeless_route_node, placeless_route}
 use Rattle.pale_print.specs.Tokens.{each_behind}
 use Rattle.pale_print.specs.RouteTokens.{Placed, grouped, chained, stars, route_node, route_tokens}
-use Rattle.print_laws.specs.CanonicalNames.{IsFree}
-use Rattle.print_laws.specs.CanonicalRoutes.{RoutePlace, whole, sequence, repeated, single, asks, is_then_node, is_or_node, is_star_node, IsGrouped, IsCanonicalRoute, down, up, up_any, root, leaf, is_type, is_variant, is_bool, then, or, star, group, AreCanonicalRoutes, last, more}
+use Rattle.print_laws.specs.CanonicalRoutes.{RoutePlace, whole, sequence, repeated, single, asks, IsCanonicalRoute, down, up, up_any, root, leaf, is_type, is_variant, is_bool, then, or, star, group, AreCanonicalRoutes, last, more}
 use Rattle.print_laws.proofs.Framework.{ProgramStack, Stops, Aim, Ends, room_now, room_open, room_in, mark, mark_with, mark_open, word, word_with, does, row_ends, goes, takes, leaves, goes_on, stops_there}
 use Rattle.print_laws.proofs.RouteShapes.{joined_then-first, joined_then-more, joined_or-first, joined_or-more, starred-first, starred-more, tested-type}
 use Rattle.print_laws.proofs.Stopping.{at_mark}

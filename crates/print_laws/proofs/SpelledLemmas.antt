@@ -1,5 +1,5 @@
 -- The spelling of tokens that have one keeps them apart.
-use Rattle.std.proofs.Common.{◌≡◌, true, IsTrue, List, [], ◌∷◌, refl}
+use Rattle.std.proofs.Common.{◌≡◌, true, List, [], ◌∷◌, refl}
 use Rattle.pale_text.specs.declared.token.Mark.TheVariants as mark
 use Rattle.pale_text.specs.declared.token.TokenKind.{TokenKind}
 use Rattle.pale_text.specs.declared.token.TokenKind.TheVariants as token

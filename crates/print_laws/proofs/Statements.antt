@@ -1,20 +1,16 @@
 -- Statements are read as they are spelled.
-use Rattle.std.proofs.Common.{◌≡◌, ℕ, suc, ◌+◌, ◌≤◌, Bool, true, false, List, [], ◌∷◌, ◌++◌, Option, Some, None, map, refl, sym, ap, ◌∙◌, subst, append_assoc, append-nil, inl, inr}
-use Rattle.std.specs.Prelude.{codes}
-use Rattle.grammar_engine.specs.declared.symbol.Symbol.TheVariants.{Read, Open, Once, Maybe, Many, Act as Does}
+use Rattle.std.proofs.Common.{◌≡◌, ℕ, suc, ◌+◌, ◌≤◌, List, [], ◌∷◌, ◌++◌, Some, None, map, refl, sym, subst, append_assoc, append-nil, inl, inr}
+use Rattle.grammar_engine.specs.declared.symbol.Symbol.TheVariants.{Read, Once, Maybe, Many}
 use Rattle.grammar_engine.specs.Grammars.{IsOneOf}
 use Rattle.grammar_engine.specs.Readings.{Row}
 use Rattle.pale_text.specs.declared.grammar.act.CallAct.TheVariants as calls
 use Rattle.pale_text.specs.declared.grammar.act.StatementAct.TheVariants as statements
-use Rattle.pale_text.specs.declared.grammar.act.Act.TheVariants as act
 use Rattle.pale_text.specs.declared.grammar.act.WordAct.TheVariants as words
 use Rattle.pale_text.specs.declared.grammar.kind.ProgramKind.TheVariants as kind
-use Rattle.pale_text.specs.declared.grammar.part.ProgramPart.{ProgramPart}
 use Rattle.pale_text.specs.declared.grammar.part.ProgramPart.TheVariants as part
 use Rattle.pale_text.specs.declared.token.Mark.TheVariants as mark
 use Rattle.pale_text.specs.declared.token.TokenKind.{TokenKind}
 use Rattle.pale_text.specs.declared.token.TokenKind.TheVariants as token
-use Rattle.pale_text.specs.declared.tree.names.Name.{Name}
 use Rattle.pale_text.specs.declared.tree.statement.Statement.{Statement, roll-Statement}
 use Rattle.pale_text.specs.declared.tree.statement.Statement.TheVariants as statement
 use Rattle.pale_text.specs.declared.tree.statement.Statement.TheVariants.{rolls-Skip, rolls-If, rolls-While, rolls-Split, rolls-Assert, rolls-Free, rolls-Call, rolls-Assign}
@@ -27,7 +23,7 @@ use Rattle.pale_text.specs.ProgramGrammar.{ProgramSymbol, program_grammar, rows_
 use Rattle.pale_text.specs.ProgramReading.{program_rows}
 use Rattle.pale_parse.specs.Tables.{program_rules, choices_of}
 use Rattle.pale_parse.specs.Hints.{program_hints, number_of, mark_number, starts_of}
-use Rattle.pale_print.specs.Placeless.{nowhere, placeless_name, placeless_condition, placeless_bracketed, placeless_value, placeless_statement_node, placeless_statement}
+use Rattle.pale_print.specs.Placeless.{nowhere, placeless_condition, placeless_bracketed, placeless_value, placeless_statement_node, placeless_statement}
 use Rattle.pale_print.specs.Tokens.{Tokens, each}
 use Rattle.pale_print.specs.StatementTokens.{value_tokens, statement_node, statement_tokens}
 use Rattle.print_laws.specs.CanonicalStatements.{IsCanonicalValue, IsCanonicalStatement, skip, if_alone, if_else, while, split, assert, free, call, assign, AreCanonicalStatements, none, more}
@@ -152,7 +148,7 @@ mutual
   statement_read {aim} {d} (if_alone room place c then is are) after parts done blocks low at_rest stops =
       at_node parts done blocks (Statement-F.If place c then None) (statement.If place c then None) (rolls-If place c then None) (
         (Read kind.If ∷ mark_place ∷ reads mark.LeftParen ∷ Once part.Condition ∷ reads mark.RightParen ∷ Once part.Block ∷
-        makes statements.NoElse ∷ Maybe part.Else ∷ makes statements.MakeIf ∷ []),
+            makes statements.NoElse ∷ Maybe part.Else ∷ makes statements.MakeIf ∷ []),
         inr (inl refl),
         λ below next.
             word_with is_if (room_now d (suc room) aim.top low) (λ n. refl) (mark (room_now d (suc room) aim.top low)
@@ -165,7 +161,7 @@ mutual
   statement_read {aim} {d} (if_else room place c then otherwise is are are_too) after parts done blocks low at_rest stops =
       at_node parts done blocks (Statement-F.If place c then (Some otherwise)) (statement.If place c then (Some otherwise)) (rolls-If place c then (Some otherwise)) (
         (Read kind.If ∷ mark_place ∷ reads mark.LeftParen ∷ Once part.Condition ∷ reads mark.RightParen ∷ Once part.Block ∷
-        makes statements.NoElse ∷ Maybe part.Else ∷ makes statements.MakeIf ∷ []),
+            makes statements.NoElse ∷ Maybe part.Else ∷ makes statements.MakeIf ∷ []),
         inr (inl refl),
         λ below next.
             word_with is_if (room_now d (suc room) aim.top low) (λ n. refl) (mark (room_now d (suc room) aim.top low)
@@ -183,7 +179,7 @@ mutual
   statement_read {aim} {d} (while room place c invariant body is is_too are) after parts done blocks low at_rest stops =
       at_node parts done blocks (Statement-F.While place c invariant body) (statement.While place c invariant body) (rolls-While place c invariant body) (
         (Read kind.While ∷ mark_place ∷ reads mark.LeftParen ∷ Once part.Condition ∷ reads mark.RightParen ∷ Once part.Bracketed ∷
-        Once part.Block ∷ makes statements.MakeWhile ∷ []),
+            Once part.Block ∷ makes statements.MakeWhile ∷ []),
         inr (inr (inl refl)),
         λ below next.
             word_with is_while (room_now d (suc room) aim.top low) (λ n. refl) (mark (room_now d (suc room) aim.top low)

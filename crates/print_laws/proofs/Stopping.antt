@@ -13,7 +13,6 @@ use Rattle.pale_text.specs.declared.token.Mark.{Mark}
 use Rattle.pale_text.specs.declared.token.TokenKind.{TokenKind}
 use Rattle.pale_text.specs.declared.token.TokenKind.TheVariants as token
 use Rattle.pale_text.specs.ProgramGrammar.{program_grammar}
-use Rattle.pale_text.specs.ProgramWords.{name_kind}
 use Rattle.pale_parse.specs.Tables.{program_rules}
 use Rattle.pale_parse.specs.Hints.{program_hints}
 use Rattle.pale_parse.specs.TableLaws.{program_named, program_sound}

@@ -1,11 +1,10 @@
 -- Names, paths and terms are read as they are spelled.
-use Rattle.std.proofs.Common.{◌≡◌, ℕ, ◌≤◌, List, [], ◌∷◌, ◌++◌, map, refl, sym, ap, subst, append_assoc, append-nil, inl, inr}
-use Rattle.grammar_engine.specs.declared.symbol.Symbol.TheVariants.{Read, Open, Once, Maybe, Many, Act as Does}
+use Rattle.std.proofs.Common.{ℕ, ◌≤◌, List, [], ◌∷◌, ◌++◌, map, refl, sym, subst, append_assoc, append-nil, inl, inr}
+use Rattle.grammar_engine.specs.declared.symbol.Symbol.TheVariants.{Read, Once, Many, Act as Does}
 use Rattle.grammar_engine.specs.Readings.{Row}
 use Rattle.pale_text.specs.declared.grammar.act.Act.TheVariants as act
 use Rattle.pale_text.specs.declared.grammar.act.WordAct.TheVariants as words
 use Rattle.pale_text.specs.declared.grammar.kind.ProgramKind.TheVariants as kind
-use Rattle.pale_text.specs.declared.grammar.part.ProgramPart.{ProgramPart}
 use Rattle.pale_text.specs.declared.grammar.part.ProgramPart.TheVariants as part
 use Rattle.pale_text.specs.declared.token.Mark.TheVariants as mark
 use Rattle.pale_text.specs.declared.token.TokenKind.{TokenKind}
@@ -17,8 +16,8 @@ use Rattle.pale_text.specs.MakingParts.{Parts}
 use Rattle.pale_text.specs.ProgramGrammar.{ProgramSymbol, program_grammar, rows_of, reads, push_name}
 use Rattle.pale_print.specs.Placeless.{placeless_name, placeless_path, placeless_term}
 use Rattle.pale_print.specs.Tokens.{each_behind, name_tokens, path_tokens, term_tokens}
-use Rattle.print_laws.specs.CanonicalNames.{IsFree, AreFree, IsFreePath, IsFreeTerm}
-use Rattle.print_laws.proofs.Framework.{ProgramStack, Stops, Aim, Ends, mark, word, word_with, does, row_ends, goes, goes_on, stops_there}
+use Rattle.print_laws.specs.CanonicalNames.{AreFree, IsFreePath, IsFreeTerm}
+use Rattle.print_laws.proofs.Framework.{ProgramStack, Stops, Aim, Ends, mark, word_with, does, row_ends, goes, goes_on, stops_there}
 use Rattle.print_laws.proofs.Words.{is_name, is_null}
 
 path_steps : {aim : Aim} {row : List ProgramSymbol} {d : ℕ} {below : ProgramStack} {after : List TokenKind} {parts : Parts} (base : Name) (done fields : List Name) →

@@ -1,7 +1,6 @@
 -- Types and predicates are read as they are spelled.
-use Rattle.std.proofs.Common.{◌≡◌, ℕ, suc, ◌+◌, ◌≤◌, Bool, true, false, List, [], ◌∷◌, ◌++◌, map, refl, sym, subst, append_assoc, append-nil, inl, inr}
-use Rattle.std.specs.Prelude.{codes}
-use Rattle.grammar_engine.specs.declared.symbol.Symbol.TheVariants.{Read, Open, Once, Maybe, Many, Act as Does}
+use Rattle.std.proofs.Common.{ℕ, ◌+◌, ◌≤◌, List, [], ◌∷◌, ◌++◌, map, refl, sym, subst, append_assoc, append-nil, inl, inr}
+use Rattle.grammar_engine.specs.declared.symbol.Symbol.TheVariants.{Read, Once, Maybe, Many}
 use Rattle.grammar_engine.specs.Readings.{Row}
 use Rattle.pale_text.specs.declared.grammar.act.TypeAct.TheVariants as types
 use Rattle.pale_text.specs.declared.grammar.act.PredicateAct.TheVariants as predicates
@@ -22,7 +21,7 @@ use Rattle.pale_text.specs.declared.tree.declaration.PredicateParameter.TheVaria
 use Rattle.pale_text.specs.declared.tree.declaration.TypeDeclaration.{TypeDeclaration}
 use Rattle.pale_text.specs.declared.tree.declaration.VariantDeclaration.{VariantDeclaration}
 use Rattle.pale_text.specs.MakingParts.{Parts, nothing}
-use Rattle.pale_text.specs.ProgramGrammar.{ProgramSymbol, program_grammar, rows_of, reads, opens, push_name, type as makes, predicate as tells}
+use Rattle.pale_text.specs.ProgramGrammar.{ProgramSymbol, program_grammar, rows_of, reads, push_name, type as makes, predicate as tells}
 use Rattle.pale_parse.specs.Tables.{program_rules, choices_of}
 use Rattle.pale_parse.specs.Hints.{program_hints, number_of, mark_number, starts_of}
 use Rattle.pale_print.specs.Placeless.{placeless_name, placeless_form, placeless_field, placeless_variant, placeless_type, placeless_predicate_parameter, placeless_predicate}
@@ -31,7 +30,7 @@ use Rattle.pale_print.specs.DeclarationTokens.{field_form_tokens, field_tokens, 
 use Rattle.print_laws.specs.CanonicalNames.{IsFree}
 use Rattle.print_laws.specs.CanonicalDeclarations.{All, IsCanonicalForm, IsCanonicalField, IsCanonicalVariant, IsCanonicalType, IsFreePredicateParameter, IsCanonicalPredicate}
 use Rattle.print_laws.proofs.Framework.{ProgramStack, Stops, Aim, Ends, room_now, mark, word, word_with, does, row_ends, goes, takes, leaves, goes_on, stops_there}
-use Rattle.print_laws.proofs.Stopping.{at_mark, at_word}
+use Rattle.print_laws.proofs.Stopping.{at_mark}
 use Rattle.print_laws.proofs.Routes.{at_right_bracket, route_read}
 use Rattle.print_laws.proofs.Connectives.{bracketed_read}
 use Rattle.print_laws.proofs.Words.{is_name, is_type, is_bool, is_data, is_pointer, is_set, is_pred}
