@@ -1,0 +1,6 @@
+//! What holds of the canonical spelling of programs: it is read back as the same program but for places.
+#![tactic(auto)]
+
+mod laws;
+
+pub use laws::canonical_programs_are_read_back;
