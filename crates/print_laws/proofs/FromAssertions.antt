@@ -22,7 +22,8 @@ use Rattle.pale_text.specs.ProgramGrammar.{ProgramSymbol, rows_of, reads, push_n
 use Rattle.print_laws.specs.CanonicalNames.{IsFree, AreFree}
 use Rattle.print_laws.specs.CanonicalAssertions.{whole, implication, disjunct, conjunct, operand, IsCanonicalAssertion, not, imp, quantified}
 use Rattle.print_laws.proofs.FromRows.{IsOfKind, Several, no_more, one_more, puts, Goal, Goes}
-use Rattle.print_laws.proofs.FromMeaning.{program_meaning, Made, FreeName, AssertionMade, QuantifiedMade, BeginsWith, MayFollow, EndsAnd, EndsOr, EndsImplication, EndsIff}
+use Rattle.print_laws.proofs.FromMade.{AssertionMade, QuantifiedMade, BeginsWith, MayFollow, EndsAnd, EndsOr, EndsImplication, EndsIff}
+use Rattle.print_laws.proofs.FromMeaning.{program_meaning}
 use Rattle.print_laws.proofs.FromParts.{IsSoundRow, AreSoundRows, no_row, or_row, nth, free_name}
 use Rattle.print_laws.proofs.FromAssertionPlaces.{as_whole, as_implication, as_disjunct, as_conjunct, and_settled, or_settled, iff_settled}
 use Rattle.print_laws.proofs.FromStops.{no_operator}

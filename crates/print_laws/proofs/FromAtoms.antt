@@ -1,5 +1,5 @@
 -- Assertions without connectives that a reading makes are canonical.
-use Rattle.std.proofs.Common.{◌≡◌, inl, inr, ℕ, suc, Bool, false, List, [], ◌∷◌, ◌++◌, Some, refl, sym, subst}
+use Rattle.std.proofs.Common.{◌≡◌, inl, inr, ℕ, false, List, [], ◌∷◌, ◌++◌, Some, refl, sym, subst}
 use Rattle.pale_text.specs.declared.grammar.part.ProgramPart.TheVariants as part
 use Rattle.pale_text.specs.declared.place.Pos.{Pos}
 use Rattle.pale_text.specs.declared.token.Token.{Token}
@@ -14,10 +14,11 @@ use Rattle.pale_text.specs.MakingParts.{Parts, name_of, place_of}
 use Rattle.pale_text.specs.MakingWords.{path_at, extended}
 use Rattle.pale_text.specs.MakingAssertions.{assertionless, path_alone}
 use Rattle.pale_text.specs.ProgramGrammar.{rows_of}
-use Rattle.print_laws.specs.CanonicalNames.{IsFree, IsFreePath, AreFreePaths}
+use Rattle.print_laws.specs.CanonicalNames.{IsFreePath, AreFreePaths}
 use Rattle.print_laws.specs.CanonicalAssertions.{operand, IsCanonicalAssertion, truth, falsehood, path, same, differ, member, subset, walk, of_variant, use_of}
 use Rattle.print_laws.proofs.FromRows.{Several, no_more, one_more, puts}
-use Rattle.print_laws.proofs.FromMeaning.{program_meaning, FreeName, PathsMade}
+use Rattle.print_laws.proofs.FromMade.{FreeName, PathsMade}
+use Rattle.print_laws.proofs.FromMeaning.{program_meaning}
 use Rattle.print_laws.proofs.FromParts.{IsSoundRow, AreSoundRows, no_row, or_row, nth, free_name}
 use Rattle.print_laws.proofs.FromNames.{extended_free}
 use Rattle.print_laws.proofs.FromAssertionPlaces.{anywhere}

@@ -1,5 +1,5 @@
 -- Values, arguments and calls that a reading makes are canonical.
-use Rattle.std.proofs.Common.{◌≡◌, ◌⊎◌, inl, inr, ℕ, suc, Bool, true, false, List, [], ◌∷◌, ◌++◌, Option, None, Some, refl, sym, ap, ◌∙◌, subst, append_assoc, append-nil}
+use Rattle.std.proofs.Common.{◌≡◌, inl, inr, ℕ, true, false, List, [], ◌∷◌, ◌++◌, Option, None, Some, refl, sym, ap, ◌∙◌, subst, append_assoc, append-nil}
 use Rattle.grammar_engine.specs.declared.symbol.Symbol.TheVariants.{Read, Once, Maybe}
 use Rattle.pale_text.specs.declared.grammar.kind.ProgramKind.TheVariants as kind
 use Rattle.pale_text.specs.declared.grammar.part.ProgramPart.TheVariants as part
@@ -15,10 +15,11 @@ use Rattle.piles.specs.Piles.{top, rest}
 use Rattle.pale_text.specs.Making.{first_of}
 use Rattle.pale_text.specs.MakingParts.{Parts, nameless, name_of, place_of}
 use Rattle.pale_text.specs.ProgramGrammar.{ProgramSymbol, rows_of, reads, push_name}
-use Rattle.print_laws.specs.CanonicalNames.{IsFree, AreFree}
+use Rattle.print_laws.specs.CanonicalNames.{AreFree}
 use Rattle.print_laws.specs.CanonicalStatements.{IsFreeArgument, AreFreeArguments, IsCanonicalClause}
 use Rattle.print_laws.proofs.FromRows.{Several, no_more, one_more, puts, Goal, Goes}
-use Rattle.print_laws.proofs.FromMeaning.{program_meaning, ArgumentsMade, GivenMade, NoArguments}
+use Rattle.print_laws.proofs.FromMade.{ArgumentsMade, GivenMade}
+use Rattle.print_laws.proofs.FromMeaning.{program_meaning}
 use Rattle.print_laws.proofs.FromParts.{IsSoundRow, AreSoundRows, no_row, or_row, nth, free_name}
 
 -- ---- arguments

@@ -1,5 +1,5 @@
 -- Conditions that a reading makes are canonical.
-use Rattle.std.proofs.Common.{◌≡◌, inl, inr, ℕ, suc, List, [], ◌∷◌, Some, refl, sym, subst}
+use Rattle.std.proofs.Common.{◌≡◌, inl, inr, ℕ, List, ◌∷◌, Some, refl, sym, subst}
 use Rattle.pale_text.specs.declared.grammar.part.ProgramPart.TheVariants as part
 use Rattle.pale_text.specs.declared.place.Pos.{Pos}
 use Rattle.pale_text.specs.declared.token.Token.{Token}
@@ -10,9 +10,10 @@ use denote.Hole.Carrier.{roll, out}
 use Rattle.pale_text.specs.MakingParts.{Parts, name_of, place_of}
 use Rattle.pale_text.specs.MakingConditions.{both_conditions, either_condition}
 use Rattle.pale_text.specs.ProgramGrammar.{rows_of}
-use Rattle.print_laws.specs.CanonicalConditions.{ConditionPlace, whole, conjunction, literal, IsCanonicalCondition, truth, falsehood, term, same, differ, of_variant, not}
+use Rattle.print_laws.specs.CanonicalConditions.{whole, conjunction, literal, IsCanonicalCondition, truth, falsehood, term, same, differ, of_variant, not}
 use Rattle.print_laws.proofs.FromRows.{Several, no_more, one_more, puts}
-use Rattle.print_laws.proofs.FromMeaning.{program_meaning, ConditionMade}
+use Rattle.print_laws.proofs.FromMade.{ConditionMade}
+use Rattle.print_laws.proofs.FromMeaning.{program_meaning}
 use Rattle.print_laws.proofs.FromParts.{IsSoundRow, AreSoundRows, no_row, or_row, nth, free_name}
 use Rattle.print_laws.proofs.FromConditionPlaces.{anywhere, as_whole, as_conjunction, or_settled, and_settled}
 

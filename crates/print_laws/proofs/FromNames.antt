@@ -1,6 +1,5 @@
 -- Names, paths and terms that a reading makes are free of reserved words.
-use Rattle.std.proofs.Common.{◌≡◌, inl, inr, ℕ, List, [], ◌∷◌, ◌++◌, Some, refl, sym, ◌∙◌, subst}
-use Rattle.grammar_engine.specs.declared.symbol.Symbol.TheVariants.{Read, Once, Many}
+use Rattle.std.proofs.Common.{◌≡◌, ℕ, List, [], ◌∷◌, ◌++◌, Some, refl, subst}
 use Rattle.pale_text.specs.declared.grammar.part.ProgramPart.TheVariants as part
 use Rattle.pale_text.specs.declared.token.Token.{Token}
 use Rattle.pale_text.specs.declared.tree.names.Name.{Name}
@@ -11,7 +10,8 @@ use Rattle.pale_text.specs.MakingWords.{path_at, extended}
 use Rattle.pale_text.specs.ProgramGrammar.{rows_of}
 use Rattle.print_laws.specs.CanonicalNames.{IsFree, AreFree, IsFreePath}
 use Rattle.print_laws.proofs.FromRows.{Several, no_more, one_more, puts}
-use Rattle.print_laws.proofs.FromMeaning.{program_meaning, PathMade, TermMade}
+use Rattle.print_laws.proofs.FromMade.{PathMade}
+use Rattle.print_laws.proofs.FromMeaning.{program_meaning}
 use Rattle.print_laws.proofs.FromParts.{IsSoundRow, AreSoundRows, no_row, or_row, nth, free_name}
 
 pub one_more_free : (xs : List Name) (x : Name) → AreFree xs → IsFree x → AreFree (xs ++ x ∷ [])

@@ -1,25 +1,25 @@
 -- Procedures that a reading makes are canonical.
-use Rattle.std.proofs.Common.{◌≡◌, inl, inr, ℕ, suc, ◌≤◌, List, [], ◌∷◌, ◌++◌, Option, None, Some, refl, sym, subst, arith}
-use Rattle.grammar_engine.specs.declared.symbol.Symbol.TheVariants.{Read, Open, Once, Maybe, Many}
+use Rattle.std.proofs.Common.{◌≡◌, inl, inr, ℕ, suc, List, [], ◌∷◌, ◌++◌, Option, Some, refl, subst, arith}
+use Rattle.grammar_engine.specs.declared.symbol.Symbol.TheVariants.{Maybe, Many}
 use Rattle.pale_text.specs.declared.grammar.act.ProcedureAct.TheVariants as procedures
 use Rattle.pale_text.specs.declared.grammar.act.StatementAct.TheVariants as statements
 use Rattle.pale_text.specs.declared.grammar.part.ProgramPart.TheVariants as part
 use Rattle.pale_text.specs.declared.place.Pos.{Pos}
 use Rattle.pale_text.specs.declared.token.Mark.TheVariants as mark
 use Rattle.pale_text.specs.declared.token.Token.{Token}
-use Rattle.pale_text.specs.declared.tree.names.Name.{Name}
 use Rattle.pale_text.specs.declared.tree.assertion.Bracketed.{Bracketed}
+use Rattle.pale_text.specs.declared.tree.statement.Statement.{Statement}
 use Rattle.pale_text.specs.declared.tree.declaration.LogicParameter.{LogicParameter}
 use Rattle.pale_text.specs.declared.tree.declaration.LogicParameter.TheVariants as logic
 use Rattle.pale_text.specs.declared.tree.declaration.Parameter.{Parameter}
 use Rattle.pale_text.specs.declared.tree.declaration.Parameter.TheVariants as parameter
 use Rattle.pale_text.specs.MakingParts.{Parts, name_of, place_of}
 use Rattle.pale_text.specs.ProgramGrammar.{ProgramSymbol, rows_of, reads, opens, mark_place, statement, procedure}
-use Rattle.print_laws.specs.CanonicalNames.{IsFree}
-use Rattle.print_laws.specs.CanonicalStatements.{IsCanonicalClause, none}
+use Rattle.print_laws.specs.CanonicalStatements.{IsCanonicalClause, AreCanonicalStatements, none}
 use Rattle.print_laws.specs.CanonicalDeclarations.{All, IsFreeParameter, IsFreeLogicParameter}
 use Rattle.print_laws.proofs.FromRows.{Several, no_more, one_more, puts, Goal, Goes}
-use Rattle.print_laws.proofs.FromMeaning.{program_meaning, FreeName, ParametersMade, LogicsMade, ProcedureMade, NoCall, put_procedure}
+use Rattle.print_laws.proofs.FromMade.{FreeName, ParametersMade, LogicsMade, ProcedureMade}
+use Rattle.print_laws.proofs.FromMeaning.{program_meaning, NoCall, put_procedure}
 use Rattle.print_laws.proofs.FromParts.{IsSoundRow, AreSoundRows, no_row, or_row, nth, free_name}
 use Rattle.print_laws.proofs.FromTypes.{all_and}
 use Rattle.print_laws.proofs.FromStatements.{statements_made}
@@ -213,21 +213,25 @@ body_row = opens mark.LeftBrace ∷ statement statements.BeginBlock ∷ Many par
 ProcedureAt : ℕ → Parts → Goal → Type 0
 ProcedureAt room parts goal = (behind : Option Token) × (others : List Token) × (made : ProcedureMade room) × goal behind others (put_procedure made parts)
 
+-- what stands in the braces of a body
+inside_made : (inside : ℕ) (last : Option Token) (tokens : List Token) (parts : Parts) (below : List (List Statement)) (goal : Goal) → NoCall parts →
+    Goes program_meaning (Many part.Local ∷ statements_row) inside last tokens (record parts { variables = []; blocks = [] ∷ below }) goal →
+    (locals : ParametersMade) × (ss : List Statement) × AreCanonicalStatements inside ss × (behind : Option Token) × (others : List Token) ×
+    Goes program_meaning closing_row inside behind others (record parts { variables = locals.parameters; blocks = ss ∷ below }) goal
+inside_made inside last tokens parts below goal before g =
+    let locals = g tt in
+    let made = locals_made inside tokens locals.1 locals.2 [] tt (record parts { blocks = [] ∷ below }) in
+    let body = subst (λ (p : Parts). Goes program_meaning statements_row inside locals.0 locals.1 p goal) made.1 locals.3 before in
+    let ss = statements_made inside locals.1 body.1 body.2 [] (none inside) (record parts { variables = made.0.parameters }) below in
+    (made.0, ss.0, ss.1, body.0, body.1, subst (λ (p : Parts). Goes program_meaning closing_row inside body.0 body.1 p goal) ss.2 body.3)
+
 body_made : (room : ℕ) (last : Option Token) (tokens : List Token) (parts : Parts) (goal : Goal) (h : Header room) → NoCall parts →
     Goes program_meaning body_row room last tokens (with_header parts h) goal → ProcedureAt room parts goal
 unfolding ProcedureAt
 body_made room last tokens parts goal h before g =
-    let inside : ℕ = g.0 in
-    let is : room ≡ suc inside = g.1 in
-    let locals = g.6 tt in
-    let begun : Parts = record (with_header parts h) { blocks = [] ∷ parts.blocks } in
-    let made = locals_made inside g.3 locals.1 locals.2 [] tt begun in
-    let rest : Goes program_meaning statements_row inside locals.0 locals.1 (record begun { variables = made.0.parameters }) goal =
-        subst (λ (p : Parts). Goes program_meaning statements_row inside locals.0 locals.1 p goal) made.1 locals.3 in
-    let body = rest before in
-    let ss = statements_made inside locals.1 body.1 body.2 [] (none inside) (record begun { variables = made.0.parameters }) parts.blocks in
-    let close : Goes program_meaning closing_row inside body.0 body.1 (record begun { variables = made.0.parameters; blocks = ss.0 ∷ parts.blocks }) goal =
-        subst (λ (p : Parts). Goes program_meaning closing_row inside body.0 body.1 p goal) ss.2 body.3 in
+    let is : room ≡ suc g.0 = g.1 in
+    let body = inside_made g.0 (Some g.2) g.3 (with_header parts h) parts.blocks goal before g.6 in
+    let close = body.5 in
     (Some close.0, close.1,
     record {
       procedure =
@@ -239,8 +243,8 @@ body_made room last tokens parts goal h before g =
             logics = h.logics.logics;
             pre = h.pre.clause;
             post = h.post.clause;
-            locals = made.0.parameters;
-            body = ss.0;
+            locals = body.0.parameters;
+            body = body.1;
             end = place_of (Some close.0);
           };
       canonical =
@@ -251,10 +255,10 @@ body_made room last tokens parts goal h before g =
             logics = h.logics.free;
             pre = h.pre.canonical;
             post = h.post.canonical;
-            locals = made.0.free;
-            inner = inside;
+            locals = body.0.free;
+            inner = g.0;
             within = omega arith;
-            body = ss.1;
+            body = body.2;
           };
     },
     close.4)

@@ -1,26 +1,22 @@
 -- The program that a reading makes is canonical.
-use Rattle.std.proofs.Common.{◌≡◌, ◌⊎◌, inl, inr, ℕ, List, [], ◌∷◌, ◌++◌, Option, None, Some, map, refl, sym, ap, subst}
-use Rattle.pale_text.specs.declared.grammar.act.Act.{Act}
+use Rattle.std.proofs.Common.{◌⊎◌, inl, inr, ℕ, List, [], ◌∷◌, ◌++◌, None, refl, sym, subst}
 use Rattle.pale_text.specs.declared.grammar.part.ProgramPart.{ProgramPart}
 use Rattle.pale_text.specs.declared.grammar.part.ProgramPart.TheVariants as part
 use Rattle.pale_text.specs.declared.token.Token.{Token}
 use Rattle.pale_text.specs.declared.token.TokenKind.{TokenKind}
 use Rattle.pale_text.specs.declared.token.TokenKind.TheVariants as token
 use Rattle.pale_text.specs.declared.token.TokenList.{TokenList}
-use Rattle.pale_text.specs.declared.tree.declaration.Declaration.{Declaration}
 use Rattle.pale_text.specs.declared.tree.declaration.Declaration.TheVariants as declaration
 use Rattle.pale_text.specs.declared.tree.declaration.Program.{Program}
-use Rattle.grammar_engine.specs.Readings.{Step}
-use Rattle.grammar_engine.specs.Answers.{event_of}
 use Rattle.pale_text.specs.Lexing.{Reaches, at_start, past_gap, past_comment, past_token, IsLexed}
-use Rattle.pale_text.specs.Making.{run}
 use Rattle.pale_text.specs.MakingParts.{Parts, nothing}
 use Rattle.pale_text.specs.ProgramGrammar.{program_grammar}
-use Rattle.pale_text.specs.ProgramReading.{max_levels, program_rows, IsProgram, IsShallow, IsParsedAs}
+use Rattle.pale_text.specs.ProgramReading.{max_levels, IsParsedAs}
 use Rattle.pale_text.specs.Spelling.{IsName, Spells}
 use Rattle.print_laws.specs.CanonicalDeclarations.{All, IsCanonicalDeclaration, IsCanonical}
 use Rattle.print_laws.proofs.FromRows.{IsNamed, AreNamed, Several, no_more, one_more, puts, IsSoundAt, IsKeptAt, held}
-use Rattle.print_laws.proofs.FromMeaning.{program_meaning, Made, put_declaration, TypeMade, PredicateMade, ProcedureMade, BeforeDeclaration}
+use Rattle.print_laws.proofs.FromMade.{TypeMade, PredicateMade, ProcedureMade}
+use Rattle.print_laws.proofs.FromMeaning.{program_meaning, put_declaration, BeforeDeclaration}
 use Rattle.print_laws.proofs.FromParts.{sound_at}
 use Rattle.print_laws.proofs.FromNames.{path_sound, path_step_sound, term_sound}
 use Rattle.print_laws.proofs.FromRoutes.{route_sound, next_alternative_sound, sequence_sound, next_repeated_sound, repeated_sound, star_sound, step_sound, up_name_sound, variant_test_sound}

@@ -1,5 +1,5 @@
 -- Routes that a reading makes are canonical.
-use Rattle.std.proofs.Common.{◌≡◌, inl, inr, ℕ, suc, true, false, List, [], ◌∷◌, Some, refl, sym, subst}
+use Rattle.std.proofs.Common.{◌≡◌, inl, inr, ℕ, true, false, List, ◌∷◌, Some, refl, sym, subst}
 use Rattle.pale_text.specs.declared.grammar.part.ProgramPart.TheVariants as part
 use Rattle.pale_text.specs.declared.token.Token.{Token}
 use Rattle.pale_text.specs.declared.tree.names.Name.{Name}
@@ -9,9 +9,10 @@ use denote.Hole.Carrier.{roll, out}
 use Rattle.pale_text.specs.MakingParts.{Parts, name_of, place_of}
 use Rattle.pale_text.specs.MakingRoutes.{joined_then, joined_or, starred}
 use Rattle.pale_text.specs.ProgramGrammar.{rows_of}
-use Rattle.print_laws.specs.CanonicalRoutes.{RoutePlace, whole, sequence, repeated, single, IsCanonicalRoute, down, up, up_any, root, leaf, is_type, is_variant, is_bool}
+use Rattle.print_laws.specs.CanonicalRoutes.{whole, sequence, repeated, single, IsCanonicalRoute, down, up, up_any, root, leaf, is_type, is_variant, is_bool}
 use Rattle.print_laws.proofs.FromRows.{Several, no_more, one_more, puts}
-use Rattle.print_laws.proofs.FromMeaning.{program_meaning, RouteMade}
+use Rattle.print_laws.proofs.FromMade.{RouteMade}
+use Rattle.print_laws.proofs.FromMeaning.{program_meaning}
 use Rattle.print_laws.proofs.FromParts.{IsSoundRow, AreSoundRows, no_row, or_row, nth, free_name}
 use Rattle.print_laws.proofs.FromRoutePlaces.{anywhere, as_whole, as_sequence, as_repeated, or_settled, then_settled, star_settled}
 

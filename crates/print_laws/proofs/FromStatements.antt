@@ -1,20 +1,17 @@
 -- Statements that a reading makes are canonical.
-use Rattle.std.proofs.Common.{◌≡◌, ◌⊎◌, inl, inr, ℕ, suc, List, [], ◌∷◌, ◌++◌, Option, None, Some, refl, sym, subst}
-use Rattle.grammar_engine.specs.declared.symbol.Symbol.TheVariants.{Read, Once}
+use Rattle.std.proofs.Common.{◌≡◌, ◌⊎◌, inl, inr, ℕ, List, [], ◌∷◌, ◌++◌, Option, None, Some, refl, sym, subst}
 use Rattle.pale_text.specs.declared.grammar.act.CallAct.TheVariants as calls
 use Rattle.pale_text.specs.declared.grammar.part.ProgramPart.TheVariants as part
 use Rattle.pale_text.specs.declared.place.Pos.{Pos}
 use Rattle.pale_text.specs.declared.token.Mark.TheVariants as mark
 use Rattle.pale_text.specs.declared.token.Token.{Token}
 use Rattle.pale_text.specs.declared.tree.names.Name.{Name}
-use Rattle.pale_text.specs.declared.tree.condition.Condition.{Condition}
 use Rattle.pale_text.specs.declared.tree.assertion.Bracketed.{Bracketed}
 use Rattle.pale_text.specs.declared.tree.statement.Argument.{Argument}
 use Rattle.pale_text.specs.declared.tree.statement.Call.{Call}
 use Rattle.pale_text.specs.declared.tree.statement.Statement.{Statement}
 use Rattle.pale_text.specs.declared.tree.statement.Statement.TheVariants as statement
-use Rattle.piles.specs.Piles.{top, rest}
-use Rattle.pale_text.specs.MakingParts.{Parts, nameless, name_of, place_of}
+use Rattle.pale_text.specs.MakingParts.{Parts, name_of, place_of}
 use Rattle.pale_text.specs.MakingStatements.{with_statement}
 use Rattle.pale_text.specs.ProgramGrammar.{ProgramSymbol, rows_of, reads, call as calling}
 use Rattle.print_laws.specs.CanonicalNames.{IsFree, AreFree}
@@ -22,7 +19,8 @@ use Rattle.print_laws.specs.CanonicalConditions.{IsCanonicalCondition, whole}
 use Rattle.print_laws.specs.CanonicalAssertions.{IsCanonicalBracketed}
 use Rattle.print_laws.specs.CanonicalStatements.{IsCanonicalStatement, skip, if_alone, if_else, while, split, assert, free, call, assign, AreCanonicalStatements, none, more}
 use Rattle.print_laws.proofs.FromRows.{Several, no_more, one_more, puts, Goal, Goes}
-use Rattle.print_laws.proofs.FromMeaning.{program_meaning, put, StatementMade, BlockMade, CallMade, ConditionMade, BracketedMade, GivenMade, ResultsMade, NoCall}
+use Rattle.print_laws.proofs.FromMade.{StatementMade, BlockMade, ConditionMade, BracketedMade, GivenMade, ResultsMade}
+use Rattle.print_laws.proofs.FromMeaning.{program_meaning, put, NoCall}
 use Rattle.print_laws.proofs.FromParts.{IsSoundRow, AreSoundRows, no_row, or_row, nth, free_name}
 use Rattle.print_laws.proofs.FromNames.{one_more_free}
 

@@ -1,6 +1,6 @@
 -- Types and predicates that a reading makes are canonical.
-use Rattle.std.proofs.Common.{◌≡◌, inl, inr, ℕ, suc, List, [], ◌∷◌, ◌++◌, Option, Some, refl, sym, subst}
-use Rattle.grammar_engine.specs.declared.symbol.Symbol.TheVariants.{Read, Once, Many}
+use Rattle.std.proofs.Common.{◌≡◌, inl, inr, ℕ, List, [], ◌∷◌, ◌++◌, Option, Some, refl, subst}
+use Rattle.grammar_engine.specs.declared.symbol.Symbol.TheVariants.{Once, Many}
 use Rattle.pale_text.specs.declared.grammar.act.PredicateAct.TheVariants as predicates
 use Rattle.pale_text.specs.declared.grammar.act.TypeAct.TheVariants as types
 use Rattle.pale_text.specs.declared.grammar.part.ProgramPart.TheVariants as part
@@ -9,18 +9,17 @@ use Rattle.pale_text.specs.declared.token.Token.{Token}
 use Rattle.pale_text.specs.declared.tree.names.Name.{Name}
 use Rattle.pale_text.specs.declared.tree.declaration.FieldDeclaration.{FieldDeclaration}
 use Rattle.pale_text.specs.declared.tree.declaration.FieldForm.TheVariants as form
-use Rattle.pale_text.specs.declared.tree.declaration.PredicateDeclaration.{PredicateDeclaration}
 use Rattle.pale_text.specs.declared.tree.declaration.PredicateParameter.{PredicateParameter}
 use Rattle.pale_text.specs.declared.tree.declaration.PredicateParameter.TheVariants as parameter
 use Rattle.pale_text.specs.declared.tree.declaration.TypeDeclaration.{TypeDeclaration}
 use Rattle.pale_text.specs.declared.tree.declaration.VariantDeclaration.{VariantDeclaration}
-use Rattle.piles.specs.Piles.{top, rest}
-use Rattle.pale_text.specs.MakingParts.{Parts, nameless, name_of, place_of}
+use Rattle.pale_text.specs.MakingParts.{Parts, name_of}
 use Rattle.pale_text.specs.ProgramGrammar.{ProgramSymbol, rows_of, reads, type as making, predicate as judging}
 use Rattle.print_laws.specs.CanonicalNames.{IsFree}
-use Rattle.print_laws.specs.CanonicalDeclarations.{All, IsCanonicalField, IsCanonicalVariant, IsCanonicalType, IsFreePredicateParameter, IsCanonicalPredicate}
+use Rattle.print_laws.specs.CanonicalDeclarations.{All, IsCanonicalField, IsCanonicalVariant, IsFreePredicateParameter}
 use Rattle.print_laws.proofs.FromRows.{Several, no_more, one_more, puts, Goal, Goes}
-use Rattle.print_laws.proofs.FromMeaning.{program_meaning, PredicateParametersMade, PredicateMade}
+use Rattle.print_laws.proofs.FromMade.{PredicateParametersMade}
+use Rattle.print_laws.proofs.FromMeaning.{program_meaning}
 use Rattle.print_laws.proofs.FromParts.{IsSoundRow, AreSoundRows, no_row, or_row, nth, free_name}
 
 pub all_and : {X : Type 0} (P : X → Type 0) (xs : List X) (x : X) → All P xs → P x → All P (xs ++ x ∷ [])

@@ -12,6 +12,8 @@ pub mod FromAtoms
 pub mod FromCalls
 pub mod FromConditionPlaces
 pub mod FromConditions
+pub mod FromLevels
+pub mod FromMade
 pub mod FromMeaning
 pub mod FromNames
 pub mod FromParts
