@@ -18,7 +18,6 @@ use Rattle.print_laws.specs.CanonicalNames.{AreFreePaths}
 use Rattle.print_laws.specs.CanonicalStatements.{AreFreeArguments, IsCanonicalClause}
 use Rattle.print_laws.specs.CanonicalDeclarations.{All, IsCanonicalField, IsCanonicalVariant, IsFreePredicateParameter, IsFreeParameter, IsFreeLogicParameter}
 use Rattle.print_laws.proofs.FromRows.{Meaning}
-
 use Rattle.print_laws.proofs.FromMade.{GivenMade, ResultsMade, TypeMade, PredicateMade, ProcedureMade, Made}
 
 -- ---- what becomes of the parts

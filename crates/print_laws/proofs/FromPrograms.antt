@@ -171,6 +171,6 @@ pub canonical_from : (text : List ℕ) (list : TokenList) (tree : Program) → I
 unfolding program_grammar
 canonical_from text list tree lexed parsed =
     let g = held program_meaning sound keeps max_levels parsed.program.reading list.tokens refl (all_named lexed) parsed.shallow None nothing
-        ((tt, tt), (refl, tt), ((refl, refl, refl, refl, refl), tt, tt, tt, tt, tt)) in
+    ((tt, tt), (refl, tt), ((refl, refl, refl, refl, refl), tt, tt, tt, tt, tt)) in
     subst (λ (p : Program). IsCanonical max_levels p) (sym parsed.program.made)
     (subst (λ (p : Parts). All (IsCanonicalDeclaration max_levels) p.declarations) g.3 (declarations_made max_levels list.tokens g.1 g.2 nothing tt))

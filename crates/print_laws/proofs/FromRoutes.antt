@@ -41,11 +41,13 @@ stars_made room start end (one_more _ middle _ one others) r c parts below =
 
 route_row : IsSoundRow part.Route (nth (rows_of part.Route) 0)
 unfolding rows_of
-route_row = record { along = λ room last tokens parts goal g before.
-    let first = g tt in
-    let others = first.3 tt in
-    let made = alternatives_made room first.1 others.1 others.2 first.2.route (as_whole first.2.canonical) parts parts.routes in
-    (others.0, others.1, made.0, subst (λ q. goal others.0 others.1 q) made.1 others.3) }
+route_row = record {
+  along = λ room last tokens parts goal g before.
+      let first = g tt in
+      let others = first.3 tt in
+      let made = alternatives_made room first.1 others.1 others.2 first.2.route (as_whole first.2.canonical) parts parts.routes in
+      (others.0, others.1, made.0, subst (λ q. goal others.0 others.1 q) made.1 others.3);
+}
 
 pub route_sound : AreSoundRows part.Route (rows_of part.Route)
 unfolding rows_of
@@ -61,11 +63,13 @@ next_alternative_sound = or_row next_alternative_row no_row
 
 sequence_row : IsSoundRow part.Sequence (nth (rows_of part.Sequence) 0)
 unfolding rows_of
-sequence_row = record { along = λ room last tokens parts goal g before.
-    let first = g tt in
-    let others = first.3 tt in
-    let made = links_made room first.1 others.1 others.2 first.2.route (as_sequence first.2.canonical) parts parts.routes in
-    (others.0, others.1, made.0, subst (λ q. goal others.0 others.1 q) made.1 others.3) }
+sequence_row = record {
+  along = λ room last tokens parts goal g before.
+      let first = g tt in
+      let others = first.3 tt in
+      let made = links_made room first.1 others.1 others.2 first.2.route (as_sequence first.2.canonical) parts parts.routes in
+      (others.0, others.1, made.0, subst (λ q. goal others.0 others.1 q) made.1 others.3);
+}
 
 pub sequence_sound : AreSoundRows part.Sequence (rows_of part.Sequence)
 unfolding rows_of
@@ -81,11 +85,13 @@ next_repeated_sound = or_row next_repeated_row no_row
 
 repeated_row : IsSoundRow part.Repeated (nth (rows_of part.Repeated) 0)
 unfolding rows_of
-repeated_row = record { along = λ room last tokens parts goal g before.
-    let first = g tt in
-    let others = first.3 tt in
-    let made = stars_made room first.1 others.1 others.2 first.2.route (as_repeated first.2.canonical) parts parts.routes in
-    (others.0, others.1, made.0, subst (λ q. goal others.0 others.1 q) made.1 others.3) }
+repeated_row = record {
+  along = λ room last tokens parts goal g before.
+      let first = g tt in
+      let others = first.3 tt in
+      let made = stars_made room first.1 others.1 others.2 first.2.route (as_repeated first.2.canonical) parts parts.routes in
+      (others.0, others.1, made.0, subst (λ q. goal others.0 others.1 q) made.1 others.3);
+}
 
 pub repeated_sound : AreSoundRows part.Repeated (rows_of part.Repeated)
 unfolding rows_of
@@ -103,17 +109,21 @@ star_sound = or_row star_row no_row
 
 down_row : IsSoundRow part.Step (nth (rows_of part.Step) 0)
 unfolding rows_of
-down_row = record { along = λ room last tokens parts goal g before.
-    let x : Name = name_of (Some g.0) in
-    (Some g.0, g.1, record { route = route.Down x; canonical = down single room x (free_name g.0 g.3) }, g.4) }
+down_row = record {
+  along = λ room last tokens parts goal g before.
+      let x : Name = name_of (Some g.0) in
+      (Some g.0, g.1, record { route = route.Down x; canonical = down single room x (free_name g.0 g.3) }, g.4);
+}
 
 up_row : IsSoundRow part.Step (nth (rows_of part.Step) 1)
 unfolding rows_of
-up_row = record { along = λ room last tokens parts goal g before.
-    elim (g.4 tt) [
-      inl stopped ↦ (Some g.0, g.1, record { route = route.UpAny; canonical = up_any single room }, stopped.1)
-    | inr named ↦ (named.0, named.1, record { route = route.Up named.2.name; canonical = up single room named.2.name named.2.free }, named.3)
-    ] }
+up_row = record {
+  along = λ room last tokens parts goal g before.
+      elim (g.4 tt) [
+        | inl stopped ↦ (Some g.0, g.1, record { route = route.UpAny; canonical = up_any single room }, stopped.1)
+        | inr named ↦ (named.0, named.1, record { route = route.Up named.2.name; canonical = up single room named.2.name named.2.free }, named.3)
+      ];
+}
 
 leaf_row : IsSoundRow part.Step (nth (rows_of part.Step) 2)
 unfolding rows_of
@@ -125,37 +135,47 @@ root_row = record { along = λ room last tokens parts goal g before. (Some g.0, 
 
 type_row : IsSoundRow part.Step (nth (rows_of part.Step) 4)
 unfolding rows_of roll-Route roll out-Route out
-type_row = record { along = λ room last tokens parts goal g before.
-    let ty = g.4 in
-    let x : Name = name_of (Some ty.0) in
-    elim (ty.4 tt) [
-      inl stopped ↦ (Some ty.0, ty.1, record { route = route.IsType x; canonical = is_type single room x (free_name ty.0 ty.3) }, stopped.1)
-    | inr named ↦
-        (named.0, named.1, record { route = route.IsVariant x named.2.name; canonical = is_variant single room x named.2.name (free_name ty.0 ty.3) named.2.free }, named.3)
-    ] }
+type_row = record {
+  along = λ room last tokens parts goal g before.
+      let ty = g.4 in
+      let x : Name = name_of (Some ty.0) in
+      elim (ty.4 tt) [
+        | inl stopped ↦ (Some ty.0, ty.1, record { route = route.IsType x; canonical = is_type single room x (free_name ty.0 ty.3) }, stopped.1)
+        | inr named ↦
+            (named.0, named.1, record { route = route.IsVariant x named.2.name; canonical = is_variant single room x named.2.name (free_name ty.0 ty.3) named.2.free }, named.3)
+      ];
+}
 
 true_row : IsSoundRow part.Step (nth (rows_of part.Step) 5)
 unfolding rows_of
-true_row = record { along = λ room last tokens parts goal g before.
-    let f = g.4 in
-    let x : Name = name_of (Some f.0) in
-    (Some f.0, f.1, record { route = route.IsBool x true; canonical = is_bool single room x true (free_name f.0 f.3) }, f.4) }
+true_row = record {
+  along = λ room last tokens parts goal g before.
+      let f = g.4 in
+      let x : Name = name_of (Some f.0) in
+      (Some f.0, f.1, record { route = route.IsBool x true; canonical = is_bool single room x true (free_name f.0 f.3) }, f.4);
+}
 
 false_row : IsSoundRow part.Step (nth (rows_of part.Step) 6)
 unfolding rows_of
-false_row = record { along = λ room last tokens parts goal g before.
-    let f = g.4 in
-    let x : Name = name_of (Some f.0) in
-    (Some f.0, f.1, record { route = route.IsBool x false; canonical = is_bool single room x false (free_name f.0 f.3) }, f.4) }
+false_row = record {
+  along = λ room last tokens parts goal g before.
+      let f = g.4 in
+      let x : Name = name_of (Some f.0) in
+      (Some f.0, f.1, record { route = route.IsBool x false; canonical = is_bool single room x false (free_name f.0 f.3) }, f.4);
+}
 
 group_row : IsSoundRow part.Step (nth (rows_of part.Step) 7)
 unfolding rows_of
-group_row = record { along = λ room last tokens parts goal g before.
-    let inner = g.6 tt in
-    let close = inner.3 in
-    (Some close.0, close.1,
-    record { route = inner.2.route; canonical = subst (λ n. IsCanonicalRoute single n inner.2.route) (sym g.1) (anywhere single inner.2.canonical) },
-    close.4) }
+group_row = record {
+  along = λ room last tokens parts goal g before.
+      let inner = g.6 tt in
+      let close = inner.3 in (
+        Some close.0,
+        close.1,
+        record { route = inner.2.route; canonical = subst (λ n. IsCanonicalRoute single n inner.2.route) (sym g.1) (anywhere single inner.2.canonical) },
+        close.4,
+      );
+}
 
 pub step_sound : AreSoundRows part.Step (rows_of part.Step)
 unfolding rows_of
@@ -163,8 +183,10 @@ step_sound = or_row down_row (or_row up_row (or_row leaf_row (or_row root_row (o
 
 up_name_row : IsSoundRow part.UpName (nth (rows_of part.UpName) 0)
 unfolding rows_of
-up_name_row = record { along = λ room last tokens parts goal g before.
-    (Some g.0, g.1, record { name = name_of (Some g.0); free = free_name g.0 g.3 }, g.4) }
+up_name_row = record {
+  along = λ room last tokens parts goal g before.
+      (Some g.0, g.1, record { name = name_of (Some g.0); free = free_name g.0 g.3 }, g.4);
+}
 
 pub up_name_sound : AreSoundRows part.UpName (rows_of part.UpName)
 unfolding rows_of
@@ -172,9 +194,11 @@ up_name_sound = or_row up_name_row no_row
 
 variant_test_row : IsSoundRow part.VariantTest (nth (rows_of part.VariantTest) 0)
 unfolding rows_of
-variant_test_row = record { along = λ room last tokens parts goal g before.
-    let name = g.4 in
-    (Some name.0, name.1, record { name = name_of (Some name.0); free = free_name name.0 name.3 }, name.4) }
+variant_test_row = record {
+  along = λ room last tokens parts goal g before.
+      let name = g.4 in
+      (Some name.0, name.1, record { name = name_of (Some name.0); free = free_name name.0 name.3 }, name.4);
+}
 
 pub variant_test_sound : AreSoundRows part.VariantTest (rows_of part.VariantTest)
 unfolding rows_of
