@@ -1,5 +1,8 @@
 -- The program that a reading makes is canonical.
-use Rattle.std.proofs.Common.{◌⊎◌, inl, inr, ℕ, List, [], ◌∷◌, ◌++◌, None, refl, sym, subst}
+use Rattle.std.proofs.Common.{◌≡◌, ◌⊎◌, inl, inr, ℕ, ◌-◌, List, [], ◌∷◌, ◌++◌, None, refl, sym, subst, arith}
+use Rattle.grammar_engine.specs.Answers.{levels, AreLow}
+use Rattle.grammar_engine.specs.Readings.{Step}
+use Rattle.pale_text.specs.declared.grammar.act.Act.{Act}
 use Rattle.pale_text.specs.declared.grammar.part.ProgramPart.{ProgramPart}
 use Rattle.pale_text.specs.declared.grammar.part.ProgramPart.TheVariants as part
 use Rattle.pale_text.specs.declared.token.Token.{Token}
@@ -11,7 +14,7 @@ use Rattle.pale_text.specs.declared.tree.declaration.Program.{Program}
 use Rattle.pale_text.specs.Lexing.{Reaches, at_start, past_gap, past_comment, past_token, IsLexed}
 use Rattle.pale_text.specs.MakingParts.{Parts, nothing}
 use Rattle.pale_text.specs.ProgramGrammar.{program_grammar}
-use Rattle.pale_text.specs.ProgramReading.{max_levels, IsParsedAs}
+use Rattle.pale_text.specs.ProgramReading.{IsProgram}
 use Rattle.pale_text.specs.Spelling.{IsName, Spells}
 use Rattle.print_laws.specs.CanonicalDeclarations.{All, IsCanonicalDeclaration, IsCanonical}
 use Rattle.print_laws.proofs.FromRows.{IsNamed, AreNamed, Several, no_more, one_more, puts, IsSoundAt, IsKeptAt, held}
@@ -167,10 +170,13 @@ declarations_made room start end (one_more _ middle _ (inr (inr one)) others) pa
     (all_and (IsCanonicalDeclaration room) parts.declarations (declaration.Procedure one.procedure) all one.canonical)
 
 -- a program that is read, and opens no level above the limit, is canonical, and so does its spelling
-pub canonical_from : (text : List ℕ) (list : TokenList) (tree : Program) → IsLexed text list → IsParsedAs list.tokens tree → IsCanonical max_levels tree
+pub canonical_from : (limit : ℕ) (text : List ℕ) (list : TokenList) (steps : List (Step Act)) (tree : Program) → IsLexed text list → IsProgram list.tokens steps tree →
+    AreLow limit (levels steps) → IsCanonical limit tree
 unfolding program_grammar
-canonical_from text list tree lexed parsed =
-    let g = held program_meaning sound keeps max_levels parsed.program.reading list.tokens refl (all_named lexed) parsed.shallow None nothing
+canonical_from limit text list steps tree lexed program low =
+    let g = held program_meaning sound keeps limit program.reading list.tokens refl (all_named lexed) low None nothing
     ((tt, tt), (refl, tt), ((refl, refl, refl, refl, refl), tt, tt, tt, tt, tt)) in
-    subst (λ (p : Program). IsCanonical max_levels p) (sym parsed.program.made)
-    (subst (λ (p : Parts). All (IsCanonicalDeclaration max_levels) p.declarations) g.3 (declarations_made max_levels list.tokens g.1 g.2 nothing tt))
+    let same : limit - 0 ≡ limit = omega arith in
+    subst (λ (room : ℕ). IsCanonical room tree) same
+    (subst (λ (p : Program). IsCanonical (limit - 0) p) (sym program.made)
+    (subst (λ (p : Parts). All (IsCanonicalDeclaration (limit - 0)) p.declarations) g.3 (declarations_made (limit - 0) list.tokens g.1 g.2 nothing tt)))
