@@ -319,7 +319,7 @@ abbrev put_predicate : {room : ℕ} → PredicateMade room → Parts → Parts
 put_predicate made parts =
     record parts { declarations = parts.declarations ++ declaration.Predicate made.predicate ∷ []; predicate_parameters = [] }
 
-abbrev put_procedure : {room : ℕ} → ProcedureMade room → Parts → Parts
+abbrev pub put_procedure : {room : ℕ} → ProcedureMade room → Parts → Parts
 put_procedure made parts =
     record parts {
       declarations = parts.declarations ++ declaration.Procedure made.procedure ∷ [];

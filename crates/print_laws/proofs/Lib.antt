@@ -1,0 +1,17 @@
+pub mod Framework
+pub mod FromRows
+pub mod FromMeaning
+pub mod FromParts
+pub mod FromNames
+pub mod FromRoutePlaces
+pub mod FromRoutes
+pub mod FromConditionPlaces
+pub mod FromConditions
+pub mod FromAssertionPlaces
+pub mod FromStops
+pub mod FromAtoms
+pub mod FromAssertions
+pub mod FromCalls
+pub mod FromStatements
+pub mod FromTypes
+pub mod FromProcedures
