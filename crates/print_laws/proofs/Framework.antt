@@ -1,9 +1,8 @@
 -- Reading what a printer wrote, from its end: how the tokens that are left are read, and what is made of them.
 use Rattle.std.proofs.Common.{◌≡◌, ℕ, suc, ◌+◌, ◌≤◌, List, [], ◌∷◌, Option, None, Some, map, refl, sym, ◌∙◌, ap, subst, arith}
-use Rattle.grammar_engine.specs.declared.symbol.Symbol.{Symbol}
 use Rattle.grammar_engine.specs.declared.symbol.Symbol.TheVariants.{Read, Open, Once, Maybe, Many, Act as Does}
 use Rattle.grammar_engine.specs.Grammars.{IsOneOf}
-use Rattle.grammar_engine.specs.Readings.{Stack, Bottom, Row, Step, Took, Did, Reads, over, row_over, read, opened, acted, once, taken, left_out, again, ended, IsNotBegun}
+use Rattle.grammar_engine.specs.Readings.{Stack, Row, Step, Took, Did, Reads, row_over, read, opened, acted, once, taken, left_out, again, ended, IsNotBegun}
 use Rattle.grammar_engine.specs.Answers.{levels, event_of, AreLow}
 use Rattle.pale_text.specs.declared.grammar.act.Act.{Act}
 use Rattle.pale_text.specs.declared.grammar.act.Act.TheVariants as act
@@ -11,7 +10,6 @@ use Rattle.pale_text.specs.declared.grammar.act.WordAct.TheVariants as words
 use Rattle.pale_text.specs.declared.grammar.kind.ProgramKind.{ProgramKind}
 use Rattle.pale_text.specs.declared.grammar.kind.ProgramKind.TheVariants as kind
 use Rattle.pale_text.specs.declared.grammar.part.ProgramPart.{ProgramPart}
-use Rattle.pale_text.specs.declared.place.Pos.{Pos}
 use Rattle.pale_text.specs.declared.token.Mark.{Mark}
 use Rattle.pale_text.specs.declared.token.Token.{Token}
 use Rattle.pale_text.specs.declared.token.TokenKind.{TokenKind}

@@ -4,3 +4,4 @@ pub mod CanonicalDeclarations
 pub mod CanonicalNames
 pub mod CanonicalRoutes
 pub mod CanonicalStatements
+pub mod ReadBack

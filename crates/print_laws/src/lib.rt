@@ -1,6 +1,6 @@
-//! What holds of the canonical spelling of programs.
+//! What holds of the canonical spelling of programs: it is read back as the same program but for places.
 #![tactic(auto)]
 
-use pale_text::Program;
+mod laws;
 
-pub fn none(_program: &Program) {}
+pub use laws::canonical_programs_are_read_back;
