@@ -43,3 +43,4 @@ pub mod FromCalls
 pub mod FromStatements
 pub mod FromTypes
 pub mod FromProcedures
+pub mod RouteSizes
