@@ -44,3 +44,5 @@ pub mod FromStatements
 pub mod FromTypes
 pub mod FromProcedures
 pub mod RouteSizes
+pub mod NameSizes
+pub mod ConditionSizes
