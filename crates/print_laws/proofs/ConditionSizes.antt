@@ -4,6 +4,9 @@ use Rattle.pale_text.specs.declared.token.Mark.{Mark}
 use Rattle.pale_text.specs.declared.token.Mark.TheVariants as mark
 use Rattle.pale_text.specs.declared.token.TokenKind.{TokenKind}
 use Rattle.pale_text.specs.declared.token.TokenKind.TheVariants as token
+use Rattle.pale_text.specs.declared.place.Pos.{Pos}
+use Rattle.pale_text.specs.declared.tree.names.Name.{Name}
+use Rattle.pale_text.specs.declared.tree.names.Term.{Term}
 use Rattle.pale_text.specs.declared.tree.condition.Condition.{Condition, out-Condition, roll-Condition, out-roll-Condition}
 use Rattle.pale_text.specs.declared.tree.condition.Condition.TheVariants as condition
 use Rattle.pale_text.specs.declared.tree.condition.Condition.TheOpen.{Condition-F}
@@ -110,7 +113,7 @@ condition_rises = opened_condition (λ c. Rises (condition_size c)) (λ x. subst
 
 -- ---- forms
 
-pub size_not : (at : _) (inner : Condition) (asked : ℕ) → condition_size (condition.Not at inner) asked ≡ suc (condition_size inner 2)
+pub size_not : (at : Pos) (inner : Condition) (asked : ℕ) → condition_size (condition.Not at inner) asked ≡ suc (condition_size inner 2)
 unfolding roll-Condition roll
 size_not at inner asked = ap (λ (s : Size). s asked) (sized_at (Condition-F.Not at inner))
 
@@ -173,3 +176,29 @@ and_by_size x other = begun_and x other refl
 pub both_size : (c other : Condition) → condition_size (both_conditions c other) 1 ≤ condition_size c 1 + suc (condition_size other 2)
 both_size = opened_condition (λ c. (other : Condition) → condition_size (both_conditions c other) 1 ≤ condition_size c 1 + suc (condition_size other 2)) (λ x other.
     subst (λ (n : Condition-F Condition). condition_size (and_by n (roll-Condition x) other) 1 ≤ condition_size (roll-Condition x) 1 + suc (condition_size other 2)) (sym (out-roll-Condition x)) (and_by_size x other))
+
+-- ---- literals
+
+pub size_true : (at : Pos) (asked : ℕ) → condition_size (condition.True at) asked ≡ 1
+unfolding roll-Condition roll
+size_true at asked = ap (λ (s : Size). s asked) (sized_at (Condition-F.True at))
+
+pub size_false : (at : Pos) (asked : ℕ) → condition_size (condition.False at) asked ≡ 1
+unfolding roll-Condition roll
+size_false at asked = ap (λ (s : Size). s asked) (sized_at (Condition-F.False at))
+
+pub size_truth : (t : Term) (asked : ℕ) → condition_size (condition.Truth t) asked ≡ term_size t
+unfolding roll-Condition roll
+size_truth t asked = ap (λ (s : Size). s asked) (sized_at (Condition-F.Truth t))
+
+pub size_same : (t : Term) (at : Pos) (u : Term) (asked : ℕ) → condition_size (condition.Same t at u) asked ≡ term_size t + suc (term_size u)
+unfolding roll-Condition roll
+size_same t at u asked = ap (λ (s : Size). s asked) (sized_at (Condition-F.Same t at u))
+
+pub size_differ : (t : Term) (at : Pos) (u : Term) (asked : ℕ) → condition_size (condition.Differ t at u) asked ≡ term_size t + suc (term_size u)
+unfolding roll-Condition roll
+size_differ t at u asked = ap (λ (s : Size). s asked) (sized_at (Condition-F.Differ t at u))
+
+pub size_is : (t : Term) (at : Pos) (variant : Name) (asked : ℕ) → condition_size (condition.Is t at variant) asked ≡ term_size t + 2
+unfolding roll-Condition roll
+size_is t at variant asked = ap (λ (s : Size). s asked) (sized_at (Condition-F.Is t at variant))

@@ -46,3 +46,4 @@ pub mod FromProcedures
 pub mod RouteSizes
 pub mod NameSizes
 pub mod ConditionSizes
+pub mod AssertionSizes

@@ -5,6 +5,7 @@ use Rattle.pale_text.specs.declared.token.Mark.{Mark}
 use Rattle.pale_text.specs.declared.token.Mark.TheVariants as mark
 use Rattle.pale_text.specs.declared.token.TokenKind.{TokenKind}
 use Rattle.pale_text.specs.declared.token.TokenKind.TheVariants as token
+use Rattle.pale_text.specs.declared.tree.names.Name.{Name}
 use Rattle.pale_text.specs.declared.tree.route.Route.{Route, out-Route, roll-Route, out-roll-Route}
 use Rattle.pale_text.specs.declared.tree.route.Route.TheVariants as route
 use Rattle.pale_text.specs.declared.tree.route.Route.TheOpen.{Route-F}
@@ -229,3 +230,37 @@ star_by_size x at = begun_star x at refl
 pub starred_size : (r : Route) (at : Pos) → route_size (starred r at) 2 ≤ suc (route_size r 2)
 starred_size = opened_route (λ r. (at : Pos) → route_size (starred r at) 2 ≤ suc (route_size r 2)) (λ x at.
     subst (λ (n : Route-F Route). route_size (star_by n (roll-Route x) at) 2 ≤ suc (route_size (roll-Route x) 2)) (sym (out-roll-Route x)) (star_by_size x at))
+
+-- ---- steps
+
+pub size_down : (f : Name) (asked : ℕ) → route_size (route.Down f) asked ≡ 1
+unfolding roll-Route roll
+size_down f asked = ap (λ (s : Size). s asked) (sized_at (Route-F.Down f))
+
+pub size_up : (f : Name) (asked : ℕ) → route_size (route.Up f) asked ≡ 2
+unfolding roll-Route roll
+size_up f asked = ap (λ (s : Size). s asked) (sized_at (Route-F.Up f))
+
+pub size_up_any : (asked : ℕ) → route_size route.UpAny asked ≡ 1
+unfolding roll-Route roll
+size_up_any asked = ap (λ (s : Size). s asked) (sized_at Route-F.UpAny)
+
+pub size_root : (asked : ℕ) → route_size route.Root asked ≡ 1
+unfolding roll-Route roll
+size_root asked = ap (λ (s : Size). s asked) (sized_at Route-F.Root)
+
+pub size_leaf : (asked : ℕ) → route_size route.Leaf asked ≡ 1
+unfolding roll-Route roll
+size_leaf asked = ap (λ (s : Size). s asked) (sized_at Route-F.Leaf)
+
+pub size_is_type : (ty : Name) (asked : ℕ) → route_size (route.IsType ty) asked ≡ 2
+unfolding roll-Route roll
+size_is_type ty asked = ap (λ (s : Size). s asked) (sized_at (Route-F.IsType ty))
+
+pub size_is_variant : (ty variant : Name) (asked : ℕ) → route_size (route.IsVariant ty variant) asked ≡ 4
+unfolding roll-Route roll
+size_is_variant ty variant asked = ap (λ (s : Size). s asked) (sized_at (Route-F.IsVariant ty variant))
+
+pub size_is_bool : (f : Name) (value : Bool) (asked : ℕ) → route_size (route.IsBool f value) asked ≡ 2
+unfolding roll-Route roll
+size_is_bool f value asked = ap (λ (s : Size). s asked) (sized_at (Route-F.IsBool f value))

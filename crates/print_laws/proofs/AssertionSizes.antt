@@ -1,0 +1,487 @@
+-- How many tokens an assertion has at each place.
+use Rattle.std.proofs.Common.{◌≡◌, ℕ, zero, suc, ◌+◌, ◌≤◌, nat_lt, Bool, true, false, List, [], ◌∷◌, ◌++◌, length, map, refl, sym, ap, subst, arith}
+use Rattle.std.specs.Prelude.{codes}
+use Rattle.pale_text.specs.declared.place.Pos.{Pos}
+use Rattle.pale_text.specs.declared.token.Mark.{Mark}
+use Rattle.pale_text.specs.declared.token.Mark.TheVariants as mark
+use Rattle.pale_text.specs.declared.token.TokenKind.{TokenKind}
+use Rattle.pale_text.specs.declared.token.TokenKind.TheVariants as token
+use Rattle.pale_text.specs.declared.tree.names.Name.{Name}
+use Rattle.pale_text.specs.declared.tree.names.Path.{Path}
+use Rattle.pale_text.specs.declared.tree.names.Term.{Term}
+use Rattle.pale_text.specs.declared.tree.route.Route.{Route}
+use Rattle.pale_text.specs.declared.tree.assertion.Assertion.{Assertion, out-Assertion, roll-Assertion, out-roll-Assertion}
+use Rattle.pale_text.specs.declared.tree.assertion.Assertion.TheVariants as assertion
+use Rattle.pale_text.specs.declared.tree.assertion.Assertion.TheOpen.{Assertion-F}
+use Rattle.pale_text.specs.declared.tree.assertion.Assertion.TheFolds.{fold-Assertion, fold-roll-Assertion, ind-Assertion, map-Assertion}
+use Rattle.pale_text.specs.declared.tree.assertion.Quantifier.{Quantifier}
+use Rattle.pale_text.specs.declared.tree.assertion.QuantifierKind.{QuantifierKind}
+use Rattle.pale_text.specs.declared.tree.assertion.QuantifierKind.TheVariants as quantifier
+use denote.Hole.Carrier.{roll, out}
+use Rattle.pale_text.specs.MakingAssertions.{and_by, or_by, iff_by, both, either, equivalent}
+use Rattle.pale_print.specs.Tokens.{Tokens, each_behind, separated, sign, word, ◌>>◌, name_tokens, path_tokens, term_tokens}
+use Rattle.pale_print.specs.RouteTokens.{route_tokens}
+use Rattle.pale_print.specs.AssertionTokens.{Followed, Operand, grouped, is_followed, operands, chained, quantifier_word, set_word, quantified, assertion_node, assertion_tokens}
+use Rattle.print_laws.specs.CanonicalAssertions.{is_and_node, is_or_node, is_iff_node}
+use Rattle.print_laws.proofs.AssertionShapes.{opened_assertion}
+use Rattle.print_laws.proofs.RouteSizes.{route_size, route_takes, Takes}
+use Rattle.print_laws.proofs.NameSizes.{names_size, names_take, path_size, path_takes, term_size, term_takes}
+
+-- how many tokens there are at a place that asks how tightly they bind, where an operator follows or not
+abbrev pub OperandSize : Type 0
+OperandSize = ℕ → Bool → ℕ
+
+-- two more in parentheses, in which no operator follows
+abbrev pub grouped_size : Bool → (Bool → ℕ) → Bool → ℕ
+grouped_size true inner followed = suc (suc (inner false))
+grouped_size false inner followed = inner followed
+
+-- an operator follows the operand that stands before these others of a chain, where one follows the chain or not
+abbrev pub goes_on : List OperandSize → Bool → Bool
+goes_on [] followed = followed
+goes_on (next ∷ others) followed = true
+
+-- the operands of a chain but the first, each behind its operator
+abbrev pub operands_size : ℕ → List OperandSize → Bool → ℕ
+operands_size asked [] followed = 0
+operands_size asked (one ∷ others) followed = suc (one asked (goes_on others followed) + operands_size asked others followed)
+
+abbrev pub chain_size : ℕ → OperandSize → List OperandSize → Bool → ℕ
+chain_size asked first others followed = first asked (goes_on others followed) + operands_size asked others followed
+
+-- paths with a mark between them
+abbrev pub paths_size : List Path → ℕ
+paths_size [] = 0
+paths_size (p ∷ ps) = suc (path_size p + paths_size ps)
+
+abbrev pub used_size : List Path → ℕ
+used_size [] = 0
+used_size (p ∷ ps) = path_size p + paths_size ps
+
+-- names with a mark between them
+abbrev pub bound_size : List Name → ℕ
+bound_size [] = 0
+bound_size (x ∷ xs) = suc (names_size xs)
+
+abbrev pub set_size : Bool → ℕ
+set_size true = 1
+set_size false = 0
+
+abbrev pub quantified_size : Quantifier → OperandSize → Bool → ℕ
+quantified_size q inner followed = suc (set_size q.of_sets + (bound_size q.names + suc (suc (suc (inner 0 followed)))))
+
+abbrev pub size_node : Assertion-F OperandSize → OperandSize
+size_node Assertion-F.True asked followed = 1
+size_node Assertion-F.False asked followed = 1
+size_node (Assertion-F.Truth p) asked followed = path_size p
+size_node (Assertion-F.Same t place u) asked followed = term_size t + suc (term_size u)
+size_node (Assertion-F.Differ t place u) asked followed = term_size t + suc (term_size u)
+size_node (Assertion-F.Member t place set) asked followed = term_size t + 2
+size_node (Assertion-F.Subset t place set) asked followed = term_size t + 2
+size_node (Assertion-F.Walk t place r u) asked followed = term_size t + suc (route_size r 0 + suc (term_size u))
+size_node (Assertion-F.Is t place variant) asked followed = term_size t + 2
+size_node (Assertion-F.Use predicate arguments) asked followed = suc (suc (used_size arguments + 1))
+size_node (Assertion-F.Not place inner) asked followed = suc (inner 4 followed)
+size_node (Assertion-F.And first others) asked followed = grouped_size (nat_lt 3 asked) (chain_size 4 first others) followed
+size_node (Assertion-F.Or first others) asked followed = grouped_size (nat_lt 2 asked) (chain_size 3 first others) followed
+size_node (Assertion-F.Imp left place right) asked followed = grouped_size (nat_lt 1 asked) (λ then. left 2 true + suc (right 1 then)) followed
+size_node (Assertion-F.Iff first others) asked followed = grouped_size (nat_lt 0 asked) (chain_size 1 first others) followed
+size_node (Assertion-F.Quantified q inner) asked followed = grouped_size followed (quantified_size q inner) followed
+
+unfoldable pub assertion_size : Assertion → OperandSize
+assertion_size = fold-Assertion OperandSize size_node
+
+pub sized_at : (x : Assertion-F Assertion) → assertion_size (roll-Assertion x) ≡ size_node (map-Assertion Assertion OperandSize assertion_size x)
+unfolding assertion_size
+sized_at x = fold-roll-Assertion OperandSize size_node x
+
+-- ---- the tokens are so many
+
+grouped_takes : (needed : Bool) (tokens : Followed) (n : Bool → ℕ) → ((followed : Bool) → Takes (tokens followed) (n followed)) → (followed : Bool) →
+    Takes (grouped needed tokens followed) (grouped_size needed n followed)
+grouped_takes true tokens n t followed = record { takes = λ after. let e = (t false).takes (token.Mark mark.RightParen ∷ after) in omega arith }
+grouped_takes false tokens n t followed = t followed
+
+abbrev Sized : Assertion → Type 0
+Sized a = (asked : ℕ) (followed : Bool) → Takes (assertion_tokens a asked followed) (assertion_size a asked followed)
+
+abbrev Known : Type 0
+Known = (a : Assertion) × Sized a
+
+abbrev trees : List Known → List Assertion
+trees others = map (λ (e : Known). e.0) others
+
+follows_alike : (others : List Known) (followed : Bool) → is_followed (map assertion_tokens (trees others)) followed ≡ goes_on (map assertion_size (trees others)) followed
+follows_alike [] followed = refl
+follows_alike (one ∷ others) followed = refl
+
+one_takes : (one : Known) (asked : ℕ) (others : List Known) (followed : Bool) (after : List TokenKind) →
+    length (assertion_tokens one.0 asked (is_followed (map assertion_tokens (trees others)) followed) after) ≡
+    assertion_size one.0 asked (goes_on (map assertion_size (trees others)) followed) + length after
+one_takes one asked others followed after =
+    subst (λ (b : Bool). length (assertion_tokens one.0 asked b after) ≡ assertion_size one.0 asked (goes_on (map assertion_size (trees others)) followed) + length after)
+    (sym (follows_alike others followed)) ((one.1 asked (goes_on (map assertion_size (trees others)) followed)).takes after)
+
+operands_take : (m : Mark) (asked : ℕ) (others : List Known) (followed : Bool) (after : List TokenKind) →
+    length (operands m asked (map assertion_tokens (trees others)) followed after) ≡ operands_size asked (map assertion_size (trees others)) followed + length after
+operands_take m asked [] followed after = omega arith
+operands_take m asked (one ∷ others) followed after =
+    let e = one_takes one asked others followed (operands m asked (map assertion_tokens (trees others)) followed after) in
+    let more = operands_take m asked others followed after in
+    omega arith
+
+chain_takes : (m : Mark) (asked : ℕ) (first : Known) (others : List Known) (followed : Bool) →
+    Takes (chained m asked (assertion_tokens first.0) (map assertion_tokens (trees others)) followed)
+    (chain_size asked (assertion_size first.0) (map assertion_size (trees others)) followed)
+chain_takes m asked first others followed = record { takes = λ after.
+    let e = one_takes first asked others followed (operands m asked (map assertion_tokens (trees others)) followed after) in
+    let more = operands_take m asked others followed after in
+    omega arith }
+
+paths_take : (ps : List Path) (after : List TokenKind) → length (each_behind mark.Comma path_tokens ps after) ≡ paths_size ps + length after
+paths_take [] after = omega arith
+paths_take (p ∷ ps) after =
+    let e = (path_takes p).takes (each_behind mark.Comma path_tokens ps after) in
+    let more = paths_take ps after in
+    omega arith
+
+used_take : (ps : List Path) (after : List TokenKind) → length (separated mark.Comma path_tokens ps after) ≡ used_size ps + length after
+used_take [] after = omega arith
+used_take (p ∷ ps) after =
+    let e = (path_takes p).takes (each_behind mark.Comma path_tokens ps after) in
+    let more = paths_take ps after in
+    omega arith
+
+pub bound_take : (xs : List Name) (after : List TokenKind) → length (separated mark.Comma name_tokens xs after) ≡ bound_size xs + length after
+bound_take [] after = omega arith
+bound_take (x ∷ xs) after = let e = names_take mark.Comma xs after in omega arith
+
+word_takes : (kind : QuantifierKind) (after : List TokenKind) → length (quantifier_word kind after) ≡ suc (length after)
+word_takes quantifier.Ex after = refl
+word_takes quantifier.All after = refl
+
+set_takes : (sets : Bool) (after : List TokenKind) → length (set_word sets after) ≡ set_size sets + length after
+set_takes true after = omega arith
+set_takes false after = omega arith
+
+quantified_takes : (q : Quantifier) (inner : Known) (followed : Bool) → Takes (quantified q (assertion_tokens inner.0) followed) (quantified_size q (assertion_size inner.0) followed)
+quantified_takes q inner followed = record { takes = λ after.
+    let body = assertion_tokens inner.0 0 followed after in
+    let names = separated mark.Comma name_tokens q.names (sign mark.Colon >> name_tokens q.ty >> sign mark.Colon >> body) in
+    let e = word_takes q.kind (set_word q.of_sets >> names) in
+    let f = set_takes q.of_sets names in
+    let g = bound_take q.names (sign mark.Colon >> name_tokens q.ty >> sign mark.Colon >> body) in
+    let h = (inner.1 0 followed).takes after in
+    omega arith }
+
+node_takes : (y : Assertion-F Known) (asked : ℕ) (followed : Bool) →
+    Takes (assertion_node (map-Assertion Assertion Operand assertion_tokens (map-Assertion Known Assertion (λ e. e.0) y)) asked followed)
+    (size_node (map-Assertion Assertion OperandSize assertion_size (map-Assertion Known Assertion (λ e. e.0) y)) asked followed)
+node_takes Assertion-F.True asked followed = record { takes = λ after. omega arith }
+node_takes Assertion-F.False asked followed = record { takes = λ after. omega arith }
+node_takes (Assertion-F.Truth p) asked followed = path_takes p
+node_takes (Assertion-F.Same t place u) asked followed = record { takes = λ after.
+    let e = (term_takes t).takes (sign mark.Equals >> term_tokens u >> after) in
+    let f = (term_takes u).takes after in
+    omega arith }
+node_takes (Assertion-F.Differ t place u) asked followed = record { takes = λ after.
+    let e = (term_takes t).takes (sign mark.NotEqual >> term_tokens u >> after) in
+    let f = (term_takes u).takes after in
+    omega arith }
+node_takes (Assertion-F.Member t place set) asked followed = record { takes = λ after.
+    let e = (term_takes t).takes (word (codes "in") >> name_tokens set >> after) in
+    omega arith }
+node_takes (Assertion-F.Subset t place set) asked followed = record { takes = λ after.
+    let e = (term_takes t).takes (word (codes "sub") >> name_tokens set >> after) in
+    omega arith }
+node_takes (Assertion-F.Walk t place r u) asked followed = record { takes = λ after.
+    let e = (term_takes t).takes (sign mark.Less >> route_tokens r 0 >> sign mark.Greater >> term_tokens u >> after) in
+    let f = (route_takes r 0).takes (sign mark.Greater >> term_tokens u >> after) in
+    let g = (term_takes u).takes after in
+    omega arith }
+node_takes (Assertion-F.Is t place variant) asked followed = record { takes = λ after.
+    let e = (term_takes t).takes (sign mark.Colon >> name_tokens variant >> after) in
+    omega arith }
+node_takes (Assertion-F.Use predicate arguments) asked followed = record { takes = λ after.
+    let e = used_take arguments (sign mark.RightParen >> after) in
+    omega arith }
+node_takes (Assertion-F.Not place inner) asked followed = record { takes = λ after. let e = (inner.1 4 followed).takes after in omega arith }
+node_takes (Assertion-F.And first others) asked followed = grouped_takes (nat_lt 3 asked) _ _ (λ then. chain_takes mark.Ampersand 4 first others then) followed
+node_takes (Assertion-F.Or first others) asked followed = grouped_takes (nat_lt 2 asked) _ _ (λ then. chain_takes mark.Bar 3 first others then) followed
+node_takes (Assertion-F.Imp left place right) asked followed = grouped_takes (nat_lt 1 asked) _ _ (λ then. record { takes = λ after.
+    let e = (left.1 2 true).takes (sign mark.Implies >> assertion_tokens right.0 1 then >> after) in
+    let f = (right.1 1 then).takes after in
+    omega arith }) followed
+node_takes (Assertion-F.Iff first others) asked followed = grouped_takes (nat_lt 0 asked) _ _ (λ then. chain_takes mark.Equivalent 1 first others then) followed
+node_takes (Assertion-F.Quantified q inner) asked followed = grouped_takes followed _ _ (λ then. quantified_takes q inner then) followed
+
+tokens_at : (x : Assertion-F Assertion) → assertion_tokens (roll-Assertion x) ≡ assertion_node (map-Assertion Assertion Operand assertion_tokens x)
+unfolding assertion_tokens
+tokens_at x = fold-roll-Assertion Operand assertion_node x
+
+pub assertion_takes : (a : Assertion) (asked : ℕ) (followed : Bool) → Takes (assertion_tokens a asked followed) (assertion_size a asked followed)
+assertion_takes = ind-Assertion Sized (λ x y is asked followed.
+    subst (λ (t : Operand). Takes (t asked followed) (assertion_size (roll-Assertion x) asked followed)) (sym (tokens_at x))
+    (subst (λ (s : OperandSize). Takes (assertion_node (map-Assertion Assertion Operand assertion_tokens x) asked followed) (s asked followed)) (sym (sized_at x))
+    (subst (λ (z : Assertion-F Assertion). Takes (assertion_node (map-Assertion Assertion Operand assertion_tokens z) asked followed)
+      (size_node (map-Assertion Assertion OperandSize assertion_size z) asked followed)) is (node_takes y asked followed))))
+
+-- ---- at other places
+
+-- at a tighter place, or where an operator follows, there are two more at most; and at a tighter place not less
+pub record Rises (s : OperandSize) : Type 0 where
+  pub at_most_two : (asked : ℕ) → s asked true ≤ suc (suc (s asked false))
+  pub to_one : (followed : Bool) → s 0 followed ≤ s 1 followed
+  pub to_two : (followed : Bool) → s 1 followed ≤ s 2 followed
+  pub to_three : (followed : Bool) → s 2 followed ≤ s 3 followed
+  pub to_four : (followed : Bool) → s 3 followed ≤ s 4 followed
+  pub at_most : (followed : Bool) → s 4 followed ≤ suc (suc (s 0 false))
+
+either_way : (c : Bool → ℕ) → c true ≤ suc (suc (c false)) → (followed : Bool) → c followed ≤ suc (suc (c false))
+either_way c h true = h
+either_way c h false = omega arith
+
+grouped_at_most : (needed : Bool) (c : Bool → ℕ) → c true ≤ suc (suc (c false)) → grouped_size needed c true ≤ suc (suc (grouped_size needed c false))
+grouped_at_most true c h = omega arith
+grouped_at_most false c h = h
+
+abbrev Risen : Type 0
+Risen = (a : Assertion) × Rises (assertion_size a)
+
+abbrev risen_trees : List Risen → List Assertion
+risen_trees others = map (λ (e : Risen). e.0) others
+
+operands_rise : (asked : ℕ) (others : List Risen) →
+    operands_size asked (map assertion_size (risen_trees others)) true ≤ suc (suc (operands_size asked (map assertion_size (risen_trees others)) false))
+operands_rise asked [] = omega arith
+operands_rise asked (one ∷ []) = let h = one.1.at_most_two asked in omega arith
+operands_rise asked (one ∷ two ∷ others) = let h = operands_rise asked (two ∷ others) in omega arith
+
+chain_rises : (asked : ℕ) (first : Risen) (others : List Risen) →
+    chain_size asked (assertion_size first.0) (map assertion_size (risen_trees others)) true ≤
+    suc (suc (chain_size asked (assertion_size first.0) (map assertion_size (risen_trees others)) false))
+chain_rises asked first [] = let h = first.1.at_most_two asked in omega arith
+chain_rises asked first (one ∷ others) = let h = operands_rise asked (one ∷ others) in omega arith
+
+rises_and : (c : Bool → ℕ) → c true ≤ suc (suc (c false)) → Rises (λ asked. grouped_size (nat_lt 3 asked) c)
+rises_and c h = record {
+  at_most_two = λ asked. grouped_at_most (nat_lt 3 asked) c h;
+  to_one = λ f. omega arith; to_two = λ f. omega arith; to_three = λ f. omega arith; to_four = λ f. either_way c h f; at_most = λ f. omega arith;
+}
+
+rises_or : (c : Bool → ℕ) → c true ≤ suc (suc (c false)) → Rises (λ asked. grouped_size (nat_lt 2 asked) c)
+rises_or c h = record {
+  at_most_two = λ asked. grouped_at_most (nat_lt 2 asked) c h;
+  to_one = λ f. omega arith; to_two = λ f. omega arith; to_three = λ f. either_way c h f; to_four = λ f. omega arith; at_most = λ f. omega arith;
+}
+
+rises_imp : (c : Bool → ℕ) → c true ≤ suc (suc (c false)) → Rises (λ asked. grouped_size (nat_lt 1 asked) c)
+rises_imp c h = record {
+  at_most_two = λ asked. grouped_at_most (nat_lt 1 asked) c h;
+  to_one = λ f. omega arith; to_two = λ f. either_way c h f; to_three = λ f. omega arith; to_four = λ f. omega arith; at_most = λ f. omega arith;
+}
+
+rises_iff : (c : Bool → ℕ) → c true ≤ suc (suc (c false)) → Rises (λ asked. grouped_size (nat_lt 0 asked) c)
+rises_iff c h = record {
+  at_most_two = λ asked. grouped_at_most (nat_lt 0 asked) c h;
+  to_one = λ f. either_way c h f; to_two = λ f. omega arith; to_three = λ f. omega arith; to_four = λ f. omega arith; at_most = λ f. omega arith;
+}
+
+rises_alike : (c : Bool → ℕ) → c true ≤ suc (suc (c false)) → Rises (λ asked followed. c followed)
+rises_alike c h = record {
+  at_most_two = λ asked. h;
+  to_one = λ f. omega arith; to_two = λ f. omega arith; to_three = λ f. omega arith; to_four = λ f. omega arith; at_most = λ f. either_way c h f;
+}
+
+node_rises : (y : Assertion-F Risen) → Rises (size_node (map-Assertion Assertion OperandSize assertion_size (map-Assertion Risen Assertion (λ e. e.0) y)))
+node_rises (Assertion-F.Not place inner) = rises_alike (λ f. suc (assertion_size inner.0 4 f)) (let h = inner.1.at_most_two 4 in omega arith)
+node_rises (Assertion-F.And first others) = rises_and _ (chain_rises 4 first others)
+node_rises (Assertion-F.Or first others) = rises_or _ (chain_rises 3 first others)
+node_rises (Assertion-F.Imp left place right) =
+    rises_imp (λ then. assertion_size left.0 2 true + suc (assertion_size right.0 1 then)) (let h = right.1.at_most_two 1 in omega arith)
+node_rises (Assertion-F.Iff first others) = rises_iff _ (chain_rises 1 first others)
+node_rises (Assertion-F.Quantified q inner) = rises_alike (λ f. grouped_size f (quantified_size q (assertion_size inner.0)) f) (omega arith)
+node_rises Assertion-F.True = rises_alike (λ f. 1) (omega arith)
+node_rises Assertion-F.False = rises_alike (λ f. 1) (omega arith)
+node_rises (Assertion-F.Truth p) = rises_alike (λ f. path_size p) (omega arith)
+node_rises (Assertion-F.Same t place u) = rises_alike (λ f. term_size t + suc (term_size u)) (omega arith)
+node_rises (Assertion-F.Differ t place u) = rises_alike (λ f. term_size t + suc (term_size u)) (omega arith)
+node_rises (Assertion-F.Member t place set) = rises_alike (λ f. term_size t + 2) (omega arith)
+node_rises (Assertion-F.Subset t place set) = rises_alike (λ f. term_size t + 2) (omega arith)
+node_rises (Assertion-F.Walk t place r u) = rises_alike (λ f. term_size t + suc (route_size r 0 + suc (term_size u))) (omega arith)
+node_rises (Assertion-F.Is t place variant) = rises_alike (λ f. term_size t + 2) (omega arith)
+node_rises (Assertion-F.Use predicate arguments) = rises_alike (λ f. suc (suc (used_size arguments + 1))) (omega arith)
+
+pub assertion_rises : (a : Assertion) → Rises (assertion_size a)
+assertion_rises = ind-Assertion (λ a. Rises (assertion_size a)) (λ x y is.
+    subst Rises (sym (sized_at x))
+    (subst (λ (z : Assertion-F Assertion). Rises (size_node (map-Assertion Assertion OperandSize assertion_size z))) is (node_rises y)))
+
+-- ---- forms
+
+module _ where
+  form : (x : Assertion-F Assertion) (asked : ℕ) (followed : Bool) →
+      assertion_size (roll-Assertion x) asked followed ≡ size_node (map-Assertion Assertion OperandSize assertion_size x) asked followed
+  form x asked followed = ap (λ (s : OperandSize). s asked followed) (sized_at x)
+
+pub size_true : (asked : ℕ) (f : Bool) → assertion_size assertion.True asked f ≡ 1
+unfolding roll-Assertion roll
+size_true asked f = form Assertion-F.True asked f
+
+pub size_false : (asked : ℕ) (f : Bool) → assertion_size assertion.False asked f ≡ 1
+unfolding roll-Assertion roll
+size_false asked f = form Assertion-F.False asked f
+
+pub size_truth : (p : Path) (asked : ℕ) (f : Bool) → assertion_size (assertion.Truth p) asked f ≡ path_size p
+unfolding roll-Assertion roll
+size_truth p asked f = form (Assertion-F.Truth p) asked f
+
+pub size_same : (t : Term) (place : Pos) (u : Term) (asked : ℕ) (f : Bool) → assertion_size (assertion.Same t place u) asked f ≡ term_size t + suc (term_size u)
+unfolding roll-Assertion roll
+size_same t place u asked f = form (Assertion-F.Same t place u) asked f
+
+pub size_differ : (t : Term) (place : Pos) (u : Term) (asked : ℕ) (f : Bool) → assertion_size (assertion.Differ t place u) asked f ≡ term_size t + suc (term_size u)
+unfolding roll-Assertion roll
+size_differ t place u asked f = form (Assertion-F.Differ t place u) asked f
+
+pub size_member : (t : Term) (place : Pos) (x : Name) (asked : ℕ) (f : Bool) → assertion_size (assertion.Member t place x) asked f ≡ term_size t + 2
+unfolding roll-Assertion roll
+size_member t place x asked f = form (Assertion-F.Member t place x) asked f
+
+pub size_subset : (t : Term) (place : Pos) (x : Name) (asked : ℕ) (f : Bool) → assertion_size (assertion.Subset t place x) asked f ≡ term_size t + 2
+unfolding roll-Assertion roll
+size_subset t place x asked f = form (Assertion-F.Subset t place x) asked f
+
+pub size_is : (t : Term) (place : Pos) (x : Name) (asked : ℕ) (f : Bool) → assertion_size (assertion.Is t place x) asked f ≡ term_size t + 2
+unfolding roll-Assertion roll
+size_is t place x asked f = form (Assertion-F.Is t place x) asked f
+
+pub size_walk : (t : Term) (place : Pos) (r : Route) (u : Term) (asked : ℕ) (f : Bool) →
+    assertion_size (assertion.Walk t place r u) asked f ≡ term_size t + suc (route_size r 0 + suc (term_size u))
+unfolding roll-Assertion roll
+size_walk t place r u asked f = form (Assertion-F.Walk t place r u) asked f
+
+pub size_use : (x : Name) (ps : List Path) (asked : ℕ) (f : Bool) → assertion_size (assertion.Use x ps) asked f ≡ suc (suc (used_size ps + 1))
+unfolding roll-Assertion roll
+size_use x ps asked f = form (Assertion-F.Use x ps) asked f
+
+pub size_not : (place : Pos) (a : Assertion) (asked : ℕ) (f : Bool) → assertion_size (assertion.Not place a) asked f ≡ suc (assertion_size a 4 f)
+unfolding roll-Assertion roll
+size_not place a asked f = form (Assertion-F.Not place a) asked f
+
+pub size_imp : (a : Assertion) (place : Pos) (b : Assertion) (f : Bool) → assertion_size (assertion.Imp a place b) 1 f ≡ assertion_size a 2 true + suc (assertion_size b 1 f)
+unfolding roll-Assertion roll
+size_imp a place b f = form (Assertion-F.Imp a place b) 1 f
+
+pub size_quantified : (q : Quantifier) (a : Assertion) (asked : ℕ) → assertion_size (assertion.Quantified q a) asked false ≡ quantified_size q (assertion_size a) false
+unfolding roll-Assertion roll
+size_quantified q a asked = form (Assertion-F.Quantified q a) asked false
+
+size_and : (a : Assertion) (others : List Assertion) (f : Bool) → assertion_size (assertion.And a others) 3 f ≡ chain_size 4 (assertion_size a) (map assertion_size others) f
+unfolding roll-Assertion roll
+size_and a others f = form (Assertion-F.And a others) 3 f
+
+size_or : (a : Assertion) (others : List Assertion) (f : Bool) → assertion_size (assertion.Or a others) 2 f ≡ chain_size 3 (assertion_size a) (map assertion_size others) f
+unfolding roll-Assertion roll
+size_or a others f = form (Assertion-F.Or a others) 2 f
+
+size_iff : (a : Assertion) (others : List Assertion) (f : Bool) → assertion_size (assertion.Iff a others) 0 f ≡ chain_size 1 (assertion_size a) (map assertion_size others) f
+unfolding roll-Assertion roll
+size_iff a others f = form (Assertion-F.Iff a others) 0 f
+
+-- ---- chains
+
+operands_last : (asked : ℕ) (xs : List Assertion) (a : Assertion) (f : Bool) →
+    operands_size asked (map assertion_size (xs ++ a ∷ [])) f ≡ operands_size asked (map assertion_size xs) true + suc (assertion_size a asked f)
+operands_last asked [] a f = omega arith
+operands_last asked (one ∷ []) a f = omega arith
+operands_last asked (one ∷ two ∷ xs) a f = let e = operands_last asked (two ∷ xs) a f in omega arith
+
+chain_last : (asked : ℕ) (first : Assertion) (xs : List Assertion) (a : Assertion) (f : Bool) →
+    chain_size asked (assertion_size first) (map assertion_size (xs ++ a ∷ [])) f ≡ chain_size asked (assertion_size first) (map assertion_size xs) true + suc (assertion_size a asked f)
+chain_last asked first [] a f = omega arith
+chain_last asked first (one ∷ xs) a f = let e = operands_last asked (one ∷ xs) a f in omega arith
+
+no_and_node : (x : Assertion-F Assertion) → is_and_node x ≡ false →
+    size_node (map-Assertion Assertion OperandSize assertion_size x) 4 true ≤ size_node (map-Assertion Assertion OperandSize assertion_size x) 3 true
+no_and_node (Assertion-F.And first others) is = absurd (cc is)
+no_and_node _ is = omega arith
+
+no_or_node : (x : Assertion-F Assertion) → is_or_node x ≡ false →
+    size_node (map-Assertion Assertion OperandSize assertion_size x) 3 true ≤ size_node (map-Assertion Assertion OperandSize assertion_size x) 2 true
+no_or_node (Assertion-F.Or first others) is = absurd (cc is)
+no_or_node _ is = omega arith
+
+no_iff_node : (x : Assertion-F Assertion) → is_iff_node x ≡ false →
+    size_node (map-Assertion Assertion OperandSize assertion_size x) 1 true ≤ size_node (map-Assertion Assertion OperandSize assertion_size x) 0 true
+no_iff_node (Assertion-F.Iff first others) is = absurd (cc is)
+no_iff_node _ is = omega arith
+
+begun_and : (x : Assertion-F Assertion) (other : Assertion) (f : Bool) → is_and_node x ≡ false →
+    assertion_size (assertion.And (roll-Assertion x) (other ∷ [])) 3 f ≤ assertion_size (roll-Assertion x) 3 true + suc (assertion_size other 4 f)
+begun_and x other f is =
+    let e = size_and (roll-Assertion x) (other ∷ []) f in
+    let l : assertion_size (roll-Assertion x) 4 true ≤ assertion_size (roll-Assertion x) 3 true =
+        subst (λ (s : OperandSize). s 4 true ≤ s 3 true) (sym (sized_at x)) (no_and_node x is) in
+    omega arith
+
+and_by_size : (x : Assertion-F Assertion) (other : Assertion) (f : Bool) →
+    assertion_size (and_by x (roll-Assertion x) other) 3 f ≤ assertion_size (roll-Assertion x) 3 true + suc (assertion_size other 4 f)
+unfolding roll-Assertion roll
+and_by_size (Assertion-F.And first others) other f =
+    let e = size_and first others true in
+    let g = size_and first (others ++ other ∷ []) f in
+    let l = chain_last 4 first others other f in
+    omega arith
+and_by_size x other f = begun_and x other f refl
+
+pub both_size : (a other : Assertion) (f : Bool) → assertion_size (both a other) 3 f ≤ assertion_size a 3 true + suc (assertion_size other 4 f)
+both_size = opened_assertion (λ a. (other : Assertion) (f : Bool) → assertion_size (both a other) 3 f ≤ assertion_size a 3 true + suc (assertion_size other 4 f)) (λ x other f.
+    subst (λ (n : Assertion-F Assertion). assertion_size (and_by n (roll-Assertion x) other) 3 f ≤ assertion_size (roll-Assertion x) 3 true + suc (assertion_size other 4 f))
+    (sym (out-roll-Assertion x)) (and_by_size x other f))
+
+begun_or : (x : Assertion-F Assertion) (other : Assertion) (f : Bool) → is_or_node x ≡ false →
+    assertion_size (assertion.Or (roll-Assertion x) (other ∷ [])) 2 f ≤ assertion_size (roll-Assertion x) 2 true + suc (assertion_size other 3 f)
+begun_or x other f is =
+    let e = size_or (roll-Assertion x) (other ∷ []) f in
+    let l : assertion_size (roll-Assertion x) 3 true ≤ assertion_size (roll-Assertion x) 2 true =
+        subst (λ (s : OperandSize). s 3 true ≤ s 2 true) (sym (sized_at x)) (no_or_node x is) in
+    omega arith
+
+or_by_size : (x : Assertion-F Assertion) (other : Assertion) (f : Bool) →
+    assertion_size (or_by x (roll-Assertion x) other) 2 f ≤ assertion_size (roll-Assertion x) 2 true + suc (assertion_size other 3 f)
+unfolding roll-Assertion roll
+or_by_size (Assertion-F.Or first others) other f =
+    let e = size_or first others true in
+    let g = size_or first (others ++ other ∷ []) f in
+    let l = chain_last 3 first others other f in
+    omega arith
+or_by_size x other f = begun_or x other f refl
+
+pub either_size : (a other : Assertion) (f : Bool) → assertion_size (either a other) 2 f ≤ assertion_size a 2 true + suc (assertion_size other 3 f)
+either_size = opened_assertion (λ a. (other : Assertion) (f : Bool) → assertion_size (either a other) 2 f ≤ assertion_size a 2 true + suc (assertion_size other 3 f)) (λ x other f.
+    subst (λ (n : Assertion-F Assertion). assertion_size (or_by n (roll-Assertion x) other) 2 f ≤ assertion_size (roll-Assertion x) 2 true + suc (assertion_size other 3 f))
+    (sym (out-roll-Assertion x)) (or_by_size x other f))
+
+begun_iff : (x : Assertion-F Assertion) (other : Assertion) (f : Bool) → is_iff_node x ≡ false →
+    assertion_size (assertion.Iff (roll-Assertion x) (other ∷ [])) 0 f ≤ assertion_size (roll-Assertion x) 0 true + suc (assertion_size other 1 f)
+begun_iff x other f is =
+    let e = size_iff (roll-Assertion x) (other ∷ []) f in
+    let l : assertion_size (roll-Assertion x) 1 true ≤ assertion_size (roll-Assertion x) 0 true =
+        subst (λ (s : OperandSize). s 1 true ≤ s 0 true) (sym (sized_at x)) (no_iff_node x is) in
+    omega arith
+
+iff_by_size : (x : Assertion-F Assertion) (other : Assertion) (f : Bool) →
+    assertion_size (iff_by x (roll-Assertion x) other) 0 f ≤ assertion_size (roll-Assertion x) 0 true + suc (assertion_size other 1 f)
+unfolding roll-Assertion roll
+iff_by_size (Assertion-F.Iff first others) other f =
+    let e = size_iff first others true in
+    let g = size_iff first (others ++ other ∷ []) f in
+    let l = chain_last 1 first others other f in
+    omega arith
+iff_by_size x other f = begun_iff x other f refl
+
+pub equivalent_size : (a other : Assertion) (f : Bool) → assertion_size (equivalent a other) 0 f ≤ assertion_size a 0 true + suc (assertion_size other 1 f)
+equivalent_size = opened_assertion (λ a. (other : Assertion) (f : Bool) → assertion_size (equivalent a other) 0 f ≤ assertion_size a 0 true + suc (assertion_size other 1 f)) (λ x other f.
+    subst (λ (n : Assertion-F Assertion). assertion_size (iff_by n (roll-Assertion x) other) 0 f ≤ assertion_size (roll-Assertion x) 0 true + suc (assertion_size other 1 f))
+    (sym (out-roll-Assertion x)) (iff_by_size x other f))
