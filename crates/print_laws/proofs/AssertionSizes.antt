@@ -133,10 +133,12 @@ operands_take m asked (one ∷ others) followed after =
 chain_takes : (m : Mark) (asked : ℕ) (first : Known) (others : List Known) (followed : Bool) →
     Takes (chained m asked (assertion_tokens first.0) (map assertion_tokens (trees others)) followed)
     (chain_size asked (assertion_size first.0) (map assertion_size (trees others)) followed)
-chain_takes m asked first others followed = record { takes = λ after.
-    let e = one_takes first asked others followed (operands m asked (map assertion_tokens (trees others)) followed after) in
-    let more = operands_take m asked others followed after in
-    omega arith }
+chain_takes m asked first others followed = record {
+  takes = λ after.
+      let e = one_takes first asked others followed (operands m asked (map assertion_tokens (trees others)) followed after) in
+      let more = operands_take m asked others followed after in
+      omega arith;
+}
 
 paths_take : (ps : List Path) (after : List TokenKind) → length (each_behind mark.Comma path_tokens ps after) ≡ paths_size ps + length after
 paths_take [] after = omega arith
@@ -165,14 +167,16 @@ set_takes true after = omega arith
 set_takes false after = omega arith
 
 quantified_takes : (q : Quantifier) (inner : Known) (followed : Bool) → Takes (quantified q (assertion_tokens inner.0) followed) (quantified_size q (assertion_size inner.0) followed)
-quantified_takes q inner followed = record { takes = λ after.
-    let body = assertion_tokens inner.0 0 followed after in
-    let names = separated mark.Comma name_tokens q.names (sign mark.Colon >> name_tokens q.ty >> sign mark.Colon >> body) in
-    let e = word_takes q.kind (set_word q.of_sets >> names) in
-    let f = set_takes q.of_sets names in
-    let g = bound_take q.names (sign mark.Colon >> name_tokens q.ty >> sign mark.Colon >> body) in
-    let h = (inner.1 0 followed).takes after in
-    omega arith }
+quantified_takes q inner followed = record {
+  takes = λ after.
+      let body = assertion_tokens inner.0 0 followed after in
+      let names = separated mark.Comma name_tokens q.names (sign mark.Colon >> name_tokens q.ty >> sign mark.Colon >> body) in
+      let e = word_takes q.kind (set_word q.of_sets >> names) in
+      let f = set_takes q.of_sets names in
+      let g = bound_take q.names (sign mark.Colon >> name_tokens q.ty >> sign mark.Colon >> body) in
+      let h = (inner.1 0 followed).takes after in
+      omega arith;
+}
 
 node_takes : (y : Assertion-F Known) (asked : ℕ) (followed : Bool) →
     Takes (assertion_node (map-Assertion Assertion Operand assertion_tokens (map-Assertion Known Assertion (λ e. e.0) y)) asked followed)
@@ -180,38 +184,54 @@ node_takes : (y : Assertion-F Known) (asked : ℕ) (followed : Bool) →
 node_takes Assertion-F.True asked followed = record { takes = λ after. omega arith }
 node_takes Assertion-F.False asked followed = record { takes = λ after. omega arith }
 node_takes (Assertion-F.Truth p) asked followed = path_takes p
-node_takes (Assertion-F.Same t place u) asked followed = record { takes = λ after.
-    let e = (term_takes t).takes (sign mark.Equals >> term_tokens u >> after) in
-    let f = (term_takes u).takes after in
-    omega arith }
-node_takes (Assertion-F.Differ t place u) asked followed = record { takes = λ after.
-    let e = (term_takes t).takes (sign mark.NotEqual >> term_tokens u >> after) in
-    let f = (term_takes u).takes after in
-    omega arith }
-node_takes (Assertion-F.Member t place set) asked followed = record { takes = λ after.
-    let e = (term_takes t).takes (word (codes "in") >> name_tokens set >> after) in
-    omega arith }
-node_takes (Assertion-F.Subset t place set) asked followed = record { takes = λ after.
-    let e = (term_takes t).takes (word (codes "sub") >> name_tokens set >> after) in
-    omega arith }
-node_takes (Assertion-F.Walk t place r u) asked followed = record { takes = λ after.
-    let e = (term_takes t).takes (sign mark.Less >> route_tokens r 0 >> sign mark.Greater >> term_tokens u >> after) in
-    let f = (route_takes r 0).takes (sign mark.Greater >> term_tokens u >> after) in
-    let g = (term_takes u).takes after in
-    omega arith }
-node_takes (Assertion-F.Is t place variant) asked followed = record { takes = λ after.
-    let e = (term_takes t).takes (sign mark.Colon >> name_tokens variant >> after) in
-    omega arith }
-node_takes (Assertion-F.Use predicate arguments) asked followed = record { takes = λ after.
-    let e = used_take arguments (sign mark.RightParen >> after) in
-    omega arith }
+node_takes (Assertion-F.Same t place u) asked followed = record {
+  takes = λ after.
+      let e = (term_takes t).takes (sign mark.Equals >> term_tokens u >> after) in
+      let f = (term_takes u).takes after in
+      omega arith;
+}
+node_takes (Assertion-F.Differ t place u) asked followed = record {
+  takes = λ after.
+      let e = (term_takes t).takes (sign mark.NotEqual >> term_tokens u >> after) in
+      let f = (term_takes u).takes after in
+      omega arith;
+}
+node_takes (Assertion-F.Member t place set) asked followed = record {
+  takes = λ after.
+      let e = (term_takes t).takes (word (codes "in") >> name_tokens set >> after) in
+      omega arith;
+}
+node_takes (Assertion-F.Subset t place set) asked followed = record {
+  takes = λ after.
+      let e = (term_takes t).takes (word (codes "sub") >> name_tokens set >> after) in
+      omega arith;
+}
+node_takes (Assertion-F.Walk t place r u) asked followed = record {
+  takes = λ after.
+      let e = (term_takes t).takes (sign mark.Less >> route_tokens r 0 >> sign mark.Greater >> term_tokens u >> after) in
+      let f = (route_takes r 0).takes (sign mark.Greater >> term_tokens u >> after) in
+      let g = (term_takes u).takes after in
+      omega arith;
+}
+node_takes (Assertion-F.Is t place variant) asked followed = record {
+  takes = λ after.
+      let e = (term_takes t).takes (sign mark.Colon >> name_tokens variant >> after) in
+      omega arith;
+}
+node_takes (Assertion-F.Use predicate arguments) asked followed = record {
+  takes = λ after.
+      let e = used_take arguments (sign mark.RightParen >> after) in
+      omega arith;
+}
 node_takes (Assertion-F.Not place inner) asked followed = record { takes = λ after. let e = (inner.1 4 followed).takes after in omega arith }
 node_takes (Assertion-F.And first others) asked followed = grouped_takes (nat_lt 3 asked) _ _ (λ then. chain_takes mark.Ampersand 4 first others then) followed
 node_takes (Assertion-F.Or first others) asked followed = grouped_takes (nat_lt 2 asked) _ _ (λ then. chain_takes mark.Bar 3 first others then) followed
-node_takes (Assertion-F.Imp left place right) asked followed = grouped_takes (nat_lt 1 asked) _ _ (λ then. record { takes = λ after.
-    let e = (left.1 2 true).takes (sign mark.Implies >> assertion_tokens right.0 1 then >> after) in
-    let f = (right.1 1 then).takes after in
-    omega arith }) followed
+node_takes (Assertion-F.Imp left place right) asked followed = grouped_takes (nat_lt 1 asked) _ _ (λ then. record {
+  takes = λ after.
+      let e = (left.1 2 true).takes (sign mark.Implies >> assertion_tokens right.0 1 then >> after) in
+      let f = (right.1 1 then).takes after in
+      omega arith;
+}) followed
 node_takes (Assertion-F.Iff first others) asked followed = grouped_takes (nat_lt 0 asked) _ _ (λ then. chain_takes mark.Equivalent 1 first others then) followed
 node_takes (Assertion-F.Quantified q inner) asked followed = grouped_takes followed _ _ (λ then. quantified_takes q inner then) followed
 
@@ -224,7 +244,7 @@ assertion_takes = ind-Assertion Sized (λ x y is asked followed.
     subst (λ (t : Operand). Takes (t asked followed) (assertion_size (roll-Assertion x) asked followed)) (sym (tokens_at x))
     (subst (λ (s : OperandSize). Takes (assertion_node (map-Assertion Assertion Operand assertion_tokens x) asked followed) (s asked followed)) (sym (sized_at x))
     (subst (λ (z : Assertion-F Assertion). Takes (assertion_node (map-Assertion Assertion Operand assertion_tokens z) asked followed)
-      (size_node (map-Assertion Assertion OperandSize assertion_size z) asked followed)) is (node_takes y asked followed))))
+    (size_node (map-Assertion Assertion OperandSize assertion_size z) asked followed)) is (node_takes y asked followed))))
 
 -- ---- at other places
 
@@ -266,31 +286,51 @@ chain_rises asked first (one ∷ others) = let h = operands_rise asked (one ∷ 
 rises_and : (c : Bool → ℕ) → c true ≤ suc (suc (c false)) → Rises (λ asked. grouped_size (nat_lt 3 asked) c)
 rises_and c h = record {
   at_most_two = λ asked. grouped_at_most (nat_lt 3 asked) c h;
-  to_one = λ f. omega arith; to_two = λ f. omega arith; to_three = λ f. omega arith; to_four = λ f. either_way c h f; at_most = λ f. omega arith;
+  to_one = λ f. omega arith;
+  to_two = λ f. omega arith;
+  to_three = λ f. omega arith;
+  to_four = λ f. either_way c h f;
+  at_most = λ f. omega arith;
 }
 
 rises_or : (c : Bool → ℕ) → c true ≤ suc (suc (c false)) → Rises (λ asked. grouped_size (nat_lt 2 asked) c)
 rises_or c h = record {
   at_most_two = λ asked. grouped_at_most (nat_lt 2 asked) c h;
-  to_one = λ f. omega arith; to_two = λ f. omega arith; to_three = λ f. either_way c h f; to_four = λ f. omega arith; at_most = λ f. omega arith;
+  to_one = λ f. omega arith;
+  to_two = λ f. omega arith;
+  to_three = λ f. either_way c h f;
+  to_four = λ f. omega arith;
+  at_most = λ f. omega arith;
 }
 
 rises_imp : (c : Bool → ℕ) → c true ≤ suc (suc (c false)) → Rises (λ asked. grouped_size (nat_lt 1 asked) c)
 rises_imp c h = record {
   at_most_two = λ asked. grouped_at_most (nat_lt 1 asked) c h;
-  to_one = λ f. omega arith; to_two = λ f. either_way c h f; to_three = λ f. omega arith; to_four = λ f. omega arith; at_most = λ f. omega arith;
+  to_one = λ f. omega arith;
+  to_two = λ f. either_way c h f;
+  to_three = λ f. omega arith;
+  to_four = λ f. omega arith;
+  at_most = λ f. omega arith;
 }
 
 rises_iff : (c : Bool → ℕ) → c true ≤ suc (suc (c false)) → Rises (λ asked. grouped_size (nat_lt 0 asked) c)
 rises_iff c h = record {
   at_most_two = λ asked. grouped_at_most (nat_lt 0 asked) c h;
-  to_one = λ f. either_way c h f; to_two = λ f. omega arith; to_three = λ f. omega arith; to_four = λ f. omega arith; at_most = λ f. omega arith;
+  to_one = λ f. either_way c h f;
+  to_two = λ f. omega arith;
+  to_three = λ f. omega arith;
+  to_four = λ f. omega arith;
+  at_most = λ f. omega arith;
 }
 
 rises_alike : (c : Bool → ℕ) → c true ≤ suc (suc (c false)) → Rises (λ asked followed. c followed)
 rises_alike c h = record {
   at_most_two = λ asked. h;
-  to_one = λ f. omega arith; to_two = λ f. omega arith; to_three = λ f. omega arith; to_four = λ f. omega arith; at_most = λ f. either_way c h f;
+  to_one = λ f. omega arith;
+  to_two = λ f. omega arith;
+  to_three = λ f. omega arith;
+  to_four = λ f. omega arith;
+  at_most = λ f. either_way c h f;
 }
 
 node_rises : (y : Assertion-F Risen) → Rises (size_node (map-Assertion Assertion OperandSize assertion_size (map-Assertion Risen Assertion (λ e. e.0) y)))
@@ -422,7 +462,7 @@ begun_and : (x : Assertion-F Assertion) (other : Assertion) (f : Bool) → is_an
 begun_and x other f is =
     let e = size_and (roll-Assertion x) (other ∷ []) f in
     let l : assertion_size (roll-Assertion x) 4 true ≤ assertion_size (roll-Assertion x) 3 true =
-        subst (λ (s : OperandSize). s 4 true ≤ s 3 true) (sym (sized_at x)) (no_and_node x is) in
+    subst (λ (s : OperandSize). s 4 true ≤ s 3 true) (sym (sized_at x)) (no_and_node x is) in
     omega arith
 
 and_by_size : (x : Assertion-F Assertion) (other : Assertion) (f : Bool) →
@@ -445,7 +485,7 @@ begun_or : (x : Assertion-F Assertion) (other : Assertion) (f : Bool) → is_or_
 begun_or x other f is =
     let e = size_or (roll-Assertion x) (other ∷ []) f in
     let l : assertion_size (roll-Assertion x) 3 true ≤ assertion_size (roll-Assertion x) 2 true =
-        subst (λ (s : OperandSize). s 3 true ≤ s 2 true) (sym (sized_at x)) (no_or_node x is) in
+    subst (λ (s : OperandSize). s 3 true ≤ s 2 true) (sym (sized_at x)) (no_or_node x is) in
     omega arith
 
 or_by_size : (x : Assertion-F Assertion) (other : Assertion) (f : Bool) →
@@ -468,7 +508,7 @@ begun_iff : (x : Assertion-F Assertion) (other : Assertion) (f : Bool) → is_if
 begun_iff x other f is =
     let e = size_iff (roll-Assertion x) (other ∷ []) f in
     let l : assertion_size (roll-Assertion x) 1 true ≤ assertion_size (roll-Assertion x) 0 true =
-        subst (λ (s : OperandSize). s 1 true ≤ s 0 true) (sym (sized_at x)) (no_iff_node x is) in
+    subst (λ (s : OperandSize). s 1 true ≤ s 0 true) (sym (sized_at x)) (no_iff_node x is) in
     omega arith
 
 iff_by_size : (x : Assertion-F Assertion) (other : Assertion) (f : Bool) →

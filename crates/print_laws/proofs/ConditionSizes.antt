@@ -62,28 +62,38 @@ node_takes : (y : Condition-F Known) (asked : ℕ) →
 node_takes (Condition-F.True place) asked = record { takes = λ after. omega arith }
 node_takes (Condition-F.False place) asked = record { takes = λ after. omega arith }
 node_takes (Condition-F.Truth t) asked = term_takes t
-node_takes (Condition-F.Same t place u) asked = record { takes = λ after.
-    let e = (term_takes t).takes (sign mark.SameAs >> term_tokens u >> after) in
-    let f = (term_takes u).takes after in
-    omega arith }
-node_takes (Condition-F.Differ t place u) asked = record { takes = λ after.
-    let e = (term_takes t).takes (sign mark.NotSame >> term_tokens u >> after) in
-    let f = (term_takes u).takes after in
-    omega arith }
-node_takes (Condition-F.Is t place variant) asked = record { takes = λ after.
-    let e = (term_takes t).takes (sign mark.Colon >> name_tokens variant >> after) in
-    omega arith }
+node_takes (Condition-F.Same t place u) asked = record {
+  takes = λ after.
+      let e = (term_takes t).takes (sign mark.SameAs >> term_tokens u >> after) in
+      let f = (term_takes u).takes after in
+      omega arith;
+}
+node_takes (Condition-F.Differ t place u) asked = record {
+  takes = λ after.
+      let e = (term_takes t).takes (sign mark.NotSame >> term_tokens u >> after) in
+      let f = (term_takes u).takes after in
+      omega arith;
+}
+node_takes (Condition-F.Is t place variant) asked = record {
+  takes = λ after.
+      let e = (term_takes t).takes (sign mark.Colon >> name_tokens variant >> after) in
+      omega arith;
+}
 node_takes (Condition-F.Not place inner) asked = record { takes = λ after. let e = (inner.1 2).takes after in omega arith }
 node_takes (Condition-F.And first others) asked =
-    grouped_takes (nat_lt 1 asked) _ _ (record { takes = λ after.
-      let e = (first.1 2).takes (each_behind mark.AndAlso (λ (other : Placed). other 2) (map condition_tokens (map (λ (e : Known). e.0) others)) after) in
-      let more = behind_takes mark.AndAlso 2 others after in
-      omega arith })
+    grouped_takes (nat_lt 1 asked) _ _ (record {
+      takes = λ after.
+          let e = (first.1 2).takes (each_behind mark.AndAlso (λ (other : Placed). other 2) (map condition_tokens (map (λ (e : Known). e.0) others)) after) in
+          let more = behind_takes mark.AndAlso 2 others after in
+          omega arith;
+    })
 node_takes (Condition-F.Or first others) asked =
-    grouped_takes (nat_lt 0 asked) _ _ (record { takes = λ after.
-      let e = (first.1 1).takes (each_behind mark.OrElse (λ (other : Placed). other 1) (map condition_tokens (map (λ (e : Known). e.0) others)) after) in
-      let more = behind_takes mark.OrElse 1 others after in
-      omega arith })
+    grouped_takes (nat_lt 0 asked) _ _ (record {
+      takes = λ after.
+          let e = (first.1 1).takes (each_behind mark.OrElse (λ (other : Placed). other 1) (map condition_tokens (map (λ (e : Known). e.0) others)) after) in
+          let more = behind_takes mark.OrElse 1 others after in
+          omega arith;
+    })
 
 tokens_at : (x : Condition-F Condition) → condition_tokens (roll-Condition x) ≡ condition_node (map-Condition Condition Placed condition_tokens x)
 unfolding condition_tokens

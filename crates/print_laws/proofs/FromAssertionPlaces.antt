@@ -14,6 +14,7 @@ use Rattle.pale_print.specs.Tokens.{◌>>◌, sign}
 use Rattle.pale_print.specs.AssertionTokens.{Operand, assertion_node, assertion_tokens}
 use Rattle.print_laws.specs.CanonicalAssertions.{AssertionPlace, whole, implication, disjunct, conjunct, operand, asks, is_and_node, is_or_node, is_iff_node, IsGrouped, IsCanonicalAssertion, truth, falsehood, path, same, differ, member, subset, walk, of_variant, use_of, not, and, or, imp, iff, quantified, group, AreCanonicalAssertions, last, more}
 use Rattle.print_laws.proofs.FromRoutePlaces.{roomier as roomier_route}
+use Rattle.print_laws.proofs.FromLevels.{Wider, alike, wider}
 
 -- ---- parentheses
 
@@ -22,9 +23,9 @@ node_grouped : (p : AssertionPlace) (followed : Bool) (x : Assertion-F Assertion
     (sign mark.LeftParen >> assertion_node (map-Assertion Assertion Operand assertion_tokens x) 0 false >> sign mark.RightParen >> after)) →
     IsGrouped p followed (roll-Assertion x)
 unfolding assertion_tokens
-node_grouped p followed x alike after =
+node_grouped p followed x agrees after =
     subst (λ (t : Operand). t (asks p) followed after ≡ (sign mark.LeftParen >> t 0 false >> sign mark.RightParen >> after)) (sym (fold-roll-Assertion Operand assertion_node x))
-    (alike after)
+    (agrees after)
 
 and_grouped : (p : AssertionPlace) (followed : Bool) (first : Assertion) (others : List Assertion) → nat_lt 3 (asks p) ≡ true → IsGrouped p followed (assertion.And first others)
 unfolding roll-Assertion roll
@@ -89,11 +90,6 @@ mutual
       AreCanonicalAssertions p followed (suc room) xs
   roomier_all (last p followed room a c) = last p followed (suc room) a (roomier c)
   roomier_all (more p followed room a b others c cs) = more p followed (suc room) a b others (roomier c) (roomier_all cs)
-
--- one number of levels, and one that is as much or more
-data Wider : ℕ → ℕ → Type 0 where
-  alike : (n : ℕ) → Wider n n
-  wider : {n m : ℕ} → Wider (suc n) m → Wider n m
 
 widened : {n m : ℕ} → Wider n m → {p : AssertionPlace} {followed : Bool} {a : Assertion} → IsCanonicalAssertion p followed n a → IsCanonicalAssertion p followed m a
 widened (alike n) c = c

@@ -22,7 +22,8 @@ use Rattle.pale_text.specs.ProgramGrammar.{ProgramSymbol, rows_of, reads, push_n
 use Rattle.print_laws.specs.CanonicalNames.{IsFree, AreFree}
 use Rattle.print_laws.specs.CanonicalAssertions.{whole, implication, disjunct, conjunct, operand, IsCanonicalAssertion, not, imp, quantified}
 use Rattle.print_laws.proofs.FromRows.{IsOfKind, Several, no_more, one_more, puts, Goal, Goes}
-use Rattle.print_laws.proofs.FromMeaning.{program_meaning, Made, FreeName, AssertionMade, QuantifiedMade, BeginsWith, MayFollow, EndsAnd, EndsOr, EndsImplication, EndsIff}
+use Rattle.print_laws.proofs.FromMade.{AssertionMade, QuantifiedMade, BeginsWith, MayFollow, EndsAnd, EndsOr, EndsImplication, EndsIff}
+use Rattle.print_laws.proofs.FromMeaning.{program_meaning}
 use Rattle.print_laws.proofs.FromParts.{IsSoundRow, AreSoundRows, no_row, or_row, nth, free_name}
 use Rattle.print_laws.proofs.FromAssertionPlaces.{as_whole, as_implication, as_disjunct, as_conjunct, and_settled, or_settled, iff_settled}
 use Rattle.print_laws.proofs.FromStops.{no_operator}
@@ -59,11 +60,13 @@ equivalents_made room start end (one_more _ middle _ one others) a c ends parts 
 
 and_row : IsSoundRow part.AndChain (nth (rows_of part.AndChain) 0)
 unfolding rows_of
-and_row = record { along = λ room last tokens parts goal g before.
-    let first = g before in
-    let others = first.3 before in
-    let made = conjuncts_made room first.1 others.1 others.2 first.2.assertion (λ f m. as_conjunct (first.2.canonical f m)) parts parts.assertions in
-    (others.0, others.1, (made.0, made.1), subst (λ q. goal others.0 others.1 q) made.2 others.3) }
+and_row = record {
+  along = λ room last tokens parts goal g before.
+      let first = g before in
+      let others = first.3 before in
+      let made = conjuncts_made room first.1 others.1 others.2 first.2.assertion (λ f m. as_conjunct (first.2.canonical f m)) parts parts.assertions in
+      (others.0, others.1, (made.0, made.1), subst (λ q. goal others.0 others.1 q) made.2 others.3);
+}
 
 pub and_chain_sound : AreSoundRows part.AndChain (rows_of part.AndChain)
 unfolding rows_of
@@ -71,8 +74,10 @@ and_chain_sound = or_row and_row no_row
 
 next_and_row : IsSoundRow part.NextNegation (nth (rows_of part.NextNegation) 0)
 unfolding rows_of
-next_and_row = record { along = λ room last tokens parts goal g before.
-    let made = g.4 before in (made.0, made.1, (begins g.0 g.1 g.2 g.3, made.2), made.3) }
+next_and_row = record {
+  along = λ room last tokens parts goal g before.
+      let made = g.4 before in (made.0, made.1, (begins g.0 g.1 g.2 g.3, made.2), made.3);
+}
 
 pub next_negation_sound : AreSoundRows part.NextNegation (rows_of part.NextNegation)
 unfolding rows_of
@@ -80,11 +85,13 @@ next_negation_sound = or_row next_and_row no_row
 
 or_chain_row : IsSoundRow part.OrChain (nth (rows_of part.OrChain) 0)
 unfolding rows_of
-or_chain_row = record { along = λ room last tokens parts goal g before.
-    let first = g before in
-    let others = first.3 before in
-    let made = disjuncts_made room first.1 others.1 others.2 first.2.0.assertion (λ f m. as_disjunct (first.2.0.canonical f m)) first.2.1 parts parts.assertions in
-    (others.0, others.1, (made.0, made.1), subst (λ q. goal others.0 others.1 q) made.2 others.3) }
+or_chain_row = record {
+  along = λ room last tokens parts goal g before.
+      let first = g before in
+      let others = first.3 before in
+      let made = disjuncts_made room first.1 others.1 others.2 first.2.0.assertion (λ f m. as_disjunct (first.2.0.canonical f m)) first.2.1 parts parts.assertions in
+      (others.0, others.1, (made.0, made.1), subst (λ q. goal others.0 others.1 q) made.2 others.3);
+}
 
 pub or_chain_sound : AreSoundRows part.OrChain (rows_of part.OrChain)
 unfolding rows_of
@@ -92,8 +99,10 @@ or_chain_sound = or_row or_chain_row no_row
 
 next_or_row : IsSoundRow part.NextAndChain (nth (rows_of part.NextAndChain) 0)
 unfolding rows_of
-next_or_row = record { along = λ room last tokens parts goal g before.
-    let made = g.4 before in (made.0, made.1, (begins g.0 g.1 g.2 g.3, made.2.0, made.2.1), made.3) }
+next_or_row = record {
+  along = λ room last tokens parts goal g before.
+      let made = g.4 before in (made.0, made.1, (begins g.0 g.1 g.2 g.3, made.2.0, made.2.1), made.3);
+}
 
 pub next_and_chain_sound : AreSoundRows part.NextAndChain (rows_of part.NextAndChain)
 unfolding rows_of
@@ -101,11 +110,13 @@ next_and_chain_sound = or_row next_or_row no_row
 
 iff_row : IsSoundRow part.Iff (nth (rows_of part.Iff) 0)
 unfolding rows_of
-iff_row = record { along = λ room last tokens parts goal g before.
-    let first = g before in
-    let others = first.3 before in
-    let made = equivalents_made room first.1 others.1 others.2 first.2.0.assertion (λ f m. as_whole (first.2.0.canonical f m)) first.2.1 parts parts.assertions in
-    (others.0, others.1, (made.0, made.1), subst (λ q. goal others.0 others.1 q) made.2 others.3) }
+iff_row = record {
+  along = λ room last tokens parts goal g before.
+      let first = g before in
+      let others = first.3 before in
+      let made = equivalents_made room first.1 others.1 others.2 first.2.0.assertion (λ f m. as_whole (first.2.0.canonical f m)) first.2.1 parts parts.assertions in
+      (others.0, others.1, (made.0, made.1), subst (λ q. goal others.0 others.1 q) made.2 others.3);
+}
 
 pub iff_sound : AreSoundRows part.Iff (rows_of part.Iff)
 unfolding rows_of
@@ -113,8 +124,10 @@ iff_sound = or_row iff_row no_row
 
 next_iff_row : IsSoundRow part.NextImplication (nth (rows_of part.NextImplication) 0)
 unfolding rows_of
-next_iff_row = record { along = λ room last tokens parts goal g before.
-    let made = g.4 before in (made.0, made.1, (begins g.0 g.1 g.2 g.3, made.2.0, made.2.1), made.3) }
+next_iff_row = record {
+  along = λ room last tokens parts goal g before.
+      let made = g.4 before in (made.0, made.1, (begins g.0 g.1 g.2 g.3, made.2.0, made.2.1), made.3);
+}
 
 pub next_implication_sound : AreSoundRows part.NextImplication (rows_of part.NextImplication)
 unfolding rows_of
@@ -130,24 +143,34 @@ implied_canonical room inside end left place right is c f m =
 
 implication_row : IsSoundRow part.Implication (nth (rows_of part.Implication) 0)
 unfolding rows_of
-implication_row = record { along = λ room last tokens parts goal g before.
-    let first = g before in
-    elim (first.3 before) [
-      inl stopped ↦
-        (first.0, first.1,
-        (record { assertion = first.2.0.assertion; canonical = λ f m. as_implication (first.2.0.canonical f m) },
-        record { and = first.2.1.and; or = first.2.1.or; imp = stopped.0 }),
-        stopped.1)
-    | inr implied ↦
-        (implied.0, implied.1,
-        (record {
-          assertion = assertion.Imp first.2.0.assertion implied.2.1.place implied.2.1.right.assertion;
-          canonical = implied_canonical room implied.2.1.inside implied.1 first.2.0.assertion implied.2.1.place implied.2.1.right implied.2.1.opens
-              (first.2.0.canonical true (inr (inl implied.2.0)));
-        },
-        implied.2.2),
-        implied.3)
-    ] }
+implication_row = record {
+  along = λ room last tokens parts goal g before.
+      let first = g before in
+      elim (first.3 before) [
+        | inl stopped ↦ (
+          first.0,
+          first.1,
+          (
+            record { assertion = first.2.0.assertion; canonical = λ f m. as_implication (first.2.0.canonical f m) },
+            record { and = first.2.1.and; or = first.2.1.or; imp = stopped.0 },
+          ),
+          stopped.1,
+        )
+        | inr implied ↦ (
+          implied.0,
+          implied.1,
+          (
+            record {
+              assertion = assertion.Imp first.2.0.assertion implied.2.1.place implied.2.1.right.assertion;
+              canonical = implied_canonical room implied.2.1.inside implied.1 first.2.0.assertion implied.2.1.place implied.2.1.right implied.2.1.opens
+                  (first.2.0.canonical true (inr (inl implied.2.0)));
+            },
+            implied.2.2,
+          ),
+          implied.3,
+        )
+      ];
+}
 
 pub implication_sound : AreSoundRows part.Implication (rows_of part.Implication)
 unfolding rows_of
@@ -155,11 +178,15 @@ implication_sound = or_row implication_row no_row
 
 implied_row : IsSoundRow part.Implied (nth (rows_of part.Implied) 0)
 unfolding rows_of
-implied_row = record { along = λ room last tokens parts goal g before.
-    let right = g.6 before in
-    (right.0, right.1,
-    (begins g.2 g.3 g.4 g.5, record { place = place_of (Some g.2); inside = g.0; opens = g.1; right = right.2.0 }, right.2.1),
-    right.3) }
+implied_row = record {
+  along = λ room last tokens parts goal g before.
+      let right = g.6 before in (
+        right.0,
+        right.1,
+        (begins g.2 g.3 g.4 g.5, record { place = place_of (Some g.2); inside = g.0; opens = g.1; right = right.2.0 }, right.2.1),
+        right.3,
+      );
+}
 
 pub implied_sound : AreSoundRows part.Implied (rows_of part.Implied)
 unfolding rows_of
@@ -169,16 +196,20 @@ implied_sound = or_row implied_row no_row
 
 not_row : IsSoundRow part.Negation (nth (rows_of part.Negation) 0)
 unfolding rows_of
-not_row = record { along = λ room last tokens parts goal g before.
-    let inner = g.6 before in
-    let place : Pos = place_of (Some g.2) in
-    (inner.0, inner.1,
-    record {
-      assertion = assertion.Not place inner.2.assertion;
-      canonical = λ f m.
-          subst (λ n. IsCanonicalAssertion operand f n (assertion.Not place inner.2.assertion)) (sym g.1) (not operand f g.0 place inner.2.assertion (inner.2.canonical f m));
-    },
-    inner.3) }
+not_row = record {
+  along = λ room last tokens parts goal g before.
+      let inner = g.6 before in
+      let place : Pos = place_of (Some g.2) in (
+        inner.0,
+        inner.1,
+        record {
+          assertion = assertion.Not place inner.2.assertion;
+          canonical = λ f m.
+              subst (λ n. IsCanonicalAssertion operand f n (assertion.Not place inner.2.assertion)) (sym g.1) (not operand f g.0 place inner.2.assertion (inner.2.canonical f m));
+        },
+        inner.3,
+      );
+}
 
 -- a quantifier is before no operator
 ends_quantified : (room inside : ℕ) (end : List Token) (a : Assertion) → room ≡ suc inside → EndsIff end → IsCanonicalAssertion operand false (suc inside) a →
@@ -188,35 +219,45 @@ ends_quantified room inside end a is ends c true m = absurd (no_operator ends m)
 
 ex_row : IsSoundRow part.Negation (nth (rows_of part.Negation) 1)
 unfolding rows_of
-ex_row = record { along = λ room last tokens parts goal g before.
-    let made = g.6 before in
-    let place : Pos = place_of (Some g.2) in
-    (made.0, made.1,
-    record {
-      assertion = assertion.Quantified (made.2.0.quantifier (begun quantifier.Ex place)) made.2.0.body;
-      canonical = ends_quantified room g.0 made.1 (assertion.Quantified (made.2.0.quantifier (begun quantifier.Ex place)) made.2.0.body) g.1 made.2.1
-          (made.2.0.canonical quantifier.Ex place);
-    },
-    made.3) }
+ex_row = record {
+  along = λ room last tokens parts goal g before.
+      let made = g.6 before in
+      let place : Pos = place_of (Some g.2) in (
+        made.0,
+        made.1,
+        record {
+          assertion = assertion.Quantified (made.2.0.quantifier (begun quantifier.Ex place)) made.2.0.body;
+          canonical = ends_quantified room g.0 made.1 (assertion.Quantified (made.2.0.quantifier (begun quantifier.Ex place)) made.2.0.body) g.1 made.2.1
+              (made.2.0.canonical quantifier.Ex place);
+        },
+        made.3,
+      );
+}
 
 all_row : IsSoundRow part.Negation (nth (rows_of part.Negation) 2)
 unfolding rows_of
-all_row = record { along = λ room last tokens parts goal g before.
-    let made = g.6 before in
-    let place : Pos = place_of (Some g.2) in
-    (made.0, made.1,
-    record {
-      assertion = assertion.Quantified (made.2.0.quantifier (begun quantifier.All place)) made.2.0.body;
-      canonical = ends_quantified room g.0 made.1 (assertion.Quantified (made.2.0.quantifier (begun quantifier.All place)) made.2.0.body) g.1 made.2.1
-          (made.2.0.canonical quantifier.All place);
-    },
-    made.3) }
+all_row = record {
+  along = λ room last tokens parts goal g before.
+      let made = g.6 before in
+      let place : Pos = place_of (Some g.2) in (
+        made.0,
+        made.1,
+        record {
+          assertion = assertion.Quantified (made.2.0.quantifier (begun quantifier.All place)) made.2.0.body;
+          canonical = ends_quantified room g.0 made.1 (assertion.Quantified (made.2.0.quantifier (begun quantifier.All place)) made.2.0.body) g.1 made.2.1
+              (made.2.0.canonical quantifier.All place);
+        },
+        made.3,
+      );
+}
 
 primary_row : IsSoundRow part.Negation (nth (rows_of part.Negation) 3)
 unfolding rows_of
-primary_row = record { along = λ room last tokens parts goal g before.
-    let made = g before in
-    (made.0, made.1, record { assertion = made.2.assertion; canonical = λ f m. made.2.canonical f }, made.3) }
+primary_row = record {
+  along = λ room last tokens parts goal g before.
+      let made = g before in
+      (made.0, made.1, record { assertion = made.2.assertion; canonical = λ f m. made.2.canonical f }, made.3);
+}
 
 pub negation_sound : AreSoundRows part.Negation (rows_of part.Negation)
 unfolding rows_of
@@ -234,9 +275,11 @@ set_word_sound = or_row set_word_row no_row
 
 next_bound_row : IsSoundRow part.NextBound (nth (rows_of part.NextBound) 0)
 unfolding rows_of
-next_bound_row = record { along = λ room last tokens parts goal g before.
-    let name = g.4 in
-    (Some name.0, name.1, record { name = name_of (Some name.0); free = free_name name.0 name.3 }, name.4) }
+next_bound_row = record {
+  along = λ room last tokens parts goal g before.
+      let name = g.4 in
+      (Some name.0, name.1, record { name = name_of (Some name.0); free = free_name name.0 name.3 }, name.4);
+}
 
 pub next_bound_sound : AreSoundRows part.NextBound (rows_of part.NextBound)
 unfolding rows_of
@@ -252,10 +295,13 @@ bounds_made : (room : ℕ) (start end : List Token) (several : Several program_m
 bounds_made room start end (no_more _ stops) =
     ([], tt, λ q parts below. ap (λ (l : List Name). record parts { quantifiers = record q { names = l } ∷ below }) (sym (append-nil q.names)))
 bounds_made room start end (one_more _ middle _ one others) =
-    let more = bounds_made room middle end others in
-    (one.name ∷ more.0, (one.free, more.1), λ q parts below.
-      more.2 (binding q one.name) parts below ∙
-      ap (λ (l : List Name). record parts { quantifiers = record q { names = l } ∷ below }) (append_assoc q.names (one.name ∷ []) more.0))
+    let more = bounds_made room middle end others in (
+      one.name ∷ more.0,
+      (one.free, more.1),
+      λ q parts below.
+          more.2 (binding q one.name) parts below ∙
+          ap (λ (l : List Name). record parts { quantifiers = record q { names = l } ∷ below }) (append_assoc q.names (one.name ∷ []) more.0),
+    )
 
 abbrev body_row : List ProgramSymbol
 body_row =
@@ -274,39 +320,45 @@ body_made : (room : ℕ) (last : _) (start : List Token) (parts : Parts) (below 
 body_made room last start parts below goal sets x names free frees before bind bound q g =
     let ty = g.4 in
     let ty_name : Name = name_of (Some ty.0) in
-    let body = ty.4.4 before in
-    (body.0, body.1,
-    (record {
-      quantifier = λ q. over (bind q) ty_name;
-      body = body.2.0.assertion;
-      canonical = λ kind place.
-          subst (λ (b : Quantifier). IsCanonicalAssertion operand false (suc room) (assertion.Quantified (over b ty_name) body.2.0.assertion)) (sym (bound kind place))
-          (quantified operand room kind place sets x names ty_name body.2.0.assertion free frees (free_name ty.0 ty.3) (body.2.0.canonical false tt));
-    },
-    body.2.1),
-    body.3)
+    let body = ty.4.4 before in (
+      body.0,
+      body.1,
+      (
+        record {
+          quantifier = λ q. over (bind q) ty_name;
+          body = body.2.0.assertion;
+          canonical = λ kind place.
+              subst (λ (b : Quantifier). IsCanonicalAssertion operand false (suc room) (assertion.Quantified (over b ty_name) body.2.0.assertion)) (sym (bound kind place))
+              (quantified operand room kind place sets x names ty_name body.2.0.assertion free frees (free_name ty.0 ty.3) (body.2.0.canonical false tt));
+        },
+        body.2.1,
+      ),
+      body.3,
+    )
 
 quantified_row : IsSoundRow part.Quantified (nth (rows_of part.Quantified) 0)
 unfolding rows_of
-quantified_row = record { along = λ room last tokens parts goal g before.
-    elim (g tt) [
-      inl cells ↦
-        let first = cells.1 in
-        let x : Name = name_of (Some first.0) in
-        let others = first.4 tt in
-        let made = bounds_made room first.1 others.1 others.2 in
-        body_made room others.0 others.1 parts (rest parts.quantifiers) goal false x made.0 (free_name first.0 first.3) made.1 before
-        (λ q. with_names (binding q x) made.0) (λ kind place. refl) (top quantifierless parts.quantifiers)
-        (subst (λ (p : Parts). Goes program_meaning body_row room others.0 others.1 p goal) (made.2 (binding (top quantifierless parts.quantifiers) x) parts (rest parts.quantifiers)) others.3)
-    | inr sets ↦
-        let first = sets.3 in
-        let x : Name = name_of (Some first.0) in
-        let others = first.4 tt in
-        let made = bounds_made room first.1 others.1 others.2 in
-        body_made room others.0 others.1 parts (rest parts.quantifiers) goal true x made.0 (free_name first.0 first.3) made.1 before
-        (λ q. with_names (binding (of_sets q) x) made.0) (λ kind place. refl) (top quantifierless parts.quantifiers)
-        (subst (λ (p : Parts). Goes program_meaning body_row room others.0 others.1 p goal) (made.2 (binding (of_sets (top quantifierless parts.quantifiers)) x) parts (rest parts.quantifiers)) others.3)
-    ] }
+quantified_row = record {
+  along = λ room last tokens parts goal g before.
+      elim (g tt) [
+        | inl cells ↦
+            let first = cells.1 in
+            let x : Name = name_of (Some first.0) in
+            let others = first.4 tt in
+            let made = bounds_made room first.1 others.1 others.2 in
+            body_made room others.0 others.1 parts (rest parts.quantifiers) goal false x made.0 (free_name first.0 first.3) made.1 before
+            (λ q. with_names (binding q x) made.0) (λ kind place. refl) (top quantifierless parts.quantifiers)
+            (subst (λ (p : Parts). Goes program_meaning body_row room others.0 others.1 p goal) (made.2 (binding (top quantifierless parts.quantifiers) x) parts (rest parts.quantifiers)) others.3)
+        | inr sets ↦
+            let first = sets.3 in
+            let x : Name = name_of (Some first.0) in
+            let others = first.4 tt in
+            let made = bounds_made room first.1 others.1 others.2 in
+            body_made room others.0 others.1 parts (rest parts.quantifiers) goal true x made.0 (free_name first.0 first.3) made.1 before
+            (λ q. with_names (binding (of_sets q) x) made.0) (λ kind place. refl) (top quantifierless parts.quantifiers)
+            (subst (λ (p : Parts). Goes program_meaning body_row room others.0 others.1 p goal) (made.2 (binding (of_sets (top quantifierless parts.quantifiers)) x) parts (rest parts.quantifiers)) others.3)
+      ];
+}
 
 pub quantified_sound : AreSoundRows part.Quantified (rows_of part.Quantified)
 unfolding rows_of
@@ -316,11 +368,13 @@ quantified_sound = or_row quantified_row no_row
 
 bracketed_row : IsSoundRow part.Bracketed (nth (rows_of part.Bracketed) 0)
 unfolding rows_of
-bracketed_row = record { along = λ room last tokens parts goal g before.
-    let made = g.4 before in
-    let close = made.3 in
-    let b : Bracketed = record { place = place_of (Some g.0); assertion = made.2.0.assertion } in
-    (Some close.0, close.1, record { bracketed = b; canonical = made.2.0.canonical false tt }, close.4) }
+bracketed_row = record {
+  along = λ room last tokens parts goal g before.
+      let made = g.4 before in
+      let close = made.3 in
+      let b : Bracketed = record { place = place_of (Some g.0); assertion = made.2.0.assertion } in
+      (Some close.0, close.1, record { bracketed = b; canonical = made.2.0.canonical false tt }, close.4);
+}
 
 pub bracketed_sound : AreSoundRows part.Bracketed (rows_of part.Bracketed)
 unfolding rows_of

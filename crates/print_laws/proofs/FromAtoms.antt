@@ -1,5 +1,5 @@
 -- Assertions without connectives that a reading makes are canonical.
-use Rattle.std.proofs.Common.{◌≡◌, inl, inr, ℕ, suc, Bool, false, List, [], ◌∷◌, ◌++◌, Some, refl, sym, subst}
+use Rattle.std.proofs.Common.{◌≡◌, inl, inr, ℕ, false, List, [], ◌∷◌, ◌++◌, Some, refl, sym, subst}
 use Rattle.pale_text.specs.declared.grammar.part.ProgramPart.TheVariants as part
 use Rattle.pale_text.specs.declared.place.Pos.{Pos}
 use Rattle.pale_text.specs.declared.token.Token.{Token}
@@ -14,10 +14,11 @@ use Rattle.pale_text.specs.MakingParts.{Parts, name_of, place_of}
 use Rattle.pale_text.specs.MakingWords.{path_at, extended}
 use Rattle.pale_text.specs.MakingAssertions.{assertionless, path_alone}
 use Rattle.pale_text.specs.ProgramGrammar.{rows_of}
-use Rattle.print_laws.specs.CanonicalNames.{IsFree, IsFreePath, AreFreePaths}
+use Rattle.print_laws.specs.CanonicalNames.{IsFreePath, AreFreePaths}
 use Rattle.print_laws.specs.CanonicalAssertions.{operand, IsCanonicalAssertion, truth, falsehood, path, same, differ, member, subset, walk, of_variant, use_of}
 use Rattle.print_laws.proofs.FromRows.{Several, no_more, one_more, puts}
-use Rattle.print_laws.proofs.FromMeaning.{program_meaning, FreeName, PathsMade}
+use Rattle.print_laws.proofs.FromMade.{FreeName, PathsMade}
+use Rattle.print_laws.proofs.FromMeaning.{program_meaning}
 use Rattle.print_laws.proofs.FromParts.{IsSoundRow, AreSoundRows, no_row, or_row, nth, free_name}
 use Rattle.print_laws.proofs.FromNames.{extended_free}
 use Rattle.print_laws.proofs.FromAssertionPlaces.{anywhere}
@@ -26,54 +27,68 @@ use Rattle.print_laws.proofs.FromAssertionPlaces.{anywhere}
 
 same_row : IsSoundRow part.Relation (nth (rows_of part.Relation) 0)
 unfolding rows_of
-same_row = record { along = λ room last tokens parts goal g before.
-    let u = g.4 tt in
-    let place : Pos = place_of (Some g.0) in
-    (u.0, u.1, record { of = λ t. assertion.Same t place u.2.term; canonical = λ t free f. same operand f room t place u.2.term free u.2.free }, u.3) }
+same_row = record {
+  along = λ room last tokens parts goal g before.
+      let u = g.4 tt in
+      let place : Pos = place_of (Some g.0) in
+      (u.0, u.1, record { of = λ t. assertion.Same t place u.2.term; canonical = λ t free f. same operand f room t place u.2.term free u.2.free }, u.3);
+}
 
 differ_row : IsSoundRow part.Relation (nth (rows_of part.Relation) 1)
 unfolding rows_of
-differ_row = record { along = λ room last tokens parts goal g before.
-    let u = g.4 tt in
-    let place : Pos = place_of (Some g.0) in
-    (u.0, u.1, record { of = λ t. assertion.Differ t place u.2.term; canonical = λ t free f. differ operand f room t place u.2.term free u.2.free }, u.3) }
+differ_row = record {
+  along = λ room last tokens parts goal g before.
+      let u = g.4 tt in
+      let place : Pos = place_of (Some g.0) in
+      (u.0, u.1, record { of = λ t. assertion.Differ t place u.2.term; canonical = λ t free f. differ operand f room t place u.2.term free u.2.free }, u.3);
+}
 
 member_row : IsSoundRow part.Relation (nth (rows_of part.Relation) 2)
 unfolding rows_of
-member_row = record { along = λ room last tokens parts goal g before.
-    let v = g.4 in
-    let place : Pos = place_of (Some g.0) in
-    let x : Name = name_of (Some v.0) in
-    (Some v.0, v.1, record { of = λ t. assertion.Member t place x; canonical = λ t free f. member operand f room t place x free (free_name v.0 v.3) }, v.4) }
+member_row = record {
+  along = λ room last tokens parts goal g before.
+      let v = g.4 in
+      let place : Pos = place_of (Some g.0) in
+      let x : Name = name_of (Some v.0) in
+      (Some v.0, v.1, record { of = λ t. assertion.Member t place x; canonical = λ t free f. member operand f room t place x free (free_name v.0 v.3) }, v.4);
+}
 
 subset_row : IsSoundRow part.Relation (nth (rows_of part.Relation) 3)
 unfolding rows_of
-subset_row = record { along = λ room last tokens parts goal g before.
-    let v = g.4 in
-    let place : Pos = place_of (Some g.0) in
-    let x : Name = name_of (Some v.0) in
-    (Some v.0, v.1, record { of = λ t. assertion.Subset t place x; canonical = λ t free f. subset operand f room t place x free (free_name v.0 v.3) }, v.4) }
+subset_row = record {
+  along = λ room last tokens parts goal g before.
+      let v = g.4 in
+      let place : Pos = place_of (Some g.0) in
+      let x : Name = name_of (Some v.0) in
+      (Some v.0, v.1, record { of = λ t. assertion.Subset t place x; canonical = λ t free f. subset operand f room t place x free (free_name v.0 v.3) }, v.4);
+}
 
 walk_row : IsSoundRow part.Relation (nth (rows_of part.Relation) 4)
 unfolding rows_of
-walk_row = record { along = λ room last tokens parts goal g before.
-    let r = g.4 tt in
-    let u = r.3.4 tt in
-    let place : Pos = place_of (Some g.0) in
-    (u.0, u.1,
-    record {
-      of = λ t. assertion.Walk t place r.2.route u.2.term;
-      canonical = λ t free f. walk operand f room t place r.2.route u.2.term free r.2.canonical u.2.free;
-    },
-    u.3) }
+walk_row = record {
+  along = λ room last tokens parts goal g before.
+      let r = g.4 tt in
+      let u = r.3.4 tt in
+      let place : Pos = place_of (Some g.0) in (
+        u.0,
+        u.1,
+        record {
+          of = λ t. assertion.Walk t place r.2.route u.2.term;
+          canonical = λ t free f. walk operand f room t place r.2.route u.2.term free r.2.canonical u.2.free;
+        },
+        u.3,
+      );
+}
 
 is_row : IsSoundRow part.Relation (nth (rows_of part.Relation) 5)
 unfolding rows_of
-is_row = record { along = λ room last tokens parts goal g before.
-    let v = g.4 in
-    let place : Pos = place_of (Some g.0) in
-    let x : Name = name_of (Some v.0) in
-    (Some v.0, v.1, record { of = λ t. assertion.Is t place x; canonical = λ t free f. of_variant operand f room t place x free (free_name v.0 v.3) }, v.4) }
+is_row = record {
+  along = λ room last tokens parts goal g before.
+      let v = g.4 in
+      let place : Pos = place_of (Some g.0) in
+      let x : Name = name_of (Some v.0) in
+      (Some v.0, v.1, record { of = λ t. assertion.Is t place x; canonical = λ t free f. of_variant operand f room t place x free (free_name v.0 v.3) }, v.4);
+}
 
 pub relation_sound : AreSoundRows part.Relation (rows_of part.Relation)
 unfolding rows_of
@@ -101,11 +116,13 @@ used_made room start end (one_more _ middle _ one others) ps free parts =
 
 used_row : IsSoundRow part.UsedPaths (nth (rows_of part.UsedPaths) 0)
 unfolding rows_of
-used_row = record { along = λ room last tokens parts goal g before.
-    let first = g tt in
-    let others = first.3 tt in
-    let made = used_made room first.1 others.1 others.2 (parts.used ++ first.2.path ∷ []) (one_more_path parts.used first.2.path before first.2.free) parts in
-    (others.0, others.1, made.0, subst (λ q. goal others.0 others.1 q) made.1 others.3) }
+used_row = record {
+  along = λ room last tokens parts goal g before.
+      let first = g tt in
+      let others = first.3 tt in
+      let made = used_made room first.1 others.1 others.2 (parts.used ++ first.2.path ∷ []) (one_more_path parts.used first.2.path before first.2.free) parts in
+      (others.0, others.1, made.0, subst (λ q. goal others.0 others.1 q) made.1 others.3);
+}
 
 pub used_paths_sound : AreSoundRows part.UsedPaths (rows_of part.UsedPaths)
 unfolding rows_of
@@ -123,9 +140,11 @@ next_used_path_sound = or_row next_used_row no_row
 
 step_row : IsSoundRow part.PathAloneStep (nth (rows_of part.PathAloneStep) 0)
 unfolding rows_of
-step_row = record { along = λ room last tokens parts goal g before.
-    let name = g.4 in
-    (Some name.0, name.1, record { name = name_of (Some name.0); free = free_name name.0 name.3 }, name.4) }
+step_row = record {
+  along = λ room last tokens parts goal g before.
+      let name = g.4 in
+      (Some name.0, name.1, record { name = name_of (Some name.0); free = free_name name.0 name.3 }, name.4);
+}
 
 pub path_alone_step_sound : AreSoundRows part.PathAloneStep (rows_of part.PathAloneStep)
 unfolding rows_of
@@ -156,57 +175,71 @@ no_paths parts is = subst (λ ps. AreFreePaths ps) (sym is) tt
 
 use_row : IsSoundRow part.NameRest (nth (rows_of part.NameRest) 0)
 unfolding rows_of
-use_row = record { along = λ room last tokens parts goal g before.
-    elim (g.4 (no_paths parts before)) [
-      inl none ↦
-        let close = none.1 in
-        (Some close.0, close.1,
-        record { of = λ p. assertion.Use p.base parts.used; canonical = λ p free f. use_of operand f room p.base parts.used free.base (no_paths parts before) },
-        subst (λ u. goal (Some close.0) close.1
-          (record parts { assertions = assertion.Use (path_alone (top assertionless parts.assertions)).base parts.used ∷ rest parts.assertions; used = u }))
-          (sym before) close.4)
-    | inr some ↦
-        let close = some.3 in
-        (Some close.0, close.1,
-        record { of = λ p. assertion.Use p.base some.2.paths; canonical = λ p free f. use_of operand f room p.base some.2.paths free.base some.2.free },
-        subst (λ u. goal (Some close.0) close.1
-          (record parts { assertions = assertion.Use (path_alone (top assertionless parts.assertions)).base some.2.paths ∷ rest parts.assertions; used = u }))
-          (sym before) close.4)
-    ] }
+use_row = record {
+  along = λ room last tokens parts goal g before.
+      elim (g.4 (no_paths parts before)) [
+        | inl none ↦
+            let close = none.1 in (
+              Some close.0,
+              close.1,
+              record { of = λ p. assertion.Use p.base parts.used; canonical = λ p free f. use_of operand f room p.base parts.used free.base (no_paths parts before) },
+              subst (λ u. goal (Some close.0) close.1
+                  (record parts { assertions = assertion.Use (path_alone (top assertionless parts.assertions)).base parts.used ∷ rest parts.assertions; used = u }))
+                  (sym before) close.4,
+            )
+        | inr some ↦
+            let close = some.3 in (
+              Some close.0,
+              close.1,
+              record { of = λ p. assertion.Use p.base some.2.paths; canonical = λ p free f. use_of operand f room p.base some.2.paths free.base some.2.free },
+              subst (λ u. goal (Some close.0) close.1
+                  (record parts { assertions = assertion.Use (path_alone (top assertionless parts.assertions)).base some.2.paths ∷ rest parts.assertions; used = u }))
+                  (sym before) close.4,
+            )
+      ];
+}
 
 longer_row : IsSoundRow part.NameRest (nth (rows_of part.NameRest) 1)
 unfolding rows_of roll-Assertion roll out-Assertion out
-longer_row = record { along = λ room last tokens parts goal g before.
-    let first = g tt in
-    let others = first.3 tt in
-    let made = steps_made room first.1 others.1 others.2 in
-    let alone : Path = path_alone (top assertionless parts.assertions) in
-    let e = made.1 (extended alone first.2.name) parts (rest parts.assertions) in
-    elim (others.3 tt) [
-      inl stopped ↦
-        (others.0, others.1,
-        record {
-          of = λ p. assertion.Truth (extended_by (extended p first.2.name) made.0);
-          canonical = λ p free f. path operand f room (extended_by (extended p first.2.name) made.0)
-              (extended_by_free (extended p first.2.name) made.0 (extended_free p first.2.name free first.2.free));
-        },
-        subst (λ q. goal others.0 others.1 q) e stopped.1)
-    | inr related ↦
-        (related.0, related.1,
-        record {
-          of = λ p. related.2.of (tree_term.Path (extended_by (extended p first.2.name) made.0));
-          canonical = λ p free f. related.2.canonical (tree_term.Path (extended_by (extended p first.2.name) made.0))
-              (extended_by_free (extended p first.2.name) made.0 (extended_free p first.2.name free first.2.free)) f;
-        },
-        subst (λ (q : Parts). goal related.0 related.1
-            (record q { assertions = related.2.of (tree_term.Path (path_alone (top assertionless q.assertions))) ∷ rest q.assertions })) e related.3)
-    ] }
+longer_row = record {
+  along = λ room last tokens parts goal g before.
+      let first = g tt in
+      let others = first.3 tt in
+      let made = steps_made room first.1 others.1 others.2 in
+      let alone : Path = path_alone (top assertionless parts.assertions) in
+      let e = made.1 (extended alone first.2.name) parts (rest parts.assertions) in
+      elim (others.3 tt) [
+        | inl stopped ↦ (
+          others.0,
+          others.1,
+          record {
+            of = λ p. assertion.Truth (extended_by (extended p first.2.name) made.0);
+            canonical = λ p free f. path operand f room (extended_by (extended p first.2.name) made.0)
+                (extended_by_free (extended p first.2.name) made.0 (extended_free p first.2.name free first.2.free));
+          },
+          subst (λ q. goal others.0 others.1 q) e stopped.1,
+        )
+        | inr related ↦ (
+          related.0,
+          related.1,
+          record {
+            of = λ p. related.2.of (tree_term.Path (extended_by (extended p first.2.name) made.0));
+            canonical = λ p free f. related.2.canonical (tree_term.Path (extended_by (extended p first.2.name) made.0))
+                (extended_by_free (extended p first.2.name) made.0 (extended_free p first.2.name free first.2.free)) f;
+          },
+          subst (λ (q : Parts). goal related.0 related.1
+              (record q { assertions = related.2.of (tree_term.Path (path_alone (top assertionless q.assertions))) ∷ rest q.assertions })) e related.3,
+        )
+      ];
+}
 
 related_row : IsSoundRow part.NameRest (nth (rows_of part.NameRest) 2)
 unfolding rows_of
-related_row = record { along = λ room last tokens parts goal g before.
-    let made = g tt in
-    (made.0, made.1, record { of = λ p. made.2.of (tree_term.Path p); canonical = λ p free f. made.2.canonical (tree_term.Path p) free f }, made.3) }
+related_row = record {
+  along = λ room last tokens parts goal g before.
+      let made = g tt in
+      (made.0, made.1, record { of = λ p. made.2.of (tree_term.Path p); canonical = λ p free f. made.2.canonical (tree_term.Path p) free f }, made.3);
+}
 
 pub name_rest_sound : AreSoundRows part.NameRest (rows_of part.NameRest)
 unfolding rows_of
@@ -216,15 +249,19 @@ name_rest_sound = or_row use_row (or_row longer_row (or_row related_row no_row))
 
 group_row : IsSoundRow part.Primary (nth (rows_of part.Primary) 0)
 unfolding rows_of
-group_row = record { along = λ room last tokens parts goal g before.
-    let inner = g.6 before in
-    let close = inner.3 in
-    (Some close.0, close.1,
-    record {
-      assertion = inner.2.0.assertion;
-      canonical = λ f. subst (λ n. IsCanonicalAssertion operand f n inner.2.0.assertion) (sym g.1) (anywhere operand f (inner.2.0.canonical false tt));
-    },
-    close.4) }
+group_row = record {
+  along = λ room last tokens parts goal g before.
+      let inner = g.6 before in
+      let close = inner.3 in (
+        Some close.0,
+        close.1,
+        record {
+          assertion = inner.2.0.assertion;
+          canonical = λ f. subst (λ n. IsCanonicalAssertion operand f n inner.2.0.assertion) (sym g.1) (anywhere operand f (inner.2.0.canonical false tt));
+        },
+        close.4,
+      );
+}
 
 true_row : IsSoundRow part.Primary (nth (rows_of part.Primary) 1)
 unfolding rows_of
@@ -232,27 +269,35 @@ true_row = record { along = λ room last tokens parts goal g before. (Some g.0, 
 
 false_row : IsSoundRow part.Primary (nth (rows_of part.Primary) 2)
 unfolding rows_of
-false_row = record { along = λ room last tokens parts goal g before.
-    (Some g.0, g.1, record { assertion = assertion.False; canonical = λ f. falsehood operand f room }, g.4) }
+false_row = record {
+  along = λ room last tokens parts goal g before.
+      (Some g.0, g.1, record { assertion = assertion.False; canonical = λ f. falsehood operand f room }, g.4);
+}
 
 null_row : IsSoundRow part.Primary (nth (rows_of part.Primary) 3)
 unfolding rows_of
-null_row = record { along = λ room last tokens parts goal g before.
-    let related = g.4 tt in
-    let place : Pos = place_of (Some g.0) in
-    (related.0, related.1,
-    record { assertion = related.2.of (tree_term.Null place); canonical = λ f. related.2.canonical (tree_term.Null place) tt f },
-    related.3) }
+null_row = record {
+  along = λ room last tokens parts goal g before.
+      let related = g.4 tt in
+      let place : Pos = place_of (Some g.0) in (
+        related.0,
+        related.1,
+        record { assertion = related.2.of (tree_term.Null place); canonical = λ f. related.2.canonical (tree_term.Null place) tt f },
+        related.3,
+      );
+}
 
 name_row : IsSoundRow part.Primary (nth (rows_of part.Primary) 4)
 unfolding rows_of roll-Assertion roll out-Assertion out
-name_row = record { along = λ room last tokens parts goal g before.
-    let x : Name = name_of (Some g.0) in
-    let free : IsFreePath (path_at x) = record { base = free_name g.0 g.3; fields = tt } in
-    elim (g.4 before) [
-      inl stopped ↦ (Some g.0, g.1, record { assertion = assertion.Truth (path_at x); canonical = λ f. path operand f room (path_at x) free }, stopped.1)
-    | inr more ↦ (more.0, more.1, record { assertion = more.2.of (path_at x); canonical = λ f. more.2.canonical (path_at x) free f }, more.3)
-    ] }
+name_row = record {
+  along = λ room last tokens parts goal g before.
+      let x : Name = name_of (Some g.0) in
+      let free : IsFreePath (path_at x) = record { base = free_name g.0 g.3; fields = tt } in
+      elim (g.4 before) [
+        | inl stopped ↦ (Some g.0, g.1, record { assertion = assertion.Truth (path_at x); canonical = λ f. path operand f room (path_at x) free }, stopped.1)
+        | inr more ↦ (more.0, more.1, record { assertion = more.2.of (path_at x); canonical = λ f. more.2.canonical (path_at x) free f }, more.3)
+      ];
+}
 
 pub primary_sound : AreSoundRows part.Primary (rows_of part.Primary)
 unfolding rows_of

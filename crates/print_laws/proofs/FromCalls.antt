@@ -1,5 +1,5 @@
 -- Values, arguments and calls that a reading makes are canonical.
-use Rattle.std.proofs.Common.{◌≡◌, ◌⊎◌, inl, inr, ℕ, suc, Bool, true, false, List, [], ◌∷◌, ◌++◌, Option, None, Some, refl, sym, ap, ◌∙◌, subst, append_assoc, append-nil}
+use Rattle.std.proofs.Common.{◌≡◌, inl, inr, ℕ, true, false, List, [], ◌∷◌, ◌++◌, Option, None, Some, refl, sym, ap, ◌∙◌, subst, append_assoc, append-nil}
 use Rattle.grammar_engine.specs.declared.symbol.Symbol.TheVariants.{Read, Once, Maybe}
 use Rattle.pale_text.specs.declared.grammar.kind.ProgramKind.TheVariants as kind
 use Rattle.pale_text.specs.declared.grammar.part.ProgramPart.TheVariants as part
@@ -15,33 +15,42 @@ use Rattle.piles.specs.Piles.{top, rest}
 use Rattle.pale_text.specs.Making.{first_of}
 use Rattle.pale_text.specs.MakingParts.{Parts, nameless, name_of, place_of}
 use Rattle.pale_text.specs.ProgramGrammar.{ProgramSymbol, rows_of, reads, push_name}
-use Rattle.print_laws.specs.CanonicalNames.{IsFree, AreFree}
+use Rattle.print_laws.specs.CanonicalNames.{AreFree}
 use Rattle.print_laws.specs.CanonicalStatements.{IsFreeArgument, AreFreeArguments, IsCanonicalClause}
 use Rattle.print_laws.proofs.FromRows.{Several, no_more, one_more, puts, Goal, Goes}
-use Rattle.print_laws.proofs.FromMeaning.{program_meaning, ArgumentsMade, GivenMade, NoArguments}
+use Rattle.print_laws.proofs.FromMade.{ArgumentsMade, GivenMade}
+use Rattle.print_laws.proofs.FromMeaning.{program_meaning}
 use Rattle.print_laws.proofs.FromParts.{IsSoundRow, AreSoundRows, no_row, or_row, nth, free_name}
 
 -- ---- arguments
 
 name_row : IsSoundRow part.Argument (nth (rows_of part.Argument) 0)
 unfolding rows_of
-name_row = record { along = λ room last tokens parts goal g before.
-    (Some g.0, g.1, record { argument = argument.Name (name_of (Some g.0)); free = free_name g.0 g.3 }, g.4) }
+name_row = record {
+  along = λ room last tokens parts goal g before.
+      (Some g.0, g.1, record { argument = argument.Name (name_of (Some g.0)); free = free_name g.0 g.3 }, g.4);
+}
 
 null_row : IsSoundRow part.Argument (nth (rows_of part.Argument) 1)
 unfolding rows_of
-null_row = record { along = λ room last tokens parts goal g before.
-    (Some g.0, g.1, record { argument = argument.Null (place_of (Some g.0)); free = tt }, g.4) }
+null_row = record {
+  along = λ room last tokens parts goal g before.
+      (Some g.0, g.1, record { argument = argument.Null (place_of (Some g.0)); free = tt }, g.4);
+}
 
 true_row : IsSoundRow part.Argument (nth (rows_of part.Argument) 2)
 unfolding rows_of
-true_row = record { along = λ room last tokens parts goal g before.
-    (Some g.0, g.1, record { argument = argument.Truth (place_of (Some g.0)) true; free = tt }, g.4) }
+true_row = record {
+  along = λ room last tokens parts goal g before.
+      (Some g.0, g.1, record { argument = argument.Truth (place_of (Some g.0)) true; free = tt }, g.4);
+}
 
 false_row : IsSoundRow part.Argument (nth (rows_of part.Argument) 3)
 unfolding rows_of
-false_row = record { along = λ room last tokens parts goal g before.
-    (Some g.0, g.1, record { argument = argument.Truth (place_of (Some g.0)) false; free = tt }, g.4) }
+false_row = record {
+  along = λ room last tokens parts goal g before.
+      (Some g.0, g.1, record { argument = argument.Truth (place_of (Some g.0)) false; free = tt }, g.4);
+}
 
 pub argument_sound : AreSoundRows part.Argument (rows_of part.Argument)
 unfolding rows_of
@@ -67,11 +76,13 @@ arguments_made room start end (one_more _ middle _ one others) xs free parts =
 
 argued_row : IsSoundRow part.Argued (nth (rows_of part.Argued) 0)
 unfolding rows_of
-argued_row = record { along = λ room last tokens parts goal g before.
-    let first = g tt in
-    let others = first.3 tt in
-    let made = arguments_made room first.1 others.1 others.2 (parts.arguments ++ first.2.argument ∷ []) (one_more_argument parts.arguments first.2.argument before first.2.free) parts in
-    (others.0, others.1, made.0, subst (λ q. goal others.0 others.1 q) made.1 others.3) }
+argued_row = record {
+  along = λ room last tokens parts goal g before.
+      let first = g tt in
+      let others = first.3 tt in
+      let made = arguments_made room first.1 others.1 others.2 (parts.arguments ++ first.2.argument ∷ []) (one_more_argument parts.arguments first.2.argument before first.2.free) parts in
+      (others.0, others.1, made.0, subst (λ q. goal others.0 others.1 q) made.1 others.3);
+}
 
 pub argued_sound : AreSoundRows part.Argued (rows_of part.Argued)
 unfolding rows_of
@@ -79,11 +90,13 @@ argued_sound = or_row argued_row no_row
 
 logic_row : IsSoundRow part.LogicArguments (nth (rows_of part.LogicArguments) 0)
 unfolding rows_of
-logic_row = record { along = λ room last tokens parts goal g before.
-    let first = g.4 tt in
-    let others = first.3 tt in
-    let made = arguments_made room first.1 others.1 others.2 (parts.arguments ++ first.2.argument ∷ []) (one_more_argument parts.arguments first.2.argument before first.2.free) parts in
-    (others.0, others.1, made.0, subst (λ q. goal others.0 others.1 q) made.1 others.3) }
+logic_row = record {
+  along = λ room last tokens parts goal g before.
+      let first = g.4 tt in
+      let others = first.3 tt in
+      let made = arguments_made room first.1 others.1 others.2 (parts.arguments ++ first.2.argument ∷ []) (one_more_argument parts.arguments first.2.argument before first.2.free) parts in
+      (others.0, others.1, made.0, subst (λ q. goal others.0 others.1 q) made.1 others.3);
+}
 
 pub logic_arguments_sound : AreSoundRows part.LogicArguments (rows_of part.LogicArguments)
 unfolding rows_of
@@ -111,8 +124,9 @@ keep_made : (room : ℕ) (last : Option Token) (tokens : List Token) (parts : Pa
 unfolding GivenAt
 keep_made room last tokens parts goal given logics free free_too used keep g =
     elim (g.4 used) [
-      inl none ↦
-        (Some g.0, g.1,
+      | inl none ↦ (
+        Some g.0,
+        g.1,
         record {
           given = given;
           given_free = free;
@@ -121,9 +135,11 @@ keep_made room last tokens parts goal given logics free free_too used keep g =
           keep = parts.keep;
           keep_canonical = subst (λ (k : Option Bracketed). IsCanonicalClause room k) (sym keep) tt;
         },
-        none.1)
-    | inr some ↦
-        (some.0, some.1,
+        none.1,
+      )
+      | inr some ↦ (
+        some.0,
+        some.1,
         record {
           given = given;
           given_free = free;
@@ -132,7 +148,8 @@ keep_made room last tokens parts goal given logics free free_too used keep g =
           keep = Some some.2.bracketed;
           keep_canonical = some.2.canonical;
         },
-        some.3)
+        some.3,
+      )
     ]
 
 logics_made : (room : ℕ) (last : Option Token) (tokens : List Token) (parts : Parts) (goal : Goal) (given : List Argument) → AreFreeArguments given →
@@ -140,8 +157,8 @@ logics_made : (room : ℕ) (last : Option Token) (tokens : List Token) (parts : 
     GivenAt room parts goal
 logics_made room last tokens parts goal given free used keep g =
     elim (g tt) [
-      inl none ↦ keep_made room last tokens parts goal given [] free tt used keep none.1
-    | inr some ↦ keep_made room some.0 some.1 parts goal given some.2.arguments free some.2.free used keep some.3
+      | inl none ↦ keep_made room last tokens parts goal given [] free tt used keep none.1
+      | inr some ↦ keep_made room some.0 some.1 parts goal given some.2.arguments free some.2.free used keep some.3
     ]
 
 no_arguments : (parts : Parts) → parts.arguments ≡ [] → AreFreeArguments parts.arguments
@@ -149,11 +166,13 @@ no_arguments parts is = subst (λ xs. AreFreeArguments xs) (sym is) tt
 
 given_row : IsSoundRow part.Arguments (nth (rows_of part.Arguments) 0)
 unfolding rows_of GivenAt
-given_row = record { along = λ room last tokens parts goal g before.
-    elim (g (no_arguments parts before.1)) [
-      inl none ↦ logics_made room last tokens parts goal parts.arguments (no_arguments parts before.1) before.0 before.2 none.1
-    | inr some ↦ logics_made room some.0 some.1 parts goal some.2.arguments some.2.free before.0 before.2 some.3
-    ] }
+given_row = record {
+  along = λ room last tokens parts goal g before.
+      elim (g (no_arguments parts before.1)) [
+        | inl none ↦ logics_made room last tokens parts goal parts.arguments (no_arguments parts before.1) before.0 before.2 none.1
+        | inr some ↦ logics_made room some.0 some.1 parts goal some.2.arguments some.2.free before.0 before.2 some.3
+      ];
+}
 
 pub arguments_sound : AreSoundRows part.Arguments (rows_of part.Arguments)
 unfolding rows_of
@@ -163,9 +182,11 @@ arguments_sound = or_row given_row no_row
 
 next_result_row : IsSoundRow part.NextResult (nth (rows_of part.NextResult) 0)
 unfolding rows_of
-next_result_row = record { along = λ room last tokens parts goal g before.
-    let name = g.4 in
-    (Some name.0, name.1, record { name = name_of (Some name.0); free = free_name name.0 name.3 }, name.4) }
+next_result_row = record {
+  along = λ room last tokens parts goal g before.
+      let name = g.4 in
+      (Some name.0, name.1, record { name = name_of (Some name.0); free = free_name name.0 name.3 }, name.4);
+}
 
 pub next_result_sound : AreSoundRows part.NextResult (rows_of part.NextResult)
 unfolding rows_of
@@ -176,36 +197,45 @@ results_made : (room : ℕ) (start end : List Token) (several : Several program_
     puts program_meaning part.NextResult room start end several (record parts { call_results = xs }) ≡ record parts { call_results = xs ++ names })
 results_made room start end (no_more _ stops) = ([], tt, λ xs parts. ap (λ (l : List Name). record parts { call_results = l }) (sym (append-nil xs)))
 results_made room start end (one_more _ middle _ one others) =
-    let more = results_made room middle end others in
-    (one.name ∷ more.0, (one.free, more.1), λ xs parts.
-      more.2 (xs ++ one.name ∷ []) parts ∙ ap (λ (l : List Name). record parts { call_results = l }) (append_assoc xs (one.name ∷ []) more.0))
+    let more = results_made room middle end others in (
+      one.name ∷ more.0,
+      (one.free, more.1),
+      λ xs parts.
+          more.2 (xs ++ one.name ∷ []) parts ∙ ap (λ (l : List Name). record parts { call_results = l }) (append_assoc xs (one.name ∷ []) more.0),
+    )
 
 no_results_row : IsSoundRow part.CallRest (nth (rows_of part.CallRest) 0)
 unfolding rows_of
-no_results_row = record { along = λ room last tokens parts goal g before.
-    let made = g.4 before in
-    (made.0, made.1, record { results = inl tt; given = made.2 }, made.3) }
+no_results_row = record {
+  along = λ room last tokens parts goal g before.
+      let made = g.4 before in
+      (made.0, made.1, record { results = inl tt; given = made.2 }, made.3);
+}
 
 abbrev callee_row : List ProgramSymbol
 callee_row = reads mark.Equals ∷ Read kind.Name ∷ push_name ∷ reads mark.LeftParen ∷ Once part.Arguments ∷ []
 
 results_row : IsSoundRow part.CallRest (nth (rows_of part.CallRest) 1)
 unfolding rows_of
-results_row = record { along = λ room last tokens parts goal g before.
-    let others = g tt in
-    let made = results_made room tokens others.1 others.2 in
-    let h : Goes program_meaning callee_row room others.0 others.1
-          (record parts { call_results = (parts.call_results ++ top nameless parts.names ∷ []) ++ made.0; names = rest parts.names }) goal =
-        subst (λ (p : Parts). Goes program_meaning callee_row room others.0 others.1 p goal)
-          (made.2 (parts.call_results ++ top nameless parts.names ∷ []) (record parts { names = rest parts.names })) others.3 in
-    let callee = h.4 in
-    let given = callee.4.4 before in
-    (given.0, given.1,
-    record {
-      results = inr (record { more = made.0; more_free = made.1; callee = record { name = name_of (Some callee.0); free = free_name callee.0 callee.3 } });
-      given = given.2;
-    },
-    given.3) }
+results_row = record {
+  along = λ room last tokens parts goal g before.
+      let others = g tt in
+      let made = results_made room tokens others.1 others.2 in
+      let h : Goes program_meaning callee_row room others.0 others.1
+      (record parts { call_results = (parts.call_results ++ top nameless parts.names ∷ []) ++ made.0; names = rest parts.names }) goal =
+      subst (λ (p : Parts). Goes program_meaning callee_row room others.0 others.1 p goal)
+      (made.2 (parts.call_results ++ top nameless parts.names ∷ []) (record parts { names = rest parts.names })) others.3 in
+      let callee = h.4 in
+      let given = callee.4.4 before in (
+        given.0,
+        given.1,
+        record {
+          results = inr (record { more = made.0; more_free = made.1; callee = record { name = name_of (Some callee.0); free = free_name callee.0 callee.3 } });
+          given = given.2;
+        },
+        given.3,
+      );
+}
 
 pub call_rest_sound : AreSoundRows part.CallRest (rows_of part.CallRest)
 unfolding rows_of
@@ -215,20 +245,24 @@ call_rest_sound = or_row no_results_row (or_row results_row no_row)
 
 new_row : IsSoundRow part.Value (nth (rows_of part.Value) 0)
 unfolding rows_of
-new_row = record { along = λ room last tokens parts goal g before.
-    let ty = g.4 in
-    let place : Pos = place_of (Some g.0) in
-    let x : Name = name_of (Some ty.0) in
-    elim (ty.4 tt) [
-      inl none ↦ (Some ty.0, ty.1, record { value = value.New place x None; canonical = (free_name ty.0 ty.3, tt) }, none.1)
-    | inr some ↦ (some.0, some.1, record { value = value.New place x (Some some.2.name); canonical = (free_name ty.0 ty.3, some.2.free) }, some.3)
-    ] }
+new_row = record {
+  along = λ room last tokens parts goal g before.
+      let ty = g.4 in
+      let place : Pos = place_of (Some g.0) in
+      let x : Name = name_of (Some ty.0) in
+      elim (ty.4 tt) [
+        | inl none ↦ (Some ty.0, ty.1, record { value = value.New place x None; canonical = (free_name ty.0 ty.3, tt) }, none.1)
+        | inr some ↦ (some.0, some.1, record { value = value.New place x (Some some.2.name); canonical = (free_name ty.0 ty.3, some.2.free) }, some.3)
+      ];
+}
 
 condition_row : IsSoundRow part.Value (nth (rows_of part.Value) 1)
 unfolding rows_of
-condition_row = record { along = λ room last tokens parts goal g before.
-    let c = g tt in
-    (c.0, c.1, record { value = value.Condition (place_of (first_of tokens)) c.2.condition; canonical = c.2.canonical }, c.3) }
+condition_row = record {
+  along = λ room last tokens parts goal g before.
+      let c = g tt in
+      (c.0, c.1, record { value = value.Condition (place_of (first_of tokens)) c.2.condition; canonical = c.2.canonical }, c.3);
+}
 
 pub value_sound : AreSoundRows part.Value (rows_of part.Value)
 unfolding rows_of
@@ -236,9 +270,11 @@ value_sound = or_row new_row (or_row condition_row no_row)
 
 new_variant_row : IsSoundRow part.NewVariant (nth (rows_of part.NewVariant) 0)
 unfolding rows_of
-new_variant_row = record { along = λ room last tokens parts goal g before.
-    let name = g.4 in
-    (Some name.0, name.1, record { name = name_of (Some name.0); free = free_name name.0 name.3 }, name.4) }
+new_variant_row = record {
+  along = λ room last tokens parts goal g before.
+      let name = g.4 in
+      (Some name.0, name.1, record { name = name_of (Some name.0); free = free_name name.0 name.3 }, name.4);
+}
 
 pub new_variant_sound : AreSoundRows part.NewVariant (rows_of part.NewVariant)
 unfolding rows_of

@@ -1,6 +1,5 @@
 -- Where a canonical condition may stand as well, with more room or in parentheses; and chains of conditions that grow at their end.
-use Rattle.std.proofs.Common.{◌≡◌, ℕ, suc, nat_lt, Bool, true, false, List, [], ◌∷◌, ◌++◌, refl, sym, subst}
-use Rattle.pale_text.specs.declared.place.Pos.{Pos}
+use Rattle.std.proofs.Common.{◌≡◌, ℕ, suc, nat_lt, true, false, List, [], ◌∷◌, ◌++◌, refl, sym, subst}
 use Rattle.pale_text.specs.declared.token.Mark.TheVariants as mark
 use Rattle.pale_text.specs.declared.token.TokenKind.{TokenKind}
 use Rattle.pale_text.specs.declared.tree.condition.Condition.{Condition, out-Condition, roll-Condition, out-roll-Condition}
@@ -13,6 +12,7 @@ use Rattle.pale_print.specs.Tokens.{◌>>◌, sign}
 use Rattle.pale_print.specs.RouteTokens.{Placed}
 use Rattle.pale_print.specs.ConditionTokens.{condition_node, condition_tokens}
 use Rattle.print_laws.specs.CanonicalConditions.{ConditionPlace, whole, conjunction, literal, asks, is_and_node, is_or_node, IsGrouped, IsCanonicalCondition, truth, falsehood, term, same, differ, of_variant, not, and, or, group, AreCanonicalConditions, last, more}
+use Rattle.print_laws.proofs.FromLevels.{Wider, alike, wider}
 
 -- ---- parentheses
 
@@ -21,8 +21,8 @@ node_grouped : (p : ConditionPlace) (x : Condition-F Condition) →
     (sign mark.LeftParen >> condition_node (map-Condition Condition Placed condition_tokens x) 0 >> sign mark.RightParen >> after)) →
     IsGrouped p (roll-Condition x)
 unfolding condition_tokens
-node_grouped p x alike after =
-    subst (λ (t : Placed). t (asks p) after ≡ (sign mark.LeftParen >> t 0 >> sign mark.RightParen >> after)) (sym (fold-roll-Condition Placed condition_node x)) (alike after)
+node_grouped p x agrees after =
+    subst (λ (t : Placed). t (asks p) after ≡ (sign mark.LeftParen >> t 0 >> sign mark.RightParen >> after)) (sym (fold-roll-Condition Placed condition_node x)) (agrees after)
 
 or_grouped : (p : ConditionPlace) (first : Condition) (others : List Condition) → nat_lt 0 (asks p) ≡ true → IsGrouped p (condition.Or first others)
 unfolding roll-Condition roll
@@ -54,11 +54,6 @@ mutual
   pub roomier_all : {p : ConditionPlace} {room : ℕ} {cs : List Condition} → AreCanonicalConditions p room cs → AreCanonicalConditions p (suc room) cs
   roomier_all (last p room x c) = last p (suc room) x (roomier c)
   roomier_all (more p room x others c cs) = more p (suc room) x others (roomier c) (roomier_all cs)
-
--- one number of levels, and one that is as much or more
-data Wider : ℕ → ℕ → Type 0 where
-  alike : (n : ℕ) → Wider n n
-  wider : {n m : ℕ} → Wider (suc n) m → Wider n m
 
 widened : {n m : ℕ} → Wider n m → {p : ConditionPlace} {x : Condition} → IsCanonicalCondition p n x → IsCanonicalCondition p m x
 widened (alike n) c = c

@@ -12,7 +12,8 @@ use Rattle.pale_text.specs.ProgramGrammar.{rows_of}
 use Rattle.print_laws.specs.CanonicalNames.{IsFree, AreFree, IsFreePath}
 use Rattle.print_laws.proofs.NameSizes.{path_size, extended_size, one_less}
 use Rattle.print_laws.proofs.FromRows.{Several, no_more, one_more, puts}
-use Rattle.print_laws.proofs.FromMeaning.{program_meaning, PathMade, TermMade}
+use Rattle.print_laws.proofs.FromMade.{PathMade}
+use Rattle.print_laws.proofs.FromMeaning.{program_meaning}
 use Rattle.print_laws.proofs.FromParts.{IsSoundRow, AreSoundRows, no_row, or_row, nth, free_name}
 
 pub one_more_free : (xs : List Name) (x : Name) → AreFree xs → IsFree x → AreFree (xs ++ x ∷ [])
@@ -34,11 +35,13 @@ steps_made room start end (one_more _ middle _ one others) p free first short pa
 
 path_row : IsSoundRow part.Path (nth (rows_of part.Path) 0)
 unfolding rows_of
-path_row = record { along = λ room last tokens parts goal g before.
-    let more = g.4 tt in
-    let x : Name = name_of (Some g.0) in
-    let steps = steps_made room g.1 more.1 more.2 (path_at x) (record { base = free_name g.0 g.3; fields = tt }) tokens (omega (arith, one_less g.2)) parts parts.paths in
-    (more.0, more.1, steps.0, subst (λ q. goal more.0 more.1 q) steps.1 more.3) }
+path_row = record {
+  along = λ room last tokens parts goal g before.
+      let more = g.4 tt in
+      let x : Name = name_of (Some g.0) in
+      let steps = steps_made room g.1 more.1 more.2 (path_at x) (record { base = free_name g.0 g.3; fields = tt }) tokens (omega (arith, one_less g.2)) parts parts.paths in
+      (more.0, more.1, steps.0, subst (λ q. goal more.0 more.1 q) steps.1 more.3);
+}
 
 pub path_sound : AreSoundRows part.Path (rows_of part.Path)
 unfolding rows_of
@@ -46,9 +49,11 @@ path_sound = or_row path_row no_row
 
 step_row : IsSoundRow part.PathStep (nth (rows_of part.PathStep) 0)
 unfolding rows_of
-step_row = record { along = λ room last tokens parts goal g before.
-    let name = g.4 in
-    (Some name.0, name.1, record { name = name_of (Some name.0); free = free_name name.0 name.3; short = omega (arith, one_less g.2, one_less name.2) }, name.4) }
+step_row = record {
+  along = λ room last tokens parts goal g before.
+      let name = g.4 in
+      (Some name.0, name.1, record { name = name_of (Some name.0); free = free_name name.0 name.3; short = omega (arith, one_less g.2, one_less name.2) }, name.4);
+}
 
 pub path_step_sound : AreSoundRows part.PathStep (rows_of part.PathStep)
 unfolding rows_of
@@ -56,14 +61,18 @@ path_step_sound = or_row step_row no_row
 
 null_row : IsSoundRow part.Term (nth (rows_of part.Term) 0)
 unfolding rows_of
-null_row = record { along = λ room last tokens parts goal g before.
-    (Some g.0, g.1, record { term = term.Null (place_of (Some g.0)); free = tt; short = omega (arith, one_less g.2) }, g.4) }
+null_row = record {
+  along = λ room last tokens parts goal g before.
+      (Some g.0, g.1, record { term = term.Null (place_of (Some g.0)); free = tt; short = omega (arith, one_less g.2) }, g.4);
+}
 
 path_term_row : IsSoundRow part.Term (nth (rows_of part.Term) 1)
 unfolding rows_of
-path_term_row = record { along = λ room last tokens parts goal g before.
-    let more = g tt in
-    (more.0, more.1, record { term = term.Path more.2.path; free = more.2.free; short = omega (arith, more.2.short) }, more.3) }
+path_term_row = record {
+  along = λ room last tokens parts goal g before.
+      let more = g tt in
+      (more.0, more.1, record { term = term.Path more.2.path; free = more.2.free; short = omega (arith, more.2.short) }, more.3);
+}
 
 pub term_sound : AreSoundRows part.Term (rows_of part.Term)
 unfolding rows_of

@@ -1,5 +1,5 @@
 -- How a part's rows are proved sound, one by one; and the names that tokens are.
-use Rattle.std.proofs.Common.{◌≡◌, ◌⊎◌, inl, inr, ℕ, zero, suc, List, [], ◌∷◌, Option, Some, subst}
+use Rattle.std.proofs.Common.{◌≡◌, inl, inr, ℕ, zero, suc, List, [], ◌∷◌, Option, Some, subst}
 use Rattle.grammar_engine.specs.Grammars.{IsOneOf}
 use Rattle.pale_text.specs.declared.grammar.kind.ProgramKind.TheVariants as kind
 use Rattle.pale_text.specs.declared.grammar.part.ProgramPart.{ProgramPart}
@@ -27,8 +27,10 @@ pub data AreSoundRows (n : ProgramPart) : List (List ProgramSymbol) → Type 1 w
 
 pub one_of_sound : {n : ProgramPart} {rows : List (List ProgramSymbol)} → AreSoundRows n rows → (row : List ProgramSymbol) → IsOneOf row rows → IsSoundRow n row
 one_of_sound no_row row i = absurd i
-one_of_sound (or_row here others) row (inl is) = record { along = λ room last tokens parts goal g.
-    here.along room last tokens parts goal (subst (λ (r : List ProgramSymbol). Goes program_meaning r room last tokens parts goal) is g) }
+one_of_sound (or_row here others) row (inl is) = record {
+  along = λ room last tokens parts goal g.
+      here.along room last tokens parts goal (subst (λ (r : List ProgramSymbol). Goes program_meaning r room last tokens parts goal) is g);
+}
 one_of_sound (or_row here others) row (inr i) = one_of_sound others row i
 
 pub sound_at : {n : ProgramPart} → AreSoundRows n (rows_of n) → IsSoundAt program_meaning n

@@ -1,25 +1,25 @@
 -- Procedures that a reading makes are canonical.
-use Rattle.std.proofs.Common.{◌≡◌, inl, inr, ℕ, suc, ◌≤◌, List, [], ◌∷◌, ◌++◌, Option, None, Some, refl, sym, subst, arith}
-use Rattle.grammar_engine.specs.declared.symbol.Symbol.TheVariants.{Read, Open, Once, Maybe, Many}
+use Rattle.std.proofs.Common.{◌≡◌, inl, inr, ℕ, suc, List, [], ◌∷◌, ◌++◌, Option, Some, refl, subst, arith}
+use Rattle.grammar_engine.specs.declared.symbol.Symbol.TheVariants.{Maybe, Many}
 use Rattle.pale_text.specs.declared.grammar.act.ProcedureAct.TheVariants as procedures
 use Rattle.pale_text.specs.declared.grammar.act.StatementAct.TheVariants as statements
 use Rattle.pale_text.specs.declared.grammar.part.ProgramPart.TheVariants as part
 use Rattle.pale_text.specs.declared.place.Pos.{Pos}
 use Rattle.pale_text.specs.declared.token.Mark.TheVariants as mark
 use Rattle.pale_text.specs.declared.token.Token.{Token}
-use Rattle.pale_text.specs.declared.tree.names.Name.{Name}
 use Rattle.pale_text.specs.declared.tree.assertion.Bracketed.{Bracketed}
+use Rattle.pale_text.specs.declared.tree.statement.Statement.{Statement}
 use Rattle.pale_text.specs.declared.tree.declaration.LogicParameter.{LogicParameter}
 use Rattle.pale_text.specs.declared.tree.declaration.LogicParameter.TheVariants as logic
 use Rattle.pale_text.specs.declared.tree.declaration.Parameter.{Parameter}
 use Rattle.pale_text.specs.declared.tree.declaration.Parameter.TheVariants as parameter
 use Rattle.pale_text.specs.MakingParts.{Parts, name_of, place_of}
 use Rattle.pale_text.specs.ProgramGrammar.{ProgramSymbol, rows_of, reads, opens, mark_place, statement, procedure}
-use Rattle.print_laws.specs.CanonicalNames.{IsFree}
-use Rattle.print_laws.specs.CanonicalStatements.{IsCanonicalClause, none}
+use Rattle.print_laws.specs.CanonicalStatements.{IsCanonicalClause, AreCanonicalStatements, none}
 use Rattle.print_laws.specs.CanonicalDeclarations.{All, IsFreeParameter, IsFreeLogicParameter}
 use Rattle.print_laws.proofs.FromRows.{Several, no_more, one_more, puts, Goal, Goes}
-use Rattle.print_laws.proofs.FromMeaning.{program_meaning, FreeName, ParametersMade, LogicsMade, ProcedureMade, NoCall, put_procedure}
+use Rattle.print_laws.proofs.FromMade.{FreeName, ParametersMade, LogicsMade, ProcedureMade}
+use Rattle.print_laws.proofs.FromMeaning.{program_meaning, NoCall, put_procedure}
 use Rattle.print_laws.proofs.FromParts.{IsSoundRow, AreSoundRows, no_row, or_row, nth, free_name}
 use Rattle.print_laws.proofs.FromTypes.{all_and}
 use Rattle.print_laws.proofs.FromStatements.{statements_made}
@@ -28,23 +28,29 @@ use Rattle.print_laws.proofs.FromStatements.{statements_made}
 
 data_row : IsSoundRow part.Parameter (nth (rows_of part.Parameter) 0)
 unfolding rows_of
-data_row = record { along = λ room last tokens parts goal g before.
-    let name = g.4 in
-    let ty = name.4.4 in
-    (Some ty.0, ty.1, record { parameter = parameter.Data (name_of (Some name.0)) (name_of (Some ty.0)); free = (free_name name.0 name.3, free_name ty.0 ty.3) }, ty.4) }
+data_row = record {
+  along = λ room last tokens parts goal g before.
+      let name = g.4 in
+      let ty = name.4.4 in
+      (Some ty.0, ty.1, record { parameter = parameter.Data (name_of (Some name.0)) (name_of (Some ty.0)); free = (free_name name.0 name.3, free_name ty.0 ty.3) }, ty.4);
+}
 
 pointer_row : IsSoundRow part.Parameter (nth (rows_of part.Parameter) 1)
 unfolding rows_of
-pointer_row = record { along = λ room last tokens parts goal g before.
-    let name = g.4 in
-    let ty = name.4.4 in
-    (Some ty.0, ty.1, record { parameter = parameter.Pointer (name_of (Some name.0)) (name_of (Some ty.0)); free = (free_name name.0 name.3, free_name ty.0 ty.3) }, ty.4) }
+pointer_row = record {
+  along = λ room last tokens parts goal g before.
+      let name = g.4 in
+      let ty = name.4.4 in
+      (Some ty.0, ty.1, record { parameter = parameter.Pointer (name_of (Some name.0)) (name_of (Some ty.0)); free = (free_name name.0 name.3, free_name ty.0 ty.3) }, ty.4);
+}
 
 bool_row : IsSoundRow part.Parameter (nth (rows_of part.Parameter) 2)
 unfolding rows_of
-bool_row = record { along = λ room last tokens parts goal g before.
-    let name = g.4 in
-    (Some name.0, name.1, record { parameter = parameter.Bool (name_of (Some name.0)); free = free_name name.0 name.3 }, name.4) }
+bool_row = record {
+  along = λ room last tokens parts goal g before.
+      let name = g.4 in
+      (Some name.0, name.1, record { parameter = parameter.Bool (name_of (Some name.0)); free = free_name name.0 name.3 }, name.4);
+}
 
 pub parameter_sound : AreSoundRows part.Parameter (rows_of part.Parameter)
 unfolding rows_of
@@ -66,12 +72,14 @@ parameters_made room start end (one_more _ middle _ one others) ps c parts =
 
 parameters_row : IsSoundRow part.Parameters (nth (rows_of part.Parameters) 0)
 unfolding rows_of
-parameters_row = record { along = λ room last tokens parts goal g before.
-    let first = g tt in
-    let others = first.3 tt in
-    let made = parameters_made room first.1 others.1 others.2 (parts.variables ++ first.2.parameter ∷ [])
-        (all_and IsFreeParameter parts.variables first.2.parameter before first.2.free) parts in
-    (others.0, others.1, made.0, subst (λ q. goal others.0 others.1 q) made.1 others.3) }
+parameters_row = record {
+  along = λ room last tokens parts goal g before.
+      let first = g tt in
+      let others = first.3 tt in
+      let made = parameters_made room first.1 others.1 others.2 (parts.variables ++ first.2.parameter ∷ [])
+      (all_and IsFreeParameter parts.variables first.2.parameter before first.2.free) parts in
+      (others.0, others.1, made.0, subst (λ q. goal others.0 others.1 q) made.1 others.3);
+}
 
 pub parameters_sound : AreSoundRows part.Parameters (rows_of part.Parameters)
 unfolding rows_of
@@ -79,10 +87,12 @@ parameters_sound = or_row parameters_row no_row
 
 local_row : IsSoundRow part.Local (nth (rows_of part.Local) 0)
 unfolding rows_of
-local_row = record { along = λ room last tokens parts goal g before.
-    let made = g tt in
-    let close = made.3 in
-    (Some close.0, close.1, made.2, close.4) }
+local_row = record {
+  along = λ room last tokens parts goal g before.
+      let made = g tt in
+      let close = made.3 in
+      (Some close.0, close.1, made.2, close.4);
+}
 
 pub local_sound : AreSoundRows part.Local (rows_of part.Local)
 unfolding rows_of
@@ -96,10 +106,12 @@ locals_made room start end (one_more _ middle _ one others) ps c parts =
 
 returns_row : IsSoundRow part.Returns (nth (rows_of part.Returns) 0)
 unfolding rows_of
-returns_row = record { along = λ room last tokens parts goal g before.
-    let made = g.4.4 before in
-    let close = made.3 in
-    (Some close.0, close.1, made.2, close.4) }
+returns_row = record {
+  along = λ room last tokens parts goal g before.
+      let made = g.4.4 before in
+      let close = made.3 in
+      (Some close.0, close.1, made.2, close.4);
+}
 
 pub returns_sound : AreSoundRows part.Returns (rows_of part.Returns)
 unfolding rows_of
@@ -109,16 +121,20 @@ returns_sound = or_row returns_row no_row
 
 set_row : IsSoundRow part.LogicParameter (nth (rows_of part.LogicParameter) 0)
 unfolding rows_of
-set_row = record { along = λ room last tokens parts goal g before.
-    let name = g.4 in
-    let ty = name.4.4 in
-    (Some ty.0, ty.1, record { logic = logic.Set (name_of (Some name.0)) (name_of (Some ty.0)); free = (free_name name.0 name.3, free_name ty.0 ty.3) }, ty.4) }
+set_row = record {
+  along = λ room last tokens parts goal g before.
+      let name = g.4 in
+      let ty = name.4.4 in
+      (Some ty.0, ty.1, record { logic = logic.Set (name_of (Some name.0)) (name_of (Some ty.0)); free = (free_name name.0 name.3, free_name ty.0 ty.3) }, ty.4);
+}
 
 bool_logic_row : IsSoundRow part.LogicParameter (nth (rows_of part.LogicParameter) 1)
 unfolding rows_of
-bool_logic_row = record { along = λ room last tokens parts goal g before.
-    let name = g.4 in
-    (Some name.0, name.1, record { logic = logic.Bool (name_of (Some name.0)); free = free_name name.0 name.3 }, name.4) }
+bool_logic_row = record {
+  along = λ room last tokens parts goal g before.
+      let name = g.4 in
+      (Some name.0, name.1, record { logic = logic.Bool (name_of (Some name.0)); free = free_name name.0 name.3 }, name.4);
+}
 
 pub logic_parameter_sound : AreSoundRows part.LogicParameter (rows_of part.LogicParameter)
 unfolding rows_of
@@ -141,11 +157,13 @@ logics_made room start end (one_more _ middle _ one others) ls c parts =
 
 logic_row : IsSoundRow part.Logic (nth (rows_of part.Logic) 0)
 unfolding rows_of
-logic_row = record { along = λ room last tokens parts goal g before.
-    let first = g.4 tt in
-    let others = first.3 tt in
-    let made = logics_made room first.1 others.1 others.2 (parts.logics ++ first.2.logic ∷ []) (all_and IsFreeLogicParameter parts.logics first.2.logic before first.2.free) parts in
-    (others.0, others.1, made.0, subst (λ q. goal others.0 others.1 q) made.1 others.3) }
+logic_row = record {
+  along = λ room last tokens parts goal g before.
+      let first = g.4 tt in
+      let others = first.3 tt in
+      let made = logics_made room first.1 others.1 others.2 (parts.logics ++ first.2.logic ∷ []) (all_and IsFreeLogicParameter parts.logics first.2.logic before first.2.free) parts in
+      (others.0, others.1, made.0, subst (λ q. goal others.0 others.1 q) made.1 others.3);
+}
 
 pub logic_sound : AreSoundRows part.Logic (rows_of part.Logic)
 unfolding rows_of
@@ -213,74 +231,80 @@ body_row = opens mark.LeftBrace ∷ statement statements.BeginBlock ∷ Many par
 ProcedureAt : ℕ → Parts → Goal → Type 0
 ProcedureAt room parts goal = (behind : Option Token) × (others : List Token) × (made : ProcedureMade room) × goal behind others (put_procedure made parts)
 
+-- what stands in the braces of a body
+inside_made : (inside : ℕ) (last : Option Token) (tokens : List Token) (parts : Parts) (below : List (List Statement)) (goal : Goal) → NoCall parts →
+    Goes program_meaning (Many part.Local ∷ statements_row) inside last tokens (record parts { variables = []; blocks = [] ∷ below }) goal →
+    (locals : ParametersMade) × (ss : List Statement) × AreCanonicalStatements inside ss × (behind : Option Token) × (others : List Token) ×
+    Goes program_meaning closing_row inside behind others (record parts { variables = locals.parameters; blocks = ss ∷ below }) goal
+inside_made inside last tokens parts below goal before g =
+    let locals = g tt in
+    let made = locals_made inside tokens locals.1 locals.2 [] tt (record parts { blocks = [] ∷ below }) in
+    let body = subst (λ (p : Parts). Goes program_meaning statements_row inside locals.0 locals.1 p goal) made.1 locals.3 before in
+    let ss = statements_made inside locals.1 body.1 body.2 [] (none inside) (record parts { variables = made.0.parameters }) below in
+    (made.0, ss.0, ss.1, body.0, body.1, subst (λ (p : Parts). Goes program_meaning closing_row inside body.0 body.1 p goal) ss.2 body.3)
+
 body_made : (room : ℕ) (last : Option Token) (tokens : List Token) (parts : Parts) (goal : Goal) (h : Header room) → NoCall parts →
     Goes program_meaning body_row room last tokens (with_header parts h) goal → ProcedureAt room parts goal
 unfolding ProcedureAt
 body_made room last tokens parts goal h before g =
-    let inside : ℕ = g.0 in
-    let is : room ≡ suc inside = g.1 in
-    let locals = g.6 tt in
-    let begun : Parts = record (with_header parts h) { blocks = [] ∷ parts.blocks } in
-    let made = locals_made inside g.3 locals.1 locals.2 [] tt begun in
-    let rest : Goes program_meaning statements_row inside locals.0 locals.1 (record begun { variables = made.0.parameters }) goal =
-        subst (λ (p : Parts). Goes program_meaning statements_row inside locals.0 locals.1 p goal) made.1 locals.3 in
-    let body = rest before in
-    let ss = statements_made inside locals.1 body.1 body.2 [] (none inside) (record begun { variables = made.0.parameters }) parts.blocks in
-    let close : Goes program_meaning closing_row inside body.0 body.1 (record begun { variables = made.0.parameters; blocks = ss.0 ∷ parts.blocks }) goal =
-        subst (λ (p : Parts). Goes program_meaning closing_row inside body.0 body.1 p goal) ss.2 body.3 in
-    (Some close.0, close.1,
-    record {
-      procedure =
-          record {
-            place = h.place;
-            name = h.name.name;
-            parameters = h.parameters.parameters;
-            results = h.results.parameters;
-            logics = h.logics.logics;
-            pre = h.pre.clause;
-            post = h.post.clause;
-            locals = made.0.parameters;
-            body = ss.0;
-            end = place_of (Some close.0);
-          };
-      canonical =
-          record {
-            name = h.name.free;
-            parameters = h.parameters.free;
-            results = h.results.free;
-            logics = h.logics.free;
-            pre = h.pre.canonical;
-            post = h.post.canonical;
-            locals = made.0.free;
-            inner = inside;
-            within = omega arith;
-            body = ss.1;
-          };
-    },
-    close.4)
+    let is : room ≡ suc g.0 = g.1 in
+    let body = inside_made g.0 (Some g.2) g.3 (with_header parts h) parts.blocks goal before g.6 in
+    let close = body.5 in (
+      Some close.0,
+      close.1,
+      record {
+        procedure =
+            record {
+              place = h.place;
+              name = h.name.name;
+              parameters = h.parameters.parameters;
+              results = h.results.parameters;
+              logics = h.logics.logics;
+              pre = h.pre.clause;
+              post = h.post.clause;
+              locals = body.0.parameters;
+              body = body.1;
+              end = place_of (Some close.0);
+            };
+        canonical =
+            record {
+              name = h.name.free;
+              parameters = h.parameters.free;
+              results = h.results.free;
+              logics = h.logics.free;
+              pre = h.pre.canonical;
+              post = h.post.canonical;
+              locals = body.0.free;
+              inner = g.0;
+              within = omega arith;
+              body = body.2;
+            };
+      },
+      close.4,
+    )
 
 post_made : (room : ℕ) (last : Option Token) (tokens : List Token) (parts : Parts) (goal : Goal) (h : Header room) → NoCall parts →
     Goes program_meaning (Maybe part.Post ∷ body_row) room last tokens (with_header parts h) goal → ProcedureAt room parts goal
 post_made room last tokens parts goal h before g =
     elim (g before.0) [
-      inl alone ↦ body_made room last tokens parts goal h before alone.1
-    | inr some ↦ body_made room some.0 some.1 parts goal (record h { post = record { clause = Some some.2.bracketed; canonical = some.2.canonical } }) before some.3
+      | inl alone ↦ body_made room last tokens parts goal h before alone.1
+      | inr some ↦ body_made room some.0 some.1 parts goal (record h { post = record { clause = Some some.2.bracketed; canonical = some.2.canonical } }) before some.3
     ]
 
 pre_made : (room : ℕ) (last : Option Token) (tokens : List Token) (parts : Parts) (goal : Goal) (h : Header room) → NoCall parts →
     Goes program_meaning (Maybe part.Pre ∷ Maybe part.Post ∷ body_row) room last tokens (with_header parts h) goal → ProcedureAt room parts goal
 pre_made room last tokens parts goal h before g =
     elim (g before.0) [
-      inl alone ↦ post_made room last tokens parts goal h before alone.1
-    | inr some ↦ post_made room some.0 some.1 parts goal (record h { pre = record { clause = Some some.2.bracketed; canonical = some.2.canonical } }) before some.3
+      | inl alone ↦ post_made room last tokens parts goal h before alone.1
+      | inr some ↦ post_made room some.0 some.1 parts goal (record h { pre = record { clause = Some some.2.bracketed; canonical = some.2.canonical } }) before some.3
     ]
 
 logic_made : (room : ℕ) (last : Option Token) (tokens : List Token) (parts : Parts) (goal : Goal) (h : Header room) → NoCall parts →
     Goes program_meaning (Maybe part.Logic ∷ Maybe part.Pre ∷ Maybe part.Post ∷ body_row) room last tokens (with_header parts h) goal → ProcedureAt room parts goal
 logic_made room last tokens parts goal h before g =
     elim (g h.logics.free) [
-      inl alone ↦ pre_made room last tokens parts goal h before alone.1
-    | inr some ↦ pre_made room some.0 some.1 parts goal (record h { logics = some.2 }) before some.3
+      | inl alone ↦ pre_made room last tokens parts goal h before alone.1
+      | inr some ↦ pre_made room some.0 some.1 parts goal (record h { logics = some.2 }) before some.3
     ]
 
 returns_made : (room : ℕ) (last : Option Token) (tokens : List Token) (parts : Parts) (goal : Goal) (h : Header room) → NoCall parts →
@@ -288,32 +312,34 @@ returns_made : (room : ℕ) (last : Option Token) (tokens : List Token) (parts :
     ProcedureAt room parts goal
 returns_made room last tokens parts goal h before g =
     elim (g tt) [
-      inl alone ↦ logic_made room last tokens parts goal h before alone.1
-    | inr some ↦ logic_made room some.0 some.1 parts goal (record h { results = some.2 }) before some.3
+      | inl alone ↦ logic_made room last tokens parts goal h before alone.1
+      | inr some ↦ logic_made room some.0 some.1 parts goal (record h { results = some.2 }) before some.3
     ]
 
 procedure_row : IsSoundRow part.Procedure (nth (rows_of part.Procedure) 0)
 unfolding rows_of ProcedureAt
-procedure_row = record { along = λ room last tokens parts goal g before.
-    let name = g.4 in
-    let head : ParametersMade → Header room = λ ps.
-        record {
-          place = place_of (Some g.0);
-          name = record { name = name_of (Some name.0); free = free_name name.0 name.3 };
-          parameters = ps;
-          results = record { parameters = parts.results; free = before.2 };
-          logics = record { logics = parts.logics; free = before.3 };
-          pre = record { clause = parts.pre; canonical = before.4 };
-          post = record { clause = parts.post; canonical = before.5 };
-        } in
-    elim (name.4.4 before.1) [
-      inl alone ↦
-        let close = alone.1 in
-        returns_made room (Some close.0) close.1 parts goal (head (record { parameters = parts.variables; free = before.1 })) before.0 close.4
-    | inr some ↦
-        let close = some.3 in
-        returns_made room (Some close.0) close.1 parts goal (head some.2) before.0 close.4
-    ] }
+procedure_row = record {
+  along = λ room last tokens parts goal g before.
+      let name = g.4 in
+      let head : ParametersMade → Header room = λ ps.
+      record {
+        place = place_of (Some g.0);
+        name = record { name = name_of (Some name.0); free = free_name name.0 name.3 };
+        parameters = ps;
+        results = record { parameters = parts.results; free = before.2 };
+        logics = record { logics = parts.logics; free = before.3 };
+        pre = record { clause = parts.pre; canonical = before.4 };
+        post = record { clause = parts.post; canonical = before.5 };
+      } in
+      elim (name.4.4 before.1) [
+        | inl alone ↦
+            let close = alone.1 in
+            returns_made room (Some close.0) close.1 parts goal (head (record { parameters = parts.variables; free = before.1 })) before.0 close.4
+        | inr some ↦
+            let close = some.3 in
+            returns_made room (Some close.0) close.1 parts goal (head some.2) before.0 close.4
+      ];
+}
 
 pub procedure_sound : AreSoundRows part.Procedure (rows_of part.Procedure)
 unfolding rows_of

@@ -1,5 +1,5 @@
 -- Where a canonical route may stand as well, with more room or in parentheses; and chains of routes that grow at their end.
-use Rattle.std.proofs.Common.{◌≡◌, ℕ, suc, nat_lt, Bool, true, false, List, [], ◌∷◌, ◌++◌, refl, sym, subst}
+use Rattle.std.proofs.Common.{◌≡◌, ℕ, suc, nat_lt, true, false, List, [], ◌∷◌, ◌++◌, refl, sym, subst}
 use Rattle.pale_text.specs.declared.place.Pos.{Pos}
 use Rattle.pale_text.specs.declared.token.Mark.TheVariants as mark
 use Rattle.pale_text.specs.declared.token.TokenKind.{TokenKind}
@@ -12,6 +12,7 @@ use Rattle.pale_text.specs.MakingRoutes.{then_by, or_by, star_by, joined_then, j
 use Rattle.pale_print.specs.Tokens.{◌>>◌, sign}
 use Rattle.pale_print.specs.RouteTokens.{Placed, route_node, route_tokens}
 use Rattle.print_laws.specs.CanonicalRoutes.{RoutePlace, whole, sequence, repeated, single, asks, is_then_node, is_or_node, is_star_node, IsGrouped, IsCanonicalRoute, down, up, up_any, root, leaf, is_type, is_variant, is_bool, then, or, star, group, AreCanonicalRoutes, last, more}
+use Rattle.print_laws.proofs.FromLevels.{Wider, alike, wider}
 
 -- ---- parentheses
 
@@ -65,17 +66,12 @@ mutual
   roomier_all (last p room r c) = last p (suc room) r (roomier c)
   roomier_all (more p room r others c cs) = more p (suc room) r others (roomier c) (roomier_all cs)
 
--- one number of levels, and one that is as much or more
-data Wider : ℕ → ℕ → Type 0 where
-  same : (n : ℕ) → Wider n n
-  wider : {n m : ℕ} → Wider (suc n) m → Wider n m
-
 widened : {n m : ℕ} → Wider n m → {p : RoutePlace} {r : Route} → IsCanonicalRoute p n r → IsCanonicalRoute p m r
-widened (same n) c = c
+widened (alike n) c = c
 widened (wider w) c = widened w (roomier c)
 
 widened_all : {n m : ℕ} → Wider n m → {p : RoutePlace} {rs : List Route} → AreCanonicalRoutes p n rs → AreCanonicalRoutes p m rs
-widened_all (same n) cs = cs
+widened_all (alike n) cs = cs
 widened_all (wider w) cs = widened_all w (roomier_all cs)
 
 -- ---- other places
@@ -177,7 +173,7 @@ or_from {room = room} {other = other} (star p n inner place places bare apart f)
 or_from (group p n r grouped f) w c one = or_from f (wider w) c one
 
 pub or_settled : {room : ℕ} {r other : Route} → IsCanonicalRoute whole room r → IsCanonicalRoute sequence room other → IsCanonicalRoute whole room (joined_or r other)
-or_settled {room} c one = or_from c (same room) c one
+or_settled {room} c one = or_from c (alike room) c one
 
 then_from : {p : RoutePlace} {n room : ℕ} {r other : Route} → IsCanonicalRoute p n r → Wider n room → IsCanonicalRoute sequence room r → IsCanonicalRoute repeated room other →
     IsCanonicalRoute sequence room (joined_then r other)
@@ -203,7 +199,7 @@ then_from (group p n r grouped f) w c one = then_from f (wider w) c one
 
 pub then_settled : {room : ℕ} {r other : Route} → IsCanonicalRoute sequence room r → IsCanonicalRoute repeated room other →
     IsCanonicalRoute sequence room (joined_then r other)
-then_settled {room} c one = then_from c (same room) c one
+then_settled {room} c one = then_from c (alike room) c one
 
 star_from : {p : RoutePlace} {n room : ℕ} {r : Route} → IsCanonicalRoute p n r → Wider n room → IsCanonicalRoute repeated room r → (at : Pos) →
     IsCanonicalRoute repeated room (starred r at)
@@ -224,4 +220,4 @@ star_from {room = room} (star p n inner place places bare apart f) w c at =
 star_from (group p n r grouped f) w c at = star_from f (wider w) c at
 
 pub star_settled : {room : ℕ} {r : Route} → IsCanonicalRoute repeated room r → (at : Pos) → IsCanonicalRoute repeated room (starred r at)
-star_settled {room} c at = star_from c (same room) c at
+star_settled {room} c at = star_from c (alike room) c at

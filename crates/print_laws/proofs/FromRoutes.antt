@@ -13,7 +13,8 @@ use Rattle.print_laws.specs.CanonicalRoutes.{RoutePlace, whole, sequence, repeat
 use Rattle.print_laws.proofs.NameSizes.{one_less}
 use Rattle.print_laws.proofs.RouteSizes.{route_size, route_rises, joined_or_size, joined_then_size, starred_size, size_down, size_up, size_up_any, size_root, size_leaf, size_is_type, size_is_variant, size_is_bool}
 use Rattle.print_laws.proofs.FromRows.{Several, no_more, one_more, puts}
-use Rattle.print_laws.proofs.FromMeaning.{program_meaning, RouteMade}
+use Rattle.print_laws.proofs.FromMade.{RouteMade}
+use Rattle.print_laws.proofs.FromMeaning.{program_meaning}
 use Rattle.print_laws.proofs.FromParts.{IsSoundRow, AreSoundRows, no_row, or_row, nth, free_name}
 use Rattle.print_laws.proofs.FromRoutePlaces.{anywhere, as_whole, as_sequence, as_repeated, or_settled, then_settled, star_settled}
 
@@ -48,11 +49,13 @@ stars_made room start end (one_more _ middle _ one others) r c first short parts
 
 route_row : IsSoundRow part.Route (nth (rows_of part.Route) 0)
 unfolding rows_of
-route_row = record { along = λ room last tokens parts goal g before.
-    let first = g tt in
-    let others = first.3 tt in
-    let made = alternatives_made room first.1 others.1 others.2 first.2.route (as_whole first.2.canonical) tokens (omega (arith, first.2.short, (route_rises first.2.route).to_one)) parts parts.routes in
-    (others.0, others.1, made.0, subst (λ q. goal others.0 others.1 q) made.1 others.3) }
+route_row = record {
+  along = λ room last tokens parts goal g before.
+      let first = g tt in
+      let others = first.3 tt in
+      let made = alternatives_made room first.1 others.1 others.2 first.2.route (as_whole first.2.canonical) tokens (omega (arith, first.2.short, (route_rises first.2.route).to_one)) parts parts.routes in
+      (others.0, others.1, made.0, subst (λ q. goal others.0 others.1 q) made.1 others.3);
+}
 
 pub route_sound : AreSoundRows part.Route (rows_of part.Route)
 unfolding rows_of
@@ -60,9 +63,11 @@ route_sound = or_row route_row no_row
 
 next_alternative_row : IsSoundRow part.NextAlternative (nth (rows_of part.NextAlternative) 0)
 unfolding rows_of
-next_alternative_row = record { along = λ room last tokens parts goal g before.
-    let made = g.4 tt in
-    (made.0, made.1, record { route = made.2.route; canonical = made.2.canonical; short = omega (arith, one_less g.2, made.2.short) }, made.3) }
+next_alternative_row = record {
+  along = λ room last tokens parts goal g before.
+      let made = g.4 tt in
+      (made.0, made.1, record { route = made.2.route; canonical = made.2.canonical; short = omega (arith, one_less g.2, made.2.short) }, made.3);
+}
 
 pub next_alternative_sound : AreSoundRows part.NextAlternative (rows_of part.NextAlternative)
 unfolding rows_of
@@ -70,11 +75,13 @@ next_alternative_sound = or_row next_alternative_row no_row
 
 sequence_row : IsSoundRow part.Sequence (nth (rows_of part.Sequence) 0)
 unfolding rows_of
-sequence_row = record { along = λ room last tokens parts goal g before.
-    let first = g tt in
-    let others = first.3 tt in
-    let made = links_made room first.1 others.1 others.2 first.2.route (as_sequence first.2.canonical) tokens (omega (arith, first.2.short, (route_rises first.2.route).to_two)) parts parts.routes in
-    (others.0, others.1, made.0, subst (λ q. goal others.0 others.1 q) made.1 others.3) }
+sequence_row = record {
+  along = λ room last tokens parts goal g before.
+      let first = g tt in
+      let others = first.3 tt in
+      let made = links_made room first.1 others.1 others.2 first.2.route (as_sequence first.2.canonical) tokens (omega (arith, first.2.short, (route_rises first.2.route).to_two)) parts parts.routes in
+      (others.0, others.1, made.0, subst (λ q. goal others.0 others.1 q) made.1 others.3);
+}
 
 pub sequence_sound : AreSoundRows part.Sequence (rows_of part.Sequence)
 unfolding rows_of
@@ -82,9 +89,11 @@ sequence_sound = or_row sequence_row no_row
 
 next_repeated_row : IsSoundRow part.NextRepeated (nth (rows_of part.NextRepeated) 0)
 unfolding rows_of
-next_repeated_row = record { along = λ room last tokens parts goal g before.
-    let made = g.4 tt in
-    (made.0, made.1, record { route = made.2.route; canonical = made.2.canonical; short = omega (arith, one_less g.2, made.2.short) }, made.3) }
+next_repeated_row = record {
+  along = λ room last tokens parts goal g before.
+      let made = g.4 tt in
+      (made.0, made.1, record { route = made.2.route; canonical = made.2.canonical; short = omega (arith, one_less g.2, made.2.short) }, made.3);
+}
 
 pub next_repeated_sound : AreSoundRows part.NextRepeated (rows_of part.NextRepeated)
 unfolding rows_of
@@ -92,11 +101,13 @@ next_repeated_sound = or_row next_repeated_row no_row
 
 repeated_row : IsSoundRow part.Repeated (nth (rows_of part.Repeated) 0)
 unfolding rows_of
-repeated_row = record { along = λ room last tokens parts goal g before.
-    let first = g tt in
-    let others = first.3 tt in
-    let made = stars_made room first.1 others.1 others.2 first.2.route (as_repeated first.2.canonical) tokens (omega (arith, first.2.short, (route_rises first.2.route).to_three)) parts parts.routes in
-    (others.0, others.1, made.0, subst (λ q. goal others.0 others.1 q) made.1 others.3) }
+repeated_row = record {
+  along = λ room last tokens parts goal g before.
+      let first = g tt in
+      let others = first.3 tt in
+      let made = stars_made room first.1 others.1 others.2 first.2.route (as_repeated first.2.canonical) tokens (omega (arith, first.2.short, (route_rises first.2.route).to_three)) parts parts.routes in
+      (others.0, others.1, made.0, subst (λ q. goal others.0 others.1 q) made.1 others.3);
+}
 
 pub repeated_sound : AreSoundRows part.Repeated (rows_of part.Repeated)
 unfolding rows_of
@@ -114,17 +125,21 @@ star_sound = or_row star_row no_row
 
 down_row : IsSoundRow part.Step (nth (rows_of part.Step) 0)
 unfolding rows_of
-down_row = record { along = λ room last tokens parts goal g before.
-    let x : Name = name_of (Some g.0) in
-    (Some g.0, g.1, record { route = route.Down x; canonical = down single room x (free_name g.0 g.3); short = omega (arith, size_down x 3, one_less g.2) }, g.4) }
+down_row = record {
+  along = λ room last tokens parts goal g before.
+      let x : Name = name_of (Some g.0) in
+      (Some g.0, g.1, record { route = route.Down x; canonical = down single room x (free_name g.0 g.3); short = omega (arith, size_down x 3, one_less g.2) }, g.4);
+}
 
 up_row : IsSoundRow part.Step (nth (rows_of part.Step) 1)
 unfolding rows_of
-up_row = record { along = λ room last tokens parts goal g before.
-    elim (g.4 tt) [
-      inl stopped ↦ (Some g.0, g.1, record { route = route.UpAny; canonical = up_any single room; short = omega (arith, size_up_any 3, one_less g.2) }, stopped.1)
-    | inr named ↦ (named.0, named.1, record { route = route.Up named.2.name; canonical = up single room named.2.name named.2.free; short = omega (arith, size_up named.2.name 3, one_less g.2, named.2.short) }, named.3)
-    ] }
+up_row = record {
+  along = λ room last tokens parts goal g before.
+      elim (g.4 tt) [
+        | inl stopped ↦ (Some g.0, g.1, record { route = route.UpAny; canonical = up_any single room; short = omega (arith, size_up_any 3, one_less g.2) }, stopped.1)
+        | inr named ↦ (named.0, named.1, record { route = route.Up named.2.name; canonical = up single room named.2.name named.2.free; short = omega (arith, size_up named.2.name 3, one_less g.2, named.2.short) }, named.3)
+      ];
+}
 
 leaf_row : IsSoundRow part.Step (nth (rows_of part.Step) 2)
 unfolding rows_of
@@ -136,41 +151,51 @@ root_row = record { along = λ room last tokens parts goal g before. (Some g.0, 
 
 type_row : IsSoundRow part.Step (nth (rows_of part.Step) 4)
 unfolding rows_of roll-Route roll out-Route out
-type_row = record { along = λ room last tokens parts goal g before.
-    let ty = g.4 in
-    let x : Name = name_of (Some ty.0) in
-    elim (ty.4 tt) [
-      inl stopped ↦ (Some ty.0, ty.1, record { route = route.IsType x; canonical = is_type single room x (free_name ty.0 ty.3); short = omega (arith, size_is_type x 3, one_less g.2, one_less ty.2) }, stopped.1)
-    | inr named ↦
-        (named.0, named.1, record { route = route.IsVariant x named.2.name; canonical = is_variant single room x named.2.name (free_name ty.0 ty.3) named.2.free; short = omega (arith, size_is_variant x named.2.name 3, one_less g.2, one_less ty.2, named.2.short) }, named.3)
-    ] }
+type_row = record {
+  along = λ room last tokens parts goal g before.
+      let ty = g.4 in
+      let x : Name = name_of (Some ty.0) in
+      elim (ty.4 tt) [
+        | inl stopped ↦ (Some ty.0, ty.1, record { route = route.IsType x; canonical = is_type single room x (free_name ty.0 ty.3); short = omega (arith, size_is_type x 3, one_less g.2, one_less ty.2) }, stopped.1)
+        | inr named ↦
+            (named.0, named.1, record { route = route.IsVariant x named.2.name; canonical = is_variant single room x named.2.name (free_name ty.0 ty.3) named.2.free; short = omega (arith, size_is_variant x named.2.name 3, one_less g.2, one_less ty.2, named.2.short) }, named.3)
+      ];
+}
 
 true_row : IsSoundRow part.Step (nth (rows_of part.Step) 5)
 unfolding rows_of
-true_row = record { along = λ room last tokens parts goal g before.
-    let f = g.4 in
-    let x : Name = name_of (Some f.0) in
-    (Some f.0, f.1, record { route = route.IsBool x true; canonical = is_bool single room x true (free_name f.0 f.3); short = omega (arith, size_is_bool x true 3, one_less g.2, one_less f.2) }, f.4) }
+true_row = record {
+  along = λ room last tokens parts goal g before.
+      let f = g.4 in
+      let x : Name = name_of (Some f.0) in
+      (Some f.0, f.1, record { route = route.IsBool x true; canonical = is_bool single room x true (free_name f.0 f.3); short = omega (arith, size_is_bool x true 3, one_less g.2, one_less f.2) }, f.4);
+}
 
 false_row : IsSoundRow part.Step (nth (rows_of part.Step) 6)
 unfolding rows_of
-false_row = record { along = λ room last tokens parts goal g before.
-    let f = g.4 in
-    let x : Name = name_of (Some f.0) in
-    (Some f.0, f.1, record { route = route.IsBool x false; canonical = is_bool single room x false (free_name f.0 f.3); short = omega (arith, size_is_bool x false 3, one_less g.2, one_less f.2) }, f.4) }
+false_row = record {
+  along = λ room last tokens parts goal g before.
+      let f = g.4 in
+      let x : Name = name_of (Some f.0) in
+      (Some f.0, f.1, record { route = route.IsBool x false; canonical = is_bool single room x false (free_name f.0 f.3); short = omega (arith, size_is_bool x false 3, one_less g.2, one_less f.2) }, f.4);
+}
 
 group_row : IsSoundRow part.Step (nth (rows_of part.Step) 7)
 unfolding rows_of
-group_row = record { along = λ room last tokens parts goal g before.
-    let inner = g.6 tt in
-    let close = inner.3 in
-    (Some close.0, close.1,
-    record {
-      route = inner.2.route;
-      canonical = subst (λ n. IsCanonicalRoute single n inner.2.route) (sym g.1) (anywhere single inner.2.canonical);
-      short = omega (arith, (route_rises inner.2.route).at_most, one_less g.4, inner.2.short, one_less close.2);
-    },
-    close.4) }
+group_row = record {
+  along = λ room last tokens parts goal g before.
+      let inner = g.6 tt in
+      let close = inner.3 in (
+        Some close.0,
+        close.1,
+        record {
+          route = inner.2.route;
+          canonical = subst (λ n. IsCanonicalRoute single n inner.2.route) (sym g.1) (anywhere single inner.2.canonical);
+          short = omega (arith, (route_rises inner.2.route).at_most, one_less g.4, inner.2.short, one_less close.2);
+        },
+        close.4,
+      );
+}
 
 pub step_sound : AreSoundRows part.Step (rows_of part.Step)
 unfolding rows_of
@@ -178,8 +203,10 @@ step_sound = or_row down_row (or_row up_row (or_row leaf_row (or_row root_row (o
 
 up_name_row : IsSoundRow part.UpName (nth (rows_of part.UpName) 0)
 unfolding rows_of
-up_name_row = record { along = λ room last tokens parts goal g before.
-    (Some g.0, g.1, record { name = name_of (Some g.0); free = free_name g.0 g.3; short = omega (arith, one_less g.2) }, g.4) }
+up_name_row = record {
+  along = λ room last tokens parts goal g before.
+      (Some g.0, g.1, record { name = name_of (Some g.0); free = free_name g.0 g.3; short = omega (arith, one_less g.2) }, g.4);
+}
 
 pub up_name_sound : AreSoundRows part.UpName (rows_of part.UpName)
 unfolding rows_of
@@ -187,9 +214,11 @@ up_name_sound = or_row up_name_row no_row
 
 variant_test_row : IsSoundRow part.VariantTest (nth (rows_of part.VariantTest) 0)
 unfolding rows_of
-variant_test_row = record { along = λ room last tokens parts goal g before.
-    let name = g.4 in
-    (Some name.0, name.1, record { name = name_of (Some name.0); free = free_name name.0 name.3; short = omega (arith, one_less g.2, one_less name.2) }, name.4) }
+variant_test_row = record {
+  along = λ room last tokens parts goal g before.
+      let name = g.4 in
+      (Some name.0, name.1, record { name = name_of (Some name.0); free = free_name name.0 name.3; short = omega (arith, one_less g.2, one_less name.2) }, name.4);
+}
 
 pub variant_test_sound : AreSoundRows part.VariantTest (rows_of part.VariantTest)
 unfolding rows_of

@@ -1,9 +1,8 @@
 -- What is made along a row, where it is known what each part makes: from the first token to the last.
-use Rattle.std.proofs.Common.{◌≡◌, ◌⊎◌, inl, inr, ℕ, suc, ◌-◌, ◌≤◌, List, [], ◌∷◌, Option, None, Some, map, refl, sym, ap, subst, arith}
-use Rattle.grammar_engine.specs.declared.symbol.Symbol.{Symbol}
+use Rattle.std.proofs.Common.{◌≡◌, ◌⊎◌, inl, inr, ℕ, suc, ◌-◌, ◌≤◌, List, [], ◌∷◌, Option, Some, map, refl, sym, subst, arith}
 use Rattle.grammar_engine.specs.declared.symbol.Symbol.TheVariants.{Read, Open, Once, Maybe, Many, Act as Does}
 use Rattle.grammar_engine.specs.Grammars.{IsOneOf}
-use Rattle.grammar_engine.specs.Readings.{Stack, Bottom, Row, Step, Took, Did, Reads, over, row_over, read, opened, acted, once, taken, left_out, again, ended}
+use Rattle.grammar_engine.specs.Readings.{Bottom, Row, Step, Reads, over, row_over, read, opened, acted, once, taken, left_out, again, ended}
 use Rattle.grammar_engine.specs.Answers.{levels, event_of, AreLow}
 use Rattle.pale_text.specs.declared.grammar.act.Act.{Act}
 use Rattle.pale_text.specs.declared.grammar.kind.ProgramKind.{ProgramKind}
@@ -12,7 +11,7 @@ use Rattle.pale_text.specs.declared.token.Token.{Token}
 use Rattle.pale_text.specs.declared.token.TokenKind.{TokenKind}
 use Rattle.pale_text.specs.declared.token.TokenKind.TheVariants as token
 use Rattle.pale_text.specs.Making.{after, first_of, run}
-use Rattle.pale_text.specs.MakingParts.{Parts, Near}
+use Rattle.pale_text.specs.MakingParts.{Parts}
 use Rattle.pale_text.specs.ProgramGrammar.{ProgramSymbol, rows_of, program_grammar}
 use Rattle.pale_text.specs.ProgramReading.{program_rows}
 use Rattle.pale_text.specs.ProgramWords.{kind_of, kinds_in}
@@ -123,7 +122,7 @@ module _ (meaning : Meaning) (sound : (n : ProgramPart) → IsSoundAt meaning n)
       inl (subst (λ k. Counts n k) (sym is) stops, held r tokens is named low last parts)
   held (again n p row d below ks steps i r) tokens is named low last parts = λ before.
       let g = sound n p i (limit - d) last tokens parts (λ l t q. Goes meaning (Many n ∷ row) (limit - d) l t q (λ l t p. Holds (run (map event_of steps) last tokens parts) below l t p))
-          (held r tokens is named low last parts) ((keeps n).enters (limit - d) parts before) in
+      (held r tokens is named low last parts) ((keeps n).enters (limit - d) parts before) in
       let more = g.3 ((keeps n).kept (limit - d) tokens g.1 g.2 parts before) in
       (more.0, more.1, one_more tokens g.1 more.1 g.2 more.2, more.3)
   held (ended n row d below ks steps stops r) tokens is named low last parts = λ before.

@@ -1,20 +1,17 @@
 -- Statements that a reading makes are canonical.
-use Rattle.std.proofs.Common.{◌≡◌, ◌⊎◌, inl, inr, ℕ, suc, List, [], ◌∷◌, ◌++◌, Option, None, Some, refl, sym, subst}
-use Rattle.grammar_engine.specs.declared.symbol.Symbol.TheVariants.{Read, Once}
+use Rattle.std.proofs.Common.{◌≡◌, ◌⊎◌, inl, inr, ℕ, List, [], ◌∷◌, ◌++◌, Option, None, Some, refl, sym, subst}
 use Rattle.pale_text.specs.declared.grammar.act.CallAct.TheVariants as calls
 use Rattle.pale_text.specs.declared.grammar.part.ProgramPart.TheVariants as part
 use Rattle.pale_text.specs.declared.place.Pos.{Pos}
 use Rattle.pale_text.specs.declared.token.Mark.TheVariants as mark
 use Rattle.pale_text.specs.declared.token.Token.{Token}
 use Rattle.pale_text.specs.declared.tree.names.Name.{Name}
-use Rattle.pale_text.specs.declared.tree.condition.Condition.{Condition}
 use Rattle.pale_text.specs.declared.tree.assertion.Bracketed.{Bracketed}
 use Rattle.pale_text.specs.declared.tree.statement.Argument.{Argument}
 use Rattle.pale_text.specs.declared.tree.statement.Call.{Call}
 use Rattle.pale_text.specs.declared.tree.statement.Statement.{Statement}
 use Rattle.pale_text.specs.declared.tree.statement.Statement.TheVariants as statement
-use Rattle.piles.specs.Piles.{top, rest}
-use Rattle.pale_text.specs.MakingParts.{Parts, nameless, name_of, place_of}
+use Rattle.pale_text.specs.MakingParts.{Parts, name_of, place_of}
 use Rattle.pale_text.specs.MakingStatements.{with_statement}
 use Rattle.pale_text.specs.ProgramGrammar.{ProgramSymbol, rows_of, reads, call as calling}
 use Rattle.print_laws.specs.CanonicalNames.{IsFree, AreFree}
@@ -22,7 +19,8 @@ use Rattle.print_laws.specs.CanonicalConditions.{IsCanonicalCondition, whole}
 use Rattle.print_laws.specs.CanonicalAssertions.{IsCanonicalBracketed}
 use Rattle.print_laws.specs.CanonicalStatements.{IsCanonicalStatement, skip, if_alone, if_else, while, split, assert, free, call, assign, AreCanonicalStatements, none, more}
 use Rattle.print_laws.proofs.FromRows.{Several, no_more, one_more, puts, Goal, Goes}
-use Rattle.print_laws.proofs.FromMeaning.{program_meaning, put, StatementMade, BlockMade, CallMade, ConditionMade, BracketedMade, GivenMade, ResultsMade, NoCall}
+use Rattle.print_laws.proofs.FromMade.{StatementMade, BlockMade, ConditionMade, BracketedMade, GivenMade, ResultsMade}
+use Rattle.print_laws.proofs.FromMeaning.{program_meaning, put, NoCall}
 use Rattle.print_laws.proofs.FromParts.{IsSoundRow, AreSoundRows, no_row, or_row, nth, free_name}
 use Rattle.print_laws.proofs.FromNames.{one_more_free}
 
@@ -45,12 +43,14 @@ closing_row = reads mark.RightBrace ∷ []
 
 block_row : IsSoundRow part.Block (nth (rows_of part.Block) 0)
 unfolding rows_of
-block_row = record { along = λ room last tokens parts goal g before.
-    let body = g.6 before in
-    let made = statements_made g.0 g.3 body.1 body.2 [] (none g.0) parts parts.blocks in
-    let close : Goes program_meaning closing_row g.0 body.0 body.1 (record parts { blocks = made.0 ∷ parts.blocks }) goal =
-        subst (λ (p : Parts). Goes program_meaning closing_row g.0 body.0 body.1 p goal) made.2 body.3 in
-    (Some close.0, close.1, record { inside = g.0; opens = g.1; block = made.0; canonical = made.1 }, close.4) }
+block_row = record {
+  along = λ room last tokens parts goal g before.
+      let body = g.6 before in
+      let made = statements_made g.0 g.3 body.1 body.2 [] (none g.0) parts parts.blocks in
+      let close : Goes program_meaning closing_row g.0 body.0 body.1 (record parts { blocks = made.0 ∷ parts.blocks }) goal =
+      subst (λ (p : Parts). Goes program_meaning closing_row g.0 body.0 body.1 p goal) made.2 body.3 in
+      (Some close.0, close.1, record { inside = g.0; opens = g.1; block = made.0; canonical = made.1 }, close.4);
+}
 
 pub block_sound : AreSoundRows part.Block (rows_of part.Block)
 unfolding rows_of
@@ -68,10 +68,12 @@ else_sound = or_row else_row no_row
 
 skip_row : IsSoundRow part.Statement (nth (rows_of part.Statement) 0)
 unfolding rows_of
-skip_row = record { along = λ room last tokens parts goal g before.
-    let place : Pos = place_of (Some g.0) in
-    let close = g.4 in
-    (Some close.0, close.1, record { statement = statement.Skip place; canonical = skip room place }, close.4) }
+skip_row = record {
+  along = λ room last tokens parts goal g before.
+      let place : Pos = place_of (Some g.0) in
+      let close = g.4 in
+      (Some close.0, close.1, record { statement = statement.Skip place; canonical = skip room place }, close.4);
+}
 
 if_canonical : (room : ℕ) (place : Pos) (c : ConditionMade whole room) (then : BlockMade room) → IsCanonicalStatement room (statement.If place c.condition then.block None)
 if_canonical room place c then =
@@ -88,17 +90,21 @@ else_canonical room place c then otherwise =
 
 if_row : IsSoundRow part.Statement (nth (rows_of part.Statement) 1)
 unfolding rows_of
-if_row = record { along = λ room last tokens parts goal g before.
-    let place : Pos = place_of (Some g.0) in
-    let c = g.4.4 tt in
-    let then = c.3.4 before in
-    elim (then.3 before) [
-      inl alone ↦ (then.0, then.1, record { statement = statement.If place c.2.condition then.2.block None; canonical = if_canonical room place c.2 then.2 }, alone.1)
-    | inr some ↦
-        (some.0, some.1,
-        record { statement = statement.If place c.2.condition then.2.block (Some some.2.block); canonical = else_canonical room place c.2 then.2 some.2 },
-        some.3)
-    ] }
+if_row = record {
+  along = λ room last tokens parts goal g before.
+      let place : Pos = place_of (Some g.0) in
+      let c = g.4.4 tt in
+      let then = c.3.4 before in
+      elim (then.3 before) [
+        | inl alone ↦ (then.0, then.1, record { statement = statement.If place c.2.condition then.2.block None; canonical = if_canonical room place c.2 then.2 }, alone.1)
+        | inr some ↦ (
+          some.0,
+          some.1,
+          record { statement = statement.If place c.2.condition then.2.block (Some some.2.block); canonical = else_canonical room place c.2 then.2 some.2 },
+          some.3,
+        )
+      ];
+}
 
 while_canonical : (room : ℕ) (place : Pos) (c : ConditionMade whole room) (b : BracketedMade room) (body : BlockMade room) →
     IsCanonicalStatement room (statement.While place c.condition b.bracketed body.block)
@@ -109,39 +115,49 @@ while_canonical room place c b body =
 
 while_row : IsSoundRow part.Statement (nth (rows_of part.Statement) 2)
 unfolding rows_of
-while_row = record { along = λ room last tokens parts goal g before.
-    let place : Pos = place_of (Some g.0) in
-    let c = g.4.4 tt in
-    let b = c.3.4 before.0 in
-    let body = b.3 before in
-    (body.0, body.1,
-    record { statement = statement.While place c.2.condition b.2.bracketed body.2.block; canonical = while_canonical room place c.2 b.2 body.2 },
-    body.3) }
+while_row = record {
+  along = λ room last tokens parts goal g before.
+      let place : Pos = place_of (Some g.0) in
+      let c = g.4.4 tt in
+      let b = c.3.4 before.0 in
+      let body = b.3 before in (
+        body.0,
+        body.1,
+        record { statement = statement.While place c.2.condition b.2.bracketed body.2.block; canonical = while_canonical room place c.2 b.2 body.2 },
+        body.3,
+      );
+}
 
 split_row : IsSoundRow part.Statement (nth (rows_of part.Statement) 3)
 unfolding rows_of
-split_row = record { along = λ room last tokens parts goal g before.
-    let place : Pos = place_of (Some g.0) in
-    let b = g.4 before.0 in
-    let close = b.3 in
-    (Some close.0, close.1, record { statement = statement.Split place b.2.bracketed; canonical = split room place b.2.bracketed b.2.canonical }, close.4) }
+split_row = record {
+  along = λ room last tokens parts goal g before.
+      let place : Pos = place_of (Some g.0) in
+      let b = g.4 before.0 in
+      let close = b.3 in
+      (Some close.0, close.1, record { statement = statement.Split place b.2.bracketed; canonical = split room place b.2.bracketed b.2.canonical }, close.4);
+}
 
 assert_row : IsSoundRow part.Statement (nth (rows_of part.Statement) 4)
 unfolding rows_of
-assert_row = record { along = λ room last tokens parts goal g before.
-    let place : Pos = place_of (Some g.0) in
-    let b = g.4 before.0 in
-    let close = b.3 in
-    (Some close.0, close.1, record { statement = statement.Assert place b.2.bracketed; canonical = assert room place b.2.bracketed b.2.canonical }, close.4) }
+assert_row = record {
+  along = λ room last tokens parts goal g before.
+      let place : Pos = place_of (Some g.0) in
+      let b = g.4 before.0 in
+      let close = b.3 in
+      (Some close.0, close.1, record { statement = statement.Assert place b.2.bracketed; canonical = assert room place b.2.bracketed b.2.canonical }, close.4);
+}
 
 free_row : IsSoundRow part.Statement (nth (rows_of part.Statement) 5)
 unfolding rows_of
-free_row = record { along = λ room last tokens parts goal g before.
-    let place : Pos = place_of (Some g.0) in
-    let name = g.4 in
-    let x : Name = name_of (Some name.0) in
-    let close = name.4 in
-    (Some close.0, close.1, record { statement = statement.Free place x; canonical = free room place x (free_name name.0 name.3) }, close.4) }
+free_row = record {
+  along = λ room last tokens parts goal g before.
+      let place : Pos = place_of (Some g.0) in
+      let name = g.4 in
+      let x : Name = name_of (Some name.0) in
+      let close = name.4 in
+      (Some close.0, close.1, record { statement = statement.Free place x; canonical = free room place x (free_name name.0 name.3) }, close.4);
+}
 
 -- nothing of a call was under way, and nothing is
 restored : (parts : Parts) (blocks : List (List Statement)) → NoCall parts →
@@ -183,34 +199,46 @@ ending_row = reads mark.Semicolon ∷ calling calls.MakeCall ∷ []
 call_made : (room : ℕ) (last : Option Token) (start tokens : List Token) (parts : Parts) (goal : Goal) (place : Pos) (x : Name) (results : Unit {0} ⊎ ResultsMade) (given : GivenMade room) →
     NoCall parts → IsFree x →
     Goes program_meaning ending_row room last tokens
-      (put part.CallRest room start tokens (record { results = results; given = given }) (record parts { places = place ∷ parts.places; names = x ∷ parts.names })) goal →
+    (put part.CallRest room start tokens (record { results = results; given = given }) (record parts { places = place ∷ parts.places; names = x ∷ parts.names })) goal →
     (behind : Option Token) × (others : List Token) × (made : StatementMade room) × goal behind others (record parts { blocks = with_statement made.statement parts.blocks })
-call_made room last start tokens parts goal place x (inl u) given quiet is g =
-    (Some g.0, g.1, record { statement = statement.Call (made_call parts place x (inl u) given); canonical = call_canonical parts place x room (inl u) given quiet is },
-    subst (λ (p : Parts). goal (Some g.0) g.1 p) (restored parts (with_statement (statement.Call (made_call parts place x (inl u) given)) parts.blocks) quiet) g.4)
-call_made room last start tokens parts goal place x (inr r) given quiet is g =
-    (Some g.0, g.1, record { statement = statement.Call (made_call parts place x (inr r) given); canonical = call_canonical parts place x room (inr r) given quiet is },
-    subst (λ (p : Parts). goal (Some g.0) g.1 p) (restored parts (with_statement (statement.Call (made_call parts place x (inr r) given)) parts.blocks) quiet) g.4)
+call_made room last start tokens parts goal place x (inl u) given quiet is g = (
+  Some g.0,
+  g.1,
+  record { statement = statement.Call (made_call parts place x (inl u) given); canonical = call_canonical parts place x room (inl u) given quiet is },
+  subst (λ (p : Parts). goal (Some g.0) g.1 p) (restored parts (with_statement (statement.Call (made_call parts place x (inl u) given)) parts.blocks) quiet) g.4,
+)
+call_made room last start tokens parts goal place x (inr r) given quiet is g = (
+  Some g.0,
+  g.1,
+  record { statement = statement.Call (made_call parts place x (inr r) given); canonical = call_canonical parts place x room (inr r) given quiet is },
+  subst (λ (p : Parts). goal (Some g.0) g.1 p) (restored parts (with_statement (statement.Call (made_call parts place x (inr r) given)) parts.blocks) quiet) g.4,
+)
 
 call_row : IsSoundRow part.Statement (nth (rows_of part.Statement) 6)
 unfolding rows_of
-call_row = record { along = λ room last tokens parts goal g before.
-    let place : Pos = place_of (Some g.0) in
-    let name = g.4 in
-    let x : Name = name_of (Some name.0) in
-    let others = name.4 (before.0, before.3, before.4) in
-    call_made room others.0 name.1 others.1 parts goal place x others.2.results others.2.given before (free_name name.0 name.3) others.3 }
+call_row = record {
+  along = λ room last tokens parts goal g before.
+      let place : Pos = place_of (Some g.0) in
+      let name = g.4 in
+      let x : Name = name_of (Some name.0) in
+      let others = name.4 (before.0, before.3, before.4) in
+      call_made room others.0 name.1 others.1 parts goal place x others.2.results others.2.given before (free_name name.0 name.3) others.3;
+}
 
 assign_row : IsSoundRow part.Statement (nth (rows_of part.Statement) 7)
 unfolding rows_of
-assign_row = record { along = λ room last tokens parts goal g before.
-    let p = g tt in
-    let place : Pos = place_of (Some p.3.0) in
-    let v = p.3.4 tt in
-    let close = v.3 in
-    (Some close.0, close.1,
-    record { statement = statement.Assign p.2.path place v.2.value; canonical = assign room p.2.path place v.2.value p.2.free v.2.canonical },
-    close.4) }
+assign_row = record {
+  along = λ room last tokens parts goal g before.
+      let p = g tt in
+      let place : Pos = place_of (Some p.3.0) in
+      let v = p.3.4 tt in
+      let close = v.3 in (
+        Some close.0,
+        close.1,
+        record { statement = statement.Assign p.2.path place v.2.value; canonical = assign room p.2.path place v.2.value p.2.free v.2.canonical },
+        close.4,
+      );
+}
 
 pub statement_sound : AreSoundRows part.Statement (rows_of part.Statement)
 unfolding rows_of

@@ -1,12 +1,11 @@
 -- Where no chain of assertions goes on, no operator comes next.
-use Rattle.std.proofs.Common.{◌≡◌, ◌⊎◌, ℕ, true, List, [], ◌∷◌, map, inl, inr, sym, ap, subst, refl}
+use Rattle.std.proofs.Common.{◌≡◌, true, List, [], ◌∷◌, map, inl, inr, ap, subst, refl}
 use Rattle.grammar_engine.specs.declared.symbol.Symbol.{Symbol}
 use Rattle.grammar_engine.specs.Grammars.{Rows, Rules, IsOneOf, rules_of}
 use Rattle.grammar_engine.specs.Predicting.{AreNamed, among, starts_of}
 use Rattle.grammar_engine.specs.Readings.{AnyEnd, IsNotBegun}
 use Rattle.grammar_engine.proofs.SameRows.{Has, carried}
 use Rattle.grammar_engine.proofs.Ends.{begun}
-use Rattle.pale_text.specs.declared.grammar.kind.ProgramKind.{ProgramKind}
 use Rattle.pale_text.specs.declared.grammar.kind.ProgramKind.TheVariants as kind
 use Rattle.pale_text.specs.declared.grammar.part.ProgramPart.{ProgramPart}
 use Rattle.pale_text.specs.declared.grammar.part.ProgramPart.TheVariants as part
@@ -14,12 +13,12 @@ use Rattle.pale_text.specs.declared.token.Mark.{Mark}
 use Rattle.pale_text.specs.declared.token.Mark.TheVariants as mark
 use Rattle.pale_text.specs.declared.token.Token.{Token}
 use Rattle.pale_text.specs.ProgramGrammar.{program_grammar}
-use Rattle.pale_text.specs.ProgramWords.{kind_of, kinds_in}
+use Rattle.pale_text.specs.ProgramWords.{kinds_in}
 use Rattle.pale_parse.specs.Tables.{program_rules, choices_of}
 use Rattle.pale_parse.specs.Hints.{program_hints, number_of, mark_number, starts_of as tables_starts_of}
 use Rattle.pale_parse.specs.TableLaws.{program_named, program_sound}
 use Rattle.print_laws.proofs.Framework.{Counts}
-use Rattle.print_laws.proofs.FromMeaning.{StopsAt, EndsIff, BeginsWith, IsOperator}
+use Rattle.print_laws.proofs.FromMade.{StopsAt, EndsIff, BeginsWith, IsOperator}
 
 module _ {N P A K : Type 0} (grammar : Rows N A K) (rules : Rules N P A K) (named : AreNamed grammar rules) where
   map_of_one : (ps : List P) (p : P) → IsOneOf p ps → IsOneOf (rules.row p) (map rules.row ps)

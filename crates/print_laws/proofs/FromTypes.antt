@@ -1,6 +1,6 @@
 -- Types and predicates that a reading makes are canonical.
-use Rattle.std.proofs.Common.{◌≡◌, inl, inr, ℕ, suc, List, [], ◌∷◌, ◌++◌, Option, Some, refl, sym, subst}
-use Rattle.grammar_engine.specs.declared.symbol.Symbol.TheVariants.{Read, Once, Many}
+use Rattle.std.proofs.Common.{◌≡◌, inl, inr, ℕ, List, [], ◌∷◌, ◌++◌, Option, Some, refl, subst}
+use Rattle.grammar_engine.specs.declared.symbol.Symbol.TheVariants.{Once, Many}
 use Rattle.pale_text.specs.declared.grammar.act.PredicateAct.TheVariants as predicates
 use Rattle.pale_text.specs.declared.grammar.act.TypeAct.TheVariants as types
 use Rattle.pale_text.specs.declared.grammar.part.ProgramPart.TheVariants as part
@@ -9,18 +9,17 @@ use Rattle.pale_text.specs.declared.token.Token.{Token}
 use Rattle.pale_text.specs.declared.tree.names.Name.{Name}
 use Rattle.pale_text.specs.declared.tree.declaration.FieldDeclaration.{FieldDeclaration}
 use Rattle.pale_text.specs.declared.tree.declaration.FieldForm.TheVariants as form
-use Rattle.pale_text.specs.declared.tree.declaration.PredicateDeclaration.{PredicateDeclaration}
 use Rattle.pale_text.specs.declared.tree.declaration.PredicateParameter.{PredicateParameter}
 use Rattle.pale_text.specs.declared.tree.declaration.PredicateParameter.TheVariants as parameter
 use Rattle.pale_text.specs.declared.tree.declaration.TypeDeclaration.{TypeDeclaration}
 use Rattle.pale_text.specs.declared.tree.declaration.VariantDeclaration.{VariantDeclaration}
-use Rattle.piles.specs.Piles.{top, rest}
-use Rattle.pale_text.specs.MakingParts.{Parts, nameless, name_of, place_of}
+use Rattle.pale_text.specs.MakingParts.{Parts, name_of}
 use Rattle.pale_text.specs.ProgramGrammar.{ProgramSymbol, rows_of, reads, type as making, predicate as judging}
 use Rattle.print_laws.specs.CanonicalNames.{IsFree}
-use Rattle.print_laws.specs.CanonicalDeclarations.{All, IsCanonicalField, IsCanonicalVariant, IsCanonicalType, IsFreePredicateParameter, IsCanonicalPredicate}
+use Rattle.print_laws.specs.CanonicalDeclarations.{All, IsCanonicalField, IsCanonicalVariant, IsFreePredicateParameter}
 use Rattle.print_laws.proofs.FromRows.{Several, no_more, one_more, puts, Goal, Goes}
-use Rattle.print_laws.proofs.FromMeaning.{program_meaning, PredicateParametersMade, PredicateMade}
+use Rattle.print_laws.proofs.FromMade.{PredicateParametersMade}
+use Rattle.print_laws.proofs.FromMeaning.{program_meaning}
 use Rattle.print_laws.proofs.FromParts.{IsSoundRow, AreSoundRows, no_row, or_row, nth, free_name}
 
 pub all_and : {X : Type 0} (P : X → Type 0) (xs : List X) (x : X) → All P xs → P x → All P (xs ++ x ∷ [])
@@ -31,39 +30,51 @@ all_and P (y ∷ xs) x all is = (all.0, all_and P xs x all.1 is)
 
 bool_row : IsSoundRow part.Field (nth (rows_of part.Field) 0)
 unfolding rows_of
-bool_row = record { along = λ room last tokens parts goal g before.
-    let name = g.4 in
-    let close = name.4 in
-    (Some close.0, close.1,
-    record { field = record { name = name_of (Some name.0); form = form.Bool }; canonical = (free_name name.0 name.3, tt) },
-    close.4) }
+bool_row = record {
+  along = λ room last tokens parts goal g before.
+      let name = g.4 in
+      let close = name.4 in (
+        Some close.0,
+        close.1,
+        record { field = record { name = name_of (Some name.0); form = form.Bool }; canonical = (free_name name.0 name.3, tt) },
+        close.4,
+      );
+}
 
 data_row : IsSoundRow part.Field (nth (rows_of part.Field) 1)
 unfolding rows_of
-data_row = record { along = λ room last tokens parts goal g before.
-    let name = g.4 in
-    let ty = name.4.4 in
-    let close = ty.4 in
-    (Some close.0, close.1,
-    record {
-      field = record { name = name_of (Some name.0); form = form.Data (name_of (Some ty.0)) };
-      canonical = (free_name name.0 name.3, free_name ty.0 ty.3);
-    },
-    close.4) }
+data_row = record {
+  along = λ room last tokens parts goal g before.
+      let name = g.4 in
+      let ty = name.4.4 in
+      let close = ty.4 in (
+        Some close.0,
+        close.1,
+        record {
+          field = record { name = name_of (Some name.0); form = form.Data (name_of (Some ty.0)) };
+          canonical = (free_name name.0 name.3, free_name ty.0 ty.3);
+        },
+        close.4,
+      );
+}
 
 pointer_row : IsSoundRow part.Field (nth (rows_of part.Field) 2)
 unfolding rows_of
-pointer_row = record { along = λ room last tokens parts goal g before.
-    let name = g.4 in
-    let ty = name.4.4 in
-    let r = ty.4.4 tt in
-    let close = r.3.4 in
-    (Some close.0, close.1,
-    record {
-      field = record { name = name_of (Some name.0); form = form.Pointer (name_of (Some ty.0)) r.2.route };
-      canonical = (free_name name.0 name.3, (free_name ty.0 ty.3, r.2.canonical));
-    },
-    close.4) }
+pointer_row = record {
+  along = λ room last tokens parts goal g before.
+      let name = g.4 in
+      let ty = name.4.4 in
+      let r = ty.4.4 tt in
+      let close = r.3.4 in (
+        Some close.0,
+        close.1,
+        record {
+          field = record { name = name_of (Some name.0); form = form.Pointer (name_of (Some ty.0)) r.2.route };
+          canonical = (free_name name.0 name.3, (free_name ty.0 ty.3, r.2.canonical));
+        },
+        close.4,
+      );
+}
 
 pub field_sound : AreSoundRows part.Field (rows_of part.Field)
 unfolding rows_of
@@ -83,16 +94,18 @@ ending_variant = reads mark.RightBrace ∷ making types.AddVariant ∷ []
 
 variant_row : IsSoundRow part.Variant (nth (rows_of part.Variant) 0)
 unfolding rows_of
-variant_row = record { along = λ room last tokens parts goal g before.
-    let name = g.4 in
-    let x : Name = name_of (Some name.0) in
-    let brace = name.4 in
-    let several = brace.4 tt in
-    let made = fields_made room brace.1 several.1 several.2 parts.fields before (record parts { names = x ∷ parts.names }) in
-    let close : Goes program_meaning ending_variant room several.0 several.1 (record parts { names = x ∷ parts.names; fields = made.0 }) goal =
-        subst (λ (p : Parts). Goes program_meaning ending_variant room several.0 several.1 p goal) made.2 several.3 in
-    let v : VariantDeclaration = record { name = x; fields = made.0 } in
-    (Some close.0, close.1, record { variant = v; canonical = (free_name name.0 name.3, made.1) }, close.4) }
+variant_row = record {
+  along = λ room last tokens parts goal g before.
+      let name = g.4 in
+      let x : Name = name_of (Some name.0) in
+      let brace = name.4 in
+      let several = brace.4 tt in
+      let made = fields_made room brace.1 several.1 several.2 parts.fields before (record parts { names = x ∷ parts.names }) in
+      let close : Goes program_meaning ending_variant room several.0 several.1 (record parts { names = x ∷ parts.names; fields = made.0 }) goal =
+      subst (λ (p : Parts). Goes program_meaning ending_variant room several.0 several.1 p goal) made.2 several.3 in
+      let v : VariantDeclaration = record { name = x; fields = made.0 } in
+      (Some close.0, close.1, record { variant = v; canonical = (free_name name.0 name.3, made.1) }, close.4);
+}
 
 pub variant_sound : AreSoundRows part.Variant (rows_of part.Variant)
 unfolding rows_of
@@ -114,20 +127,22 @@ ending_type = making types.AddType ∷ []
 
 type_row : IsSoundRow part.«Type» (nth (rows_of part.«Type») 0)
 unfolding rows_of
-type_row = record { along = λ room last tokens parts goal g before.
-    let name = g.4 in
-    let x : Name = name_of (Some name.0) in
-    let brace = name.4.4 in
-    let several = brace.4 tt in
-    let fs = fields_made room brace.1 several.1 several.2 parts.fields before.0 (record parts { names = x ∷ parts.names }) in
-    let behind : Goes program_meaning behind_fields room several.0 several.1 (record parts { names = x ∷ parts.names; fields = fs.0 }) goal =
-        subst (λ (p : Parts). Goes program_meaning behind_fields room several.0 several.1 p goal) fs.2 several.3 in
-    let others = behind.4 tt in
-    let vs = variants_made room behind.1 others.1 others.2 parts.variants before.1 (record parts { names = x ∷ parts.names; common = fs.0 }) in
-    let close : Goes program_meaning ending_type room others.0 others.1 (record parts { names = x ∷ parts.names; common = fs.0; fields = []; variants = vs.0 }) goal =
-        subst (λ (p : Parts). Goes program_meaning ending_type room others.0 others.1 p goal) vs.2 others.3 in
-    let t : TypeDeclaration = record { name = x; fields = fs.0; variants = vs.0 } in
-    (others.0, others.1, record { type = t; canonical = record { name = free_name name.0 name.3; fields = fs.1; variants = vs.1 } }, close) }
+type_row = record {
+  along = λ room last tokens parts goal g before.
+      let name = g.4 in
+      let x : Name = name_of (Some name.0) in
+      let brace = name.4.4 in
+      let several = brace.4 tt in
+      let fs = fields_made room brace.1 several.1 several.2 parts.fields before.0 (record parts { names = x ∷ parts.names }) in
+      let behind : Goes program_meaning behind_fields room several.0 several.1 (record parts { names = x ∷ parts.names; fields = fs.0 }) goal =
+      subst (λ (p : Parts). Goes program_meaning behind_fields room several.0 several.1 p goal) fs.2 several.3 in
+      let others = behind.4 tt in
+      let vs = variants_made room behind.1 others.1 others.2 parts.variants before.1 (record parts { names = x ∷ parts.names; common = fs.0 }) in
+      let close : Goes program_meaning ending_type room others.0 others.1 (record parts { names = x ∷ parts.names; common = fs.0; fields = []; variants = vs.0 }) goal =
+      subst (λ (p : Parts). Goes program_meaning ending_type room others.0 others.1 p goal) vs.2 others.3 in
+      let t : TypeDeclaration = record { name = x; fields = fs.0; variants = vs.0 } in
+      (others.0, others.1, record { type = t; canonical = record { name = free_name name.0 name.3; fields = fs.1; variants = vs.1 } }, close);
+}
 
 pub type_sound : AreSoundRows part.«Type» (rows_of part.«Type»)
 unfolding rows_of
@@ -137,22 +152,28 @@ type_sound = or_row type_row no_row
 
 cell_row : IsSoundRow part.PredicateParameter (nth (rows_of part.PredicateParameter) 0)
 unfolding rows_of
-cell_row = record { along = λ room last tokens parts goal g before.
-    let ty = g.4.4 in
-    (Some ty.0, ty.1, record { parameter = parameter.Cell (name_of (Some g.0)) (name_of (Some ty.0)); free = (free_name g.0 g.3, free_name ty.0 ty.3) }, ty.4) }
+cell_row = record {
+  along = λ room last tokens parts goal g before.
+      let ty = g.4.4 in
+      (Some ty.0, ty.1, record { parameter = parameter.Cell (name_of (Some g.0)) (name_of (Some ty.0)); free = (free_name g.0 g.3, free_name ty.0 ty.3) }, ty.4);
+}
 
 set_row : IsSoundRow part.PredicateParameter (nth (rows_of part.PredicateParameter) 1)
 unfolding rows_of
-set_row = record { along = λ room last tokens parts goal g before.
-    let name = g.4 in
-    let ty = name.4.4 in
-    (Some ty.0, ty.1, record { parameter = parameter.Set (name_of (Some name.0)) (name_of (Some ty.0)); free = (free_name name.0 name.3, free_name ty.0 ty.3) }, ty.4) }
+set_row = record {
+  along = λ room last tokens parts goal g before.
+      let name = g.4 in
+      let ty = name.4.4 in
+      (Some ty.0, ty.1, record { parameter = parameter.Set (name_of (Some name.0)) (name_of (Some ty.0)); free = (free_name name.0 name.3, free_name ty.0 ty.3) }, ty.4);
+}
 
 bool_parameter_row : IsSoundRow part.PredicateParameter (nth (rows_of part.PredicateParameter) 2)
 unfolding rows_of
-bool_parameter_row = record { along = λ room last tokens parts goal g before.
-    let name = g.4 in
-    (Some name.0, name.1, record { parameter = parameter.Bool (name_of (Some name.0)); free = free_name name.0 name.3 }, name.4) }
+bool_parameter_row = record {
+  along = λ room last tokens parts goal g before.
+      let name = g.4 in
+      (Some name.0, name.1, record { parameter = parameter.Bool (name_of (Some name.0)); free = free_name name.0 name.3 }, name.4);
+}
 
 pub predicate_parameter_sound : AreSoundRows part.PredicateParameter (rows_of part.PredicateParameter)
 unfolding rows_of
@@ -176,12 +197,14 @@ parameters_made room start end (one_more _ middle _ one others) ps c parts =
 
 predicate_parameters_row : IsSoundRow part.PredicateParameters (nth (rows_of part.PredicateParameters) 0)
 unfolding rows_of
-predicate_parameters_row = record { along = λ room last tokens parts goal g before.
-    let first = g tt in
-    let others = first.3 tt in
-    let made = parameters_made room first.1 others.1 others.2 (parts.predicate_parameters ++ first.2.parameter ∷ [])
-        (all_and IsFreePredicateParameter parts.predicate_parameters first.2.parameter before first.2.free) parts in
-    (others.0, others.1, made.0, subst (λ q. goal others.0 others.1 q) made.1 others.3) }
+predicate_parameters_row = record {
+  along = λ room last tokens parts goal g before.
+      let first = g tt in
+      let others = first.3 tt in
+      let made = parameters_made room first.1 others.1 others.2 (parts.predicate_parameters ++ first.2.parameter ∷ [])
+      (all_and IsFreePredicateParameter parts.predicate_parameters first.2.parameter before first.2.free) parts in
+      (others.0, others.1, made.0, subst (λ q. goal others.0 others.1 q) made.1 others.3);
+}
 
 pub predicate_parameters_sound : AreSoundRows part.PredicateParameters (rows_of part.PredicateParameters)
 unfolding rows_of
@@ -195,23 +218,27 @@ body_made : (room : ℕ) (last : Option Token) (tokens : List Token) (parts : Pa
     Goes program_meaning (Once part.Predicate ∷ []) room last tokens parts goal
 body_made room last tokens parts goal x ps free frees used g before =
     let b = g.4.4 used in
-    let close = b.3 in
-    (Some close.0, close.1,
-    record {
-      predicate = record { name = x; parameters = ps; body = b.2.bracketed };
-      canonical = record { name = free; parameters = frees; body = b.2.canonical };
-    },
-    close.4)
+    let close = b.3 in (
+      Some close.0,
+      close.1,
+      record {
+        predicate = record { name = x; parameters = ps; body = b.2.bracketed };
+        canonical = record { name = free; parameters = frees; body = b.2.canonical };
+      },
+      close.4,
+    )
 
 predicate_row : IsSoundRow part.Predicate (nth (rows_of part.Predicate) 0)
 unfolding rows_of
-predicate_row = record { along = λ room last tokens parts goal g before.
-    let name = g.4 in
-    let x : Name = name_of (Some name.0) in
-    elim (name.4.4 before.1) [
-      inl alone ↦ body_made room (Some name.4.0) name.4.1 parts goal x parts.predicate_parameters (free_name name.0 name.3) before.1 before.0 alone.1 before
-    | inr some ↦ body_made room some.0 some.1 parts goal x some.2.parameters (free_name name.0 name.3) some.2.free before.0 some.3 before
-    ] }
+predicate_row = record {
+  along = λ room last tokens parts goal g before.
+      let name = g.4 in
+      let x : Name = name_of (Some name.0) in
+      elim (name.4.4 before.1) [
+        | inl alone ↦ body_made room (Some name.4.0) name.4.1 parts goal x parts.predicate_parameters (free_name name.0 name.3) before.1 before.0 alone.1 before
+        | inr some ↦ body_made room some.0 some.1 parts goal x some.2.parameters (free_name name.0 name.3) some.2.free before.0 some.3 before
+      ];
+}
 
 pub predicate_sound : AreSoundRows part.Predicate (rows_of part.Predicate)
 unfolding rows_of

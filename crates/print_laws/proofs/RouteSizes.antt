@@ -96,20 +96,26 @@ node_takes (Route-F.IsType ty) asked = record { takes = λ after. omega arith }
 node_takes (Route-F.IsVariant ty variant) asked = record { takes = λ after. omega arith }
 node_takes (Route-F.IsBool f value) asked = record { takes = λ after. let e = test_takes value (token.Name f.bytes ∷ after) in omega arith }
 node_takes (Route-F.Then first others) asked =
-    grouped_takes (nat_lt 1 asked) _ _ (record { takes = λ after.
-      let e = (first.1 2).takes (each_behind mark.Dot (λ (other : Placed). other 2) (map route_tokens (map (λ (e : Known). e.0) others)) after) in
-      let more = behind_takes mark.Dot 2 others after in
-      omega arith })
+    grouped_takes (nat_lt 1 asked) _ _ (record {
+      takes = λ after.
+          let e = (first.1 2).takes (each_behind mark.Dot (λ (other : Placed). other 2) (map route_tokens (map (λ (e : Known). e.0) others)) after) in
+          let more = behind_takes mark.Dot 2 others after in
+          omega arith;
+    })
 node_takes (Route-F.Or first others) asked =
-    grouped_takes (nat_lt 0 asked) _ _ (record { takes = λ after.
-      let e = (first.1 1).takes (each_behind mark.Plus (λ (other : Placed). other 1) (map route_tokens (map (λ (e : Known). e.0) others)) after) in
-      let more = behind_takes mark.Plus 1 others after in
-      omega arith })
+    grouped_takes (nat_lt 0 asked) _ _ (record {
+      takes = λ after.
+          let e = (first.1 1).takes (each_behind mark.Plus (λ (other : Placed). other 1) (map route_tokens (map (λ (e : Known). e.0) others)) after) in
+          let more = behind_takes mark.Plus 1 others after in
+          omega arith;
+    })
 node_takes (Route-F.Star inner places) asked =
-    grouped_takes (nat_lt 2 asked) _ _ (record { takes = λ after.
-      let e = (inner.1 3).takes (stars places after) in
-      let more = stars_take places after in
-      omega arith })
+    grouped_takes (nat_lt 2 asked) _ _ (record {
+      takes = λ after.
+          let e = (inner.1 3).takes (stars places after) in
+          let more = stars_take places after in
+          omega arith;
+    })
 
 tokens_at : (x : Route-F Route) → route_tokens (roll-Route x) ≡ route_node (map-Route Route Placed route_tokens x)
 unfolding route_tokens

@@ -2,5 +2,7 @@
 #![tactic(auto)]
 
 mod laws;
+mod parsed;
 
 pub use laws::canonical_programs_are_read_back;
+pub use parsed::{parsed_programs_are_canonical, parsed_programs_are_read_back};

@@ -1,0 +1,176 @@
+-- The program that a reading makes is canonical.
+use Rattle.std.proofs.Common.{◌⊎◌, inl, inr, ℕ, List, [], ◌∷◌, ◌++◌, None, refl, sym, subst}
+use Rattle.pale_text.specs.declared.grammar.part.ProgramPart.{ProgramPart}
+use Rattle.pale_text.specs.declared.grammar.part.ProgramPart.TheVariants as part
+use Rattle.pale_text.specs.declared.token.Token.{Token}
+use Rattle.pale_text.specs.declared.token.TokenKind.{TokenKind}
+use Rattle.pale_text.specs.declared.token.TokenKind.TheVariants as token
+use Rattle.pale_text.specs.declared.token.TokenList.{TokenList}
+use Rattle.pale_text.specs.declared.tree.declaration.Declaration.TheVariants as declaration
+use Rattle.pale_text.specs.declared.tree.declaration.Program.{Program}
+use Rattle.pale_text.specs.Lexing.{Reaches, at_start, past_gap, past_comment, past_token, IsLexed}
+use Rattle.pale_text.specs.MakingParts.{Parts, nothing}
+use Rattle.pale_text.specs.ProgramGrammar.{program_grammar}
+use Rattle.pale_text.specs.ProgramReading.{max_levels, IsParsedAs}
+use Rattle.pale_text.specs.Spelling.{IsName, Spells}
+use Rattle.print_laws.specs.CanonicalDeclarations.{All, IsCanonicalDeclaration, IsCanonical}
+use Rattle.print_laws.proofs.FromRows.{IsNamed, AreNamed, Several, no_more, one_more, puts, IsSoundAt, IsKeptAt, held}
+use Rattle.print_laws.proofs.FromMade.{TypeMade, PredicateMade, ProcedureMade}
+use Rattle.print_laws.proofs.FromMeaning.{program_meaning, put_declaration, BeforeDeclaration}
+use Rattle.print_laws.proofs.FromParts.{sound_at}
+use Rattle.print_laws.proofs.FromNames.{path_sound, path_step_sound, term_sound}
+use Rattle.print_laws.proofs.FromRoutes.{route_sound, next_alternative_sound, sequence_sound, next_repeated_sound, repeated_sound, star_sound, step_sound, up_name_sound, variant_test_sound}
+use Rattle.print_laws.proofs.FromConditions.{condition_sound, next_conjunction_sound, conjunction_sound, next_literal_sound, literal_sound, literal_relation_sound}
+use Rattle.print_laws.proofs.FromAtoms.{relation_sound, name_relation_sound, used_paths_sound, next_used_path_sound, path_alone_step_sound, name_rest_sound, primary_sound}
+use Rattle.print_laws.proofs.FromAssertions.{and_chain_sound, next_negation_sound, or_chain_sound, next_and_chain_sound, iff_sound, next_implication_sound, implication_sound, implied_sound, negation_sound, set_word_sound, next_bound_sound, quantified_sound, bracketed_sound}
+use Rattle.print_laws.proofs.FromCalls.{argument_sound, next_argument_sound, argued_sound, logic_arguments_sound, keep_sound, arguments_sound, next_result_sound, call_rest_sound, value_sound, new_variant_sound}
+use Rattle.print_laws.proofs.FromStatements.{block_sound, else_sound, statement_sound}
+use Rattle.print_laws.proofs.FromTypes.{all_and, field_sound, variant_sound, type_sound, predicate_parameter_sound, next_predicate_parameter_sound, predicate_parameters_sound, predicate_sound}
+use Rattle.print_laws.proofs.FromProcedures.{parameter_sound, next_parameter_sound, parameters_sound, local_sound, returns_sound, logic_parameter_sound, next_logic_parameter_sound, logic_sound, pre_sound, post_sound, procedure_sound, declaration_sound}
+
+-- ---- each part makes what it means
+
+sound : (n : ProgramPart) → IsSoundAt program_meaning n
+sound part.Declaration = sound_at declaration_sound
+sound part.«Type» = sound_at type_sound
+sound part.Variant = sound_at variant_sound
+sound part.Field = sound_at field_sound
+sound part.Route = sound_at route_sound
+sound part.NextAlternative = sound_at next_alternative_sound
+sound part.Sequence = sound_at sequence_sound
+sound part.NextRepeated = sound_at next_repeated_sound
+sound part.Repeated = sound_at repeated_sound
+sound part.Star = sound_at star_sound
+sound part.Step = sound_at step_sound
+sound part.UpName = sound_at up_name_sound
+sound part.VariantTest = sound_at variant_test_sound
+sound part.Predicate = sound_at predicate_sound
+sound part.PredicateParameters = sound_at predicate_parameters_sound
+sound part.NextPredicateParameter = sound_at next_predicate_parameter_sound
+sound part.PredicateParameter = sound_at predicate_parameter_sound
+sound part.Bracketed = sound_at bracketed_sound
+sound part.Procedure = sound_at procedure_sound
+sound part.Returns = sound_at returns_sound
+sound part.Logic = sound_at logic_sound
+sound part.NextLogicParameter = sound_at next_logic_parameter_sound
+sound part.LogicParameter = sound_at logic_parameter_sound
+sound part.Pre = sound_at pre_sound
+sound part.Post = sound_at post_sound
+sound part.Parameters = sound_at parameters_sound
+sound part.NextParameter = sound_at next_parameter_sound
+sound part.Parameter = sound_at parameter_sound
+sound part.Local = sound_at local_sound
+sound part.Block = sound_at block_sound
+sound part.Statement = sound_at statement_sound
+sound part.Else = sound_at else_sound
+sound part.CallRest = sound_at call_rest_sound
+sound part.NextResult = sound_at next_result_sound
+sound part.Arguments = sound_at arguments_sound
+sound part.Argued = sound_at argued_sound
+sound part.NextArgument = sound_at next_argument_sound
+sound part.LogicArguments = sound_at logic_arguments_sound
+sound part.Argument = sound_at argument_sound
+sound part.Keep = sound_at keep_sound
+sound part.Value = sound_at value_sound
+sound part.NewVariant = sound_at new_variant_sound
+sound part.Condition = sound_at condition_sound
+sound part.NextConjunction = sound_at next_conjunction_sound
+sound part.Conjunction = sound_at conjunction_sound
+sound part.NextLiteral = sound_at next_literal_sound
+sound part.Literal = sound_at literal_sound
+sound part.LiteralRelation = sound_at literal_relation_sound
+sound part.Term = sound_at term_sound
+sound part.Path = sound_at path_sound
+sound part.PathStep = sound_at path_step_sound
+sound part.Iff = sound_at iff_sound
+sound part.NextImplication = sound_at next_implication_sound
+sound part.Implication = sound_at implication_sound
+sound part.Implied = sound_at implied_sound
+sound part.OrChain = sound_at or_chain_sound
+sound part.NextAndChain = sound_at next_and_chain_sound
+sound part.AndChain = sound_at and_chain_sound
+sound part.NextNegation = sound_at next_negation_sound
+sound part.Negation = sound_at negation_sound
+sound part.Quantified = sound_at quantified_sound
+sound part.SetWord = sound_at set_word_sound
+sound part.NextBound = sound_at next_bound_sound
+sound part.Primary = sound_at primary_sound
+sound part.NameRest = sound_at name_rest_sound
+sound part.UsedPaths = sound_at used_paths_sound
+sound part.NextUsedPath = sound_at next_used_path_sound
+sound part.PathAloneStep = sound_at path_alone_step_sound
+sound part.NameRelation = sound_at name_relation_sound
+sound part.Relation = sound_at relation_sound
+
+declaration_kept : (room : ℕ) (made : TypeMade room ⊎ (PredicateMade room ⊎ ProcedureMade room)) (parts : Parts) → BeforeDeclaration room parts →
+    BeforeDeclaration room (put_declaration made parts)
+declaration_kept room (inl made) parts before = ((tt, tt), before.1, before.2)
+declaration_kept room (inr (inl made)) parts before = (before.0, (before.1.0, tt), before.2)
+declaration_kept room (inr (inr made)) parts before = (before.0, before.1, (before.2.0, tt, tt, tt, tt, tt))
+
+keeps : (n : ProgramPart) → IsKeptAt program_meaning n
+keeps part.Declaration = record { enters = λ room parts b. b; kept = λ room start end made parts b. declaration_kept room made parts b }
+keeps part.Variant = record { enters = λ room parts b. b; kept = λ room start end made parts b. tt }
+keeps part.Statement = record { enters = λ room parts b. b; kept = λ room start end made parts b. b }
+keeps part.NextImplication = record { enters = λ room parts b. b; kept = λ room start end made parts b. b }
+keeps part.NextAndChain = record { enters = λ room parts b. b; kept = λ room start end made parts b. b }
+keeps part.NextNegation = record { enters = λ room parts b. b; kept = λ room start end made parts b. b }
+keeps part.Field = record { enters = λ room parts b. tt; kept = λ room start end made parts b. tt }
+keeps part.NextAlternative = record { enters = λ room parts b. tt; kept = λ room start end made parts b. tt }
+keeps part.NextRepeated = record { enters = λ room parts b. tt; kept = λ room start end made parts b. tt }
+keeps part.Star = record { enters = λ room parts b. tt; kept = λ room start end made parts b. tt }
+keeps part.NextPredicateParameter = record { enters = λ room parts b. tt; kept = λ room start end made parts b. tt }
+keeps part.NextLogicParameter = record { enters = λ room parts b. tt; kept = λ room start end made parts b. tt }
+keeps part.NextParameter = record { enters = λ room parts b. tt; kept = λ room start end made parts b. tt }
+keeps part.Local = record { enters = λ room parts b. tt; kept = λ room start end made parts b. tt }
+keeps part.NextResult = record { enters = λ room parts b. tt; kept = λ room start end made parts b. tt }
+keeps part.NextArgument = record { enters = λ room parts b. tt; kept = λ room start end made parts b. tt }
+keeps part.NextConjunction = record { enters = λ room parts b. tt; kept = λ room start end made parts b. tt }
+keeps part.NextLiteral = record { enters = λ room parts b. tt; kept = λ room start end made parts b. tt }
+keeps part.PathStep = record { enters = λ room parts b. tt; kept = λ room start end made parts b. tt }
+keeps part.NextBound = record { enters = λ room parts b. tt; kept = λ room start end made parts b. tt }
+keeps part.NextUsedPath = record { enters = λ room parts b. tt; kept = λ room start end made parts b. tt }
+keeps part.PathAloneStep = record { enters = λ room parts b. tt; kept = λ room start end made parts b. tt }
+keeps _ = record { enters = λ room parts b. absurd b; kept = λ room start end made parts b. absurd b }
+
+-- ---- a text's names are names
+
+named : (k : TokenKind) (piece : List ℕ) → Spells k piece → IsNamed k
+named (token.Name bytes) piece spells = subst (λ b. IsName b) (sym spells.0) spells.1
+named (token.Number digits) piece spells = tt
+named (token.Mark mark) piece spells = tt
+
+one_more_named : (tokens : List Token) (one : Token) → AreNamed tokens → IsNamed one.kind → AreNamed (tokens ++ one ∷ [])
+one_more_named [] one all is = (is, tt)
+one_more_named (first ∷ tokens) one all is = (all.0, one_more_named tokens one all.1 is)
+
+all_named : {text left : List ℕ} {tokens : List Token} {place : _} → Reaches text tokens place left → AreNamed tokens
+all_named at_start = tt
+all_named (past_gap tokens place byte left r is) = all_named r
+all_named (past_comment tokens place comment left r is ends) = all_named r
+all_named (past_token tokens place kind piece left r longest) = one_more_named tokens _ (all_named r) (named kind piece longest.spells)
+
+-- ---- programs
+
+declarations_made : (room : ℕ) (start end : List Token) (several : Several program_meaning part.Declaration room start end) (parts : Parts) →
+    All (IsCanonicalDeclaration room) parts.declarations →
+    All (IsCanonicalDeclaration room) (puts program_meaning part.Declaration room start end several parts).declarations
+declarations_made room start end (no_more _ stops) parts all = all
+declarations_made room start end (one_more _ middle _ (inl one) others) parts all =
+    declarations_made room middle end others (put_declaration {room = room} (inl one) parts)
+    (all_and (IsCanonicalDeclaration room) parts.declarations (declaration.«Type» one.type) all one.canonical)
+declarations_made room start end (one_more _ middle _ (inr (inl one)) others) parts all =
+    declarations_made room middle end others (put_declaration {room = room} (inr (inl one)) parts)
+    (all_and (IsCanonicalDeclaration room) parts.declarations (declaration.Predicate one.predicate) all one.canonical)
+declarations_made room start end (one_more _ middle _ (inr (inr one)) others) parts all =
+    declarations_made room middle end others (put_declaration {room = room} (inr (inr one)) parts)
+    (all_and (IsCanonicalDeclaration room) parts.declarations (declaration.Procedure one.procedure) all one.canonical)
+
+-- a program that is read, and opens no level above the limit, is canonical, and so does its spelling
+pub canonical_from : (text : List ℕ) (list : TokenList) (tree : Program) → IsLexed text list → IsParsedAs list.tokens tree → IsCanonical max_levels tree
+unfolding program_grammar
+canonical_from text list tree lexed parsed =
+    let g = held program_meaning sound keeps max_levels parsed.program.reading list.tokens refl (all_named lexed) parsed.shallow None nothing
+    ((tt, tt), (refl, tt), ((refl, refl, refl, refl, refl), tt, tt, tt, tt, tt)) in
+    subst (λ (p : Program). IsCanonical max_levels p) (sym parsed.program.made)
+    (subst (λ (p : Parts). All (IsCanonicalDeclaration max_levels) p.declarations) g.3 (declarations_made max_levels list.tokens g.1 g.2 nothing tt))
