@@ -525,3 +525,11 @@ pub equivalent_size : (a other : Assertion) (f : Bool) → assertion_size (equiv
 equivalent_size = opened_assertion (λ a. (other : Assertion) (f : Bool) → assertion_size (equivalent a other) 0 f ≤ assertion_size a 0 true + suc (assertion_size other 1 f)) (λ x other f.
     subst (λ (n : Assertion-F Assertion). assertion_size (iff_by n (roll-Assertion x) other) 0 f ≤ assertion_size (roll-Assertion x) 0 true + suc (assertion_size other 1 f))
     (sym (out-roll-Assertion x)) (iff_by_size x other f))
+
+pub used_last : (ps : List Path) (p : Path) → used_size (ps ++ p ∷ []) ≤ used_size ps + suc (path_size p)
+used_last [] p = omega arith
+used_last (q ∷ ps) p = let e = paths_last ps p in omega arith
+  where
+    paths_last : (ps : List Path) (p : Path) → paths_size (ps ++ p ∷ []) ≡ paths_size ps + suc (path_size p)
+    paths_last [] p = omega arith
+    paths_last (q ∷ ps) p = let e = paths_last ps p in omega arith
