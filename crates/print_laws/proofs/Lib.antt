@@ -50,3 +50,6 @@ pub mod RouteSizes
 pub mod NameSizes
 pub mod ConditionSizes
 pub mod AssertionSizes
+pub mod ListSizes
+pub mod StatementSizes
+pub mod DeclarationSizes
