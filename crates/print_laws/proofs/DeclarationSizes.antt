@@ -1,5 +1,5 @@
 -- How many tokens declarations and programs have.
-use Rattle.std.proofs.Common.{◌≡◌, ℕ, suc, ◌+◌, ◌≤◌, List, [], ◌∷◌, length, refl, arith}
+use Rattle.std.proofs.Common.{◌≡◌, ℕ, suc, ◌+◌, ◌≤◌, false, List, [], ◌∷◌, length, refl, arith}
 use Rattle.std.specs.Prelude.{codes}
 use Rattle.pale_text.specs.declared.token.Mark.TheVariants as mark
 use Rattle.pale_text.specs.declared.tree.declaration.Declaration.{Declaration}
@@ -175,3 +175,11 @@ declaration_takes (declaration.Procedure p) = procedure_takes p
 pub program_length : (p : Program) → length (program_tokens p) ≡ each_size declaration_size p.declarations
 unfolding program_tokens
 program_length p = let e = each_takes declaration_tokens declaration_size declaration_takes p.declarations [] in omega arith
+
+pub results_at_most : (ps : List Parameter) → results_size ps ≤ suc (suc (suc (separated_size parameter_size ps)))
+results_at_most [] = omega arith
+results_at_most (p ∷ ps) = omega arith
+
+pub logics_at_most : (ls : List LogicParameter) → logics_size ls ≤ suc (separated_size logic_parameter_size ls)
+logics_at_most [] = omega arith
+logics_at_most (l ∷ ls) = omega arith

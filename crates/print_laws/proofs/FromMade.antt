@@ -1,5 +1,5 @@
 -- What each part of program text makes.
-use Rattle.std.proofs.Common.{◌+◌, ◌≤◌, length, ◌≡◌, ◌⊎◌, ℕ, suc, Bool, true, false, List, ◌∷◌, Option}
+use Rattle.std.proofs.Common.{◌+◌, ◌≤◌, length, ◌≡◌, ◌⊎◌, inl, inr, ℕ, suc, Bool, true, false, List, ◌∷◌, Option}
 use Rattle.pale_text.specs.declared.grammar.kind.ProgramKind.TheVariants as kind
 use Rattle.pale_text.specs.declared.grammar.part.ProgramPart.{ProgramPart}
 use Rattle.pale_text.specs.declared.grammar.part.ProgramPart.TheVariants as part
@@ -41,6 +41,9 @@ use Rattle.print_laws.proofs.NameSizes.{path_size, term_size}
 use Rattle.print_laws.proofs.RouteSizes.{route_size}
 use Rattle.print_laws.proofs.ConditionSizes.{condition_size}
 use Rattle.print_laws.proofs.AssertionSizes.{assertion_size, quantified_size, used_size}
+use Rattle.print_laws.proofs.ListSizes.{behind_size, separated_size}
+use Rattle.print_laws.proofs.StatementSizes.{one_token, clause_size, logic_argument_size, statement_size, statements_size, value_size}
+use Rattle.print_laws.proofs.DeclarationSizes.{field_size, variant_size, type_size, predicate_parameter_size, predicate_size, parameter_size, logic_parameter_size, procedure_size}
 
 -- ---- what parts make
 
@@ -164,27 +167,32 @@ pub record BracketedMade (room n : ℕ) (start end : List Token) : Type 0 where
   pub canonical : IsCanonicalBracketed room bracketed
   pub short : n + suc (suc (assertion_size bracketed.assertion 0 false + length end)) ≤ length start
 
-pub record BlockMade (room : ℕ) : Type 0 where
+pub record BlockMade (room n : ℕ) (start end : List Token) : Type 0 where
   pub inside : ℕ
   pub opens : room ≡ suc inside
   pub block : List Statement
   pub canonical : AreCanonicalStatements inside block
+  pub short : n + suc (suc (statements_size block + length end)) ≤ length start
 
-pub record StatementMade (room : ℕ) : Type 0 where
+pub record StatementMade (room : ℕ) (start end : List Token) : Type 0 where
   pub statement : Statement
   pub canonical : IsCanonicalStatement room statement
+  pub short : statement_size statement + length end ≤ length start
 
-pub record ValueMade (room : ℕ) : Type 0 where
+pub record ValueMade (room : ℕ) (start end : List Token) : Type 0 where
   pub value : Value
   pub canonical : IsCanonicalValue room value
+  pub short : value_size value + length end ≤ length start
 
-pub record ArgumentMade : Type 0 where
+pub record ArgumentMade (n : ℕ) (start end : List Token) : Type 0 where
   pub argument : Argument
   pub free : IsFreeArgument argument
+  pub short : n + suc (length end) ≤ length start
 
-pub record ArgumentsMade : Type 0 where
+pub record ArgumentsMade (n : ℕ) (start end : List Token) : Type 0 where
   pub arguments : List Argument
   pub free : AreFreeArguments arguments
+  pub short : n + (separated_size one_token arguments + length end) ≤ length start
 
 pub record PathsMade (start end : List Token) : Type 0 where
   pub paths : List Path
@@ -192,13 +200,14 @@ pub record PathsMade (start end : List Token) : Type 0 where
   pub short : used_size paths + length end ≤ length start
 
 -- the arguments of a call, and what it keeps
-pub record GivenMade (room : ℕ) : Type 0 where
+pub record GivenMade (room : ℕ) (start end : List Token) : Type 0 where
   pub given : List Argument
   pub given_free : AreFreeArguments given
   pub logics : List Argument
   pub logics_free : AreFreeArguments logics
   pub keep : Option Bracketed
   pub keep_canonical : IsCanonicalClause room keep
+  pub short : separated_size one_token given + (logic_argument_size logics + suc (clause_size keep + length end)) ≤ length start
 
 -- what a call's first name is: the procedure's, or the first of these results
 pub record ResultsMade : Type 0 where
@@ -206,59 +215,77 @@ pub record ResultsMade : Type 0 where
   pub more_free : AreFree more
   pub callee : FreeName
 
-pub record CallMade (room : ℕ) : Type 0 where
-  pub results : Unit {0} ⊎ ResultsMade
-  pub given : GivenMade room
+-- how many tokens there are up to the arguments
+abbrev pub rest_size : Unit {0} ⊎ ResultsMade → ℕ
+rest_size (inl u) = 1
+rest_size (inr made) = suc (suc (suc (behind_size one_token made.more)))
 
-pub record FieldMade (room : ℕ) : Type 0 where
+pub record CallMade (room : ℕ) (start end : List Token) : Type 0 where
+  pub results : Unit {0} ⊎ ResultsMade
+  pub middle : List Token
+  pub given : GivenMade room middle end
+  pub short : rest_size results + length middle ≤ length start
+
+pub record FieldMade (room : ℕ) (start end : List Token) : Type 0 where
   pub field : FieldDeclaration
   pub canonical : IsCanonicalField room field
+  pub short : field_size field + length end ≤ length start
 
-pub record VariantMade (room : ℕ) : Type 0 where
+pub record VariantMade (room : ℕ) (start end : List Token) : Type 0 where
   pub variant : VariantDeclaration
   pub canonical : IsCanonicalVariant room variant
+  pub short : suc (variant_size variant + length end) ≤ length start
 
-pub record TypeMade (room : ℕ) : Type 0 where
+pub record TypeMade (room : ℕ) (start end : List Token) : Type 0 where
   pub type : TypeDeclaration
   pub canonical : IsCanonicalType room type
+  pub short : type_size type + length end ≤ length start
 
-pub record PredicateParameterMade : Type 0 where
+pub record PredicateParameterMade (n : ℕ) (start end : List Token) : Type 0 where
   pub parameter : PredicateParameter
   pub free : IsFreePredicateParameter parameter
+  pub short : n + (predicate_parameter_size parameter + length end) ≤ length start
 
-pub record PredicateParametersMade : Type 0 where
+pub record PredicateParametersMade (start end : List Token) : Type 0 where
   pub parameters : List PredicateParameter
   pub free : All IsFreePredicateParameter parameters
+  pub short : separated_size predicate_parameter_size parameters + length end ≤ length start
 
-pub record PredicateMade (room : ℕ) : Type 0 where
+pub record PredicateMade (room : ℕ) (start end : List Token) : Type 0 where
   pub predicate : PredicateDeclaration
   pub canonical : IsCanonicalPredicate room predicate
+  pub short : predicate_size predicate + length end ≤ length start
 
-pub record ParameterMade : Type 0 where
+pub record ParameterMade (n : ℕ) (start end : List Token) : Type 0 where
   pub parameter : Parameter
   pub free : IsFreeParameter parameter
+  pub short : n + (parameter_size parameter + length end) ≤ length start
 
-pub record ParametersMade : Type 0 where
+pub record ParametersMade (n : ℕ) (start end : List Token) : Type 0 where
   pub parameters : List Parameter
   pub free : All IsFreeParameter parameters
+  pub short : n + (separated_size parameter_size parameters + length end) ≤ length start
 
-pub record LogicMade : Type 0 where
+pub record LogicMade (n : ℕ) (start end : List Token) : Type 0 where
   pub logic : LogicParameter
   pub free : IsFreeLogicParameter logic
+  pub short : n + (logic_parameter_size logic + length end) ≤ length start
 
-pub record LogicsMade : Type 0 where
+pub record LogicsMade (start end : List Token) : Type 0 where
   pub logics : List LogicParameter
   pub free : All IsFreeLogicParameter logics
+  pub short : suc (separated_size logic_parameter_size logics + length end) ≤ length start
 
-pub record ProcedureMade (room : ℕ) : Type 0 where
+pub record ProcedureMade (room : ℕ) (start end : List Token) : Type 0 where
   pub procedure : Procedure
   pub canonical : IsCanonicalProcedure room procedure
+  pub short : procedure_size procedure + length end ≤ length start
 
 abbrev pub Made : ProgramPart → ℕ → List Token → List Token → Type 0
-Made part.Declaration room start end = TypeMade room ⊎ (PredicateMade room ⊎ ProcedureMade room)
-Made part.«Type» room start end = TypeMade room
-Made part.Variant room start end = VariantMade room
-Made part.Field room start end = FieldMade room
+Made part.Declaration room start end = TypeMade room start end ⊎ (PredicateMade room start end ⊎ ProcedureMade room start end)
+Made part.«Type» room start end = TypeMade room start end
+Made part.Variant room start end = VariantMade room start end
+Made part.Field room start end = FieldMade room start end
 Made part.Route room start end = RouteMade whole_route room 0 start end
 Made part.NextAlternative room start end = RouteMade sequence room 1 start end
 Made part.Sequence room start end = RouteMade sequence room 0 start end
@@ -268,35 +295,35 @@ Made part.Star room start end = StarMade start end
 Made part.Step room start end = RouteMade single room 0 start end
 Made part.UpName room start end = NameMade 1 start end
 Made part.VariantTest room start end = NameMade 2 start end
-Made part.Predicate room start end = PredicateMade room
-Made part.PredicateParameters room start end = PredicateParametersMade
-Made part.NextPredicateParameter room start end = PredicateParameterMade
-Made part.PredicateParameter room start end = PredicateParameterMade
+Made part.Predicate room start end = PredicateMade room start end
+Made part.PredicateParameters room start end = PredicateParametersMade start end
+Made part.NextPredicateParameter room start end = PredicateParameterMade 1 start end
+Made part.PredicateParameter room start end = PredicateParameterMade 0 start end
 Made part.Bracketed room start end = BracketedMade room 0 start end
-Made part.Procedure room start end = ProcedureMade room
-Made part.Returns room start end = ParametersMade
-Made part.Logic room start end = LogicsMade
-Made part.NextLogicParameter room start end = LogicMade
-Made part.LogicParameter room start end = LogicMade
+Made part.Procedure room start end = ProcedureMade room start end
+Made part.Returns room start end = ParametersMade 3 start end
+Made part.Logic room start end = LogicsMade start end
+Made part.NextLogicParameter room start end = LogicMade 1 start end
+Made part.LogicParameter room start end = LogicMade 0 start end
 Made part.Pre room start end = BracketedMade room 1 start end
 Made part.Post room start end = BracketedMade room 1 start end
-Made part.Parameters room start end = ParametersMade
-Made part.NextParameter room start end = ParameterMade
-Made part.Parameter room start end = ParameterMade
-Made part.Local room start end = ParameterMade
-Made part.Block room start end = BlockMade room
-Made part.Statement room start end = StatementMade room
-Made part.Else room start end = BlockMade room
-Made part.CallRest room start end = CallMade room
-Made part.NextResult room start end = FreeName
-Made part.Arguments room start end = GivenMade room
-Made part.Argued room start end = ArgumentsMade
-Made part.NextArgument room start end = ArgumentMade
-Made part.LogicArguments room start end = ArgumentsMade
-Made part.Argument room start end = ArgumentMade
+Made part.Parameters room start end = ParametersMade 0 start end
+Made part.NextParameter room start end = ParameterMade 1 start end
+Made part.Parameter room start end = ParameterMade 0 start end
+Made part.Local room start end = ParameterMade 1 start end
+Made part.Block room start end = BlockMade room 0 start end
+Made part.Statement room start end = StatementMade room start end
+Made part.Else room start end = BlockMade room 1 start end
+Made part.CallRest room start end = CallMade room start end
+Made part.NextResult room start end = NameMade 2 start end
+Made part.Arguments room start end = GivenMade room start end
+Made part.Argued room start end = ArgumentsMade 0 start end
+Made part.NextArgument room start end = ArgumentMade 1 start end
+Made part.LogicArguments room start end = ArgumentsMade 1 start end
+Made part.Argument room start end = ArgumentMade 0 start end
 Made part.Keep room start end = BracketedMade room 1 start end
-Made part.Value room start end = ValueMade room
-Made part.NewVariant room start end = FreeName
+Made part.Value room start end = ValueMade room start end
+Made part.NewVariant room start end = NameMade 2 start end
 Made part.Condition room start end = ConditionMade whole_condition room 0 start end
 Made part.NextConjunction room start end = ConditionMade conjunction room 1 start end
 Made part.Conjunction room start end = ConditionMade conjunction room 0 start end

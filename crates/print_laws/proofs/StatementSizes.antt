@@ -234,3 +234,7 @@ size_assign p place v = sized_at (Statement-F.Assign p place v)
 pub statements_last : (ss : List Statement) (s : Statement) → statements_size (ss ++ s ∷ []) ≡ statements_size ss + statement_size s
 statements_last [] s = omega arith
 statements_last (t ∷ ss) s = let e = statements_last ss s in omega arith
+
+pub logic_arguments_at_most : (xs : List Argument) → logic_argument_size xs ≤ suc (separated_size one_token xs)
+logic_arguments_at_most [] = omega arith
+logic_arguments_at_most (x ∷ xs) = omega arith
