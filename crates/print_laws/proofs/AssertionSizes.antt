@@ -360,7 +360,7 @@ assertion_rises = ind-Assertion (λ a. Rises (assertion_size a)) (λ x y is.
 -- ---- forms
 
 module _ where
-  form : (x : Assertion-F Assertion) (asked : ℕ) (followed : Bool) →
+  pub form : (x : Assertion-F Assertion) (asked : ℕ) (followed : Bool) →
       assertion_size (roll-Assertion x) asked followed ≡ size_node (map-Assertion Assertion OperandSize assertion_size x) asked followed
   form x asked followed = ap (λ (s : OperandSize). s asked followed) (sized_at x)
 

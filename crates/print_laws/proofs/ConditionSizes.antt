@@ -127,11 +127,11 @@ pub size_not : (at : Pos) (inner : Condition) (asked : ℕ) → condition_size (
 unfolding roll-Condition roll
 size_not at inner asked = ap (λ (s : Size). s asked) (sized_at (Condition-F.Not at inner))
 
-size_or : (first : Condition) (others : List Condition) (asked : ℕ) → condition_size (condition.Or first others) asked ≡ grouped_size (nat_lt 0 asked) (condition_size first 1 + behind_size 1 (map condition_size others))
+pub size_or : (first : Condition) (others : List Condition) (asked : ℕ) → condition_size (condition.Or first others) asked ≡ grouped_size (nat_lt 0 asked) (condition_size first 1 + behind_size 1 (map condition_size others))
 unfolding roll-Condition roll
 size_or first others asked = ap (λ (s : Size). s asked) (sized_at (Condition-F.Or first others))
 
-size_and : (first : Condition) (others : List Condition) (asked : ℕ) → condition_size (condition.And first others) asked ≡ grouped_size (nat_lt 1 asked) (condition_size first 2 + behind_size 2 (map condition_size others))
+pub size_and : (first : Condition) (others : List Condition) (asked : ℕ) → condition_size (condition.And first others) asked ≡ grouped_size (nat_lt 1 asked) (condition_size first 2 + behind_size 2 (map condition_size others))
 unfolding roll-Condition roll
 size_and first others asked = ap (λ (s : Size). s asked) (sized_at (Condition-F.And first others))
 

@@ -1,5 +1,5 @@
 -- The program that a reading makes is canonical.
-use Rattle.std.proofs.Common.{◌+◌, ◌≤◌, length, arith, ◌⊎◌, inl, inr, ℕ, List, [], ◌∷◌, ◌++◌, None, refl, sym, subst}
+use Rattle.std.proofs.Common.{◌+◌, ◌-◌, ◌≤◌, length, arith, ◌⊎◌, inl, inr, ℕ, List, [], ◌∷◌, ◌++◌, None, refl, sym, subst}
 use Rattle.pale_text.specs.declared.grammar.part.ProgramPart.{ProgramPart}
 use Rattle.pale_text.specs.declared.grammar.part.ProgramPart.TheVariants as part
 use Rattle.pale_text.specs.declared.token.Token.{Token}
@@ -11,7 +11,10 @@ use Rattle.pale_text.specs.declared.tree.declaration.Program.{Program}
 use Rattle.pale_text.specs.Lexing.{Reaches, at_start, past_gap, past_comment, past_token, IsLexed}
 use Rattle.pale_text.specs.MakingParts.{Parts, nothing}
 use Rattle.pale_text.specs.ProgramGrammar.{program_grammar}
-use Rattle.pale_text.specs.ProgramReading.{max_levels, IsParsedAs}
+use Rattle.grammar_engine.specs.Answers.{levels, AreLow}
+use Rattle.grammar_engine.specs.Readings.{Step}
+use Rattle.pale_text.specs.declared.grammar.act.Act.{Act}
+use Rattle.pale_text.specs.ProgramReading.{max_levels, IsParsedAs, IsProgram}
 use Rattle.pale_text.specs.Spelling.{IsName, Spells}
 use Rattle.print_laws.specs.CanonicalDeclarations.{All, IsCanonicalDeclaration, IsCanonical}
 use Rattle.pale_print.specs.DeclarationTokens.{program_tokens}
@@ -197,13 +200,26 @@ declarations_short room start end (one_more _ middle _ (inr (inr one)) others) p
 at_most : (p : Program) (n : ℕ) → each_size declaration_size p.declarations ≤ n → length (program_tokens p) ≤ n
 at_most p n h = omega (arith, program_length p)
 
-pub short_from : (text : List ℕ) (list : TokenList) (tree : Program) → IsLexed text list → IsParsedAs list.tokens tree → length (program_tokens tree) ≤ length list.tokens
+lower : (n m : ℕ) → n ≤ m → (depths : List ℕ) → AreLow n depths → AreLow m depths
+lower n m h [] low = tt
+lower n m h (depth ∷ depths) low = (omega (arith, low.0), lower n m h depths low.1)
+
+-- a limit that these are not above
+limit_of : (depths : List ℕ) → (limit : ℕ) × AreLow limit depths
+limit_of [] = (0, tt)
+limit_of (depth ∷ depths) =
+    let others = limit_of depths in
+    (depth + others.0, (omega arith, lower others.0 (depth + others.0) (omega arith) depths others.1))
+
+pub short_from : (text : List ℕ) (list : TokenList) (steps : List (Step Act)) (tree : Program) → IsLexed text list → IsProgram list.tokens steps tree →
+    length (program_tokens tree) ≤ length list.tokens
 unfolding program_grammar
-short_from text list tree lexed parsed =
-    let g = held program_meaning sound keeps max_levels parsed.program.reading list.tokens refl (all_named lexed) parsed.shallow None nothing
+short_from text list steps tree lexed program =
+    let limit = limit_of (levels steps) in
+    let g = held program_meaning sound keeps limit.0 program.reading list.tokens refl (all_named lexed) limit.1 None nothing
     ((refl, refl), (refl, refl), ((refl, refl, refl, refl, refl), refl, refl, refl, refl, refl)) in
-    let h : each_size declaration_size (puts program_meaning part.Declaration max_levels list.tokens g.1 g.2 nothing).declarations ≤ length list.tokens =
-        omega (arith, declarations_short max_levels list.tokens g.1 g.2 nothing list.tokens (omega arith)) in
+    let h : each_size declaration_size (puts program_meaning part.Declaration (limit.0 - 0) list.tokens g.1 g.2 nothing).declarations ≤ length list.tokens =
+        omega (arith, declarations_short (limit.0 - 0) list.tokens g.1 g.2 nothing list.tokens (omega arith)) in
     at_most tree (length list.tokens)
-    (subst (λ (p : Program). each_size declaration_size p.declarations ≤ length list.tokens) (sym parsed.program.made)
+    (subst (λ (p : Program). each_size declaration_size p.declarations ≤ length list.tokens) (sym program.made)
     (subst (λ (p : Parts). each_size declaration_size p.declarations ≤ length list.tokens) g.3 h))

@@ -53,3 +53,5 @@ pub mod AssertionSizes
 pub mod ListSizes
 pub mod StatementSizes
 pub mod DeclarationSizes
+pub mod PlacelessSizes
+pub mod PlacelessAssertionSizes

@@ -151,15 +151,15 @@ behind_last : (asked : ℕ) (rs : List Route) (r : Route) → behind_size asked 
 behind_last asked [] r = omega arith
 behind_last asked (one ∷ rs) r = let e = behind_last asked rs r in omega arith
 
-size_or : (first : Route) (others : List Route) (asked : ℕ) → route_size (route.Or first others) asked ≡ grouped_size (nat_lt 0 asked) (route_size first 1 + behind_size 1 (map route_size others))
+pub size_or : (first : Route) (others : List Route) (asked : ℕ) → route_size (route.Or first others) asked ≡ grouped_size (nat_lt 0 asked) (route_size first 1 + behind_size 1 (map route_size others))
 unfolding roll-Route roll
 size_or first others asked = ap (λ (s : Size). s asked) (sized_at (Route-F.Or first others))
 
-size_then : (first : Route) (others : List Route) (asked : ℕ) → route_size (route.Then first others) asked ≡ grouped_size (nat_lt 1 asked) (route_size first 2 + behind_size 2 (map route_size others))
+pub size_then : (first : Route) (others : List Route) (asked : ℕ) → route_size (route.Then first others) asked ≡ grouped_size (nat_lt 1 asked) (route_size first 2 + behind_size 2 (map route_size others))
 unfolding roll-Route roll
 size_then first others asked = ap (λ (s : Size). s asked) (sized_at (Route-F.Then first others))
 
-size_star : (inner : Route) (places : List Pos) (asked : ℕ) → route_size (route.Star inner places) asked ≡ grouped_size (nat_lt 2 asked) (route_size inner 3 + length places)
+pub size_star : (inner : Route) (places : List Pos) (asked : ℕ) → route_size (route.Star inner places) asked ≡ grouped_size (nat_lt 2 asked) (route_size inner 3 + length places)
 unfolding roll-Route roll
 size_star inner places asked = ap (λ (s : Size). s asked) (sized_at (Route-F.Star inner places))
 

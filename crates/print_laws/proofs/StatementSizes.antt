@@ -81,7 +81,7 @@ statement_size = fold-Statement ℕ size_node
 abbrev pub statements_size : List Statement → ℕ
 statements_size ss = total (map statement_size ss)
 
-sized_at : (x : Statement-F Statement) → statement_size (roll-Statement x) ≡ size_node (map-Statement Statement ℕ statement_size x)
+pub sized_at : (x : Statement-F Statement) → statement_size (roll-Statement x) ≡ size_node (map-Statement Statement ℕ statement_size x)
 unfolding statement_size
 sized_at x = fold-roll-Statement ℕ size_node x
 

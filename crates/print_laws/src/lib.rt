@@ -4,5 +4,5 @@
 mod laws;
 mod parsed;
 
-pub use laws::canonical_programs_are_read_back;
+pub use laws::{canonical_programs_are_read_back, spellings_are_shortest};
 pub use parsed::{parsed_programs_are_canonical, parsed_programs_are_read_back};
