@@ -55,3 +55,5 @@ pub mod StatementSizes
 pub mod DeclarationSizes
 pub mod PlacelessSizes
 pub mod PlacelessAssertionSizes
+pub mod PlacelessProgramSizes
+pub mod ShortLemmas

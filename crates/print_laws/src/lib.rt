@@ -4,5 +4,5 @@
 mod laws;
 mod parsed;
 
-pub use laws::{canonical_programs_are_read_back, spellings_are_shortest};
+pub use laws::{canonical_programs_are_read_back, spellings_are_shortest, spellings_need_their_parentheses};
 pub use parsed::{parsed_programs_are_canonical, parsed_programs_are_read_back};
