@@ -22,7 +22,8 @@ use Rattle.pale_text.specs.ProgramGrammar.{ProgramSymbol, rows_of, reads, push_n
 use Rattle.print_laws.specs.CanonicalNames.{IsFree, AreFree}
 use Rattle.print_laws.specs.CanonicalAssertions.{whole, implication, disjunct, conjunct, operand, IsCanonicalAssertion, not, imp, quantified}
 use Rattle.print_laws.proofs.NameSizes.{names_size, one_less}
-use Rattle.print_laws.proofs.AssertionSizes.{assertion_size, quantified_size, set_size, assertion_rises, both_size, either_size, equivalent_size, size_not, size_imp, size_quantified}
+use Rattle.print_laws.proofs.AssertionSizes.{assertion_size, quantified_size, set_size, size_not, size_imp, size_quantified}
+use Rattle.print_laws.proofs.AssertionPlaceSizes.{assertion_rises, both_size, either_size, equivalent_size}
 use Rattle.print_laws.proofs.FromRows.{IsOfKind, Several, no_more, one_more, puts, Goal, Goes}
 use Rattle.print_laws.proofs.FromMade.{AssertionMade, QuantifiedMade, BeginsWith, MayFollow, EndsAnd, EndsOr, EndsImplication, EndsIff}
 use Rattle.print_laws.proofs.FromMeaning.{program_meaning}

@@ -17,7 +17,8 @@ use Rattle.pale_text.specs.ProgramGrammar.{rows_of}
 use Rattle.print_laws.specs.CanonicalNames.{IsFreePath, AreFreePaths}
 use Rattle.print_laws.specs.CanonicalAssertions.{operand, IsCanonicalAssertion, truth, falsehood, path, same, differ, member, subset, walk, of_variant, use_of}
 use Rattle.print_laws.proofs.NameSizes.{path_size, extended_size, one_less}
-use Rattle.print_laws.proofs.AssertionSizes.{assertion_rises, used_size, used_last, size_true, size_false, size_truth, size_same, size_differ, size_member, size_subset, size_is, size_walk, size_use}
+use Rattle.print_laws.proofs.AssertionSizes.{used_size, used_last, size_true, size_false, size_truth, size_same, size_differ, size_member, size_subset, size_is, size_walk, size_use}
+use Rattle.print_laws.proofs.AssertionPlaceSizes.{assertion_rises}
 use Rattle.print_laws.proofs.FromRows.{Several, no_more, one_more, puts}
 use Rattle.print_laws.proofs.FromMade.{FreeName, PathsMade}
 use Rattle.print_laws.proofs.FromMeaning.{program_meaning}
