@@ -1,32 +1,16 @@
 -- How many tokens an assertion has where it may stand as well; and chains of assertions that grow at their end.
-use Rattle.std.proofs.Common.{◌≡◌, ℕ, zero, suc, ◌+◌, ◌≤◌, nat_lt, Bool, true, false, List, [], ◌∷◌, ◌++◌, length, map, refl, sym, ap, subst, arith}
-use Rattle.std.specs.Prelude.{codes}
-use Rattle.pale_text.specs.declared.place.Pos.{Pos}
-use Rattle.pale_text.specs.declared.token.Mark.{Mark}
-use Rattle.pale_text.specs.declared.token.Mark.TheVariants as mark
-use Rattle.pale_text.specs.declared.token.TokenKind.{TokenKind}
-use Rattle.pale_text.specs.declared.token.TokenKind.TheVariants as token
-use Rattle.pale_text.specs.declared.tree.names.Name.{Name}
-use Rattle.pale_text.specs.declared.tree.names.Path.{Path}
-use Rattle.pale_text.specs.declared.tree.names.Term.{Term}
-use Rattle.pale_text.specs.declared.tree.route.Route.{Route}
-use Rattle.pale_text.specs.declared.tree.assertion.Assertion.{Assertion, out-Assertion, roll-Assertion, out-roll-Assertion}
+use Rattle.std.proofs.Common.{◌≡◌, ℕ, suc, ◌+◌, ◌≤◌, nat_lt, Bool, true, false, List, [], ◌∷◌, ◌++◌, map, refl, sym, subst, arith}
+use Rattle.pale_text.specs.declared.tree.assertion.Assertion.{Assertion, roll-Assertion, out-roll-Assertion}
 use Rattle.pale_text.specs.declared.tree.assertion.Assertion.TheVariants as assertion
 use Rattle.pale_text.specs.declared.tree.assertion.Assertion.TheOpen.{Assertion-F}
-use Rattle.pale_text.specs.declared.tree.assertion.Assertion.TheFolds.{fold-Assertion, fold-roll-Assertion, ind-Assertion, map-Assertion}
-use Rattle.pale_text.specs.declared.tree.assertion.Quantifier.{Quantifier}
-use Rattle.pale_text.specs.declared.tree.assertion.QuantifierKind.{QuantifierKind}
-use Rattle.pale_text.specs.declared.tree.assertion.QuantifierKind.TheVariants as quantifier
-use denote.Hole.Carrier.{roll, out}
+use Rattle.pale_text.specs.declared.tree.assertion.Assertion.TheFolds.{ind-Assertion, map-Assertion}
+use denote.Hole.Carrier.{roll}
 use Rattle.pale_text.specs.MakingAssertions.{and_by, or_by, iff_by, both, either, equivalent}
-use Rattle.pale_print.specs.Tokens.{Tokens, each_behind, separated, sign, word, ◌>>◌, name_tokens, path_tokens, term_tokens}
-use Rattle.pale_print.specs.RouteTokens.{route_tokens}
-use Rattle.pale_print.specs.AssertionTokens.{Followed, Operand, grouped, is_followed, operands, chained, quantifier_word, set_word, quantified, assertion_node, assertion_tokens}
 use Rattle.print_laws.specs.CanonicalAssertions.{is_and_node, is_or_node, is_iff_node}
 use Rattle.print_laws.proofs.AssertionShapes.{opened_assertion}
-use Rattle.print_laws.proofs.RouteSizes.{route_size, route_takes, Takes}
-use Rattle.print_laws.proofs.NameSizes.{names_size, names_take, path_size, path_takes, term_size, term_takes}
-use Rattle.print_laws.proofs.AssertionSizes.{OperandSize, grouped_size, goes_on, operands_size, chain_size, used_size, quantified_size, size_node, assertion_size, sized_at, form}
+use Rattle.print_laws.proofs.RouteSizes.{route_size}
+use Rattle.print_laws.proofs.NameSizes.{path_size, term_size}
+use Rattle.print_laws.proofs.AssertionSizes.{OperandSize, grouped_size, operands_size, chain_size, used_size, quantified_size, size_node, assertion_size, sized_at, form}
 
 -- ---- at other places
 
@@ -247,4 +231,3 @@ pub equivalent_size : (a other : Assertion) (f : Bool) → assertion_size (equiv
 equivalent_size = opened_assertion (λ a. (other : Assertion) (f : Bool) → assertion_size (equivalent a other) 0 f ≤ assertion_size a 0 true + suc (assertion_size other 1 f)) (λ x other f.
     subst (λ (n : Assertion-F Assertion). assertion_size (iff_by n (roll-Assertion x) other) 0 f ≤ assertion_size (roll-Assertion x) 0 true + suc (assertion_size other 1 f))
     (sym (out-roll-Assertion x)) (iff_by_size x other f))
-

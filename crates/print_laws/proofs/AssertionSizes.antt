@@ -1,5 +1,5 @@
 -- How many tokens an assertion has at each place.
-use Rattle.std.proofs.Common.{◌≡◌, ℕ, zero, suc, ◌+◌, ◌≤◌, nat_lt, Bool, true, false, List, [], ◌∷◌, ◌++◌, length, map, refl, sym, ap, subst, arith}
+use Rattle.std.proofs.Common.{◌≡◌, ℕ, suc, ◌+◌, ◌≤◌, nat_lt, Bool, true, false, List, [], ◌∷◌, ◌++◌, length, map, refl, sym, ap, subst, arith}
 use Rattle.std.specs.Prelude.{codes}
 use Rattle.pale_text.specs.declared.place.Pos.{Pos}
 use Rattle.pale_text.specs.declared.token.Mark.{Mark}
@@ -10,20 +10,17 @@ use Rattle.pale_text.specs.declared.tree.names.Name.{Name}
 use Rattle.pale_text.specs.declared.tree.names.Path.{Path}
 use Rattle.pale_text.specs.declared.tree.names.Term.{Term}
 use Rattle.pale_text.specs.declared.tree.route.Route.{Route}
-use Rattle.pale_text.specs.declared.tree.assertion.Assertion.{Assertion, out-Assertion, roll-Assertion, out-roll-Assertion}
+use Rattle.pale_text.specs.declared.tree.assertion.Assertion.{Assertion, roll-Assertion}
 use Rattle.pale_text.specs.declared.tree.assertion.Assertion.TheVariants as assertion
 use Rattle.pale_text.specs.declared.tree.assertion.Assertion.TheOpen.{Assertion-F}
 use Rattle.pale_text.specs.declared.tree.assertion.Assertion.TheFolds.{fold-Assertion, fold-roll-Assertion, ind-Assertion, map-Assertion}
 use Rattle.pale_text.specs.declared.tree.assertion.Quantifier.{Quantifier}
 use Rattle.pale_text.specs.declared.tree.assertion.QuantifierKind.{QuantifierKind}
 use Rattle.pale_text.specs.declared.tree.assertion.QuantifierKind.TheVariants as quantifier
-use denote.Hole.Carrier.{roll, out}
-use Rattle.pale_text.specs.MakingAssertions.{and_by, or_by, iff_by, both, either, equivalent}
-use Rattle.pale_print.specs.Tokens.{Tokens, each_behind, separated, sign, word, ◌>>◌, name_tokens, path_tokens, term_tokens}
+use denote.Hole.Carrier.{roll}
+use Rattle.pale_print.specs.Tokens.{each_behind, separated, sign, word, ◌>>◌, name_tokens, path_tokens, term_tokens}
 use Rattle.pale_print.specs.RouteTokens.{route_tokens}
 use Rattle.pale_print.specs.AssertionTokens.{Followed, Operand, grouped, is_followed, operands, chained, quantifier_word, set_word, quantified, assertion_node, assertion_tokens}
-use Rattle.print_laws.specs.CanonicalAssertions.{is_and_node, is_or_node, is_iff_node}
-use Rattle.print_laws.proofs.AssertionShapes.{opened_assertion}
 use Rattle.print_laws.proofs.RouteSizes.{route_size, route_takes, Takes}
 use Rattle.print_laws.proofs.NameSizes.{names_size, names_take, path_size, path_takes, term_size, term_takes}
 

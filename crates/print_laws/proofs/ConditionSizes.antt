@@ -1,19 +1,18 @@
 -- How many tokens a condition has at each place.
-use Rattle.std.proofs.Common.{◌≡◌, ℕ, zero, suc, ◌+◌, ◌≤◌, nat_lt, Bool, true, false, List, [], ◌∷◌, ◌++◌, length, map, refl, sym, ap, subst, arith}
+use Rattle.std.proofs.Common.{◌≡◌, ℕ, suc, ◌+◌, ◌≤◌, nat_lt, false, List, [], ◌∷◌, ◌++◌, length, map, refl, sym, ap, subst, arith}
 use Rattle.pale_text.specs.declared.token.Mark.{Mark}
 use Rattle.pale_text.specs.declared.token.Mark.TheVariants as mark
 use Rattle.pale_text.specs.declared.token.TokenKind.{TokenKind}
-use Rattle.pale_text.specs.declared.token.TokenKind.TheVariants as token
 use Rattle.pale_text.specs.declared.place.Pos.{Pos}
 use Rattle.pale_text.specs.declared.tree.names.Name.{Name}
 use Rattle.pale_text.specs.declared.tree.names.Term.{Term}
-use Rattle.pale_text.specs.declared.tree.condition.Condition.{Condition, out-Condition, roll-Condition, out-roll-Condition}
+use Rattle.pale_text.specs.declared.tree.condition.Condition.{Condition, roll-Condition, out-roll-Condition}
 use Rattle.pale_text.specs.declared.tree.condition.Condition.TheVariants as condition
 use Rattle.pale_text.specs.declared.tree.condition.Condition.TheOpen.{Condition-F}
 use Rattle.pale_text.specs.declared.tree.condition.Condition.TheFolds.{fold-Condition, fold-roll-Condition, ind-Condition, map-Condition}
-use denote.Hole.Carrier.{roll, out}
+use denote.Hole.Carrier.{roll}
 use Rattle.pale_text.specs.MakingConditions.{and_by, or_by, both_conditions, either_condition}
-use Rattle.pale_print.specs.Tokens.{Tokens, each_behind, sign, ◌>>◌, name_tokens, term_tokens}
+use Rattle.pale_print.specs.Tokens.{each_behind, sign, ◌>>◌, name_tokens, term_tokens}
 use Rattle.pale_print.specs.RouteTokens.{Placed}
 use Rattle.pale_print.specs.ConditionTokens.{condition_node, condition_tokens}
 use Rattle.print_laws.specs.CanonicalConditions.{is_and_node, is_or_node}

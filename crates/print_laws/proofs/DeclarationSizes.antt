@@ -1,5 +1,5 @@
 -- How many tokens declarations and programs have.
-use Rattle.std.proofs.Common.{◌≡◌, ℕ, suc, ◌+◌, ◌≤◌, false, List, [], ◌∷◌, length, refl, arith}
+use Rattle.std.proofs.Common.{◌≡◌, ℕ, suc, ◌+◌, ◌≤◌, false, List, [], ◌∷◌, length, arith}
 use Rattle.std.specs.Prelude.{codes}
 use Rattle.pale_text.specs.declared.token.Mark.TheVariants as mark
 use Rattle.pale_text.specs.declared.tree.declaration.Declaration.{Declaration}
@@ -20,15 +20,14 @@ use Rattle.pale_text.specs.declared.tree.declaration.TypeDeclaration.{TypeDeclar
 use Rattle.pale_text.specs.declared.tree.declaration.VariantDeclaration.{VariantDeclaration}
 use Rattle.pale_text.specs.declared.tree.names.Name.{Name}
 use Rattle.pale_text.specs.declared.tree.statement.Statement.{Statement}
-use Rattle.pale_print.specs.Tokens.{Tokens, each, each_behind, separated, sign, ◌>>◌}
-use Rattle.pale_print.specs.RouteTokens.{route_tokens}
+use Rattle.pale_print.specs.Tokens.{each, each_behind, sign, ◌>>◌}
 use Rattle.pale_print.specs.AssertionTokens.{bracketed_tokens}
 use Rattle.pale_print.specs.StatementTokens.{clause_tokens, statement_tokens}
 use Rattle.pale_print.specs.DeclarationTokens.{field_form_tokens, field_tokens, fields_tokens, variant_tokens, type_tokens, predicate_parameter_tokens, predicate_tokens, parameter_tokens, parameters_tokens, results_tokens, logic_parameter_tokens, logics_tokens, local_tokens, procedure_tokens, declaration_tokens, program_tokens}
 use Rattle.print_laws.proofs.RouteSizes.{Takes, route_size, route_takes}
 use Rattle.print_laws.proofs.AssertionSizes.{assertion_size}
 use Rattle.print_laws.proofs.ListSizes.{each_size, behind_size, separated_size, each_takes, behind_takes, separated_takes}
-use Rattle.print_laws.proofs.StatementSizes.{clause_size, clause_takes, bracketed_takes, statement_size, statement_takes, statements_size}
+use Rattle.print_laws.proofs.StatementSizes.{clause_size, clause_takes, bracketed_takes, statement_takes, statements_size}
 
 abbrev pub form_size : FieldForm → ℕ
 form_size form.Bool = 3
@@ -87,8 +86,10 @@ declaration_size (declaration.Procedure p) = procedure_size p
 form_takes : (x : Name) (f : FieldForm) → Takes (field_form_tokens x f) (form_size f)
 form_takes x form.Bool = record { takes = λ after. omega arith }
 form_takes x (form.Data ty) = record { takes = λ after. omega arith }
-form_takes x (form.Pointer ty r) = record { takes = λ after.
-    let e = (route_takes r 0).takes (sign mark.RightBracket >> sign mark.Semicolon >> after) in omega arith }
+form_takes x (form.Pointer ty r) = record {
+  takes = λ after.
+      let e = (route_takes r 0).takes (sign mark.RightBracket >> sign mark.Semicolon >> after) in omega arith;
+}
 
 field_takes : (f : FieldDeclaration) → Takes (field_tokens f) (field_size f)
 field_takes f = form_takes f.name f.form
@@ -100,10 +101,12 @@ variant_takes : (v : VariantDeclaration) → Takes (variant_tokens v) (variant_s
 variant_takes v = record { takes = λ after. let e = (fields_take v.fields).takes after in omega arith }
 
 type_takes : (t : TypeDeclaration) → Takes (type_tokens t) (type_size t)
-type_takes t = record { takes = λ after.
-    let e = (fields_take t.fields).takes (each_behind mark.Bar variant_tokens t.variants >> after) in
-    let f = behind_takes variant_tokens variant_size variant_takes mark.Bar t.variants after in
-    omega arith }
+type_takes t = record {
+  takes = λ after.
+      let e = (fields_take t.fields).takes (each_behind mark.Bar variant_tokens t.variants >> after) in
+      let f = behind_takes variant_tokens variant_size variant_takes mark.Bar t.variants after in
+      omega arith;
+}
 
 predicate_parameter_takes : (p : PredicateParameter) → Takes (predicate_parameter_tokens p) (predicate_parameter_size p)
 predicate_parameter_takes (predicate.Cell x ty) = record { takes = λ after. omega arith }
@@ -111,12 +114,14 @@ predicate_parameter_takes (predicate.Set x ty) = record { takes = λ after. omeg
 predicate_parameter_takes (predicate.Bool x) = record { takes = λ after. omega arith }
 
 predicate_takes : (p : PredicateDeclaration) → Takes (predicate_tokens p) (predicate_size p)
-predicate_takes p = record { takes = λ after.
-    let last = sign mark.Semicolon >> after in
-    let e = separated_takes predicate_parameter_tokens predicate_parameter_size predicate_parameter_takes mark.Comma p.parameters
-        (sign mark.RightParen >> sign mark.Equals >> bracketed_tokens p.body >> last) in
-    let f = (bracketed_takes p.body).takes last in
-    omega arith }
+predicate_takes p = record {
+  takes = λ after.
+      let last = sign mark.Semicolon >> after in
+      let e = separated_takes predicate_parameter_tokens predicate_parameter_size predicate_parameter_takes mark.Comma p.parameters
+      (sign mark.RightParen >> sign mark.Equals >> bracketed_tokens p.body >> last) in
+      let f = (bracketed_takes p.body).takes last in
+      omega arith;
+}
 
 parameter_takes : (p : Parameter) → Takes (parameter_tokens p) (parameter_size p)
 parameter_takes (parameter.Data x ty) = record { takes = λ after. omega arith }
@@ -136,8 +141,10 @@ logic_parameter_takes (logic.Bool x) = record { takes = λ after. omega arith }
 
 logics_take : (ls : List LogicParameter) → Takes (logics_tokens ls) (logics_size ls)
 logics_take [] = record { takes = λ after. omega arith }
-logics_take (l ∷ ls) = record { takes = λ after.
-    let e = separated_takes logic_parameter_tokens logic_parameter_size logic_parameter_takes mark.Comma (l ∷ ls) after in omega arith }
+logics_take (l ∷ ls) = record {
+  takes = λ after.
+      let e = separated_takes logic_parameter_tokens logic_parameter_size logic_parameter_takes mark.Comma (l ∷ ls) after in omega arith;
+}
 
 local_takes : (p : Parameter) → Takes (local_tokens p) (local_size p)
 local_takes p = record { takes = λ after. let e = (parameter_takes p).takes (sign mark.Semicolon >> after) in omega arith }
@@ -150,22 +157,24 @@ statements_take (s ∷ ss) after =
     omega arith
 
 procedure_takes : (p : Procedure) → Takes (procedure_tokens p) (procedure_size p)
-procedure_takes p = record { takes = λ after.
-    let end = sign mark.RightBrace >> after in
-    let body = each statement_tokens p.body >> end in
-    let locals = sign mark.LeftBrace >> each local_tokens p.locals >> body in
-    let post = clause_tokens (codes "post") p.post >> locals in
-    let pre = clause_tokens (codes "pre") p.pre >> post in
-    let logics = logics_tokens p.logics >> pre in
-    let results = results_tokens p.results >> logics in
-    let a = (parameters_take p.parameters).takes results in
-    let b = (results_take p.results).takes logics in
-    let c = (logics_take p.logics).takes pre in
-    let d = (clause_takes (codes "pre") p.pre).takes post in
-    let e = (clause_takes (codes "post") p.post).takes locals in
-    let f = each_takes local_tokens local_size local_takes p.locals body in
-    let g = statements_take p.body end in
-    omega arith }
+procedure_takes p = record {
+  takes = λ after.
+      let end = sign mark.RightBrace >> after in
+      let body = each statement_tokens p.body >> end in
+      let locals = sign mark.LeftBrace >> each local_tokens p.locals >> body in
+      let post = clause_tokens (codes "post") p.post >> locals in
+      let pre = clause_tokens (codes "pre") p.pre >> post in
+      let logics = logics_tokens p.logics >> pre in
+      let results = results_tokens p.results >> logics in
+      let a = (parameters_take p.parameters).takes results in
+      let b = (results_take p.results).takes logics in
+      let c = (logics_take p.logics).takes pre in
+      let d = (clause_takes (codes "pre") p.pre).takes post in
+      let e = (clause_takes (codes "post") p.post).takes locals in
+      let f = each_takes local_tokens local_size local_takes p.locals body in
+      let g = statements_take p.body end in
+      omega arith;
+}
 
 declaration_takes : (d : Declaration) → Takes (declaration_tokens d) (declaration_size d)
 declaration_takes (declaration.«Type» t) = type_takes t

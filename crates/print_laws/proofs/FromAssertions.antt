@@ -1,4 +1,4 @@
--- Assertions that a reading makes are canonical.
+-- Assertions that a reading makes are canonical, and spelled in no more tokens than they were read from.
 use Rattle.std.proofs.Common.{◌+◌, ◌≤◌, length, arith, ◌≡◌, inl, inr, ℕ, suc, Bool, true, false, List, [], ◌∷◌, ◌++◌, Some, refl, sym, ap, ◌∙◌, subst, append_assoc, append-nil}
 use Rattle.grammar_engine.specs.declared.symbol.Symbol.TheVariants.{Read, Once}
 use Rattle.pale_text.specs.declared.grammar.act.ConnectiveAct.TheVariants as connectives
@@ -37,7 +37,7 @@ begins one others is of = record { first = one; others = others; tokens_are = is
 -- ---- chains
 
 conjuncts_made : (room : ℕ) (start end : List Token) (several : Several program_meaning part.NextNegation room start end) (a : Assertion) →
-    ((f : Bool) → MayFollow f start → IsCanonicalAssertion conjunct f room a) → 
+    ((f : Bool) → MayFollow f start → IsCanonicalAssertion conjunct f room a) →
     (first : List Token) → ((f : Bool) → MayFollow f start → assertion_size a 3 f + length start ≤ length first) → (parts : Parts) (below : List Assertion) →
     (made : AssertionMade conjunct room 0 first end) × EndsAnd end ×
     (puts program_meaning part.NextNegation room start end several (record parts { assertions = a ∷ below }) ≡ record parts { assertions = made.assertion ∷ below })
@@ -47,7 +47,7 @@ conjuncts_made room start end (one_more _ middle _ one others) a c first short p
     first (λ f m. omega (arith, both_size a one.1.assertion f, short true (inl (inl one.0)), one.1.short f m)) parts below
 
 disjuncts_made : (room : ℕ) (start end : List Token) (several : Several program_meaning part.NextAndChain room start end) (a : Assertion) →
-    ((f : Bool) → MayFollow f start → IsCanonicalAssertion disjunct f room a) → EndsAnd start → 
+    ((f : Bool) → MayFollow f start → IsCanonicalAssertion disjunct f room a) → EndsAnd start →
     (first : List Token) → ((f : Bool) → MayFollow f start → assertion_size a 2 f + length start ≤ length first) → (parts : Parts) (below : List Assertion) →
     (made : AssertionMade disjunct room 0 first end) × EndsOr end ×
     (puts program_meaning part.NextAndChain room start end several (record parts { assertions = a ∷ below }) ≡ record parts { assertions = made.assertion ∷ below })
@@ -57,7 +57,7 @@ disjuncts_made room start end (one_more _ middle _ one others) a c ends first sh
     first (λ f m. omega (arith, either_size a one.1.assertion f, short true (inl (inr one.0)), one.1.short f m)) parts below
 
 equivalents_made : (room : ℕ) (start end : List Token) (several : Several program_meaning part.NextImplication room start end) (a : Assertion) →
-    ((f : Bool) → MayFollow f start → IsCanonicalAssertion whole f room a) → EndsImplication start → 
+    ((f : Bool) → MayFollow f start → IsCanonicalAssertion whole f room a) → EndsImplication start →
     (first : List Token) → ((f : Bool) → MayFollow f start → assertion_size a 0 f + length start ≤ length first) → (parts : Parts) (below : List Assertion) →
     (made : AssertionMade whole room 0 first end) × EndsIff end ×
     (puts program_meaning part.NextImplication room start end several (record parts { assertions = a ∷ below }) ≡ record parts { assertions = made.assertion ∷ below })
@@ -74,7 +74,7 @@ and_row = record {
       let first = g before in
       let others = first.3 before in
       let made = conjuncts_made room first.1 others.1 others.2 first.2.assertion (λ f m. as_conjunct (first.2.canonical f m))
-          tokens (λ f m. omega (arith, first.2.short f m, (assertion_rises first.2.assertion).to_four f)) parts parts.assertions in
+      tokens (λ f m. omega (arith, first.2.short f m, (assertion_rises first.2.assertion).to_four f)) parts parts.assertions in
       (others.0, others.1, (made.0, made.1), subst (λ q. goal others.0 others.1 q) made.2 others.3);
 }
 
@@ -86,8 +86,15 @@ next_and_row : IsSoundRow part.NextNegation (nth (rows_of part.NextNegation) 0)
 unfolding rows_of
 next_and_row = record {
   along = λ room last tokens parts goal g before.
-      let made = g.4 before in (made.0, made.1, (begins g.0 g.1 g.2 g.3,
-      record { assertion = made.2.assertion; canonical = made.2.canonical; short = λ f m. omega (arith, one_less g.2, made.2.short f m) }), made.3);
+      let made = g.4 before in (
+        made.0,
+        made.1,
+        (
+          begins g.0 g.1 g.2 g.3,
+          record { assertion = made.2.assertion; canonical = made.2.canonical; short = λ f m. omega (arith, one_less g.2, made.2.short f m) },
+        ),
+        made.3,
+      );
 }
 
 pub next_negation_sound : AreSoundRows part.NextNegation (rows_of part.NextNegation)
@@ -101,7 +108,7 @@ or_chain_row = record {
       let first = g before in
       let others = first.3 before in
       let made = disjuncts_made room first.1 others.1 others.2 first.2.0.assertion (λ f m. as_disjunct (first.2.0.canonical f m)) first.2.1
-          tokens (λ f m. omega (arith, first.2.0.short f m, (assertion_rises first.2.0.assertion).to_three f)) parts parts.assertions in
+      tokens (λ f m. omega (arith, first.2.0.short f m, (assertion_rises first.2.0.assertion).to_three f)) parts parts.assertions in
       (others.0, others.1, (made.0, made.1), subst (λ q. goal others.0 others.1 q) made.2 others.3);
 }
 
@@ -113,8 +120,16 @@ next_or_row : IsSoundRow part.NextAndChain (nth (rows_of part.NextAndChain) 0)
 unfolding rows_of
 next_or_row = record {
   along = λ room last tokens parts goal g before.
-      let made = g.4 before in (made.0, made.1, (begins g.0 g.1 g.2 g.3,
-      record { assertion = made.2.0.assertion; canonical = made.2.0.canonical; short = λ f m. omega (arith, one_less g.2, made.2.0.short f m) }, made.2.1), made.3);
+      let made = g.4 before in (
+        made.0,
+        made.1,
+        (
+          begins g.0 g.1 g.2 g.3,
+          record { assertion = made.2.0.assertion; canonical = made.2.0.canonical; short = λ f m. omega (arith, one_less g.2, made.2.0.short f m) },
+          made.2.1,
+        ),
+        made.3,
+      );
 }
 
 pub next_and_chain_sound : AreSoundRows part.NextAndChain (rows_of part.NextAndChain)
@@ -128,7 +143,7 @@ iff_row = record {
       let first = g before in
       let others = first.3 before in
       let made = equivalents_made room first.1 others.1 others.2 first.2.0.assertion (λ f m. as_whole (first.2.0.canonical f m)) first.2.1
-          tokens (λ f m. omega (arith, first.2.0.short f m, (assertion_rises first.2.0.assertion).to_one f)) parts parts.assertions in
+      tokens (λ f m. omega (arith, first.2.0.short f m, (assertion_rises first.2.0.assertion).to_one f)) parts parts.assertions in
       (others.0, others.1, (made.0, made.1), subst (λ q. goal others.0 others.1 q) made.2 others.3);
 }
 
@@ -140,8 +155,16 @@ next_iff_row : IsSoundRow part.NextImplication (nth (rows_of part.NextImplicatio
 unfolding rows_of
 next_iff_row = record {
   along = λ room last tokens parts goal g before.
-      let made = g.4 before in (made.0, made.1, (begins g.0 g.1 g.2 g.3,
-      record { assertion = made.2.0.assertion; canonical = made.2.0.canonical; short = λ f m. omega (arith, one_less g.2, made.2.0.short f m) }, made.2.1), made.3);
+      let made = g.4 before in (
+        made.0,
+        made.1,
+        (
+          begins g.0 g.1 g.2 g.3,
+          record { assertion = made.2.0.assertion; canonical = made.2.0.canonical; short = λ f m. omega (arith, one_less g.2, made.2.0.short f m) },
+          made.2.1,
+        ),
+        made.3,
+      );
 }
 
 pub next_implication_sound : AreSoundRows part.NextImplication (rows_of part.NextImplication)
@@ -166,8 +189,11 @@ implication_row = record {
           first.0,
           first.1,
           (
-            record { assertion = first.2.0.assertion; canonical = λ f m. as_implication (first.2.0.canonical f m);
-              short = λ f m. omega (arith, first.2.0.short f m, (assertion_rises first.2.0.assertion).to_two f) },
+            record {
+              assertion = first.2.0.assertion;
+              canonical = λ f m. as_implication (first.2.0.canonical f m);
+              short = λ f m. omega (arith, first.2.0.short f m, (assertion_rises first.2.0.assertion).to_two f);
+            },
             record { and = first.2.1.and; or = first.2.1.or; imp = stopped.0 },
           ),
           stopped.1,
@@ -180,8 +206,12 @@ implication_row = record {
               assertion = assertion.Imp first.2.0.assertion implied.2.1.place implied.2.1.right.assertion;
               canonical = implied_canonical room implied.2.1.inside first.1 implied.1 first.2.0.assertion implied.2.1.place implied.2.1.right implied.2.1.opens
                   (first.2.0.canonical true (inr (inl implied.2.0)));
-              short = λ f m. omega (arith, size_imp first.2.0.assertion implied.2.1.place implied.2.1.right.assertion f,
-                  first.2.0.short true (inr (inl implied.2.0)), implied.2.1.right.short f m);
+              short = λ f m. omega (
+                arith,
+                size_imp first.2.0.assertion implied.2.1.place implied.2.1.right.assertion f,
+                first.2.0.short true (inr (inl implied.2.0)),
+                implied.2.1.right.short f m,
+              );
             },
             implied.2.2,
           ),
@@ -201,8 +231,20 @@ implied_row = record {
       let right = g.6 before in (
         right.0,
         right.1,
-        (begins g.2 g.3 g.4 g.5, record { place = place_of (Some g.2); inside = g.0; opens = g.1; right = record {
-          assertion = right.2.0.assertion; canonical = right.2.0.canonical; short = λ f m. omega (arith, one_less g.4, right.2.0.short f m) } }, right.2.1),
+        (
+          begins g.2 g.3 g.4 g.5,
+          record {
+            place = place_of (Some g.2);
+            inside = g.0;
+            opens = g.1;
+            right = record {
+              assertion = right.2.0.assertion;
+              canonical = right.2.0.canonical;
+              short = λ f m. omega (arith, one_less g.4, right.2.0.short f m);
+            };
+          },
+          right.2.1,
+        ),
         right.3,
       );
 }
@@ -322,9 +364,12 @@ bounds_made : (room : ℕ) (start end : List Token) (several : Several program_m
     (names : List Name) × AreFree names × ((q : Quantifier) (parts : Parts) (below : List Quantifier) →
     puts program_meaning part.NextBound room start end several (record parts { quantifiers = q ∷ below }) ≡ record parts { quantifiers = with_names q names ∷ below }) ×
     (names_size names + length end ≤ length start)
-bounds_made room start end (no_more _ stops) =
-    ([], tt, λ q parts below. ap (λ (l : List Name). record parts { quantifiers = record q { names = l } ∷ below }) (sym (append-nil q.names)),
-    omega arith)
+bounds_made room start end (no_more _ stops) = (
+  [],
+  tt,
+  λ q parts below. ap (λ (l : List Name). record parts { quantifiers = record q { names = l } ∷ below }) (sym (append-nil q.names)),
+  omega arith,
+)
 bounds_made room start end (one_more _ middle _ one others) =
     let more = bounds_made room middle end others in (
       one.name ∷ more.0,

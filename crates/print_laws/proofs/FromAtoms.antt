@@ -1,4 +1,4 @@
--- Assertions without connectives that a reading makes are canonical.
+-- Assertions without connectives that a reading makes are canonical, and spelled in no more tokens than they were read from.
 use Rattle.std.proofs.Common.{◌+◌, ◌≤◌, length, arith, ap, ◌≡◌, inl, inr, ℕ, false, List, [], ◌∷◌, ◌++◌, Some, refl, sym, subst}
 use Rattle.pale_text.specs.declared.grammar.part.ProgramPart.TheVariants as part
 use Rattle.pale_text.specs.declared.place.Pos.{Pos}
@@ -130,7 +130,7 @@ used_row = record {
       let first = g tt in
       let others = first.3 tt in
       let made = used_made room first.1 others.1 others.2 (parts.used ++ first.2.path ∷ []) (one_more_path parts.used first.2.path (no_paths parts before) first.2.free)
-          tokens (subst (λ (ps : List Path). used_size (ps ++ first.2.path ∷ []) + length first.1 ≤ length tokens) (sym before) (omega (arith, first.2.short))) parts in
+      tokens (subst (λ (ps : List Path). used_size (ps ++ first.2.path ∷ []) + length first.1 ≤ length tokens) (sym before) (omega (arith, first.2.short))) parts in
       (others.0, others.1, made.0, subst (λ q. goal others.0 others.1 q) made.1 others.3);
 }
 
@@ -140,9 +140,11 @@ used_paths_sound = or_row used_row no_row
 
 next_used_row : IsSoundRow part.NextUsedPath (nth (rows_of part.NextUsedPath) 0)
 unfolding rows_of
-next_used_row = record { along = λ room last tokens parts goal g before. 
-    let p = g.4 tt in
-    (p.0, p.1, record { path = p.2.path; free = p.2.free; short = omega (arith, one_less g.2, p.2.short) }, p.3) }
+next_used_row = record {
+  along = λ room last tokens parts goal g before.
+      let p = g.4 tt in
+      (p.0, p.1, record { path = p.2.path; free = p.2.free; short = omega (arith, one_less g.2, p.2.short) }, p.3);
+}
 
 pub next_used_path_sound : AreSoundRows part.NextUsedPath (rows_of part.NextUsedPath)
 unfolding rows_of
@@ -180,9 +182,11 @@ steps_made : (room : ℕ) (start end : List Token) (several : Several program_me
 unfolding extended_by roll-Assertion roll out-Assertion out
 steps_made room start end (no_more _ stops) = ([], λ p parts below. refl, λ p. omega arith)
 steps_made room start end (one_more _ middle _ one others) =
-    let more = steps_made room middle end others in
-    (record { name = one.name; free = one.free } ∷ more.0, λ p parts below. more.1 (extended p one.name) parts below,
-    λ p. omega (arith, more.2 (extended p one.name), extended_size p one.name, one.short))
+    let more = steps_made room middle end others in (
+      record { name = one.name; free = one.free } ∷ more.0,
+      λ p parts below. more.1 (extended p one.name) parts below,
+      λ p. omega (arith, more.2 (extended p one.name), extended_size p one.name, one.short),
+    )
 
 use_row : IsSoundRow part.NameRest (nth (rows_of part.NameRest) 0)
 unfolding rows_of
@@ -193,8 +197,11 @@ use_row = record {
             let close = none.1 in (
               Some close.0,
               close.1,
-              record { of = λ p. assertion.Use p.base parts.used; canonical = λ p free f. use_of operand f room p.base parts.used free.base (no_paths parts before);
-                short = λ p f. omega (arith, size_use p.base parts.used 4 f, ap used_size before, one_less g.2, one_less close.2) },
+              record {
+                of = λ p. assertion.Use p.base parts.used;
+                canonical = λ p free f. use_of operand f room p.base parts.used free.base (no_paths parts before);
+                short = λ p f. omega (arith, size_use p.base parts.used 4 f, ap used_size before, one_less g.2, one_less close.2);
+              },
               subst (λ u. goal (Some close.0) close.1
                   (record parts { assertions = assertion.Use (path_alone (top assertionless parts.assertions)).base parts.used ∷ rest parts.assertions; used = u }))
                   (sym before) close.4,
@@ -203,8 +210,11 @@ use_row = record {
             let close = some.3 in (
               Some close.0,
               close.1,
-              record { of = λ p. assertion.Use p.base some.2.paths; canonical = λ p free f. use_of operand f room p.base some.2.paths free.base some.2.free;
-                short = λ p f. omega (arith, size_use p.base some.2.paths 4 f, some.2.short, one_less g.2, one_less close.2) },
+              record {
+                of = λ p. assertion.Use p.base some.2.paths;
+                canonical = λ p free f. use_of operand f room p.base some.2.paths free.base some.2.free;
+                short = λ p f. omega (arith, size_use p.base some.2.paths 4 f, some.2.short, one_less g.2, one_less close.2);
+              },
               subst (λ u. goal (Some close.0) close.1
                   (record parts { assertions = assertion.Use (path_alone (top assertionless parts.assertions)).base some.2.paths ∷ rest parts.assertions; used = u }))
                   (sym before) close.4,
@@ -229,8 +239,13 @@ longer_row = record {
             of = λ p. assertion.Truth (extended_by (extended p first.2.name) made.0);
             canonical = λ p free f. path operand f room (extended_by (extended p first.2.name) made.0)
                 (extended_by_free (extended p first.2.name) made.0 (extended_free p first.2.name free first.2.free));
-            short = λ p f. omega (arith, size_truth (extended_by (extended p first.2.name) made.0) 4 f, made.2 (extended p first.2.name),
-                extended_size p first.2.name, first.2.short);
+            short = λ p f. omega (
+              arith,
+              size_truth (extended_by (extended p first.2.name) made.0) 4 f,
+              made.2 (extended p first.2.name),
+              extended_size p first.2.name,
+              first.2.short,
+            );
           },
           subst (λ q. goal others.0 others.1 q) e stopped.1,
         )
@@ -241,8 +256,13 @@ longer_row = record {
             of = λ p. related.2.of (tree_term.Path (extended_by (extended p first.2.name) made.0));
             canonical = λ p free f. related.2.canonical (tree_term.Path (extended_by (extended p first.2.name) made.0))
                 (extended_by_free (extended p first.2.name) made.0 (extended_free p first.2.name free first.2.free)) f;
-            short = λ p f. omega (arith, related.2.short (tree_term.Path (extended_by (extended p first.2.name) made.0)) f, made.2 (extended p first.2.name),
-                extended_size p first.2.name, first.2.short);
+            short = λ p f. omega (
+              arith,
+              related.2.short (tree_term.Path (extended_by (extended p first.2.name) made.0)) f,
+              made.2 (extended p first.2.name),
+              extended_size p first.2.name,
+              first.2.short,
+            );
           },
           subst (λ (q : Parts). goal related.0 related.1
               (record q { assertions = related.2.of (tree_term.Path (path_alone (top assertionless q.assertions))) ∷ rest q.assertions })) e related.3,

@@ -1,5 +1,5 @@
--- Values, arguments and calls that a reading makes are canonical.
-use Rattle.std.proofs.Common.{◌+◌, ◌≤◌, suc, length, arith, ◌≡◌, inl, inr, ℕ, true, false, List, [], ◌∷◌, ◌++◌, Option, None, Some, refl, sym, ap, ◌∙◌, subst, append_assoc, append-nil}
+-- Values, arguments and calls that a reading makes are canonical, and spelled in no more tokens than they were read from.
+use Rattle.std.proofs.Common.{◌+◌, ◌≤◌, length, arith, ◌≡◌, inl, inr, ℕ, true, false, List, [], ◌∷◌, ◌++◌, Option, None, Some, refl, sym, ap, ◌∙◌, subst, append_assoc, append-nil}
 use Rattle.grammar_engine.specs.declared.symbol.Symbol.TheVariants.{Read, Once, Maybe}
 use Rattle.pale_text.specs.declared.grammar.kind.ProgramKind.TheVariants as kind
 use Rattle.pale_text.specs.declared.grammar.part.ProgramPart.TheVariants as part
@@ -61,9 +61,11 @@ argument_sound = or_row name_row (or_row null_row (or_row true_row (or_row false
 
 next_argument_row : IsSoundRow part.NextArgument (nth (rows_of part.NextArgument) 0)
 unfolding rows_of
-next_argument_row = record { along = λ room last tokens parts goal g before. 
-    let made = g.4 tt in
-    (made.0, made.1, record { argument = made.2.argument; free = made.2.free; short = omega (arith, one_less g.2, made.2.short) }, made.3) }
+next_argument_row = record {
+  along = λ room last tokens parts goal g before.
+      let made = g.4 tt in
+      (made.0, made.1, record { argument = made.2.argument; free = made.2.free; short = omega (arith, one_less g.2, made.2.short) }, made.3);
+}
 
 pub next_argument_sound : AreSoundRows part.NextArgument (rows_of part.NextArgument)
 unfolding rows_of
@@ -93,7 +95,7 @@ argued_row = record {
       let others = first.3 tt in
       let made = arguments_made room first.1 others.1 others.2 (parts.arguments ++ first.2.argument ∷ []) (one_more_argument parts.arguments first.2.argument (no_arguments parts before) first.2.free)
       0 tokens (subst (λ (xs : List Argument). 0 + (separated_size one_token (xs ++ first.2.argument ∷ []) + length first.1) ≤ length tokens) (sym before)
-        (omega (arith, first.2.short))) parts in
+      (omega (arith, first.2.short))) parts in
       (others.0, others.1, made.0, subst (λ q. goal others.0 others.1 q) made.1 others.3);
 }
 
@@ -109,7 +111,7 @@ logic_row = record {
       let others = first.3 tt in
       let made = arguments_made room first.1 others.1 others.2 (parts.arguments ++ first.2.argument ∷ []) (one_more_argument parts.arguments first.2.argument (no_arguments parts before) first.2.free)
       1 tokens (subst (λ (xs : List Argument). 1 + (separated_size one_token (xs ++ first.2.argument ∷ []) + length first.1) ≤ length tokens) (sym before)
-        (omega (arith, first.2.short, one_less g.2))) parts in
+      (omega (arith, first.2.short, one_less g.2))) parts in
       (others.0, others.1, made.0, subst (λ q. goal others.0 others.1 q) made.1 others.3);
 }
 
@@ -119,9 +121,11 @@ logic_arguments_sound = or_row logic_row no_row
 
 keep_row : IsSoundRow part.Keep (nth (rows_of part.Keep) 0)
 unfolding rows_of
-keep_row = record { along = λ room last tokens parts goal g before. 
-    let made = g.4 before in
-    (made.0, made.1, record { bracketed = made.2.bracketed; canonical = made.2.canonical; short = omega (arith, one_less g.2, made.2.short) }, made.3) }
+keep_row = record {
+  along = λ room last tokens parts goal g before.
+      let made = g.4 before in
+      (made.0, made.1, record { bracketed = made.2.bracketed; canonical = made.2.canonical; short = omega (arith, one_less g.2, made.2.short) }, made.3);
+}
 
 pub keep_sound : AreSoundRows part.Keep (rows_of part.Keep)
 unfolding rows_of
@@ -179,7 +183,7 @@ logics_made room last tokens parts goal given free start short used keep g =
     elim (g refl) [
       | inl none ↦ keep_made room last tokens parts goal given [] free tt start (omega arith) used keep none.1
       | inr some ↦ keep_made room some.0 some.1 parts goal given some.2.arguments free some.2.free start
-        (omega (arith, some.2.short, logic_arguments_at_most some.2.arguments)) used keep some.3
+          (omega (arith, some.2.short, logic_arguments_at_most some.2.arguments)) used keep some.3
     ]
 
 given_row : IsSoundRow part.Arguments (nth (rows_of part.Arguments) 0)

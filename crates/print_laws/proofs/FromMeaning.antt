@@ -14,9 +14,6 @@ use Rattle.pale_text.specs.MakingRoutes.{routeless, tested_type, joined_then, jo
 use Rattle.pale_text.specs.MakingConditions.{conditionless, term_alone, both_conditions, either_condition}
 use Rattle.pale_text.specs.MakingAssertions.{assertionless, path_alone, both, either, equivalent, quantifierless, of_sets, binding}
 use Rattle.pale_text.specs.MakingStatements.{valueless, narrowed, with_statement}
-use Rattle.print_laws.specs.CanonicalNames.{AreFreePaths}
-use Rattle.print_laws.specs.CanonicalStatements.{AreFreeArguments, IsCanonicalClause}
-use Rattle.print_laws.specs.CanonicalDeclarations.{All, IsCanonicalField, IsCanonicalVariant, IsFreePredicateParameter, IsFreeParameter, IsFreeLogicParameter}
 use Rattle.print_laws.proofs.FromRows.{Meaning}
 use Rattle.print_laws.proofs.FromMade.{GivenMade, ResultsMade, TypeMade, PredicateMade, ProcedureMade, Made}
 

@@ -1,6 +1,5 @@
--- Names, paths and terms that a reading makes are free of reserved words.
-use Rattle.std.proofs.Common.{◌+◌, ◌≤◌, length, suc, arith, ◌≡◌, inl, inr, ℕ, List, [], ◌∷◌, ◌++◌, Some, refl, sym, ◌∙◌, subst}
-use Rattle.grammar_engine.specs.declared.symbol.Symbol.TheVariants.{Read, Once, Many}
+-- Names, paths and terms that a reading makes are free of reserved words, and spelled in no more tokens than they were read from.
+use Rattle.std.proofs.Common.{◌+◌, ◌≤◌, length, arith, ◌≡◌, ℕ, List, [], ◌∷◌, ◌++◌, Some, refl, subst}
 use Rattle.pale_text.specs.declared.grammar.part.ProgramPart.TheVariants as part
 use Rattle.pale_text.specs.declared.token.Token.{Token}
 use Rattle.pale_text.specs.declared.tree.names.Name.{Name}

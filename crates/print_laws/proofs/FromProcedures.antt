@@ -1,4 +1,4 @@
--- Procedures that a reading makes are canonical.
+-- Procedures that a reading makes are canonical, and spelled in no more tokens than they were read from.
 use Rattle.std.proofs.Common.{◌+◌, ◌≤◌, None, length, ap, sym, ◌≡◌, inl, inr, ℕ, suc, List, [], ◌∷◌, ◌++◌, Option, Some, refl, subst, arith}
 use Rattle.grammar_engine.specs.declared.symbol.Symbol.TheVariants.{Maybe, Many}
 use Rattle.pale_text.specs.declared.grammar.act.ProcedureAct.TheVariants as procedures
@@ -35,9 +35,16 @@ unfolding rows_of
 data_row = record {
   along = λ room last tokens parts goal g before.
       let name = g.4 in
-      let ty = name.4.4 in
-      (Some ty.0, ty.1, record { parameter = parameter.Data (name_of (Some name.0)) (name_of (Some ty.0)); free = (free_name name.0 name.3, free_name ty.0 ty.3);
-        short = omega (arith, one_less g.2, one_less name.2, one_less name.4.2, one_less ty.2) }, ty.4);
+      let ty = name.4.4 in (
+        Some ty.0,
+        ty.1,
+        record {
+          parameter = parameter.Data (name_of (Some name.0)) (name_of (Some ty.0));
+          free = (free_name name.0 name.3, free_name ty.0 ty.3);
+          short = omega (arith, one_less g.2, one_less name.2, one_less name.4.2, one_less ty.2);
+        },
+        ty.4,
+      );
 }
 
 pointer_row : IsSoundRow part.Parameter (nth (rows_of part.Parameter) 1)
@@ -45,9 +52,16 @@ unfolding rows_of
 pointer_row = record {
   along = λ room last tokens parts goal g before.
       let name = g.4 in
-      let ty = name.4.4 in
-      (Some ty.0, ty.1, record { parameter = parameter.Pointer (name_of (Some name.0)) (name_of (Some ty.0)); free = (free_name name.0 name.3, free_name ty.0 ty.3);
-        short = omega (arith, one_less g.2, one_less name.2, one_less name.4.2, one_less ty.2) }, ty.4);
+      let ty = name.4.4 in (
+        Some ty.0,
+        ty.1,
+        record {
+          parameter = parameter.Pointer (name_of (Some name.0)) (name_of (Some ty.0));
+          free = (free_name name.0 name.3, free_name ty.0 ty.3);
+          short = omega (arith, one_less g.2, one_less name.2, one_less name.4.2, one_less ty.2);
+        },
+        ty.4,
+      );
 }
 
 bool_row : IsSoundRow part.Parameter (nth (rows_of part.Parameter) 2)
@@ -64,9 +78,11 @@ parameter_sound = or_row data_row (or_row pointer_row (or_row bool_row no_row))
 
 next_parameter_row : IsSoundRow part.NextParameter (nth (rows_of part.NextParameter) 0)
 unfolding rows_of
-next_parameter_row = record { along = λ room last tokens parts goal g before. 
-    let made = g.4 tt in
-    (made.0, made.1, record { parameter = made.2.parameter; free = made.2.free; short = omega (arith, one_less g.2, made.2.short) }, made.3) }
+next_parameter_row = record {
+  along = λ room last tokens parts goal g before.
+      let made = g.4 tt in
+      (made.0, made.1, record { parameter = made.2.parameter; free = made.2.free; short = omega (arith, one_less g.2, made.2.short) }, made.3);
+}
 
 pub next_parameter_sound : AreSoundRows part.NextParameter (rows_of part.NextParameter)
 unfolding rows_of
@@ -89,7 +105,7 @@ parameters_row = record {
       let made = parameters_made room first.1 others.1 others.2 (parts.variables ++ first.2.parameter ∷ [])
       (all_and IsFreeParameter parts.variables first.2.parameter (none_all IsFreeParameter parts.variables before) first.2.free)
       tokens (subst (λ (ps : List Parameter). separated_size parameter_size (ps ++ first.2.parameter ∷ []) + length first.1 ≤ length tokens) (sym before)
-        (omega (arith, first.2.short))) parts in
+      (omega (arith, first.2.short))) parts in
       (others.0, others.1, made.0, subst (λ q. goal others.0 others.1 q) made.1 others.3);
 }
 
@@ -144,9 +160,16 @@ unfolding rows_of
 set_row = record {
   along = λ room last tokens parts goal g before.
       let name = g.4 in
-      let ty = name.4.4 in
-      (Some ty.0, ty.1, record { logic = logic.Set (name_of (Some name.0)) (name_of (Some ty.0)); free = (free_name name.0 name.3, free_name ty.0 ty.3);
-        short = omega (arith, one_less g.2, one_less name.2, one_less name.4.2, one_less ty.2) }, ty.4);
+      let ty = name.4.4 in (
+        Some ty.0,
+        ty.1,
+        record {
+          logic = logic.Set (name_of (Some name.0)) (name_of (Some ty.0));
+          free = (free_name name.0 name.3, free_name ty.0 ty.3);
+          short = omega (arith, one_less g.2, one_less name.2, one_less name.4.2, one_less ty.2);
+        },
+        ty.4,
+      );
 }
 
 bool_logic_row : IsSoundRow part.LogicParameter (nth (rows_of part.LogicParameter) 1)
@@ -163,9 +186,11 @@ logic_parameter_sound = or_row set_row (or_row bool_logic_row no_row)
 
 next_logic_row : IsSoundRow part.NextLogicParameter (nth (rows_of part.NextLogicParameter) 0)
 unfolding rows_of
-next_logic_row = record { along = λ room last tokens parts goal g before. 
-    let made = g.4 tt in
-    (made.0, made.1, record { logic = made.2.logic; free = made.2.free; short = omega (arith, one_less g.2, made.2.short) }, made.3) }
+next_logic_row = record {
+  along = λ room last tokens parts goal g before.
+      let made = g.4 tt in
+      (made.0, made.1, record { logic = made.2.logic; free = made.2.free; short = omega (arith, one_less g.2, made.2.short) }, made.3);
+}
 
 pub next_logic_parameter_sound : AreSoundRows part.NextLogicParameter (rows_of part.NextLogicParameter)
 unfolding rows_of
@@ -187,7 +212,7 @@ logic_row = record {
       let others = first.3 tt in
       let made = logics_made room first.1 others.1 others.2 (parts.logics ++ first.2.logic ∷ []) (all_and IsFreeLogicParameter parts.logics first.2.logic (none_all IsFreeLogicParameter parts.logics before) first.2.free)
       tokens (subst (λ (ls : List LogicParameter). suc (separated_size logic_parameter_size (ls ++ first.2.logic ∷ []) + length first.1) ≤ length tokens) (sym before)
-        (omega (arith, first.2.short, one_less g.2))) parts in
+      (omega (arith, first.2.short, one_less g.2))) parts in
       (others.0, others.1, made.0, subst (λ q. goal others.0 others.1 q) made.1 others.3);
 }
 
@@ -199,9 +224,11 @@ logic_sound = or_row logic_row no_row
 
 pre_row : IsSoundRow part.Pre (nth (rows_of part.Pre) 0)
 unfolding rows_of
-pre_row = record { along = λ room last tokens parts goal g before. 
-    let made = g.4 before in
-    (made.0, made.1, record { bracketed = made.2.bracketed; canonical = made.2.canonical; short = omega (arith, one_less g.2, made.2.short) }, made.3) }
+pre_row = record {
+  along = λ room last tokens parts goal g before.
+      let made = g.4 before in
+      (made.0, made.1, record { bracketed = made.2.bracketed; canonical = made.2.canonical; short = omega (arith, one_less g.2, made.2.short) }, made.3);
+}
 
 pub pre_sound : AreSoundRows part.Pre (rows_of part.Pre)
 unfolding rows_of
@@ -209,9 +236,11 @@ pre_sound = or_row pre_row no_row
 
 post_row : IsSoundRow part.Post (nth (rows_of part.Post) 0)
 unfolding rows_of
-post_row = record { along = λ room last tokens parts goal g before. 
-    let made = g.4 before in
-    (made.0, made.1, record { bracketed = made.2.bracketed; canonical = made.2.canonical; short = omega (arith, one_less g.2, made.2.short) }, made.3) }
+post_row = record {
+  along = λ room last tokens parts goal g before.
+      let made = g.4 before in
+      (made.0, made.1, record { bracketed = made.2.bracketed; canonical = made.2.canonical; short = omega (arith, one_less g.2, made.2.short) }, made.3);
+}
 
 pub post_sound : AreSoundRows part.Post (rows_of part.Post)
 unfolding rows_of
@@ -283,9 +312,15 @@ inside_made inside last tokens parts below goal before g =
     let locals = g tt in
     let made = locals_made inside tokens locals.1 locals.2 [] tt tokens (omega arith) (record parts { blocks = [] ∷ below }) in
     let body = subst (λ (p : Parts). Goes program_meaning statements_row inside locals.0 locals.1 p goal) made.1 locals.3 before in
-    let ss = statements_made inside locals.1 body.1 body.2 [] (none inside) locals.1 (omega arith) (record parts { variables = made.0.parameters }) below in
-    (record { parameters = made.0.parameters; free = made.0.free }, ss.0, ss.1, body.0, body.1,
-    subst (λ (p : Parts). Goes program_meaning closing_row inside body.0 body.1 p goal) ss.2 body.3, omega (arith, made.0.short, ss.3))
+    let ss = statements_made inside locals.1 body.1 body.2 [] (none inside) locals.1 (omega arith) (record parts { variables = made.0.parameters }) below in (
+      record { parameters = made.0.parameters; free = made.0.free },
+      ss.0,
+      ss.1,
+      body.0,
+      body.1,
+      subst (λ (p : Parts). Goes program_meaning closing_row inside body.0 body.1 p goal) ss.2 body.3,
+      omega (arith, made.0.short, ss.3),
+    )
 
 body_made : (room : ℕ) (last : Option Token) (tokens : List Token) (parts : Parts) (goal : Goal) (h : Header room) → (start : List Token) → suc (suc (suc (suc (header_size h + length tokens)))) ≤ length start → NoCall parts →
     Goes program_meaning body_row room last tokens (with_header parts h) goal → ProcedureAt room start parts goal

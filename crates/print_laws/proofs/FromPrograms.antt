@@ -1,4 +1,4 @@
--- The program that a reading makes is canonical.
+-- The program that a reading makes is canonical, and spelled in no more tokens than it was read from.
 use Rattle.std.proofs.Common.{◌+◌, ◌-◌, ◌≤◌, length, arith, ◌⊎◌, inl, inr, ℕ, List, [], ◌∷◌, ◌++◌, None, refl, sym, subst}
 use Rattle.pale_text.specs.declared.grammar.part.ProgramPart.{ProgramPart}
 use Rattle.pale_text.specs.declared.grammar.part.ProgramPart.TheVariants as part
@@ -219,7 +219,7 @@ short_from text list steps tree lexed program =
     let g = held program_meaning sound keeps limit.0 program.reading list.tokens refl (all_named lexed) limit.1 None nothing
     ((refl, refl), (refl, refl), ((refl, refl, refl, refl, refl), refl, refl, refl, refl, refl)) in
     let h : each_size declaration_size (puts program_meaning part.Declaration (limit.0 - 0) list.tokens g.1 g.2 nothing).declarations ≤ length list.tokens =
-        omega (arith, declarations_short (limit.0 - 0) list.tokens g.1 g.2 nothing list.tokens (omega arith)) in
+    omega (arith, declarations_short (limit.0 - 0) list.tokens g.1 g.2 nothing list.tokens (omega arith)) in
     at_most tree (length list.tokens)
     (subst (λ (p : Program). each_size declaration_size p.declarations ≤ length list.tokens) (sym program.made)
     (subst (λ (p : Parts). each_size declaration_size p.declarations ≤ length list.tokens) g.3 h))

@@ -1,4 +1,4 @@
--- Statements that a reading makes are canonical.
+-- Statements that a reading makes are canonical, and spelled in no more tokens than they were read from.
 use Rattle.std.proofs.Common.{◌+◌, ◌≤◌, suc, length, arith, ap, ◌≡◌, ◌⊎◌, inl, inr, ℕ, List, [], ◌∷◌, ◌++◌, Option, None, Some, refl, sym, subst}
 use Rattle.pale_text.specs.declared.grammar.act.CallAct.TheVariants as calls
 use Rattle.pale_text.specs.declared.grammar.part.ProgramPart.TheVariants as part
@@ -19,8 +19,7 @@ use Rattle.print_laws.specs.CanonicalConditions.{IsCanonicalCondition, whole}
 use Rattle.print_laws.specs.CanonicalAssertions.{IsCanonicalBracketed}
 use Rattle.print_laws.specs.CanonicalStatements.{IsCanonicalStatement, skip, if_alone, if_else, while, split, assert, free, call, assign, AreCanonicalStatements, none, more}
 use Rattle.print_laws.proofs.NameSizes.{one_less}
-use Rattle.print_laws.proofs.ListSizes.{behind_size}
-use Rattle.print_laws.proofs.StatementSizes.{one_token, call_result_size, call_size, statement_size, statements_size, statements_last, size_skip, size_if, size_if_else, size_while, size_split, size_assert, size_free, size_call, size_assign}
+use Rattle.print_laws.proofs.StatementSizes.{call_result_size, statements_size, statements_last, size_skip, size_if, size_if_else, size_while, size_split, size_assert, size_free, size_call, size_assign}
 use Rattle.print_laws.proofs.FromRows.{Several, no_more, one_more, puts, Goal, Goes}
 use Rattle.print_laws.proofs.FromMade.{rest_size, StatementMade, BlockMade, ConditionMade, BracketedMade, GivenMade, ResultsMade}
 use Rattle.print_laws.proofs.FromMeaning.{program_meaning, put, NoCall}
@@ -63,9 +62,11 @@ block_sound = or_row block_row no_row
 
 else_row : IsSoundRow part.Else (nth (rows_of part.Else) 0)
 unfolding rows_of
-else_row = record { along = λ room last tokens parts goal g before. 
-    let made = g.4 before in
-    (made.0, made.1, record { inside = made.2.inside; opens = made.2.opens; block = made.2.block; canonical = made.2.canonical; short = omega (arith, one_less g.2, made.2.short) }, made.3) }
+else_row = record {
+  along = λ room last tokens parts goal g before.
+      let made = g.4 before in
+      (made.0, made.1, record { inside = made.2.inside; opens = made.2.opens; block = made.2.block; canonical = made.2.canonical; short = omega (arith, one_less g.2, made.2.short) }, made.3);
+}
 
 pub else_sound : AreSoundRows part.Else (rows_of part.Else)
 unfolding rows_of
@@ -103,13 +104,24 @@ if_row = record {
       let c = g.4.4 tt in
       let then = c.3.4 before in
       elim (then.3 before) [
-        | inl alone ↦ (then.0, then.1, record { statement = statement.If place c.2.condition then.2.block None; canonical = if_canonical room place c.2 then.2;
-            short = omega (arith, size_if place c.2.condition then.2.block, one_less g.2, one_less g.4.2, c.2.short, one_less c.3.2, then.2.short) }, alone.1)
+        | inl alone ↦ (
+          then.0,
+          then.1,
+          record {
+            statement = statement.If place c.2.condition then.2.block None;
+            canonical = if_canonical room place c.2 then.2;
+            short = omega (arith, size_if place c.2.condition then.2.block, one_less g.2, one_less g.4.2, c.2.short, one_less c.3.2, then.2.short);
+          },
+          alone.1,
+        )
         | inr some ↦ (
           some.0,
           some.1,
-          record { statement = statement.If place c.2.condition then.2.block (Some some.2.block); canonical = else_canonical room place c.2 then.2 some.2;
-            short = omega (arith, size_if_else place c.2.condition then.2.block some.2.block, one_less g.2, one_less g.4.2, c.2.short, one_less c.3.2, then.2.short, some.2.short) },
+          record {
+            statement = statement.If place c.2.condition then.2.block (Some some.2.block);
+            canonical = else_canonical room place c.2 then.2 some.2;
+            short = omega (arith, size_if_else place c.2.condition then.2.block some.2.block, one_less g.2, one_less g.4.2, c.2.short, one_less c.3.2, then.2.short, some.2.short);
+          },
           some.3,
         )
       ];
@@ -132,8 +144,11 @@ while_row = record {
       let body = b.3 before in (
         body.0,
         body.1,
-        record { statement = statement.While place c.2.condition b.2.bracketed body.2.block; canonical = while_canonical room place c.2 b.2 body.2;
-          short = omega (arith, size_while place c.2.condition b.2.bracketed body.2.block, one_less g.2, one_less g.4.2, c.2.short, one_less c.3.2, b.2.short, body.2.short) },
+        record {
+          statement = statement.While place c.2.condition b.2.bracketed body.2.block;
+          canonical = while_canonical room place c.2 b.2 body.2;
+          short = omega (arith, size_while place c.2.condition b.2.bracketed body.2.block, one_less g.2, one_less g.4.2, c.2.short, one_less c.3.2, b.2.short, body.2.short);
+        },
         body.3,
       );
 }
@@ -144,9 +159,16 @@ split_row = record {
   along = λ room last tokens parts goal g before.
       let place : Pos = place_of (Some g.0) in
       let b = g.4 before.0 in
-      let close = b.3 in
-      (Some close.0, close.1, record { statement = statement.Split place b.2.bracketed; canonical = split room place b.2.bracketed b.2.canonical;
-        short = omega (arith, size_split place b.2.bracketed, one_less g.2, b.2.short, one_less close.2) }, close.4);
+      let close = b.3 in (
+        Some close.0,
+        close.1,
+        record {
+          statement = statement.Split place b.2.bracketed;
+          canonical = split room place b.2.bracketed b.2.canonical;
+          short = omega (arith, size_split place b.2.bracketed, one_less g.2, b.2.short, one_less close.2);
+        },
+        close.4,
+      );
 }
 
 assert_row : IsSoundRow part.Statement (nth (rows_of part.Statement) 4)
@@ -155,9 +177,16 @@ assert_row = record {
   along = λ room last tokens parts goal g before.
       let place : Pos = place_of (Some g.0) in
       let b = g.4 before.0 in
-      let close = b.3 in
-      (Some close.0, close.1, record { statement = statement.Assert place b.2.bracketed; canonical = assert room place b.2.bracketed b.2.canonical;
-        short = omega (arith, size_assert place b.2.bracketed, one_less g.2, b.2.short, one_less close.2) }, close.4);
+      let close = b.3 in (
+        Some close.0,
+        close.1,
+        record {
+          statement = statement.Assert place b.2.bracketed;
+          canonical = assert room place b.2.bracketed b.2.canonical;
+          short = omega (arith, size_assert place b.2.bracketed, one_less g.2, b.2.short, one_less close.2);
+        },
+        close.4,
+      );
 }
 
 free_row : IsSoundRow part.Statement (nth (rows_of part.Statement) 5)
@@ -167,9 +196,16 @@ free_row = record {
       let place : Pos = place_of (Some g.0) in
       let name = g.4 in
       let x : Name = name_of (Some name.0) in
-      let close = name.4 in
-      (Some close.0, close.1, record { statement = statement.Free place x; canonical = free room place x (free_name name.0 name.3);
-        short = omega (arith, size_free place x, one_less g.2, one_less name.2, one_less close.2) }, close.4);
+      let close = name.4 in (
+        Some close.0,
+        close.1,
+        record {
+          statement = statement.Free place x;
+          canonical = free room place x (free_name name.0 name.3);
+          short = omega (arith, size_free place x, one_less g.2, one_less name.2, one_less close.2);
+        },
+        close.4,
+      );
 }
 
 -- nothing of a call was under way, and nothing is
@@ -218,15 +254,21 @@ call_made : (room : ℕ) (last : Option Token) (start tokens : List Token) (part
 call_made room last start tokens parts goal place x (inl u) middle given short first in_all quiet is g = (
   Some g.0,
   g.1,
-  record { statement = statement.Call (made_call parts place x (inl u) given); canonical = call_canonical parts place x room (inl u) given quiet is;
-    short = omega (arith, size_call (made_call parts place x (inl u) given), ap call_result_size quiet.1, given.short, one_less g.2) },
+  record {
+    statement = statement.Call (made_call parts place x (inl u) given);
+    canonical = call_canonical parts place x room (inl u) given quiet is;
+    short = omega (arith, size_call (made_call parts place x (inl u) given), ap call_result_size quiet.1, given.short, one_less g.2);
+  },
   subst (λ (p : Parts). goal (Some g.0) g.1 p) (restored parts (with_statement (statement.Call (made_call parts place x (inl u) given)) parts.blocks) quiet) g.4,
 )
 call_made room last start tokens parts goal place x (inr r) middle given short first in_all quiet is g = (
   Some g.0,
   g.1,
-  record { statement = statement.Call (made_call parts place x (inr r) given); canonical = call_canonical parts place x room (inr r) given quiet is;
-    short = omega (arith, size_call (made_call parts place x (inr r) given), ap (λ (xs : List Name). call_result_size ((xs ++ x ∷ []) ++ r.more)) quiet.1, given.short, one_less g.2) },
+  record {
+    statement = statement.Call (made_call parts place x (inr r) given);
+    canonical = call_canonical parts place x room (inr r) given quiet is;
+    short = omega (arith, size_call (made_call parts place x (inr r) given), ap (λ (xs : List Name). call_result_size ((xs ++ x ∷ []) ++ r.more)) quiet.1, given.short, one_less g.2);
+  },
   subst (λ (p : Parts). goal (Some g.0) g.1 p) (restored parts (with_statement (statement.Call (made_call parts place x (inr r) given)) parts.blocks) quiet) g.4,
 )
 
@@ -251,8 +293,11 @@ assign_row = record {
       let close = v.3 in (
         Some close.0,
         close.1,
-        record { statement = statement.Assign p.2.path place v.2.value; canonical = assign room p.2.path place v.2.value p.2.free v.2.canonical;
-          short = omega (arith, size_assign p.2.path place v.2.value, p.2.short, one_less p.3.2, v.2.short, one_less close.2) },
+        record {
+          statement = statement.Assign p.2.path place v.2.value;
+          canonical = assign room p.2.path place v.2.value p.2.free v.2.canonical;
+          short = omega (arith, size_assign p.2.path place v.2.value, p.2.short, one_less p.3.2, v.2.short, one_less close.2);
+        },
         close.4,
       );
 }

@@ -1,4 +1,4 @@
--- Types and predicates that a reading makes are canonical.
+-- Types and predicates that a reading makes are canonical, and spelled in no more tokens than they were read from.
 use Rattle.std.proofs.Common.{◌+◌, ◌≤◌, suc, length, arith, ap, sym, ◌≡◌, inl, inr, ℕ, List, [], ◌∷◌, ◌++◌, Option, Some, refl, subst}
 use Rattle.grammar_engine.specs.declared.symbol.Symbol.TheVariants.{Once, Many}
 use Rattle.pale_text.specs.declared.grammar.act.PredicateAct.TheVariants as predicates
@@ -43,8 +43,11 @@ bool_row = record {
       let close = name.4 in (
         Some close.0,
         close.1,
-        record { field = record { name = name_of (Some name.0); form = form.Bool }; canonical = (free_name name.0 name.3, tt);
-          short = omega (arith, one_less g.2, one_less name.2, one_less close.2) },
+        record {
+          field = record { name = name_of (Some name.0); form = form.Bool };
+          canonical = (free_name name.0 name.3, tt);
+          short = omega (arith, one_less g.2, one_less name.2, one_less close.2);
+        },
         close.4,
       );
 }
@@ -117,9 +120,16 @@ variant_row = record {
       brace.1 (omega (arith, ap (each_size field_size) before)) (record parts { names = x ∷ parts.names }) in
       let close : Goes program_meaning ending_variant room several.0 several.1 (record parts { names = x ∷ parts.names; fields = made.0 }) goal =
       subst (λ (p : Parts). Goes program_meaning ending_variant room several.0 several.1 p goal) made.2 several.3 in
-      let v : VariantDeclaration = record { name = x; fields = made.0 } in
-      (Some close.0, close.1, record { variant = v; canonical = (free_name name.0 name.3, made.1);
-        short = omega (arith, made.3, one_less g.2, one_less name.2, one_less brace.2, one_less close.2) }, close.4);
+      let v : VariantDeclaration = record { name = x; fields = made.0 } in (
+        Some close.0,
+        close.1,
+        record {
+          variant = v;
+          canonical = (free_name name.0 name.3, made.1);
+          short = omega (arith, made.3, one_less g.2, one_less name.2, one_less brace.2, one_less close.2);
+        },
+        close.4,
+      );
 }
 
 pub variant_sound : AreSoundRows part.Variant (rows_of part.Variant)
@@ -159,9 +169,16 @@ type_row = record {
       behind.1 (omega (arith, ap (behind_size variant_size) before.1)) (record parts { names = x ∷ parts.names; common = fs.0 }) in
       let close : Goes program_meaning ending_type room others.0 others.1 (record parts { names = x ∷ parts.names; common = fs.0; fields = []; variants = vs.0 }) goal =
       subst (λ (p : Parts). Goes program_meaning ending_type room others.0 others.1 p goal) vs.2 others.3 in
-      let t : TypeDeclaration = record { name = x; fields = fs.0; variants = vs.0 } in
-      (others.0, others.1, record { type = t; canonical = record { name = free_name name.0 name.3; fields = fs.1; variants = vs.1 };
-        short = omega (arith, fs.3, vs.3, one_less g.2, one_less name.2, one_less name.4.2, one_less brace.2, one_less behind.2) }, close);
+      let t : TypeDeclaration = record { name = x; fields = fs.0; variants = vs.0 } in (
+        others.0,
+        others.1,
+        record {
+          type = t;
+          canonical = record { name = free_name name.0 name.3; fields = fs.1; variants = vs.1 };
+          short = omega (arith, fs.3, vs.3, one_less g.2, one_less name.2, one_less name.4.2, one_less brace.2, one_less behind.2);
+        },
+        close,
+      );
 }
 
 pub type_sound : AreSoundRows part.«Type» (rows_of part.«Type»)
@@ -183,9 +200,16 @@ unfolding rows_of
 set_row = record {
   along = λ room last tokens parts goal g before.
       let name = g.4 in
-      let ty = name.4.4 in
-      (Some ty.0, ty.1, record { parameter = parameter.Set (name_of (Some name.0)) (name_of (Some ty.0)); free = (free_name name.0 name.3, free_name ty.0 ty.3);
-        short = omega (arith, one_less g.2, one_less name.2, one_less name.4.2, one_less ty.2) }, ty.4);
+      let ty = name.4.4 in (
+        Some ty.0,
+        ty.1,
+        record {
+          parameter = parameter.Set (name_of (Some name.0)) (name_of (Some ty.0));
+          free = (free_name name.0 name.3, free_name ty.0 ty.3);
+          short = omega (arith, one_less g.2, one_less name.2, one_less name.4.2, one_less ty.2);
+        },
+        ty.4,
+      );
 }
 
 bool_parameter_row : IsSoundRow part.PredicateParameter (nth (rows_of part.PredicateParameter) 2)
@@ -202,9 +226,11 @@ predicate_parameter_sound = or_row cell_row (or_row set_row (or_row bool_paramet
 
 next_predicate_parameter_row : IsSoundRow part.NextPredicateParameter (nth (rows_of part.NextPredicateParameter) 0)
 unfolding rows_of
-next_predicate_parameter_row = record { along = λ room last tokens parts goal g before. 
-    let made = g.4 tt in
-    (made.0, made.1, record { parameter = made.2.parameter; free = made.2.free; short = omega (arith, one_less g.2, made.2.short) }, made.3) }
+next_predicate_parameter_row = record {
+  along = λ room last tokens parts goal g before.
+      let made = g.4 tt in
+      (made.0, made.1, record { parameter = made.2.parameter; free = made.2.free; short = omega (arith, one_less g.2, made.2.short) }, made.3);
+}
 
 pub next_predicate_parameter_sound : AreSoundRows part.NextPredicateParameter (rows_of part.NextPredicateParameter)
 unfolding rows_of
@@ -227,9 +253,9 @@ predicate_parameters_row = record {
       let others = first.3 tt in
       let made = parameters_made room first.1 others.1 others.2 (parts.predicate_parameters ++ first.2.parameter ∷ [])
       (all_and IsFreePredicateParameter parts.predicate_parameters first.2.parameter
-        (none_all IsFreePredicateParameter parts.predicate_parameters before) first.2.free)
+      (none_all IsFreePredicateParameter parts.predicate_parameters before) first.2.free)
       tokens (subst (λ (ps : List PredicateParameter). separated_size predicate_parameter_size (ps ++ first.2.parameter ∷ []) + length first.1 ≤ length tokens) (sym before)
-        (omega (arith, first.2.short))) parts in
+      (omega (arith, first.2.short))) parts in
       (others.0, others.1, made.0, subst (λ q. goal others.0 others.1 q) made.1 others.3);
 }
 

@@ -5,9 +5,8 @@ use Rattle.pale_text.specs.declared.tree.names.Path.{Path}
 use Rattle.pale_text.specs.declared.tree.assertion.Assertion.{Assertion, roll-Assertion}
 use Rattle.pale_text.specs.declared.tree.assertion.Assertion.TheOpen.{Assertion-F}
 use Rattle.pale_text.specs.declared.tree.assertion.Assertion.TheFolds.{fold-roll-Assertion, ind-Assertion, map-Assertion}
-use denote.Hole.Carrier.{roll, out}
+use denote.Hole.Carrier.{roll}
 use Rattle.pale_print.specs.Placeless.{nowhere, placeless_name, placeless_path, placeless_term, placeless_route, placeless_quantifier, placeless_assertion_node, placeless_assertion}
-use Rattle.print_laws.proofs.NameSizes.{path_size}
 use Rattle.print_laws.proofs.AssertionSizes.{OperandSize, grouped_size, goes_on, operands_size, chain_size, paths_size, used_size, bound_size, quantified_size, size_node, assertion_size, sized_at, form}
 use Rattle.print_laws.proofs.PlacelessSizes.{names_same, path_same, term_same, route_same}
 
@@ -82,13 +81,13 @@ node_same (Assertion-F.Or first others) asked f =
 node_same (Assertion-F.Imp left place right) asked f =
     form (Assertion-F.Imp (placeless_assertion left.0) nowhere (placeless_assertion right.0)) asked f ∙
     grouped_same (nat_lt 1 asked) (λ then. assertion_size (placeless_assertion left.0) 2 true + suc (assertion_size (placeless_assertion right.0) 1 then))
-      (λ then. assertion_size left.0 2 true + suc (assertion_size right.0 1 then)) (λ then. omega (arith, left.1 2 true, right.1 1 then)) f
+    (λ then. assertion_size left.0 2 true + suc (assertion_size right.0 1 then)) (λ then. omega (arith, left.1 2 true, right.1 1 then)) f
 node_same (Assertion-F.Iff first others) asked f =
     form (Assertion-F.Iff (placeless_assertion first.0) (map placeless_assertion (trees others))) asked f ∙ grouped_same (nat_lt 0 asked) _ _ (λ then. chain_same 1 first others then) f
 node_same (Assertion-F.Quantified q inner) asked f =
     form (Assertion-F.Quantified (placeless_quantifier q) (placeless_assertion inner.0)) asked f ∙
     grouped_same f (quantified_size (placeless_quantifier q) (assertion_size (placeless_assertion inner.0))) (quantified_size q (assertion_size inner.0))
-      (λ then. omega (arith, bound_same q.names, inner.1 0 then)) f
+    (λ then. omega (arith, bound_same q.names, inner.1 0 then)) f
 
 opened_placeless : (x : Assertion-F Assertion) → placeless_assertion (roll-Assertion x) ≡ placeless_assertion_node (map-Assertion Assertion Assertion placeless_assertion x)
 unfolding placeless_assertion
@@ -98,5 +97,5 @@ pub assertion_same : (a : Assertion) (asked : ℕ) (followed : Bool) → asserti
 assertion_same = ind-Assertion Same (λ x y is asked followed.
     ap (λ (a : Assertion). assertion_size a asked followed) (opened_placeless x) ∙
     subst (λ (z : Assertion-F Assertion). assertion_size (placeless_assertion_node (map-Assertion Assertion Assertion placeless_assertion z)) asked followed ≡
-      size_node (map-Assertion Assertion OperandSize assertion_size z) asked followed) is (node_same y asked followed) ∙
+    size_node (map-Assertion Assertion OperandSize assertion_size z) asked followed) is (node_same y asked followed) ∙
     sym (ap (λ (s : OperandSize). s asked followed) (sized_at x)))

@@ -1,5 +1,5 @@
 -- Statements, declarations and programs have as many tokens without their places.
-use Rattle.std.proofs.Common.{◌≡◌, ℕ, suc, ◌+◌, false, List, [], ◌∷◌, length, Option, None, Some, map, refl, sym, ap, ◌∙◌, subst, arith}
+use Rattle.std.proofs.Common.{◌≡◌, ℕ, suc, false, List, [], ◌∷◌, length, Option, None, Some, map, refl, sym, ap, ◌∙◌, subst, arith}
 use Rattle.std.specs.Option.{option_map}
 use Rattle.pale_text.specs.declared.tree.names.Name.{Name}
 use Rattle.pale_text.specs.declared.tree.assertion.Bracketed.{Bracketed}
@@ -10,7 +10,7 @@ use Rattle.pale_text.specs.declared.tree.statement.Value.TheVariants as value
 use Rattle.pale_text.specs.declared.tree.statement.Statement.{Statement, roll-Statement}
 use Rattle.pale_text.specs.declared.tree.statement.Statement.TheOpen.{Statement-F}
 use Rattle.pale_text.specs.declared.tree.statement.Statement.TheFolds.{fold-roll-Statement, ind-Statement, map-Statement}
-use denote.Hole.Carrier.{roll, out}
+use denote.Hole.Carrier.{roll}
 use Rattle.pale_text.specs.declared.tree.declaration.Declaration.{Declaration}
 use Rattle.pale_text.specs.declared.tree.declaration.Declaration.TheVariants as declaration
 use Rattle.pale_text.specs.declared.tree.declaration.FieldDeclaration.{FieldDeclaration}
@@ -29,9 +29,7 @@ use Rattle.pale_text.specs.declared.tree.declaration.TypeDeclaration.{TypeDeclar
 use Rattle.pale_text.specs.declared.tree.declaration.VariantDeclaration.{VariantDeclaration}
 use Rattle.pale_print.specs.DeclarationTokens.{program_tokens}
 use Rattle.pale_print.specs.Placeless.{nowhere, placeless_name, placeless_path, placeless_condition, placeless_bracketed, placeless_value, placeless_argument, placeless_call, placeless_statement_node, placeless_statement, placeless_form, placeless_field, placeless_variant, placeless_type, placeless_predicate_parameter, placeless_predicate, placeless_parameter, placeless_logic, placeless_procedure, placeless_declaration, placeless, IsSameButForPlaces}
-use Rattle.print_laws.proofs.ListSizes.{each_size, behind_size, separated_size}
-use Rattle.print_laws.proofs.AssertionSizes.{assertion_size}
-use Rattle.print_laws.proofs.StatementSizes.{one_token, clause_size, call_result_size, logic_argument_size, call_size, new_variant_size, value_size, total, size_node, statement_size, statements_size, sized_at}
+use Rattle.print_laws.proofs.StatementSizes.{one_token, clause_size, call_result_size, logic_argument_size, call_size, value_size, total, size_node, statement_size, statements_size, sized_at}
 use Rattle.print_laws.proofs.DeclarationSizes.{form_size, field_size, variant_size, type_size, predicate_parameter_size, predicate_size, parameter_size, results_size, logic_parameter_size, logics_size, local_size, procedure_size, declaration_size, program_length}
 use Rattle.print_laws.proofs.PlacelessSizes.{each_same, behind_same, separated_same, path_same, route_same, condition_same}
 use Rattle.print_laws.proofs.PlacelessAssertionSizes.{assertion_same}
@@ -85,11 +83,21 @@ node_same (Statement-F.Skip place) = at_form (Statement-F.Skip nowhere)
 node_same (Statement-F.If place c then None) =
     omega (arith, at_form (Statement-F.If nowhere (placeless_condition c) (map placeless_statement (trees then)) None), condition_same c 0, total_same then)
 node_same (Statement-F.If place c then (Some otherwise)) =
-    omega (arith, at_form (Statement-F.If nowhere (placeless_condition c) (map placeless_statement (trees then)) (Some (map placeless_statement (trees otherwise)))),
-      condition_same c 0, total_same then, total_same otherwise)
+    omega (
+      arith,
+      at_form (Statement-F.If nowhere (placeless_condition c) (map placeless_statement (trees then)) (Some (map placeless_statement (trees otherwise)))),
+      condition_same c 0,
+      total_same then,
+      total_same otherwise,
+    )
 node_same (Statement-F.While place c invariant body) =
-    omega (arith, at_form (Statement-F.While nowhere (placeless_condition c) (placeless_bracketed invariant) (map placeless_statement (trees body))),
-      condition_same c 0, assertion_same invariant.assertion 0 false, total_same body)
+    omega (
+      arith,
+      at_form (Statement-F.While nowhere (placeless_condition c) (placeless_bracketed invariant) (map placeless_statement (trees body))),
+      condition_same c 0,
+      assertion_same invariant.assertion 0 false,
+      total_same body,
+    )
 node_same (Statement-F.Split place b) = omega (arith, at_form (Statement-F.Split nowhere (placeless_bracketed b)), assertion_same b.assertion 0 false)
 node_same (Statement-F.Assert place b) = omega (arith, at_form (Statement-F.Assert nowhere (placeless_bracketed b)), assertion_same b.assertion 0 false)
 node_same (Statement-F.Free place x) = at_form (Statement-F.Free nowhere (placeless_name x))
@@ -104,7 +112,7 @@ statement_same : (s : Statement) → statement_size (placeless_statement s) ≡ 
 statement_same = ind-Statement Same (λ x y is.
     ap statement_size (opened_placeless x) ∙
     subst (λ (z : Statement-F Statement). statement_size (placeless_statement_node (map-Statement Statement Statement placeless_statement z)) ≡
-      size_node (map-Statement Statement ℕ statement_size z)) is (node_same y) ∙
+    size_node (map-Statement Statement ℕ statement_size z)) is (node_same y) ∙
     sym (sized_at x))
 
 statements_same : (ss : List Statement) → statements_size (map placeless_statement ss) ≡ statements_size ss

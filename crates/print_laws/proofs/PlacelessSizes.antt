@@ -1,6 +1,5 @@
 -- Trees have as many tokens without their places.
-use Rattle.std.proofs.Common.{◌≡◌, ℕ, suc, ◌+◌, nat_lt, Bool, true, false, List, [], ◌∷◌, length, Option, None, Some, map, refl, sym, ap, ◌∙◌, subst, arith}
-use Rattle.std.specs.Option.{option_map}
+use Rattle.std.proofs.Common.{◌≡◌, ℕ, suc, ◌+◌, nat_lt, List, [], ◌∷◌, length, map, refl, sym, ap, ◌∙◌, subst, arith}
 use Rattle.pale_text.specs.declared.place.Pos.{Pos}
 use Rattle.pale_text.specs.declared.tree.names.Name.{Name}
 use Rattle.pale_text.specs.declared.tree.names.Path.{Path}
@@ -12,7 +11,6 @@ use Rattle.pale_text.specs.declared.tree.route.Route.TheFolds.{fold-roll-Route, 
 use Rattle.pale_text.specs.declared.tree.condition.Condition.{Condition, roll-Condition}
 use Rattle.pale_text.specs.declared.tree.condition.Condition.TheOpen.{Condition-F}
 use Rattle.pale_text.specs.declared.tree.condition.Condition.TheFolds.{fold-roll-Condition, ind-Condition, map-Condition}
-use denote.Hole.Carrier.{roll, out}
 use Rattle.pale_print.specs.Placeless.{nowhere, placeless_name, placeless_path, placeless_term, placeless_route_node, placeless_route, placeless_condition_node, placeless_condition}
 use Rattle.print_laws.proofs.NameSizes.{names_size, path_size, term_size}
 use Rattle.print_laws.proofs.ListSizes.{each_size, behind_size as all_behind_size, separated_size}
@@ -79,15 +77,15 @@ route_node_same (Route-F.IsVariant ty variant) asked = size_is_variant (placeles
 route_node_same (Route-F.IsBool f value) asked = size_is_bool (placeless_name f) value asked
 route_node_same (Route-F.Then first others) asked =
     let e : route_size (placeless_route first.0) 2 + behind_size 2 (map route_size (map placeless_route (routes others))) ≡ route_size first.0 2 + behind_size 2 (map route_size (routes others)) =
-        omega (arith, first.1 2, routes_same 2 others) in
+    omega (arith, first.1 2, routes_same 2 others) in
     size_then (placeless_route first.0) (map placeless_route (routes others)) asked ∙ ap (λ (n : ℕ). grouped_size (nat_lt 1 asked) n) e
 route_node_same (Route-F.Or first others) asked =
     let e : route_size (placeless_route first.0) 1 + behind_size 1 (map route_size (map placeless_route (routes others))) ≡ route_size first.0 1 + behind_size 1 (map route_size (routes others)) =
-        omega (arith, first.1 1, routes_same 1 others) in
+    omega (arith, first.1 1, routes_same 1 others) in
     size_or_route (placeless_route first.0) (map placeless_route (routes others)) asked ∙ ap (λ (n : ℕ). grouped_size (nat_lt 0 asked) n) e
 route_node_same (Route-F.Star inner places) asked =
     let e : route_size (placeless_route inner.0) 3 + length (map (λ (place : Pos). nowhere) places) ≡ route_size inner.0 3 + length places =
-        omega (arith, inner.1 3, places_same places) in
+    omega (arith, inner.1 3, places_same places) in
     size_star (placeless_route inner.0) (map (λ place. nowhere) places) asked ∙ ap (λ (n : ℕ). grouped_size (nat_lt 2 asked) n) e
 
 opened_placeless_route : (x : Route-F Route) → placeless_route (roll-Route x) ≡ placeless_route_node (map-Route Route Route placeless_route x)
@@ -98,7 +96,7 @@ pub route_same : (r : Route) (asked : ℕ) → route_size (placeless_route r) as
 route_same = ind-Route RouteSame (λ x y is asked.
     ap (λ (r : Route). route_size r asked) (opened_placeless_route x) ∙
     subst (λ (z : Route-F Route). route_size (placeless_route_node (map-Route Route Route placeless_route z)) asked ≡ route_size_node (map-Route Route Size route_size z) asked) is
-      (route_node_same y asked) ∙
+    (route_node_same y asked) ∙
     sym (ap (λ (s : Size). s asked) (route_sized_at x)))
 
 -- ---- conditions
@@ -129,11 +127,11 @@ condition_node_same (Condition-F.Is t place variant) asked = omega (arith, size_
 condition_node_same (Condition-F.Not place inner) asked = omega (arith, size_not nowhere (placeless_condition inner.0) asked, inner.1 2)
 condition_node_same (Condition-F.And first others) asked =
     let e : condition_size (placeless_condition first.0) 2 + behind_size 2 (map condition_size (map placeless_condition (conditions others))) ≡
-        condition_size first.0 2 + behind_size 2 (map condition_size (conditions others)) = omega (arith, first.1 2, conditions_same 2 others) in
+    condition_size first.0 2 + behind_size 2 (map condition_size (conditions others)) = omega (arith, first.1 2, conditions_same 2 others) in
     size_and (placeless_condition first.0) (map placeless_condition (conditions others)) asked ∙ ap (λ (n : ℕ). grouped_size (nat_lt 1 asked) n) e
 condition_node_same (Condition-F.Or first others) asked =
     let e : condition_size (placeless_condition first.0) 1 + behind_size 1 (map condition_size (map placeless_condition (conditions others))) ≡
-        condition_size first.0 1 + behind_size 1 (map condition_size (conditions others)) = omega (arith, first.1 1, conditions_same 1 others) in
+    condition_size first.0 1 + behind_size 1 (map condition_size (conditions others)) = omega (arith, first.1 1, conditions_same 1 others) in
     size_or (placeless_condition first.0) (map placeless_condition (conditions others)) asked ∙ ap (λ (n : ℕ). grouped_size (nat_lt 0 asked) n) e
 
 opened_placeless_condition : (x : Condition-F Condition) → placeless_condition (roll-Condition x) ≡ placeless_condition_node (map-Condition Condition Condition placeless_condition x)
@@ -144,5 +142,5 @@ pub condition_same : (c : Condition) (asked : ℕ) → condition_size (placeless
 condition_same = ind-Condition ConditionSame (λ x y is asked.
     ap (λ (c : Condition). condition_size c asked) (opened_placeless_condition x) ∙
     subst (λ (z : Condition-F Condition). condition_size (placeless_condition_node (map-Condition Condition Condition placeless_condition z)) asked ≡
-      size_node (map-Condition Condition Size condition_size z) asked) is (condition_node_same y asked) ∙
+    size_node (map-Condition Condition Size condition_size z) asked) is (condition_node_same y asked) ∙
     sym (ap (λ (s : Size). s asked) (sized_at x)))

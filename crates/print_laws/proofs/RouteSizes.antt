@@ -1,19 +1,19 @@
 -- How many tokens a route has at each place.
-use Rattle.std.proofs.Common.{◌≡◌, ℕ, zero, suc, ◌+◌, ◌≤◌, nat_lt, Bool, true, false, List, [], ◌∷◌, ◌++◌, length, map, refl, sym, ap, subst, arith}
+use Rattle.std.proofs.Common.{◌≡◌, ℕ, suc, ◌+◌, ◌≤◌, nat_lt, Bool, true, false, List, [], ◌∷◌, ◌++◌, length, map, refl, sym, ap, subst, arith}
 use Rattle.pale_text.specs.declared.place.Pos.{Pos}
 use Rattle.pale_text.specs.declared.token.Mark.{Mark}
 use Rattle.pale_text.specs.declared.token.Mark.TheVariants as mark
 use Rattle.pale_text.specs.declared.token.TokenKind.{TokenKind}
 use Rattle.pale_text.specs.declared.token.TokenKind.TheVariants as token
 use Rattle.pale_text.specs.declared.tree.names.Name.{Name}
-use Rattle.pale_text.specs.declared.tree.route.Route.{Route, out-Route, roll-Route, out-roll-Route}
+use Rattle.pale_text.specs.declared.tree.route.Route.{Route, roll-Route, out-roll-Route}
 use Rattle.pale_text.specs.declared.tree.route.Route.TheVariants as route
 use Rattle.pale_text.specs.declared.tree.route.Route.TheOpen.{Route-F}
 use Rattle.pale_text.specs.declared.tree.route.Route.TheFolds.{fold-Route, fold-roll-Route, ind-Route, map-Route}
-use denote.Hole.Carrier.{roll, out}
+use denote.Hole.Carrier.{roll}
 use Rattle.pale_text.specs.MakingRoutes.{then_by, or_by, star_by, joined_then, joined_or, starred}
-use Rattle.pale_print.specs.Tokens.{Tokens, each, each_behind}
-use Rattle.pale_print.specs.RouteTokens.{Placed, grouped, chained, stars, bool_test, route_node, route_tokens}
+use Rattle.pale_print.specs.Tokens.{Tokens, each_behind}
+use Rattle.pale_print.specs.RouteTokens.{Placed, grouped, stars, bool_test, route_node, route_tokens}
 use Rattle.print_laws.specs.CanonicalRoutes.{is_then_node, is_or_node, is_star_node}
 use Rattle.print_laws.proofs.RouteShapes.{opened_route}
 

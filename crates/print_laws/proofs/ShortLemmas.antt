@@ -1,17 +1,10 @@
 -- The spelling of a tree is its shortest text, from which no parentheses can go.
-use Rattle.std.proofs.Common.{◌≡◌, ℕ, suc, ◌+◌, ◌≤◌, List, [], ◌∷◌, ◌++◌, length, sym, ap, subst, arith, length-append}
-use Rattle.grammar_engine.specs.Readings.{Step}
-use Rattle.pale_text.specs.declared.grammar.act.Act.{Act}
+use Rattle.std.proofs.Common.{◌≡◌, suc, List, [], ◌∷◌, ◌++◌, length, ap, arith, length-append}
 use Rattle.pale_text.specs.declared.token.Mark.TheVariants as mark
 use Rattle.pale_text.specs.declared.token.Token.{Token}
 use Rattle.pale_text.specs.declared.token.TokenKind.{TokenKind}
 use Rattle.pale_text.specs.declared.token.TokenKind.TheVariants as token
-use Rattle.pale_text.specs.declared.token.TokenList.{TokenList}
 use Rattle.pale_text.specs.declared.tree.declaration.Program.{Program}
-use Rattle.pale_text.specs.Lexing.{IsLexed}
-use Rattle.pale_text.specs.ProgramReading.{IsProgram}
-use Rattle.pale_print.specs.DeclarationTokens.{program_tokens}
-use Rattle.pale_print.specs.Placeless.{IsSameButForPlaces}
 use Rattle.print_laws.specs.Shortest.{kinds_of, IsShortest, NeedsItsParentheses}
 use Rattle.print_laws.proofs.FromPrograms.{short_from}
 use Rattle.print_laws.proofs.PlacelessProgramSizes.{same_length}

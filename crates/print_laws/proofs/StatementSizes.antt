@@ -1,10 +1,9 @@
 -- How many tokens a statement has.
-use Rattle.std.proofs.Common.{◌≡◌, ℕ, suc, ◌+◌, ◌≤◌, Bool, true, false, List, [], ◌∷◌, ◌++◌, length, Option, None, Some, map, refl, sym, ap, subst, arith}
+use Rattle.std.proofs.Common.{◌≡◌, ℕ, suc, ◌+◌, ◌≤◌, true, false, List, [], ◌∷◌, ◌++◌, length, Option, None, Some, map, sym, subst, arith}
 use Rattle.std.specs.Prelude.{codes}
 use Rattle.pale_text.specs.declared.place.Pos.{Pos}
 use Rattle.pale_text.specs.declared.token.Mark.TheVariants as mark
 use Rattle.pale_text.specs.declared.token.TokenKind.{TokenKind}
-use Rattle.pale_text.specs.declared.token.TokenKind.TheVariants as token
 use Rattle.pale_text.specs.declared.tree.names.Name.{Name}
 use Rattle.pale_text.specs.declared.tree.names.Path.{Path}
 use Rattle.pale_text.specs.declared.tree.condition.Condition.{Condition}
@@ -18,11 +17,10 @@ use Rattle.pale_text.specs.declared.tree.statement.Statement.{Statement, roll-St
 use Rattle.pale_text.specs.declared.tree.statement.Statement.TheVariants as statement
 use Rattle.pale_text.specs.declared.tree.statement.Statement.TheOpen.{Statement-F}
 use Rattle.pale_text.specs.declared.tree.statement.Statement.TheFolds.{fold-Statement, fold-roll-Statement, ind-Statement, map-Statement}
-use denote.Hole.Carrier.{roll, out}
-use Rattle.pale_print.specs.Tokens.{Tokens, each, separated, sign, word, ◌>>◌, name_tokens, path_tokens}
-use Rattle.pale_print.specs.ConditionTokens.{condition_tokens}
-use Rattle.pale_print.specs.AssertionTokens.{assertion_tokens, bracketed_tokens}
-use Rattle.pale_print.specs.StatementTokens.{truth_tokens, argument_tokens, new_variant_tokens, value_tokens, clause_tokens, call_result_tokens, logic_argument_tokens, call_tokens, block_tokens, else_tokens, statement_node, statement_tokens}
+use denote.Hole.Carrier.{roll}
+use Rattle.pale_print.specs.Tokens.{Tokens, each, separated, sign, word, ◌>>◌, name_tokens}
+use Rattle.pale_print.specs.AssertionTokens.{bracketed_tokens}
+use Rattle.pale_print.specs.StatementTokens.{argument_tokens, new_variant_tokens, value_tokens, clause_tokens, call_result_tokens, logic_argument_tokens, call_tokens, block_tokens, statement_node, statement_tokens}
 use Rattle.print_laws.proofs.RouteSizes.{Takes}
 use Rattle.print_laws.proofs.NameSizes.{path_size, path_takes}
 use Rattle.print_laws.proofs.ConditionSizes.{condition_size, condition_takes}
@@ -112,16 +110,18 @@ logic_arguments_take [] = record { takes = λ after. omega arith }
 logic_arguments_take (x ∷ xs) = record { takes = λ after. let e = separated_takes argument_tokens one_token argument_takes mark.Comma (x ∷ xs) after in omega arith }
 
 pub call_takes : (c : Call) → Takes (call_tokens c) (call_size c)
-call_takes c = record { takes = λ after.
-    let end = sign mark.Semicolon >> after in
-    let kept = sign mark.RightParen >> clause_tokens (codes "keep") c.keep >> end in
-    let logics = logic_argument_tokens c.logics >> kept in
-    let given = name_tokens c.callee >> sign mark.LeftParen >> separated mark.Comma argument_tokens c.arguments >> logics in
-    let e = (call_results_take c.results).takes given in
-    let f = separated_takes argument_tokens one_token argument_takes mark.Comma c.arguments logics in
-    let g = (logic_arguments_take c.logics).takes kept in
-    let h = (clause_takes (codes "keep") c.keep).takes end in
-    omega arith }
+call_takes c = record {
+  takes = λ after.
+      let end = sign mark.Semicolon >> after in
+      let kept = sign mark.RightParen >> clause_tokens (codes "keep") c.keep >> end in
+      let logics = logic_argument_tokens c.logics >> kept in
+      let given = name_tokens c.callee >> sign mark.LeftParen >> separated mark.Comma argument_tokens c.arguments >> logics in
+      let e = (call_results_take c.results).takes given in
+      let f = separated_takes argument_tokens one_token argument_takes mark.Comma c.arguments logics in
+      let g = (logic_arguments_take c.logics).takes kept in
+      let h = (clause_takes (codes "keep") c.keep).takes end in
+      omega arith;
+}
 
 new_variant_takes : (v : Option Name) → Takes (new_variant_tokens v) (new_variant_size v)
 new_variant_takes None = record { takes = λ after. omega arith }
@@ -155,31 +155,39 @@ node_takes : (y : Statement-F Known) →
     Takes (statement_node (map-Statement Statement Tokens statement_tokens (map-Statement Known Statement (λ e. e.0) y)))
     (size_node (map-Statement Statement ℕ statement_size (map-Statement Known Statement (λ e. e.0) y)))
 node_takes (Statement-F.Skip place) = record { takes = λ after. omega arith }
-node_takes (Statement-F.If place c then None) = record { takes = λ after.
-    let e = (condition_takes c 0).takes (sign mark.RightParen >> block_tokens (map statement_tokens (trees then)) >> after) in
-    let f = block_takes then after in
-    omega arith }
-node_takes (Statement-F.If place c then (Some otherwise)) = record { takes = λ after.
-    let last = word (codes "else") >> block_tokens (map statement_tokens (trees otherwise)) >> after in
-    let e = (condition_takes c 0).takes (sign mark.RightParen >> block_tokens (map statement_tokens (trees then)) >> last) in
-    let f = block_takes then last in
-    let g = block_takes otherwise after in
-    omega arith }
-node_takes (Statement-F.While place c invariant body) = record { takes = λ after.
-    let last = block_tokens (map statement_tokens (trees body)) >> after in
-    let e = (condition_takes c 0).takes (sign mark.RightParen >> bracketed_tokens invariant >> last) in
-    let f = (bracketed_takes invariant).takes last in
-    let g = block_takes body after in
-    omega arith }
+node_takes (Statement-F.If place c then None) = record {
+  takes = λ after.
+      let e = (condition_takes c 0).takes (sign mark.RightParen >> block_tokens (map statement_tokens (trees then)) >> after) in
+      let f = block_takes then after in
+      omega arith;
+}
+node_takes (Statement-F.If place c then (Some otherwise)) = record {
+  takes = λ after.
+      let last = word (codes "else") >> block_tokens (map statement_tokens (trees otherwise)) >> after in
+      let e = (condition_takes c 0).takes (sign mark.RightParen >> block_tokens (map statement_tokens (trees then)) >> last) in
+      let f = block_takes then last in
+      let g = block_takes otherwise after in
+      omega arith;
+}
+node_takes (Statement-F.While place c invariant body) = record {
+  takes = λ after.
+      let last = block_tokens (map statement_tokens (trees body)) >> after in
+      let e = (condition_takes c 0).takes (sign mark.RightParen >> bracketed_tokens invariant >> last) in
+      let f = (bracketed_takes invariant).takes last in
+      let g = block_takes body after in
+      omega arith;
+}
 node_takes (Statement-F.Split place b) = record { takes = λ after. let e = (bracketed_takes b).takes (sign mark.Semicolon >> after) in omega arith }
 node_takes (Statement-F.Assert place b) = record { takes = λ after. let e = (bracketed_takes b).takes (sign mark.Semicolon >> after) in omega arith }
 node_takes (Statement-F.Free place x) = record { takes = λ after. omega arith }
 node_takes (Statement-F.Call c) = call_takes c
-node_takes (Statement-F.Assign p place v) = record { takes = λ after.
-    let last = sign mark.Semicolon >> after in
-    let e = (path_takes p).takes (sign mark.Equals >> value_tokens v >> last) in
-    let f = (value_takes v).takes last in
-    omega arith }
+node_takes (Statement-F.Assign p place v) = record {
+  takes = λ after.
+      let last = sign mark.Semicolon >> after in
+      let e = (path_takes p).takes (sign mark.Equals >> value_tokens v >> last) in
+      let f = (value_takes v).takes last in
+      omega arith;
+}
 
 tokens_at : (x : Statement-F Statement) → statement_tokens (roll-Statement x) ≡ statement_node (map-Statement Statement Tokens statement_tokens x)
 unfolding statement_tokens

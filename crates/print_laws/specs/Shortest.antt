@@ -13,6 +13,7 @@ use Rattle.pale_text.specs.ProgramReading.{IsProgram}
 use Rattle.pale_print.specs.DeclarationTokens.{program_tokens}
 use Rattle.pale_print.specs.Placeless.{IsSameButForPlaces}
 
+-- the kinds of tokens, in order
 abbrev pub kinds_of : List Token → List TokenKind
 kinds_of tokens = map (λ token. token.kind) tokens
 
