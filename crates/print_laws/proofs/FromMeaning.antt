@@ -14,23 +14,20 @@ use Rattle.pale_text.specs.MakingRoutes.{routeless, tested_type, joined_then, jo
 use Rattle.pale_text.specs.MakingConditions.{conditionless, term_alone, both_conditions, either_condition}
 use Rattle.pale_text.specs.MakingAssertions.{assertionless, path_alone, both, either, equivalent, quantifierless, of_sets, binding}
 use Rattle.pale_text.specs.MakingStatements.{valueless, narrowed, with_statement}
-use Rattle.print_laws.specs.CanonicalNames.{AreFreePaths}
-use Rattle.print_laws.specs.CanonicalStatements.{AreFreeArguments, IsCanonicalClause}
-use Rattle.print_laws.specs.CanonicalDeclarations.{All, IsCanonicalField, IsCanonicalVariant, IsFreePredicateParameter, IsFreeParameter, IsFreeLogicParameter}
 use Rattle.print_laws.proofs.FromRows.{Meaning}
 use Rattle.print_laws.proofs.FromMade.{GivenMade, ResultsMade, TypeMade, PredicateMade, ProcedureMade, Made}
 
 -- ---- what becomes of the parts
 
-abbrev put_type : {room : ℕ} → TypeMade room → Parts → Parts
+abbrev put_type : {room : ℕ} {start end : List Token} → TypeMade room start end → Parts → Parts
 put_type made parts =
     record parts { declarations = parts.declarations ++ declaration.«Type» made.type ∷ []; common = []; variants = []; fields = [] }
 
-abbrev put_predicate : {room : ℕ} → PredicateMade room → Parts → Parts
+abbrev put_predicate : {room : ℕ} {start end : List Token} → PredicateMade room start end → Parts → Parts
 put_predicate made parts =
     record parts { declarations = parts.declarations ++ declaration.Predicate made.predicate ∷ []; predicate_parameters = [] }
 
-abbrev pub put_procedure : {room : ℕ} → ProcedureMade room → Parts → Parts
+abbrev pub put_procedure : {room : ℕ} {start end : List Token} → ProcedureMade room start end → Parts → Parts
 put_procedure made parts =
     record parts {
       declarations = parts.declarations ++ declaration.Procedure made.procedure ∷ [];
@@ -42,12 +39,12 @@ put_procedure made parts =
       post = None;
     }
 
-abbrev pub put_declaration : {room : ℕ} → TypeMade room ⊎ (PredicateMade room ⊎ ProcedureMade room) → Parts → Parts
+abbrev pub put_declaration : {room : ℕ} {start end : List Token} → TypeMade room start end ⊎ (PredicateMade room start end ⊎ ProcedureMade room start end) → Parts → Parts
 put_declaration (inl made) parts = put_type made parts
 put_declaration (inr (inl made)) parts = put_predicate made parts
 put_declaration (inr (inr made)) parts = put_procedure made parts
 
-abbrev put_given : {room : ℕ} → GivenMade room → Parts → Parts
+abbrev put_given : {room : ℕ} {start end : List Token} → GivenMade room start end → Parts → Parts
 put_given made parts = record parts { given = made.given; arguments = made.logics; keep = made.keep }
 
 abbrev put_results : Unit {0} ⊎ ResultsMade → Parts → Parts
@@ -68,7 +65,7 @@ put part.NextAlternative room start end made parts = record parts { routes = joi
 put part.Sequence room start end made parts = record parts { routes = made.route ∷ parts.routes }
 put part.NextRepeated room start end made parts = record parts { routes = joined_then (top routeless parts.routes) made.route ∷ rest parts.routes }
 put part.Repeated room start end made parts = record parts { routes = made.route ∷ parts.routes }
-put part.Star room start end made parts = record parts { routes = starred (top routeless parts.routes) made ∷ rest parts.routes }
+put part.Star room start end made parts = record parts { routes = starred (top routeless parts.routes) made.place ∷ rest parts.routes }
 put part.Step room start end made parts = record parts { routes = made.route ∷ parts.routes }
 put part.UpName room start end made parts = record parts { routes = route.Up made.name ∷ rest parts.routes }
 put part.VariantTest room start end made parts =
@@ -164,15 +161,14 @@ abbrev pub NoArguments : Parts → Type 0
 NoArguments parts = NoneUsed parts × (parts.arguments ≡ []) × (parts.keep ≡ None)
 
 abbrev pub BeforeType : ℕ → Parts → Type 0
-BeforeType room parts = All (IsCanonicalField room) parts.fields × All (IsCanonicalVariant room) parts.variants
+BeforeType room parts = (parts.fields ≡ []) × (parts.variants ≡ [])
 
 abbrev pub BeforePredicate : Parts → Type 0
-BeforePredicate parts = NoneUsed parts × All IsFreePredicateParameter parts.predicate_parameters
+BeforePredicate parts = NoneUsed parts × (parts.predicate_parameters ≡ [])
 
 abbrev pub BeforeProcedure : ℕ → Parts → Type 0
 BeforeProcedure room parts =
-    NoCall parts × All IsFreeParameter parts.variables × All IsFreeParameter parts.results × All IsFreeLogicParameter parts.logics ×
-    IsCanonicalClause room parts.pre × IsCanonicalClause room parts.post
+    NoCall parts × (parts.variables ≡ []) × (parts.results ≡ []) × (parts.logics ≡ []) × (parts.pre ≡ None) × (parts.post ≡ None)
 
 abbrev pub BeforeDeclaration : ℕ → Parts → Type 0
 BeforeDeclaration room parts = BeforeType room parts × BeforePredicate parts × BeforeProcedure room parts
@@ -180,23 +176,23 @@ BeforeDeclaration room parts = BeforeType room parts × BeforePredicate parts ×
 abbrev pub Before : ProgramPart → ℕ → Parts → Type 0
 Before part.Declaration room parts = BeforeDeclaration room parts
 Before part.«Type» room parts = BeforeType room parts
-Before part.Variant room parts = All (IsCanonicalField room) parts.fields
+Before part.Variant room parts = parts.fields ≡ []
 Before part.Predicate room parts = BeforePredicate parts
-Before part.PredicateParameters room parts = All IsFreePredicateParameter parts.predicate_parameters
+Before part.PredicateParameters room parts = parts.predicate_parameters ≡ []
 Before part.Bracketed room parts = NoneUsed parts
 Before part.Procedure room parts = BeforeProcedure room parts
-Before part.Returns room parts = All IsFreeParameter parts.variables
-Before part.Logic room parts = All IsFreeLogicParameter parts.logics
+Before part.Returns room parts = parts.variables ≡ []
+Before part.Logic room parts = parts.logics ≡ []
 Before part.Pre room parts = NoneUsed parts
 Before part.Post room parts = NoneUsed parts
-Before part.Parameters room parts = All IsFreeParameter parts.variables
+Before part.Parameters room parts = parts.variables ≡ []
 Before part.Block room parts = NoCall parts
 Before part.Statement room parts = NoCall parts
 Before part.Else room parts = NoCall parts
 Before part.CallRest room parts = NoArguments parts
 Before part.Arguments room parts = NoArguments parts
-Before part.Argued room parts = AreFreeArguments parts.arguments
-Before part.LogicArguments room parts = AreFreeArguments parts.arguments
+Before part.Argued room parts = parts.arguments ≡ []
+Before part.LogicArguments room parts = parts.arguments ≡ []
 Before part.Keep room parts = NoneUsed parts
 Before part.Iff room parts = NoneUsed parts
 Before part.NextImplication room parts = NoneUsed parts
@@ -210,13 +206,13 @@ Before part.Negation room parts = NoneUsed parts
 Before part.Quantified room parts = NoneUsed parts
 Before part.Primary room parts = NoneUsed parts
 Before part.NameRest room parts = NoneUsed parts
-Before part.UsedPaths room parts = AreFreePaths parts.used
+Before part.UsedPaths room parts = NoneUsed parts
 Before _ room parts = Unit {0}
 
 -- most parts come once only
 abbrev pub Between : ProgramPart → ℕ → Parts → Type 0
 Between part.Declaration room parts = BeforeDeclaration room parts
-Between part.Variant room parts = All (IsCanonicalField room) parts.fields
+Between part.Variant room parts = parts.fields ≡ []
 Between part.Field room parts = Unit {0}
 Between part.NextAlternative room parts = Unit {0}
 Between part.NextRepeated room parts = Unit {0}

@@ -1,5 +1,5 @@
--- Names, paths and terms that a reading makes are free of reserved words.
-use Rattle.std.proofs.Common.{◌≡◌, ℕ, List, [], ◌∷◌, ◌++◌, Some, refl, subst}
+-- Names, paths and terms that a reading makes are free of reserved words, and spelled in no more tokens than they were read from.
+use Rattle.std.proofs.Common.{◌+◌, ◌≤◌, length, arith, ◌≡◌, ℕ, List, [], ◌∷◌, ◌++◌, Some, refl, subst}
 use Rattle.pale_text.specs.declared.grammar.part.ProgramPart.TheVariants as part
 use Rattle.pale_text.specs.declared.token.Token.{Token}
 use Rattle.pale_text.specs.declared.tree.names.Name.{Name}
@@ -9,6 +9,7 @@ use Rattle.pale_text.specs.MakingParts.{Parts, name_of, place_of}
 use Rattle.pale_text.specs.MakingWords.{path_at, extended}
 use Rattle.pale_text.specs.ProgramGrammar.{rows_of}
 use Rattle.print_laws.specs.CanonicalNames.{IsFree, AreFree, IsFreePath}
+use Rattle.print_laws.proofs.NameSizes.{path_size, extended_size, one_less}
 use Rattle.print_laws.proofs.FromRows.{Several, no_more, one_more, puts}
 use Rattle.print_laws.proofs.FromMade.{PathMade}
 use Rattle.print_laws.proofs.FromMeaning.{program_meaning}
@@ -23,11 +24,13 @@ extended_free p f free is = record { base = free.base; fields = one_more_free p.
 
 -- the steps of a path go to the end of the path on top
 pub steps_made : (room : ℕ) (start end : List Token) (steps : Several program_meaning part.PathStep room start end) (p : Path) → IsFreePath p →
-    (parts : Parts) (below : List Path) →
-    (made : PathMade) × (puts program_meaning part.PathStep room start end steps (record parts { paths = p ∷ below }) ≡ record parts { paths = made.path ∷ below })
-steps_made room start end (no_more _ stops) p free parts below = (record { path = p; free = free }, refl)
-steps_made room start end (one_more _ middle _ one others) p free parts below =
-    steps_made room middle end others (extended p one.name) (extended_free p one.name free one.free) parts below
+    (first : List Token) → path_size p + length start ≤ length first → (parts : Parts) (below : List Path) →
+    (made : PathMade 0 first end) × (puts program_meaning part.PathStep room start end steps (record parts { paths = p ∷ below }) ≡ record parts { paths = made.path ∷ below })
+steps_made room start end (no_more _ stops) p free first short parts below = (record { path = p; free = free; short = omega arith }, refl)
+steps_made room start end (one_more _ middle _ one others) p free first short parts below =
+    let e = extended_size p one.name in
+    let l = one.short in
+    steps_made room middle end others (extended p one.name) (extended_free p one.name free one.free) first (omega arith) parts below
 
 path_row : IsSoundRow part.Path (nth (rows_of part.Path) 0)
 unfolding rows_of
@@ -35,7 +38,7 @@ path_row = record {
   along = λ room last tokens parts goal g before.
       let more = g.4 tt in
       let x : Name = name_of (Some g.0) in
-      let steps = steps_made room g.1 more.1 more.2 (path_at x) (record { base = free_name g.0 g.3; fields = tt }) parts parts.paths in
+      let steps = steps_made room g.1 more.1 more.2 (path_at x) (record { base = free_name g.0 g.3; fields = tt }) tokens (omega (arith, one_less g.2)) parts parts.paths in
       (more.0, more.1, steps.0, subst (λ q. goal more.0 more.1 q) steps.1 more.3);
 }
 
@@ -48,7 +51,7 @@ unfolding rows_of
 step_row = record {
   along = λ room last tokens parts goal g before.
       let name = g.4 in
-      (Some name.0, name.1, record { name = name_of (Some name.0); free = free_name name.0 name.3 }, name.4);
+      (Some name.0, name.1, record { name = name_of (Some name.0); free = free_name name.0 name.3; short = omega (arith, one_less g.2, one_less name.2) }, name.4);
 }
 
 pub path_step_sound : AreSoundRows part.PathStep (rows_of part.PathStep)
@@ -59,7 +62,7 @@ null_row : IsSoundRow part.Term (nth (rows_of part.Term) 0)
 unfolding rows_of
 null_row = record {
   along = λ room last tokens parts goal g before.
-      (Some g.0, g.1, record { term = term.Null (place_of (Some g.0)); free = tt }, g.4);
+      (Some g.0, g.1, record { term = term.Null (place_of (Some g.0)); free = tt; short = omega (arith, one_less g.2) }, g.4);
 }
 
 path_term_row : IsSoundRow part.Term (nth (rows_of part.Term) 1)
@@ -67,7 +70,7 @@ unfolding rows_of
 path_term_row = record {
   along = λ room last tokens parts goal g before.
       let more = g tt in
-      (more.0, more.1, record { term = term.Path more.2.path; free = more.2.free }, more.3);
+      (more.0, more.1, record { term = term.Path more.2.path; free = more.2.free; short = omega (arith, more.2.short) }, more.3);
 }
 
 pub term_sound : AreSoundRows part.Term (rows_of part.Term)

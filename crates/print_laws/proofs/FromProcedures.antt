@@ -1,5 +1,5 @@
--- Procedures that a reading makes are canonical.
-use Rattle.std.proofs.Common.{◌≡◌, inl, inr, ℕ, suc, List, [], ◌∷◌, ◌++◌, Option, Some, refl, subst, arith}
+-- Procedures that a reading makes are canonical, and spelled in no more tokens than they were read from.
+use Rattle.std.proofs.Common.{◌+◌, ◌≤◌, None, length, ap, sym, ◌≡◌, inl, inr, ℕ, suc, List, [], ◌∷◌, ◌++◌, Option, Some, refl, subst, arith}
 use Rattle.grammar_engine.specs.declared.symbol.Symbol.TheVariants.{Maybe, Many}
 use Rattle.pale_text.specs.declared.grammar.act.ProcedureAct.TheVariants as procedures
 use Rattle.pale_text.specs.declared.grammar.act.StatementAct.TheVariants as statements
@@ -17,11 +17,15 @@ use Rattle.pale_text.specs.MakingParts.{Parts, name_of, place_of}
 use Rattle.pale_text.specs.ProgramGrammar.{ProgramSymbol, rows_of, reads, opens, mark_place, statement, procedure}
 use Rattle.print_laws.specs.CanonicalStatements.{IsCanonicalClause, AreCanonicalStatements, none}
 use Rattle.print_laws.specs.CanonicalDeclarations.{All, IsFreeParameter, IsFreeLogicParameter}
+use Rattle.print_laws.proofs.NameSizes.{one_less}
+use Rattle.print_laws.proofs.ListSizes.{each_size, each_last, separated_size, separated_last}
+use Rattle.print_laws.proofs.StatementSizes.{clause_size, statements_size}
+use Rattle.print_laws.proofs.DeclarationSizes.{parameter_size, local_size, logic_parameter_size, results_size, logics_size, results_at_most, logics_at_most}
 use Rattle.print_laws.proofs.FromRows.{Several, no_more, one_more, puts, Goal, Goes}
 use Rattle.print_laws.proofs.FromMade.{FreeName, ParametersMade, LogicsMade, ProcedureMade}
 use Rattle.print_laws.proofs.FromMeaning.{program_meaning, NoCall, put_procedure}
 use Rattle.print_laws.proofs.FromParts.{IsSoundRow, AreSoundRows, no_row, or_row, nth, free_name}
-use Rattle.print_laws.proofs.FromTypes.{all_and}
+use Rattle.print_laws.proofs.FromTypes.{all_and, none_all}
 use Rattle.print_laws.proofs.FromStatements.{statements_made}
 
 -- ---- variables
@@ -31,8 +35,16 @@ unfolding rows_of
 data_row = record {
   along = λ room last tokens parts goal g before.
       let name = g.4 in
-      let ty = name.4.4 in
-      (Some ty.0, ty.1, record { parameter = parameter.Data (name_of (Some name.0)) (name_of (Some ty.0)); free = (free_name name.0 name.3, free_name ty.0 ty.3) }, ty.4);
+      let ty = name.4.4 in (
+        Some ty.0,
+        ty.1,
+        record {
+          parameter = parameter.Data (name_of (Some name.0)) (name_of (Some ty.0));
+          free = (free_name name.0 name.3, free_name ty.0 ty.3);
+          short = omega (arith, one_less g.2, one_less name.2, one_less name.4.2, one_less ty.2);
+        },
+        ty.4,
+      );
 }
 
 pointer_row : IsSoundRow part.Parameter (nth (rows_of part.Parameter) 1)
@@ -40,8 +52,16 @@ unfolding rows_of
 pointer_row = record {
   along = λ room last tokens parts goal g before.
       let name = g.4 in
-      let ty = name.4.4 in
-      (Some ty.0, ty.1, record { parameter = parameter.Pointer (name_of (Some name.0)) (name_of (Some ty.0)); free = (free_name name.0 name.3, free_name ty.0 ty.3) }, ty.4);
+      let ty = name.4.4 in (
+        Some ty.0,
+        ty.1,
+        record {
+          parameter = parameter.Pointer (name_of (Some name.0)) (name_of (Some ty.0));
+          free = (free_name name.0 name.3, free_name ty.0 ty.3);
+          short = omega (arith, one_less g.2, one_less name.2, one_less name.4.2, one_less ty.2);
+        },
+        ty.4,
+      );
 }
 
 bool_row : IsSoundRow part.Parameter (nth (rows_of part.Parameter) 2)
@@ -49,7 +69,7 @@ unfolding rows_of
 bool_row = record {
   along = λ room last tokens parts goal g before.
       let name = g.4 in
-      (Some name.0, name.1, record { parameter = parameter.Bool (name_of (Some name.0)); free = free_name name.0 name.3 }, name.4);
+      (Some name.0, name.1, record { parameter = parameter.Bool (name_of (Some name.0)); free = free_name name.0 name.3; short = omega (arith, one_less g.2, one_less name.2) }, name.4);
 }
 
 pub parameter_sound : AreSoundRows part.Parameter (rows_of part.Parameter)
@@ -58,17 +78,23 @@ parameter_sound = or_row data_row (or_row pointer_row (or_row bool_row no_row))
 
 next_parameter_row : IsSoundRow part.NextParameter (nth (rows_of part.NextParameter) 0)
 unfolding rows_of
-next_parameter_row = record { along = λ room last tokens parts goal g before. let made = g.4 tt in (made.0, made.1, made.2, made.3) }
+next_parameter_row = record {
+  along = λ room last tokens parts goal g before.
+      let made = g.4 tt in
+      (made.0, made.1, record { parameter = made.2.parameter; free = made.2.free; short = omega (arith, one_less g.2, made.2.short) }, made.3);
+}
 
 pub next_parameter_sound : AreSoundRows part.NextParameter (rows_of part.NextParameter)
 unfolding rows_of
 next_parameter_sound = or_row next_parameter_row no_row
 
-parameters_made : (room : ℕ) (start end : List Token) (several : Several program_meaning part.NextParameter room start end) (ps : List Parameter) → All IsFreeParameter ps → (parts : Parts) →
-    (made : ParametersMade) × (puts program_meaning part.NextParameter room start end several (record parts { variables = ps }) ≡ record parts { variables = made.parameters })
-parameters_made room start end (no_more _ stops) ps c parts = (record { parameters = ps; free = c }, refl)
-parameters_made room start end (one_more _ middle _ one others) ps c parts =
-    parameters_made room middle end others (ps ++ one.parameter ∷ []) (all_and IsFreeParameter ps one.parameter c one.free) parts
+parameters_made : (room : ℕ) (start end : List Token) (several : Several program_meaning part.NextParameter room start end) (ps : List Parameter) → All IsFreeParameter ps →
+    (first : List Token) → separated_size parameter_size ps + length start ≤ length first → (parts : Parts) →
+    (made : ParametersMade 0 first end) × (puts program_meaning part.NextParameter room start end several (record parts { variables = ps }) ≡ record parts { variables = made.parameters })
+parameters_made room start end (no_more _ stops) ps c first short parts = (record { parameters = ps; free = c; short = omega arith }, refl)
+parameters_made room start end (one_more _ middle _ one others) ps c first short parts =
+    let l = one.short in
+    parameters_made room middle end others (ps ++ one.parameter ∷ []) (all_and IsFreeParameter ps one.parameter c one.free) first (omega (arith, separated_last parameter_size ps one.parameter)) parts
 
 parameters_row : IsSoundRow part.Parameters (nth (rows_of part.Parameters) 0)
 unfolding rows_of
@@ -77,7 +103,9 @@ parameters_row = record {
       let first = g tt in
       let others = first.3 tt in
       let made = parameters_made room first.1 others.1 others.2 (parts.variables ++ first.2.parameter ∷ [])
-      (all_and IsFreeParameter parts.variables first.2.parameter before first.2.free) parts in
+      (all_and IsFreeParameter parts.variables first.2.parameter (none_all IsFreeParameter parts.variables before) first.2.free)
+      tokens (subst (λ (ps : List Parameter). separated_size parameter_size (ps ++ first.2.parameter ∷ []) + length first.1 ≤ length tokens) (sym before)
+      (omega (arith, first.2.short))) parts in
       (others.0, others.1, made.0, subst (λ q. goal others.0 others.1 q) made.1 others.3);
 }
 
@@ -91,18 +119,26 @@ local_row = record {
   along = λ room last tokens parts goal g before.
       let made = g tt in
       let close = made.3 in
-      (Some close.0, close.1, made.2, close.4);
+      (Some close.0, close.1, record { parameter = made.2.parameter; free = made.2.free; short = omega (arith, made.2.short, one_less close.2) }, close.4);
 }
 
 pub local_sound : AreSoundRows part.Local (rows_of part.Local)
 unfolding rows_of
 local_sound = or_row local_row no_row
 
-locals_made : (room : ℕ) (start end : List Token) (several : Several program_meaning part.Local room start end) (ps : List Parameter) → All IsFreeParameter ps → (parts : Parts) →
-    (made : ParametersMade) × (puts program_meaning part.Local room start end several (record parts { variables = ps }) ≡ record parts { variables = made.parameters })
-locals_made room start end (no_more _ stops) ps c parts = (record { parameters = ps; free = c }, refl)
-locals_made room start end (one_more _ middle _ one others) ps c parts =
-    locals_made room middle end others (ps ++ one.parameter ∷ []) (all_and IsFreeParameter ps one.parameter c one.free) parts
+-- the variables that a body declares
+record LocalsMade (start end : List Token) : Type 0 where
+  parameters : List Parameter
+  free : All IsFreeParameter parameters
+  short : each_size local_size parameters + length end ≤ length start
+
+locals_made : (room : ℕ) (start end : List Token) (several : Several program_meaning part.Local room start end) (ps : List Parameter) → All IsFreeParameter ps →
+    (first : List Token) → each_size local_size ps + length start ≤ length first → (parts : Parts) →
+    (made : LocalsMade first end) × (puts program_meaning part.Local room start end several (record parts { variables = ps }) ≡ record parts { variables = made.parameters })
+locals_made room start end (no_more _ stops) ps c first short parts = (record { parameters = ps; free = c; short = short }, refl)
+locals_made room start end (one_more _ middle _ one others) ps c first short parts =
+    let l = one.short in
+    locals_made room middle end others (ps ++ one.parameter ∷ []) (all_and IsFreeParameter ps one.parameter c one.free) first (omega (arith, each_last local_size ps one.parameter)) parts
 
 returns_row : IsSoundRow part.Returns (nth (rows_of part.Returns) 0)
 unfolding rows_of
@@ -110,7 +146,7 @@ returns_row = record {
   along = λ room last tokens parts goal g before.
       let made = g.4.4 before in
       let close = made.3 in
-      (Some close.0, close.1, made.2, close.4);
+      (Some close.0, close.1, record { parameters = made.2.parameters; free = made.2.free; short = omega (arith, made.2.short, one_less g.2, one_less g.4.2, one_less close.2) }, close.4);
 }
 
 pub returns_sound : AreSoundRows part.Returns (rows_of part.Returns)
@@ -124,8 +160,16 @@ unfolding rows_of
 set_row = record {
   along = λ room last tokens parts goal g before.
       let name = g.4 in
-      let ty = name.4.4 in
-      (Some ty.0, ty.1, record { logic = logic.Set (name_of (Some name.0)) (name_of (Some ty.0)); free = (free_name name.0 name.3, free_name ty.0 ty.3) }, ty.4);
+      let ty = name.4.4 in (
+        Some ty.0,
+        ty.1,
+        record {
+          logic = logic.Set (name_of (Some name.0)) (name_of (Some ty.0));
+          free = (free_name name.0 name.3, free_name ty.0 ty.3);
+          short = omega (arith, one_less g.2, one_less name.2, one_less name.4.2, one_less ty.2);
+        },
+        ty.4,
+      );
 }
 
 bool_logic_row : IsSoundRow part.LogicParameter (nth (rows_of part.LogicParameter) 1)
@@ -133,7 +177,7 @@ unfolding rows_of
 bool_logic_row = record {
   along = λ room last tokens parts goal g before.
       let name = g.4 in
-      (Some name.0, name.1, record { logic = logic.Bool (name_of (Some name.0)); free = free_name name.0 name.3 }, name.4);
+      (Some name.0, name.1, record { logic = logic.Bool (name_of (Some name.0)); free = free_name name.0 name.3; short = omega (arith, one_less g.2, one_less name.2) }, name.4);
 }
 
 pub logic_parameter_sound : AreSoundRows part.LogicParameter (rows_of part.LogicParameter)
@@ -142,18 +186,23 @@ logic_parameter_sound = or_row set_row (or_row bool_logic_row no_row)
 
 next_logic_row : IsSoundRow part.NextLogicParameter (nth (rows_of part.NextLogicParameter) 0)
 unfolding rows_of
-next_logic_row = record { along = λ room last tokens parts goal g before. let made = g.4 tt in (made.0, made.1, made.2, made.3) }
+next_logic_row = record {
+  along = λ room last tokens parts goal g before.
+      let made = g.4 tt in
+      (made.0, made.1, record { logic = made.2.logic; free = made.2.free; short = omega (arith, one_less g.2, made.2.short) }, made.3);
+}
 
 pub next_logic_parameter_sound : AreSoundRows part.NextLogicParameter (rows_of part.NextLogicParameter)
 unfolding rows_of
 next_logic_parameter_sound = or_row next_logic_row no_row
 
 logics_made : (room : ℕ) (start end : List Token) (several : Several program_meaning part.NextLogicParameter room start end) (ls : List LogicParameter) → All IsFreeLogicParameter ls →
-    (parts : Parts) →
-    (made : LogicsMade) × (puts program_meaning part.NextLogicParameter room start end several (record parts { logics = ls }) ≡ record parts { logics = made.logics })
-logics_made room start end (no_more _ stops) ls c parts = (record { logics = ls; free = c }, refl)
-logics_made room start end (one_more _ middle _ one others) ls c parts =
-    logics_made room middle end others (ls ++ one.logic ∷ []) (all_and IsFreeLogicParameter ls one.logic c one.free) parts
+    (first : List Token) → suc (separated_size logic_parameter_size ls + length start) ≤ length first → (parts : Parts) →
+    (made : LogicsMade first end) × (puts program_meaning part.NextLogicParameter room start end several (record parts { logics = ls }) ≡ record parts { logics = made.logics })
+logics_made room start end (no_more _ stops) ls c first short parts = (record { logics = ls; free = c; short = short }, refl)
+logics_made room start end (one_more _ middle _ one others) ls c first short parts =
+    let l = one.short in
+    logics_made room middle end others (ls ++ one.logic ∷ []) (all_and IsFreeLogicParameter ls one.logic c one.free) first (omega (arith, separated_last logic_parameter_size ls one.logic)) parts
 
 logic_row : IsSoundRow part.Logic (nth (rows_of part.Logic) 0)
 unfolding rows_of
@@ -161,7 +210,9 @@ logic_row = record {
   along = λ room last tokens parts goal g before.
       let first = g.4 tt in
       let others = first.3 tt in
-      let made = logics_made room first.1 others.1 others.2 (parts.logics ++ first.2.logic ∷ []) (all_and IsFreeLogicParameter parts.logics first.2.logic before first.2.free) parts in
+      let made = logics_made room first.1 others.1 others.2 (parts.logics ++ first.2.logic ∷ []) (all_and IsFreeLogicParameter parts.logics first.2.logic (none_all IsFreeLogicParameter parts.logics before) first.2.free)
+      tokens (subst (λ (ls : List LogicParameter). suc (separated_size logic_parameter_size (ls ++ first.2.logic ∷ []) + length first.1) ≤ length tokens) (sym before)
+      (omega (arith, first.2.short, one_less g.2))) parts in
       (others.0, others.1, made.0, subst (λ q. goal others.0 others.1 q) made.1 others.3);
 }
 
@@ -173,7 +224,11 @@ logic_sound = or_row logic_row no_row
 
 pre_row : IsSoundRow part.Pre (nth (rows_of part.Pre) 0)
 unfolding rows_of
-pre_row = record { along = λ room last tokens parts goal g before. let made = g.4 before in (made.0, made.1, made.2, made.3) }
+pre_row = record {
+  along = λ room last tokens parts goal g before.
+      let made = g.4 before in
+      (made.0, made.1, record { bracketed = made.2.bracketed; canonical = made.2.canonical; short = omega (arith, one_less g.2, made.2.short) }, made.3);
+}
 
 pub pre_sound : AreSoundRows part.Pre (rows_of part.Pre)
 unfolding rows_of
@@ -181,7 +236,11 @@ pre_sound = or_row pre_row no_row
 
 post_row : IsSoundRow part.Post (nth (rows_of part.Post) 0)
 unfolding rows_of
-post_row = record { along = λ room last tokens parts goal g before. let made = g.4 before in (made.0, made.1, made.2, made.3) }
+post_row = record {
+  along = λ room last tokens parts goal g before.
+      let made = g.4 before in
+      (made.0, made.1, record { bracketed = made.2.bracketed; canonical = made.2.canonical; short = omega (arith, one_less g.2, made.2.short) }, made.3);
+}
 
 pub post_sound : AreSoundRows part.Post (rows_of part.Post)
 unfolding rows_of
@@ -194,15 +253,27 @@ pub record ClauseMade (room : ℕ) : Type 0 where
   pub clause : Option Bracketed
   pub canonical : IsCanonicalClause room clause
 
+pub record FreeParameters : Type 0 where
+  pub parameters : List Parameter
+  pub free : All IsFreeParameter parameters
+
+pub record FreeLogics : Type 0 where
+  pub logics : List LogicParameter
+  pub free : All IsFreeLogicParameter logics
+
 -- what stands before the body
 pub record Header (room : ℕ) : Type 0 where
   pub place : Pos
   pub name : FreeName
-  pub parameters : ParametersMade
-  pub results : ParametersMade
-  pub logics : LogicsMade
+  pub parameters : FreeParameters
+  pub results : FreeParameters
+  pub logics : FreeLogics
   pub pre : ClauseMade room
   pub post : ClauseMade room
+
+abbrev header_size : {room : ℕ} → Header room → ℕ
+header_size h =
+    separated_size parameter_size h.parameters.parameters + (results_size h.results.parameters + (logics_size h.logics.logics + (clause_size h.pre.clause + clause_size h.post.clause)))
 
 -- the parts where this was read
 abbrev with_header : {room : ℕ} → Parts → Header room → Parts
@@ -228,25 +299,33 @@ abbrev body_row : List ProgramSymbol
 body_row = opens mark.LeftBrace ∷ statement statements.BeginBlock ∷ Many part.Local ∷ statements_row
 
 -- the procedure is made, and the goal reached
-ProcedureAt : ℕ → Parts → Goal → Type 0
-ProcedureAt room parts goal = (behind : Option Token) × (others : List Token) × (made : ProcedureMade room) × goal behind others (put_procedure made parts)
+ProcedureAt : ℕ → List Token → Parts → Goal → Type 0
+ProcedureAt room start parts goal = (behind : Option Token) × (others : List Token) × (made : ProcedureMade room start others) × goal behind others (put_procedure made parts)
 
 -- what stands in the braces of a body
 inside_made : (inside : ℕ) (last : Option Token) (tokens : List Token) (parts : Parts) (below : List (List Statement)) (goal : Goal) → NoCall parts →
     Goes program_meaning (Many part.Local ∷ statements_row) inside last tokens (record parts { variables = []; blocks = [] ∷ below }) goal →
-    (locals : ParametersMade) × (ss : List Statement) × AreCanonicalStatements inside ss × (behind : Option Token) × (others : List Token) ×
-    Goes program_meaning closing_row inside behind others (record parts { variables = locals.parameters; blocks = ss ∷ below }) goal
+    (locals : FreeParameters) × (ss : List Statement) × AreCanonicalStatements inside ss × (behind : Option Token) × (others : List Token) ×
+    Goes program_meaning closing_row inside behind others (record parts { variables = locals.parameters; blocks = ss ∷ below }) goal ×
+    (each_size local_size locals.parameters + (statements_size ss + length others) ≤ length tokens)
 inside_made inside last tokens parts below goal before g =
     let locals = g tt in
-    let made = locals_made inside tokens locals.1 locals.2 [] tt (record parts { blocks = [] ∷ below }) in
+    let made = locals_made inside tokens locals.1 locals.2 [] tt tokens (omega arith) (record parts { blocks = [] ∷ below }) in
     let body = subst (λ (p : Parts). Goes program_meaning statements_row inside locals.0 locals.1 p goal) made.1 locals.3 before in
-    let ss = statements_made inside locals.1 body.1 body.2 [] (none inside) (record parts { variables = made.0.parameters }) below in
-    (made.0, ss.0, ss.1, body.0, body.1, subst (λ (p : Parts). Goes program_meaning closing_row inside body.0 body.1 p goal) ss.2 body.3)
+    let ss = statements_made inside locals.1 body.1 body.2 [] (none inside) locals.1 (omega arith) (record parts { variables = made.0.parameters }) below in (
+      record { parameters = made.0.parameters; free = made.0.free },
+      ss.0,
+      ss.1,
+      body.0,
+      body.1,
+      subst (λ (p : Parts). Goes program_meaning closing_row inside body.0 body.1 p goal) ss.2 body.3,
+      omega (arith, made.0.short, ss.3),
+    )
 
-body_made : (room : ℕ) (last : Option Token) (tokens : List Token) (parts : Parts) (goal : Goal) (h : Header room) → NoCall parts →
-    Goes program_meaning body_row room last tokens (with_header parts h) goal → ProcedureAt room parts goal
+body_made : (room : ℕ) (last : Option Token) (tokens : List Token) (parts : Parts) (goal : Goal) (h : Header room) → (start : List Token) → suc (suc (suc (suc (header_size h + length tokens)))) ≤ length start → NoCall parts →
+    Goes program_meaning body_row room last tokens (with_header parts h) goal → ProcedureAt room start parts goal
 unfolding ProcedureAt
-body_made room last tokens parts goal h before g =
+body_made room last tokens parts goal h start short before g =
     let is : room ≡ suc g.0 = g.1 in
     let body = inside_made g.0 (Some g.2) g.3 (with_header parts h) parts.blocks goal before g.6 in
     let close = body.5 in (
@@ -279,65 +358,77 @@ body_made room last tokens parts goal h before g =
               within = omega arith;
               body = body.2;
             };
+        short = omega (arith, short, one_less g.4, body.6, one_less close.2);
       },
       close.4,
     )
 
-post_made : (room : ℕ) (last : Option Token) (tokens : List Token) (parts : Parts) (goal : Goal) (h : Header room) → NoCall parts →
-    Goes program_meaning (Maybe part.Post ∷ body_row) room last tokens (with_header parts h) goal → ProcedureAt room parts goal
-post_made room last tokens parts goal h before g =
+post_made : (room : ℕ) (last : Option Token) (tokens : List Token) (parts : Parts) (goal : Goal) (h : Header room) → (start : List Token) → suc (suc (suc (suc (header_size h + length tokens)))) ≤ length start → clause_size h.post.clause ≡ 0 → NoCall parts →
+    Goes program_meaning (Maybe part.Post ∷ body_row) room last tokens (with_header parts h) goal → ProcedureAt room start parts goal
+post_made room last tokens parts goal h start short no_post before g =
     elim (g before.0) [
-      | inl alone ↦ body_made room last tokens parts goal h before alone.1
-      | inr some ↦ body_made room some.0 some.1 parts goal (record h { post = record { clause = Some some.2.bracketed; canonical = some.2.canonical } }) before some.3
+      | inl alone ↦ body_made room last tokens parts goal h start short before alone.1
+      | inr some ↦ body_made room some.0 some.1 parts goal (record h { post = record { clause = Some some.2.bracketed; canonical = some.2.canonical } })
+          start (omega (arith, short, no_post, some.2.short)) before some.3
     ]
 
-pre_made : (room : ℕ) (last : Option Token) (tokens : List Token) (parts : Parts) (goal : Goal) (h : Header room) → NoCall parts →
-    Goes program_meaning (Maybe part.Pre ∷ Maybe part.Post ∷ body_row) room last tokens (with_header parts h) goal → ProcedureAt room parts goal
-pre_made room last tokens parts goal h before g =
+pre_made : (room : ℕ) (last : Option Token) (tokens : List Token) (parts : Parts) (goal : Goal) (h : Header room) → (start : List Token) → suc (suc (suc (suc (header_size h + length tokens)))) ≤ length start → clause_size h.pre.clause ≡ 0 → clause_size h.post.clause ≡ 0 → NoCall parts →
+    Goes program_meaning (Maybe part.Pre ∷ Maybe part.Post ∷ body_row) room last tokens (with_header parts h) goal → ProcedureAt room start parts goal
+pre_made room last tokens parts goal h start short no_pre no_post before g =
     elim (g before.0) [
-      | inl alone ↦ post_made room last tokens parts goal h before alone.1
-      | inr some ↦ post_made room some.0 some.1 parts goal (record h { pre = record { clause = Some some.2.bracketed; canonical = some.2.canonical } }) before some.3
+      | inl alone ↦ post_made room last tokens parts goal h start short no_post before alone.1
+      | inr some ↦ post_made room some.0 some.1 parts goal (record h { pre = record { clause = Some some.2.bracketed; canonical = some.2.canonical } })
+          start (omega (arith, short, no_pre, some.2.short)) no_post before some.3
     ]
 
-logic_made : (room : ℕ) (last : Option Token) (tokens : List Token) (parts : Parts) (goal : Goal) (h : Header room) → NoCall parts →
-    Goes program_meaning (Maybe part.Logic ∷ Maybe part.Pre ∷ Maybe part.Post ∷ body_row) room last tokens (with_header parts h) goal → ProcedureAt room parts goal
-logic_made room last tokens parts goal h before g =
-    elim (g h.logics.free) [
-      | inl alone ↦ pre_made room last tokens parts goal h before alone.1
-      | inr some ↦ pre_made room some.0 some.1 parts goal (record h { logics = some.2 }) before some.3
+logic_made : (room : ℕ) (last : Option Token) (tokens : List Token) (parts : Parts) (goal : Goal) (h : Header room) → (start : List Token) → suc (suc (suc (suc (header_size h + length tokens)))) ≤ length start → h.logics.logics ≡ [] → clause_size h.pre.clause ≡ 0 → clause_size h.post.clause ≡ 0 → NoCall parts →
+    Goes program_meaning (Maybe part.Logic ∷ Maybe part.Pre ∷ Maybe part.Post ∷ body_row) room last tokens (with_header parts h) goal → ProcedureAt room start parts goal
+logic_made room last tokens parts goal h start short no_logics no_pre no_post before g =
+    elim (g no_logics) [
+      | inl alone ↦ pre_made room last tokens parts goal h start short no_pre no_post before alone.1
+      | inr some ↦ pre_made room some.0 some.1 parts goal (record h { logics = record { logics = some.2.logics; free = some.2.free } })
+          start (omega (arith, short, ap logics_size no_logics, some.2.short, logics_at_most some.2.logics)) no_pre no_post before some.3
     ]
 
-returns_made : (room : ℕ) (last : Option Token) (tokens : List Token) (parts : Parts) (goal : Goal) (h : Header room) → NoCall parts →
+returns_made : (room : ℕ) (last : Option Token) (tokens : List Token) (parts : Parts) (goal : Goal) (h : Header room) → (start : List Token) → suc (suc (suc (suc (header_size h + length tokens)))) ≤ length start → results_size h.results.parameters ≡ 0 → h.logics.logics ≡ [] → clause_size h.pre.clause ≡ 0 → clause_size h.post.clause ≡ 0 → NoCall parts →
     Goes program_meaning (Maybe part.Returns ∷ Maybe part.Logic ∷ Maybe part.Pre ∷ Maybe part.Post ∷ body_row) room last tokens (with_header parts h) goal →
-    ProcedureAt room parts goal
-returns_made room last tokens parts goal h before g =
-    elim (g tt) [
-      | inl alone ↦ logic_made room last tokens parts goal h before alone.1
-      | inr some ↦ logic_made room some.0 some.1 parts goal (record h { results = some.2 }) before some.3
+    ProcedureAt room start parts goal
+returns_made room last tokens parts goal h start short no_results no_logics no_pre no_post before g =
+    elim (g refl) [
+      | inl alone ↦ logic_made room last tokens parts goal h start short no_logics no_pre no_post before alone.1
+      | inr some ↦ logic_made room some.0 some.1 parts goal (record h { results = record { parameters = some.2.parameters; free = some.2.free } })
+          start (omega (arith, short, no_results, some.2.short, results_at_most some.2.parameters)) no_logics no_pre no_post before some.3
     ]
+
+no_clause : (room : ℕ) (c : Option Bracketed) → c ≡ None → IsCanonicalClause room c
+no_clause room c is = subst (λ (k : Option Bracketed). IsCanonicalClause room k) (sym is) tt
 
 procedure_row : IsSoundRow part.Procedure (nth (rows_of part.Procedure) 0)
 unfolding rows_of ProcedureAt
 procedure_row = record {
   along = λ room last tokens parts goal g before.
       let name = g.4 in
-      let head : ParametersMade → Header room = λ ps.
+      let head : FreeParameters → Header room = λ ps.
       record {
         place = place_of (Some g.0);
         name = record { name = name_of (Some name.0); free = free_name name.0 name.3 };
         parameters = ps;
-        results = record { parameters = parts.results; free = before.2 };
-        logics = record { logics = parts.logics; free = before.3 };
-        pre = record { clause = parts.pre; canonical = before.4 };
-        post = record { clause = parts.post; canonical = before.5 };
+        results = record { parameters = parts.results; free = none_all IsFreeParameter parts.results before.2 };
+        logics = record { logics = parts.logics; free = none_all IsFreeLogicParameter parts.logics before.3 };
+        pre = record { clause = parts.pre; canonical = no_clause room parts.pre before.4 };
+        post = record { clause = parts.post; canonical = no_clause room parts.post before.5 };
       } in
       elim (name.4.4 before.1) [
         | inl alone ↦
             let close = alone.1 in
-            returns_made room (Some close.0) close.1 parts goal (head (record { parameters = parts.variables; free = before.1 })) before.0 close.4
+            returns_made room (Some close.0) close.1 parts goal (head (record { parameters = parts.variables; free = none_all IsFreeParameter parts.variables before.1 }))
+            tokens (omega (arith, ap (separated_size parameter_size) before.1, ap results_size before.2, ap logics_size before.3, ap clause_size before.4, ap clause_size before.5, one_less g.2, one_less name.2, one_less name.4.2, one_less close.2))
+            (ap results_size before.2) before.3 (ap clause_size before.4) (ap clause_size before.5) before.0 close.4
         | inr some ↦
             let close = some.3 in
-            returns_made room (Some close.0) close.1 parts goal (head some.2) before.0 close.4
+            returns_made room (Some close.0) close.1 parts goal (head (record { parameters = some.2.parameters; free = some.2.free }))
+            tokens (omega (arith, some.2.short, ap results_size before.2, ap logics_size before.3, ap clause_size before.4, ap clause_size before.5, one_less g.2, one_less name.2, one_less name.4.2, one_less close.2))
+            (ap results_size before.2) before.3 (ap clause_size before.4) (ap clause_size before.5) before.0 close.4
       ];
 }
 

@@ -1,5 +1,5 @@
--- The program that a reading makes is canonical.
-use Rattle.std.proofs.Common.{◌≡◌, ◌⊎◌, inl, inr, ℕ, ◌-◌, List, [], ◌∷◌, ◌++◌, None, refl, sym, subst, arith}
+-- The program that a reading makes is canonical, and spelled in no more tokens than it was read from.
+use Rattle.std.proofs.Common.{◌≡◌, ◌+◌, ◌-◌, ◌≤◌, length, arith, ◌⊎◌, inl, inr, ℕ, List, [], ◌∷◌, ◌++◌, None, refl, sym, subst}
 use Rattle.grammar_engine.specs.Answers.{levels, AreLow}
 use Rattle.grammar_engine.specs.Readings.{Step}
 use Rattle.pale_text.specs.declared.grammar.act.Act.{Act}
@@ -17,6 +17,9 @@ use Rattle.pale_text.specs.ProgramGrammar.{program_grammar}
 use Rattle.pale_text.specs.ProgramReading.{IsProgram}
 use Rattle.pale_text.specs.Spelling.{IsName, Spells}
 use Rattle.print_laws.specs.CanonicalDeclarations.{All, IsCanonicalDeclaration, IsCanonical}
+use Rattle.pale_print.specs.DeclarationTokens.{program_tokens}
+use Rattle.print_laws.proofs.ListSizes.{each_size, each_last}
+use Rattle.print_laws.proofs.DeclarationSizes.{declaration_size, program_length}
 use Rattle.print_laws.proofs.FromRows.{IsNamed, AreNamed, Several, no_more, one_more, puts, IsSoundAt, IsKeptAt, held}
 use Rattle.print_laws.proofs.FromMade.{TypeMade, PredicateMade, ProcedureMade}
 use Rattle.print_laws.proofs.FromMeaning.{program_meaning, put_declaration, BeforeDeclaration}
@@ -105,15 +108,15 @@ sound part.PathAloneStep = sound_at path_alone_step_sound
 sound part.NameRelation = sound_at name_relation_sound
 sound part.Relation = sound_at relation_sound
 
-declaration_kept : (room : ℕ) (made : TypeMade room ⊎ (PredicateMade room ⊎ ProcedureMade room)) (parts : Parts) → BeforeDeclaration room parts →
+declaration_kept : (room : ℕ) {start end : List Token} (made : TypeMade room start end ⊎ (PredicateMade room start end ⊎ ProcedureMade room start end)) (parts : Parts) → BeforeDeclaration room parts →
     BeforeDeclaration room (put_declaration made parts)
-declaration_kept room (inl made) parts before = ((tt, tt), before.1, before.2)
-declaration_kept room (inr (inl made)) parts before = (before.0, (before.1.0, tt), before.2)
-declaration_kept room (inr (inr made)) parts before = (before.0, before.1, (before.2.0, tt, tt, tt, tt, tt))
+declaration_kept room (inl made) parts before = ((refl, refl), before.1, before.2)
+declaration_kept room (inr (inl made)) parts before = (before.0, (before.1.0, refl), before.2)
+declaration_kept room (inr (inr made)) parts before = (before.0, before.1, (before.2.0, refl, refl, refl, refl, refl))
 
 keeps : (n : ProgramPart) → IsKeptAt program_meaning n
 keeps part.Declaration = record { enters = λ room parts b. b; kept = λ room start end made parts b. declaration_kept room made parts b }
-keeps part.Variant = record { enters = λ room parts b. b; kept = λ room start end made parts b. tt }
+keeps part.Variant = record { enters = λ room parts b. b; kept = λ room start end made parts b. refl }
 keeps part.Statement = record { enters = λ room parts b. b; kept = λ room start end made parts b. b }
 keeps part.NextImplication = record { enters = λ room parts b. b; kept = λ room start end made parts b. b }
 keeps part.NextAndChain = record { enters = λ room parts b. b; kept = λ room start end made parts b. b }
@@ -160,13 +163,13 @@ declarations_made : (room : ℕ) (start end : List Token) (several : Several pro
     All (IsCanonicalDeclaration room) (puts program_meaning part.Declaration room start end several parts).declarations
 declarations_made room start end (no_more _ stops) parts all = all
 declarations_made room start end (one_more _ middle _ (inl one) others) parts all =
-    declarations_made room middle end others (put_declaration {room = room} (inl one) parts)
+    declarations_made room middle end others (put_declaration {room = room} {start = start} {end = middle} (inl one) parts)
     (all_and (IsCanonicalDeclaration room) parts.declarations (declaration.«Type» one.type) all one.canonical)
 declarations_made room start end (one_more _ middle _ (inr (inl one)) others) parts all =
-    declarations_made room middle end others (put_declaration {room = room} (inr (inl one)) parts)
+    declarations_made room middle end others (put_declaration {room = room} {start = start} {end = middle} (inr (inl one)) parts)
     (all_and (IsCanonicalDeclaration room) parts.declarations (declaration.Predicate one.predicate) all one.canonical)
 declarations_made room start end (one_more _ middle _ (inr (inr one)) others) parts all =
-    declarations_made room middle end others (put_declaration {room = room} (inr (inr one)) parts)
+    declarations_made room middle end others (put_declaration {room = room} {start = start} {end = middle} (inr (inr one)) parts)
     (all_and (IsCanonicalDeclaration room) parts.declarations (declaration.Procedure one.procedure) all one.canonical)
 
 -- a program that is read, and opens no level above the limit, is canonical, and so does its spelling
@@ -175,8 +178,51 @@ pub canonical_from : (limit : ℕ) (text : List ℕ) (list : TokenList) (steps :
 unfolding program_grammar
 canonical_from limit text list steps tree lexed program low =
     let g = held program_meaning sound keeps limit program.reading list.tokens refl (all_named lexed) low None nothing
-    ((tt, tt), (refl, tt), ((refl, refl, refl, refl, refl), tt, tt, tt, tt, tt)) in
+    ((refl, refl), (refl, refl), ((refl, refl, refl, refl, refl), refl, refl, refl, refl, refl)) in
     let same : limit - 0 ≡ limit = omega arith in
     subst (λ (room : ℕ). IsCanonical room tree) same
     (subst (λ (p : Program). IsCanonical (limit - 0) p) (sym program.made)
     (subst (λ (p : Parts). All (IsCanonicalDeclaration (limit - 0)) p.declarations) g.3 (declarations_made (limit - 0) list.tokens g.1 g.2 nothing tt)))
+
+-- ---- the spelling is the shortest text of its tree
+
+declarations_short : (room : ℕ) (start end : List Token) (several : Several program_meaning part.Declaration room start end) (parts : Parts) (first : List Token) →
+    each_size declaration_size parts.declarations + length start ≤ length first →
+    each_size declaration_size (puts program_meaning part.Declaration room start end several parts).declarations + length end ≤ length first
+declarations_short room start end (no_more _ stops) parts first short = short
+declarations_short room start end (one_more _ middle _ (inl one) others) parts first short =
+    declarations_short room middle end others (put_declaration {room = room} {start = start} {end = middle} (inl one) parts) first
+    (omega (arith, one.short, each_last declaration_size parts.declarations (declaration.«Type» one.type)))
+declarations_short room start end (one_more _ middle _ (inr (inl one)) others) parts first short =
+    declarations_short room middle end others (put_declaration {room = room} {start = start} {end = middle} (inr (inl one)) parts) first
+    (omega (arith, one.short, each_last declaration_size parts.declarations (declaration.Predicate one.predicate)))
+declarations_short room start end (one_more _ middle _ (inr (inr one)) others) parts first short =
+    declarations_short room middle end others (put_declaration {room = room} {start = start} {end = middle} (inr (inr one)) parts) first
+    (omega (arith, one.short, each_last declaration_size parts.declarations (declaration.Procedure one.procedure)))
+
+at_most : (p : Program) (n : ℕ) → each_size declaration_size p.declarations ≤ n → length (program_tokens p) ≤ n
+at_most p n h = omega (arith, program_length p)
+
+lower : (n m : ℕ) → n ≤ m → (depths : List ℕ) → AreLow n depths → AreLow m depths
+lower n m h [] low = tt
+lower n m h (depth ∷ depths) low = (omega (arith, low.0), lower n m h depths low.1)
+
+-- a limit that these are not above
+limit_of : (depths : List ℕ) → (limit : ℕ) × AreLow limit depths
+limit_of [] = (0, tt)
+limit_of (depth ∷ depths) =
+    let others = limit_of depths in
+    (depth + others.0, (omega arith, lower others.0 (depth + others.0) (omega arith) depths others.1))
+
+pub short_from : (text : List ℕ) (list : TokenList) (steps : List (Step Act)) (tree : Program) → IsLexed text list → IsProgram list.tokens steps tree →
+    length (program_tokens tree) ≤ length list.tokens
+unfolding program_grammar
+short_from text list steps tree lexed program =
+    let limit = limit_of (levels steps) in
+    let g = held program_meaning sound keeps limit.0 program.reading list.tokens refl (all_named lexed) limit.1 None nothing
+    ((refl, refl), (refl, refl), ((refl, refl, refl, refl, refl), refl, refl, refl, refl, refl)) in
+    let h : each_size declaration_size (puts program_meaning part.Declaration (limit.0 - 0) list.tokens g.1 g.2 nothing).declarations ≤ length list.tokens =
+    omega (arith, declarations_short (limit.0 - 0) list.tokens g.1 g.2 nothing list.tokens (omega arith)) in
+    at_most tree (length list.tokens)
+    (subst (λ (p : Program). each_size declaration_size p.declarations ≤ length list.tokens) (sym program.made)
+    (subst (λ (p : Parts). each_size declaration_size p.declarations ≤ length list.tokens) g.3 h))

@@ -5,3 +5,4 @@ pub mod CanonicalNames
 pub mod CanonicalRoutes
 pub mod CanonicalStatements
 pub mod ReadBack
+pub mod Shortest

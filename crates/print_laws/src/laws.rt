@@ -10,6 +10,7 @@ ghost use Rattle.pale_text.specs.Lexing.{IsLexed};
 ghost use Rattle.pale_text.specs.ProgramReading.{IsProgram};
 ghost use Rattle.print_laws.specs.CanonicalDeclarations.{IsCanonical};
 ghost use Rattle.print_laws.specs.ReadBack.{IsReadBack};
+ghost use Rattle.print_laws.specs.Shortest.{IsShortest, NeedsItsParentheses};
 
 /// The spelling of a canonical program is read back as the same program but for places, and opens no more levels than the
 /// program has room for.
@@ -28,4 +29,14 @@ pub fn programs_are_canonical()
 pub fn programs_are_read_back()
     ensures { (text : List ℕ) (list : TokenList) (steps : List (Step Act)) (tree : Program) (limit : ℕ) →
         IsLexed text list → IsProgram list.tokens steps tree → AreLow limit (levels steps) → IsReadBack limit tree }
+{}
+
+/// No text of a program, but for places, has fewer tokens than the program's spelling.
+pub fn spellings_are_shortest()
+    ensures { (tree : Program) → IsShortest tree }
+{}
+
+/// A text that is the spelling of a program but for a left and a right parenthesis is not the program, but for places.
+pub fn spellings_need_their_parentheses()
+    ensures { (tree : Program) → NeedsItsParentheses tree }
 {}

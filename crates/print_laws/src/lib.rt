@@ -1,7 +1,10 @@
-//! What holds of the canonical spelling of programs: it is read back as the same program but for places, and opens no more
-//! levels than any text of the program.
+//! What holds of the canonical spelling of programs: it is read back as the same program but for places, it opens no more
+//! levels than any text of the program, no text of the program has fewer tokens, and none of its parentheses can go.
 #![tactic(auto)]
 
 mod laws;
 
-pub use laws::{canonical_programs_are_read_back, programs_are_canonical, programs_are_read_back};
+pub use laws::{
+    canonical_programs_are_read_back, programs_are_canonical, programs_are_read_back,
+    spellings_are_shortest, spellings_need_their_parentheses,
+};
