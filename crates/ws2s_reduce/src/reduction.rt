@@ -2,9 +2,9 @@
 
 ghost use Rattle.std.specs.Prelude.{◌≡◌, [], ◌∷◌, ◌++◌, length, map, IfOk, OnOk, IfErr};
 ghost use Rattle.ws2s_syntax.specs.Sentences.{sentence_of};
-ghost use Rattle.ws2s_syntax.specs.Checked.{class_of_free};
+ghost use Rattle.ws2s_syntax.specs.Checked.{IsChecked, class_of_free};
 ghost use Rattle.ws2s_reduce.specs.Reducing.{and_list, singles_from, reduced, no_reductions, reductions_from, holds_of, breaks_of};
-ghost use Rattle.ws2s_reduce.specs.Answer.{IsReduced, free_from};
+ghost use Rattle.ws2s_reduce.specs.Answer.{IsReduced, MeansText, MeansBroken, free_from};
 ghost use Rattle.ws2s_reduce.specs.Sizes.{IsSmall};
 
 use crate::forms::{and_list, later};
@@ -145,7 +145,8 @@ fn breaks(alloc: Global, text: &Ws2sText, next: u32) -> Result<Formula, AllocErr
 }
 
 fn build(alloc: Global, text: &Ws2sText) -> Result<Reduced, AllocError>
-    ensures { IfOk result (λ reduced. IsReduced text.now reduced) }
+    ensures value { IfOk result (λ reduced. IsReduced text.now reduced) }
+    ensures checked { IsChecked text.now }
 {
     let next = text.free().len() as u32;
     let free = tracks(alloc, next)?;
@@ -166,6 +167,9 @@ fn build(alloc: Global, text: &Ws2sText) -> Result<Reduced, AllocError>
 /// memory.
 pub fn reduce(alloc: Global, text: &Ws2sText) -> Result<Reduced, ReduceFault>
     ensures value { IfOk result (λ reduced. IsReduced text.now reduced) }
+    // The formulas mean the text, and its breach.
+    ensures holds { IfOk result (λ reduced. MeansText text.now reduced.holds) }
+    ensures breaks { IfOk result (λ reduced. MeansBroken text.now reduced.breaks) }
     ensures small { IfOk result (λ reduced. IsSmall reduced.holds × IsSmall reduced.breaks) }
     ensures big { IfErr result (λ fault. fault ≡ ReduceFault.BigFormula →
         (IsSmall (holds_of text.now) × IsSmall (breaks_of text.now)) → ⊥) }

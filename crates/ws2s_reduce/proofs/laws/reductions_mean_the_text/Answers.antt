@@ -4,7 +4,7 @@ use Rattle.ws2s_reduce.proofs.laws.reductions_mean_the_text.Goals as goal
 
 pub returns : goal.returns
 returns c = record {
-  holds = WSat-holds;
-  breaks = WSat-breaks;
+  holds = λ text checked a. WSat-holds text a checked;
+  breaks = λ text checked a. WSat-breaks text a checked;
   once = λ text a free other. given_once a (free_classes text) 0 free other;
 }
