@@ -1,9 +1,9 @@
 -- One event after the other: what the events that are left make stays the same.
 use Rattle.std.proofs.Common.{◌≡◌, ℕ, ◌+◌, ◌<◌, suc, List, [], ◌∷◌, Option, length, get_or, drop, refl, sym, ap, ◌∙◌, add-one}
 use Rattle.std.proofs.Math.Seq.{drop-cons, drop-length}
-use Rattle.grammar_engine.specs.declared.symbol.Event.{Event}
-use Rattle.grammar_engine.specs.declared.symbol.Event.TheVariants as event
-use Rattle.piles.specs.Piles.{rest}
+use Rattle.ll1_reader.specs.declared.symbol.Event.{Event}
+use Rattle.ll1_reader.specs.declared.symbol.Event.TheVariants as event
+use Rattle.plain_data.specs.Stacks.{rest}
 use Rattle.pale_text.specs.declared.grammar.act.Act.{Act}
 use Rattle.pale_text.specs.declared.token.Token.{Token}
 use Rattle.pale_text.specs.MakingParts.{Parts}

@@ -1,8 +1,8 @@
 -- The tables are the grammar's, and the next token tells how a reading goes on. Each part is tried by computing.
 use Rattle.std.specs.Prelude.{◌≡◌, List, [], ◌∷◌, map, true, Option, Some, None, refl, slice_get}
 use Rattle.std.proofs.Common.{ap, sym, ◌∙◌}
-use Rattle.grammar_engine.specs.Grammars.{Rows}
-use Rattle.grammar_engine.specs.Predicting.{is_predictable, all_end_well, IsSound, AreNamed}
+use Rattle.ll1_reader.specs.Grammars.{Rows}
+use Rattle.ll1_reader.specs.Predicting.{is_predictable, all_end_well, IsSound, AreNamed}
 use Rattle.pale_text.specs.declared.token.Mark.{Mark}
 use Rattle.pale_text.specs.declared.token.Mark.TheVariants as mark
 use Rattle.pale_text.specs.declared.grammar.kind.ProgramKind.{ProgramKind}

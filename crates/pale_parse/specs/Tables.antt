@@ -1,7 +1,7 @@
 -- The rows of the grammar of programs by their names.
 use Rattle.std.specs.Prelude.{ℕ, List, [], ◌∷◌, slice_get, Option, Some, None}
-use Rattle.grammar_engine.specs.declared.symbol.Symbol.TheVariants.{Many}
-use Rattle.grammar_engine.specs.Grammars.{Rules}
+use Rattle.ll1_reader.specs.declared.symbol.Symbol.TheVariants.{Many}
+use Rattle.ll1_reader.specs.Grammars.{Rules}
 use Rattle.pale_text.specs.declared.grammar.kind.ProgramKind.{ProgramKind}
 use Rattle.pale_text.specs.declared.grammar.part.ProgramPart.{ProgramPart}
 use Rattle.pale_text.specs.declared.grammar.part.ProgramPart.TheVariants as part

@@ -7,7 +7,7 @@ ghost use Rattle.pale_parse.specs.Hints.{program_hints};
 ghost use Rattle.pale_parse.specs.TableLaws.{program_named, program_sound};
 
 use crate::tables::{ProgramChoice, ProgramSymbol, choices_of, number_of, row_of, starts_of};
-use grammar_engine::{Grammar, Symbol};
+use ll1_reader::{Grammar, Symbol};
 use pale_text::{Act, ProgramKind, ProgramPart};
 
 /// The grammar of programs.

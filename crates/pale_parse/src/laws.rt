@@ -1,7 +1,7 @@
 //! What callers may rest on.
 
 ghost use Rattle.std.specs.Prelude.{◌≡◌, List};
-ghost use Rattle.grammar_engine.specs.Readings.{Step, IsAnyReading};
+ghost use Rattle.ll1_reader.specs.Readings.{Step, IsAnyReading};
 ghost use Rattle.pale_text.specs.declared.grammar.act.Act.{Act};
 ghost use Rattle.pale_text.specs.declared.token.Token.{Token};
 ghost use Rattle.pale_text.specs.declared.tree.declaration.Program.{Program};
@@ -9,7 +9,7 @@ ghost use Rattle.pale_text.specs.ProgramWords.{kinds_in};
 ghost use Rattle.pale_text.specs.ProgramReading.{program_rows, IsProgram};
 
 use crate::grammar::ProgramGrammar;
-use grammar_engine::{each_sentence_has_a_reading_that_counts, one_reading_counts};
+use ll1_reader::{each_sentence_has_a_reading_that_counts, one_reading_counts};
 
 /// Tokens are at most one program, and are read in one way.
 pub fn one_program()

@@ -1,7 +1,7 @@
 //! Programs from their tokens.
 
 ghost use Rattle.std.specs.Prelude.{◌≡◌, List, IfOk, IfErr, IsOkUnless};
-ghost use Rattle.grammar_engine.specs.Readings.{Step};
+ghost use Rattle.ll1_reader.specs.Readings.{Step};
 ghost use Rattle.pale_text.specs.declared.grammar.act.Act.{Act as ProgramAct};
 ghost use Rattle.pale_text.specs.declared.tree.declaration.Program.{Program as ProgramTree};
 ghost use Rattle.pale_text.specs.declared.refusal.Refusal.{Refusal as RefusedThere};

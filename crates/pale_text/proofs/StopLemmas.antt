@@ -1,9 +1,9 @@
 -- The refusal of tokens by the reader's stop.
 use Rattle.std.proofs.Common.{◌≡◌, ℕ, List, sym, ◌∙◌, ap, ◌⊎◌, inl, inr}
-use Rattle.grammar_engine.specs.declared.stop.ReadStop.{ReadStop}
-use Rattle.grammar_engine.specs.declared.stop.ReadStop.TheVariants as reads
-use Rattle.grammar_engine.specs.Grammars.{Rules}
-use Rattle.grammar_engine.specs.Answers.{IsWrongAt, IsDeepAt}
+use Rattle.ll1_reader.specs.declared.stop.ReadStop.{ReadStop}
+use Rattle.ll1_reader.specs.declared.stop.ReadStop.TheVariants as reads
+use Rattle.ll1_reader.specs.Grammars.{Rules}
+use Rattle.ll1_reader.specs.Answers.{IsWrongAt, IsDeepAt}
 use Rattle.pale_text.specs.declared.refusal.Refusal.{Refusal}
 use Rattle.pale_text.specs.declared.refusal.RefusalKind.{RefusalKind}
 use Rattle.pale_text.specs.declared.refusal.RefusalKind.TheVariants as kind

@@ -1,8 +1,8 @@
 -- The tree of a text by what happens in its reading: what each act makes of the parts made before it.
 use Rattle.std.specs.Prelude.{List, [], ◌∷◌, Option, None, Some}
-use Rattle.piles.specs.Piles.{rest}
-use Rattle.grammar_engine.specs.declared.symbol.Event.{Event}
-use Rattle.grammar_engine.specs.declared.symbol.Event.TheVariants as event
+use Rattle.plain_data.specs.Stacks.{rest}
+use Rattle.ll1_reader.specs.declared.symbol.Event.{Event}
+use Rattle.ll1_reader.specs.declared.symbol.Event.TheVariants as event
 use Rattle.pale_text.specs.declared.grammar.act.Act.{Act}
 use Rattle.pale_text.specs.declared.grammar.act.Act.TheVariants as made
 use Rattle.pale_text.specs.declared.token.Token.{Token}

@@ -1,6 +1,6 @@
 -- What is made of assertions.
 use Rattle.std.specs.Prelude.{[], ◌∷◌, ◌++◌, true, false}
-use Rattle.piles.specs.Piles.{top, rest}
+use Rattle.plain_data.specs.Stacks.{top, rest}
 use Rattle.pale_text.specs.declared.grammar.act.AtomAct.{AtomAct}
 use Rattle.pale_text.specs.declared.grammar.act.AtomAct.TheVariants.{TrueAssertion, FalseAssertion, PathAlone, ExtendPathAlone, TakePathBack, AddUsedPath, MakeUse, MakeSame, MakeDiffer, MakeMember, MakeSubset, MakeWalk, MakeIs}
 use Rattle.pale_text.specs.declared.grammar.act.ConnectiveAct.{ConnectiveAct}

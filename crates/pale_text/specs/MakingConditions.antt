@@ -1,6 +1,6 @@
 -- What is made of the conditions of code.
 use Rattle.std.specs.Prelude.{[], ◌∷◌, ◌++◌}
-use Rattle.piles.specs.Piles.{top, rest}
+use Rattle.plain_data.specs.Stacks.{top, rest}
 use Rattle.pale_text.specs.declared.grammar.act.ConditionAct.{ConditionAct}
 use Rattle.pale_text.specs.declared.grammar.act.ConditionAct.TheVariants.{TrueCondition, FalseCondition, TermAlone, TakeTermBack, SameAs, NotSameAs, OfVariant, NotCondition, JoinAndAlso, JoinOrElse}
 use Rattle.pale_text.specs.declared.tree.names.Term.{Term}

@@ -1,6 +1,6 @@
 -- What is made of declarations.
 use Rattle.std.specs.Prelude.{[], ◌∷◌, ◌++◌, None, Some}
-use Rattle.piles.specs.Piles.{top, rest}
+use Rattle.plain_data.specs.Stacks.{top, rest}
 use Rattle.pale_text.specs.declared.grammar.act.TypeAct.{TypeAct}
 use Rattle.pale_text.specs.declared.grammar.act.TypeAct.TheVariants.{BoolField, DataField, PointerField, EndCommon, AddVariant, AddType}
 use Rattle.pale_text.specs.declared.grammar.act.PredicateAct.{PredicateAct}

@@ -23,7 +23,7 @@ use Rattle.pale_text.specs.declared.tree.declaration.PredicateParameter.{Predica
 use Rattle.pale_text.specs.declared.tree.declaration.VariantDeclaration.{VariantDeclaration}
 
 pub record Parts : Type 0 where
-  -- piles: what was made last, which is taken first, is on top
+  -- stacks: what was made last, which is taken first, is on top
   pub names : List Name
   pub places : List Pos
   pub paths : List Path

@@ -1,6 +1,6 @@
 -- What is made of routes.
 use Rattle.std.specs.Prelude.{[], ◌∷◌, ◌++◌, true, false}
-use Rattle.piles.specs.Piles.{top, rest}
+use Rattle.plain_data.specs.Stacks.{top, rest}
 use Rattle.pale_text.specs.declared.grammar.act.RouteAct.{RouteAct}
 use Rattle.pale_text.specs.declared.grammar.act.RouteAct.TheVariants.{Down, UpAny, NameUp, Leaf, Root, IsType, NarrowToVariant, IsTrue, IsFalse, JoinThen, JoinOr, AddStar}
 use Rattle.pale_text.specs.declared.place.Pos.{Pos}

@@ -1,6 +1,6 @@
 -- What is made of statements and calls.
 use Rattle.std.specs.Prelude.{List, [], ◌∷◌, ◌++◌, true, false, None, Some}
-use Rattle.piles.specs.Piles.{top, rest}
+use Rattle.plain_data.specs.Stacks.{top, rest}
 use Rattle.pale_text.specs.declared.grammar.act.StatementAct.{StatementAct}
 use Rattle.pale_text.specs.declared.grammar.act.StatementAct.TheVariants.{BeginBlock, MakeSkip, NoElse, SetElse, MakeIf, MakeWhile, MakeSplit, MakeAssert, MakeFree, MakeNew, NarrowNew, MakeValue, MakeAssign}
 use Rattle.pale_text.specs.declared.grammar.act.CallAct.{CallAct}

@@ -1,6 +1,6 @@
 -- What is made of names: places, paths and terms.
 use Rattle.std.specs.Prelude.{[], ◌∷◌, ◌++◌}
-use Rattle.piles.specs.Piles.{top, rest}
+use Rattle.plain_data.specs.Stacks.{top, rest}
 use Rattle.pale_text.specs.declared.grammar.act.WordAct.{WordAct}
 use Rattle.pale_text.specs.declared.grammar.act.WordAct.TheVariants.{PushName, MarkPlace, MarkNext, StartPath, ExtendPath, PushNull, PathTerm}
 use Rattle.pale_text.specs.declared.tree.names.Name.{Name}

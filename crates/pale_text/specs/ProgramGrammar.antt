@@ -8,12 +8,12 @@
 -- parentheses of a group leave nothing.
 --
 -- These rows alone let a quantifier's body end before an operator that could go on with it. The reading that counts, by
--- grammar_engine's `IsReading`, takes what may come again wherever it can: the body of a quantifier reaches as far as it
+-- ll1_reader's `IsReading`, takes what may come again wherever it can: the body of a quantifier reaches as far as it
 -- can. Each program has one such reading.
 use Rattle.std.specs.Prelude.{List, [], ◌∷◌}
-use Rattle.grammar_engine.specs.declared.symbol.Symbol.{Symbol}
-use Rattle.grammar_engine.specs.declared.symbol.Symbol.TheVariants.{Read, Open, Once, Maybe, Many, Act}
-use Rattle.grammar_engine.specs.Grammars.{Rows}
+use Rattle.ll1_reader.specs.declared.symbol.Symbol.{Symbol}
+use Rattle.ll1_reader.specs.declared.symbol.Symbol.TheVariants.{Read, Open, Once, Maybe, Many, Act}
+use Rattle.ll1_reader.specs.Grammars.{Rows}
 use Rattle.pale_text.specs.declared.token.Mark.{Mark}
 use Rattle.pale_text.specs.declared.token.Mark.TheVariants as mark
 use Rattle.pale_text.specs.declared.grammar.kind.ProgramKind.{ProgramKind}

@@ -1,7 +1,7 @@
 -- Where tokens stop being a sentence of a grammar, and how that is told of a text.
 use Rattle.std.specs.Prelude.{◌≡◌, ◌⊎◌, ℕ, List, Option, Some, None, slice_get, Result, Ok, Err}
-use Rattle.grammar_engine.specs.Grammars.{Rules}
-use Rattle.grammar_engine.specs.Answers.{IsWrongAt, IsDeepAt}
+use Rattle.ll1_reader.specs.Grammars.{Rules}
+use Rattle.ll1_reader.specs.Answers.{IsWrongAt, IsDeepAt}
 use Rattle.pale_text.specs.declared.place.Pos.{Pos}
 use Rattle.pale_text.specs.declared.refusal.Refusal.{Refusal}
 use Rattle.pale_text.specs.declared.refusal.RefusalKind.{RefusalKind}

@@ -1,9 +1,9 @@
 //! Reading tokens by a grammar.
 
 ghost use Rattle.std.specs.Prelude.{◌≡◌, List, IsOkUnless, MatchResult};
-ghost use Rattle.grammar_engine.specs.Grammars.{rules_of};
-ghost use Rattle.grammar_engine.specs.Readings.{Step, IsReading};
-ghost use Rattle.grammar_engine.specs.Answers.{AreLow, levels, IsParsed};
+ghost use Rattle.ll1_reader.specs.Grammars.{rules_of};
+ghost use Rattle.ll1_reader.specs.Readings.{Step, IsReading};
+ghost use Rattle.ll1_reader.specs.Answers.{AreLow, levels, IsParsed};
 ghost use Rattle.pale_text.specs.declared.refusal.Refusal.{Refusal as RefusedThere};
 ghost use Rattle.pale_text.specs.declared.refusal.TextStop.TheVariants.{NoMemory, Refused};
 ghost use Rattle.pale_text.specs.TextStops.{place_at, IsRefused, IsRefusedUnless, IsTextStop};
@@ -11,7 +11,7 @@ ghost use Rattle.pale_text.specs.TextStops.{place_at, IsRefused, IsRefusedUnless
 use crate::place::Pos;
 use crate::refusal::{Refusal, RefusalKind, TextStop};
 use crate::token::TokenList;
-use grammar_engine::{Event, Grammar, ReadStop, read};
+use ll1_reader::{Event, Grammar, ReadStop, read};
 use plain_data::Items;
 use std::alloc::Global;
 

@@ -1,9 +1,9 @@
 -- A text has at most one output of `format`, with one status.
 use Rattle.std.proofs.Common.{◌≡◌, ◌∙◌, ℕ, List, ap, subst, refl, sym, arith, inl, inr}
-use Rattle.grammar_engine.specs.Grammars.{Rules}
-use Rattle.grammar_engine.specs.Readings.{Step}
-use Rattle.grammar_engine.proofs.CompleteLemmas.{not_deep, not_wrong}
-use Rattle.grammar_engine.proofs.StopLemmas.{one_deep, one_wrong, wrong_or_deep}
+use Rattle.ll1_reader.specs.Grammars.{Rules}
+use Rattle.ll1_reader.specs.Readings.{Step}
+use Rattle.ll1_reader.proofs.CompleteLemmas.{not_deep, not_wrong}
+use Rattle.ll1_reader.proofs.StopLemmas.{one_deep, one_wrong, wrong_or_deep}
 use Rattle.pale_text.specs.declared.grammar.act.Act.{Act}
 use Rattle.pale_text.specs.declared.place.Pos.{Pos}
 use Rattle.pale_text.specs.declared.refusal.Refusal.{Refusal}

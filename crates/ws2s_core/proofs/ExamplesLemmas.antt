@@ -1,7 +1,7 @@
 -- On the worked examples.
 use Rattle.std.proofs.Common.{◌≡◌, ℕ, zero, suc, ◌+◌, ◌^◌, Bool, true, false, ◌||◌, [], ◌∷◌, refl, sym, ap, ap₂, ◌∙◌, arith, pow-suc}
 use Rattle.std.proofs.lemmas.Bool.{false≢true}
-use Rattle.tree_theory.specs.Assignments.{Position, IsOnly, is_same_position}
+use Rattle.gta_theory.specs.Assignments.{Position, IsOnly, is_same_position}
 use Rattle.ws2s_core.specs.Examples.{doubled}
 use Rattle.ws2s_core.specs.Sizes.{node_count, count_of_node}
 use Rattle.ws2s_core.proofs.FormulaLemmas.{fold-Single, fold-And}

@@ -1,10 +1,10 @@
 -- On what labelled trees stand for.
 use Rattle.std.proofs.Common.{◌≡◌, ℕ, suc, ◌-◌, ◌≤◌, true, false, List, [], ◌∷◌, ◌++◌, length, slice_get, unwrap_or, Option, Some, None, inl, inr, refl, sym, subst, arith}
 use Rattle.std.proofs.lemmas.Option.{slice_get_within}
-use Rattle.tree_theory.specs.Assignments.{Assignment, Covers, empty_assignment}
-use Rattle.tree_theory.specs.Listed.{meanings}
-use Rattle.tree_theory.proofs.AssignmentsLemmas.{Covers-more}
-use Rattle.tree_theory.proofs.ListedLemmas.{meanings_from, length-meanings, slice_get-push}
+use Rattle.gta_theory.specs.Assignments.{Assignment, Covers, empty_assignment}
+use Rattle.gta_theory.specs.Listed.{meanings}
+use Rattle.gta_theory.proofs.AssignmentsLemmas.{Covers-more}
+use Rattle.gta_theory.proofs.ListedLemmas.{meanings_from, length-meanings, slice_get-push}
 use Rattle.ws2s_core.specs.declared.label_tree.TreeNode.{TreeNode}
 use Rattle.ws2s_core.specs.LabelTrees.{child_assignment, node_assignment, assignment_of}
 

@@ -6,7 +6,7 @@ use Rattle.std.proofs.lemmas.List.Elements.{All-nil, All-cons, All-head, All-tai
 use Rattle.std.specs.HashMap.{HashMap, get}
 use Rattle.std.specs.declared.hash.BuildHasherDefault.{BuildHasherDefault}
 use Rattle.std.specs.declared.hash.FoldHasher.{FoldHasher}
-use Rattle.tree_theory.proofs.ListedLemmas.{meanings-front, length-meanings, slice_get-meanings, slice_get-front, slice_get-last, slice_get-push}
+use Rattle.gta_theory.proofs.ListedLemmas.{meanings-front, length-meanings, slice_get-meanings, slice_get-front, slice_get-last, slice_get-push}
 use Rattle.ws2s_core.specs.declared.track.Track.{Track}
 use Rattle.ws2s_core.specs.declared.node.Node.{Node}
 use Rattle.ws2s_core.specs.declared.postfix.Symbol.{Symbol}

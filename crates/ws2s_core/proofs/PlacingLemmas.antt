@@ -6,7 +6,7 @@ use Rattle.std.proofs.lemmas.List.Elements.{All-nil, All-head, All-push, All-wea
 use Rattle.std.specs.HashMap.{HashMap}
 use Rattle.std.specs.declared.hash.BuildHasherDefault.{BuildHasherDefault}
 use Rattle.std.specs.declared.hash.FoldHasher.{FoldHasher}
-use Rattle.tree_theory.proofs.ListedLemmas.{length-meanings}
+use Rattle.gta_theory.proofs.ListedLemmas.{length-meanings}
 use Rattle.ws2s_core.specs.declared.node.Node.{Node}
 use Rattle.ws2s_core.specs.declared.postfix.Symbol.{Symbol}
 use Rattle.ws2s_core.specs.declared.formula.Formula.{Formula}

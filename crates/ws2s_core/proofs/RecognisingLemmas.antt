@@ -1,13 +1,13 @@
 -- Automata for the forms of a formula.
 use Rattle.std.proofs.Common.{ℕ, max, arith}
-use Rattle.tree_theory.specs.Assignments.{Assignment, IsFinite, Covers, replace, only_below}
-use Rattle.tree_theory.specs.Guides.{Spaces, IsGuide}
-use Rattle.tree_theory.specs.Automata.{Automaton, Accepts}
-use Rattle.tree_theory.specs.Constructions.{complement, IsReached, IsNaming, IsProduct, IsSubset}
-use Rattle.tree_theory.proofs.AssignmentsLemmas.{Covers-more, Covers-replace, Covers-finite, IsWithin-more}
-use Rattle.tree_theory.proofs.AutomataLemmas.{IsStable-complement, Accepts-complement, IsStable-product, Accepts-product, Accepts-named, IsClosed-reached}
-use Rattle.tree_theory.proofs.SubsetLemmas.{IsStable-subset, Accepts-subset}
-use Rattle.tree_theory.proofs.MinimalLemmas.{IsStable-classes}
+use Rattle.gta_theory.specs.Assignments.{Assignment, IsFinite, Covers, replace, only_below}
+use Rattle.gta_theory.specs.Guides.{Spaces, IsGuide}
+use Rattle.gta_theory.specs.Automata.{Automaton, Accepts}
+use Rattle.gta_theory.specs.Constructions.{complement, IsReached, IsNaming, IsProduct, IsSubset}
+use Rattle.gta_theory.proofs.AssignmentsLemmas.{Covers-more, Covers-replace, Covers-finite, IsWithin-more}
+use Rattle.gta_theory.proofs.AutomataLemmas.{IsStable-complement, Accepts-complement, IsStable-product, Accepts-product, Accepts-named, IsClosed-reached}
+use Rattle.gta_theory.proofs.SubsetLemmas.{IsStable-subset, Accepts-subset}
+use Rattle.gta_theory.proofs.MinimalLemmas.{IsStable-classes}
 use Rattle.ws2s_core.specs.declared.track.Track.{Track}
 use Rattle.ws2s_core.specs.declared.formula.Formula.{Formula}
 use Rattle.ws2s_core.specs.declared.formula.Formula.TheVariants.{And, Not, Ex2}

@@ -1,8 +1,8 @@
 -- Satisfaction looks at the free tracks alone, and the numbers of bound ones don't matter.
 use Rattle.std.proofs.Common.{◌≡◌, ◌≢◌, ℕ, zero, suc, ◌+◌, ◌<◌, ◌≤◌, max, Bool, true, false, cond, eqb, ltb, ◌||◌, ◌&&◌, ◌↔◌, ◌⊎◌, inl, inr, [], ◌∷◌, ◌++◌, length, refl, sym, ap, subst, ◌∙◌, arith, eqb-true, eq-eqb, ne_eqb}
 use Rattle.std.proofs.lemmas.Bool.{false≢true, eqb-false, ltb-true, ltb-false, lt-ltb, le-ltb}
-use Rattle.tree_theory.specs.Assignments.{Position, PositionSet, Assignment, IsFinite, Covers, IsOnly, replace, only_below}
-use Rattle.tree_theory.proofs.AssignmentsLemmas.{replace-same, replace-other}
+use Rattle.gta_theory.specs.Assignments.{Position, PositionSet, Assignment, IsFinite, Covers, IsOnly, replace, only_below}
+use Rattle.gta_theory.proofs.AssignmentsLemmas.{replace-same, replace-other}
 use Rattle.ws2s_core.specs.declared.track.Track.{Track}
 use Rattle.ws2s_core.specs.declared.formula.Formula.{Formula}
 use Rattle.ws2s_core.specs.declared.formula.Formula.TheVariants.{Sub, Single, Succ0, Succ1, Root, And, Not, Ex2}

@@ -1,6 +1,6 @@
 -- Formulas and assignments of the worked examples.
 use Rattle.std.specs.Prelude.{ℕ, zero, suc, List, [], ◌∷◌, Some, None}
-use Rattle.tree_theory.specs.Assignments.{Assignment, listed}
+use Rattle.gta_theory.specs.Assignments.{Assignment, listed}
 use Rattle.ws2s_core.specs.declared.track.Track.{Track}
 use Rattle.ws2s_core.specs.declared.formula.Formula.{Formula}
 use Rattle.ws2s_core.specs.declared.formula.Formula.TheVariants.{Sub, Single, Root, And, Ex2}

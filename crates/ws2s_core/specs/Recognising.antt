@@ -1,9 +1,9 @@
 -- Automata that recognise formulas. (Thatcher and Wright 1968; Doner 1970.)
 use Rattle.std.specs.Prelude.{ℕ, ◌↔◌}
-use Rattle.tree_theory.specs.Assignments.{Assignment, Covers}
-use Rattle.tree_theory.specs.Guides.{Spaces}
-use Rattle.tree_theory.specs.Automata.{Automaton, IsStable, Accepts}
-use Rattle.tree_theory.specs.Minimal.{IsMinimal}
+use Rattle.gta_theory.specs.Assignments.{Assignment, Covers}
+use Rattle.gta_theory.specs.Guides.{Spaces}
+use Rattle.gta_theory.specs.Automata.{Automaton, IsStable, Accepts}
+use Rattle.gta_theory.specs.Minimal.{IsMinimal}
 use Rattle.ws2s_core.specs.declared.formula.Formula.{Formula}
 use Rattle.ws2s_core.specs.Satisfaction.{WSat}
 

@@ -1,7 +1,7 @@
 -- When an assignment satisfies a formula. (WS2S: Thatcher and Wright 1968; Doner 1970. The core forms are those of
 -- MONA: Klarlund and Møller, MONA Version 1.4 User Manual.)
 use Rattle.std.specs.Prelude.{true, false, IsTrue, ◌↔◌, [], ◌∷◌, ◌++◌}
-use Rattle.tree_theory.specs.Assignments.{Position, PositionSet, Assignment, IsFiniteSet, IsFinite, IsOnly, replace}
+use Rattle.gta_theory.specs.Assignments.{Position, PositionSet, Assignment, IsFiniteSet, IsFinite, IsOnly, replace}
 use Rattle.ws2s_core.specs.declared.formula.Formula.{Formula}
 use Rattle.ws2s_core.specs.declared.formula.Formula.TheOpen.{Formula-F}
 use Rattle.ws2s_core.specs.declared.formula.Formula.TheFolds.{rec-Formula}

@@ -1,7 +1,7 @@
 //! Guides: which space each child of a node belongs to.
 
 ghost use Rattle.std.specs.Prelude.{◌≡◌, [], ◌∷◌, IfOk, slice_get, length};
-ghost use Rattle.tree_theory.specs.Guides.{IsGuide};
+ghost use Rattle.gta_theory.specs.Guides.{IsGuide};
 
 use plain_data::Items;
 use std::alloc::{AllocError, Global};
@@ -18,7 +18,7 @@ pub struct Guide {
 
 impl Model for Guide {
     ghost use Rattle.std.specs.Prelude.{List, ℕ, ◌^◌, ◌<◌, length};
-    ghost use Rattle.tree_theory.specs.Guides.{IsGuide};
+    ghost use Rattle.gta_theory.specs.Guides.{IsGuide};
 
     ghost Value = { List (ℕ × ℕ) };
 

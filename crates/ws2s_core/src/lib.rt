@@ -3,7 +3,7 @@
 //! `specs/Satisfaction.antt` says when an assignment satisfies a formula, `specs/Tracks.antt` which tracks are free,
 //! `specs/LabelTrees.antt` which lists of nodes are trees and what they stand for, `specs/Sizes.antt` how many nodes
 //! a formula has, and `specs/Recognising.antt` when an automaton recognises a formula; guides and automata are those
-//! of `tree_theory`. The modules `satisfaction`, `recognising` and `trees` are laws over these definitions, and
+//! of `gta_theory`. The modules `satisfaction`, `recognising` and `trees` are laws over these definitions, and
 //! `examples` are worked ones: functions with empty bodies, whose clauses hold of all formulas.
 //!
 //! A formula may be as deep as memory allows. It is copied, counted, numbered and dropped by loops; of these a drop

@@ -1,9 +1,9 @@
 -- One event after the other: what the events that are left make stays the same.
 use Rattle.std.proofs.Common.{◌≡◌, ℕ, ◌+◌, ◌<◌, suc, List, ◌∷◌, Option, length, get_or, drop, sym, ap, ◌∙◌, add-one}
 use Rattle.std.proofs.Math.Seq.{drop-cons}
-use Rattle.grammar_engine.specs.declared.symbol.Event.{Event}
-use Rattle.grammar_engine.specs.declared.symbol.Event.TheVariants as event
-use Rattle.piles.specs.Piles.{rest}
+use Rattle.ll1_reader.specs.declared.symbol.Event.{Event}
+use Rattle.ll1_reader.specs.declared.symbol.Event.TheVariants as event
+use Rattle.plain_data.specs.Stacks.{rest}
 use Rattle.ws2s_parse.specs.declared.grammar.act.SourceAct.{SourceAct}
 use Rattle.pale_text.specs.declared.token.Token.{Token}
 use Rattle.ws2s_parse.specs.MakingParts.{Parts}

@@ -1,7 +1,7 @@
--- What is known of the rows of the grammar of WS2S text. grammar_engine's `is_predictable` says what is meant by each of
+-- What is known of the rows of the grammar of WS2S text. ll1_reader's `is_predictable` says what is meant by each of
 -- these, and is tried on each part.
 use Rattle.std.specs.Prelude.{ℕ, List, [], ◌∷◌}
-use Rattle.grammar_engine.specs.Predicting.{Hints}
+use Rattle.ll1_reader.specs.Predicting.{Hints}
 use Rattle.pale_text.specs.declared.token.Mark.{Mark}
 use Rattle.pale_text.specs.declared.token.Mark.TheVariants as mark
 use Rattle.ws2s_parse.specs.declared.grammar.kind.SourceKind.{SourceKind}

@@ -1,8 +1,8 @@
 -- The source tree of a WS2S text by what happens in its reading: what each act makes of the parts made before it.
 use Rattle.std.specs.Prelude.{List, [], ◌∷◌, ◌++◌, true, false, Option, None}
-use Rattle.grammar_engine.specs.declared.symbol.Event.{Event}
-use Rattle.grammar_engine.specs.declared.symbol.Event.TheVariants as event
-use Rattle.piles.specs.Piles.{top, rest}
+use Rattle.ll1_reader.specs.declared.symbol.Event.{Event}
+use Rattle.ll1_reader.specs.declared.symbol.Event.TheVariants as event
+use Rattle.plain_data.specs.Stacks.{top, rest}
 use Rattle.pale_text.specs.Making.{first_of}
 use Rattle.pale_text.specs.MakingParts.{nowhere, place_of}
 use Rattle.pale_text.specs.declared.token.Token.{Token}

@@ -10,7 +10,7 @@ use Rattle.ws2s_syntax.specs.declared.source.SourceParameter.{SourceParameter}
 use Rattle.ws2s_syntax.specs.declared.source.SourceTerm.{SourceTerm}
 
 pub record Parts : Type 0 where
-  -- piles: what was made last, which is taken first, is on top
+  -- stacks: what was made last, which is taken first, is on top
   pub names : List SourceName
   pub terms : List SourceTerm
   pub formulas : List SourceFormula

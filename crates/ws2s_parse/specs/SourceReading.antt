@@ -1,8 +1,8 @@
 -- Which tokens are a WS2S text, which source tree it has, and where tokens stop being one.
 use Rattle.std.specs.Prelude.{◌≡◌, ℕ, List, map}
-use Rattle.grammar_engine.specs.Grammars.{Rules, rules_of}
-use Rattle.grammar_engine.specs.Readings.{Step, IsReading}
-use Rattle.grammar_engine.specs.Answers.{levels, event_of, AreLow}
+use Rattle.ll1_reader.specs.Grammars.{Rules, rules_of}
+use Rattle.ll1_reader.specs.Readings.{Step, IsReading}
+use Rattle.ll1_reader.specs.Answers.{levels, event_of, AreLow}
 use Rattle.pale_text.specs.declared.refusal.TextStop.{TextStop}
 use Rattle.pale_text.specs.declared.token.Token.{Token}
 use Rattle.pale_text.specs.declared.token.TokenList.{TokenList}

@@ -1,7 +1,7 @@
 -- The tables are the grammar's, and the next token tells how a reading goes on. Each part is tried by computing.
 use Rattle.std.specs.Prelude.{◌≡◌, List, [], ◌∷◌, map, true, Some, None, refl, slice_get}
 use Rattle.std.proofs.Common.{ap, sym, ◌∙◌}
-use Rattle.grammar_engine.specs.Predicting.{is_predictable, all_end_well, IsSound, AreNamed}
+use Rattle.ll1_reader.specs.Predicting.{is_predictable, all_end_well, IsSound, AreNamed}
 use Rattle.pale_text.specs.declared.token.Mark.{Mark}
 use Rattle.pale_text.specs.declared.token.Mark.TheVariants as mark
 use Rattle.ws2s_parse.specs.declared.grammar.kind.SourceKind.{SourceKind}

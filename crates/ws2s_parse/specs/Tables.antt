@@ -1,6 +1,6 @@
 -- The rows of the grammar of WS2S text by their names.
 use Rattle.std.specs.Prelude.{ℕ, List, [], ◌∷◌, slice_get, Option, Some, None}
-use Rattle.grammar_engine.specs.Grammars.{Rules}
+use Rattle.ll1_reader.specs.Grammars.{Rules}
 use Rattle.ws2s_parse.specs.declared.grammar.kind.SourceKind.{SourceKind}
 use Rattle.ws2s_parse.specs.declared.grammar.part.SourcePart.{SourcePart}
 use Rattle.ws2s_parse.specs.declared.grammar.part.SourcePart.TheVariants as part

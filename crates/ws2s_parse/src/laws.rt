@@ -1,7 +1,7 @@
 //! What callers may rest on.
 
 ghost use Rattle.std.specs.Prelude.{◌≡◌, List};
-ghost use Rattle.grammar_engine.specs.Readings.{Step, IsAnyReading};
+ghost use Rattle.ll1_reader.specs.Readings.{Step, IsAnyReading};
 ghost use Rattle.ws2s_parse.specs.declared.grammar.act.SourceAct.{SourceAct};
 ghost use Rattle.pale_text.specs.declared.token.Token.{Token};
 ghost use Rattle.ws2s_syntax.specs.declared.source.Source.{Source};
@@ -9,7 +9,7 @@ ghost use Rattle.ws2s_parse.specs.SourceWords.{kinds_in};
 ghost use Rattle.ws2s_parse.specs.SourceReading.{source_rows, IsSource};
 
 use crate::source_grammar::SourceGrammar;
-use grammar_engine::{each_sentence_has_a_reading_that_counts, one_reading_counts};
+use ll1_reader::{each_sentence_has_a_reading_that_counts, one_reading_counts};
 
 /// Tokens are at most one text, and are read in one way.
 pub fn one_source()

@@ -1,7 +1,7 @@
 //! Source trees from their tokens.
 
 ghost use Rattle.std.specs.Prelude.{◌≡◌, List, IfOk, IfErr, IsOkUnless};
-ghost use Rattle.grammar_engine.specs.Readings.{Step};
+ghost use Rattle.ll1_reader.specs.Readings.{Step};
 ghost use Rattle.pale_text.specs.declared.refusal.Refusal.{Refusal as RefusedThere};
 ghost use Rattle.pale_text.specs.declared.refusal.TextStop.TheVariants.{NoMemory, Refused};
 ghost use Rattle.pale_text.specs.TextStops.{IsRefusedUnless};

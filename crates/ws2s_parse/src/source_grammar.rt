@@ -8,7 +8,7 @@ ghost use Rattle.ws2s_parse.specs.TableLaws.{source_named, source_sound};
 
 use crate::grammar::{SourceAct, SourceKind, SourcePart};
 use crate::tables::{SourceChoice, SourceSymbol, choices_of, number_of, row_of, starts_of};
-use grammar_engine::{Grammar, Symbol};
+use ll1_reader::{Grammar, Symbol};
 use pale_text::Mark;
 
 /// The grammar of WS2S text.

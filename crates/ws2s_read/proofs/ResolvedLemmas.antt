@@ -6,7 +6,7 @@ use Rattle.std.proofs.lemmas.List.Folds.{list_all-append}
 use Rattle.std.proofs.lemmas.Option.{slice_get_within}
 use Rattle.std.specs.List.{list_all}
 use Rattle.std.specs.Str.{bytes_eq}
-use Rattle.tree_theory.proofs.ListedLemmas.{slice_get-front, slice_get-last}
+use Rattle.gta_theory.proofs.ListedLemmas.{slice_get-front, slice_get-last}
 use Rattle.pale_text.specs.declared.place.Pos.{Pos}
 use Rattle.pale_text.specs.declared.refusal.RefusalKind.TheVariants as why
 use Rattle.ws2s_syntax.specs.declared.name.Name.{Name}

@@ -11,7 +11,7 @@ use Rattle.pale_text.specs.Lexing.{IsLexed, IsLexStop}
 use Rattle.pale_text.proofs.ReadingLemmas.{tokens_are_one, stray_is_one, lexed_or_stray}
 use Rattle.ws2s_syntax.specs.declared.source.Source.{Source}
 use Rattle.ws2s_syntax.specs.Checked.{Text}
-use Rattle.grammar_engine.specs.Readings.{Step}
+use Rattle.ll1_reader.specs.Readings.{Step}
 use Rattle.ws2s_parse.specs.declared.grammar.act.SourceAct.{SourceAct}
 use Rattle.ws2s_parse.specs.SourceReading.{IsSource, IsShallow, IsParsedAs, IsParseStop}
 use Rattle.ws2s_read.specs.Resolving.{IsStop, resolved}

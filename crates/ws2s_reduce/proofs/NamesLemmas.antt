@@ -4,9 +4,9 @@ use Rattle.std.proofs.lemmas.Bool.{false≢true}
 use Rattle.std.proofs.lemmas.List.{reverse-reverse, reverse-append}
 use Rattle.std.proofs.lemmas.List.Sums.{fold-append}
 use Rattle.std.proofs.lemmas.Option.{slice_get_within}
-use Rattle.tree_theory.specs.Assignments.{Position, PositionSet, Assignment, IsOnly, replace}
-use Rattle.tree_theory.proofs.AssignmentsLemmas.{replace-same, replace-other}
-use Rattle.tree_theory.proofs.ListedLemmas.{slice_get-front, slice_get-last, slice_get-push}
+use Rattle.gta_theory.specs.Assignments.{Position, PositionSet, Assignment, IsOnly, replace}
+use Rattle.gta_theory.proofs.AssignmentsLemmas.{replace-same, replace-other}
+use Rattle.gta_theory.proofs.ListedLemmas.{slice_get-front, slice_get-last, slice_get-push}
 use Rattle.ws2s_core.specs.declared.formula.Formula.TheVariants.{Sub, Single}
 use Rattle.ws2s_core.specs.Satisfaction.{WSat}
 use Rattle.ws2s_core.proofs.SatisfactionLemmas.{WSat-Sub, WSat-Single, WSat-Succ0, WSat-Succ1, WSat-Root, WSat-And}

@@ -7,7 +7,7 @@ use Rattle.std.proofs.lemmas.List.{length-reverse, length-map, length-take, map-
 use Rattle.std.proofs.lemmas.List.Sums.{sum_by-cons}
 use Rattle.std.proofs.lemmas.Bool.{eqb-false}
 use Rattle.std.proofs.lemmas.Option.{slice_get_past}
-use Rattle.tree_theory.proofs.ListedLemmas.{slice_get-last}
+use Rattle.gta_theory.proofs.ListedLemmas.{slice_get-last}
 use Rattle.ws2s_core.specs.declared.formula.Formula.{Formula}
 use Rattle.ws2s_core.specs.declared.formula.Formula.TheVariants.{Sub, Single, And, Not, Ex2}
 use Rattle.ws2s_core.specs.Sizes.{node_count}

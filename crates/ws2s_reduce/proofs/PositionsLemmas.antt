@@ -1,7 +1,7 @@
 -- Positions on tracks: sets of one position, and quantifiers over them.
 use Rattle.std.proofs.Common.{◌≡◌, ◌≢◌, ℕ, suc, ◌<◌, true, false, IsTrue, ◌↔◌, [], ◌∷◌, length, refl, sym, ap, ◌∙◌, subst, arith}
-use Rattle.tree_theory.specs.Assignments.{Position, PositionSet, Assignment, IsFiniteSet, IsOnly, replace, is_same_position}
-use Rattle.tree_theory.proofs.AssignmentsLemmas.{replace-same, replace-other}
+use Rattle.gta_theory.specs.Assignments.{Position, PositionSet, Assignment, IsFiniteSet, IsOnly, replace, is_same_position}
+use Rattle.gta_theory.proofs.AssignmentsLemmas.{replace-same, replace-other}
 use Rattle.ws2s_core.specs.declared.formula.Formula.{Formula}
 use Rattle.ws2s_core.specs.declared.formula.Formula.TheVariants.{Single, And, Ex2}
 use Rattle.ws2s_core.specs.Satisfaction.{WSat}

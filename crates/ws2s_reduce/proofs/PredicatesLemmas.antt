@@ -3,8 +3,8 @@ use Rattle.std.proofs.Common.{◌≡◌, ◌≢◌, ℕ, suc, ◌<◌, Bool, tru
 use Rattle.std.proofs.Math.Numerals.{add-one}
 use Rattle.std.proofs.lemmas.Bool.{true≢false, and_parts}
 use Rattle.std.proofs.lemmas.Option.{slice_get_within}
-use Rattle.tree_theory.specs.Assignments.{Assignment}
-use Rattle.tree_theory.proofs.ListedLemmas.{slice_get-push}
+use Rattle.gta_theory.specs.Assignments.{Assignment}
+use Rattle.gta_theory.proofs.ListedLemmas.{slice_get-push}
 use Rattle.ws2s_core.specs.declared.formula.Formula.{Formula}
 use Rattle.ws2s_core.specs.Satisfaction.{WSat}
 use Rattle.ws2s_syntax.specs.declared.declaration.Class.{Class}

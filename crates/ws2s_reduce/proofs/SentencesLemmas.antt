@@ -1,7 +1,7 @@
 -- A sentence's reduction means the sentence.
 use Rattle.std.proofs.Common.{◌≡◌, ℕ, suc, true, false, IsTrue, ◌↔◌, List, [], ◌∷◌, ◌++◌, map, fold, Option, Some, None, slice_get, refl, sym, ap, ◌∙◌, subst, append_assoc, append-nil}
 use Rattle.std.proofs.lemmas.Bool.{false≢true, and_parts}
-use Rattle.tree_theory.specs.Assignments.{Assignment, replace}
+use Rattle.gta_theory.specs.Assignments.{Assignment, replace}
 use Rattle.ws2s_core.specs.declared.formula.Formula.{Formula}
 use Rattle.ws2s_core.specs.declared.formula.Formula.TheVariants.{Sub}
 use Rattle.ws2s_core.specs.Satisfaction.{WSat}

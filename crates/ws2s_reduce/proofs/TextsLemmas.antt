@@ -5,7 +5,7 @@ use Rattle.std.proofs.lemmas.Bool.{and_parts}
 use Rattle.std.proofs.lemmas.List.{length-map}
 use Rattle.std.proofs.lemmas.List.Elements.{All-nil, All-cons, All-head, All-tail}
 use Rattle.std.proofs.lemmas.Option.{slice_get_within}
-use Rattle.tree_theory.specs.Assignments.{Assignment}
+use Rattle.gta_theory.specs.Assignments.{Assignment}
 use Rattle.ws2s_core.specs.declared.formula.Formula.TheVariants.{Not}
 use Rattle.ws2s_core.specs.Satisfaction.{WSat}
 use Rattle.ws2s_core.proofs.SatisfactionLemmas.{WSat-Single, WSat-Not}

@@ -1,6 +1,6 @@
 -- What `reduce` answers.
 use Rattle.std.specs.Prelude.{◌≡◌, ◌↔◌, ℕ, zero, suc, List, [], ◌∷◌, length}
-use Rattle.tree_theory.specs.Assignments.{Assignment}
+use Rattle.gta_theory.specs.Assignments.{Assignment}
 use Rattle.ws2s_core.specs.Satisfaction.{WSat}
 use Rattle.ws2s_core.specs.declared.formula.Formula.{Formula}
 use Rattle.ws2s_syntax.specs.Meaning.{Value, Gives, Satisfies}

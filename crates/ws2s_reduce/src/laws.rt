@@ -1,7 +1,7 @@
 //! What reductions mean.
 
 ghost use Rattle.std.specs.Prelude.{◌≡◌, List};
-ghost use Rattle.tree_theory.specs.Assignments.{Assignment};
+ghost use Rattle.gta_theory.specs.Assignments.{Assignment};
 ghost use Rattle.ws2s_syntax.specs.Checked.{Text, IsChecked};
 ghost use Rattle.ws2s_syntax.specs.Meaning.{Value, Gives};
 ghost use Rattle.ws2s_reduce.specs.Answer.{MeansText, MeansBroken};

@@ -1,7 +1,7 @@
 -- What a text says. (Weak monadic second-order logic of two successors: Thatcher and Wright 1968; the spellings are
 -- those of MONA: Klarlund and Møller, MONA Version 1.4 User Manual.) The logic is classical.
 use Rattle.std.specs.Prelude.{◌≡◌, ℕ, suc, Bool, true, false, IsTrue, ◌↔◌, ◌⊎◌, ◌==◌, List, [], ◌∷◌, ◌++◌, map, fold, slice_get, All, Option, Some, None}
-use Rattle.tree_theory.specs.Assignments.{Position, PositionSet, Assignment, IsFiniteSet, IsOnly, no_positions}
+use Rattle.gta_theory.specs.Assignments.{Position, PositionSet, Assignment, IsFiniteSet, IsOnly, no_positions}
 use Rattle.ws2s_syntax.specs.declared.name.Name.{Name}
 use Rattle.ws2s_syntax.specs.declared.name.Name.TheVariants.{Free, Local}
 use Rattle.ws2s_syntax.specs.declared.name.Successor.{Successor}

@@ -2,12 +2,12 @@
 
 ghost use Rattle.std.specs.Prelude.{◌≡◌, IfOk};
 ghost use Rattle.std.specs.Option.{option_copied};
-ghost use Rattle.piles.specs.Piles.{rest};
+ghost use Rattle.plain_data.specs.Stacks.{rest};
 ghost use Rattle.pale_text.specs.Making.{program_of, first_of};
 
 use crate::build::near::Near;
 use crate::build::parts::nothing;
-use grammar_engine::Event;
+use ll1_reader::Event;
 use pale_text::{Act, Program, Token};
 use std::alloc::{AllocError, Global};
 

@@ -11,14 +11,14 @@ use crate::build::takes::{
     take_value,
 };
 use pale_text::{Block, Name, Statement, StatementAct, Value};
-use piles::Pile;
+use plain_data::Stack;
 use plain_data::Items;
 use std::alloc::{AllocError, Global};
 
 /// Puts the statement at the end of the block on top.
 pub fn add_statement(
     alloc: Global,
-    blocks: &mut Pile<Block>,
+    blocks: &mut Stack<Block>,
     one: Statement,
 ) -> Result<(), AllocError>
     ensures { OnOk result (blocks.new ≡ with_statement one blocks.old) }

@@ -1,7 +1,7 @@
 //! What was made last, taken for something larger. Where there is none, something plain stands for it.
 
 ghost use Rattle.std.specs.Prelude.{◌≡◌, [], None};
-ghost use Rattle.piles.specs.Piles.{top, rest};
+ghost use Rattle.plain_data.specs.Stacks.{top, rest};
 ghost use Rattle.pale_text.specs.MakingParts.{nameless, nowhere};
 ghost use Rattle.pale_text.specs.MakingWords.{pathless, termless};
 ghost use Rattle.pale_text.specs.MakingRoutes.{routeless};
@@ -14,18 +14,18 @@ use pale_text::{
     Assertion, Block, Bracketed, Condition, Name, Path, Pos, Quantifier, QuantifierKind, Route,
     Term, Value,
 };
-use piles::Pile;
+use plain_data::Stack;
 use plain_data::Items;
 use std::alloc::Global;
 
-pub fn take_name(alloc: Global, names: &mut Pile<Name>) -> Name
+pub fn take_name(alloc: Global, names: &mut Stack<Name>) -> Name
     ensures taken { result ≡ top nameless names.old }
     ensures left { names.new ≡ rest names.old }
 {
     names.take_or(nameless(alloc))
 }
 
-pub fn take_place(places: &mut Pile<Pos>) -> Pos
+pub fn take_place(places: &mut Stack<Pos>) -> Pos
     ensures taken { result ≡ top nowhere places.old }
     ensures left { places.new ≡ rest places.old }
 {
@@ -42,42 +42,42 @@ pub fn pathless(alloc: Global) -> Path
     }
 }
 
-pub fn take_path(alloc: Global, paths: &mut Pile<Path>) -> Path
+pub fn take_path(alloc: Global, paths: &mut Stack<Path>) -> Path
     ensures taken { result ≡ top pathless paths.old }
     ensures left { paths.new ≡ rest paths.old }
 {
     paths.take_or(pathless(alloc))
 }
 
-pub fn take_term(terms: &mut Pile<Term>) -> Term
+pub fn take_term(terms: &mut Stack<Term>) -> Term
     ensures taken { result ≡ top termless terms.old }
     ensures left { terms.new ≡ rest terms.old }
 {
     terms.take_or(Term::Null(nowhere()))
 }
 
-pub fn take_route(routes: &mut Pile<Route>) -> Route
+pub fn take_route(routes: &mut Stack<Route>) -> Route
     ensures taken { result ≡ top routeless routes.old }
     ensures left { routes.new ≡ rest routes.old }
 {
     routes.take_or(Route::UpAny)
 }
 
-pub fn take_condition(conditions: &mut Pile<Condition>) -> Condition
+pub fn take_condition(conditions: &mut Stack<Condition>) -> Condition
     ensures taken { result ≡ top conditionless conditions.old }
     ensures left { conditions.new ≡ rest conditions.old }
 {
     conditions.take_or(Condition::True(nowhere()))
 }
 
-pub fn take_assertion(assertions: &mut Pile<Assertion>) -> Assertion
+pub fn take_assertion(assertions: &mut Stack<Assertion>) -> Assertion
     ensures taken { result ≡ top assertionless assertions.old }
     ensures left { assertions.new ≡ rest assertions.old }
 {
     assertions.take_or(Assertion::True)
 }
 
-pub fn take_quantifier(alloc: Global, quantifiers: &mut Pile<Quantifier>) -> Quantifier
+pub fn take_quantifier(alloc: Global, quantifiers: &mut Stack<Quantifier>) -> Quantifier
     ensures taken { result ≡ top quantifierless quantifiers.old }
     ensures left { quantifiers.new ≡ rest quantifiers.old }
 {
@@ -90,7 +90,7 @@ pub fn take_quantifier(alloc: Global, quantifiers: &mut Pile<Quantifier>) -> Qua
     })
 }
 
-pub fn take_bracketed(brackets: &mut Pile<Bracketed>) -> Bracketed
+pub fn take_bracketed(brackets: &mut Stack<Bracketed>) -> Bracketed
     ensures taken { result ≡ top bracketless brackets.old }
     ensures left { brackets.new ≡ rest brackets.old }
 {
@@ -100,21 +100,21 @@ pub fn take_bracketed(brackets: &mut Pile<Bracketed>) -> Bracketed
     })
 }
 
-pub fn take_block(alloc: Global, blocks: &mut Pile<Block>) -> Block
+pub fn take_block(alloc: Global, blocks: &mut Stack<Block>) -> Block
     ensures taken { result ≡ top [] blocks.old }
     ensures left { blocks.new ≡ rest blocks.old }
 {
     blocks.take_or(Items::new(alloc))
 }
 
-pub fn take_else(elses: &mut Pile<Option<Block>>) -> Option<Block>
+pub fn take_else(elses: &mut Stack<Option<Block>>) -> Option<Block>
     ensures taken { result ≡ top None elses.old }
     ensures left { elses.new ≡ rest elses.old }
 {
     elses.take_or(None)
 }
 
-pub fn take_value(values: &mut Pile<Value>) -> Value
+pub fn take_value(values: &mut Stack<Value>) -> Value
     ensures taken { result ≡ top valueless values.old }
     ensures left { values.new ≡ rest values.old }
 {

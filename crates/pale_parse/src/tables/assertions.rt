@@ -3,7 +3,7 @@
 use super::symbols::{
     COLON, COMMA, DOT, EQUALS, LEFT_PAREN, MARK_PLACE, NAME, PUSH_NAME, ProgramSymbol, RIGHT_PAREN,
 };
-use grammar_engine::Symbol;
+use ll1_reader::Symbol;
 use pale_text::{Act, AtomAct, ConnectiveAct, Mark, ProgramKind, ProgramPart, WordAct};
 
 pub(super) static IFF_OF_IMPLICATIONS: [ProgramSymbol; 2] = [

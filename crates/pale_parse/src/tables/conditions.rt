@@ -1,7 +1,7 @@
 //! The rows of conditions.
 
 use super::symbols::{COLON, DOT, MARK_PLACE, NAME, PUSH_NAME, ProgramSymbol, RIGHT_PAREN};
-use grammar_engine::Symbol;
+use ll1_reader::Symbol;
 use pale_text::{Act, ConditionAct, Mark, ProgramKind, ProgramPart, WordAct};
 
 pub(super) static CONDITION_OF_CONJUNCTIONS: [ProgramSymbol; 2] = [

@@ -4,7 +4,7 @@ use super::symbols::{
     COLON, COMMA, LEFT_PAREN, MARK_PLACE, NAME, PUSH_NAME, ProgramSymbol, RIGHT_BRACE, RIGHT_PAREN,
     SEMICOLON,
 };
-use grammar_engine::Symbol;
+use ll1_reader::Symbol;
 use pale_text::{Act, Mark, ProcedureAct, ProgramKind, ProgramPart, StatementAct};
 
 pub(super) static PROCEDURE_DECLARED: [ProgramSymbol; 19] = [

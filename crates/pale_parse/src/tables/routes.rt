@@ -1,7 +1,7 @@
 //! The rows of routes.
 
 use super::symbols::{COLON, DOT, NAME, PUSH_NAME, ProgramSymbol, RIGHT_PAREN};
-use grammar_engine::Symbol;
+use ll1_reader::Symbol;
 use pale_text::{Act, Mark, ProgramKind, ProgramPart, RouteAct};
 
 pub(super) static ROUTE_OF_SEQUENCES: [ProgramSymbol; 2] = [

@@ -4,7 +4,7 @@ use super::symbols::{
     COLON, COMMA, EQUALS, LEFT_PAREN, MARK_PLACE, NAME, PUSH_NAME, ProgramSymbol, RIGHT_BRACE,
     RIGHT_PAREN, SEMICOLON,
 };
-use grammar_engine::Symbol;
+use ll1_reader::Symbol;
 use pale_text::{Act, CallAct, Mark, ProgramKind, ProgramPart, StatementAct, WordAct};
 
 pub(super) static BLOCK_OF_STATEMENTS: [ProgramSymbol; 4] = [

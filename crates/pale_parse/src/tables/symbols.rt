@@ -1,6 +1,6 @@
 //! Symbols that stand in many rows.
 
-use grammar_engine::Symbol;
+use ll1_reader::Symbol;
 use pale_text::{Act, Mark, ProgramKind, ProgramPart, WordAct};
 
 /// A symbol of the grammar of programs.

@@ -1,7 +1,7 @@
 //! The rows of declarations and types.
 
 use super::symbols::{COLON, EQUALS, NAME, PUSH_NAME, ProgramSymbol, RIGHT_BRACE, SEMICOLON};
-use grammar_engine::Symbol;
+use ll1_reader::Symbol;
 use pale_text::{Act, Mark, ProgramKind, ProgramPart, TypeAct};
 
 pub(super) static A_TYPE_DECLARATION: [ProgramSymbol; 1] = [Symbol::Once(ProgramPart::Type)];

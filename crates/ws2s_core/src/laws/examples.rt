@@ -2,7 +2,7 @@
 //! the size of a formula that no memory holds.
 
 ghost use Rattle.std.specs.Prelude.{◌≡◌, ◌-◌, ◌^◌, min, List, [], ◌∷◌, true, false};
-ghost use Rattle.tree_theory.specs.Assignments.{listed};
+ghost use Rattle.gta_theory.specs.Assignments.{listed};
 ghost use Rattle.ws2s_core.specs.declared.formula.Formula.TheVariants.{Sub, Single, Succ0, Succ1, Root};
 ghost use Rattle.ws2s_core.specs.Satisfaction.{WSat};
 ghost use Rattle.ws2s_core.specs.Sizes.{node_count};

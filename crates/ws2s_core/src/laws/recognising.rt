@@ -1,11 +1,11 @@
 //! Automata that recognise formulas, form by form. States are numbers here.
 
 ghost use Rattle.std.specs.Prelude.{◌≡◌, ℕ, Bool, ◌↔◌, IsTrue};
-ghost use Rattle.tree_theory.specs.Assignments.{Assignment, IsFinite};
-ghost use Rattle.tree_theory.specs.Guides.{Spaces, IsGuide};
-ghost use Rattle.tree_theory.specs.Automata.{Automaton, Accepts, Has};
-ghost use Rattle.tree_theory.specs.Constructions.{complement, IsReached, IsNaming, IsProduct, IsSubset};
-ghost use Rattle.tree_theory.specs.Minimal.{AreAlike};
+ghost use Rattle.gta_theory.specs.Assignments.{Assignment, IsFinite};
+ghost use Rattle.gta_theory.specs.Guides.{Spaces, IsGuide};
+ghost use Rattle.gta_theory.specs.Automata.{Automaton, Accepts, Has};
+ghost use Rattle.gta_theory.specs.Constructions.{complement, IsReached, IsNaming, IsProduct, IsSubset};
+ghost use Rattle.gta_theory.specs.Minimal.{AreAlike};
 ghost use Rattle.ws2s_core.specs.declared.track.Track.{Track};
 ghost use Rattle.ws2s_core.specs.declared.formula.Formula.{Formula};
 ghost use Rattle.ws2s_core.specs.declared.formula.Formula.TheVariants.{And, Not, Ex2};

@@ -1,7 +1,7 @@
 //! When an assignment satisfies a formula.
 
 ghost use Rattle.std.specs.Prelude.{◌≡◌, ℕ, ◌<◌, ◌≤◌, ◌↔◌, Bool, true, false, IsTrue, List, [], ◌∷◌, ◌++◌, Some, slice_get};
-ghost use Rattle.tree_theory.specs.Assignments.{Position, PositionSet, Assignment, IsFiniteSet, IsFinite, IsOnly, Covers, replace, only_below};
+ghost use Rattle.gta_theory.specs.Assignments.{Position, PositionSet, Assignment, IsFiniteSet, IsFinite, IsOnly, Covers, replace, only_below};
 ghost use Rattle.ws2s_core.specs.declared.track.Track.{Track};
 ghost use Rattle.ws2s_core.specs.declared.formula.Formula.{Formula};
 ghost use Rattle.ws2s_core.specs.declared.formula.Formula.TheVariants.{Sub, Single, Succ0, Succ1, Root, And, Not, Ex2};

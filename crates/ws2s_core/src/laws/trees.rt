@@ -1,7 +1,7 @@
 //! What labelled trees stand for.
 
 ghost use Rattle.std.specs.Prelude.{◌≡◌, ℕ, ◌+◌, List, [], ◌∷◌, false, length};
-ghost use Rattle.tree_theory.specs.Assignments.{Position, Covers, listed, empty_assignment};
+ghost use Rattle.gta_theory.specs.Assignments.{Position, Covers, listed, empty_assignment};
 ghost use Rattle.ws2s_core.specs.declared.label_tree.TreeNode.{TreeNode};
 ghost use Rattle.ws2s_core.specs.LabelTrees.{assignment_of, IsTree};
 ghost use Rattle.ws2s_core.specs.Examples.{small_tree};

@@ -8,7 +8,7 @@ ghost use Rattle.ws2s_parse.specs.Building.{parts_of};
 use super::parts::{Parts, nothing};
 use super::tokens::{after_first, first_of};
 use crate::grammar::SourceAct;
-use grammar_engine::Event;
+use ll1_reader::Event;
 use pale_text::Token;
 use std::alloc::{AllocError, Global};
 use ws2s_syntax::Source;

@@ -5,7 +5,7 @@ ghost use Rattle.ws2s_parse.specs.MakingParts.{nothing};
 ghost use Rattle.ws2s_parse.specs.Building.{parts_of};
 
 use super::binding::Binding;
-use piles::Pile;
+use plain_data::Stack;
 use plain_data::Items;
 use std::alloc::Global;
 use ws2s_syntax::{SourceFormula, SourceItem, SourceName, SourceParameter, SourceTerm};
@@ -14,10 +14,10 @@ use ws2s_syntax::{SourceFormula, SourceItem, SourceName, SourceParameter, Source
 #[derive(Drop)]
 pub struct Parts {
     pub alloc: Global,
-    pub names: Pile<SourceName>,
-    pub terms: Pile<SourceTerm>,
-    pub formulas: Pile<SourceFormula>,
-    pub bindings: Pile<Binding>,
+    pub names: Stack<SourceName>,
+    pub terms: Stack<SourceTerm>,
+    pub formulas: Stack<SourceFormula>,
+    pub bindings: Stack<Binding>,
     pub arguments: Items<SourceTerm>,
     pub variables: Items<SourceName>,
     pub parameters: Items<SourceParameter>,
@@ -30,10 +30,10 @@ pub fn nothing(alloc: Global) -> Parts
 {
     Parts {
         alloc,
-        names: Pile::new(alloc),
-        terms: Pile::new(alloc),
-        formulas: Pile::new(alloc),
-        bindings: Pile::new(alloc),
+        names: Stack::new(alloc),
+        terms: Stack::new(alloc),
+        formulas: Stack::new(alloc),
+        bindings: Stack::new(alloc),
         arguments: Items::new(alloc),
         variables: Items::new(alloc),
         parameters: Items::new(alloc),

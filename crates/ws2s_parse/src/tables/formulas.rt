@@ -2,7 +2,7 @@
 
 use super::symbols::{COMMA, LEFT_PAREN, NAME, RIGHT_PAREN, SourceSymbol};
 use crate::grammar::{AtomAct, ConnectiveAct, SourceAct, SourceKind, SourcePart, TermAct};
-use grammar_engine::Symbol;
+use ll1_reader::Symbol;
 use pale_text::Mark;
 
 pub(super) static IFF_OF_IMPLICATIONS: [SourceSymbol; 2] = [

@@ -2,7 +2,7 @@
 
 use super::symbols::{COMMA, LEFT_PAREN, NAME, RIGHT_PAREN, SEMICOLON, SourceSymbol};
 use crate::grammar::{ItemAct, SourceAct, SourceKind, SourcePart, TermAct};
-use grammar_engine::Symbol;
+use ll1_reader::Symbol;
 use pale_text::Mark;
 
 pub(super) static POSITIONS_DECLARED: [SourceSymbol; 4] = [

@@ -1,7 +1,7 @@
 //! Symbols that stand in many rows.
 
 use crate::grammar::{SourceAct, SourceKind, SourcePart};
-use grammar_engine::Symbol;
+use ll1_reader::Symbol;
 use pale_text::Mark;
 
 /// A symbol of the grammar of WS2S text.

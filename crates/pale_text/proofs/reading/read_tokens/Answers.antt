@@ -1,4 +1,4 @@
-use Rattle.grammar_engine.specs.Grammars.{rules_of}
+use Rattle.ll1_reader.specs.Grammars.{rules_of}
 use Rattle.pale_text.proofs.StopLemmas.{not_read, told_wrong, told_deep}
 use Rattle.pale_text.proofs.reading.read_tokens.Goals as goal
 

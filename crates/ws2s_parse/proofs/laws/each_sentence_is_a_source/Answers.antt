@@ -1,5 +1,5 @@
 use Rattle.std.proofs.Common.{map, refl}
-use Rattle.grammar_engine.specs.Answers.{event_of}
+use Rattle.ll1_reader.specs.Answers.{event_of}
 use Rattle.ws2s_parse.specs.Making.{source_of}
 use Rattle.ws2s_parse.specs.SourceWords.{kinds_in}
 use Rattle.ws2s_parse.proofs.laws.each_sentence_is_a_source.Goals as goal

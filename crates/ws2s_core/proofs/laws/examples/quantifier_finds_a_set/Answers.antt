@@ -1,6 +1,6 @@
 use Rattle.std.proofs.Common.{false, [], ◌∷◌, ◌||◌, refl, arith}
 use Rattle.std.proofs.lemmas.Bool.{false≢true}
-use Rattle.tree_theory.specs.Assignments.{PositionSet, IsWithin, is_same_position}
+use Rattle.gta_theory.specs.Assignments.{PositionSet, IsWithin, is_same_position}
 use Rattle.ws2s_core.specs.declared.formula.Formula.TheVariants.{Sub, Root, And}
 use Rattle.ws2s_core.specs.Examples.{track, none}
 use Rattle.ws2s_core.proofs.ExamplesLemmas.{IsOnly-listed}

@@ -1,6 +1,6 @@
 use Rattle.std.proofs.Common.{◌≡◌, Bool, true, false, [], ◌∷◌, ◌||◌, refl}
 use Rattle.std.proofs.lemmas.Bool.{false≢true}
-use Rattle.tree_theory.specs.Assignments.{is_same_position}
+use Rattle.gta_theory.specs.Assignments.{is_same_position}
 use Rattle.ws2s_core.specs.Examples.{track}
 use Rattle.ws2s_core.proofs.SatisfactionLemmas.{WSat-Sub}
 use Rattle.ws2s_core.proofs.laws.examples.sub_is_inclusion.Goals as goal

@@ -1,4 +1,4 @@
-use Rattle.tree_theory.specs.Automata.{Has}
+use Rattle.gta_theory.specs.Automata.{Has}
 use Rattle.ws2s_core.proofs.RecognisingLemmas.{Recognises-classes}
 use Rattle.ws2s_core.proofs.laws.recognising.classes_recognise_the_same.Goals as goal
 

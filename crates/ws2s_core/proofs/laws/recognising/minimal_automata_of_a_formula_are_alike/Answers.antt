@@ -1,6 +1,6 @@
 use Rattle.std.proofs.lemmas.Bool.{cases_eq}
-use Rattle.tree_theory.specs.Automata.{Has}
-use Rattle.tree_theory.proofs.MinimalLemmas.{AreAlike-minimal}
+use Rattle.gta_theory.specs.Automata.{Has}
+use Rattle.gta_theory.proofs.MinimalLemmas.{AreAlike-minimal}
 use Rattle.ws2s_core.proofs.laws.recognising.minimal_automata_of_a_formula_are_alike.Goals as goal
 
 pub returns : goal.returns

@@ -1,4 +1,4 @@
-use Rattle.tree_theory.specs.Assignments.{only_below}
+use Rattle.gta_theory.specs.Assignments.{only_below}
 use Rattle.ws2s_core.specs.Tracks.{track_bound}
 use Rattle.ws2s_core.proofs.RecognisingLemmas.{accepted-satisfied, satisfied-accepted}
 use Rattle.ws2s_core.proofs.laws.recognising.nothing_accepted_where_unsatisfiable.Goals as goal

@@ -1,4 +1,4 @@
-use Rattle.tree_theory.specs.Automata.{Has}
+use Rattle.gta_theory.specs.Automata.{Has}
 use Rattle.ws2s_core.proofs.RecognisingLemmas.{Recognises-And}
 use Rattle.ws2s_core.proofs.laws.recognising.product_recognises_conjunction.Goals as goal
 

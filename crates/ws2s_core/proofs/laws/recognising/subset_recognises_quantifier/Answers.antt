@@ -1,5 +1,5 @@
 use Rattle.std.proofs.Common.{IsTrue}
-use Rattle.tree_theory.specs.Automata.{Has}
+use Rattle.gta_theory.specs.Automata.{Has}
 use Rattle.ws2s_core.proofs.RecognisingLemmas.{Recognises-Ex2}
 use Rattle.ws2s_core.proofs.laws.recognising.subset_recognises_quantifier.Goals as goal
 

@@ -1,5 +1,0 @@
-use Rattle.grammar_engine.proofs.LawLemmas.{one_counts}
-use Rattle.grammar_engine.proofs.laws.one_reading_counts.Goals as goal
-
-pub returns : goal.returns
-returns g c = one_counts g.G.Grammar.grammar g.G.Grammar.rules g.met.G.Grammar.named g.G.Grammar.hints g.met.G.Grammar.sound

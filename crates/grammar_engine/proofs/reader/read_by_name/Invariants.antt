@@ -1,6 +1,0 @@
-use Rattle.std.proofs.Common.{take}
-use Rattle.grammar_engine.proofs.StandsLemmas.{Stands}
-use Rattle.grammar_engine.proofs.reader.read_by_name.Given as goal
-
-abbrev pub invariant-loop-place : goal.invariant-loop-place
-invariant-loop-place g l = Stands g.G.Grammar.rules g.G.Grammar.hints l.limit (take l.place l.tokens) l.work

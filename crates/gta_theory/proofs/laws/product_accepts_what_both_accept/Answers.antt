@@ -1,0 +1,6 @@
+use Rattle.gta_theory.specs.Automata.{Has}
+use Rattle.gta_theory.proofs.AutomataLemmas.{Accepts-product}
+use Rattle.gta_theory.proofs.laws.product_accepts_what_both_accept.Goals as goal
+
+pub returns : goal.returns
+returns c = λ g A B C states pair guide of_A of_B. Accepts-product g guide A B of_A of_B C (Has states) pair

@@ -1,6 +1,0 @@
-use Rattle.print_laws.proofs.BackLemmas.{read_back}
-use Rattle.print_laws.proofs.FromPrograms.{canonical_from}
-use Rattle.print_laws.proofs.laws.programs_are_read_back.Goals as goal
-
-pub returns : goal.returns
-returns c = λ text list steps tree limit lexed program low. read_back limit tree (canonical_from limit text list steps tree lexed program low)

@@ -1,5 +1,0 @@
-use Rattle.print_laws.proofs.ShortLemmas.{shortest}
-use Rattle.print_laws.proofs.laws.spellings_are_shortest.Goals as goal
-
-pub returns : goal.returns
-returns c = shortest

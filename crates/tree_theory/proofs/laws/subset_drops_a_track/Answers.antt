@@ -1,8 +1,0 @@
-use Rattle.std.proofs.Common.{IsTrue}
-use Rattle.tree_theory.specs.Automata.{Has}
-use Rattle.tree_theory.proofs.SubsetLemmas.{Accepts-subset}
-use Rattle.tree_theory.proofs.laws.subset_drops_a_track.Goals as goal
-
-pub returns : goal.returns
-returns c = λ g A B t states member guide stable.
-    Accepts-subset g guide A stable t B (Has states) (λ s x q. IsTrue (member s x q))

@@ -1,6 +1,0 @@
-use Rattle.tree_theory.specs.Automata.{Has}
-use Rattle.tree_theory.proofs.AlikeLemmas.{IsMinimal-complement}
-use Rattle.tree_theory.proofs.minimal.complement_stays_minimal.Goals as goal
-
-pub returns : goal.returns
-returns c = λ g A states guide. IsMinimal-complement g guide A (Has states)
