@@ -4,16 +4,16 @@ use Rattle.pale_text.specs.declared.place.Pos.{Pos}
 use Rattle.pale_text.specs.declared.token.Mark.{Mark}
 use Rattle.pale_text.specs.declared.token.Mark.TheVariants as mark
 use Rattle.pale_text.specs.declared.token.TokenKind.{TokenKind}
-use Rattle.pale_text.specs.declared.tree.names.Name.{Name}
-use Rattle.pale_text.specs.declared.tree.names.Path.{Path}
-use Rattle.pale_text.specs.declared.tree.names.Term.{Term}
-use Rattle.pale_text.specs.declared.tree.route.Route.{Route}
-use Rattle.pale_text.specs.declared.tree.assertion.Quantifier.{Quantifier}
-use Rattle.pale_text.specs.declared.tree.assertion.Assertion.{Assertion, roll-Assertion}
-use Rattle.pale_text.specs.declared.tree.assertion.Assertion.TheVariants as assertion
-use Rattle.pale_text.specs.declared.tree.assertion.Assertion.TheVariants.{rolls-True, rolls-False, rolls-Truth, rolls-Same, rolls-Differ, rolls-Member, rolls-Subset, rolls-Walk, rolls-Is, rolls-Use, rolls-Not, rolls-And, rolls-Or, rolls-Imp, rolls-Iff, rolls-Quantified}
-use Rattle.pale_text.specs.declared.tree.assertion.Assertion.TheOpen.{Assertion-F}
-use Rattle.pale_text.specs.declared.tree.assertion.Assertion.TheFolds.{map-Assertion, fold-roll-Assertion}
+use Rattle.pale_syntax.specs.declared.tree.names.Name.{Name}
+use Rattle.pale_syntax.specs.declared.tree.names.Path.{Path}
+use Rattle.pale_syntax.specs.declared.tree.names.Term.{Term}
+use Rattle.pale_syntax.specs.declared.tree.route.Route.{Route}
+use Rattle.pale_syntax.specs.declared.tree.assertion.Quantifier.{Quantifier}
+use Rattle.pale_syntax.specs.declared.tree.assertion.Assertion.{Assertion, roll-Assertion}
+use Rattle.pale_syntax.specs.declared.tree.assertion.Assertion.TheVariants as assertion
+use Rattle.pale_syntax.specs.declared.tree.assertion.Assertion.TheVariants.{rolls-True, rolls-False, rolls-Truth, rolls-Same, rolls-Differ, rolls-Member, rolls-Subset, rolls-Walk, rolls-Is, rolls-Use, rolls-Not, rolls-And, rolls-Or, rolls-Imp, rolls-Iff, rolls-Quantified}
+use Rattle.pale_syntax.specs.declared.tree.assertion.Assertion.TheOpen.{Assertion-F}
+use Rattle.pale_syntax.specs.declared.tree.assertion.Assertion.TheFolds.{map-Assertion, fold-roll-Assertion}
 use Rattle.pale_print.specs.Tokens.{Tokens, ◌>>◌, sign, word, path_tokens}
 use Rattle.pale_print.specs.AssertionTokens.{Followed, Operand, grouped, is_followed, operands, chained, implied, quantified, assertion_node, assertion_tokens}
 use Rattle.pale_print.specs.Writing.{compared, variant_tested, opening, closing, inside, goes_on, related, walked, used, quantifier_tokens, assertion_operands}
