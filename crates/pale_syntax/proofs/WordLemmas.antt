@@ -17,6 +17,7 @@ found_among [] name = refl
 found_among (word ∷ words) name = by (bytes_eq word.0.now name) (found_among words name)
   where
     by : (same : Bool) → kind_found (find (λ one. bytes_eq one.0.now name) words) ≡ kind_among (map (λ one. (one.0.now, one.1)) words) name →
-        kind_found (cond same (Some word) (find (λ one. bytes_eq one.0.now name) words)) ≡ (if same then word.1 else kind_among (map (λ one. (one.0.now, one.1)) words) name)
+        kind_found (cond same (Some word) (find (λ one. bytes_eq one.0.now name) words))
+        ≡ (if same then word.1 else kind_among (map (λ one. (one.0.now, one.1)) words) name)
     by true later = refl
     by false later = later

@@ -1,8 +1,8 @@
 //! Assertions.
 
-use pale_text::Pos;
 use crate::tree::names::{Name, Path, Term};
 use crate::tree::route::Route;
+use pale_text::Pos;
 use plain_data::{Boxed, Items};
 
 /// What a quantifier says of how many.

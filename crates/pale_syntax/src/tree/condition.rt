@@ -1,7 +1,7 @@
 //! Conditions of code.
 
-use pale_text::Pos;
 use crate::tree::names::{Name, Term};
+use pale_text::Pos;
 use plain_data::{Boxed, Items};
 
 /// A condition of `if` and `while`, or what is assigned. A place is that of the operator.

@@ -1,10 +1,10 @@
 //! Programs and their declarations.
 
-use pale_text::Pos;
 use crate::tree::assertion::Bracketed;
 use crate::tree::names::Name;
 use crate::tree::route::Route;
 use crate::tree::statement::Block;
+use pale_text::Pos;
 use plain_data::Items;
 
 /// A whole text: its declarations in order.

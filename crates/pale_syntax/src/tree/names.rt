@@ -1,7 +1,6 @@
 //! Names, paths and terms.
 
-use pale_text::Pos;
-use pale_text::ByteList;
+use pale_text::{ByteList, Pos};
 use plain_data::Items;
 
 /// A name where it stands in a text.

@@ -1,7 +1,7 @@
 //! Routing expressions.
 
-use pale_text::Pos;
 use crate::tree::names::Name;
+use pale_text::Pos;
 use plain_data::{Boxed, Items};
 
 /// A routing expression, which leads from cells to cells. (Klarlund and Schwartzbach, POPL 1993.)

@@ -1,9 +1,9 @@
 //! Statements.
 
-use pale_text::Pos;
 use crate::tree::assertion::Bracketed;
 use crate::tree::condition::Condition;
 use crate::tree::names::{Name, Path};
+use pale_text::Pos;
 use plain_data::Items;
 
 /// `{ .. }`: statements in order.
