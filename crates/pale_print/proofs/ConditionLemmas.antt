@@ -8,7 +8,9 @@ use Rattle.pale_syntax.specs.declared.tree.names.Name.{Name}
 use Rattle.pale_syntax.specs.declared.tree.names.Term.{Term}
 use Rattle.pale_syntax.specs.declared.tree.condition.Condition.{Condition, roll-Condition}
 use Rattle.pale_syntax.specs.declared.tree.condition.Condition.TheVariants as condition
-use Rattle.pale_syntax.specs.declared.tree.condition.Condition.TheVariants.{rolls-True, rolls-False, rolls-Truth, rolls-Same, rolls-Differ, rolls-Is, rolls-Not, rolls-And, rolls-Or}
+use Rattle.pale_syntax.specs.declared.tree.condition.Condition.TheVariants.{rolls-True, rolls-False, rolls-Truth, rolls-Same}
+use Rattle.pale_syntax.specs.declared.tree.condition.Condition.TheVariants.{rolls-Differ, rolls-Is, rolls-Not, rolls-And}
+use Rattle.pale_syntax.specs.declared.tree.condition.Condition.TheVariants.{rolls-Or}
 use Rattle.pale_syntax.specs.declared.tree.condition.Condition.TheOpen.{Condition-F}
 use Rattle.pale_syntax.specs.declared.tree.condition.Condition.TheFolds.{map-Condition, fold-roll-Condition}
 use Rattle.pale_print.specs.Tokens.{Tokens, ◌>>◌, sign, word, each_behind, term_tokens}

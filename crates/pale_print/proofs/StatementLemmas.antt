@@ -11,7 +11,8 @@ use Rattle.pale_syntax.specs.declared.tree.statement.Call.{Call}
 use Rattle.pale_syntax.specs.declared.tree.statement.Value.{Value}
 use Rattle.pale_syntax.specs.declared.tree.statement.Statement.{Statement, roll-Statement}
 use Rattle.pale_syntax.specs.declared.tree.statement.Statement.TheVariants as statement
-use Rattle.pale_syntax.specs.declared.tree.statement.Statement.TheVariants.{rolls-Skip, rolls-If, rolls-While, rolls-Split, rolls-Assert, rolls-Free, rolls-Call, rolls-Assign}
+use Rattle.pale_syntax.specs.declared.tree.statement.Statement.TheVariants.{rolls-Skip, rolls-If, rolls-While, rolls-Split}
+use Rattle.pale_syntax.specs.declared.tree.statement.Statement.TheVariants.{rolls-Assert, rolls-Free, rolls-Call, rolls-Assign}
 use Rattle.pale_syntax.specs.declared.tree.statement.Statement.TheOpen.{Statement-F}
 use Rattle.pale_syntax.specs.declared.tree.statement.Statement.TheFolds.{map-Statement, fold-roll-Statement}
 use Rattle.pale_print.specs.Tokens.{Tokens, ◌>>◌, sign, word, each}
