@@ -1,11 +1,11 @@
 -- How many tokens an assertion has where it may stand as well; and chains of assertions that grow at their end.
 use Rattle.std.proofs.Common.{◌≡◌, ℕ, suc, ◌+◌, ◌≤◌, nat_lt, Bool, true, false, List, [], ◌∷◌, ◌++◌, map, refl, sym, subst, arith}
-use Rattle.pale_text.specs.declared.tree.assertion.Assertion.{Assertion, roll-Assertion, out-roll-Assertion}
-use Rattle.pale_text.specs.declared.tree.assertion.Assertion.TheVariants as assertion
-use Rattle.pale_text.specs.declared.tree.assertion.Assertion.TheOpen.{Assertion-F}
-use Rattle.pale_text.specs.declared.tree.assertion.Assertion.TheFolds.{ind-Assertion, map-Assertion}
+use Rattle.pale_syntax.specs.declared.tree.assertion.Assertion.{Assertion, roll-Assertion, out-roll-Assertion}
+use Rattle.pale_syntax.specs.declared.tree.assertion.Assertion.TheVariants as assertion
+use Rattle.pale_syntax.specs.declared.tree.assertion.Assertion.TheOpen.{Assertion-F}
+use Rattle.pale_syntax.specs.declared.tree.assertion.Assertion.TheFolds.{ind-Assertion, map-Assertion}
 use denote.Hole.Carrier.{roll}
-use Rattle.pale_text.specs.MakingAssertions.{and_by, or_by, iff_by, both, either, equivalent}
+use Rattle.pale_syntax.specs.MakingAssertions.{and_by, or_by, iff_by, both, either, equivalent}
 use Rattle.pale_print_laws.specs.CanonicalAssertions.{is_and_node, is_or_node, is_iff_node}
 use Rattle.pale_print_laws.proofs.AssertionShapes.{opened_assertion}
 use Rattle.pale_print_laws.proofs.RouteSizes.{route_size}

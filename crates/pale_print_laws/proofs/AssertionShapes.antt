@@ -1,12 +1,12 @@
 -- Assertions that are opened: what the acts that join them make.
 use Rattle.std.proofs.Common.{◌≡◌, false, List, [], ◌∷◌, ◌++◌, map, refl, sym, ap, ◌∙◌}
-use Rattle.pale_text.specs.declared.tree.names.Path.{Path}
-use Rattle.pale_text.specs.declared.tree.assertion.Assertion.{Assertion, out-Assertion, roll-Assertion, out-roll-Assertion}
-use Rattle.pale_text.specs.declared.tree.assertion.Assertion.TheVariants as assertion
-use Rattle.pale_text.specs.declared.tree.assertion.Assertion.TheVariants.{rolls-True, rolls-False, rolls-Truth, rolls-Same, rolls-Differ, rolls-Member, rolls-Subset, rolls-Walk, rolls-Is, rolls-Use, rolls-Not, rolls-And, rolls-Or, rolls-Imp, rolls-Iff, rolls-Quantified}
-use Rattle.pale_text.specs.declared.tree.assertion.Assertion.TheOpen.{Assertion-F}
-use Rattle.pale_text.specs.declared.tree.assertion.Assertion.TheFolds.{fold-roll-Assertion, ind-Assertion, map-Assertion}
-use Rattle.pale_text.specs.MakingAssertions.{alone_in, and_by, both, either, equivalent, iff_by, or_by, path_alone}
+use Rattle.pale_syntax.specs.declared.tree.names.Path.{Path}
+use Rattle.pale_syntax.specs.declared.tree.assertion.Assertion.{Assertion, out-Assertion, roll-Assertion, out-roll-Assertion}
+use Rattle.pale_syntax.specs.declared.tree.assertion.Assertion.TheVariants as assertion
+use Rattle.pale_syntax.specs.declared.tree.assertion.Assertion.TheVariants.{rolls-True, rolls-False, rolls-Truth, rolls-Same, rolls-Differ, rolls-Member, rolls-Subset, rolls-Walk, rolls-Is, rolls-Use, rolls-Not, rolls-And, rolls-Or, rolls-Imp, rolls-Iff, rolls-Quantified}
+use Rattle.pale_syntax.specs.declared.tree.assertion.Assertion.TheOpen.{Assertion-F}
+use Rattle.pale_syntax.specs.declared.tree.assertion.Assertion.TheFolds.{fold-roll-Assertion, ind-Assertion, map-Assertion}
+use Rattle.pale_syntax.specs.MakingAssertions.{alone_in, and_by, both, either, equivalent, iff_by, or_by, path_alone}
 use Rattle.pale_print.specs.Placeless.{nowhere, placeless_name, placeless_path, placeless_term, placeless_route, placeless_quantifier, placeless_assertion_node, placeless_assertion}
 use Rattle.pale_print_laws.specs.CanonicalAssertions.{is_and_node, is_or_node, is_iff_node}
 

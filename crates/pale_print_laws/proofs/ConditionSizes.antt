@@ -4,14 +4,14 @@ use Rattle.pale_text.specs.declared.token.Mark.{Mark}
 use Rattle.pale_text.specs.declared.token.Mark.TheVariants as mark
 use Rattle.pale_text.specs.declared.token.TokenKind.{TokenKind}
 use Rattle.pale_text.specs.declared.place.Pos.{Pos}
-use Rattle.pale_text.specs.declared.tree.names.Name.{Name}
-use Rattle.pale_text.specs.declared.tree.names.Term.{Term}
-use Rattle.pale_text.specs.declared.tree.condition.Condition.{Condition, roll-Condition, out-roll-Condition}
-use Rattle.pale_text.specs.declared.tree.condition.Condition.TheVariants as condition
-use Rattle.pale_text.specs.declared.tree.condition.Condition.TheOpen.{Condition-F}
-use Rattle.pale_text.specs.declared.tree.condition.Condition.TheFolds.{fold-Condition, fold-roll-Condition, ind-Condition, map-Condition}
+use Rattle.pale_syntax.specs.declared.tree.names.Name.{Name}
+use Rattle.pale_syntax.specs.declared.tree.names.Term.{Term}
+use Rattle.pale_syntax.specs.declared.tree.condition.Condition.{Condition, roll-Condition, out-roll-Condition}
+use Rattle.pale_syntax.specs.declared.tree.condition.Condition.TheVariants as condition
+use Rattle.pale_syntax.specs.declared.tree.condition.Condition.TheOpen.{Condition-F}
+use Rattle.pale_syntax.specs.declared.tree.condition.Condition.TheFolds.{fold-Condition, fold-roll-Condition, ind-Condition, map-Condition}
 use denote.Hole.Carrier.{roll}
-use Rattle.pale_text.specs.MakingConditions.{and_by, or_by, both_conditions, either_condition}
+use Rattle.pale_syntax.specs.MakingConditions.{and_by, or_by, both_conditions, either_condition}
 use Rattle.pale_print.specs.Tokens.{each_behind, sign, ◌>>◌, name_tokens, term_tokens}
 use Rattle.pale_print.specs.RouteTokens.{Placed}
 use Rattle.pale_print.specs.ConditionTokens.{condition_node, condition_tokens}

@@ -4,22 +4,25 @@ use Rattle.ll1_reader.specs.declared.symbol.Symbol.TheVariants.{Read, Open, Once
 use Rattle.ll1_reader.specs.Grammars.{IsOneOf}
 use Rattle.ll1_reader.specs.Readings.{Stack, Row, Step, Took, Did, Reads, row_over, read, opened, acted, once, taken, left_out, again, ended, IsNotBegun}
 use Rattle.ll1_reader.specs.Answers.{levels, event_of, AreLow}
-use Rattle.pale_text.specs.declared.grammar.act.Act.{Act}
-use Rattle.pale_text.specs.declared.grammar.act.Act.TheVariants as act
-use Rattle.pale_text.specs.declared.grammar.act.WordAct.TheVariants as words
-use Rattle.pale_text.specs.declared.grammar.kind.ProgramKind.{ProgramKind}
-use Rattle.pale_text.specs.declared.grammar.kind.ProgramKind.TheVariants as kind
-use Rattle.pale_text.specs.declared.grammar.part.ProgramPart.{ProgramPart}
+use Rattle.pale_syntax.specs.declared.grammar.act.Act.{Act}
+use Rattle.pale_syntax.specs.declared.grammar.act.Act.TheVariants as act
+use Rattle.pale_syntax.specs.declared.grammar.act.WordAct.TheVariants as words
+use Rattle.pale_syntax.specs.declared.grammar.kind.ProgramKind.{ProgramKind}
+use Rattle.pale_syntax.specs.declared.grammar.kind.ProgramKind.TheVariants as kind
+use Rattle.pale_syntax.specs.declared.grammar.part.ProgramPart.{ProgramPart}
 use Rattle.pale_text.specs.declared.token.Mark.{Mark}
 use Rattle.pale_text.specs.declared.token.Token.{Token}
 use Rattle.pale_text.specs.declared.token.TokenKind.{TokenKind}
 use Rattle.pale_text.specs.declared.token.TokenKind.TheVariants as token
-use Rattle.pale_text.specs.declared.tree.declaration.Declaration.{Declaration}
-use Rattle.pale_text.specs.Making.{after, first_of, run}
-use Rattle.pale_text.specs.MakingParts.{Parts, Near, nowhere, place_of}
-use Rattle.pale_text.specs.ProgramGrammar.{ProgramSymbol}
-use Rattle.pale_text.specs.ProgramReading.{program_rows}
-use Rattle.pale_text.specs.ProgramWords.{name_kind, kind_of}
+use Rattle.pale_syntax.specs.declared.tree.declaration.Declaration.{Declaration}
+use Rattle.pale_syntax.specs.Making.{after, run}
+use Rattle.pale_text.specs.Tokens.{first_of}
+use Rattle.pale_syntax.specs.MakingParts.{Parts, Near}
+use Rattle.pale_text.specs.Places.{nowhere}
+use Rattle.pale_text.specs.Tokens.{place_of}
+use Rattle.pale_syntax.specs.ProgramGrammar.{ProgramSymbol}
+use Rattle.pale_syntax.specs.ProgramReading.{program_rows}
+use Rattle.pale_syntax.specs.ProgramWords.{name_kind, kind_of}
 use Rattle.pale_text.specs.Spelling.{IsName, Spells}
 use Rattle.pale_print.specs.Spelling.{bytes}
 

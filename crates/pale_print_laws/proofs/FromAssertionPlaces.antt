@@ -3,13 +3,13 @@ use Rattle.std.proofs.Common.{◌≡◌, ℕ, suc, nat_lt, Bool, true, false, Li
 use Rattle.pale_text.specs.declared.place.Pos.{Pos}
 use Rattle.pale_text.specs.declared.token.Mark.TheVariants as mark
 use Rattle.pale_text.specs.declared.token.TokenKind.{TokenKind}
-use Rattle.pale_text.specs.declared.tree.assertion.Assertion.{Assertion, out-Assertion, roll-Assertion, out-roll-Assertion}
-use Rattle.pale_text.specs.declared.tree.assertion.Assertion.TheVariants as assertion
-use Rattle.pale_text.specs.declared.tree.assertion.Assertion.TheOpen.{Assertion-F}
-use Rattle.pale_text.specs.declared.tree.assertion.Assertion.TheFolds.{fold-roll-Assertion, map-Assertion}
-use Rattle.pale_text.specs.declared.tree.assertion.Quantifier.{Quantifier}
+use Rattle.pale_syntax.specs.declared.tree.assertion.Assertion.{Assertion, out-Assertion, roll-Assertion, out-roll-Assertion}
+use Rattle.pale_syntax.specs.declared.tree.assertion.Assertion.TheVariants as assertion
+use Rattle.pale_syntax.specs.declared.tree.assertion.Assertion.TheOpen.{Assertion-F}
+use Rattle.pale_syntax.specs.declared.tree.assertion.Assertion.TheFolds.{fold-roll-Assertion, map-Assertion}
+use Rattle.pale_syntax.specs.declared.tree.assertion.Quantifier.{Quantifier}
 use denote.Hole.Carrier.{roll, out}
-use Rattle.pale_text.specs.MakingAssertions.{and_by, or_by, iff_by, both, either, equivalent}
+use Rattle.pale_syntax.specs.MakingAssertions.{and_by, or_by, iff_by, both, either, equivalent}
 use Rattle.pale_print.specs.Tokens.{◌>>◌, sign}
 use Rattle.pale_print.specs.AssertionTokens.{Operand, assertion_node, assertion_tokens}
 use Rattle.pale_print_laws.specs.CanonicalAssertions.{AssertionPlace, whole, implication, disjunct, conjunct, operand, asks, is_and_node, is_or_node, is_iff_node, IsGrouped, IsCanonicalAssertion, truth, falsehood, path, same, differ, member, subset, walk, of_variant, use_of, not, and, or, imp, iff, quantified, group, AreCanonicalAssertions, last, more}

@@ -1,19 +1,20 @@
 -- Assertions without connectives that a reading makes are canonical, and spelled in no more tokens than they were read from.
 use Rattle.std.proofs.Common.{◌+◌, ◌≤◌, length, arith, ap, ◌≡◌, inl, inr, ℕ, false, List, [], ◌∷◌, ◌++◌, Some, refl, sym, subst}
-use Rattle.pale_text.specs.declared.grammar.part.ProgramPart.TheVariants as part
+use Rattle.pale_syntax.specs.declared.grammar.part.ProgramPart.TheVariants as part
 use Rattle.pale_text.specs.declared.place.Pos.{Pos}
 use Rattle.pale_text.specs.declared.token.Token.{Token}
-use Rattle.pale_text.specs.declared.tree.names.Name.{Name}
-use Rattle.pale_text.specs.declared.tree.names.Path.{Path}
-use Rattle.pale_text.specs.declared.tree.names.Term.TheVariants as tree_term
-use Rattle.pale_text.specs.declared.tree.assertion.Assertion.{Assertion, out-Assertion, roll-Assertion}
-use Rattle.pale_text.specs.declared.tree.assertion.Assertion.TheVariants as assertion
+use Rattle.pale_syntax.specs.declared.tree.names.Name.{Name}
+use Rattle.pale_syntax.specs.declared.tree.names.Path.{Path}
+use Rattle.pale_syntax.specs.declared.tree.names.Term.TheVariants as tree_term
+use Rattle.pale_syntax.specs.declared.tree.assertion.Assertion.{Assertion, out-Assertion, roll-Assertion}
+use Rattle.pale_syntax.specs.declared.tree.assertion.Assertion.TheVariants as assertion
 use denote.Hole.Carrier.{roll, out}
 use Rattle.plain_data.specs.Stacks.{top, rest}
-use Rattle.pale_text.specs.MakingParts.{Parts, name_of, place_of}
-use Rattle.pale_text.specs.MakingWords.{path_at, extended}
-use Rattle.pale_text.specs.MakingAssertions.{assertionless, path_alone}
-use Rattle.pale_text.specs.ProgramGrammar.{rows_of}
+use Rattle.pale_syntax.specs.MakingParts.{Parts, name_of}
+use Rattle.pale_text.specs.Tokens.{place_of}
+use Rattle.pale_syntax.specs.MakingWords.{path_at, extended}
+use Rattle.pale_syntax.specs.MakingAssertions.{assertionless, path_alone}
+use Rattle.pale_syntax.specs.ProgramGrammar.{rows_of}
 use Rattle.pale_print_laws.specs.CanonicalNames.{IsFreePath, AreFreePaths}
 use Rattle.pale_print_laws.specs.CanonicalAssertions.{operand, IsCanonicalAssertion, truth, falsehood, path, same, differ, member, subset, walk, of_variant, use_of}
 use Rattle.pale_print_laws.proofs.NameSizes.{path_size, extended_size, one_less}

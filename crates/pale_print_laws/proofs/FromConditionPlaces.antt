@@ -2,12 +2,12 @@
 use Rattle.std.proofs.Common.{◌≡◌, ℕ, suc, nat_lt, true, false, List, [], ◌∷◌, ◌++◌, refl, sym, subst}
 use Rattle.pale_text.specs.declared.token.Mark.TheVariants as mark
 use Rattle.pale_text.specs.declared.token.TokenKind.{TokenKind}
-use Rattle.pale_text.specs.declared.tree.condition.Condition.{Condition, out-Condition, roll-Condition, out-roll-Condition}
-use Rattle.pale_text.specs.declared.tree.condition.Condition.TheVariants as condition
-use Rattle.pale_text.specs.declared.tree.condition.Condition.TheOpen.{Condition-F}
-use Rattle.pale_text.specs.declared.tree.condition.Condition.TheFolds.{fold-roll-Condition, map-Condition}
+use Rattle.pale_syntax.specs.declared.tree.condition.Condition.{Condition, out-Condition, roll-Condition, out-roll-Condition}
+use Rattle.pale_syntax.specs.declared.tree.condition.Condition.TheVariants as condition
+use Rattle.pale_syntax.specs.declared.tree.condition.Condition.TheOpen.{Condition-F}
+use Rattle.pale_syntax.specs.declared.tree.condition.Condition.TheFolds.{fold-roll-Condition, map-Condition}
 use denote.Hole.Carrier.{roll, out}
-use Rattle.pale_text.specs.MakingConditions.{and_by, or_by, both_conditions, either_condition}
+use Rattle.pale_syntax.specs.MakingConditions.{and_by, or_by, both_conditions, either_condition}
 use Rattle.pale_print.specs.Tokens.{◌>>◌, sign}
 use Rattle.pale_print.specs.RouteTokens.{Placed}
 use Rattle.pale_print.specs.ConditionTokens.{condition_node, condition_tokens}

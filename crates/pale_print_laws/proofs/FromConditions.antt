@@ -1,15 +1,16 @@
 -- Conditions that a reading makes are canonical, and spelled in no more tokens than they were read from.
 use Rattle.std.proofs.Common.{◌+◌, ◌≤◌, length, arith, ◌≡◌, inl, inr, ℕ, List, ◌∷◌, Some, refl, sym, subst}
-use Rattle.pale_text.specs.declared.grammar.part.ProgramPart.TheVariants as part
+use Rattle.pale_syntax.specs.declared.grammar.part.ProgramPart.TheVariants as part
 use Rattle.pale_text.specs.declared.place.Pos.{Pos}
 use Rattle.pale_text.specs.declared.token.Token.{Token}
-use Rattle.pale_text.specs.declared.tree.names.Name.{Name}
-use Rattle.pale_text.specs.declared.tree.condition.Condition.{Condition, out-Condition, roll-Condition}
-use Rattle.pale_text.specs.declared.tree.condition.Condition.TheVariants as condition
+use Rattle.pale_syntax.specs.declared.tree.names.Name.{Name}
+use Rattle.pale_syntax.specs.declared.tree.condition.Condition.{Condition, out-Condition, roll-Condition}
+use Rattle.pale_syntax.specs.declared.tree.condition.Condition.TheVariants as condition
 use denote.Hole.Carrier.{roll, out}
-use Rattle.pale_text.specs.MakingParts.{Parts, name_of, place_of}
-use Rattle.pale_text.specs.MakingConditions.{both_conditions, either_condition}
-use Rattle.pale_text.specs.ProgramGrammar.{rows_of}
+use Rattle.pale_syntax.specs.MakingParts.{Parts, name_of}
+use Rattle.pale_text.specs.Tokens.{place_of}
+use Rattle.pale_syntax.specs.MakingConditions.{both_conditions, either_condition}
+use Rattle.pale_syntax.specs.ProgramGrammar.{rows_of}
 use Rattle.pale_print_laws.specs.CanonicalConditions.{whole, conjunction, literal, IsCanonicalCondition, truth, falsehood, term, same, differ, of_variant, not}
 use Rattle.pale_print_laws.proofs.NameSizes.{one_less}
 use Rattle.pale_print_laws.proofs.ConditionSizes.{condition_size, condition_rises, either_size, both_size, size_not, size_true, size_false, size_truth, size_same, size_differ, size_is}

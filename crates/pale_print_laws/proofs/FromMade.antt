@@ -1,35 +1,35 @@
 -- What each part of program text makes.
 use Rattle.std.proofs.Common.{◌+◌, ◌≤◌, length, ◌≡◌, ◌⊎◌, inl, inr, ℕ, suc, Bool, true, false, List, ◌∷◌, Option}
-use Rattle.pale_text.specs.declared.grammar.kind.ProgramKind.TheVariants as kind
-use Rattle.pale_text.specs.declared.grammar.part.ProgramPart.{ProgramPart}
-use Rattle.pale_text.specs.declared.grammar.part.ProgramPart.TheVariants as part
+use Rattle.pale_syntax.specs.declared.grammar.kind.ProgramKind.TheVariants as kind
+use Rattle.pale_syntax.specs.declared.grammar.part.ProgramPart.{ProgramPart}
+use Rattle.pale_syntax.specs.declared.grammar.part.ProgramPart.TheVariants as part
 use Rattle.pale_text.specs.declared.place.Pos.{Pos}
 use Rattle.pale_text.specs.declared.token.Mark.{Mark}
 use Rattle.pale_text.specs.declared.token.Mark.TheVariants as mark
 use Rattle.pale_text.specs.declared.token.Token.{Token}
-use Rattle.pale_text.specs.declared.tree.names.Name.{Name}
-use Rattle.pale_text.specs.declared.tree.names.Path.{Path}
-use Rattle.pale_text.specs.declared.tree.names.Term.{Term}
-use Rattle.pale_text.specs.declared.tree.route.Route.{Route}
-use Rattle.pale_text.specs.declared.tree.condition.Condition.{Condition}
-use Rattle.pale_text.specs.declared.tree.assertion.Assertion.{Assertion}
-use Rattle.pale_text.specs.declared.tree.assertion.Assertion.TheVariants as assertion
-use Rattle.pale_text.specs.declared.tree.assertion.Bracketed.{Bracketed}
-use Rattle.pale_text.specs.declared.tree.assertion.Quantifier.{Quantifier}
-use Rattle.pale_text.specs.declared.tree.assertion.QuantifierKind.{QuantifierKind}
-use Rattle.pale_text.specs.declared.tree.statement.Argument.{Argument}
-use Rattle.pale_text.specs.declared.tree.statement.Statement.{Statement}
-use Rattle.pale_text.specs.declared.tree.statement.Value.{Value}
-use Rattle.pale_text.specs.declared.tree.declaration.FieldDeclaration.{FieldDeclaration}
-use Rattle.pale_text.specs.declared.tree.declaration.LogicParameter.{LogicParameter}
-use Rattle.pale_text.specs.declared.tree.declaration.Parameter.{Parameter}
-use Rattle.pale_text.specs.declared.tree.declaration.PredicateDeclaration.{PredicateDeclaration}
-use Rattle.pale_text.specs.declared.tree.declaration.PredicateParameter.{PredicateParameter}
-use Rattle.pale_text.specs.declared.tree.declaration.Procedure.{Procedure}
-use Rattle.pale_text.specs.declared.tree.declaration.TypeDeclaration.{TypeDeclaration}
-use Rattle.pale_text.specs.declared.tree.declaration.VariantDeclaration.{VariantDeclaration}
-use Rattle.pale_text.specs.MakingAssertions.{begun}
-use Rattle.pale_text.specs.ProgramWords.{kind_of, kinds_in}
+use Rattle.pale_syntax.specs.declared.tree.names.Name.{Name}
+use Rattle.pale_syntax.specs.declared.tree.names.Path.{Path}
+use Rattle.pale_syntax.specs.declared.tree.names.Term.{Term}
+use Rattle.pale_syntax.specs.declared.tree.route.Route.{Route}
+use Rattle.pale_syntax.specs.declared.tree.condition.Condition.{Condition}
+use Rattle.pale_syntax.specs.declared.tree.assertion.Assertion.{Assertion}
+use Rattle.pale_syntax.specs.declared.tree.assertion.Assertion.TheVariants as assertion
+use Rattle.pale_syntax.specs.declared.tree.assertion.Bracketed.{Bracketed}
+use Rattle.pale_syntax.specs.declared.tree.assertion.Quantifier.{Quantifier}
+use Rattle.pale_syntax.specs.declared.tree.assertion.QuantifierKind.{QuantifierKind}
+use Rattle.pale_syntax.specs.declared.tree.statement.Argument.{Argument}
+use Rattle.pale_syntax.specs.declared.tree.statement.Statement.{Statement}
+use Rattle.pale_syntax.specs.declared.tree.statement.Value.{Value}
+use Rattle.pale_syntax.specs.declared.tree.declaration.FieldDeclaration.{FieldDeclaration}
+use Rattle.pale_syntax.specs.declared.tree.declaration.LogicParameter.{LogicParameter}
+use Rattle.pale_syntax.specs.declared.tree.declaration.Parameter.{Parameter}
+use Rattle.pale_syntax.specs.declared.tree.declaration.PredicateDeclaration.{PredicateDeclaration}
+use Rattle.pale_syntax.specs.declared.tree.declaration.PredicateParameter.{PredicateParameter}
+use Rattle.pale_syntax.specs.declared.tree.declaration.Procedure.{Procedure}
+use Rattle.pale_syntax.specs.declared.tree.declaration.TypeDeclaration.{TypeDeclaration}
+use Rattle.pale_syntax.specs.declared.tree.declaration.VariantDeclaration.{VariantDeclaration}
+use Rattle.pale_syntax.specs.MakingAssertions.{begun}
+use Rattle.pale_syntax.specs.ProgramWords.{kind_of, kinds_in}
 use Rattle.pale_print_laws.specs.CanonicalNames.{IsFree, AreFree, IsFreePath, AreFreePaths, IsFreeTerm}
 use Rattle.pale_print_laws.specs.CanonicalRoutes.{asks as route_asks, RoutePlace, IsCanonicalRoute, whole as whole_route, sequence, repeated, single}
 use Rattle.pale_print_laws.specs.CanonicalConditions.{asks as condition_asks, ConditionPlace, IsCanonicalCondition, whole as whole_condition, conjunction, literal}

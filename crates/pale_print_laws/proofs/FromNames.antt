@@ -1,13 +1,14 @@
 -- Names, paths and terms that a reading makes are free of reserved words, and spelled in no more tokens than they were read from.
 use Rattle.std.proofs.Common.{◌+◌, ◌≤◌, length, arith, ◌≡◌, ℕ, List, [], ◌∷◌, ◌++◌, Some, refl, subst}
-use Rattle.pale_text.specs.declared.grammar.part.ProgramPart.TheVariants as part
+use Rattle.pale_syntax.specs.declared.grammar.part.ProgramPart.TheVariants as part
 use Rattle.pale_text.specs.declared.token.Token.{Token}
-use Rattle.pale_text.specs.declared.tree.names.Name.{Name}
-use Rattle.pale_text.specs.declared.tree.names.Path.{Path}
-use Rattle.pale_text.specs.declared.tree.names.Term.TheVariants as term
-use Rattle.pale_text.specs.MakingParts.{Parts, name_of, place_of}
-use Rattle.pale_text.specs.MakingWords.{path_at, extended}
-use Rattle.pale_text.specs.ProgramGrammar.{rows_of}
+use Rattle.pale_syntax.specs.declared.tree.names.Name.{Name}
+use Rattle.pale_syntax.specs.declared.tree.names.Path.{Path}
+use Rattle.pale_syntax.specs.declared.tree.names.Term.TheVariants as term
+use Rattle.pale_syntax.specs.MakingParts.{Parts, name_of}
+use Rattle.pale_text.specs.Tokens.{place_of}
+use Rattle.pale_syntax.specs.MakingWords.{path_at, extended}
+use Rattle.pale_syntax.specs.ProgramGrammar.{rows_of}
 use Rattle.pale_print_laws.specs.CanonicalNames.{IsFree, AreFree, IsFreePath}
 use Rattle.pale_print_laws.proofs.NameSizes.{path_size, extended_size, one_less}
 use Rattle.pale_print_laws.proofs.FromRows.{Several, no_more, one_more, puts}

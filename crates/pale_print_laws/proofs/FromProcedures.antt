@@ -1,20 +1,21 @@
 -- Procedures that a reading makes are canonical, and spelled in no more tokens than they were read from.
 use Rattle.std.proofs.Common.{◌+◌, ◌≤◌, None, length, ap, sym, ◌≡◌, inl, inr, ℕ, suc, List, [], ◌∷◌, ◌++◌, Option, Some, refl, subst, arith}
 use Rattle.ll1_reader.specs.declared.symbol.Symbol.TheVariants.{Maybe, Many}
-use Rattle.pale_text.specs.declared.grammar.act.ProcedureAct.TheVariants as procedures
-use Rattle.pale_text.specs.declared.grammar.act.StatementAct.TheVariants as statements
-use Rattle.pale_text.specs.declared.grammar.part.ProgramPart.TheVariants as part
+use Rattle.pale_syntax.specs.declared.grammar.act.ProcedureAct.TheVariants as procedures
+use Rattle.pale_syntax.specs.declared.grammar.act.StatementAct.TheVariants as statements
+use Rattle.pale_syntax.specs.declared.grammar.part.ProgramPart.TheVariants as part
 use Rattle.pale_text.specs.declared.place.Pos.{Pos}
 use Rattle.pale_text.specs.declared.token.Mark.TheVariants as mark
 use Rattle.pale_text.specs.declared.token.Token.{Token}
-use Rattle.pale_text.specs.declared.tree.assertion.Bracketed.{Bracketed}
-use Rattle.pale_text.specs.declared.tree.statement.Statement.{Statement}
-use Rattle.pale_text.specs.declared.tree.declaration.LogicParameter.{LogicParameter}
-use Rattle.pale_text.specs.declared.tree.declaration.LogicParameter.TheVariants as logic
-use Rattle.pale_text.specs.declared.tree.declaration.Parameter.{Parameter}
-use Rattle.pale_text.specs.declared.tree.declaration.Parameter.TheVariants as parameter
-use Rattle.pale_text.specs.MakingParts.{Parts, name_of, place_of}
-use Rattle.pale_text.specs.ProgramGrammar.{ProgramSymbol, rows_of, reads, opens, mark_place, statement, procedure}
+use Rattle.pale_syntax.specs.declared.tree.assertion.Bracketed.{Bracketed}
+use Rattle.pale_syntax.specs.declared.tree.statement.Statement.{Statement}
+use Rattle.pale_syntax.specs.declared.tree.declaration.LogicParameter.{LogicParameter}
+use Rattle.pale_syntax.specs.declared.tree.declaration.LogicParameter.TheVariants as logic
+use Rattle.pale_syntax.specs.declared.tree.declaration.Parameter.{Parameter}
+use Rattle.pale_syntax.specs.declared.tree.declaration.Parameter.TheVariants as parameter
+use Rattle.pale_syntax.specs.MakingParts.{Parts, name_of}
+use Rattle.pale_text.specs.Tokens.{place_of}
+use Rattle.pale_syntax.specs.ProgramGrammar.{ProgramSymbol, rows_of, reads, opens, mark_place, statement, procedure}
 use Rattle.pale_print_laws.specs.CanonicalStatements.{IsCanonicalClause, AreCanonicalStatements, none}
 use Rattle.pale_print_laws.specs.CanonicalDeclarations.{All, IsFreeParameter, IsFreeLogicParameter}
 use Rattle.pale_print_laws.proofs.NameSizes.{one_less}

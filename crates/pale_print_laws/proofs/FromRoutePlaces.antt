@@ -3,12 +3,12 @@ use Rattle.std.proofs.Common.{◌≡◌, ℕ, suc, nat_lt, true, false, List, []
 use Rattle.pale_text.specs.declared.place.Pos.{Pos}
 use Rattle.pale_text.specs.declared.token.Mark.TheVariants as mark
 use Rattle.pale_text.specs.declared.token.TokenKind.{TokenKind}
-use Rattle.pale_text.specs.declared.tree.route.Route.{Route, out-Route, roll-Route, out-roll-Route}
-use Rattle.pale_text.specs.declared.tree.route.Route.TheVariants as route
-use Rattle.pale_text.specs.declared.tree.route.Route.TheOpen.{Route-F}
-use Rattle.pale_text.specs.declared.tree.route.Route.TheFolds.{fold-roll-Route, map-Route}
+use Rattle.pale_syntax.specs.declared.tree.route.Route.{Route, out-Route, roll-Route, out-roll-Route}
+use Rattle.pale_syntax.specs.declared.tree.route.Route.TheVariants as route
+use Rattle.pale_syntax.specs.declared.tree.route.Route.TheOpen.{Route-F}
+use Rattle.pale_syntax.specs.declared.tree.route.Route.TheFolds.{fold-roll-Route, map-Route}
 use denote.Hole.Carrier.{roll, out}
-use Rattle.pale_text.specs.MakingRoutes.{then_by, or_by, star_by, joined_then, joined_or, starred}
+use Rattle.pale_syntax.specs.MakingRoutes.{then_by, or_by, star_by, joined_then, joined_or, starred}
 use Rattle.pale_print.specs.Tokens.{◌>>◌, sign}
 use Rattle.pale_print.specs.RouteTokens.{Placed, route_node, route_tokens}
 use Rattle.pale_print_laws.specs.CanonicalRoutes.{RoutePlace, whole, sequence, repeated, single, asks, is_then_node, is_or_node, is_star_node, IsGrouped, IsCanonicalRoute, down, up, up_any, root, leaf, is_type, is_variant, is_bool, then, or, star, group, AreCanonicalRoutes, last, more}

@@ -1,14 +1,15 @@
 -- Routes that a reading makes are canonical, and spelled in no more tokens than they were read from.
 use Rattle.std.proofs.Common.{◌+◌, ◌≤◌, length, arith, ◌≡◌, inl, inr, ℕ, true, false, List, ◌∷◌, Some, refl, sym, subst}
-use Rattle.pale_text.specs.declared.grammar.part.ProgramPart.TheVariants as part
+use Rattle.pale_syntax.specs.declared.grammar.part.ProgramPart.TheVariants as part
 use Rattle.pale_text.specs.declared.token.Token.{Token}
-use Rattle.pale_text.specs.declared.tree.names.Name.{Name}
-use Rattle.pale_text.specs.declared.tree.route.Route.{Route, out-Route, roll-Route}
-use Rattle.pale_text.specs.declared.tree.route.Route.TheVariants as route
+use Rattle.pale_syntax.specs.declared.tree.names.Name.{Name}
+use Rattle.pale_syntax.specs.declared.tree.route.Route.{Route, out-Route, roll-Route}
+use Rattle.pale_syntax.specs.declared.tree.route.Route.TheVariants as route
 use denote.Hole.Carrier.{roll, out}
-use Rattle.pale_text.specs.MakingParts.{Parts, name_of, place_of}
-use Rattle.pale_text.specs.MakingRoutes.{joined_then, joined_or, starred}
-use Rattle.pale_text.specs.ProgramGrammar.{rows_of}
+use Rattle.pale_syntax.specs.MakingParts.{Parts, name_of}
+use Rattle.pale_text.specs.Tokens.{place_of}
+use Rattle.pale_syntax.specs.MakingRoutes.{joined_then, joined_or, starred}
+use Rattle.pale_syntax.specs.ProgramGrammar.{rows_of}
 use Rattle.pale_print_laws.specs.CanonicalRoutes.{whole, sequence, repeated, single, IsCanonicalRoute, down, up, up_any, root, leaf, is_type, is_variant, is_bool}
 use Rattle.pale_print_laws.proofs.NameSizes.{one_less}
 use Rattle.pale_print_laws.proofs.RouteSizes.{route_size, route_rises, joined_or_size, joined_then_size, starred_size, size_down, size_up, size_up_any, size_root, size_leaf, size_is_type, size_is_variant, size_is_bool}

@@ -4,17 +4,18 @@ use Rattle.ll1_reader.specs.declared.symbol.Symbol.TheVariants.{Read, Open, Once
 use Rattle.ll1_reader.specs.Grammars.{IsOneOf}
 use Rattle.ll1_reader.specs.Readings.{Bottom, Row, Step, Reads, over, row_over, read, opened, acted, once, taken, left_out, again, ended}
 use Rattle.ll1_reader.specs.Answers.{levels, event_of, AreLow}
-use Rattle.pale_text.specs.declared.grammar.act.Act.{Act}
-use Rattle.pale_text.specs.declared.grammar.kind.ProgramKind.{ProgramKind}
-use Rattle.pale_text.specs.declared.grammar.part.ProgramPart.{ProgramPart}
+use Rattle.pale_syntax.specs.declared.grammar.act.Act.{Act}
+use Rattle.pale_syntax.specs.declared.grammar.kind.ProgramKind.{ProgramKind}
+use Rattle.pale_syntax.specs.declared.grammar.part.ProgramPart.{ProgramPart}
 use Rattle.pale_text.specs.declared.token.Token.{Token}
 use Rattle.pale_text.specs.declared.token.TokenKind.{TokenKind}
 use Rattle.pale_text.specs.declared.token.TokenKind.TheVariants as token
-use Rattle.pale_text.specs.Making.{after, first_of, run}
-use Rattle.pale_text.specs.MakingParts.{Parts}
-use Rattle.pale_text.specs.ProgramGrammar.{ProgramSymbol, rows_of, program_grammar}
-use Rattle.pale_text.specs.ProgramReading.{program_rows}
-use Rattle.pale_text.specs.ProgramWords.{kind_of, kinds_in}
+use Rattle.pale_syntax.specs.Making.{after, run}
+use Rattle.pale_text.specs.Tokens.{first_of}
+use Rattle.pale_syntax.specs.MakingParts.{Parts}
+use Rattle.pale_syntax.specs.ProgramGrammar.{ProgramSymbol, rows_of, program_grammar}
+use Rattle.pale_syntax.specs.ProgramReading.{program_rows}
+use Rattle.pale_syntax.specs.ProgramWords.{kind_of, kinds_in}
 use Rattle.pale_text.specs.Spelling.{IsName}
 use Rattle.pale_print_laws.proofs.Framework.{Counts, ProgramStack}
 

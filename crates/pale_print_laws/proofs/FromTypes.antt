@@ -1,20 +1,20 @@
 -- Types and predicates that a reading makes are canonical, and spelled in no more tokens than they were read from.
 use Rattle.std.proofs.Common.{◌+◌, ◌≤◌, suc, length, arith, ap, sym, ◌≡◌, inl, inr, ℕ, List, [], ◌∷◌, ◌++◌, Option, Some, refl, subst}
 use Rattle.ll1_reader.specs.declared.symbol.Symbol.TheVariants.{Once, Many}
-use Rattle.pale_text.specs.declared.grammar.act.PredicateAct.TheVariants as predicates
-use Rattle.pale_text.specs.declared.grammar.act.TypeAct.TheVariants as types
-use Rattle.pale_text.specs.declared.grammar.part.ProgramPart.TheVariants as part
+use Rattle.pale_syntax.specs.declared.grammar.act.PredicateAct.TheVariants as predicates
+use Rattle.pale_syntax.specs.declared.grammar.act.TypeAct.TheVariants as types
+use Rattle.pale_syntax.specs.declared.grammar.part.ProgramPart.TheVariants as part
 use Rattle.pale_text.specs.declared.token.Mark.TheVariants as mark
 use Rattle.pale_text.specs.declared.token.Token.{Token}
-use Rattle.pale_text.specs.declared.tree.names.Name.{Name}
-use Rattle.pale_text.specs.declared.tree.declaration.FieldDeclaration.{FieldDeclaration}
-use Rattle.pale_text.specs.declared.tree.declaration.FieldForm.TheVariants as form
-use Rattle.pale_text.specs.declared.tree.declaration.PredicateParameter.{PredicateParameter}
-use Rattle.pale_text.specs.declared.tree.declaration.PredicateParameter.TheVariants as parameter
-use Rattle.pale_text.specs.declared.tree.declaration.TypeDeclaration.{TypeDeclaration}
-use Rattle.pale_text.specs.declared.tree.declaration.VariantDeclaration.{VariantDeclaration}
-use Rattle.pale_text.specs.MakingParts.{Parts, name_of}
-use Rattle.pale_text.specs.ProgramGrammar.{ProgramSymbol, rows_of, reads, type as making, predicate as judging}
+use Rattle.pale_syntax.specs.declared.tree.names.Name.{Name}
+use Rattle.pale_syntax.specs.declared.tree.declaration.FieldDeclaration.{FieldDeclaration}
+use Rattle.pale_syntax.specs.declared.tree.declaration.FieldForm.TheVariants as form
+use Rattle.pale_syntax.specs.declared.tree.declaration.PredicateParameter.{PredicateParameter}
+use Rattle.pale_syntax.specs.declared.tree.declaration.PredicateParameter.TheVariants as parameter
+use Rattle.pale_syntax.specs.declared.tree.declaration.TypeDeclaration.{TypeDeclaration}
+use Rattle.pale_syntax.specs.declared.tree.declaration.VariantDeclaration.{VariantDeclaration}
+use Rattle.pale_syntax.specs.MakingParts.{Parts, name_of}
+use Rattle.pale_syntax.specs.ProgramGrammar.{ProgramSymbol, rows_of, reads, type as making, predicate as judging}
 use Rattle.pale_print_laws.specs.CanonicalNames.{IsFree}
 use Rattle.pale_print_laws.specs.CanonicalDeclarations.{All, IsCanonicalField, IsCanonicalVariant, IsFreePredicateParameter}
 use Rattle.pale_print_laws.proofs.NameSizes.{one_less}

@@ -1,10 +1,10 @@
 -- What the acts that join assertions make, without places.
 use Rattle.std.proofs.Common.{◌≡◌, [], ◌∷◌, ◌++◌, refl, sym, ap, ◌∙◌}
-use Rattle.pale_text.specs.declared.tree.assertion.Assertion.{Assertion, roll-Assertion, out-roll-Assertion}
-use Rattle.pale_text.specs.declared.tree.assertion.Assertion.TheVariants as assertion
-use Rattle.pale_text.specs.declared.tree.assertion.Assertion.TheOpen.{Assertion-F}
-use Rattle.pale_text.specs.declared.tree.assertion.Assertion.TheFolds.{map-Assertion}
-use Rattle.pale_text.specs.MakingAssertions.{and_by, or_by, iff_by, both, either, equivalent, alone_in, path_alone}
+use Rattle.pale_syntax.specs.declared.tree.assertion.Assertion.{Assertion, roll-Assertion, out-roll-Assertion}
+use Rattle.pale_syntax.specs.declared.tree.assertion.Assertion.TheVariants as assertion
+use Rattle.pale_syntax.specs.declared.tree.assertion.Assertion.TheOpen.{Assertion-F}
+use Rattle.pale_syntax.specs.declared.tree.assertion.Assertion.TheFolds.{map-Assertion}
+use Rattle.pale_syntax.specs.MakingAssertions.{and_by, or_by, iff_by, both, either, equivalent, alone_in, path_alone}
 use Rattle.pale_print.specs.Placeless.{placeless_path, placeless_assertion}
 use Rattle.pale_print_laws.proofs.StackLemmas.{map-last}
 use Rattle.pale_print_laws.proofs.PlacelessForms.{assertion-And, assertion-Or, assertion-Iff}

@@ -1,10 +1,10 @@
 -- What the acts that join conditions make, without places.
 use Rattle.std.proofs.Common.{◌≡◌, [], ◌∷◌, ◌++◌, refl, sym, ap, ◌∙◌}
-use Rattle.pale_text.specs.declared.tree.condition.Condition.{Condition, roll-Condition, out-roll-Condition}
-use Rattle.pale_text.specs.declared.tree.condition.Condition.TheVariants as condition
-use Rattle.pale_text.specs.declared.tree.condition.Condition.TheOpen.{Condition-F}
-use Rattle.pale_text.specs.declared.tree.condition.Condition.TheFolds.{map-Condition}
-use Rattle.pale_text.specs.MakingConditions.{and_by, or_by, both_conditions, either_condition, alone_in, term_alone}
+use Rattle.pale_syntax.specs.declared.tree.condition.Condition.{Condition, roll-Condition, out-roll-Condition}
+use Rattle.pale_syntax.specs.declared.tree.condition.Condition.TheVariants as condition
+use Rattle.pale_syntax.specs.declared.tree.condition.Condition.TheOpen.{Condition-F}
+use Rattle.pale_syntax.specs.declared.tree.condition.Condition.TheFolds.{map-Condition}
+use Rattle.pale_syntax.specs.MakingConditions.{and_by, or_by, both_conditions, either_condition, alone_in, term_alone}
 use Rattle.pale_print.specs.Placeless.{placeless_term, placeless_condition}
 use Rattle.pale_print_laws.proofs.StackLemmas.{map-last}
 use Rattle.pale_print_laws.proofs.PlacelessForms.{condition-And, condition-Or}

@@ -1,24 +1,25 @@
 -- Each act makes the same of parts without their places.
 use Rattle.std.proofs.Common.{◌≡◌, true, false, ◌∷◌, map, ap, ◌∙◌}
 use Rattle.plain_data.specs.Stacks.{top, rest}
-use Rattle.pale_text.specs.declared.tree.names.Term.TheVariants as term
-use Rattle.pale_text.specs.declared.tree.route.Route.TheVariants as route
-use Rattle.pale_text.specs.declared.tree.condition.Condition.TheVariants as condition
-use Rattle.pale_text.specs.MakingParts.{Parts, Near, nameless, place_of}
-use Rattle.pale_text.specs.MakingWords.{pathless, termless, path_at, extended, after_word}
-use Rattle.pale_text.specs.MakingRoutes.{routeless, tested_type, joined_then, joined_or, starred, after_route}
-use Rattle.pale_text.specs.MakingConditions.{conditionless, term_alone, both_conditions, either_condition, after_condition}
+use Rattle.pale_syntax.specs.declared.tree.names.Term.TheVariants as term
+use Rattle.pale_syntax.specs.declared.tree.route.Route.TheVariants as route
+use Rattle.pale_syntax.specs.declared.tree.condition.Condition.TheVariants as condition
+use Rattle.pale_syntax.specs.MakingParts.{Parts, Near, nameless}
+use Rattle.pale_text.specs.Tokens.{place_of}
+use Rattle.pale_syntax.specs.MakingWords.{pathless, termless, path_at, extended, after_word}
+use Rattle.pale_syntax.specs.MakingRoutes.{routeless, tested_type, joined_then, joined_or, starred, after_route}
+use Rattle.pale_syntax.specs.MakingConditions.{conditionless, term_alone, both_conditions, either_condition, after_condition}
 use Rattle.pale_print.specs.Placeless.{nowhere, placeless_name, placeless_path, placeless_term, placeless_route, placeless_condition}
 use Rattle.pale_print_laws.proofs.PlacelessForms.{route-Down, route-Up, route-UpAny, route-Root, route-Leaf, route-IsType, route-IsVariant, route-IsBool, condition-True, condition-False, condition-Truth, condition-Same, condition-Differ, condition-Is, condition-Not}
 use Rattle.pale_print_laws.proofs.PlacelessRoutes.{joined_then-placeless, joined_or-placeless, starred-placeless, tested_type-placeless}
 use Rattle.pale_print_laws.proofs.PlacelessConditions.{both_conditions-placeless, either_condition-placeless, term_alone-placeless}
 use Rattle.pale_print_laws.proofs.PlacelessParts.{placeless_parts, placeless_near, place_of-placeless, name_of-placeless, ap2, ap3, extended-placeless, name1, names1, place1, places1, path1, paths1, term1, term2, terms1, terms2, route1, route2, routes1, routes2, condition1, condition2, conditions1, conditions2}
-use Rattle.pale_text.specs.declared.grammar.act.WordAct.{WordAct}
-use Rattle.pale_text.specs.declared.grammar.act.WordAct.TheVariants as word_act
-use Rattle.pale_text.specs.declared.grammar.act.RouteAct.{RouteAct}
-use Rattle.pale_text.specs.declared.grammar.act.RouteAct.TheVariants as route_act
-use Rattle.pale_text.specs.declared.grammar.act.ConditionAct.{ConditionAct}
-use Rattle.pale_text.specs.declared.grammar.act.ConditionAct.TheVariants as condition_act
+use Rattle.pale_syntax.specs.declared.grammar.act.WordAct.{WordAct}
+use Rattle.pale_syntax.specs.declared.grammar.act.WordAct.TheVariants as word_act
+use Rattle.pale_syntax.specs.declared.grammar.act.RouteAct.{RouteAct}
+use Rattle.pale_syntax.specs.declared.grammar.act.RouteAct.TheVariants as route_act
+use Rattle.pale_syntax.specs.declared.grammar.act.ConditionAct.{ConditionAct}
+use Rattle.pale_syntax.specs.declared.grammar.act.ConditionAct.TheVariants as condition_act
 
 pub word_placeless : (a : WordAct) (near : Near) (parts : Parts) → placeless_parts (after_word a near parts) ≡ after_word a (placeless_near near) (placeless_parts parts)
 word_placeless word_act.PushName near parts = λ i. record (placeless_parts parts) {

@@ -2,24 +2,24 @@
 use Rattle.std.proofs.Common.{◌≡◌, [], ◌∷◌, ◌++◌, map, ap, ◌∙◌}
 use Rattle.plain_data.specs.Stacks.{top, rest}
 use Rattle.pale_text.specs.declared.place.Pos.{Pos}
-use Rattle.pale_text.specs.declared.tree.names.Path.{Path}
-use Rattle.pale_text.specs.declared.tree.names.Term.TheVariants as term
-use Rattle.pale_text.specs.declared.tree.assertion.Assertion.{Assertion}
-use Rattle.pale_text.specs.declared.tree.assertion.Assertion.TheVariants as assertion
-use Rattle.pale_text.specs.declared.tree.assertion.QuantifierKind.TheVariants as quantifier
-use Rattle.pale_text.specs.MakingParts.{Parts, Near, nameless}
-use Rattle.pale_text.specs.MakingWords.{pathless, termless, extended}
-use Rattle.pale_text.specs.MakingRoutes.{routeless}
-use Rattle.pale_text.specs.MakingAssertions.{assertionless, path_alone, both, either, equivalent, begun, quantifierless, of_sets, binding, over, after_atom, after_connective}
+use Rattle.pale_syntax.specs.declared.tree.names.Path.{Path}
+use Rattle.pale_syntax.specs.declared.tree.names.Term.TheVariants as term
+use Rattle.pale_syntax.specs.declared.tree.assertion.Assertion.{Assertion}
+use Rattle.pale_syntax.specs.declared.tree.assertion.Assertion.TheVariants as assertion
+use Rattle.pale_syntax.specs.declared.tree.assertion.QuantifierKind.TheVariants as quantifier
+use Rattle.pale_syntax.specs.MakingParts.{Parts, Near, nameless}
+use Rattle.pale_syntax.specs.MakingWords.{pathless, termless, extended}
+use Rattle.pale_syntax.specs.MakingRoutes.{routeless}
+use Rattle.pale_syntax.specs.MakingAssertions.{assertionless, path_alone, both, either, equivalent, begun, quantifierless, of_sets, binding, over, after_atom, after_connective}
 use Rattle.pale_print.specs.Placeless.{nowhere, placeless_path, placeless_term, placeless_quantifier, placeless_assertion, placeless_bracketed}
 use Rattle.pale_print_laws.proofs.StackLemmas.{map-last}
 use Rattle.pale_print_laws.proofs.PlacelessForms.{assertion-True, assertion-False, assertion-Truth, assertion-Same, assertion-Differ, assertion-Member, assertion-Subset, assertion-Walk, assertion-Is, assertion-Use, assertion-Not, assertion-Imp, assertion-Quantified}
 use Rattle.pale_print_laws.proofs.PlacelessAssertions.{both-placeless, either-placeless, equivalent-placeless, path_alone-placeless}
 use Rattle.pale_print_laws.proofs.PlacelessParts.{placeless_parts, placeless_near, place_of-placeless, ap2, ap3, ap4, extended-placeless, binding-placeless, name1, names1, place1, places1, path1, paths1, term1, term2, terms1, terms2, route1, routes1, assertion1, assertion2, assertions1, assertions2, quantifier1, quantifiers1}
-use Rattle.pale_text.specs.declared.grammar.act.AtomAct.{AtomAct}
-use Rattle.pale_text.specs.declared.grammar.act.AtomAct.TheVariants as atom_act
-use Rattle.pale_text.specs.declared.grammar.act.ConnectiveAct.{ConnectiveAct}
-use Rattle.pale_text.specs.declared.grammar.act.ConnectiveAct.TheVariants as connective_act
+use Rattle.pale_syntax.specs.declared.grammar.act.AtomAct.{AtomAct}
+use Rattle.pale_syntax.specs.declared.grammar.act.AtomAct.TheVariants as atom_act
+use Rattle.pale_syntax.specs.declared.grammar.act.ConnectiveAct.{ConnectiveAct}
+use Rattle.pale_syntax.specs.declared.grammar.act.ConnectiveAct.TheVariants as connective_act
 
 pub atom_placeless : (a : AtomAct) (near : Near) (parts : Parts) → placeless_parts (after_atom a near parts) ≡ after_atom a (placeless_near near) (placeless_parts parts)
 atom_placeless atom_act.TrueAssertion near parts = λ i. record (placeless_parts parts) {

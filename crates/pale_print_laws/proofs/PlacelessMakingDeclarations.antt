@@ -1,26 +1,26 @@
 -- Each act makes the same of parts without their places.
 use Rattle.std.proofs.Common.{◌≡◌, [], ◌∷◌, ◌++◌, Some, None, map, refl, ap, ◌∙◌}
 use Rattle.plain_data.specs.Stacks.{top, rest}
-use Rattle.pale_text.specs.declared.tree.names.Name.{Name}
-use Rattle.pale_text.specs.declared.tree.route.Route.{Route}
-use Rattle.pale_text.specs.declared.tree.assertion.Bracketed.{Bracketed}
-use Rattle.pale_text.specs.declared.tree.declaration.Declaration.TheVariants as declaration
-use Rattle.pale_text.specs.declared.tree.declaration.FieldForm.TheVariants as form
-use Rattle.pale_text.specs.declared.tree.declaration.LogicParameter.TheVariants as logic
-use Rattle.pale_text.specs.declared.tree.declaration.Parameter.TheVariants as parameter
-use Rattle.pale_text.specs.declared.tree.declaration.PredicateParameter.TheVariants as predicate
-use Rattle.pale_text.specs.MakingParts.{Parts, Near, nameless}
-use Rattle.pale_text.specs.MakingRoutes.{routeless}
-use Rattle.pale_text.specs.MakingDeclarations.{type_of, predicate_of, procedure_of, after_type, after_predicate, after_procedure}
+use Rattle.pale_syntax.specs.declared.tree.names.Name.{Name}
+use Rattle.pale_syntax.specs.declared.tree.route.Route.{Route}
+use Rattle.pale_syntax.specs.declared.tree.assertion.Bracketed.{Bracketed}
+use Rattle.pale_syntax.specs.declared.tree.declaration.Declaration.TheVariants as declaration
+use Rattle.pale_syntax.specs.declared.tree.declaration.FieldForm.TheVariants as form
+use Rattle.pale_syntax.specs.declared.tree.declaration.LogicParameter.TheVariants as logic
+use Rattle.pale_syntax.specs.declared.tree.declaration.Parameter.TheVariants as parameter
+use Rattle.pale_syntax.specs.declared.tree.declaration.PredicateParameter.TheVariants as predicate
+use Rattle.pale_syntax.specs.MakingParts.{Parts, Near, nameless}
+use Rattle.pale_syntax.specs.MakingRoutes.{routeless}
+use Rattle.pale_syntax.specs.MakingDeclarations.{type_of, predicate_of, procedure_of, after_type, after_predicate, after_procedure}
 use Rattle.pale_print.specs.Placeless.{placeless_field, placeless_variant, placeless_predicate_parameter, placeless_parameter, placeless_logic, placeless_procedure, placeless_declaration}
 use Rattle.pale_print_laws.proofs.StackLemmas.{map-last}
 use Rattle.pale_print_laws.proofs.PlacelessParts.{placeless_parts, placeless_near, ap2, ap3, name1, name2, names1, names2, place1, place2, places2, route1, routes1, bracket1, brackets1, block1, blocks1}
-use Rattle.pale_text.specs.declared.grammar.act.TypeAct.{TypeAct}
-use Rattle.pale_text.specs.declared.grammar.act.TypeAct.TheVariants as type_act
-use Rattle.pale_text.specs.declared.grammar.act.PredicateAct.{PredicateAct}
-use Rattle.pale_text.specs.declared.grammar.act.PredicateAct.TheVariants as predicate_act
-use Rattle.pale_text.specs.declared.grammar.act.ProcedureAct.{ProcedureAct}
-use Rattle.pale_text.specs.declared.grammar.act.ProcedureAct.TheVariants as procedure_act
+use Rattle.pale_syntax.specs.declared.grammar.act.TypeAct.{TypeAct}
+use Rattle.pale_syntax.specs.declared.grammar.act.TypeAct.TheVariants as type_act
+use Rattle.pale_syntax.specs.declared.grammar.act.PredicateAct.{PredicateAct}
+use Rattle.pale_syntax.specs.declared.grammar.act.PredicateAct.TheVariants as predicate_act
+use Rattle.pale_syntax.specs.declared.grammar.act.ProcedureAct.{ProcedureAct}
+use Rattle.pale_syntax.specs.declared.grammar.act.ProcedureAct.TheVariants as procedure_act
 
 pub type_placeless : (a : TypeAct) (near : Near) (parts : Parts) → placeless_parts (after_type a near parts) ≡ after_type a (placeless_near near) (placeless_parts parts)
 type_placeless type_act.BoolField near parts = λ i. record (placeless_parts parts) {

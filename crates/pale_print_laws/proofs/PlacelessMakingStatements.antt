@@ -3,22 +3,23 @@ use Rattle.std.proofs.Common.{◌≡◌, true, false, [], ◌∷◌, ◌++◌, S
 use Rattle.std.specs.Option.{option_map}
 use Rattle.plain_data.specs.Stacks.{top, rest}
 use Rattle.pale_text.specs.declared.place.Pos.{Pos}
-use Rattle.pale_text.specs.declared.tree.names.Name.{Name}
-use Rattle.pale_text.specs.declared.tree.statement.Argument.TheVariants as argument
-use Rattle.pale_text.specs.declared.tree.statement.Statement.TheVariants as statement
-use Rattle.pale_text.specs.declared.tree.statement.Value.TheVariants as value
-use Rattle.pale_text.specs.MakingParts.{Parts, Near, nameless, place_of}
-use Rattle.pale_text.specs.MakingWords.{pathless}
-use Rattle.pale_text.specs.MakingConditions.{conditionless}
-use Rattle.pale_text.specs.MakingStatements.{bracketless, valueless, narrowed, with_statement, call_of, after_statement, after_call}
+use Rattle.pale_syntax.specs.declared.tree.names.Name.{Name}
+use Rattle.pale_syntax.specs.declared.tree.statement.Argument.TheVariants as argument
+use Rattle.pale_syntax.specs.declared.tree.statement.Statement.TheVariants as statement
+use Rattle.pale_syntax.specs.declared.tree.statement.Value.TheVariants as value
+use Rattle.pale_syntax.specs.MakingParts.{Parts, Near, nameless}
+use Rattle.pale_text.specs.Tokens.{place_of}
+use Rattle.pale_syntax.specs.MakingWords.{pathless}
+use Rattle.pale_syntax.specs.MakingConditions.{conditionless}
+use Rattle.pale_syntax.specs.MakingStatements.{bracketless, valueless, narrowed, with_statement, call_of, after_statement, after_call}
 use Rattle.pale_print.specs.Placeless.{nowhere, placeless_name, placeless_path, placeless_condition, placeless_bracketed, placeless_value, placeless_argument, placeless_call, placeless_statement}
 use Rattle.pale_print_laws.proofs.StackLemmas.{map-last}
 use Rattle.pale_print_laws.proofs.PlacelessForms.{statement-Skip, statement-If, statement-While, statement-Split, statement-Assert, statement-Free, statement-Call, statement-Assign}
 use Rattle.pale_print_laws.proofs.PlacelessParts.{placeless_parts, placeless_near, place_of-placeless, ap2, ap3, ap4, narrowed-placeless, with_statement-placeless, name1, names1, place1, places1, path1, paths1, condition1, conditions1, bracket1, brackets1, block1, blocks1, else1, elses1, value1, values1}
-use Rattle.pale_text.specs.declared.grammar.act.StatementAct.{StatementAct}
-use Rattle.pale_text.specs.declared.grammar.act.StatementAct.TheVariants as statement_act
-use Rattle.pale_text.specs.declared.grammar.act.CallAct.{CallAct}
-use Rattle.pale_text.specs.declared.grammar.act.CallAct.TheVariants as call_act
+use Rattle.pale_syntax.specs.declared.grammar.act.StatementAct.{StatementAct}
+use Rattle.pale_syntax.specs.declared.grammar.act.StatementAct.TheVariants as statement_act
+use Rattle.pale_syntax.specs.declared.grammar.act.CallAct.{CallAct}
+use Rattle.pale_syntax.specs.declared.grammar.act.CallAct.TheVariants as call_act
 
 pub statement_placeless : (a : StatementAct) (near : Near) (parts : Parts) → placeless_parts (after_statement a near parts) ≡ after_statement a (placeless_near near) (placeless_parts parts)
 statement_placeless statement_act.BeginBlock near parts = λ i. record (placeless_parts parts) {

@@ -3,18 +3,19 @@ use Rattle.std.proofs.Common.{◌≡◌, List, [], ◌∷◌, ◌++◌, Option, 
 use Rattle.std.specs.Option.{option_map}
 use Rattle.plain_data.specs.Stacks.{top, rest}
 use Rattle.pale_text.specs.declared.token.Token.{Token}
-use Rattle.pale_text.specs.declared.tree.names.Name.{Name}
-use Rattle.pale_text.specs.declared.tree.names.Path.{Path}
-use Rattle.pale_text.specs.declared.tree.assertion.Quantifier.{Quantifier}
-use Rattle.pale_text.specs.declared.tree.statement.Statement.{Statement}
-use Rattle.pale_text.specs.declared.tree.statement.Value.{Value}
-use Rattle.pale_text.specs.declared.tree.statement.Value.TheVariants as value
-use Rattle.pale_text.specs.MakingParts.{Parts, Near, nameless, place_of, name_of}
-use Rattle.pale_text.specs.MakingWords.{pathless, termless, extended}
-use Rattle.pale_text.specs.MakingRoutes.{routeless}
-use Rattle.pale_text.specs.MakingConditions.{conditionless}
-use Rattle.pale_text.specs.MakingAssertions.{assertionless, quantifierless, binding}
-use Rattle.pale_text.specs.MakingStatements.{bracketless, valueless, narrowed, with_statement}
+use Rattle.pale_syntax.specs.declared.tree.names.Name.{Name}
+use Rattle.pale_syntax.specs.declared.tree.names.Path.{Path}
+use Rattle.pale_syntax.specs.declared.tree.assertion.Quantifier.{Quantifier}
+use Rattle.pale_syntax.specs.declared.tree.statement.Statement.{Statement}
+use Rattle.pale_syntax.specs.declared.tree.statement.Value.{Value}
+use Rattle.pale_syntax.specs.declared.tree.statement.Value.TheVariants as value
+use Rattle.pale_syntax.specs.MakingParts.{Parts, Near, nameless, name_of}
+use Rattle.pale_text.specs.Tokens.{place_of}
+use Rattle.pale_syntax.specs.MakingWords.{pathless, termless, extended}
+use Rattle.pale_syntax.specs.MakingRoutes.{routeless}
+use Rattle.pale_syntax.specs.MakingConditions.{conditionless}
+use Rattle.pale_syntax.specs.MakingAssertions.{assertionless, quantifierless, binding}
+use Rattle.pale_syntax.specs.MakingStatements.{bracketless, valueless, narrowed, with_statement}
 use Rattle.pale_print.specs.Placeless.{nowhere, placeless_name, placeless_path, placeless_term, placeless_route, placeless_condition, placeless_quantifier, placeless_assertion, placeless_bracketed, placeless_value, placeless_argument, placeless_statement, placeless_field, placeless_variant, placeless_predicate_parameter, placeless_parameter, placeless_logic, placeless_declaration}
 use Rattle.pale_print_laws.proofs.StackLemmas.{map-last, top-map, rest-map, second-map, rest-rest-map}
 use Rattle.pale_print_laws.proofs.PlacelessForms.{route-UpAny, condition-True, assertion-True}

@@ -1,11 +1,11 @@
 -- What the acts that join routes make, without places.
 use Rattle.std.proofs.Common.{◌≡◌, [], ◌∷◌, ◌++◌, refl, sym, ap, ◌∙◌}
 use Rattle.pale_text.specs.declared.place.Pos.{Pos}
-use Rattle.pale_text.specs.declared.tree.route.Route.{Route, roll-Route, out-roll-Route}
-use Rattle.pale_text.specs.declared.tree.route.Route.TheVariants as route
-use Rattle.pale_text.specs.declared.tree.route.Route.TheOpen.{Route-F}
-use Rattle.pale_text.specs.declared.tree.route.Route.TheFolds.{map-Route}
-use Rattle.pale_text.specs.MakingRoutes.{then_by, or_by, star_by, joined_then, joined_or, starred, tested_by, tested_type}
+use Rattle.pale_syntax.specs.declared.tree.route.Route.{Route, roll-Route, out-roll-Route}
+use Rattle.pale_syntax.specs.declared.tree.route.Route.TheVariants as route
+use Rattle.pale_syntax.specs.declared.tree.route.Route.TheOpen.{Route-F}
+use Rattle.pale_syntax.specs.declared.tree.route.Route.TheFolds.{map-Route}
+use Rattle.pale_syntax.specs.MakingRoutes.{then_by, or_by, star_by, joined_then, joined_or, starred, tested_by, tested_type}
 use Rattle.pale_print.specs.Placeless.{nowhere, placeless_name, placeless_route}
 use Rattle.pale_print_laws.proofs.StackLemmas.{map-last}
 use Rattle.pale_print_laws.proofs.PlacelessForms.{route-Then, route-Or, route-Star}

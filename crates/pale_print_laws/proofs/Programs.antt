@@ -2,11 +2,11 @@
 use Rattle.std.proofs.Common.{ℕ, ◌+◌, ◌≤◌, List, [], ◌∷◌, ◌++◌, map, refl, sym, subst, append_assoc, append-nil, inl, inr}
 use Rattle.ll1_reader.specs.declared.symbol.Symbol.TheVariants.{Once, Many}
 use Rattle.ll1_reader.specs.Readings.{Bottom, Row, over}
-use Rattle.pale_text.specs.declared.grammar.part.ProgramPart.TheVariants as part
-use Rattle.pale_text.specs.declared.tree.declaration.Declaration.{Declaration}
-use Rattle.pale_text.specs.declared.tree.declaration.Declaration.TheVariants as declaration
-use Rattle.pale_text.specs.declared.tree.declaration.Program.{Program}
-use Rattle.pale_text.specs.ProgramGrammar.{ProgramSymbol, program_grammar, rows_of}
+use Rattle.pale_syntax.specs.declared.grammar.part.ProgramPart.TheVariants as part
+use Rattle.pale_syntax.specs.declared.tree.declaration.Declaration.{Declaration}
+use Rattle.pale_syntax.specs.declared.tree.declaration.Declaration.TheVariants as declaration
+use Rattle.pale_syntax.specs.declared.tree.declaration.Program.{Program}
+use Rattle.pale_syntax.specs.ProgramGrammar.{ProgramSymbol, program_grammar, rows_of}
 use Rattle.pale_parse.specs.Tables.{program_rules, choices_of}
 use Rattle.pale_parse.specs.Hints.{program_hints, number_of, mark_number, starts_of}
 use Rattle.pale_print.specs.Placeless.{placeless_declaration}

@@ -1,13 +1,13 @@
 -- Routes that are opened: what the acts that join them make.
 use Rattle.std.proofs.Common.{◌≡◌, false, List, [], ◌∷◌, ◌++◌, map, refl, sym, ap, ◌∙◌}
 use Rattle.pale_text.specs.declared.place.Pos.{Pos}
-use Rattle.pale_text.specs.declared.tree.names.Name.{Name}
-use Rattle.pale_text.specs.declared.tree.route.Route.{Route, out-Route, roll-Route, out-roll-Route}
-use Rattle.pale_text.specs.declared.tree.route.Route.TheVariants as route
-use Rattle.pale_text.specs.declared.tree.route.Route.TheVariants.{rolls-Down, rolls-Up, rolls-UpAny, rolls-Root, rolls-Leaf, rolls-IsType, rolls-IsVariant, rolls-IsBool, rolls-Then, rolls-Or, rolls-Star}
-use Rattle.pale_text.specs.declared.tree.route.Route.TheOpen.{Route-F}
-use Rattle.pale_text.specs.declared.tree.route.Route.TheFolds.{fold-roll-Route, ind-Route, map-Route}
-use Rattle.pale_text.specs.MakingRoutes.{joined_or, joined_then, or_by, star_by, starred, tested_by, tested_type, then_by}
+use Rattle.pale_syntax.specs.declared.tree.names.Name.{Name}
+use Rattle.pale_syntax.specs.declared.tree.route.Route.{Route, out-Route, roll-Route, out-roll-Route}
+use Rattle.pale_syntax.specs.declared.tree.route.Route.TheVariants as route
+use Rattle.pale_syntax.specs.declared.tree.route.Route.TheVariants.{rolls-Down, rolls-Up, rolls-UpAny, rolls-Root, rolls-Leaf, rolls-IsType, rolls-IsVariant, rolls-IsBool, rolls-Then, rolls-Or, rolls-Star}
+use Rattle.pale_syntax.specs.declared.tree.route.Route.TheOpen.{Route-F}
+use Rattle.pale_syntax.specs.declared.tree.route.Route.TheFolds.{fold-roll-Route, ind-Route, map-Route}
+use Rattle.pale_syntax.specs.MakingRoutes.{joined_or, joined_then, or_by, star_by, starred, tested_by, tested_type, then_by}
 use Rattle.pale_print.specs.Placeless.{nowhere, placeless_name, placeless_route, placeless_route_node, placeless_route}
 use Rattle.pale_print_laws.specs.CanonicalRoutes.{is_then_node, is_or_node, is_star_node}
 

@@ -5,13 +5,13 @@ use Rattle.pale_text.specs.declared.token.Mark.{Mark}
 use Rattle.pale_text.specs.declared.token.Mark.TheVariants as mark
 use Rattle.pale_text.specs.declared.token.TokenKind.{TokenKind}
 use Rattle.pale_text.specs.declared.token.TokenKind.TheVariants as token
-use Rattle.pale_text.specs.declared.tree.names.Name.{Name}
-use Rattle.pale_text.specs.declared.tree.route.Route.{Route, roll-Route, out-roll-Route}
-use Rattle.pale_text.specs.declared.tree.route.Route.TheVariants as route
-use Rattle.pale_text.specs.declared.tree.route.Route.TheOpen.{Route-F}
-use Rattle.pale_text.specs.declared.tree.route.Route.TheFolds.{fold-Route, fold-roll-Route, ind-Route, map-Route}
+use Rattle.pale_syntax.specs.declared.tree.names.Name.{Name}
+use Rattle.pale_syntax.specs.declared.tree.route.Route.{Route, roll-Route, out-roll-Route}
+use Rattle.pale_syntax.specs.declared.tree.route.Route.TheVariants as route
+use Rattle.pale_syntax.specs.declared.tree.route.Route.TheOpen.{Route-F}
+use Rattle.pale_syntax.specs.declared.tree.route.Route.TheFolds.{fold-Route, fold-roll-Route, ind-Route, map-Route}
 use denote.Hole.Carrier.{roll}
-use Rattle.pale_text.specs.MakingRoutes.{then_by, or_by, star_by, joined_then, joined_or, starred}
+use Rattle.pale_syntax.specs.MakingRoutes.{then_by, or_by, star_by, joined_then, joined_or, starred}
 use Rattle.pale_print.specs.Tokens.{Tokens, each_behind}
 use Rattle.pale_print.specs.RouteTokens.{Placed, grouped, stars, bool_test, route_node, route_tokens}
 use Rattle.pale_print_laws.specs.CanonicalRoutes.{is_then_node, is_or_node, is_star_node}

@@ -3,24 +3,24 @@ use Rattle.std.proofs.Common.{◌≡◌, ℕ, suc, ◌+◌, ◌≤◌, List, [],
 use Rattle.ll1_reader.specs.declared.symbol.Symbol.TheVariants.{Read, Once, Maybe, Many}
 use Rattle.ll1_reader.specs.Grammars.{IsOneOf}
 use Rattle.ll1_reader.specs.Readings.{Row}
-use Rattle.pale_text.specs.declared.grammar.act.CallAct.TheVariants as calls
-use Rattle.pale_text.specs.declared.grammar.act.StatementAct.TheVariants as statements
-use Rattle.pale_text.specs.declared.grammar.act.WordAct.TheVariants as words
-use Rattle.pale_text.specs.declared.grammar.kind.ProgramKind.TheVariants as kind
-use Rattle.pale_text.specs.declared.grammar.part.ProgramPart.TheVariants as part
+use Rattle.pale_syntax.specs.declared.grammar.act.CallAct.TheVariants as calls
+use Rattle.pale_syntax.specs.declared.grammar.act.StatementAct.TheVariants as statements
+use Rattle.pale_syntax.specs.declared.grammar.act.WordAct.TheVariants as words
+use Rattle.pale_syntax.specs.declared.grammar.kind.ProgramKind.TheVariants as kind
+use Rattle.pale_syntax.specs.declared.grammar.part.ProgramPart.TheVariants as part
 use Rattle.pale_text.specs.declared.token.Mark.TheVariants as mark
 use Rattle.pale_text.specs.declared.token.TokenKind.{TokenKind}
 use Rattle.pale_text.specs.declared.token.TokenKind.TheVariants as token
-use Rattle.pale_text.specs.declared.tree.statement.Statement.{Statement, roll-Statement}
-use Rattle.pale_text.specs.declared.tree.statement.Statement.TheVariants as statement
-use Rattle.pale_text.specs.declared.tree.statement.Statement.TheVariants.{rolls-Skip, rolls-If, rolls-While, rolls-Split, rolls-Assert, rolls-Free, rolls-Call, rolls-Assign}
-use Rattle.pale_text.specs.declared.tree.statement.Statement.TheOpen.{Statement-F}
-use Rattle.pale_text.specs.declared.tree.statement.Statement.TheFolds.{fold-roll-Statement, map-Statement}
-use Rattle.pale_text.specs.declared.tree.statement.Value.{Value}
-use Rattle.pale_text.specs.declared.tree.statement.Value.TheVariants as value
-use Rattle.pale_text.specs.MakingParts.{Parts}
-use Rattle.pale_text.specs.ProgramGrammar.{ProgramSymbol, program_grammar, rows_of, reads, opens, push_name, mark_place, statement as makes, call as call_makes, word as says}
-use Rattle.pale_text.specs.ProgramReading.{program_rows}
+use Rattle.pale_syntax.specs.declared.tree.statement.Statement.{Statement, roll-Statement}
+use Rattle.pale_syntax.specs.declared.tree.statement.Statement.TheVariants as statement
+use Rattle.pale_syntax.specs.declared.tree.statement.Statement.TheVariants.{rolls-Skip, rolls-If, rolls-While, rolls-Split, rolls-Assert, rolls-Free, rolls-Call, rolls-Assign}
+use Rattle.pale_syntax.specs.declared.tree.statement.Statement.TheOpen.{Statement-F}
+use Rattle.pale_syntax.specs.declared.tree.statement.Statement.TheFolds.{fold-roll-Statement, map-Statement}
+use Rattle.pale_syntax.specs.declared.tree.statement.Value.{Value}
+use Rattle.pale_syntax.specs.declared.tree.statement.Value.TheVariants as value
+use Rattle.pale_syntax.specs.MakingParts.{Parts}
+use Rattle.pale_syntax.specs.ProgramGrammar.{ProgramSymbol, program_grammar, rows_of, reads, opens, push_name, mark_place, statement as makes, call as call_makes, word as says}
+use Rattle.pale_syntax.specs.ProgramReading.{program_rows}
 use Rattle.pale_parse.specs.Tables.{program_rules, choices_of}
 use Rattle.pale_parse.specs.Hints.{program_hints, number_of, mark_number, starts_of}
 use Rattle.pale_print.specs.Placeless.{nowhere, placeless_condition, placeless_bracketed, placeless_value, placeless_statement_node, placeless_statement}

@@ -6,13 +6,13 @@ use Rattle.ll1_reader.specs.Predicting.{AreNamed, among, starts_of}
 use Rattle.ll1_reader.specs.Readings.{AnyEnd, IsNotBegun}
 use Rattle.ll1_reader.proofs.SameRows.{Has, carried}
 use Rattle.ll1_reader.proofs.Ends.{not_begun}
-use Rattle.pale_text.specs.declared.grammar.kind.ProgramKind.{ProgramKind}
-use Rattle.pale_text.specs.declared.grammar.kind.ProgramKind.TheVariants as kind
-use Rattle.pale_text.specs.declared.grammar.part.ProgramPart.{ProgramPart}
+use Rattle.pale_syntax.specs.declared.grammar.kind.ProgramKind.{ProgramKind}
+use Rattle.pale_syntax.specs.declared.grammar.kind.ProgramKind.TheVariants as kind
+use Rattle.pale_syntax.specs.declared.grammar.part.ProgramPart.{ProgramPart}
 use Rattle.pale_text.specs.declared.token.Mark.{Mark}
 use Rattle.pale_text.specs.declared.token.TokenKind.{TokenKind}
 use Rattle.pale_text.specs.declared.token.TokenKind.TheVariants as token
-use Rattle.pale_text.specs.ProgramGrammar.{program_grammar}
+use Rattle.pale_syntax.specs.ProgramGrammar.{program_grammar}
 use Rattle.pale_parse.specs.Tables.{program_rules}
 use Rattle.pale_parse.specs.Hints.{program_hints}
 use Rattle.pale_parse.specs.TableLaws.{program_named, program_sound}

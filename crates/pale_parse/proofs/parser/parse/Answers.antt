@@ -1,6 +1,6 @@
 use Rattle.std.proofs.Common.{sym, subst, ap, ◌∙◌}
-use Rattle.pale_text.specs.ProgramReading.{max_levels, program_rows}
-use Rattle.pale_text.specs.ProgramWords.{kinds_in}
+use Rattle.pale_syntax.specs.ProgramReading.{max_levels, program_rows}
+use Rattle.pale_syntax.specs.ProgramWords.{kinds_in}
 use Rattle.pale_text.specs.TextStops.{IsRefused}
 use Rattle.pale_parse.proofs.parser.parse.Goals as goal
 
