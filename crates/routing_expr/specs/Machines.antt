@@ -111,5 +111,5 @@ abbrev pub Adds : Arc → Plan → Plan → Type 0
 Adds new plan more = Gathers (arcs_of plan) (arcs_of more) (λ added. added ≡ new)
 
 -- whatever route the first plan with this way more is for, the second plan is for that route
-abbrev pub StandsFor : Arc → Plan → Plan → Type 0
-StandsFor part plan apart = (whole : Route) → IsPlan whole (part ∷ arcs_of plan) plan.places → IsPlan whole (arcs_of apart) apart.places
+pub record StandsFor (part : Arc) (plan apart : Plan) : Type 0 where
+  pub still : (whole : Route) → IsPlan whole (part ∷ arcs_of plan) plan.places → IsPlan whole (arcs_of apart) apart.places

@@ -11,17 +11,13 @@ use Rattle.store_core.specs.declared.ids.TypeId.{TypeId}
 use Rattle.store_core.specs.declared.ids.CellId.{CellId}
 use Rattle.store_core.specs.declared.value.Value.{Value}
 use Rattle.store_core.specs.declared.value.Value.TheVariants as value
-use Rattle.store_core.specs.declared.kind.FieldKind.{FieldKind}
-use Rattle.store_core.specs.declared.kind.FieldKind.TheVariants as field
-use Rattle.store_core.specs.declared.kind.VarKind.{VarKind}
-use Rattle.store_core.specs.declared.kind.VarKind.TheVariants as var
 use Rattle.store_text.specs.declared.fault.StoreKind.TheVariants.{Repeated}
 use Rattle.store_text.specs.declared.read.holds.Holds.{Holds}
 use Rattle.store_text.specs.declared.read.holds.Holds.TheVariants as holds
 use Rattle.store_text.specs.declared.read.holds.Mention.{Mention}
 use Rattle.store_core.specs.CellLists.{AreRising}
-use Rattle.store_core.specs.Stores.{StoreMap, CellEntry, FieldFits, VarFits, NamesType, cell_of}
-use Rattle.store_text.specs.Saying.{or_fault, value_for, set_of, members_after, cells_numbered, mentions_of, field_holds, var_holds}
+use Rattle.store_core.specs.Stores.{StoreMap, CellEntry, NamesType, cell_of}
+use Rattle.store_text.specs.Saying.{or_fault, value_for, set_of, members_after, cells_numbered, mentions_of}
 use Rattle.store_core.proofs.Growing.{AllByRecursion-push, AllByRecursion-weaker}
 use Rattle.store_text.proofs.ReadFits.{Fine, HoldsFit}
 use Rattle.store_text.proofs.Spelled.{spelled_of}

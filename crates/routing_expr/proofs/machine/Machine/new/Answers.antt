@@ -11,7 +11,7 @@ nothing_left (x ∷ xs) ys all front = all ∙ ap (λ l. l ++ []) front
 
 pub loop-part-preserved : goal.loop-part-preserved
 loop-part-preserved c =
-    c.in_ok-take_apart.ensures.plan c.args.route.now
+    c.in_ok-take_apart.ensures.plan.still c.args.route.now
     (IsPlan-popped c.args.route.now c.loop-part.plan.edges.items c.loop-part.plan.parts.items c.pop.new.self.items c.in-Some.part
     c.loop-part.plan.places c.in-Some.ensures.items c.loop-part.invariant)
 
