@@ -34,7 +34,9 @@ pub read_back : (limit : ℕ) (tree : Program) → IsCanonical limit tree → Is
 unfolding spelling placeless program_grammar
 read_back limit tree is =
     let found = program_read limit limit tree is (omega arith) in
-    let again : IsReadAs (program_tokens tree) (spelled (program_tokens tree)) = spelled_tokens_are_read (program_tokens tree) (spelled (program_tokens tree)) (spelled_apart (program_tokens tree) found.spelled) in
+    let again : IsReadAs (program_tokens tree) (spelled (program_tokens tree)) =
+    spelled_tokens_are_read (program_tokens tree) (spelled (program_tokens tree))
+    (spelled_apart (program_tokens tree) found.spelled) in
     let known : kinds (program_tokens tree) ≡ kinds_in again.list.tokens = ap kinds (sym again.same) ∙ kinds_known again.list.tokens in
     let alike : plain (program_tokens tree) ≡ map placeless_token again.list.tokens = ap plain (sym again.same) ∙ plain_placeless again.list.tokens in
     let made = run_placeless (map event_of found.steps) None again.list.tokens nothing in

@@ -32,10 +32,15 @@ use Rattle.pale_syntax.specs.MakingAssertions.{begun}
 use Rattle.pale_syntax.specs.ProgramWords.{kind_of, kinds_in}
 use Rattle.pale_print_laws.specs.CanonicalNames.{IsFree, AreFree, IsFreePath, AreFreePaths, IsFreeTerm}
 use Rattle.pale_print_laws.specs.CanonicalRoutes.{asks as route_asks, RoutePlace, IsCanonicalRoute, whole as whole_route, sequence, repeated, single}
-use Rattle.pale_print_laws.specs.CanonicalConditions.{asks as condition_asks, ConditionPlace, IsCanonicalCondition, whole as whole_condition, conjunction, literal}
-use Rattle.pale_print_laws.specs.CanonicalAssertions.{asks, AssertionPlace, IsCanonicalAssertion, IsCanonicalBracketed, whole, implication, disjunct, conjunct, operand}
-use Rattle.pale_print_laws.specs.CanonicalStatements.{AreFreeArguments, IsFreeArgument, IsCanonicalClause, IsCanonicalValue, IsCanonicalStatement, AreCanonicalStatements}
-use Rattle.pale_print_laws.specs.CanonicalDeclarations.{All, IsCanonicalField, IsCanonicalVariant, IsCanonicalType, IsFreePredicateParameter, IsCanonicalPredicate, IsFreeParameter, IsFreeLogicParameter, IsCanonicalProcedure}
+use Rattle.pale_print_laws.specs.CanonicalConditions.{asks as condition_asks, ConditionPlace, IsCanonicalCondition}
+use Rattle.pale_print_laws.specs.CanonicalConditions.{whole as whole_condition, conjunction, literal}
+use Rattle.pale_print_laws.specs.CanonicalAssertions.{asks, AssertionPlace, IsCanonicalAssertion, IsCanonicalBracketed, whole}
+use Rattle.pale_print_laws.specs.CanonicalAssertions.{implication, disjunct, conjunct, operand}
+use Rattle.pale_print_laws.specs.CanonicalStatements.{AreFreeArguments, IsFreeArgument, IsCanonicalClause, IsCanonicalValue}
+use Rattle.pale_print_laws.specs.CanonicalStatements.{IsCanonicalStatement, AreCanonicalStatements}
+use Rattle.pale_print_laws.specs.CanonicalDeclarations.{All, IsCanonicalField, IsCanonicalVariant, IsCanonicalType}
+use Rattle.pale_print_laws.specs.CanonicalDeclarations.{IsFreePredicateParameter, IsCanonicalPredicate, IsFreeParameter}
+use Rattle.pale_print_laws.specs.CanonicalDeclarations.{IsFreeLogicParameter, IsCanonicalProcedure}
 use Rattle.pale_print_laws.proofs.Framework.{Counts}
 use Rattle.pale_print_laws.proofs.NameSizes.{path_size, term_size}
 use Rattle.pale_print_laws.proofs.RouteSizes.{route_size}
@@ -43,7 +48,8 @@ use Rattle.pale_print_laws.proofs.ConditionSizes.{condition_size}
 use Rattle.pale_print_laws.proofs.AssertionSizes.{assertion_size, quantified_size, used_size}
 use Rattle.pale_print_laws.proofs.ListSizes.{behind_size, separated_size}
 use Rattle.pale_print_laws.proofs.StatementSizes.{one_token, clause_size, logic_argument_size, statement_size, statements_size, value_size}
-use Rattle.pale_print_laws.proofs.DeclarationSizes.{field_size, variant_size, type_size, predicate_parameter_size, predicate_size, parameter_size, logic_parameter_size, procedure_size}
+use Rattle.pale_print_laws.proofs.DeclarationSizes.{field_size, variant_size, type_size, predicate_parameter_size}
+use Rattle.pale_print_laws.proofs.DeclarationSizes.{predicate_size, parameter_size, logic_parameter_size, procedure_size}
 
 -- ---- what parts make
 
@@ -159,8 +165,10 @@ pub record ImpliedMade (room : ℕ) (start end : List Token) : Type 0 where
 pub record QuantifiedMade (room : ℕ) (start end : List Token) : Type 0 where
   pub quantifier : Quantifier → Quantifier
   pub body : Assertion
-  pub canonical : (kind : QuantifierKind) (place : Pos) → IsCanonicalAssertion operand false (suc room) (assertion.Quantified (quantifier (begun kind place)) body)
-  pub short : (kind : QuantifierKind) (place : Pos) → quantified_size (quantifier (begun kind place)) (assertion_size body) false + length end ≤ suc (length start)
+  pub canonical : (kind : QuantifierKind) (place : Pos) →
+      IsCanonicalAssertion operand false (suc room) (assertion.Quantified (quantifier (begun kind place)) body)
+  pub short : (kind : QuantifierKind) (place : Pos) →
+      quantified_size (quantifier (begun kind place)) (assertion_size body) false + length end ≤ suc (length start)
 
 pub record BracketedMade (room n : ℕ) (start end : List Token) : Type 0 where
   pub bracketed : Bracketed

@@ -39,7 +39,8 @@ put_procedure made parts =
       post = None;
     }
 
-abbrev pub put_declaration : {room : ℕ} {start end : List Token} → TypeMade room start end ⊎ (PredicateMade room start end ⊎ ProcedureMade room start end) → Parts → Parts
+abbrev pub put_declaration : {room : ℕ} {start end : List Token} →
+    TypeMade room start end ⊎ (PredicateMade room start end ⊎ ProcedureMade room start end) → Parts → Parts
 put_declaration (inl made) parts = put_type made parts
 put_declaration (inr (inl made)) parts = put_predicate made parts
 put_declaration (inr (inr made)) parts = put_procedure made parts

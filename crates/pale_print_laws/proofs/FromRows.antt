@@ -114,15 +114,19 @@ module _ (meaning : Meaning) (sound : (n : ProgramPart) → IsSoundAt meaning n)
   held (acted a row d below ks steps r) tokens is named low last parts =
       held r tokens is named low last (after a (record { last = last; next = first_of tokens }) parts)
   held (once n p row d below ks steps i r) tokens is named low last parts =
-      sound n p i (limit - d) last tokens parts (λ l t q. Goes meaning row (limit - d) l t q (λ l t p. Holds (run (map event_of steps) last tokens parts) below l t p))
+      sound n p i (limit - d) last tokens parts
+      (λ l t q. Goes meaning row (limit - d) l t q (λ l t p. Holds (run (map event_of steps) last tokens parts) below l t p))
       (held r tokens is named low last parts)
   held (taken n p row d below ks steps i r) tokens is named low last parts = λ before.
-      inr (sound n p i (limit - d) last tokens parts (λ l t q. Goes meaning row (limit - d) l t q (λ l t p. Holds (run (map event_of steps) last tokens parts) below l t p))
+      inr (sound n p i (limit - d) last tokens parts
+      (λ l t q. Goes meaning row (limit - d) l t q (λ l t p. Holds (run (map event_of steps) last tokens parts) below l t p))
       (held r tokens is named low last parts) before)
   held (left_out n row d below ks steps stops r) tokens is named low last parts = λ before.
       inl (subst (λ k. Counts n k) (sym is) stops, held r tokens is named low last parts)
   held (again n p row d below ks steps i r) tokens is named low last parts = λ before.
-      let g = sound n p i (limit - d) last tokens parts (λ l t q. Goes meaning (Many n ∷ row) (limit - d) l t q (λ l t p. Holds (run (map event_of steps) last tokens parts) below l t p))
+      let g =
+      sound n p i (limit - d) last tokens parts
+      (λ l t q. Goes meaning (Many n ∷ row) (limit - d) l t q (λ l t p. Holds (run (map event_of steps) last tokens parts) below l t p))
       (held r tokens is named low last parts) ((keeps n).enters (limit - d) parts before) in
       let more = g.3 ((keeps n).kept (limit - d) tokens g.1 g.2 parts before) in
       (more.0, more.1, one_more tokens g.1 more.1 g.2 more.2, more.3)

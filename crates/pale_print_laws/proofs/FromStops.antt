@@ -33,7 +33,8 @@ module _ {N P A K : Type 0} (grammar : Rows N A K) (rules : Rules N P A K) (name
   by_names n k ks h = λ after steps r. h after steps (carried rules (rules_of grammar) (AnyEnd rules) (AnyEnd (rules_of grammar)) to_rows (λ m xs u. tt) r)
 
 -- a token of this kind begins the part
-goes_on_at : (n : ProgramPart) (m : Mark) (tokens : List Token) → among program_rules program_hints (kind.Mark m) (starts_of program_rules program_hints n) ≡ true →
+goes_on_at : (n : ProgramPart) (m : Mark) (tokens : List Token) →
+    among program_rules program_hints (kind.Mark m) (starts_of program_rules program_hints n) ≡ true →
     StopsAt n tokens → BeginsWith m tokens → ⊥
 goes_on_at n m tokens h stops begins =
     begun program_rules program_hints program_sound n (kind.Mark m) (kinds_in begins.others) h

@@ -20,10 +20,12 @@ use Rattle.pale_print_laws.specs.CanonicalNames.{AreFree, IsFreePath, IsFreeTerm
 use Rattle.pale_print_laws.proofs.Framework.{ProgramStack, Stops, Aim, Ends, mark, word_with, does, row_ends, goes, goes_on, stops_there}
 use Rattle.pale_print_laws.proofs.Words.{is_name, is_null}
 
-path_steps : {aim : Aim} {row : List ProgramSymbol} {d : ℕ} {below : ProgramStack} {after : List TokenKind} {parts : Parts} (base : Name) (done fields : List Name) →
+path_steps : {aim : Aim} {row : List ProgramSymbol} {d : ℕ} {below : ProgramStack} {after : List TokenKind} {parts : Parts}
+    (base : Name) (done fields : List Name) →
     AreFree fields → d ≤ aim.top → Stops part.PathStep after →
     Ends aim (Row row d below) after (record parts { paths = record { base = base; fields = done ++ map placeless_name fields } ∷ parts.paths }) →
-    Ends aim (Row (Many part.PathStep ∷ row) d below) (each_behind mark.Dot name_tokens fields after) (record parts { paths = record { base = base; fields = done } ∷ parts.paths })
+    Ends aim (Row (Many part.PathStep ∷ row) d below) (each_behind mark.Dot name_tokens fields after)
+    (record parts { paths = record { base = base; fields = done } ∷ parts.paths })
 unfolding program_grammar rows_of
 path_steps {aim} {row} {d} {below} {after} {parts} base done [] free low stops next =
     stops_there stops
