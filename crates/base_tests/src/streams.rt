@@ -1,5 +1,8 @@
-//! What no clause says: that the calls succeed, and what is seen at a fault in mid-stream.
-use super::*;
+//! What no clause says of whole reads and writes: that they succeed, and what is seen at a fault in mid-stream.
+use pale_io::{
+    CleanSink, CleanSource, MemSink, MemSource, ReadStop, StdSink, StdSource, WriteStop, read_all,
+    write_all,
+};
 use std::alloc::{AllocError, Global};
 use std::io;
 use std::io::{Cursor, ErrorKind, Read};
