@@ -1,5 +1,7 @@
-use super::words_of;
-use crate::{Mode, Settings, WordsStop, read_words};
+//! The words of a call, with what they ask for.
+
+use crate::calls::words_of;
+use pale_top::{Mode, Settings, WordsStop, read_words};
 use std::test::Fail;
 
 fn given(mode: Mode, limit: u32, seed: u32) -> Result<Settings, WordsStop> {

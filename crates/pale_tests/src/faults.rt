@@ -1,6 +1,8 @@
-use super::words_of;
-use crate::{Status, pale_main};
+//! Whole calls, each ending in each of its ways, and with reads and writes that fail.
+
+use crate::calls::words_of;
 use pale_io::{MemSink, MemSource};
+use pale_top::{Status, pale_main};
 use std::alloc::{AllocError, Global};
 use std::test::Fail;
 
