@@ -1,7 +1,13 @@
 pub mod AlikeLemmas
+pub mod AlikeMoreLemmas
 pub mod AssignmentsLemmas
 pub mod AutomataLemmas
 pub mod CountingLemmas
+pub mod GeneratedLemmas
 pub mod ListedLemmas
+pub mod LooksLemmas
 pub mod MinimalLemmas
+pub mod SizesExistLemmas
+pub mod SizesLemmas
 pub mod SubsetLemmas
+pub mod WeightsLemmas
