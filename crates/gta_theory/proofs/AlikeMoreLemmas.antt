@@ -1,5 +1,5 @@
 -- On automata that are alike: it is an equivalence, and complements, products and subset automata of alike ones are alike.
-use Rattle.std.proofs.Common.{◌≡◌, ℕ, Bool, not, ◌&&◌, ◌↔◌, refl, sym, ap, subst, ◌∙◌}
+use Rattle.std.proofs.Common.{◌≡◌, ℕ, not, ◌&&◌, refl, sym, ap, subst, ◌∙◌}
 use Rattle.std.specs.Bool.{one_answer}
 use Rattle.gta_theory.specs.Assignments.{Assignment, Covers, replace}
 use Rattle.gta_theory.specs.Guides.{Spaces, IsSpace, IsGuide, left, right}
@@ -8,7 +8,7 @@ use Rattle.gta_theory.specs.Constructions.{complement, pairs, IsReached, IsProdu
 use Rattle.gta_theory.specs.Minimal.{AreTwins, AreAlike}
 use Rattle.gta_theory.proofs.AssignmentsLemmas.{Covers-more, Covers-replace}
 use Rattle.gta_theory.proofs.AutomataLemmas.{value-complement, value-pairs, IsClosed-reached, name-value, IsStable-product}
-use Rattle.gta_theory.proofs.SubsetLemmas.{Chosen, chosen-member, member-chosen, IsStable-subset}
+use Rattle.gta_theory.proofs.SubsetLemmas.{chosen-member, member-chosen, IsStable-subset}
 use Rattle.gta_theory.proofs.AlikeLemmas.{first-there, second-there, AreAlike-reached}
 use Rattle.gta_theory.proofs.MinimalLemmas.{twins-turned}
 

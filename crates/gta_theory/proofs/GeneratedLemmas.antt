@@ -1,5 +1,5 @@
 -- On worklists: closed states that are generated and named once are exactly the values, and their automaton is stable.
-use Rattle.std.proofs.Common.{◌≡◌, ℕ, zero, suc, true, false, refl, subst}
+use Rattle.std.proofs.Common.{ℕ, zero, suc, true, false, subst}
 use Rattle.gta_theory.specs.Assignments.{Assignment, half, root_label}
 use Rattle.gta_theory.specs.Guides.{Spaces, IsSpace, IsGuide, left, right}
 use Rattle.gta_theory.specs.Automata.{Automaton, value, IsStable, IsValue}

@@ -1,5 +1,5 @@
 -- On the tracks that steps look at: products, subset automata and automata of classes look no further.
-use Rattle.std.proofs.Common.{◌≡◌, ℕ, ◌<◌, Bool, cond, eqb, ◌↔◌, refl, sym, ap, subst, ◌∙◌}
+use Rattle.std.proofs.Common.{◌≡◌, ℕ, Bool, cond, eqb, ◌↔◌, refl, sym, ap, subst, ◌∙◌}
 use Rattle.gta_theory.specs.Assignments.{Label, with_track, replace}
 use Rattle.gta_theory.specs.Guides.{Spaces, IsSpace, IsGuide, left, right}
 use Rattle.gta_theory.specs.Automata.{Automaton, value, IsStable}

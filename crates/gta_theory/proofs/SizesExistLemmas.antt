@@ -5,7 +5,7 @@ use Rattle.std.proofs.lemmas.List.Elements.{All-nil, All-cons, All-append, All-m
 use Rattle.std.proofs.lemmas.List.Kept.{AllPairs-cons}
 use mathlib.Core.Path.{fun_ext}
 use Rattle.gta_theory.specs.Assignments.{Label, with_track, empty_label}
-use Rattle.gta_theory.specs.Guides.{Spaces, IsSpace, IsGuide, left, right}
+use Rattle.gta_theory.specs.Guides.{Spaces, IsSpace, left, right}
 use Rattle.gta_theory.specs.Automata.{Automaton, Has}
 use Rattle.gta_theory.specs.Sizes.{IsListOf, with_below, AreDifferent, IsVaried, IsUnderTable, IsPart, IsChildPair, SizeIn, sum_below, SizeOf, AreSameBelow, LooksBelow}
 

@@ -1,15 +1,14 @@
 -- On Sizes: each automaton has one at most, and alike automata have the same in each space.
-use Rattle.std.proofs.Common.{◌≡◌, ◌≢◌, ℕ, zero, suc, ◌+◌, ◌<◌, ◌≤◌, Bool, true, false, List, [], ◌∷◌, length, slice_index_or, nat_lt, Contains, AllPairs, refl, sym, ap, subst, ◌∙◌, arith}
+use Rattle.std.proofs.Common.{◌≡◌, ◌≢◌, ℕ, zero, suc, ◌+◌, ◌<◌, ◌≤◌, Bool, true, false, List, [], ◌∷◌, length, slice_index_or, nat_lt, Contains, AllPairs, refl, sym, subst, ◌∙◌, arith}
 use Rattle.std.proofs.lemmas.Bool.{ltb-true, ltb-false}
 use Rattle.std.proofs.lemmas.List.{get_or_default}
-use mathlib.Core.Path.{fun_ext}
 use Rattle.gta_theory.specs.Assignments.{Label}
 use Rattle.gta_theory.specs.Guides.{Spaces, IsSpace, IsGuide, left, right}
 use Rattle.gta_theory.specs.Automata.{Automaton}
 use Rattle.gta_theory.specs.Minimal.{AreTwins, AreAlike}
-use Rattle.gta_theory.specs.Sizes.{IsListOf, with_below, AreDifferent, IsVaried, IsUnderTable, IsPart, IsChildPair, SizeIn, sum_below, SizeOf}
+use Rattle.gta_theory.specs.Sizes.{with_below, AreDifferent, IsPart, IsChildPair, SizeIn, sum_below, SizeOf}
 use Rattle.gta_theory.proofs.AlikeMoreLemmas.{AreAlike-sym}
-use Rattle.gta_theory.proofs.CountingLemmas.{IsMatched, matched-le}
+use Rattle.gta_theory.proofs.CountingLemmas.{matched-le}
 
 -- the element at a place
 element : {X : Type 0} (xs : List X) (i : ℕ) → i < length xs → (x : X) × (slice_index_or xs i x ≡ x)
