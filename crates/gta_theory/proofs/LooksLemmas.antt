@@ -77,6 +77,20 @@ module _ {Q R S : Type 0} (g : Spaces) (guide : IsGuide g) (A : Automaton Q) (ha
 with_track-same : (k t : ℕ) (bit : Bool) (l m : Label) → AreSameBelow k l m → AreSameBelow k (with_track l t bit) (with_track m t bit)
 with_track-same k t bit l m same u below = λ i. cond (eqb u t) bit (same u below i)
 
+-- a step of a set, on a label that is the same below k
+pub IsStepOf-looks : {Q : Type 0} (g : Spaces) (A : Automaton Q) (has : ℕ → Q → Type 0) (k : ℕ) → LooksBelow g A has k → (t s : ℕ)
+    (Left Right : Q → Type 0) → IsSpace g s → ((p : Q) → Left p → has (left g s) p) → ((p : Q) → Right p → has (right g s) p) →
+    (l m : Label) (q : Q) → AreSameBelow k l m → IsStepOf A t s Left Right l q → IsStepOf A t s Left Right m q
+IsStepOf-looks g A has k looks t s Left Right there of_left of_right l m q same h = record {
+  left = h.left;
+  right = h.right;
+  bit = h.bit;
+  in_left = h.in_left;
+  in_right = h.in_right;
+  is_step = sym (looks.step s h.left h.right (with_track l t h.bit) (with_track m t h.bit) there
+      (of_left h.left h.in_left) (of_right h.right h.in_right) (with_track-same k t h.bit l m same)) ∙ h.is_step;
+}
+
 -- subset automata
 module _ {Q R : Type 0} (g : Spaces) (guide : IsGuide g) (A : Automaton Q) (has_A : ℕ → Q → Type 0) (of_A : IsStable g A)
     (reached_A : IsReached g A has_A) (t : ℕ) (B : Automaton R) (has : ℕ → R → Type 0) (member : ℕ → R → Q → Type 0)
@@ -110,14 +124,6 @@ module _ {Q R : Type 0} (g : Spaces) (guide : IsGuide g) (A : Automaton Q) (has_
 
       step-same : (s : ℕ) (x y : R) (l m : Label) (q : Q) → IsSpace g s → has (left g s) x → has (right g s) y → AreSameBelow k l m →
           IsStepOf A t s (member (left g s) x) (member (right g s) y) l q → IsStepOf A t s (member (left g s) x) (member (right g s) y) m q
-      step-same s x y l m q there in_x in_y same h = record {
-        left = h.left;
-        right = h.right;
-        bit = h.bit;
-        in_left = h.in_left;
-        in_right = h.in_right;
-        is_step = sym (looks.step s h.left h.right (with_track l t h.bit) (with_track m t h.bit) there
-            (member-inside (left g s) x h.left (guide.left_inside s there) in_x h.in_left)
-            (member-inside (right g s) y h.right (guide.right_inside s there) in_y h.in_right)
-            (with_track-same k t h.bit l m same)) ∙ h.is_step;
-      }
+      step-same s x y l m q there in_x in_y same = IsStepOf-looks g A has_A k looks t s (member (left g s) x) (member (right g s) y) there
+          (λ p. member-inside (left g s) x p (guide.left_inside s there) in_x) (λ p. member-inside (right g s) y p (guide.right_inside s there) in_y)
+          l m q same

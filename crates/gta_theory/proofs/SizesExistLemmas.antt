@@ -8,81 +8,11 @@ use Rattle.gta_theory.specs.Assignments.{Label, with_track, empty_label}
 use Rattle.gta_theory.specs.Guides.{Spaces, IsSpace, left, right}
 use Rattle.gta_theory.specs.Automata.{Automaton, Has}
 use Rattle.gta_theory.specs.Sizes.{IsListOf, with_below, AreDifferent, IsVaried, IsUnderTable, IsPart, IsChildPair, SizeIn, sum_below, SizeOf, AreSameBelow, LooksBelow}
-
--- lists: first elements and later ones
-Contains-first : {X : Type 0} (x : X) (xs : List X) → Contains (x ∷ xs) x
-Contains-first x xs = (0, omega arith, refl)
-
-Contains-later : {X : Type 0} (x y : X) (xs : List X) → Contains xs y → Contains (x ∷ xs) y
-Contains-later x y xs h = (suc h.0, omega (arith, h.1), h.2)
-
-Contains-cases : {X : Type 0} (x y : X) (xs : List X) → Contains (x ∷ xs) y → (x ≡ y) ⊎ Contains xs y
-Contains-cases x y xs (zero, inside, is) = inl is
-Contains-cases x y xs (suc k, inside, is) = inr (k, omega arith, is)
-
-Contains-none : {X : Type 0} (y : X) → Contains [] y → ⊥
-Contains-none y h = absurd (omega (arith, h.1))
-
-All-from_contains : {X : Type 0} (P : X → Type 0) (xs : List X) → ((x : X) → Contains xs x → P x) → All P xs
-All-from_contains P xs h k d inside = h _ (Contains-get_or xs k d inside)
-
-Contains-map : {X Y : Type 0} (f : X → Y) (xs : List X) (x : X) → Contains xs x → Contains (map f xs) (f x)
-Contains-map f [] x h = absurd (Contains-none x h)
-Contains-map f (z ∷ xs) x h = elim (Contains-cases z x xs h) as (λ _. Contains (map f (z ∷ xs)) (f x)) [
-  | inl is ↦ subst (λ y. Contains (map f (z ∷ xs)) (f y)) is (Contains-first (f z) (map f xs))
-  | inr later ↦ Contains-later (f z) (f x) (map f xs) (Contains-map f xs x later)
-]
-
-Contains-flat_map : {X Y : Type 0} (f : X → List Y) (xs : List X) (x : X) (y : Y) → Contains xs x → Contains (f x) y →
-    Contains (flat_map f xs) y
-Contains-flat_map f [] x y h in_f = absurd (Contains-none x h)
-Contains-flat_map f (z ∷ xs) x y h in_f = elim (Contains-cases z x xs h) as (λ _. Contains (flat_map f (z ∷ xs)) y) [
-  | inl is ↦ Contains-append_left (f z) (flat_map f xs) y (subst (λ w. Contains (f w) y) (sym is) in_f)
-  | inr later ↦ Contains-append_right (f z) (flat_map f xs) y (Contains-flat_map f xs x y later in_f)
-]
-
-All-flat_map : {X Y : Type 0} (P : Y → Type 0) (f : X → List Y) (xs : List X) → ((x : X) → Contains xs x → All P (f x)) →
-    All P (flat_map f xs)
-All-flat_map P f [] h = All-nil P
-All-flat_map P f (z ∷ xs) h = All-append P (f z) (flat_map f xs) (h z (Contains-first z xs))
-    (All-flat_map P f xs (λ x later. h x (Contains-later z x xs later)))
-
--- the numbers below n, from the last on
-pub numbers : ℕ → List ℕ
-numbers zero = []
-numbers (suc n) = n ∷ numbers n
-
-pub Contains-numbers : (n k : ℕ) → k < n → Contains (numbers n) k
-unfolding numbers
-Contains-numbers zero k below = absurd (omega arith)
-Contains-numbers (suc n) k below = elim (cases_eq n k) as (λ _. Contains (n ∷ numbers n) k) [
-  | inl is ↦ subst (Contains (n ∷ numbers n)) is (Contains-first n (numbers n))
-  | inr other ↦ Contains-later n k (numbers n) (Contains-numbers n k (omega arith))
-]
-
-pub numbers-below : (n k : ℕ) → Contains (numbers n) k → k < n
-unfolding numbers
-numbers-below zero k h = absurd (Contains-none k h)
-numbers-below (suc n) k h = elim (Contains-cases n k (numbers n) h) as (λ _. k < suc n) [
-  | inl is ↦ omega arith
-  | inr later ↦ omega (arith, numbers-below n k later)
-]
+use Rattle.gta_theory.proofs.ListsLemmas.{Contains-first, Contains-later, Contains-cases, Contains-none, All-from_contains, Contains-map, Contains-flat_map, All-flat_map, numbers, Contains-numbers, numbers-below, find, compare-pairs}
 
 -- of a list of things that can be compared and tested: those that pass, each once
 module _ {X : Type 0} (Apart : X → X → Type 0) (Fine Is : X → Type 0)
     (compare : (x y : X) → Fine x → Fine y → (x ≡ y) ⊎ Apart x y) (test : (x : X) → Fine x → Is x ⊎ (Is x → ⊥)) where
-  find : (x : X) (ys : List X) → Fine x → All Fine ys → Contains ys x ⊎ All (Apart x) ys
-  find x [] fine all = inr (All-nil (Apart x))
-  find x (y ∷ ys) fine all = elim (compare x y fine (All-contains Fine (y ∷ ys) y all (Contains-first y ys)))
-      as (λ _. Contains (y ∷ ys) x ⊎ All (Apart x) (y ∷ ys)) [
-        | inl is ↦ inl (subst (Contains (y ∷ ys)) (sym is) (Contains-first y ys))
-        | inr apart ↦ elim (find x ys fine (All-from_contains Fine ys (λ z later. All-contains Fine (y ∷ ys) z all (Contains-later y z ys later))))
-            as (λ _. Contains (y ∷ ys) x ⊎ All (Apart x) (y ∷ ys)) [
-              | inl later ↦ inl (Contains-later y x ys later)
-              | inr all_apart ↦ inr (All-cons (Apart x) y ys apart all_apart)
-            ]
-      ]
-
   record ArePicked (xs ys : List X) : Type 0 where
     every : (x : X) → Contains xs x → Is x → Contains ys x
     only : (x : X) → Contains ys x → Is x × Contains xs x
@@ -117,7 +47,7 @@ module _ {X : Type 0} (Apart : X → X → Type 0) (Fine Is : X → Type 0)
             once = of_ys.once;
           },
         )
-        | inl passes ↦ elim (find x ys fine_x (All-from_contains Fine ys (λ z h. fine_xs z (of_ys.only z h).1)))
+        | inl passes ↦ elim (find Apart Fine compare x ys fine_x (All-from_contains Fine ys (λ z h. fine_xs z (of_ys.only z h).1)))
             as (λ _. (ys : List X) × ArePicked (x ∷ xs) ys) [
               | inl had ↦ (
                 ys,
@@ -237,15 +167,6 @@ with_below-fixed j k fixed l m more t below =
 with_below-still : (j k : ℕ) (fixed l m : Label) → AreSameBelow k l m → AreSameBelow k (with_below j fixed l) (with_below j fixed m)
 with_below-still j k fixed l m same t below = λ i. cond (nat_lt t j) (fixed t) (same t below i)
 
-compare-pairs : {Q : Type 0} → ((p q : Q) → (p ≡ q) ⊎ (p ≢ q)) → (x y : Q × Q) → (x ≡ y) ⊎ (x ≢ y)
-compare-pairs decide x y = elim (decide x.0 y.0) as (λ _. (x ≡ y) ⊎ (x ≢ y)) [
-  | inr differ ↦ inr (λ same. differ (ap (λ z. z.0) same))
-  | inl one ↦ elim (decide x.1 y.1) as (λ _. (x ≡ y) ⊎ (x ≢ y)) [
-    | inr differ ↦ inr (λ same. differ (ap (λ z. z.1) same))
-    | inl other ↦ inl (λ i. (one i, other i))
-  ]
-]
-
 module _ {Q : Type 0} (decide : (p q : Q) → (p ≡ q) ⊎ (p ≢ q)) (g : Spaces) (A : Automaton Q) (has : ℕ → Q → Type 0)
     (states : ℕ → List Q) (there : (s : ℕ) (q : Q) → has s q → Contains (states s) q)
     (back : (s : ℕ) (q : Q) → Contains (states s) q → has s q) (k : ℕ) (looks : LooksBelow g A has k) where
@@ -271,7 +192,7 @@ module _ {Q : Type 0} (decide : (p q : Q) → (p ≡ q) ⊎ (p ≢ q)) (g : Spac
   pairs-listed : (s : ℕ) → (xs : List (Q × Q)) × IsListOf (λ x y. x ≢ y) (IsChildPair g has s) xs
   pairs-listed s =
       IsListOf-picked (λ x y. x ≢ y) (IsChildPair g has s) (IsChildPair g has s)
-      (λ x y fine_x fine_y. compare-pairs decide x y) (λ x fine. inl fine)
+      (λ x y fine_x fine_y. compare-pairs decide decide x y) (λ x fine. inl fine)
       (child-pairs s) (child-pairs-are s) (Contains-child-pairs s)
 
   -- all functions got from one by fixing the tracks below a number under k

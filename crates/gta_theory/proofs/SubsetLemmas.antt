@@ -10,14 +10,14 @@ use Rattle.gta_theory.proofs.AssignmentsLemmas.{IsWithin-more, Covers-half, Cove
 use Rattle.gta_theory.proofs.AutomataLemmas.{value-same, Accepts-at, IsClosed-reached}
 
 -- a label with at most one track is the empty one with that track as it stands
-with_track-at_most : (t : ℕ) (label : Label) → HasAtMost t label → with_track empty_label t (label t) ≡ label
+pub with_track-at_most : (t : ℕ) (label : Label) → HasAtMost t label → with_track empty_label t (label t) ≡ label
 with_track-at_most t label at_most = fun_ext (λ u. pick u (eqb u t) refl)
   where
     pick : (u : ℕ) (b : Bool) → eqb u t ≡ b → cond b (label t) false ≡ label u
     pick u true is = ap label (sym (eqb-true u t is))
     pick u false is = sym (at_most u (eqb-false u t is))
 
-HasAtMost-with_track : (t : ℕ) (bit : Bool) → HasAtMost t (with_track empty_label t bit)
+pub HasAtMost-with_track : (t : ℕ) (bit : Bool) → HasAtMost t (with_track empty_label t bit)
 HasAtMost-with_track t bit u other = pick (eqb u t) refl
   where
     pick : (b : Bool) → eqb u t ≡ b → cond b bit false ≡ false

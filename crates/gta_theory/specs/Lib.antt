@@ -5,5 +5,6 @@ pub mod Generated
 pub mod Guides
 pub mod Listed
 pub mod Minimal
+pub mod Numbered
 pub mod Sizes
 pub mod Weights

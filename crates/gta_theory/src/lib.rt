@@ -5,15 +5,17 @@
 //! `specs/Guides.antt` what a guide is, `specs/Automata.antt` what an automaton is and what it accepts,
 //! `specs/Constructions.antt` what the complement, the product and the subset automaton are, and
 //! `specs/Minimal.antt` what a minimal automaton is. `specs/Generated.antt` has what a worklist finds,
-//! `specs/Weights.antt` least weights, and `specs/Sizes.antt` the Size. Each function of this crate is a law: its
-//! body is empty, and its clause holds of all guides and automata. States are numbers in a clause; the lemmas of
-//! `proofs/`, which are public, say the same of any type of states.
+//! `specs/Weights.antt` least weights, `specs/Sizes.antt` the Size, and `specs/Numbered.antt` automata whose states are
+//! the numbers below a count. Each function of this crate is a law: its body is empty, and its clause holds of all
+//! guides and automata. States are numbers in a clause; the lemmas of `proofs/`, which are public, say the same of any
+//! type of states.
 #![tactic(auto)]
 
 mod alike;
 mod generated;
 mod laws;
 mod minimal;
+mod numbered;
 mod sizes;
 mod weights;
 
@@ -34,6 +36,9 @@ pub use laws::{
 pub use minimal::{
     alike_automata_have_as_many_states, complement_stays_minimal, minimal_automata_are_alike,
     separated_classes_are_minimal, separated_states_are_told_apart,
+};
+pub use numbered::{
+    finite_automata_can_be_numbered, minimal_automata_exist, products_exist, subsets_exist,
 };
 pub use sizes::{
     alike_automata_have_equal_sizes, constructions_look_no_further,

@@ -1,12 +1,13 @@
 //! Laws of Sizes.
 
-ghost use Rattle.std.specs.Prelude.{◌≡◌, ℕ, Bool, ◌↔◌, IsTrue, nat_lt};
+ghost use Rattle.std.specs.Prelude.{◌≡◌, ℕ, Bool, ◌↔◌, IsTrue};
 ghost use Rattle.gta_theory.specs.Assignments.{Assignment, Covers};
 ghost use Rattle.gta_theory.specs.Guides.{Spaces, IsGuide, IsSpace};
 ghost use Rattle.gta_theory.specs.Automata.{Automaton, IsStable, Accepts, Has};
 ghost use Rattle.gta_theory.specs.Constructions.{IsReached, IsNaming, IsProduct, IsSubset};
 ghost use Rattle.gta_theory.specs.Minimal.{IsMinimal, AreAlike};
 ghost use Rattle.gta_theory.specs.Sizes.{SizeIn, SizeOf, LooksBelow};
+ghost use Rattle.gta_theory.specs.Numbered.{Below};
 
 /// An automaton has one size at most in each space, and one Size.
 pub fn sizes_are_unique()
@@ -42,11 +43,11 @@ pub fn minimal_automata_have_equal_sizes()
 /// some number alone, has a size in each space, and a Size.
 pub fn sizes_exist()
     ensures in_space { (g : Spaces) (A : Automaton ℕ) (count : ℕ → ℕ) (k : ℕ) →
-        LooksBelow g A (Has (λ s q. nat_lt q (count s))) k →
-        (s : ℕ) → IsSpace g s → (n : ℕ) × SizeIn g A (Has (λ s q. nat_lt q (count s))) s n }
+        LooksBelow g A (Below count) k →
+        (s : ℕ) → IsSpace g s → (n : ℕ) × SizeIn g A (Below count) s n }
     ensures whole { (g : Spaces) (A : Automaton ℕ) (count : ℕ → ℕ) (k : ℕ) →
-        LooksBelow g A (Has (λ s q. nat_lt q (count s))) k →
-        (n : ℕ) × SizeOf g A (Has (λ s q. nat_lt q (count s))) n }
+        LooksBelow g A (Below count) k →
+        (n : ℕ) × SizeOf g A (Below count) n }
 {}
 
 /// Where steps look at the tracks below some number alone, so do those of products, of subset automata, and of
