@@ -1,5 +1,5 @@
 -- On classes of numbers, where some are apart and others aren't: the first of each class in a list stands for it.
-use Rattle.std.proofs.Common.{ℕ, zero, suc, ◌<◌, ◌⊎◌, inl, inr, List, [], ◌∷◌, length, slice_index_or, Contains, AllPairs, ◌≡◌, subst, arith}
+use Rattle.std.proofs.Common.{ℕ, suc, ◌<◌, ◌⊎◌, inl, inr, List, [], ◌∷◌, length, slice_index_or, Contains, AllPairs, ◌≡◌, subst, arith}
 use Rattle.std.proofs.lemmas.List.Kept.{AllPairs-cons}
 use Rattle.gta_theory.proofs.ListsLemmas.{Contains-first, Contains-later, Contains-cases, Contains-none, All-from_contains}
 use Rattle.gta_theory.proofs.DecisionsLemmas.{decide-some}

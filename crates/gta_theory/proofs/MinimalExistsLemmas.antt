@@ -1,15 +1,14 @@
 -- On minimal automata: one with numbered states exists of an automaton with finitely many states, whose steps look at
 -- finitely many tracks.
-use Rattle.std.proofs.Common.{◌≡◌, ◌≢◌, ℕ, zero, suc, ◌<◌, ◌≤◌, Bool, true, false, IsTrue, ◌↔◌, ◌⊎◌, inl, inr, List, [], ◌∷◌, map, length, slice_index_or, nat_lt, All, Contains, AllPairs, flat_map, refl, sym, ap, subst, ◌∙◌, arith}
-use Rattle.std.proofs.lemmas.Bool.{cases_eq, false≢true, ltb-true, ltb-false, lt-ltb}
+use Rattle.std.proofs.Common.{◌≡◌, ◌≢◌, ℕ, ◌<◌, Bool, true, false, ◌↔◌, ◌⊎◌, inl, inr, List, map, length, slice_index_or, nat_lt, Contains, flat_map, refl, sym, ap, subst, ◌∙◌, arith}
+use Rattle.std.proofs.lemmas.Bool.{cases_eq, ltb-true, ltb-false, lt-ltb}
 use Rattle.std.proofs.lemmas.List.Elements.{All-contains, Contains-get_or}
-use Rattle.std.proofs.lemmas.List.Kept.{AllPairs-cons}
 use Rattle.gta_theory.specs.Assignments.{Assignment, Label}
 use Rattle.gta_theory.specs.Guides.{Spaces, IsSpace, IsGuide, left, right}
 use Rattle.gta_theory.specs.Automata.{Automaton, IsStable, Accepts, IsValue}
 use Rattle.gta_theory.specs.Constructions.{IsReached, IsClosed, IsNaming}
 use Rattle.gta_theory.specs.Minimal.{AreSeparated, at_root, below_left, below_right, IsMinimal}
-use Rattle.gta_theory.specs.Sizes.{AreSameBelow, LooksBelow}
+use Rattle.gta_theory.specs.Sizes.{LooksBelow}
 use Rattle.gta_theory.specs.Numbered.{Below}
 use Rattle.gta_theory.proofs.AutomataLemmas.{IsClosed-reached, Accepts-named, IsStable-named}
 use Rattle.gta_theory.proofs.MinimalLemmas.{IsMinimal-classes}

@@ -1,14 +1,13 @@
 -- On numbering: an automaton with finitely many states, whose steps look at finitely many tracks, can be numbered.
-use Rattle.std.proofs.Common.{◌≡◌, ◌≢◌, ℕ, zero, suc, ◌+◌, ◌<◌, ◌≤◌, Bool, true, false, cond, eqb, ◌⊎◌, inl, inr, List, [], ◌∷◌, map, length, slice_index_or, nat_lt, All, Contains, AllPairs, flat_map, refl, sym, ap, subst, ◌∙◌, arith, eqb-true}
-use Rattle.std.proofs.lemmas.Bool.{cases_eq, eqb-false, ltb-true, ltb-false, lt-ltb}
-use Rattle.std.proofs.lemmas.List.{get_or_default}
-use Rattle.std.proofs.lemmas.List.Elements.{All-nil, All-cons, All-map, All-contains, Contains-get_or}
+use Rattle.std.proofs.Common.{◌≡◌, ◌≢◌, ℕ, suc, ◌<◌, Bool, true, false, cond, eqb, ◌⊎◌, inl, inr, List, [], ◌∷◌, map, length, slice_index_or, Contains, AllPairs, flat_map, refl, sym, ap, subst, ◌∙◌, arith, eqb-true}
+use Rattle.std.proofs.lemmas.Bool.{cases_eq, eqb-false, ltb-true, lt-ltb}
+use Rattle.std.proofs.lemmas.List.Elements.{All-cons, All-map, All-contains, Contains-get_or}
 use Rattle.std.proofs.lemmas.List.Kept.{AllPairs-cons}
 use Rattle.gta_theory.specs.Assignments.{Label}
 use Rattle.gta_theory.specs.Guides.{Spaces, IsSpace, IsGuide, left, right}
-use Rattle.gta_theory.specs.Automata.{Automaton, value, IsStable, IsValue}
+use Rattle.gta_theory.specs.Automata.{Automaton, value, IsStable}
 use Rattle.gta_theory.specs.Constructions.{pairs, IsReached, IsClosed, IsNaming, IsOnce, IsProduct}
-use Rattle.gta_theory.specs.Generated.{Generated, starts, steps, IsGenerated}
+use Rattle.gta_theory.specs.Generated.{Generated, starts, steps}
 use Rattle.gta_theory.specs.Sizes.{LooksBelow}
 use Rattle.gta_theory.specs.Numbered.{Below, IsNumbered}
 use Rattle.gta_theory.proofs.AutomataLemmas.{IsClosed-reached, name-value, IsStable-named, IsStable-pairs}

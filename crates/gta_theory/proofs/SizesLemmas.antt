@@ -1,7 +1,8 @@
 -- On Sizes: each automaton has one at most, and alike automata have the same in each space.
-use Rattle.std.proofs.Common.{◌≡◌, ◌≢◌, ℕ, zero, suc, ◌+◌, ◌<◌, ◌≤◌, Bool, true, false, List, [], ◌∷◌, length, slice_index_or, nat_lt, Contains, AllPairs, refl, sym, subst, ◌∙◌, arith}
+use Rattle.std.proofs.Common.{◌≡◌, ◌≢◌, ℕ, zero, suc, ◌+◌, ◌<◌, ◌≤◌, Bool, true, false, List, [], ◌∷◌, length, slice_index_or, nat_lt, All, Contains, AllPairs, refl, sym, ap, subst, ◌∙◌, arith}
 use Rattle.std.proofs.lemmas.Bool.{ltb-true, ltb-false}
 use Rattle.std.proofs.lemmas.List.{get_or_default}
+use Rattle.std.proofs.lemmas.List.Elements.{All-contains}
 use Rattle.gta_theory.specs.Assignments.{Label}
 use Rattle.gta_theory.specs.Guides.{Spaces, IsSpace, IsGuide, left, right}
 use Rattle.gta_theory.specs.Automata.{Automaton}
@@ -168,6 +169,13 @@ sum_below-same f h (suc n) same =
     let last = same n (omega arith) in
     λ i. rest i + last i
 
+sum_below-le : (f h : ℕ → ℕ) (n : ℕ) → ((s : ℕ) → s < n → f s ≤ h s) → sum_below f n ≤ sum_below h n
+sum_below-le f h zero less = omega arith
+sum_below-le f h (suc n) less =
+    let rest = sum_below-le f h n (λ s below. less s (omega arith)) in
+    let last = less n (omega arith) in
+    omega (arith, rest, last)
+
 pub SizeOf-alike : {Q R : Type 0} (g : Spaces) (guide : IsGuide g) (A : Automaton Q) (has_A : ℕ → Q → Type 0) (B : Automaton R)
     (has_B : ℕ → R → Type 0) → AreAlike g A has_A B has_B → (n m : ℕ) → SizeOf g A has_A n → SizeOf g B has_B m → n ≡ m
 SizeOf-alike g guide A has_A B has_B alike n m of_A of_B =
@@ -183,3 +191,27 @@ SizeOf-unique g guide A has n m one other =
     ∙ sum_below-same one.sizes other.sizes (length g) (λ s inside.
     SizeIn-unique g guide A has s (one.sizes s) (other.sizes s) inside (one.in_space s inside) (other.in_space s inside))
     ∙ other.is_sum
+
+-- pairs and parts that are listed, each once, fit in the size
+module _ {Q : Type 0} (g : Spaces) (A : Automaton Q) (has : ℕ → Q → Type 0) where
+  pub SizeIn-fits : (s n : ℕ) (pairs : List (Q × Q)) (parts : List (Label → Q)) →
+      AllPairs (λ x y. x ≢ y) pairs → All (IsChildPair g has s) pairs → AllPairs AreDifferent parts → All (IsPart g A has s) parts →
+      SizeIn g A has s n → length pairs + length parts ≤ n
+  SizeIn-fits s n pairs parts pairs_once are_pairs parts_once are_parts size =
+      let pairs_le : length pairs ≤ length size.pairs =
+      length-partners (λ x y. x ≢ y) (λ x y. x ≡ y) (λ x x' y e e' differ. differ (e ∙ sym e')) pairs size.pairs pairs_once
+      (λ x h. (x, (size.all_pairs).every x (All-contains (IsChildPair g has s) pairs x are_pairs h), refl)) in
+      let parts_le : length parts ≤ length size.parts =
+      length-partners AreDifferent (λ f h. f ≡ h) (λ f f' h e e' d. d.differs (ap (λ z. z d.label) (e ∙ sym e'))) parts size.parts parts_once
+      (λ f h. (f, (size.all_parts).every f (All-contains (IsPart g A has s) parts f are_parts h), refl)) in
+      omega (arith, pairs_le, parts_le, size.is_sum)
+
+  pub SizeOf-fits : (n : ℕ) (pairs : ℕ → List (Q × Q)) (parts : ℕ → List (Label → Q)) →
+      ((s : ℕ) → IsSpace g s → AllPairs (λ x y. x ≢ y) (pairs s) × All (IsChildPair g has s) (pairs s)) →
+      ((s : ℕ) → IsSpace g s → AllPairs AreDifferent (parts s) × All (IsPart g A has s) (parts s)) →
+      SizeOf g A has n → sum_below (λ s. length (pairs s) + length (parts s)) (length g) ≤ n
+  SizeOf-fits n pairs parts are_pairs are_parts size =
+      let fits = sum_below-le (λ s. length (pairs s) + length (parts s)) size.sizes (length g) (λ s there.
+      SizeIn-fits s (size.sizes s) (pairs s) (parts s) (are_pairs s there).0 (are_pairs s there).1 (are_parts s there).0 (are_parts s there).1
+      (size.in_space s there)) in
+      omega (arith, fits, size.is_sum)

@@ -1,12 +1,12 @@
 -- On subset automata: one with numbered states exists of an automaton with finitely many states, whose steps look at
 -- finitely many tracks.
-use Rattle.std.proofs.Common.{◌≡◌, ◌≢◌, ℕ, zero, suc, ◌<◌, ◌≤◌, Bool, true, false, IsTrue, ◌↔◌, ◌⊎◌, inl, inr, List, [], ◌∷◌, map, length, All, Contains, refl, sym, ap, subst, ◌∙◌, arith}
-use Rattle.std.proofs.lemmas.Bool.{cases_eq, false≢true, ltb-true, lt-ltb}
+use Rattle.std.proofs.Common.{◌≡◌, ◌≢◌, ℕ, ◌<◌, Bool, IsTrue, ◌↔◌, ◌⊎◌, inl, inr, List, map, length, Contains, refl, sym, subst, ◌∙◌, arith}
+use Rattle.std.proofs.lemmas.Bool.{cases_eq, ltb-true, lt-ltb}
 use Rattle.std.proofs.lemmas.List.Elements.{All-contains, All-map}
 use Rattle.gta_theory.specs.Assignments.{Label, empty_label, with_track, HasAtMost}
 use Rattle.gta_theory.specs.Guides.{Spaces, IsSpace, IsGuide, left, right}
 use Rattle.gta_theory.specs.Automata.{Automaton, IsStable}
-use Rattle.gta_theory.specs.Constructions.{IsReached, IsClosed, Settled, starts, steps, IsStepOf, HasAccepting, IsSubset}
+use Rattle.gta_theory.specs.Constructions.{IsClosed, Settled, starts, steps, IsStepOf, HasAccepting, IsSubset}
 use Rattle.gta_theory.specs.Generated.{IsNamingSets}
 use Rattle.gta_theory.specs.Sizes.{LooksBelow}
 use Rattle.gta_theory.specs.Numbered.{Below, IsNumbered}

@@ -42,7 +42,8 @@ pub use numbered::{
 };
 pub use sizes::{
     alike_automata_have_equal_sizes, constructions_look_no_further,
-    minimal_automata_have_equal_sizes, sizes_are_unique, sizes_exist,
+    listed_pairs_and_parts_fit_in_the_size, minimal_automata_have_equal_sizes, sizes_are_unique,
+    sizes_exist,
 };
 pub use weights::{
     fewer_positions_weigh_no_more, lightest_accepted_is_a_lightest_accepting_state,

@@ -1,12 +1,12 @@
 //! Laws of Sizes.
 
-ghost use Rattle.std.specs.Prelude.{◌≡◌, ℕ, Bool, ◌↔◌, IsTrue};
-ghost use Rattle.gta_theory.specs.Assignments.{Assignment, Covers};
+ghost use Rattle.std.specs.Prelude.{◌≡◌, ◌≢◌, ℕ, ◌+◌, ◌≤◌, Bool, ◌↔◌, IsTrue, List, length, All, AllPairs};
+ghost use Rattle.gta_theory.specs.Assignments.{Assignment, Label, Covers};
 ghost use Rattle.gta_theory.specs.Guides.{Spaces, IsGuide, IsSpace};
 ghost use Rattle.gta_theory.specs.Automata.{Automaton, IsStable, Accepts, Has};
 ghost use Rattle.gta_theory.specs.Constructions.{IsReached, IsNaming, IsProduct, IsSubset};
 ghost use Rattle.gta_theory.specs.Minimal.{IsMinimal, AreAlike};
-ghost use Rattle.gta_theory.specs.Sizes.{SizeIn, SizeOf, LooksBelow};
+ghost use Rattle.gta_theory.specs.Sizes.{AreDifferent, IsPart, IsChildPair, SizeIn, sum_below, SizeOf, LooksBelow};
 ghost use Rattle.gta_theory.specs.Numbered.{Below};
 
 /// An automaton has one size at most in each space, and one Size.
@@ -48,6 +48,21 @@ pub fn sizes_exist()
     ensures whole { (g : Spaces) (A : Automaton ℕ) (count : ℕ → ℕ) (k : ℕ) →
         LooksBelow g A (Below count) k →
         (n : ℕ) × SizeOf g A (Below count) n }
+{}
+
+/// Child pairs and parts of a table that are listed, each once, are no more than the size in their space; listed in
+/// each space they are no more than the Size.
+pub fn listed_pairs_and_parts_fit_in_the_size()
+    ensures in_space { (g : Spaces) (A : Automaton ℕ) (states : ℕ → ℕ → Bool) (s n : ℕ)
+        (pairs : List (ℕ × ℕ)) (parts : List (Label → ℕ)) →
+        AllPairs (λ x y. x ≢ y) pairs → All (IsChildPair g (Has states) s) pairs →
+        AllPairs AreDifferent parts → All (IsPart g A (Has states) s) parts →
+        SizeIn g A (Has states) s n → length pairs + length parts ≤ n }
+    ensures whole { (g : Spaces) (A : Automaton ℕ) (states : ℕ → ℕ → Bool) (n : ℕ)
+        (pairs : ℕ → List (ℕ × ℕ)) (parts : ℕ → List (Label → ℕ)) →
+        ((s : ℕ) → IsSpace g s → AllPairs (λ x y. x ≢ y) (pairs s) × All (IsChildPair g (Has states) s) (pairs s)) →
+        ((s : ℕ) → IsSpace g s → AllPairs AreDifferent (parts s) × All (IsPart g A (Has states) s) (parts s)) →
+        SizeOf g A (Has states) n → sum_below (λ s. length (pairs s) + length (parts s)) (length g) ≤ n }
 {}
 
 /// Where steps look at the tracks below some number alone, so do those of products, of subset automata, and of
