@@ -47,11 +47,12 @@ pub AddsOnly-cases : (old new : Contents) (made r : NodeRef) → AddsOnly old ne
 unfolding AddsOnly
 AddsOnly-cases old new made r only valid = only r valid
 
-is_named_in-cases : (nodes : List Node) (named : Named) → ((is_named_in nodes named ≡ true) × IsNamedIn nodes named) ⊎ ((is_named_in nodes named ≡ false) × (IsNamedIn nodes named → ⊥))
+is_named_in-cases : (nodes : List Node) (named : Named) → ((is_named_in nodes named ≡ true) × IsNamedIn nodes named)
+    ⊎ ((is_named_in nodes named ≡ false) × (IsNamedIn nodes named → ⊥))
 is_named_in-cases nodes (Leaf state) = inl (refl, tt)
-is_named_in-cases nodes (Inner place) = elim (cases_lt place (length nodes)) [
-  | inl within ↦ inl ((let e : ltb place (length nodes) ≡ true = grind (arith, nat_tests) in e), within)
-  | inr past ↦ inr ((let e : ltb place (length nodes) ≡ false = grind (arith, nat_tests) in e), λ within. omega arith)
+is_named_in-cases nodes (Inner index) = elim (cases_lt index (length nodes)) [
+  | inl within ↦ inl ((let e : ltb index (length nodes) ≡ true = grind (arith, nat_tests) in e), within)
+  | inr past ↦ inr ((let e : ltb index (length nodes) ≡ false = grind (arith, nat_tests) in e), λ within. omega arith)
 ]
 
 -- a reference is valid or isn't
@@ -60,7 +61,8 @@ unfolding is_valid
 is_valid-cases shelf r = is_named_in-cases shelf.nodes (node_of r)
 
 -- what wasn't valid before stands for a function that nothing stood for
-pub Has-before : (old new : Contents) (made : NodeRef) → IsShelf new → Keeps old new → IsValid new made → (IsValid old made → ⊥) → Has old (state_of new made) → ⊥
+pub Has-before : (old new : Contents) (made : NodeRef) → IsShelf new → Keeps old new → IsValid new made →
+    (IsValid old made → ⊥) → Has old (state_of new made) → ⊥
 Has-before old new made is_shelf kept valid unknown has =
     let same : has.at ≡ made = node_of-injective has.at made
     (equal_named new.nodes is_shelf.canonical (node_of has.at) (node_of made) (kept.valid has.at has.valid) valid

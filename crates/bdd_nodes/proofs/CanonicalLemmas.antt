@@ -6,34 +6,24 @@ use Rattle.bdd_nodes.specs.declared.node_ref.NodeRef.{NodeRef}
 use Rattle.bdd_nodes.specs.declared.node_ref.Named.{Named}
 use Rattle.bdd_nodes.specs.declared.node_ref.Named.TheVariants.{Leaf, Inner}
 use Rattle.bdd_nodes.specs.declared.node.Node.{Node}
-use Rattle.bdd_nodes.specs.Nodes.{Label, node_of, rank, node_at, state_named, IsNamedIn, AsksNoneBelow, AreCanonical}
+use Rattle.labels.specs.Labels.{Label, with_track}
+use Rattle.labels.proofs.LabelsLemmas.{with_track-same, with_track-later}
+use Rattle.bdd_nodes.specs.Nodes.{node_of, rank, node_at, state_named, IsNamedIn, AsksNoneBelow, AreCanonical}
 use Rattle.bdd_nodes.proofs.RefLemmas.{node_of-injective}
 use Rattle.bdd_nodes.proofs.NodesLemmas.{state_named-leaf, state_named-inner, if_same}
 
 -- what looks back over no more than the nodes is valid
 pub IsNamedIn-rank : (nodes : List Node) (named : Named) → rank named ≤ length nodes → IsNamedIn nodes named
 IsNamedIn-rank nodes (Leaf state) within = tt
-IsNamedIn-rank nodes (Inner place) within = within
+IsNamedIn-rank nodes (Inner index) within = within
 
 pub rank-IsNamedIn : (nodes : List Node) (named : Named) → IsNamedIn nodes named → rank named ≤ length nodes
 rank-IsNamedIn nodes (Leaf state) valid = omega arith
-rank-IsNamedIn nodes (Inner place) valid = valid
+rank-IsNamedIn nodes (Inner index) valid = valid
 
 pub AsksNoneBelow-weaker : (nodes : List Node) (s t : ℕ) (named : Named) → s ≤ t → AsksNoneBelow nodes t named → AsksNoneBelow nodes s named
 AsksNoneBelow-weaker nodes s t (Leaf state) below asks = tt
-AsksNoneBelow-weaker nodes s t (Inner place) below asks = omega arith
-
--- the label with the track set or unset
-pub with_track : Label → ℕ → Bool → Label
-with_track label t bit = λ u. if eqb u t then bit else label u
-
-with_track-same : (label : Label) (t : ℕ) (bit : Bool) → with_track label t bit t ≡ bit
-unfolding with_track
-with_track-same label t bit = grind (arith, nat_tests)
-
-with_track-later : (label : Label) (t u : ℕ) (bit : Bool) → suc t ≤ u → with_track label t bit u ≡ label u
-unfolding with_track
-with_track-later label t u bit later = grind (arith, nat_tests)
+AsksNoneBelow-weaker nodes s t (Inner index) below asks = omega arith
 
 abbrev node_with : ℕ → NodeRef → NodeRef → Node
 node_with t low high = record { track = t; low = low; high = high }
@@ -74,11 +64,15 @@ module _ (nodes : List Node) (canonical : AreCanonical nodes) where
   unfolding high_at
   high_later i within = (canonical.high i within).later
 
-  inner_states : (i : ℕ) (label : Label) → i < length nodes → state_named nodes (Inner i) label ≡ (if label (node_at nodes i).track then state_named nodes (high_at i) label else state_named nodes (low_at i) label)
+  inner_states : (i : ℕ) (label : Label) → i < length nodes → state_named nodes (Inner i) label
+      ≡ (if label (node_at nodes i).track then state_named nodes (high_at i) label else state_named nodes
+      (low_at i) label)
   unfolding low_at high_at
   inner_states i label within = state_named-inner nodes i label within (low_rank i within) (high_rank i within)
 
-  unasked_up_to : (k : ℕ) (named : Named) (t : ℕ) (l m : Label) → rank named ≤ k → IsNamedIn nodes named → AsksNoneBelow nodes t named → ((u : ℕ) → t ≤ u → l u ≡ m u) → state_named nodes named l ≡ state_named nodes named m
+  unasked_up_to : (k : ℕ) (named : Named) (t : ℕ) (l m : Label) → rank named ≤ k → IsNamedIn nodes named →
+      AsksNoneBelow nodes t named → ((u : ℕ) → t ≤ u → l u ≡ m u) → state_named nodes named l
+      ≡ state_named nodes named m
   unasked_up_to k (Leaf state) t l m below valid asks agree = state_named-leaf nodes state l ∙ sym (state_named-leaf nodes state m)
   unasked_up_to zero (Inner i) t l m below valid asks agree = absurd (omega arith)
   unasked_up_to (suc k) (Inner i) t l m below valid asks agree =
@@ -86,35 +80,46 @@ module _ (nodes : List Node) (canonical : AreCanonical nodes) where
       inner_states i l valid
       ∙ ap (λ (b : Bool). if b then state_named nodes (high_at i) l else state_named nodes (low_at i) l) (agree track asks)
       ∙ if_same (m track) _ _ _ _
-      (unasked_up_to k (high_at i) t l m (let r = high_rank i valid in omega arith) (high_valid i valid) (AsksNoneBelow-weaker nodes t (suc track) _ (omega arith) (high_later i valid)) agree)
-      (unasked_up_to k (low_at i) t l m (let r = low_rank i valid in omega arith) (low_valid i valid) (AsksNoneBelow-weaker nodes t (suc track) _ (omega arith) (low_later i valid)) agree)
+      (unasked_up_to k (high_at i) t l m (let r = high_rank i valid in omega arith) (high_valid i valid)
+      (AsksNoneBelow-weaker nodes t (suc track) _ (omega arith) (high_later i valid)) agree)
+      (unasked_up_to k (low_at i) t l m (let r = low_rank i valid in omega arith) (low_valid i valid)
+      (AsksNoneBelow-weaker nodes t (suc track) _ (omega arith) (low_later i valid)) agree)
       ∙ sym (inner_states i m valid)
 
   -- what isn't asked doesn't matter
-  pub state_named-unasked : (named : Named) (t : ℕ) (l m : Label) → IsNamedIn nodes named → AsksNoneBelow nodes t named → ((u : ℕ) → t ≤ u → l u ≡ m u) → state_named nodes named l ≡ state_named nodes named m
+  pub state_named-unasked : (named : Named) (t : ℕ) (l m : Label) → IsNamedIn nodes named →
+      AsksNoneBelow nodes t named → ((u : ℕ) → t ≤ u → l u ≡ m u) → state_named nodes named l
+      ≡ state_named nodes named m
   state_named-unasked named t l m valid asks agree = unasked_up_to (rank named) named t l m (omega arith) valid asks agree
 
   pick : ℕ → Bool → Named
   pick i bit = if bit then high_at i else low_at i
 
-  side_states : (i : ℕ) (bit : Bool) (label : Label) → i < length nodes → state_named nodes (pick i bit) label ≡ state_named nodes (Inner i) (with_track label (node_at nodes i).track bit)
+  side_states : (i : ℕ) (bit : Bool) (label : Label) → i < length nodes → state_named nodes (pick i bit) label
+      ≡ state_named nodes (Inner i) (with_track label (node_at nodes i).track bit)
   unfolding pick
   side_states i true label within =
       let t = (node_at nodes i).track in
-      state_named-unasked (high_at i) (suc t) label (with_track label t true) (high_valid i within) (high_later i within) (λ u later. sym (with_track-later label t u true later))
-      ∙ ap (λ (b : Bool). if b then state_named nodes (high_at i) (with_track label t true) else state_named nodes (low_at i) (with_track label t true)) (sym (with_track-same label t true))
+      state_named-unasked (high_at i) (suc t) label (with_track label t true) (high_valid i within)
+      (high_later i within) (λ u later. sym (with_track-later label t u true later))
+      ∙ ap (λ (b : Bool). if b then state_named nodes (high_at i) (with_track label t true) else state_named nodes
+      (low_at i) (with_track label t true)) (sym (with_track-same label t true))
       ∙ sym (inner_states i (with_track label t true) within)
   side_states i false label within =
       let t = (node_at nodes i).track in
-      state_named-unasked (low_at i) (suc t) label (with_track label t false) (low_valid i within) (low_later i within) (λ u later. sym (with_track-later label t u false later))
-      ∙ ap (λ (b : Bool). if b then state_named nodes (high_at i) (with_track label t false) else state_named nodes (low_at i) (with_track label t false)) (sym (with_track-same label t false))
+      state_named-unasked (low_at i) (suc t) label (with_track label t false) (low_valid i within)
+      (low_later i within) (λ u later. sym (with_track-later label t u false later))
+      ∙ ap (λ (b : Bool). if b then state_named nodes (high_at i) (with_track label t false) else state_named nodes
+      (low_at i) (with_track label t false)) (sym (with_track-same label t false))
       ∙ sym (inner_states i (with_track label t false) within)
 
-  low_states : (i : ℕ) (label : Label) → i < length nodes → state_named nodes (low_at i) label ≡ state_named nodes (Inner i) (with_track label (node_at nodes i).track false)
+  low_states : (i : ℕ) (label : Label) → i < length nodes → state_named nodes (low_at i) label
+      ≡ state_named nodes (Inner i) (with_track label (node_at nodes i).track false)
   unfolding pick
   low_states i label within = side_states i false label within
 
-  high_states : (i : ℕ) (label : Label) → i < length nodes → state_named nodes (high_at i) label ≡ state_named nodes (Inner i) (with_track label (node_at nodes i).track true)
+  high_states : (i : ℕ) (label : Label) → i < length nodes → state_named nodes (high_at i) label
+      ≡ state_named nodes (Inner i) (with_track label (node_at nodes i).track true)
   unfolding pick
   high_states i label within = side_states i true label within
 
@@ -122,22 +127,28 @@ module _ (nodes : List Node) (canonical : AreCanonical nodes) where
   unfolding low_at high_at
   sides_differ i within same = canonical.differ i within (node_of-injective _ _ same)
 
-  same_place : (i j : ℕ) → i < length nodes → j < length nodes → (node_at nodes i).track ≡ (node_at nodes j).track → low_at i ≡ low_at j → high_at i ≡ high_at j → i ≡ j
+  same_index : (i j : ℕ) → i < length nodes → j < length nodes → (node_at nodes i).track ≡ (node_at nodes j).track →
+      low_at i ≡ low_at j → high_at i ≡ high_at j → i ≡ j
   unfolding low_at high_at
-  same_place i j i_in j_in tracks lows highs =
+  same_index i j i_in j_in tracks lows highs =
       canonical.once i j i_in j_in (same_node _ _ tracks (node_of-injective _ _ lows) (node_of-injective _ _ highs))
 
   -- a function that doesn't ask the track of node i isn't node i's, as the sides would be equal
-  sides_same_where_unasked : (i : ℕ) (named : Named) → i < length nodes → IsNamedIn nodes named → AsksNoneBelow nodes (suc (node_at nodes i).track) named → ((label : Label) → state_named nodes (Inner i) label ≡ state_named nodes named label) → (label : Label) → state_named nodes (low_at i) label ≡ state_named nodes (high_at i) label
+  sides_same_where_unasked : (i : ℕ) (named : Named) → i < length nodes → IsNamedIn nodes named →
+      AsksNoneBelow nodes (suc (node_at nodes i).track) named →
+      ((label : Label) → state_named nodes (Inner i) label ≡ state_named nodes named label) → (label : Label) →
+      state_named nodes (low_at i) label ≡ state_named nodes (high_at i) label
   sides_same_where_unasked i named within valid asks same label =
       let t = (node_at nodes i).track in
       low_states i label within
       ∙ same (with_track label t false)
-      ∙ state_named-unasked named (suc t) (with_track label t false) (with_track label t true) valid asks (λ u later. with_track-later label t u false later ∙ sym (with_track-later label t u true later))
+      ∙ state_named-unasked named (suc t) (with_track label t false) (with_track label t true) valid asks
+      (λ u later. with_track-later label t u false later ∙ sym (with_track-later label t u true later))
       ∙ sym (same (with_track label t true))
       ∙ sym (high_states i label within)
 
-  equal_up_to : (k : ℕ) (a b : Named) → rank a ≤ k → rank b ≤ k → IsNamedIn nodes a → IsNamedIn nodes b → ((label : Label) → state_named nodes a label ≡ state_named nodes b label) → a ≡ b
+  equal_up_to : (k : ℕ) (a b : Named) → rank a ≤ k → rank b ≤ k → IsNamedIn nodes a → IsNamedIn nodes b →
+      ((label : Label) → state_named nodes a label ≡ state_named nodes b label) → a ≡ b
   equal_up_to k (Leaf s) (Leaf u) a_below b_below a_valid b_valid same =
       ap Leaf (sym (state_named-leaf nodes s (λ _. false)) ∙ same (λ _. false) ∙ state_named-leaf nodes u (λ _. false))
   equal_up_to zero (Leaf s) (Inner j) a_below b_below a_valid b_valid same = absurd (omega arith)
@@ -164,11 +175,17 @@ module _ (nodes : List Node) (canonical : AreCanonical nodes) where
               (sides_same_where_unasked j (Inner i) b_valid a_valid above (λ l. sym (same l)))))
           | inr not_above ↦
               let tracks : t ≡ u = omega arith in
-              ap Inner (same_place i j a_valid b_valid tracks
-              (equal_up_to k (low_at i) (low_at j) (let r = low_rank i a_valid in omega arith) (let r = low_rank j b_valid in omega arith) (low_valid i a_valid) (low_valid j b_valid)
-              (λ l. low_states i l a_valid ∙ same (with_track l t false) ∙ ap (λ (v : ℕ). state_named nodes (Inner j) (with_track l v false)) tracks ∙ sym (low_states j l b_valid)))
-              (equal_up_to k (high_at i) (high_at j) (let r = high_rank i a_valid in omega arith) (let r = high_rank j b_valid in omega arith) (high_valid i a_valid) (high_valid j b_valid)
-              (λ l. high_states i l a_valid ∙ same (with_track l t true) ∙ ap (λ (v : ℕ). state_named nodes (Inner j) (with_track l v true)) tracks ∙ sym (high_states j l b_valid))))
+              ap Inner (same_index i j a_valid b_valid tracks
+              (equal_up_to k (low_at i) (low_at j) (let r = low_rank i a_valid in omega arith)
+              (let r = low_rank j b_valid in omega arith) (low_valid i a_valid) (low_valid j b_valid)
+              (λ l. low_states i l a_valid ∙ same (with_track l t false)
+              ∙ ap (λ (v : ℕ). state_named nodes (Inner j) (with_track l v false)) tracks
+              ∙ sym (low_states j l b_valid)))
+              (equal_up_to k (high_at i) (high_at j) (let r = high_rank i a_valid in omega arith)
+              (let r = high_rank j b_valid in omega arith) (high_valid i a_valid) (high_valid j b_valid)
+              (λ l. high_states i l a_valid ∙ same (with_track l t true)
+              ∙ ap (λ (v : ℕ). state_named nodes (Inner j) (with_track l v true)) tracks
+              ∙ sym (high_states j l b_valid))))
         ]
       ]
 

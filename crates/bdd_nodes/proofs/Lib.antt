@@ -9,7 +9,7 @@ pub mod RootsLemmas
 pub mod TablesLemmas
 pub mod MarksLemmas
 pub mod MovesLemmas
-pub mod PlacesLemmas
+pub mod ElementsLemmas
 pub mod HeldLemmas
 pub mod CollectLemmas
 pub mod CollectedLemmas

@@ -11,7 +11,7 @@ pub node_of-leaf : (r : NodeRef) → r.word < 2 ^ 31 → node_of r ≡ Leaf r.wo
 unfolding node_of
 node_of-leaf r small = grind (arith, nat_tests)
 
--- a word past that is an inner node's place
+-- a word past that is an inner node's index
 pub node_of-inner : (r : NodeRef) → 2 ^ 31 ≤ r.word → node_of r ≡ Inner (r.word - 2 ^ 31)
 unfolding node_of
 node_of-inner r large = grind (arith, nat_tests)

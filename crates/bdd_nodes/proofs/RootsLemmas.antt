@@ -1,5 +1,6 @@
 -- Tables under their numbers.
-use Rattle.std.proofs.Common.{◌≡◌, ◌≢◌, ℕ, suc, zero, ◌+◌, ◌<◌, ◌≤◌, Bool, true, false, List, [], ◌∷◌, ◌++◌, length, eqb, remove, if◌then◌else◌, Option, Some, None, sym, ◌∙◌, ap, refl, subst, inl, inr, arith}
+use Rattle.std.proofs.Common.{◌≡◌, ◌≢◌, ℕ, suc, zero, ◌+◌, ◌<◌, ◌≤◌, Bool, true, false, List, [], ◌∷◌, ◌++◌, length, eqb, remove}
+use Rattle.std.proofs.Common.{if◌then◌else◌, Option, Some, None, sym, ◌∙◌, ap, refl, subst, inl, inr, arith}
 use Rattle.std.specs.Prelude.{map}
 use Rattle.std.proofs.lemmas.List.{length-map}
 use Rattle.std.proofs.lemmas.Bool.{cases_lt}
@@ -17,20 +18,24 @@ eqb-other a b other = grind (arith, nat_tests)
 eqb-same : (a b : ℕ) → a ≡ b → eqb a b ≡ true
 eqb-same a b same = grind (arith, nat_tests)
 
-pub pick-other : (t : RootTable) (rest : Option (List NodeRef)) (number : ℕ) → number_of t.id ≢ number → (if eqb (number_of t.id) number then Some t.roots else rest) ≡ rest
+pub pick-other : (t : RootTable) (rest : Option (List NodeRef)) (number : ℕ) → number_of t.id ≢ number →
+    (if eqb (number_of t.id) number then Some t.roots else rest) ≡ rest
 pick-other t rest number other = ap (λ (b : Bool). if b then Some t.roots else rest) (eqb-other _ _ other)
 
-pub pick-same : (t : RootTable) (rest : Option (List NodeRef)) (number : ℕ) → number_of t.id ≡ number → (if eqb (number_of t.id) number then Some t.roots else rest) ≡ Some t.roots
+pub pick-same : (t : RootTable) (rest : Option (List NodeRef)) (number : ℕ) → number_of t.id ≡ number →
+    (if eqb (number_of t.id) number then Some t.roots else rest) ≡ Some t.roots
 pick-same t rest number same = ap (λ (b : Bool). if b then Some t.roots else rest) (eqb-same _ _ same)
 
--- the table at a place is found under its number
-pub roots_under-at : (tables : List RootTable) (place : ℕ) → ((i j : ℕ) → i < j → j < length tables → number_at tables i < number_at tables j) → place < length tables → roots_under tables (number_at tables place) ≡ Some (table_at tables place).roots
-roots_under-at [] place rise within = absurd (omega arith)
+-- the table at a position is found under its number
+pub roots_under-at : (tables : List RootTable) (position : ℕ) →
+    ((i j : ℕ) → i < j → j < length tables → number_at tables i < number_at tables j) → position < length tables →
+    roots_under tables (number_at tables position) ≡ Some (table_at tables position).roots
+roots_under-at [] position rise within = absurd (omega arith)
 roots_under-at (t ∷ tables) zero rise within = pick-same t _ _ refl
-roots_under-at (t ∷ tables) (suc place) rise within =
-    let above : number_at (t ∷ tables) 0 < number_at (t ∷ tables) (suc place) = rise 0 (suc place) (omega arith) within in
-    pick-other t _ _ (λ e. let f : number_at (t ∷ tables) 0 ≡ number_at (t ∷ tables) (suc place) = e in omega arith)
-    ∙ roots_under-at tables place (λ i j less in_range. rise (suc i) (suc j) (omega arith) (omega arith)) (omega arith)
+roots_under-at (t ∷ tables) (suc position) rise within =
+    let above : number_at (t ∷ tables) 0 < number_at (t ∷ tables) (suc position) = rise 0 (suc position) (omega arith) within in
+    pick-other t _ _ (λ e. let f : number_at (t ∷ tables) 0 ≡ number_at (t ∷ tables) (suc position) = e in omega arith)
+    ∙ roots_under-at tables position (λ i j less in_range. rise (suc i) (suc j) (omega arith) (omega arith)) (omega arith)
 
 -- where no table has the number, nothing is found
 pub roots_under-none : (tables : List RootTable) (number : ℕ) → ((i : ℕ) → i < length tables → number_at tables i ≢ number) → roots_under tables number ≡ None
@@ -40,24 +45,29 @@ roots_under-none (t ∷ tables) number other =
     ∙ roots_under-none tables number (λ i within. other (suc i) (omega arith))
 
 -- a table put at the end leaves what other numbers have
-pub roots_under-push_other : (tables : List RootTable) (t : RootTable) (number : ℕ) → number_of t.id ≢ number → roots_under (tables ++ t ∷ []) number ≡ roots_under tables number
+pub roots_under-push_other : (tables : List RootTable) (t : RootTable) (number : ℕ) → number_of t.id ≢ number →
+    roots_under (tables ++ t ∷ []) number ≡ roots_under tables number
 roots_under-push_other [] t number other = pick-other t None number other
 roots_under-push_other (u ∷ tables) t number other =
     ap (λ (rest : Option (List NodeRef)). if eqb (number_of u.id) number then Some u.roots else rest) (roots_under-push_other tables t number other)
 
 -- and is found where its number had none
-pub roots_under-push_same : (tables : List RootTable) (t : RootTable) → ((i : ℕ) → i < length tables → number_at tables i ≢ number_of t.id) → roots_under (tables ++ t ∷ []) (number_of t.id) ≡ Some t.roots
+pub roots_under-push_same : (tables : List RootTable) (t : RootTable) →
+    ((i : ℕ) → i < length tables → number_at tables i ≢ number_of t.id) →
+    roots_under (tables ++ t ∷ []) (number_of t.id) ≡ Some t.roots
 roots_under-push_same [] t other = pick-same t None _ refl
 roots_under-push_same (u ∷ tables) t other =
     pick-other u _ _ (other 0 (omega arith))
     ∙ roots_under-push_same tables t (λ i within. other (suc i) (omega arith))
 
 -- a table taken out leaves what other numbers have
-pub roots_under-remove_other : (tables : List RootTable) (place number : ℕ) → place < length tables → number_at tables place ≢ number → roots_under (remove tables place) number ≡ roots_under tables number
-roots_under-remove_other [] place number within other = absurd (omega arith)
+pub roots_under-remove_other : (tables : List RootTable) (position number : ℕ) → position < length tables →
+    number_at tables position ≢ number → roots_under (remove tables position) number ≡ roots_under tables number
+roots_under-remove_other [] position number within other = absurd (omega arith)
 roots_under-remove_other (t ∷ tables) zero number within other = sym (pick-other t (roots_under tables number) number other)
-roots_under-remove_other (t ∷ tables) (suc place) number within other =
-    ap (λ (rest : Option (List NodeRef)). if eqb (number_of t.id) number then Some t.roots else rest) (roots_under-remove_other tables place number (omega arith) other)
+roots_under-remove_other (t ∷ tables) (suc position) number within other =
+    ap (λ (rest : Option (List NodeRef)). if eqb (number_of t.id) number then Some t.roots else rest)
+    (roots_under-remove_other tables position number (omega arith) other)
 
 -- a search by halves: the number isn't below `low`, nor from `high` on
 pub record IsBetween (tables : List RootTable) (number low high : ℕ) : Type 0 where
@@ -67,7 +77,10 @@ pub record IsBetween (tables : List RootTable) (number low high : ℕ) : Type 0 
   pub below : (i : ℕ) → high ≤ i → i < length tables → number < number_at tables i
 
 -- the lower half is left behind
-pub IsBetween-upper : (tables : List RootTable) (number low high middle : ℕ) → ((i j : ℕ) → i < j → j < length tables → number_at tables i < number_at tables j) → IsBetween tables number low high → middle < high → number_at tables middle < number → IsBetween tables number (middle + 1) high
+pub IsBetween-upper : (tables : List RootTable) (number low high middle : ℕ) →
+    ((i j : ℕ) → i < j → j < length tables → number_at tables i < number_at tables j) →
+    IsBetween tables number low high → middle < high → number_at tables middle < number →
+    IsBetween tables number (middle + 1) high
 IsBetween-upper tables number low high middle rise between inside less = record {
   ordered = omega arith;
   within = between.within;
@@ -86,24 +99,29 @@ IsBetween-none tables number low high between past = roots_under-none tables num
 ])
 
 -- a table taken out is gone
-pub roots_under-remove_same : (tables : List RootTable) (place : ℕ) → ((i j : ℕ) → i < j → j < length tables → number_at tables i < number_at tables j) → place < length tables → roots_under (remove tables place) (number_at tables place) ≡ None
-roots_under-remove_same [] place rise within = absurd (omega arith)
+pub roots_under-remove_same : (tables : List RootTable) (position : ℕ) →
+    ((i j : ℕ) → i < j → j < length tables → number_at tables i < number_at tables j) → position < length tables →
+    roots_under (remove tables position) (number_at tables position) ≡ None
+roots_under-remove_same [] position rise within = absurd (omega arith)
 roots_under-remove_same (t ∷ tables) zero rise within =
     roots_under-none tables (number_of t.id) (λ i in_range same.
     let above : number_at (t ∷ tables) 0 < number_at (t ∷ tables) (suc i) = rise 0 (suc i) (omega arith) (omega arith) in
     let e : number_at (t ∷ tables) (suc i) ≡ number_at (t ∷ tables) 0 = same in omega arith)
-roots_under-remove_same (t ∷ tables) (suc place) rise within =
-    let above : number_at (t ∷ tables) 0 < number_at (t ∷ tables) (suc place) = rise 0 (suc place) (omega arith) within in
-    pick-other t _ _ (λ e. let f : number_at (t ∷ tables) 0 ≡ number_at (t ∷ tables) (suc place) = e in omega arith)
-    ∙ roots_under-remove_same tables place (λ i j less in_range. rise (suc i) (suc j) (omega arith) (omega arith)) (omega arith)
+roots_under-remove_same (t ∷ tables) (suc position) rise within =
+    let above : number_at (t ∷ tables) 0 < number_at (t ∷ tables) (suc position) = rise 0 (suc position) (omega arith) within in
+    pick-other t _ _ (λ e. let f : number_at (t ∷ tables) 0 ≡ number_at (t ∷ tables) (suc position) = e in omega arith)
+    ∙ roots_under-remove_same tables position (λ i j less in_range. rise (suc i) (suc j) (omega arith) (omega arith)) (omega arith)
 
-number_at-map : (f : RootTable → RootTable) (tables : List RootTable) (i : ℕ) → ((t : RootTable) → number_of (f t).id ≡ number_of t.id) → number_at (map f tables) i ≡ number_at tables i
+number_at-map : (f : RootTable → RootTable) (tables : List RootTable) (i : ℕ) →
+    ((t : RootTable) → number_of (f t).id ≡ number_of t.id) → number_at (map f tables) i ≡ number_at tables i
 number_at-map f [] i same = refl
 number_at-map f (t ∷ tables) zero same = same t
 number_at-map f (t ∷ tables) (suc i) same = number_at-map f tables i same
 
 -- tables with other roots are numbered as before
-pub AreNumbered-map : (f : RootTable → RootTable) (tables : List RootTable) (added : ℕ) → ((t : RootTable) → number_of (f t).id ≡ number_of t.id) → AreNumbered tables added → AreNumbered (map f tables) added
+pub AreNumbered-map : (f : RootTable → RootTable) (tables : List RootTable) (added : ℕ) →
+    ((t : RootTable) → number_of (f t).id ≡ number_of t.id) → AreNumbered tables added →
+    AreNumbered (map f tables) added
 AreNumbered-map f tables added same numbered =
     let len : length (map f tables) ≡ length tables = simp length-map in
     record {

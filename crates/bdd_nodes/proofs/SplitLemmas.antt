@@ -4,7 +4,8 @@ use Rattle.std.proofs.lemmas.Bool.{ltb-true, ltb-false, lt-ltb}
 use Rattle.bdd_nodes.specs.declared.node_ref.NodeRef.{NodeRef}
 use Rattle.bdd_nodes.specs.declared.node_ref.Named.{Named}
 use Rattle.bdd_nodes.specs.declared.node_ref.Named.TheVariants.{Leaf, Inner}
-use Rattle.bdd_nodes.specs.Nodes.{Label, node_of, node_at, first_track, IsNamedIn, AsksNoneBelow}
+use Rattle.labels.specs.Labels.{Label}
+use Rattle.bdd_nodes.specs.Nodes.{node_of, node_at, first_track, IsNamedIn, AsksNoneBelow}
 use Rattle.bdd_nodes.specs.Shelf.{Contents, IsShelf, IsValid, Splits, SameFunction, AsksFrom, state_of, top_of, low_of, high_of, rank_of}
 use Rattle.bdd_nodes.specs.Changes.{is_valid, is_named_in}
 use Rattle.bdd_nodes.proofs.RefLemmas.{node_of-injective}
@@ -17,7 +18,8 @@ same_reference shelf a b is_shelf a_valid b_valid same =
     node_of-injective a b (equal_named shelf.nodes is_shelf.canonical (node_of a) (node_of b) a_valid b_valid same)
 
 -- what isn't asked doesn't matter
-pub unasked : (shelf : Contents) (r : NodeRef) (t : ℕ) (l m : Label) → IsShelf shelf → IsValid shelf r → AsksFrom shelf t r → ((u : ℕ) → t ≤ u → l u ≡ m u) → state_of shelf r l ≡ state_of shelf r m
+pub unasked : (shelf : Contents) (r : NodeRef) (t : ℕ) (l m : Label) → IsShelf shelf → IsValid shelf r →
+    AsksFrom shelf t r → ((u : ℕ) → t ≤ u → l u ≡ m u) → state_of shelf r l ≡ state_of shelf r m
 unasked shelf r t l m is_shelf valid asks agree =
     state_named-unasked shelf.nodes is_shelf.canonical (node_of r) t l m valid asks agree
 
@@ -27,14 +29,16 @@ AsksFrom-weaker shelf r s t below asks = AsksNoneBelow-weaker shelf.nodes s t (n
 -- a reference is a leaf, which every shelf has and which asks nothing, or it splits at the track that it asks first
 pub data Cases (shelf : Contents) (r : NodeRef) : Type 0 where
   is_leaf : top_of shelf r ≡ None → ((other : Contents) → IsValid other r) → ((t : ℕ) → AsksFrom shelf t r) → Cases shelf r
-  splits : (track : ℕ) → top_of shelf r ≡ Some track → Splits shelf r track → ((t : ℕ) → t ≤ track → AsksFrom shelf t r) → ((t : ℕ) → AsksFrom shelf t r → t ≤ track) → Cases shelf r
+  splits : (track : ℕ) → top_of shelf r ≡ Some track → Splits shelf r track →
+      ((t : ℕ) → t ≤ track → AsksFrom shelf t r) → ((t : ℕ) → AsksFrom shelf t r → t ≤ track) → Cases shelf r
 
 cases_named : (shelf : Contents) (r : NodeRef) (named : Named) → IsShelf shelf → IsValid shelf r → node_of r ≡ named → Cases shelf r
 cases_named shelf r (Leaf state) is_shelf valid named =
-    is_leaf (ap (first_track shelf.nodes) named) (λ other. subst (IsNamedIn other.nodes) (sym named) tt) (λ t. subst (AsksNoneBelow shelf.nodes t) (sym named) tt)
-cases_named shelf r (Inner place) is_shelf valid named =
-    splits (node_at shelf.nodes place).track (ap (first_track shelf.nodes) named)
-    (Splits-inner shelf is_shelf r place named (subst (IsNamedIn shelf.nodes) named valid))
+    is_leaf (ap (first_track shelf.nodes) named) (λ other. subst (IsNamedIn other.nodes) (sym named) tt)
+    (λ t. subst (AsksNoneBelow shelf.nodes t) (sym named) tt)
+cases_named shelf r (Inner index) is_shelf valid named =
+    splits (node_at shelf.nodes index).track (ap (first_track shelf.nodes) named)
+    (Splits-inner shelf is_shelf r index named (subst (IsNamedIn shelf.nodes) named valid))
     (λ t below. subst (AsksNoneBelow shelf.nodes t) (sym named) below)
     (λ t asks. subst (AsksNoneBelow shelf.nodes t) named asks)
 
@@ -44,11 +48,11 @@ cases_of shelf r is_shelf valid = cases_named shelf r (node_of r) is_shelf valid
 -- the test of validity decides it
 is_named_in-true : (shelf : Contents) (named : Named) → is_named_in shelf.nodes named ≡ true → IsNamedIn shelf.nodes named
 is_named_in-true shelf (Leaf state) test = tt
-is_named_in-true shelf (Inner place) test = ltb-true place (length shelf.nodes) test
+is_named_in-true shelf (Inner index) test = ltb-true index (length shelf.nodes) test
 
 is_named_in-false : (shelf : Contents) (named : Named) → is_named_in shelf.nodes named ≡ false → IsNamedIn shelf.nodes named → ⊥
 is_named_in-false shelf (Leaf state) test valid = cc
-is_named_in-false shelf (Inner place) test valid = let past = ltb-false place (length shelf.nodes) test in omega arith
+is_named_in-false shelf (Inner index) test valid = let past = ltb-false index (length shelf.nodes) test in omega arith
 
 pub is_valid-true : (shelf : Contents) (r : NodeRef) → is_valid shelf r ≡ true → IsValid shelf r
 unfolding is_valid
@@ -60,7 +64,7 @@ is_valid-false shelf r test valid = is_named_in-false shelf (node_of r) test val
 
 is_named_in-IsNamedIn : (shelf : Contents) (named : Named) → IsNamedIn shelf.nodes named → is_named_in shelf.nodes named ≡ true
 is_named_in-IsNamedIn shelf (Leaf state) valid = refl
-is_named_in-IsNamedIn shelf (Inner place) valid = lt-ltb place (length shelf.nodes) valid
+is_named_in-IsNamedIn shelf (Inner index) valid = lt-ltb index (length shelf.nodes) valid
 
 pub is_valid-IsValid : (shelf : Contents) (r : NodeRef) → IsValid shelf r → is_valid shelf r ≡ true
 unfolding is_valid
@@ -76,12 +80,12 @@ module _ (shelf : Contents) (is_shelf : IsShelf shelf) (label : Label) where
   small_within k r (Leaf state) named below valid =
       let leaf = IsLeaf-named r state named in
       subst (λ (n : ℕ). n < 2 ^ 31) (sym (leaf.states shelf label)) leaf.small
-  small_within zero r (Inner place) named below valid =
-      let split = Splits-inner shelf is_shelf r place named (subst (IsNamedIn shelf.nodes) named valid) in
+  small_within zero r (Inner index) named below valid =
+      let split = Splits-inner shelf is_shelf r index named (subst (IsNamedIn shelf.nodes) named valid) in
       absurd (let falls = split.low_falls in omega arith)
-  small_within (suc k) r (Inner place) named below valid =
-      let track = (node_at shelf.nodes place).track in
-      let split = Splits-inner shelf is_shelf r place named (subst (IsNamedIn shelf.nodes) named valid) in
+  small_within (suc k) r (Inner index) named below valid =
+      let track = (node_at shelf.nodes index).track in
+      let split = Splits-inner shelf is_shelf r index named (subst (IsNamedIn shelf.nodes) named valid) in
       subst (λ (n : ℕ). n < 2 ^ 31) (sym (split.states label))
       (small-if (label track) (state_of shelf (high_of shelf r) label) (state_of shelf (low_of shelf r) label)
       (small_within k (high_of shelf r) (node_of (high_of shelf r)) refl (let falls = split.high_falls in omega arith) split.high.valid)

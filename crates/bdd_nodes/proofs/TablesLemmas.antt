@@ -29,7 +29,9 @@ module _ (shelf : Contents) (is_shelf : IsShelf shelf) (t : RootTable) (number :
   elsewhere : (other : ℕ) → other ≢ number_of t.id → roots_of with_table other ≡ roots_of shelf other
   elsewhere other differs = roots_under-push_other shelf.roots.tables t other (λ e. differs (sym e))
 
-  root_is : (o u : Option (List NodeRef)) (index : ℕ) (root : NodeRef) → o ≡ u → option_and_then (λ roots. slice_get roots index) o ≡ Some root → option_and_then (λ roots. slice_get roots index) u ≡ Some root
+  root_is : (o u : Option (List NodeRef)) (index : ℕ) (root : NodeRef) → o ≡ u →
+      option_and_then (λ roots. slice_get roots index) o ≡ Some root →
+      option_and_then (λ roots. slice_get roots index) u ≡ Some root
   root_is o u index root same there = ap (λ (v : Option (List NodeRef)). option_and_then (λ roots. slice_get roots index) v) (sym same) ∙ there
 
   roots_valid : (other index : ℕ) (root : NodeRef) → root_of with_table other index ≡ Some root → IsValid shelf root

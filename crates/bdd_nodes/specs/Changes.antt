@@ -5,7 +5,8 @@ use Rattle.bdd_nodes.specs.declared.node_ref.Named.{Named}
 use Rattle.bdd_nodes.specs.declared.node_ref.Named.TheVariants.{Leaf, Inner}
 use Rattle.bdd_nodes.specs.declared.node.Node.{Node}
 use Rattle.bdd_nodes.specs.declared.roots.RootTable.{RootTable}
-use Rattle.bdd_nodes.specs.Nodes.{Label, Function, node_of, first_track}
+use Rattle.labels.specs.Labels.{Label, Function}
+use Rattle.bdd_nodes.specs.Nodes.{node_of, first_track}
 use Rattle.bdd_nodes.specs.Roots.{root_under}
 use Rattle.bdd_nodes.specs.Shelf.{Contents, limit_of, IsValid, state_of, top_of, low_of, high_of, low_named, high_named, AsksFrom, roots_of, root_of, tables_added}
 
@@ -45,7 +46,7 @@ pub record DropsTable (old new : Contents) (number : ℕ) : Type 0 where
 -- whether the shelf has what the reference names
 abbrev pub is_named_in : List Node → Named → Bool
 is_named_in nodes (Leaf state) = true
-is_named_in nodes (Inner place) = nat_lt place (length nodes)
+is_named_in nodes (Inner index) = nat_lt index (length nodes)
 
 -- whether the reference is valid
 unfoldable pub is_valid : Contents → NodeRef → Bool
@@ -69,7 +70,7 @@ pub record ReachesFunction (shelf : Contents) (from : NodeRef) (function : Funct
   pub states : (label : Label) → state_of shelf at label ≡ function label
 
 -- an inner node under a root of a table
-pub record IsUnder (nodes : List Node) (tables : List RootTable) (r : NodeRef) : Type 0 where
+pub record IsUnderRoot (nodes : List Node) (tables : List RootTable) (r : NodeRef) : Type 0 where
   pub track : ℕ
   pub inner : first_track nodes (node_of r) ≡ Some track
   pub number : ℕ
@@ -80,7 +81,7 @@ pub record IsUnder (nodes : List Node) (tables : List RootTable) (r : NodeRef) :
 
 -- an inner node under a registered root
 abbrev pub IsHeld : Contents → NodeRef → Type 0
-IsHeld shelf r = IsUnder shelf.nodes shelf.roots.tables r
+IsHeld shelf r = IsUnderRoot shelf.nodes shelf.roots.tables r
 
 -- so many inner nodes stand under registered roots, each counted once
 pub record CountsHeld (shelf : Contents) (count : ℕ) : Type 0 where

@@ -9,9 +9,9 @@ use Rattle.bdd_nodes.specs.declared.roots.RootTable.{RootTable}
 use Rattle.bdd_nodes.specs.Nodes.{node_of, node_at}
 use Rattle.bdd_nodes.specs.Changes.{Reaches}
 
--- the reference of the inner node at a place
+-- the reference of the inner node at an index
 abbrev pub reference_to : ℕ → NodeRef
-reference_to place = record { word = place + 2 ^ 31 }
+reference_to index = record { word = index + 2 ^ 31 }
 
 -- the roots of all tables, one table after the other
 abbrev pub all_roots : List RootTable → List NodeRef
@@ -20,18 +20,18 @@ all_roots tables = flat_map (λ table. table.roots) tables
 -- the marks with one more, where an inner node is named
 abbrev pub with_mark : List ℕ → Named → List ℕ
 with_mark marks (Leaf state) = marks
-with_mark marks (Inner place) = slice_set marks place 1
+with_mark marks (Inner index) = slice_set marks index 1
 
 -- a leaf needs no mark, and an inner node has one
 abbrev pub IsMarked : List ℕ → Named → Type 0
 IsMarked marks (Leaf state) = Unit {0}
-IsMarked marks (Inner place) = slice_index marks place ≡ 1
+IsMarked marks (Inner index) = slice_index marks index ≡ 1
 
--- one of the references names the place
-pub record SomeNames (roots : List NodeRef) (place : ℕ) : Type 0 where
+-- one of the references names the index
+pub record SomeNames (roots : List NodeRef) (index : ℕ) : Type 0 where
   pub root : NodeRef
   pub there : Contains roots root
-  pub names : node_of root ≡ Inner place
+  pub names : node_of root ≡ Inner index
 
 -- the marks grow by those of the references, and by no others
 pub record MarksList (roots : List NodeRef) (old new : List ℕ) : Type 0 where
@@ -41,13 +41,13 @@ pub record MarksList (roots : List NodeRef) (old new : List ℕ) : Type 0 where
   pub marked : (r : NodeRef) → Contains roots r → IsMarked new (node_of r)
   pub sound : (i : ℕ) → slice_index new i ≡ 1 → (slice_index old i ≡ 1 → ⊥) → SomeNames roots i
 
--- a marked place from which the node at another one is reached
-pub record FromMarked (nodes : List Node) (marks : List ℕ) (place : ℕ) : Type 0 where
+-- a marked index from which the node at another one is reached
+pub record FromMarked (nodes : List Node) (marks : List ℕ) (index : ℕ) : Type 0 where
   pub start : ℕ
   pub marked : slice_index marks start ≡ 1
-  pub reached : Reaches nodes (reference_to start) (reference_to place)
+  pub reached : Reaches nodes (reference_to start) (reference_to index)
 
--- the marks grow by what is reached from marked nodes, and by nothing else; from a place on, the sides of marked nodes
+-- the marks grow by what is reached from marked nodes, and by nothing else; from an index on, the sides of marked nodes
 -- are marked
 pub record MarksSides (nodes : List Node) (old new : List ℕ) (from : ℕ) : Type 0 where
   pub len : length new ≡ length old
@@ -57,15 +57,15 @@ pub record MarksSides (nodes : List Node) (old new : List ℕ) (from : ℕ) : Ty
   pub high : (i : ℕ) → from ≤ i → i < length nodes → slice_index new i ≡ 1 → IsMarked new (node_of (node_at nodes i).high)
   pub sound : (i : ℕ) → slice_index new i ≡ 1 → FromMarked nodes old i
 
--- how many places below are marked: the place that a marked node moves to
+-- how many indices below are marked: the index that a marked node moves to
 abbrev pub marked_below : List ℕ → ℕ → ℕ
 marked_below marks zero = 0
-marked_below marks (suc place) = marked_below marks place + slice_index marks place
+marked_below marks (suc index) = marked_below marks index + slice_index marks index
 
 -- what becomes of a reference to a leaf or a marked node
 abbrev pub moved_named : List ℕ → NodeRef → Named → NodeRef
 moved_named marks r (Leaf state) = r
-moved_named marks r (Inner place) = reference_to (marked_below marks place)
+moved_named marks r (Inner index) = reference_to (marked_below marks index)
 
 abbrev pub moved : List ℕ → NodeRef → NodeRef
 moved marks r = moved_named marks r (node_of r)
@@ -78,11 +78,11 @@ moved_node marks n = record { track = n.track; low = moved marks n.low; high = m
 abbrev pub moved_table : List ℕ → RootTable → RootTable
 moved_table marks table = record { id = table.id; roots = map (moved marks) table.roots }
 
--- each marked place has the link to where its node moves
+-- each marked index has the link to where its node moves
 pub record AreLinks (marks links : List ℕ) (below : ℕ) : Type 0 where
   pub at : (i : ℕ) → i < below → slice_index marks i ≡ 1 → slice_index links i ≡ marked_below marks i + 1
 
--- the marked nodes below a place have moved, and the others stand where they stood
+-- the marked nodes below an index have moved, and the others stand where they stood
 pub record MovesBelow (nodes : List Node) (marks : List ℕ) (now : List Node) (links : List ℕ) (below : ℕ) : Type 0 where
   pub len : length now ≡ length nodes
   pub links_len : length links ≡ length marks
@@ -94,7 +94,7 @@ pub record MovesBelow (nodes : List Node) (marks : List ℕ) (now : List Node) (
 -- what becomes of a reference by the links
 abbrev pub linked_named : List ℕ → NodeRef → Named → NodeRef
 linked_named links r (Leaf state) = r
-linked_named links r (Inner place) = reference_to (slice_index links place - 1)
+linked_named links r (Inner index) = reference_to (slice_index links index - 1)
 
 abbrev pub linked : List ℕ → NodeRef → NodeRef
 linked links r = linked_named links r (node_of r)
@@ -102,7 +102,7 @@ linked links r = linked_named links r (node_of r)
 -- a leaf needs no link, and an inner node has one
 abbrev pub IsLinked : List ℕ → Named → Type 0
 IsLinked links (Leaf state) = Unit {0}
-IsLinked links (Inner place) = (place < length links) × (1 ≤ slice_index links place) × (slice_index links place ≤ 2 ^ 31)
+IsLinked links (Inner index) = (index < length links) × (1 ≤ slice_index links index) × (slice_index links index ≤ 2 ^ 31)
 
 -- a table with its roots replaced by the links
 abbrev pub linked_table : List ℕ → RootTable → RootTable

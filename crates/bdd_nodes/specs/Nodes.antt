@@ -1,37 +1,30 @@
 -- Lists of decision nodes: which function from labels to states a reference stands for, and what it asks.
 -- (Shared, reduced and ordered decision diagrams with many leaves: Bryant 1986; Klarlund and Schwartzbach 1993.)
 use Rattle.std.specs.Prelude.{◌≡◌, ◌≢◌, ℕ, suc, ◌-◌, ◌^◌, ◌<◌, ◌≤◌, Bool, List, [], ◌∷◌, ◌++◌, length, fold, Option, Some, None, MatchOption, slice_index_or, nat_lt, if◌then◌else◌}
+use Rattle.labels.specs.Labels.{Function}
 use Rattle.bdd_nodes.specs.declared.node_ref.NodeRef.{NodeRef}
 use Rattle.bdd_nodes.specs.declared.node_ref.Named.{Named}
 use Rattle.bdd_nodes.specs.declared.node_ref.Named.TheVariants.{Leaf, Inner}
 use Rattle.bdd_nodes.specs.declared.node.Node.{Node}
 
--- which tracks are set
-abbrev pub Label : Type 0
-Label = ℕ → Bool
-
--- a function from labels to states
-abbrev pub Function : Type 0
-Function = Label → ℕ
-
 -- what the reference names: the words below 2 ^ 31 are the leaves
 unfoldable pub node_of : NodeRef → Named
 node_of r = if nat_lt r.word (2 ^ 31) then Leaf r.word else Inner (r.word - 2 ^ 31)
 
--- how many places the reference looks back over: a node's references have lower ranks than the node
+-- how many indices the reference looks back over: a node's references have lower ranks than the node
 abbrev pub rank : Named → ℕ
 rank (Leaf state) = 0
-rank (Inner place) = suc place
+rank (Inner index) = suc index
 
--- the node at a place, and a node of no use past the end
+-- the node at an index, and a node of no use past the end
 abbrev pub node_at : List Node → ℕ → Node
-node_at nodes place =
-    slice_index_or nodes place (record { track = 0; low = record { word = 0 }; high = record { word = 0 } })
+node_at nodes index =
+    slice_index_or nodes index (record { track = 0; low = record { word = 0 }; high = record { word = 0 } })
 
 -- the function that is named, over the functions of the nodes
 abbrev pub function_named : List Function → Named → Function
 function_named functions (Leaf state) = λ _. state
-function_named functions (Inner place) = slice_index_or functions place (λ _. 0)
+function_named functions (Inner index) = slice_index_or functions index (λ _. 0)
 
 -- a node's function picks the high side where its track is set, over the functions of the nodes before
 abbrev pub node_function : List Function → Node → Function
@@ -54,20 +47,20 @@ state_named nodes = function_named (functions_of nodes)
 -- the reference names a leaf or one of the nodes
 abbrev pub IsNamedIn : List Node → Named → Type 0
 IsNamedIn nodes (Leaf state) = Unit {0}
-IsNamedIn nodes (Inner place) = place < length nodes
+IsNamedIn nodes (Inner index) = index < length nodes
 
 -- the track that is asked first
 abbrev pub first_track : List Node → Named → Option ℕ
 first_track nodes (Leaf state) = None
-first_track nodes (Inner place) = Some (node_at nodes place).track
+first_track nodes (Inner index) = Some (node_at nodes index).track
 
 -- no track below t is asked: nodes ask their tracks in order, so the first one tells
 abbrev pub AsksNoneBelow : List Node → ℕ → Named → Type 0
 AsksNoneBelow nodes t named = MatchOption (first_track nodes named) (Unit {0}) (λ first. t ≤ first)
 
--- a side of the node of track t at a place: it stands before that place, and asks later tracks alone
-pub record IsSide (nodes : List Node) (place t : ℕ) (r : NodeRef) : Type 0 where
-  pub before : rank (node_of r) ≤ place
+-- a side of the node of track t at an index: it stands before that index, and asks later tracks alone
+pub record IsSide (nodes : List Node) (index t : ℕ) (r : NodeRef) : Type 0 where
+  pub before : rank (node_of r) ≤ index
   pub later : AsksNoneBelow nodes (suc t) (node_of r)
 
 -- each node's sides stand before it, ask later tracks, and differ; and no node is there twice

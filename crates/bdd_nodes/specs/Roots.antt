@@ -23,13 +23,13 @@ roots_under (table ∷ tables) number =
 abbrev pub root_under : List RootTable → ℕ → ℕ → Option NodeRef
 root_under tables number index = option_and_then (λ roots. slice_get roots index) (roots_under tables number)
 
--- the table at a place, and one without roots past the end
+-- the table at a position, and one without roots past the end
 abbrev pub table_at : List RootTable → ℕ → RootTable
-table_at tables place = slice_index_or tables place (record { id = record { 0 = 0 }; roots = [] })
+table_at tables position = slice_index_or tables position (record { id = record { 0 = 0 }; roots = [] })
 
--- the number of the table at a place
+-- the number of the table at a position
 abbrev pub number_at : List RootTable → ℕ → ℕ
-number_at tables place = number_of (table_at tables place).id
+number_at tables position = number_of (table_at tables position).id
 
 -- the numbers rise, and each was given before
 pub record AreNumbered (tables : List RootTable) (added : ℕ) : Type 0 where

@@ -1,12 +1,13 @@
 -- The words on a shelf that contracts cite: functions, counts and tables. What stands in a shelf's records, and at
--- which place, is for the proofs of this crate alone.
+-- which index, is for the proofs of this crate alone.
 use Rattle.std.specs.Prelude.{◌≡◌, ◌≢◌, ℕ, suc, ◌^◌, ◌<◌, ◌≤◌, List, [], length, Option, Some, None, nat_lt, if◌then◌else◌, nat_eq}
 use Rattle.std.specs.List.{list_any}
 use Rattle.bdd_nodes.specs.declared.node_ref.NodeRef.{NodeRef}
 use Rattle.bdd_nodes.specs.declared.node_ref.Named.{Named}
 use Rattle.bdd_nodes.specs.declared.node_ref.Named.TheVariants.{Leaf, Inner}
 use Rattle.bdd_nodes.specs.declared.node.Node.{Node}
-use Rattle.bdd_nodes.specs.Nodes.{Label, Function, node_of, rank, node_at, state_named, IsNamedIn, first_track, AsksNoneBelow, AreCanonical}
+use Rattle.labels.specs.Labels.{Label, Function}
+use Rattle.bdd_nodes.specs.Nodes.{node_of, rank, node_at, state_named, IsNamedIn, first_track, AsksNoneBelow, AreCanonical}
 use Rattle.bdd_nodes.specs.Roots.{Registered, roots_under, root_under, AreNumbered}
 
 -- what a shelf has: its nodes, the most that it may have, and its tables of roots
@@ -42,12 +43,12 @@ top_of shelf r = first_track shelf.nodes (node_of r)
 -- the side of what is named that is taken where its first track is unset; a leaf is its own side
 abbrev pub low_named : List Node → NodeRef → Named → NodeRef
 low_named nodes r (Leaf state) = r
-low_named nodes r (Inner place) = (node_at nodes place).low
+low_named nodes r (Inner index) = (node_at nodes index).low
 
 -- the side that is taken where it is set
 abbrev pub high_named : List Node → NodeRef → Named → NodeRef
 high_named nodes r (Leaf state) = r
-high_named nodes r (Inner place) = (node_at nodes place).high
+high_named nodes r (Inner index) = (node_at nodes index).high
 
 -- the reference where the first track is unset
 abbrev pub low_of : Contents → NodeRef → NodeRef
@@ -132,13 +133,3 @@ pub record IsLeaf (r : NodeRef) (state : ℕ) : Type 0 where
   pub asks : (shelf : Contents) (t : ℕ) → AsksFrom shelf t r
   pub top : (shelf : Contents) → top_of shelf r ≡ None
   pub side : (shelf : Contents) (track : ℕ) → IsSideFor shelf track r
-
--- the label with the tracks below k set as in another one
-abbrev pub with_first : ℕ → Label → Label → Label
-with_first k other label = λ track. if nat_lt track k then other track else label track
-
--- the second function is under the first: it is what the first becomes where the tracks below some number are fixed
-pub record IsUnderFunction (f g : Function) : Type 0 where
-  pub below : ℕ
-  pub fixed : Label
-  pub states : (label : Label) → g label ≡ f (with_first below fixed label)

@@ -23,8 +23,8 @@ fn mark(marks: &mut Vec<u32>, r: NodeRef)
     requires { rank (node_of r) ≤ vec_len marks.old }
     ensures { marks.new.items ≡ with_mark marks.old.items (node_of r) }
 {
-    if let Named::Inner(place) = r.named() {
-        marks[place as usize] = 1;
+    if let Named::Inner(index) = r.named() {
+        marks[index as usize] = 1;
     }
 }
 
@@ -53,9 +53,9 @@ pub(crate) fn mark_sides(nodes: &[Node], marks: &mut Vec<u32>)
     requires fits { length nodes.now ≤ vec_len marks.old }
     ensures { MarksSides nodes.now marks.old.items marks.new.items 0 }
 {
-    for place in (0..nodes.len()).rev() {
-        if marks[place] == 1 {
-            let node = nodes[place];
+    for index in (0..nodes.len()).rev() {
+        if marks[index] == 1 {
+            let node = nodes[index];
             mark(marks, node.low);
             mark(marks, node.high);
         }
@@ -70,11 +70,11 @@ fn linked(links: &[u32], r: NodeRef) -> NodeRef
 {
     match r.named() {
         Named::Leaf(_) => r,
-        Named::Inner(place) => NodeRef::inner(links[place as usize] - 1),
+        Named::Inner(index) => NodeRef::inner(links[index as usize] - 1),
     }
 }
 
-/// Moves the marked nodes to the front, puts links in place of their marks, and counts them.
+/// Moves the marked nodes to the front, puts links in index of their marks, and counts them.
 pub(crate) fn move_nodes(nodes: &mut [Node], marks: &mut Vec<u32>) -> usize
     requires canonical { AreCanonical nodes.old }
     requires closed { AreClosed nodes.old marks.old.items }
@@ -84,16 +84,16 @@ pub(crate) fn move_nodes(nodes: &mut [Node], marks: &mut Vec<u32>) -> usize
     ensures moved { MovesBelow nodes.old marks.old.items nodes.new marks.new.items (length nodes.old) }
 {
     let mut kept = 0;
-    for place in 0..nodes.len() {
-        if marks[place] == 1 {
-            let node = nodes[place];
+    for index in 0..nodes.len() {
+        if marks[index] == 1 {
+            let node = nodes[index];
             nodes[kept] = Node {
                 track: node.track,
                 low: linked(marks, node.low),
                 high: linked(marks, node.high),
             };
             kept += 1;
-            marks[place] = kept as u32;
+            marks[index] = kept as u32;
         }
     }
     kept

@@ -1,4 +1,4 @@
-//! Finding a node: chains of places, one for each bucket.
+//! Finding a node: chains of indices, one for each bucket.
 
 ghost use Rattle.std.specs.Prelude.{◌≡◌, ◌≢◌, ◌+◌, ◌<◌, ◌≤◌, ◌^◌, ℕ, length, vec_len, slice_index, slice_set, IfSome, IfNone};
 ghost use Rattle.bdd_nodes.specs.Nodes.{node_at};
@@ -8,50 +8,50 @@ ghost use Rattle.bdd_nodes.specs.Index.{IsIndexed};
 use crate::collecting;
 use crate::node::Node;
 
-/// Chains of places. A link is a place plus one, and 0 ends a chain.
+/// Chains of indices. A link is an index plus one, and 0 ends a chain.
 #[derive(Debug, Drop)]
 pub(crate) struct Index {
     /// For each bucket the link to its latest node.
     pub(crate) buckets: Vec<u32>,
-    /// For each place the link to the node before it in its bucket.
+    /// For each index the link to the node before it in its bucket.
     pub(crate) chain: Vec<u32>,
 }
 
 impl Index {
-    /// The place of the node, if it is there.
+    /// The index of the node, if it is there.
     #[inline(always)]
     pub(crate) fn find(&self, nodes: &[Node], bucket: usize, node: Node) -> Option<u32>
         requires its { bucket ≡ bucket_of node (length self.now.buckets.items) }
         requires bucket_in { bucket < vec_len self.now.buckets }
         requires indexed { IsIndexed nodes.now self.now.buckets.items self.now.chain.items (length nodes.now) }
         requires fits { length nodes.now ≤ vec_len self.now.chain }
-        ensures found { IfSome result (λ place. node_at nodes.now place ≡ node) }
-        ensures within { IfSome result (λ place. place < length nodes.now) }
+        ensures found { IfSome result (λ index. node_at nodes.now index ≡ node) }
+        ensures within { IfSome result (λ index. index < length nodes.now) }
         ensures absent { IfNone result ((i : ℕ) → i < length nodes.now → node_at nodes.now i ≢ node) }
     {
         let mut link = self.buckets[bucket];
         while link != 0 {
-            let place = link - 1;
-            if nodes[place as usize] == node {
-                return Some(place);
+            let index = link - 1;
+            if nodes[index as usize] == node {
+                return Some(index);
             }
-            link = self.chain[place as usize];
+            link = self.chain[index as usize];
         }
         None
     }
 
-    /// Puts a place before the others of its bucket.
+    /// Puts an index before the others of its bucket.
     #[inline(always)]
-    pub(crate) fn put(&mut self, bucket: usize, place: u32)
+    pub(crate) fn put(&mut self, bucket: usize, index: u32)
         requires bucket_in { bucket < vec_len self.old.buckets }
-        requires place_in { place < vec_len self.old.chain }
-        requires link_fits { place + 1 < 2 ^ 32 }
-        ensures bucket { self.new.buckets.items ≡ slice_set self.old.buckets.items bucket (place + 1) }
+        requires index_in { index < vec_len self.old.chain }
+        requires link_fits { index + 1 < 2 ^ 32 }
+        ensures bucket { self.new.buckets.items ≡ slice_set self.old.buckets.items bucket (index + 1) }
         ensures before { self.new.chain.items
-            ≡ slice_set self.old.chain.items place (slice_index self.old.buckets.items bucket) }
+            ≡ slice_set self.old.chain.items index (slice_index self.old.buckets.items bucket) }
     {
-        self.chain[place as usize] = self.buckets[bucket];
-        self.buckets[bucket] = place + 1;
+        self.chain[index as usize] = self.buckets[bucket];
+        self.buckets[bucket] = index + 1;
     }
 
     /// Puts all nodes, and them alone.
@@ -65,9 +65,9 @@ impl Index {
     {
         collecting::clear(&mut self.buckets);
         let buckets = self.buckets.len() as u32;
-        for place in 0..nodes.len() {
-            let bucket = nodes[place].bucket(buckets);
-            self.put(bucket, place as u32);
+        for index in 0..nodes.len() {
+            let bucket = nodes[index].bucket(buckets);
+            self.put(bucket, index as u32);
         }
     }
 }

@@ -2,8 +2,8 @@
 
 ghost use Rattle.std.specs.Prelude.{◌≡◌, ℕ, ◌≤◌, ◌<◌, ◌^◌, ◌↔◌, None};
 ghost use Rattle.bdd_nodes.specs.declared.node_ref.NodeRef.{NodeRef};
-ghost use Rattle.bdd_nodes.specs.Nodes.{Label};
-ghost use Rattle.bdd_nodes.specs.Shelf.{Contents, IsShelf, IsValid, SameFunction, IsUnderFunction, AsksFrom, state_of, with_first, roots_of, tables_added};
+ghost use Rattle.labels.specs.Labels.{Label, IsUnder, with_below};
+ghost use Rattle.bdd_nodes.specs.Shelf.{Contents, IsShelf, IsValid, SameFunction, AsksFrom, state_of, roots_of, tables_added};
 ghost use Rattle.bdd_nodes.specs.Changes.{Reaches, ReachesFunction};
 
 /// Two valid references of a shelf are equal exactly where their functions are.
@@ -27,9 +27,9 @@ pub fn small_states()
 /// The references that are reached from one are exactly those of the functions under its function.
 pub fn reached_functions()
     ensures under { (shelf : Contents) (from r : NodeRef) → IsShelf shelf → IsValid shelf from
-        → Reaches shelf.nodes from r → IsUnderFunction (state_of shelf from) (state_of shelf r) }
+        → Reaches shelf.nodes from r → IsUnder (state_of shelf from) (state_of shelf r) }
     ensures reached { (shelf : Contents) (from : NodeRef) (k : ℕ) (fixed : Label) → IsShelf shelf → IsValid shelf from
-        → ReachesFunction shelf from (λ label. state_of shelf from (with_first k fixed label)) }
+        → ReachesFunction shelf from (λ label. state_of shelf from (with_below k fixed label)) }
 {}
 
 /// No table has a number that wasn't given.

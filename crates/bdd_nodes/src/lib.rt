@@ -1,7 +1,7 @@
 //! Functions from labels to states, as shared decision nodes: each function has one node.
 //! `specs/Nodes.antt` says which function a reference stands for, `specs/Shelf.antt` has the words on a shelf that
 //! contracts cite, and `specs/Changes.antt` those on a change of one. A label says which tracks are set, and a track is
-//! a plain number. No crate above looks at a node's place.
+//! a plain number. No crate above looks at a node's index.
 #![tactic(auto)]
 
 mod collecting;
@@ -11,8 +11,6 @@ mod node;
 mod node_ref;
 mod roots;
 mod shelf;
-#[cfg(test)]
-mod tests;
 
 pub use laws::{equal_references, reached_functions, small_states, unasked_tracks, unused_numbers};
 pub use node_ref::NodeRef;

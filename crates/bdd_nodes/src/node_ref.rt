@@ -2,14 +2,14 @@
 
 ghost use Rattle.std.specs.Prelude.{◌≡◌, ◌+◌, ◌<◌, ◌^◌, IfSome, IfNone, IsSome};
 
-/// Where a function is kept: a leaf with its state, or the place of an inner node. One word.
+/// Where a function is kept: a leaf with its state, or the index of an inner node. One word.
 #[derive(Clone, Copy, Debug, PartialEq, Eq, PartialOrd, Ord, Hash)]
 pub struct NodeRef {
-    /// A state below `INNER`, or `INNER` and a place.
+    /// A state below `INNER`, or `INNER` and an index.
     word: u32,
 }
 
-/// What a reference names: a leaf by its state, or an inner node by its place.
+/// What a reference names: a leaf by its state, or an inner node by its index.
 #[derive(Clone, Copy, Debug)]
 pub(crate) enum Named {
     Leaf(u32),
@@ -34,12 +34,12 @@ impl NodeRef {
 
     #[inline(always)]
     #[tactic(auto, unfolding(crate::specs::Nodes::node_of), using(std::proofs::lemmas::Bool::Decides::nat_tests))]
-    pub(crate) fn inner(place: u32) -> NodeRef
-        requires { place < 2 ^ 31 }
-        ensures { node_of result ≡ Named.Inner place }
+    pub(crate) fn inner(index: u32) -> NodeRef
+        requires { index < 2 ^ 31 }
+        ensures { node_of result ≡ Named.Inner index }
     {
         NodeRef {
-            word: place + INNER,
+            word: index + INNER,
         }
     }
 

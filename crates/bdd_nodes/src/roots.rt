@@ -75,16 +75,16 @@ impl RootSet {
         ensures added { self.new.added ≡ self.old.added }
         ensures numbered { AreNumbered self.new.tables self.new.added }
     {
-        if let Some(place) = place_of(&self.tables, id) {
-            self.tables.remove(place);
+        if let Some(position) = position_of(&self.tables, id) {
+            self.tables.remove(position);
         }
     }
 
     pub(crate) fn root(&self, id: TableId, index: u32) -> Option<NodeRef>
         ensures { result ≡ root_under self.now.tables (number_of id) index }
     {
-        let place = place_of(&self.tables, id)?;
-        self.tables[place].roots.get(index as usize).copied()
+        let position = position_of(&self.tables, id)?;
+        self.tables[position].roots.get(index as usize).copied()
     }
 
     /// Marks all roots.
@@ -105,11 +105,11 @@ impl RootSet {
     }
 }
 
-/// The place of the table with this number, by halves.
-fn place_of(tables: &[RootTable], id: TableId) -> Option<usize>
+/// The position of the table with this number, by halves.
+fn position_of(tables: &[RootTable], id: TableId) -> Option<usize>
     requires rise { (i j : ℕ) → i < j → j < length tables.now → number_at tables.now i < number_at tables.now j }
-    ensures within { IfSome result (λ place. place < length tables.now) }
-    ensures found { IfSome result (λ place. number_at tables.now place ≡ number_of id) }
+    ensures within { IfSome result (λ position. position < length tables.now) }
+    ensures found { IfSome result (λ position. number_at tables.now position ≡ number_of id) }
     ensures none { IfNone result (roots_under tables.now (number_of id) ≡ None) }
 {
     let mut low = 0;

@@ -5,7 +5,8 @@ pub(crate) mod read;
 mod tables;
 
 ghost use Rattle.std.specs.Prelude.{◌≡◌, ◌+◌, ◌<◌, ◌≤◌, ◌^◌, ◌↔◌, IfOk, OnErr, IsErr, IfSome, IfNone, if◌then◌else◌, vec_len, vec_capacity, ◌++◌, ◌∷◌, []};
-ghost use Rattle.bdd_nodes.specs.Nodes.{Label, node_of};
+ghost use Rattle.labels.specs.Labels.{Label};
+ghost use Rattle.bdd_nodes.specs.Nodes.{node_of};
 ghost use Rattle.bdd_nodes.specs.Shelf.{IsShelf, IsValid, IsSideFor, IsFullFor, Splits, AsksFrom, empty_shelf, count_of, limit_of, state_of, choice_of, top_of, low_of, high_of, label_of};
 ghost use Rattle.bdd_nodes.specs.Changes.{Keeps, SameTables, AddsOnly, is_valid};
 
@@ -92,17 +93,17 @@ impl Shelf {
         }
         let node = Node { track, low, high };
         let bucket = node.bucket(limit);
-        if let Some(place) = self.index.find(&self.nodes, bucket, node) {
-            return Ok(NodeRef::inner(place));
+        if let Some(index) = self.index.find(&self.nodes, bucket, node) {
+            return Ok(NodeRef::inner(index));
         }
-        let place = self.nodes.len() as u32;
-        let is_full = place == limit;
+        let index = self.nodes.len() as u32;
+        let is_full = index == limit;
         if is_full {
             return Err(Full);
         }
         push_within(&mut self.nodes, node);
-        self.index.put(bucket, place);
-        Ok(NodeRef::inner(place))
+        self.index.put(bucket, index);
+        Ok(NodeRef::inner(index))
     }
 }
 

@@ -6,7 +6,7 @@ use Rattle.std.proofs.lemmas.List.{length-map}
 use Rattle.std.proofs.lemmas.List.Elements.{All-cons, All-contains}
 use Rattle.std.proofs.lemmas.List.Kept.{AllPairs-cons}
 use Rattle.bdd_nodes.specs.declared.node_ref.NodeRef.{NodeRef}
-use Rattle.bdd_nodes.specs.Nodes.{Label, Function}
+use Rattle.labels.specs.Labels.{Label, Function}
 use Rattle.bdd_nodes.specs.Shelf.{Contents, IsValid, IsSideFor, IsFullFor, Has, count_of, state_of, choice_of}
 use Rattle.bdd_nodes.specs.Changes.{Keeps, AddsOnly, is_valid}
 use Rattle.bdd_nodes.proofs.SplitLemmas.{same_reference, is_valid-true, is_valid-false}
@@ -15,7 +15,8 @@ use Rattle.bdd_walk.specs.Under.{IsMissing, Exceeds, AddsParts}
 use Rattle.bdd_walk.specs.Stands.{Asking, Stands, IsPart}
 use Rattle.bdd_walk.specs.Progress.{Call, IsNew, AddsNew, Progress}
 use Rattle.bdd_walk.proofs.ShelfLemmas.{varies-of_absent, varies-choice}
-use Rattle.bdd_walk.proofs.StandsLemmas.{Stands-kept, Keeps-itself, IsUnder-part}
+use Rattle.bdd_walk.proofs.StandsLemmas.{Stands-kept, IsUnder-part}
+use Rattle.bdd_nodes.proofs.CallerLemmas.{Keeps-refl}
 
 -- what holds of all holds of all in another way
 All-weaker : {X : Type 0} (P Q : X → Type 0) → ((x : X) → P x → Q x) → (xs : List X) → All P xs → All Q xs
@@ -46,7 +47,8 @@ All-over_map P Q f over (x ∷ xs) all =
     All-cons Q (f x) (map f xs) (over x (All-head P x xs all)) (All-over_map P Q f over xs (All-tail P x xs all))
 
 -- different elements have different images
-AllPairs-over_map : {X Y : Type 0} (P : X → Type 0) (f : X → Y) → ((x y : X) → P x → P y → x ≢ y → f x ≢ f y) → (xs : List X) → All P xs → AllPairs (λ x y. x ≢ y) xs → AllPairs (λ x y. x ≢ y) (map f xs)
+AllPairs-over_map : {X Y : Type 0} (P : X → Type 0) (f : X → Y) → ((x y : X) → P x → P y → x ≢ y → f x ≢ f y) →
+    (xs : List X) → All P xs → AllPairs (λ x y. x ≢ y) xs → AllPairs (λ x y. x ≢ y) (map f xs)
 AllPairs-over_map P f apart [] all pairs = λ i j d below within. absurd (omega arith)
 AllPairs-over_map {X} {Y} P f apart (x ∷ xs) all pairs =
     AllPairs-cons (λ (a b : Y). a ≢ b) (f x) (map f xs)
@@ -64,7 +66,8 @@ AddsNew-none call = record {
   only = λ r valid. inl valid;
 }
 
-IsNew-kept : (call : Call) (old new : Contents) (answers more : Answers) → Keeps old new → KeepsAnswers answers more → (r : NodeRef) → IsNew call old answers r → IsNew call new more r
+IsNew-kept : (call : Call) (old new : Contents) (answers more : Answers) → Keeps old new →
+    KeepsAnswers answers more → (r : NodeRef) → IsNew call old answers r → IsNew call new more r
 IsNew-kept call old new answers more keeps kept r is_new = record {
   absent = is_new.absent;
   asking = is_new.asking;
@@ -73,20 +76,26 @@ IsNew-kept call old new answers more keeps kept r is_new = record {
 }
 
 -- further answers change no node
-pub AddsNew-answers : (call : Call) (shelf : Contents) (answers more : Answers) → KeepsAnswers answers more → AddsNew call shelf answers → AddsNew call shelf more
+pub AddsNew-answers : (call : Call) (shelf : Contents) (answers more : Answers) → KeepsAnswers answers more →
+    AddsNew call shelf answers → AddsNew call shelf more
 AddsNew-answers call shelf answers more kept adds = record {
   nodes = adds.nodes;
-  each = All-weaker (IsNew call shelf answers) (IsNew call shelf more) (IsNew-kept call shelf shelf answers more (Keeps-itself shelf) kept) adds.nodes adds.each;
+  each = All-weaker (IsNew call shelf answers) (IsNew call shelf more)
+      (IsNew-kept call shelf shelf answers more (Keeps-refl shelf) kept) adds.nodes adds.each;
   distinct = adds.distinct;
   count = adds.count;
   only = adds.only;
 }
 
 -- one node may be made for a part of the whole
-module _ (call : Call) (old new : Contents) (answers : Answers) (made : NodeRef) (asking : Asking) (before : Keeps call.shelf old) (keeps : Keeps old new) (only : AddsOnly old new made)
-    (count : count_of new ≡ (if is_valid old made then count_of old else count_of old + 1)) (part : IsPart call.whole asking) (stands : Stands new answers asking made) (adds : AddsNew call old answers) where
+module _ (call : Call) (old new : Contents) (answers : Answers) (made : NodeRef) (asking : Asking)
+    (before : Keeps call.shelf old) (keeps : Keeps old new) (only : AddsOnly old new made)
+    (count : count_of new ≡ (if is_valid old made then count_of old else count_of old + 1))
+    (part : IsPart call.whole asking) (stands : Stands new answers asking made)
+    (adds : AddsNew call old answers) where
   each-kept : All (IsNew call new answers) adds.nodes
-  each-kept = All-weaker (IsNew call old answers) (IsNew call new answers) (IsNew-kept call old new answers answers keeps (λ states answer was. was)) adds.nodes adds.each
+  each-kept = All-weaker (IsNew call old answers) (IsNew call new answers)
+      (IsNew-kept call old new answers answers keeps (λ states answer was. was)) adds.nodes adds.each
 
   only-there : IsValid old made → (r : NodeRef) → IsValid new r → IsValid call.shelf r ⊎ Contains adds.nodes r
   unfolding AddsOnly
@@ -123,7 +132,9 @@ module _ (call : Call) (old new : Contents) (answers : Answers) (made : NodeRef)
   ]
 
 -- every new node stands for a function under the whole
-pub AddsParts-new : (call : Call) (shelf : Contents) (answers : Answers) (given : List ℕ → ℕ) → Completes answers given → AddsNew call shelf answers → AddsParts call.shelf shelf (λ label. given (call.whole label))
+pub AddsParts-new : (call : Call) (shelf : Contents) (answers : Answers) (given : List ℕ → ℕ) →
+    Completes answers given → AddsNew call shelf answers →
+    AddsParts call.shelf shelf (λ label. given (call.whole label))
 unfolding AddsParts
 AddsParts-new call shelf answers given completes adds = λ r valid. elim (adds.only r valid) [
   | inl was ↦ inl was
@@ -133,9 +144,11 @@ AddsParts-new call shelf answers given completes adds = λ r valid. elim (adds.o
 ]
 
 -- where there is no room for a node, the new ones and this one are more than there was room for
-module _ (call : Call) (shelf : Contents) (answers : Answers) (given : List ℕ → ℕ) (completes : Completes answers given) (progress : Progress call shelf answers) (track : ℕ) (low high : NodeRef)
+module _ (call : Call) (shelf : Contents) (answers : Answers) (given : List ℕ →
+    ℕ) (completes : Completes answers given) (progress : Progress call shelf answers) (track : ℕ) (low high : NodeRef)
     (low_side : IsSideFor shelf track low) (high_side : IsSideFor shelf track high) (full : IsFullFor shelf track low high)
-    (asking : Asking) (part : IsPart call.whole asking) (answered : (label : Label) → answers (asking label) ≡ Some (choice_of shelf track low high label)) where
+    (asking : Asking) (part : IsPart call.whole asking) (answered : (label : Label) → answers (asking label)
+    ≡ Some (choice_of shelf track low high label)) where
   whole_given : Function
   whole_given = λ label. given (call.whole label)
 
@@ -182,7 +195,8 @@ module _ (call : Call) (shelf : Contents) (answers : Answers) (given : List ℕ 
     missing = All-cons (IsMissing call.shelf whole_given) (choice_of shelf track low high) (map (state_of shelf) progress.adds.nodes) choice-missing
         (All-over_map (IsNew call shelf answers) (IsMissing call.shelf whole_given) (state_of shelf) new-missing progress.adds.nodes progress.adds.each);
     distinct = AllPairs-cons (λ (f g : Function). f ≢ g) (choice_of shelf track low high) (map (state_of shelf) progress.adds.nodes)
-        (All-over_map (IsNew call shelf answers) (λ (f : Function). choice_of shelf track low high ≢ f) (state_of shelf) choice-apart progress.adds.nodes progress.adds.each)
+        (All-over_map (IsNew call shelf answers) (λ (f : Function). choice_of shelf track low high ≢ f)
+        (state_of shelf) choice-apart progress.adds.nodes progress.adds.each)
         (AllPairs-over_map (IsNew call shelf answers) (state_of shelf) new-apart progress.adds.nodes progress.adds.each progress.adds.distinct);
     more =
         let mapped = length-map progress.adds.nodes (state_of shelf) in

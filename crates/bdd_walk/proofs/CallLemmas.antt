@@ -1,30 +1,31 @@
 -- From the walk to the calls.
-use Rattle.std.proofs.Common.{◌≡◌, ℕ, suc, zero, ◌<◌, ◌≤◌, true, false, List, [], ◌∷◌, ◌++◌, drop, length, get_or, Option, Some, None, IsTrue, ◌&&◌, sym, ◌∙◌, ap, refl, subst, arith}
+use Rattle.std.proofs.Common.{◌≡◌, ℕ, suc, zero, ◌<◌, ◌≤◌, true, false, List, [], ◌∷◌, ◌++◌, drop, length, get_or, Option, Some}
+use Rattle.std.proofs.Common.{None, IsTrue, ◌&&◌, sym, ◌∙◌, ap, refl, subst, arith}
 use Rattle.std.specs.Prelude.{nat_le, slice_get, slice_index, unwrap_or}
 use Rattle.std.specs.List.{All, list_all}
 use Rattle.std.proofs.lemmas.Bool.{le-leb}
 use Rattle.std.proofs.Math.Path.{fun_ext}
 use Rattle.std.proofs.Math.Seq.{drop-append_seam, take-append_seam}
 use Rattle.bdd_nodes.specs.declared.node_ref.NodeRef.{NodeRef}
-use Rattle.bdd_nodes.specs.Nodes.{Label, Function}
+use Rattle.labels.specs.Labels.{Label, Function, with_track}
 use Rattle.bdd_nodes.specs.Shelf.{Contents, IsShelf, IsValid}
 use Rattle.bdd_nodes.specs.Changes.{is_valid}
 use Rattle.bdd_nodes.proofs.SplitLemmas.{is_valid-IsValid}
 use Rattle.bdd_walk.specs.Answers.{Answers, KeepsAnswers, Completes}
-use Rattle.bdd_walk.specs.Asked.{with_track, leaves_of, asked_of}
+use Rattle.bdd_walk.specs.Asked.{leaves_of, asked_of}
 use Rattle.bdd_walk.specs.Sides.{asked_by}
 use Rattle.bdd_walk.specs.Rules.{itself_of, renamed_by, first_state}
 use Rattle.bdd_walk.specs.Progress.{Call, Progress}
 use Rattle.bdd_walk.specs.Laws.{and-left, and-right, and-both}
-use Rattle.bdd_walk.proofs.StandsLemmas.{Keeps-itself}
 use Rattle.bdd_walk.proofs.AddsLemmas.{AddsNew-none}
+use Rattle.bdd_nodes.proofs.CallerLemmas.{Keeps-refl}
 
 -- a call that has done nothing
 pub Progress-none : (call : Call) → IsShelf call.shelf → Progress call call.shelf call.answers
 Progress-none call is_shelf = record {
   before = is_shelf;
   now = is_shelf;
-  keeps = Keeps-itself call.shelf;
+  keeps = Keeps-refl call.shelf;
   same_limit = refl;
   tables = refl;
   adds = AddsNew-none call;
@@ -38,7 +39,8 @@ valid-all shelf (r ∷ rs) all =
     and-both (is_valid shelf r) (list_all (is_valid shelf) rs) (is_valid-IsValid shelf r (all 0 r (omega arith)))
     (valid-all shelf rs (λ k d within. all (suc k) d (omega arith)))
 
-valid-append : (shelf : Contents) (xs ys : List NodeRef) → IsTrue (list_all (is_valid shelf) xs) → IsTrue (list_all (is_valid shelf) ys) → IsTrue (list_all (is_valid shelf) (xs ++ ys))
+valid-append : (shelf : Contents) (xs ys : List NodeRef) → IsTrue (list_all (is_valid shelf) xs) →
+    IsTrue (list_all (is_valid shelf) ys) → IsTrue (list_all (is_valid shelf) (xs ++ ys))
 valid-append shelf [] ys xs_valid ys_valid = ys_valid
 valid-append shelf (x ∷ xs) ys xs_valid ys_valid =
     and-both (is_valid shelf x) (list_all (is_valid shelf) (xs ++ ys)) (and-left (is_valid shelf x) (list_all (is_valid shelf) xs) xs_valid)
@@ -49,15 +51,20 @@ length-twice [] more = omega arith
 length-twice (r ∷ rs) more = let rest = length-twice rs more in omega arith
 
 -- the start of a join with a dropped track
-pub twice-in : (shelf : Contents) (rs all : List NodeRef) → all ≡ rs ++ rs → IsTrue (list_all (is_valid shelf) rs) → IsTrue (list_all (is_valid shelf) all && nat_le (length rs) (length all))
+pub twice-in : (shelf : Contents) (rs all : List NodeRef) → all ≡ rs ++ rs → IsTrue (list_all (is_valid shelf) rs) →
+    IsTrue (list_all (is_valid shelf) all && nat_le (length rs) (length all))
 twice-in shelf rs all is valid = subst (λ (ss : List NodeRef). IsTrue (list_all (is_valid shelf) ss && nat_le (length rs) (length ss))) (sym is)
     (and-both (list_all (is_valid shelf) (rs ++ rs)) (nat_le (length rs) (length (rs ++ rs))) (valid-append shelf rs rs valid valid)
     (le-leb (length rs) (length (rs ++ rs)) (length-twice rs rs)))
 
-pub twice-asked : (shelf : Contents) (rs all : List NodeRef) (t : ℕ) → all ≡ rs ++ rs → asked_of shelf rs (Some t) ≡ (λ (label : Label). asked_by shelf (Some t) (length rs) all label)
-twice-asked shelf rs all t is = subst (λ (ss : List NodeRef). asked_of shelf rs (Some t) ≡ (λ (label : Label). asked_by shelf (Some t) (length rs) ss label)) (sym is)
+pub twice-asked : (shelf : Contents) (rs all : List NodeRef) (t : ℕ) → all ≡ rs ++ rs → asked_of shelf rs (Some t)
+    ≡ (λ (label : Label). asked_by shelf (Some t) (length rs) all label)
+twice-asked shelf rs all t is =
+    subst (λ (ss : List NodeRef). asked_of shelf rs (Some t)
+    ≡ (λ (label : Label). asked_by shelf (Some t) (length rs) ss label)) (sym is)
     (fun_ext (λ (label : Label). sym (
-    ap (λ (ss : List NodeRef). leaves_of shelf ss (with_track label t false) ++ leaves_of shelf (drop (length rs) (rs ++ rs)) (with_track label t true)) (take-append_seam rs rs)
+    ap (λ (ss : List NodeRef). leaves_of shelf ss (with_track label t false)
+    ++ leaves_of shelf (drop (length rs) (rs ++ rs)) (with_track label t true)) (take-append_seam rs rs)
     ∙ ap (λ (ss : List NodeRef). leaves_of shelf rs (with_track label t false) ++ leaves_of shelf ss (with_track label t true)) (drop-append_seam rs rs))))
 
 -- the answers of the rules of this crate
@@ -91,11 +98,18 @@ get-index (number ∷ numbers) zero within = refl
 get-index (number ∷ numbers) (suc state) within = get-index numbers state (omega arith)
 
 -- what a renaming answers, however it has gone on
-pub renamed-answer : (numbers : List ℕ) (more : Answers) → KeepsAnswers (renamed_by numbers) more → (state : ℕ) → state < length numbers → more (state ∷ []) ≡ Some (slice_index numbers state)
+pub renamed-answer : (numbers : List ℕ) (more : Answers) → KeepsAnswers (renamed_by numbers) more → (state : ℕ) →
+    state < length numbers → more (state ∷ []) ≡ Some (slice_index numbers state)
 renamed-answer numbers more kept state within = kept (state ∷ []) (slice_index numbers state) (get-index numbers state within)
 
-pub renamed-given : (numbers : List ℕ) (more : Answers) → KeepsAnswers (renamed_by numbers) more → (function : Label → ℕ) → ((label : Label) → function label < length numbers) → ◌≡◌ {A = Function} (λ label. given_by more (function label ∷ [])) (λ label. slice_index numbers (function label))
-renamed-given numbers more kept function within = fun_ext (λ (label : Label). ap (λ (o : Option ℕ). unwrap_or o 0) (renamed-answer numbers more kept (function label) (within label)))
+pub renamed-given : (numbers : List ℕ) (more : Answers) → KeepsAnswers (renamed_by numbers) more →
+    (function : Label → ℕ) → ((label : Label) → function label < length numbers) →
+    ◌≡◌ {A = Function} (λ label. given_by more (function label ∷ [])) (λ label. slice_index numbers (function label))
+renamed-given numbers more kept function within =
+    fun_ext (λ (label : Label). ap (λ (o : Option ℕ). unwrap_or o 0)
+    (renamed-answer numbers more kept (function label) (within label)))
 
-pub renamed-value : (numbers : List ℕ) (more : Answers) → KeepsAnswers (renamed_by numbers) more → (state answer : ℕ) → state < length numbers → more (state ∷ []) ≡ Some answer → answer ≡ slice_index numbers state
-renamed-value numbers more kept state answer within there = let e : Some answer ≡ Some (slice_index numbers state) = sym there ∙ renamed-answer numbers more kept state within in cc
+pub renamed-value : (numbers : List ℕ) (more : Answers) → KeepsAnswers (renamed_by numbers) more →
+    (state answer : ℕ) → state < length numbers → more (state ∷ []) ≡ Some answer → answer ≡ slice_index numbers state
+renamed-value numbers more kept state answer within there = let e : Some answer ≡ Some (slice_index numbers state) =
+    sym there ∙ renamed-answer numbers more kept state within in cc

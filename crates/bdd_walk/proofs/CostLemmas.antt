@@ -31,7 +31,8 @@ cost-some w =
     let least : 2 ^ 0 ≤ 2 ^ (2 * w + 2) = pow_mono {i = 0} {j = 2 * w + 2} (omega arith) in
     omega arith
 
-pub stack_cost-push : {K : Type 0} (weight : K → ℕ) (frame : Frame K) (frames : List (Frame K)) → stack_cost weight (frames ++ frame ∷ []) ≡ stack_cost weight frames + frame_cost weight frame
+pub stack_cost-push : {K : Type 0} (weight : K → ℕ) (frame : Frame K) (frames : List (Frame K)) →
+    stack_cost weight (frames ++ frame ∷ []) ≡ stack_cost weight frames + frame_cost weight frame
 stack_cost-push weight frame [] = omega arith
 stack_cost-push weight frame (first ∷ frames) = let rest = stack_cost-push weight frame frames in omega arith
 
@@ -40,14 +41,20 @@ module _ {K : Type 0} (weight : K → ℕ) (stack : List (Frame K)) (key : K) wh
   pub visit-done : 0 + stack_cost weight stack < visit_cost weight key + stack_cost weight stack
   visit-done = let some = cost-some (weight key) in omega arith
 
-  pub visit-skip : (next : K) → weight next < weight key → visit_cost weight next + stack_cost weight (stack ++ Skip key ∷ []) < visit_cost weight key + stack_cost weight stack
+  pub visit-skip : (next : K) → weight next < weight key →
+      visit_cost weight next + stack_cost weight (stack
+      ++ Skip key ∷ []) < visit_cost weight key + stack_cost weight stack
   visit-skip next falls = let pushed = stack_cost-push weight (Skip key) stack in let less = cost-skip (weight next) (weight key) falls in omega arith
 
-  pub visit-low : (track : ℕ) (low high : K) → weight low < weight key → weight high < weight key → visit_cost weight low + stack_cost weight (stack ++ Low key track high ∷ []) < visit_cost weight key + stack_cost weight stack
+  pub visit-low : (track : ℕ) (low high : K) → weight low < weight key → weight high < weight key →
+      visit_cost weight low + stack_cost weight (stack
+      ++ Low key track high ∷ []) < visit_cost weight key + stack_cost weight stack
   visit-low track low high low_falls high_falls =
       let pushed = stack_cost-push weight (Low key track high) stack in
       let less = cost-split (weight low) (weight high) (weight key) low_falls high_falls in
       omega arith
 
-  pub visit-high : (track : ℕ) (made : NodeRef) (high : K) → visit_cost weight high + stack_cost weight (stack ++ High key track made ∷ []) < stack_cost weight stack + frame_cost weight (Low key track high)
+  pub visit-high : (track : ℕ) (made : NodeRef) (high : K) →
+      visit_cost weight high + stack_cost weight (stack
+      ++ High key track made ∷ []) < stack_cost weight stack + frame_cost weight (Low key track high)
   visit-high track made high = let pushed = stack_cost-push weight (High key track made) stack in omega arith

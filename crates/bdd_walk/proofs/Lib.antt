@@ -1,4 +1,3 @@
-pub mod LabelLemmas
 pub mod ShelfLemmas
 pub mod CostLemmas
 pub mod StandsLemmas
@@ -11,4 +10,3 @@ pub mod KeysLemmas
 pub mod OneRootLemmas
 pub mod ManyRootsLemmas
 pub mod CallLemmas
-pub mod NumberingLemmas

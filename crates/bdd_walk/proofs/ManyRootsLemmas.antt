@@ -1,21 +1,22 @@
 -- The steps from a list of references.
-use Rattle.std.proofs.Common.{◌≡◌, ℕ, suc, zero, ◌<◌, ◌≤◌, Bool, true, false, List, [], ◌∷◌, ◌++◌, map, take, drop, length, Option, Some, None, ◌&&◌, IsTrue, sym, ◌∙◌, ap, refl, subst, inl, inr, arith}
+use Rattle.std.proofs.Common.{◌≡◌, ℕ, suc, zero, ◌<◌, ◌≤◌, Bool, true, false, List, [], ◌∷◌, ◌++◌, map, take, drop, length}
+use Rattle.std.proofs.Common.{Option, Some, None, ◌&&◌, IsTrue, sym, ◌∙◌, ap, refl, subst, inl, inr, arith}
 use Rattle.std.specs.Prelude.{nat_le}
 use Rattle.std.specs.List.{list_all, AllByRecursion}
 use Rattle.std.proofs.lemmas.Bool.{eqb-true, eqb-false, leb-true, le-leb, false≢true}
 use Rattle.std.proofs.lemmas.List.{length-map, take-map, drop-map, take-append-drop}
 use Rattle.bdd_nodes.specs.declared.node_ref.NodeRef.{NodeRef}
-use Rattle.bdd_nodes.specs.Nodes.{Label}
+use Rattle.labels.specs.Labels.{Label, with_track}
 use Rattle.bdd_nodes.specs.Shelf.{Contents, IsShelf, AsksFrom, state_of}
 use Rattle.bdd_nodes.specs.Changes.{Keeps, is_valid}
 use Rattle.bdd_nodes.proofs.SplitLemmas.{is_valid-true, is_valid-IsValid}
-use Rattle.bdd_walk.specs.Asked.{with_track, leaves_of}
+use Rattle.bdd_walk.specs.Asked.{leaves_of}
 use Rattle.bdd_walk.specs.Stands.{AsksSame}
 use Rattle.bdd_walk.specs.Steps.{IsSplitBy, IsSkip, IsSplit}
 use Rattle.bdd_walk.specs.Sides.{is_first, side_at, SomeAsks, AskFirst, weight_of, asked_by}
 use Rattle.bdd_walk.specs.Laws.{and-left, and-right, and-both}
 use Rattle.bdd_walk.specs.ManyLaws.{valid-take, valid-drop}
-use Rattle.bdd_walk.proofs.LabelLemmas.{with_track-same}
+use Rattle.labels.proofs.LabelsLemmas.{with_track-same}
 use Rattle.bdd_walk.proofs.SidesLemmas.{side-known, sides-within, sides-fall, sides-valid, sides-kept, leaves-side, AskFirst-kept}
 use Rattle.bdd_walk.proofs.KeysLemmas.{IsView-itself, IsView-with_track, sides_in, sides_fall, IsSplitBy-sides, IsSplitBy-append}
 
@@ -33,12 +34,14 @@ all-drop P (suc n) (r ∷ rs) all = all-drop P n rs all.1
 abbrev pub past_of : Contents → ℕ → ℕ → List NodeRef → List NodeRef
 past_of shelf track half rs = map (side_at shelf track false) (take half rs) ++ map (side_at shelf track true) (drop half rs)
 
-take-past : (f g : NodeRef → NodeRef) (half : ℕ) (rs : List NodeRef) → half ≤ length rs → take half (map f (take half rs) ++ map g (drop half rs)) ≡ map f (take half rs)
+take-past : (f g : NodeRef → NodeRef) (half : ℕ) (rs : List NodeRef) → half ≤ length rs →
+    take half (map f (take half rs) ++ map g (drop half rs)) ≡ map f (take half rs)
 take-past f g zero rs within = refl
 take-past f g (suc n) [] within = absurd (omega arith)
 take-past f g (suc n) (r ∷ rs) within = ap (λ (ss : List NodeRef). f r ∷ ss) (take-past f g n rs (omega arith))
 
-drop-past : (f g : NodeRef → NodeRef) (half : ℕ) (rs : List NodeRef) → half ≤ length rs → drop half (map f (take half rs) ++ map g (drop half rs)) ≡ map g (drop half rs)
+drop-past : (f g : NodeRef → NodeRef) (half : ℕ) (rs : List NodeRef) → half ≤ length rs →
+    drop half (map f (take half rs) ++ map g (drop half rs)) ≡ map g (drop half rs)
 drop-past f g zero rs within = refl
 drop-past f g (suc n) [] within = absurd (omega arith)
 drop-past f g (suc n) (r ∷ rs) within = drop-past f g n rs (omega arith)
@@ -54,7 +57,9 @@ module _ (shelf : Contents) (is_shelf : IsShelf shelf) (track : ℕ) where
   past-valid (suc n) [] valid = refl
   past-valid (suc n) (r ∷ rs) valid =
       and-both (is_valid shelf (side_at shelf track false r)) (list_all (is_valid shelf) (past_of shelf track n rs))
-      (is_valid-IsValid shelf (side_at shelf track false r) (side-known shelf track false r is_shelf (is_valid-true shelf r (and-left (is_valid shelf r) (list_all (is_valid shelf) rs) valid))).valid)
+      (is_valid-IsValid shelf (side_at shelf track false r)
+      (side-known shelf track false r is_shelf
+      (is_valid-true shelf r (and-left (is_valid shelf r) (list_all (is_valid shelf) rs) valid))).valid)
       (past-valid n rs (and-right (is_valid shelf r) (list_all (is_valid shelf) rs) valid))
 
   past-within : (half : ℕ) (rs : List NodeRef) → IsTrue (list_all (is_valid shelf) rs) → weight_of (past_of shelf track half rs) ≤ weight_of rs
@@ -66,7 +71,8 @@ module _ (shelf : Contents) (is_shelf : IsShelf shelf) (track : ℕ) where
       let rest = past-within n rs (and-right (is_valid shelf r) (list_all (is_valid shelf) rs) valid) in
       omega arith
 
-  past-falls : (half : ℕ) (rs : List NodeRef) → IsTrue (list_all (is_valid shelf) rs) → SomeAsks shelf track rs → weight_of (past_of shelf track half rs) < weight_of rs
+  past-falls : (half : ℕ) (rs : List NodeRef) → IsTrue (list_all (is_valid shelf) rs) → SomeAsks shelf track rs →
+      weight_of (past_of shelf track half rs) < weight_of rs
   past-falls zero rs valid some = sides-fall shelf is_shelf track true rs valid some
   past-falls (suc n) [] valid some = absurd some
   past-falls (suc n) (r ∷ rs) valid some =
@@ -78,7 +84,9 @@ module _ (shelf : Contents) (is_shelf : IsShelf shelf) (track : ℕ) where
       ]
 
 -- all are leaves: the list is the same for each label
-pub asked_by-leaves : (base : Contents) (dropped : Option ℕ) (half : ℕ) (rs : List NodeRef) (states : List ℕ) → ((other : Contents) (label : Label) → leaves_of other rs label ≡ states) → (label : Label) → asked_by base dropped half rs label ≡ states
+pub asked_by-leaves : (base : Contents) (dropped : Option ℕ) (half : ℕ) (rs : List NodeRef) (states : List ℕ) →
+    ((other : Contents) (label : Label) → leaves_of other rs label ≡ states) → (label : Label) →
+    asked_by base dropped half rs label ≡ states
 asked_by-leaves base None half rs states leaves label = leaves base label
 asked_by-leaves base (Some t) half rs states leaves label =
     ap (λ (front : List ℕ). front ++ leaves_of base (drop half rs) (with_track label t true))
@@ -87,7 +95,9 @@ asked_by-leaves base (Some t) half rs states leaves label =
     (sym (drop-map (λ (r : NodeRef). state_of base r (with_track label t true)) half rs) ∙ ap (drop half) (leaves base (with_track label t true)))
     ∙ take-append-drop half states
 
-module _ (dropped : Option ℕ) (half : ℕ) (base now : Contents) (is_shelf : IsShelf base) (keeps : Keeps base now) (rs : List NodeRef) (inside : IsTrue (list_all (is_valid base) rs && nat_le half (length rs))) (track : ℕ) (first : AskFirst now track rs) where
+module _ (dropped : Option ℕ) (half : ℕ) (base now : Contents) (is_shelf : IsShelf base) (keeps : Keeps base now)
+    (rs : List NodeRef) (inside : IsTrue (list_all (is_valid base) rs && nat_le half (length rs))) (track : ℕ)
+    (first : AskFirst now track rs) where
   many_valid : IsTrue (list_all (is_valid base) rs)
   many_valid = and-left (list_all (is_valid base) rs) (nat_le half (length rs)) inside
 
@@ -104,73 +114,125 @@ module _ (dropped : Option ℕ) (half : ℕ) (base now : Contents) (is_shelf : I
       (le-leb half (length (map (side_at now track bit) rs)) (let e = length-map rs (side_at now track bit) in let w = many_within in omega arith))
 
   -- the two sides of all references
-  split_by : (d : Option ℕ) → is_first d track ≡ false → IsSplitBy track (λ (label : Label). asked_by base d half rs label) (λ (label : Label). asked_by base d half (map (side_at now track false) rs) label) (λ (label : Label). asked_by base d half (map (side_at now track true) rs) label)
+  split_by : (d : Option ℕ) → is_first d track ≡ false →
+      IsSplitBy track (λ (label : Label). asked_by base d half rs label)
+      (λ (label : Label). asked_by base d half (map (side_at now track false) rs) label)
+      (λ (label : Label). asked_by base d half (map (side_at now track true) rs) label)
   split_by None other = IsSplitBy-sides base now is_shelf keeps track rs many_valid first_base.all (λ label. label) (IsView-itself track)
   split_by (Some t) other =
       let apart = eqb-false t track other in
       let front = λ (bit : Bool). take-map (side_at now track bit) half rs in
       let rest = λ (bit : Bool). drop-map (side_at now track bit) half rs in
-      subst (λ (ss : List NodeRef). IsSplitBy track (λ (label : Label). asked_by base (Some t) half rs label) (λ (label : Label). leaves_of base ss (with_track label t false) ++ leaves_of base (drop half (map (side_at now track false) rs)) (with_track label t true)) (λ (label : Label). asked_by base (Some t) half (map (side_at now track true) rs) label)) (sym (front false))
-      (subst (λ (ss : List NodeRef). IsSplitBy track (λ (label : Label). asked_by base (Some t) half rs label) (λ (label : Label). leaves_of base (map (side_at now track false) (take half rs)) (with_track label t false) ++ leaves_of base ss (with_track label t true)) (λ (label : Label). asked_by base (Some t) half (map (side_at now track true) rs) label)) (sym (rest false))
-      (subst (λ (ss : List NodeRef). IsSplitBy track (λ (label : Label). asked_by base (Some t) half rs label) (λ (label : Label). leaves_of base (map (side_at now track false) (take half rs)) (with_track label t false) ++ leaves_of base (map (side_at now track false) (drop half rs)) (with_track label t true)) (λ (label : Label). leaves_of base ss (with_track label t false) ++ leaves_of base (drop half (map (side_at now track true) rs)) (with_track label t true))) (sym (front true))
-      (subst (λ (ss : List NodeRef). IsSplitBy track (λ (label : Label). asked_by base (Some t) half rs label) (λ (label : Label). leaves_of base (map (side_at now track false) (take half rs)) (with_track label t false) ++ leaves_of base (map (side_at now track false) (drop half rs)) (with_track label t true)) (λ (label : Label). leaves_of base (map (side_at now track true) (take half rs)) (with_track label t false) ++ leaves_of base ss (with_track label t true))) (sym (rest true))
+      subst (λ (ss : List NodeRef). IsSplitBy track (λ (label : Label). asked_by base (Some t) half rs label)
+      (λ (label : Label). leaves_of base ss (with_track label t false)
+      ++ leaves_of base (drop half (map (side_at now track false) rs)) (with_track label t true))
+      (λ (label : Label). asked_by base (Some t) half (map (side_at now track true) rs) label)) (sym (front false))
+      (subst (λ (ss : List NodeRef). IsSplitBy track (λ (label : Label). asked_by base (Some t) half rs label)
+      (λ (label : Label). leaves_of base (map (side_at now track false) (take half rs))
+      (with_track label t false) ++ leaves_of base ss (with_track label t true))
+      (λ (label : Label). asked_by base (Some t) half (map (side_at now track true) rs) label)) (sym (rest false))
+      (subst (λ (ss : List NodeRef). IsSplitBy track (λ (label : Label). asked_by base (Some t) half rs label)
+      (λ (label : Label). leaves_of base (map (side_at now track false) (take half rs))
+      (with_track label t false) ++ leaves_of base (map (side_at now track false) (drop half rs))
+      (with_track label t true)) (λ (label : Label). leaves_of base ss (with_track label t false)
+      ++ leaves_of base (drop half (map (side_at now track true) rs)) (with_track label t true))) (sym (front true))
+      (subst (λ (ss : List NodeRef). IsSplitBy track (λ (label : Label). asked_by base (Some t) half rs label)
+      (λ (label : Label). leaves_of base (map (side_at now track false) (take half rs))
+      (with_track label t false) ++ leaves_of base (map (side_at now track false) (drop half rs))
+      (with_track label t true)) (λ (label : Label).
+      leaves_of base (map (side_at now track true) (take half rs)) (with_track label t false)
+      ++ leaves_of base ss (with_track label t true))) (sym (rest true))
       (IsSplitBy-append track _ _ _ _ _ _
-      (IsSplitBy-sides base now is_shelf keeps track (take half rs) (valid-take base half rs many_valid) (all-take (AsksFrom base track) half rs first_base.all) (λ label. with_track label t false) (IsView-with_track track t false apart))
-      (IsSplitBy-sides base now is_shelf keeps track (drop half rs) (valid-drop base half rs many_valid) (all-drop (AsksFrom base track) half rs first_base.all) (λ label. with_track label t true) (IsView-with_track track t true apart))))))
+      (IsSplitBy-sides base now is_shelf keeps track (take half rs) (valid-take base half rs many_valid)
+      (all-take (AsksFrom base track) half rs first_base.all) (λ label. with_track label t false)
+      (IsView-with_track track t false apart))
+      (IsSplitBy-sides base now is_shelf keeps track (drop half rs) (valid-drop base half rs many_valid)
+      (all-drop (AsksFrom base track) half rs first_base.all) (λ label. with_track label t true)
+      (IsView-with_track track t true apart))))))
 
   -- what is asked past the dropped track is what was asked
   past_now : past_of now track half rs ≡ past_of base track half rs
   past_now =
-      ap (λ (ss : List NodeRef). ss ++ map (side_at now track true) (drop half rs)) (sides-kept base now keeps track false (take half rs) (valid-take base half rs many_valid))
-      ∙ ap (λ (ss : List NodeRef). map (side_at base track false) (take half rs) ++ ss) (sides-kept base now keeps track true (drop half rs) (valid-drop base half rs many_valid))
+      ap (λ (ss : List NodeRef). ss ++ map (side_at now track true) (drop half rs))
+      (sides-kept base now keeps track false (take half rs) (valid-take base half rs many_valid))
+      ∙ ap (λ (ss : List NodeRef). map (side_at base track false) (take half rs) ++ ss)
+      (sides-kept base now keeps track true (drop half rs) (valid-drop base half rs many_valid))
 
-  past_same : (d : Option ℕ) → is_first d track ≡ true → (label : Label) → asked_by base d half rs label ≡ asked_by base d half (past_of base track half rs) label
+  past_same : (d : Option ℕ) → is_first d track ≡ true → (label : Label) → asked_by base d half rs label
+      ≡ asked_by base d half (past_of base track half rs) label
   past_same None here label = absurd (false≢true here)
   past_same (Some t) here label =
       let is : t ≡ track = eqb-true t track here in
       let f = side_at base track false in
       let g = side_at base track true in
       ap (λ (states : List ℕ). states ++ leaves_of base (drop half rs) (with_track label t true))
-      (sym (leaves-side base is_shelf track false (take half rs) (with_track label t false) (valid-take base half rs many_valid) (ap (with_track label t false) (sym is) ∙ with_track-same label t false))
+      (sym (leaves-side base is_shelf track false (take half rs) (with_track label t false)
+      (valid-take base half rs many_valid) (ap (with_track label t false) (sym is) ∙ with_track-same label t false))
       ∙ ap (λ (ss : List NodeRef). leaves_of base ss (with_track label t false)) (sym (take-past f g half rs many_within)))
       ∙ ap (λ (states : List ℕ). leaves_of base (take half (past_of base track half rs)) (with_track label t false) ++ states)
-      (sym (leaves-side base is_shelf track true (drop half rs) (with_track label t true) (valid-drop base half rs many_valid) (ap (with_track label t true) (sym is) ∙ with_track-same label t true))
+      (sym (leaves-side base is_shelf track true (drop half rs) (with_track label t true)
+      (valid-drop base half rs many_valid) (ap (with_track label t true) (sym is) ∙ with_track-same label t true))
       ∙ ap (λ (ss : List NodeRef). leaves_of base ss (with_track label t true)) (sym (drop-past f g half rs many_within)))
 
   past_inside : IsTrue (list_all (is_valid base) (past_of base track half rs) && nat_le half (length (past_of base track half rs)))
   past_inside =
       and-both (list_all (is_valid base) (past_of base track half rs)) (nat_le half (length (past_of base track half rs)))
       (past-valid base is_shelf track half rs many_valid)
-      (le-leb half (length (past_of base track half rs)) (let e = length-past (side_at base track false) (side_at base track true) half rs in let w = many_within in omega arith))
+      (le-leb half (length (past_of base track half rs))
+      (let e = length-past (side_at base track false) (side_at base track true) half rs in
+      let w = many_within in omega arith))
 
 -- the steps of a key with these references
-module _ {K : Type 0} (refs : K → List NodeRef) (dropped : Option ℕ) (half : ℕ) (base now : Contents) (is_shelf : IsShelf base) (keeps : Keeps base now) (key : K) (inside : IsTrue (list_all (is_valid base) (refs key) && nat_le half (length (refs key)))) (track : ℕ) (first : AskFirst now track (refs key)) where
-  pub IsSplit-many : (low high : K) → is_first dropped track ≡ false → refs low ≡ map (side_at now track false) (refs key) → refs high ≡ map (side_at now track true) (refs key)
-      → IsSplit (λ (k : K). λ (label : Label). asked_by base dropped half (refs k) label) (λ (k : K). list_all (is_valid base) (refs k) && nat_le half (length (refs k))) (λ (k : K). weight_of (refs k)) key track low high
+module _ {K : Type 0} (refs : K → List NodeRef) (dropped : Option ℕ) (half : ℕ) (base now : Contents)
+    (is_shelf : IsShelf base) (keeps : Keeps base now) (key : K)
+    (inside : IsTrue (list_all (is_valid base) (refs key) && nat_le half (length (refs key)))) (track : ℕ)
+    (first : AskFirst now track (refs key)) where
+  pub IsSplit-many : (low high : K) → is_first dropped track ≡ false →
+      refs low ≡ map (side_at now track false) (refs key) → refs high ≡ map (side_at now track true) (refs key)
+      → IsSplit (λ (k : K). λ (label : Label). asked_by base dropped half (refs k) label)
+      (λ (k : K). list_all (is_valid base) (refs k) && nat_le half (length (refs k)))
+      (λ (k : K). weight_of (refs k)) key track low high
   IsSplit-many low high other low_is high_is = record {
     low_goes = record {
-      inside = subst (λ (rs : List NodeRef). IsTrue (list_all (is_valid base) rs && nat_le half (length rs))) (sym low_is) (side_inside dropped half base now is_shelf keeps (refs key) inside track first false);
-      falls = subst (λ (rs : List NodeRef). weight_of rs < weight_of (refs key)) (sym low_is) (sides_fall base now is_shelf keeps track (refs key) (many_valid dropped half base now is_shelf keeps (refs key) inside track first) first false);
+      inside = subst (λ (rs : List NodeRef). IsTrue (list_all (is_valid base) rs && nat_le half (length rs)))
+          (sym low_is) (side_inside dropped half base now is_shelf keeps (refs key) inside track first false);
+      falls = subst (λ (rs : List NodeRef). weight_of rs < weight_of (refs key)) (sym low_is)
+          (sides_fall base now is_shelf keeps track (refs key)
+          (many_valid dropped half base now is_shelf keeps (refs key) inside track first) first false);
     };
     high_goes = record {
-      inside = subst (λ (rs : List NodeRef). IsTrue (list_all (is_valid base) rs && nat_le half (length rs))) (sym high_is) (side_inside dropped half base now is_shelf keeps (refs key) inside track first true);
-      falls = subst (λ (rs : List NodeRef). weight_of rs < weight_of (refs key)) (sym high_is) (sides_fall base now is_shelf keeps track (refs key) (many_valid dropped half base now is_shelf keeps (refs key) inside track first) first true);
+      inside = subst (λ (rs : List NodeRef). IsTrue (list_all (is_valid base) rs && nat_le half (length rs)))
+          (sym high_is) (side_inside dropped half base now is_shelf keeps (refs key) inside track first true);
+      falls = subst (λ (rs : List NodeRef). weight_of rs < weight_of (refs key)) (sym high_is)
+          (sides_fall base now is_shelf keeps track (refs key)
+          (many_valid dropped half base now is_shelf keeps (refs key) inside track first) first true);
     };
-    split = subst (λ (rs : List NodeRef). IsSplitBy track (λ (label : Label). asked_by base dropped half (refs key) label) (λ (label : Label). asked_by base dropped half rs label) (λ (label : Label). asked_by base dropped half (refs high) label)) (sym low_is)
-        (subst (λ (rs : List NodeRef). IsSplitBy track (λ (label : Label). asked_by base dropped half (refs key) label) (λ (label : Label). asked_by base dropped half (map (side_at now track false) (refs key)) label) (λ (label : Label). asked_by base dropped half rs label)) (sym high_is)
+    split = subst (λ (rs : List NodeRef).
+        IsSplitBy track (λ (label : Label). asked_by base dropped half (refs key) label)
+        (λ (label : Label). asked_by base dropped half rs label)
+        (λ (label : Label). asked_by base dropped half (refs high) label)) (sym low_is)
+        (subst (λ (rs : List NodeRef).
+        IsSplitBy track (λ (label : Label). asked_by base dropped half (refs key) label)
+        (λ (label : Label). asked_by base dropped half (map (side_at now track false) (refs key)) label)
+        (λ (label : Label). asked_by base dropped half rs label)) (sym high_is)
         (split_by dropped half base now is_shelf keeps (refs key) inside track first dropped other));
   }
 
   pub IsSkip-many : (next : K) → is_first dropped track ≡ true → refs next ≡ past_of now track half (refs key)
-      → IsSkip (λ (k : K). λ (label : Label). asked_by base dropped half (refs k) label) (λ (k : K). list_all (is_valid base) (refs k) && nat_le half (length (refs k))) (λ (k : K). weight_of (refs k)) key next
+      → IsSkip (λ (k : K). λ (label : Label). asked_by base dropped half (refs k) label)
+      (λ (k : K). list_all (is_valid base) (refs k) && nat_le half (length (refs k)))
+      (λ (k : K). weight_of (refs k)) key next
   unfolding AsksSame
   IsSkip-many next here next_is =
       let is = next_is ∙ past_now dropped half base now is_shelf keeps (refs key) inside track first in
       record {
         goes = record {
-          inside = subst (λ (rs : List NodeRef). IsTrue (list_all (is_valid base) rs && nat_le half (length rs))) (sym is) (past_inside dropped half base now is_shelf keeps (refs key) inside track first);
+          inside = subst (λ (rs : List NodeRef). IsTrue (list_all (is_valid base) rs && nat_le half (length rs)))
+              (sym is) (past_inside dropped half base now is_shelf keeps (refs key) inside track first);
           falls = subst (λ (rs : List NodeRef). weight_of rs < weight_of (refs key)) (sym is)
-              (past-falls base is_shelf track half (refs key) (many_valid dropped half base now is_shelf keeps (refs key) inside track first) (first_base dropped half base now is_shelf keeps (refs key) inside track first).some);
+              (past-falls base is_shelf track half (refs key)
+              (many_valid dropped half base now is_shelf keeps (refs key) inside track first)
+              (first_base dropped half base now is_shelf keeps (refs key) inside track first).some);
         };
         same = λ label. past_same dropped half base now is_shelf keeps (refs key) inside track first dropped here label
             ∙ ap (λ (rs : List NodeRef). asked_by base dropped half rs label) (sym is);

@@ -1,20 +1,21 @@
 -- The steps from one reference.
-use Rattle.std.proofs.Common.{◌≡◌, ℕ, ◌<◌, Bool, true, false, [], ◌∷◌, eqb, Option, Some, None, if◌then◌else◌, IsTrue, sym, ◌∙◌, ap, refl, subst, inl, inr, arith}
+use Rattle.std.proofs.Common.{◌≡◌, ℕ, ◌<◌, Bool, true, false, [], ◌∷◌, eqb, Option, Some, None, if◌then◌else◌, IsTrue, sym, ◌∙◌}
+use Rattle.std.proofs.Common.{ap, refl, subst, inl, inr, arith}
 use Rattle.std.specs.List.{list_all}
 use Rattle.std.proofs.lemmas.Bool.{cases_Bool, eqb-true, eqb-false}
 use Rattle.bdd_nodes.specs.declared.node_ref.NodeRef.{NodeRef}
-use Rattle.bdd_nodes.specs.Nodes.{Label}
+use Rattle.labels.specs.Labels.{Label, with_track}
 use Rattle.bdd_nodes.specs.Shelf.{Contents, IsShelf, top_of, rank_of}
 use Rattle.bdd_nodes.specs.Changes.{Keeps, is_valid}
 use Rattle.bdd_walk.specs.declared.one_root.FixedTrack.{FixedTrack}
-use Rattle.bdd_walk.specs.Asked.{with_track, leaves_of}
+use Rattle.bdd_walk.specs.Asked.{leaves_of}
 use Rattle.bdd_walk.specs.Stands.{AsksSame}
 use Rattle.bdd_walk.specs.declared.walk.Step.{Step}
 use Rattle.bdd_walk.specs.declared.walk.Step.TheVariants.{Skip, Split}
 use Rattle.bdd_walk.specs.Steps.{IsStep, IsSkip, IsSplit}
 use Rattle.bdd_walk.specs.Sides.{side_at, fixed_label, bit_at, AskFirst, IsFirstOf}
 use Rattle.bdd_walk.specs.Laws.{and-left, and-both}
-use Rattle.bdd_walk.proofs.LabelLemmas.{with_track-same}
+use Rattle.labels.proofs.LabelsLemmas.{with_track-same}
 use Rattle.bdd_walk.proofs.SidesLemmas.{AskFirst-kept, IsFirstOf-push}
 use Rattle.bdd_walk.proofs.KeysLemmas.{IsView, IsView-itself, IsView-with_track, sides_in, sides_fall, leaves_side, IsSplitBy-sides}
 
@@ -37,7 +38,8 @@ view-at (Some fixed) track e = elim (cases_Bool (eqb fixed.track track)) [
   | inr other ↦ IsView-with_track track fixed.track fixed.bit (eqb-false fixed.track track other)
 ]
 
-module _ (fixed : Option FixedTrack) (base now : Contents) (is_shelf : IsShelf base) (keeps : Keeps base now) (r : NodeRef) (valid : IsTrue (is_valid base r)) (track : ℕ) (top : top_of now r ≡ Some track) where
+module _ (fixed : Option FixedTrack) (base now : Contents) (is_shelf : IsShelf base) (keeps : Keeps base now)
+    (r : NodeRef) (valid : IsTrue (is_valid base r)) (track : ℕ) (top : top_of now r ≡ Some track) where
   one_valid : IsTrue (list_all (is_valid base) (r ∷ []))
   one_valid = and-both (is_valid base r) true valid refl
 
@@ -50,30 +52,40 @@ module _ (fixed : Option FixedTrack) (base now : Contents) (is_shelf : IsShelf b
   one_in : (bit : Bool) → IsTrue (is_valid base (side_at now track bit r))
   one_in bit = and-left (is_valid base (side_at now track bit r)) true (sides_in base now is_shelf keeps track (r ∷ []) one_valid bit)
 
-  pub IsSkip-one : (bit : Bool) → bit_at fixed track ≡ Some bit → IsSkip (λ (root : NodeRef). λ label. leaves_of base (root ∷ []) (fixed_label fixed label)) (λ root. is_valid base root) (λ root. rank_of root) r (side_at now track bit r)
+  pub IsSkip-one : (bit : Bool) → bit_at fixed track ≡ Some bit →
+      IsSkip (λ (root : NodeRef). λ label. leaves_of base (root ∷ []) (fixed_label fixed label))
+      (λ root. is_valid base root) (λ root. rank_of root) r (side_at now track bit r)
   unfolding AsksSame
   IsSkip-one bit is_fixed = record {
     goes = record { inside = one_in bit; falls = one_falls bit };
     same = λ label. leaves_side base now is_shelf keeps track (r ∷ []) one_valid bit (fixed_label fixed label) (fixed-at fixed track bit label is_fixed);
   }
 
-  pub IsSplit-one : bit_at fixed track ≡ None → IsSplit (λ (root : NodeRef). λ label. leaves_of base (root ∷ []) (fixed_label fixed label)) (λ root. is_valid base root) (λ root. rank_of root) r track (side_at now track false r) (side_at now track true r)
+  pub IsSplit-one : bit_at fixed track ≡ None →
+      IsSplit (λ (root : NodeRef). λ label. leaves_of base (root ∷ []) (fixed_label fixed label))
+      (λ root. is_valid base root) (λ root. rank_of root) r track (side_at now track false r) (side_at now track true r)
   IsSplit-one free = record {
     low_goes = record { inside = one_in false; falls = one_falls false };
     high_goes = record { inside = one_in true; falls = one_falls true };
-    split = IsSplitBy-sides base now is_shelf keeps track (r ∷ []) one_valid (AskFirst-kept base now keeps track (r ∷ []) one_valid one_first).all (fixed_label fixed) (view-at fixed track free);
+    split = IsSplitBy-sides base now is_shelf keeps track (r ∷ []) one_valid
+        (AskFirst-kept base now keeps track (r ∷ []) one_valid one_first).all (fixed_label fixed)
+        (view-at fixed track free);
   }
 
 -- a step from the reference
 abbrev pub StepsOne : Option FixedTrack → Contents → NodeRef → Step NodeRef → Type 0
-StepsOne fixed base r = IsStep (λ (root : NodeRef). λ (label : Label). leaves_of base (root ∷ []) (fixed_label fixed label)) (λ (root : NodeRef). is_valid base root) (λ (root : NodeRef). rank_of root) r
+StepsOne fixed base r = IsStep
+    (λ (root : NodeRef). λ (label : Label). leaves_of base (root ∷ []) (fixed_label fixed label))
+    (λ (root : NodeRef). is_valid base root) (λ (root : NodeRef). rank_of root) r
 
-module _ (fixed : Option FixedTrack) (base now : Contents) (is_shelf : IsShelf base) (keeps : Keeps base now) (r : NodeRef) (valid : IsTrue (is_valid base r)) (track : ℕ) (top : top_of now r ≡ Some track) where
+module _ (fixed : Option FixedTrack) (base now : Contents) (is_shelf : IsShelf base) (keeps : Keeps base now)
+    (r : NodeRef) (valid : IsTrue (is_valid base r)) (track : ℕ) (top : top_of now r ≡ Some track) where
   pub StepsOne-skip : (bit : Bool) (side : NodeRef) → bit_at fixed track ≡ Some bit → side ≡ side_at now track bit r → StepsOne fixed base r (Skip side)
   StepsOne-skip bit side is_fixed is =
       subst (λ (s : NodeRef). StepsOne fixed base r (Skip s)) (sym is) (IsSkip-one fixed base now is_shelf keeps r valid track top bit is_fixed)
 
-  pub StepsOne-split : (low high : NodeRef) → bit_at fixed track ≡ None → low ≡ side_at now track false r → high ≡ side_at now track true r → StepsOne fixed base r (Split track low high)
+  pub StepsOne-split : (low high : NodeRef) → bit_at fixed track ≡ None → low ≡ side_at now track false r →
+      high ≡ side_at now track true r → StepsOne fixed base r (Split track low high)
   StepsOne-split low high free low_is high_is =
       subst (λ (s : NodeRef). StepsOne fixed base r (Split track s high)) (sym low_is)
       (subst (λ (s : NodeRef). StepsOne fixed base r (Split track (side_at now track false r) s)) (sym high_is)

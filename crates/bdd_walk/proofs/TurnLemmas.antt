@@ -1,8 +1,9 @@
 -- Each turn of a walk keeps what it is at.
-use Rattle.std.proofs.Common.{◌≡◌, ℕ, ◌+◌, Bool, reverse, length, false, List, [], ◌∷◌, ◌++◌, Option, Some, None, if◌then◌else◌, sym, ◌∙◌, ap, refl, subst, inl, inr, arith, ◌⊎◌, IsTrue}
+use Rattle.std.proofs.Common.{◌≡◌, ℕ, ◌+◌, Bool, reverse, length, false, List, [], ◌∷◌, ◌++◌, Option, Some, None, if◌then◌else◌}
+use Rattle.std.proofs.Common.{sym, ◌∙◌, ap, refl, subst, inl, inr, arith, ◌⊎◌, IsTrue}
 use Rattle.std.specs.HashMap.{get, Updates}
 use Rattle.bdd_nodes.specs.declared.node_ref.NodeRef.{NodeRef}
-use Rattle.bdd_nodes.specs.Nodes.{Label}
+use Rattle.labels.specs.Labels.{Label, with_below}
 use Rattle.bdd_nodes.specs.Shelf.{Contents, IsShelf, IsLeaf, IsValid, IsSideFor, IsFullFor, count_of, limit_of, state_of, choice_of}
 use Rattle.bdd_nodes.specs.Changes.{Keeps, SameTables, AddsOnly, is_valid}
 use Rattle.bdd_nodes.proofs.CallerLemmas.{Keeps-trans}
@@ -11,27 +12,32 @@ use Rattle.bdd_walk.specs.declared.walk.Frame.TheVariants.{Low, High, Skip}
 use Rattle.bdd_walk.specs.declared.walk.Turn.TheVariants.{Visit, Done}
 use Rattle.bdd_walk.specs.Answers.{Answers, KeepsAnswers, AnswersOnly, Completes}
 use Rattle.bdd_walk.specs.Asked.{IsGiven}
-use Rattle.bdd_walk.specs.Under.{with_below, Exceeds}
+use Rattle.bdd_walk.specs.Under.{Exceeds}
 use Rattle.bdd_walk.specs.Stands.{Asking, Stands, IsPart, AsksSame}
 use Rattle.bdd_walk.specs.Steps.{IsSkip, IsSplit}
 use Rattle.bdd_walk.specs.Waits.{Memo, IsMemo, Respects, WaitsHigh, AllWait, FitsFrame}
 use Rattle.bdd_walk.specs.Progress.{Call, Progress, Works}
-use Rattle.bdd_walk.proofs.StandsLemmas.{Keeps-itself, KeepsAnswers-trans, Stands-same, Stands-leaf, IsSideFor-of_stands, answers-choice, IsPart-whole, IsPart-same, IsPart-low, IsPart-high}
+use Rattle.bdd_walk.proofs.StandsLemmas.{KeepsAnswers-trans, Stands-same, Stands-leaf, IsSideFor-of_stands}
+use Rattle.bdd_walk.proofs.StandsLemmas.{answers-choice, IsPart-whole, IsPart-same, IsPart-low, IsPart-high}
 use Rattle.bdd_walk.proofs.AddsLemmas.{AddsNew-none, AddsNew-answers, AddsNew-made, Exceeds-full}
 use Rattle.bdd_walk.proofs.WaitsLemmas.{IsMemo-insert, AllWait-kept, AllWait-push, AllWait-pop, AllWait-none}
+use Rattle.bdd_nodes.proofs.CallerLemmas.{Keeps-refl}
 
 cases_answer : (o : Option ℕ) → (o ≡ None) ⊎ ((answer : ℕ) × (o ≡ Some answer))
 cases_answer None = inl refl
 cases_answer (Some answer) = inr (answer, refl)
 
 -- one list was asked, which some label gives
-AnswersOnly-asked : (whole : Asking) (first answers more : Answers) (asked : List ℕ) → IsGiven whole asked → AnswersOnly (IsGiven whole) first answers → AnswersOnly (λ states. states ≡ asked) answers more → AnswersOnly (IsGiven whole) first more
+AnswersOnly-asked : (whole : Asking) (first answers more : Answers) (asked : List ℕ) → IsGiven whole asked →
+    AnswersOnly (IsGiven whole) first answers → AnswersOnly (λ states. states ≡ asked) answers more →
+    AnswersOnly (IsGiven whole) first more
 AnswersOnly-asked whole first answers more asked is_given before only = λ states answer there absent. elim (cases_answer (answers states)) [
   | inl none ↦ subst (IsGiven whole) (sym (only states answer there none)) is_given
   | inr some ↦ before states some.0 some.1 absent
 ]
 
-module _ {K : Type 0} (eq : K → K → Bool) (asked : K → Asking) (is_in : K → Bool) (call : Call) (shelf : Contents) (answers : Answers) (memo : Memo K) (stack : List (Frame K)) where
+module _ {K : Type 0} (eq : K → K → Bool) (asked : K → Asking) (is_in : K → Bool) (call : Call) (shelf : Contents)
+    (answers : Answers) (memo : Memo K) (stack : List (Frame K)) where
   module _ (key : K) (works : Works eq asked is_in call shelf answers memo stack (Visit key)) where
     -- the key has a result
     pub works-found : (r : NodeRef) → get eq memo key ≡ Some r → Works eq asked is_in call shelf answers memo stack (Done r)
@@ -48,7 +54,9 @@ module _ {K : Type 0} (eq : K → K → Bool) (asked : K → Asking) (is_in : K 
         let part = works.underway.0.part in
         (with_below part.below part.fixed (λ u. false), sym (part.asks (λ u. false)) ∙ asks (λ u. false))
 
-    module _ (more : Answers) (states : List ℕ) (kept : KeepsAnswers answers more) (only : AnswersOnly (λ list. list ≡ states) answers more) (asks : (label : Label) → asked key label ≡ states) where
+    module _ (more : Answers) (states : List ℕ) (kept : KeepsAnswers answers more)
+        (only : AnswersOnly (λ list. list ≡ states) answers more) (asks : (label : Label) → asked key label
+        ≡ states) where
       -- the rule was asked
       pub progress-leaf : Progress call shelf more
       progress-leaf = record {
@@ -63,21 +71,24 @@ module _ {K : Type 0} (eq : K → K → Bool) (asked : K → Asking) (is_in : K 
       }
 
       -- the rule has answered
-      pub works-leaf : (after : Memo K) (made : NodeRef) (answer : ℕ) → Respects eq asked → IsLeaf made answer → more states ≡ Some answer → Updates eq memo after key (Some made) → Works eq asked is_in call shelf more after stack (Done made)
+      pub works-leaf : (after : Memo K) (made : NodeRef) (answer : ℕ) → Respects eq asked → IsLeaf made answer →
+          more states ≡ Some answer → Updates eq memo after key (Some made) →
+          Works eq asked is_in call shelf more after stack (Done made)
       works-leaf after made answer respects leaf answered updates =
           let stands = Stands-leaf shelf more (asked key) made states answer leaf answered asks in
           record {
             progress = progress-leaf;
-            kept = IsMemo-insert eq asked shelf shelf answers more (Keeps-itself shelf) kept memo after key made respects works.kept stands updates;
+            kept = IsMemo-insert eq asked shelf shelf answers more (Keeps-refl shelf) kept memo after key made respects works.kept stands updates;
             underway = record {
               focus = asked key;
               result = stands;
-              waits = AllWait-kept asked is_in call.whole shelf shelf answers more (Keeps-itself shelf) kept (reverse stack) (asked key) works.underway.1;
+              waits = AllWait-kept asked is_in call.whole shelf shelf answers more (Keeps-refl shelf) kept (reverse stack) (asked key) works.underway.1;
             };
           }
 
     -- the key past a dropped track
-    pub works-skip : (weight : K → ℕ) (next : K) → IsSkip asked is_in weight key next → Works eq asked is_in call shelf answers memo (stack ++ Skip key ∷ []) (Visit next)
+    pub works-skip : (weight : K → ℕ) (next : K) → IsSkip asked is_in weight key next →
+        Works eq asked is_in call shelf answers memo (stack ++ Skip key ∷ []) (Visit next)
     works-skip weight next step = record {
       progress = works.progress;
       kept = works.kept;
@@ -88,7 +99,8 @@ module _ {K : Type 0} (eq : K → K → Bool) (asked : K → Asking) (is_in : K 
     }
 
     -- the low side
-    pub works-low : (weight : K → ℕ) (track : ℕ) (low high : K) → IsSplit asked is_in weight key track low high → Works eq asked is_in call shelf answers memo (stack ++ Low key track high ∷ []) (Visit low)
+    pub works-low : (weight : K → ℕ) (track : ℕ) (low high : K) → IsSplit asked is_in weight key track low high →
+        Works eq asked is_in call shelf answers memo (stack ++ Low key track high ∷ []) (Visit low)
     works-low weight track low high step = record {
       progress = works.progress;
       kept = works.kept;
@@ -97,7 +109,11 @@ module _ {K : Type 0} (eq : K → K → Bool) (asked : K → Asking) (is_in : K 
         AllWait-push asked is_in call.whole shelf answers stack (Low key track high) (asked low)
             (record {
               part = works.underway.0.part;
-              due = record { inside = step.high_goes.inside; part = IsPart-high call.whole (asked key) (asked low) (asked high) track step.split works.underway.0.part };
+              due = record {
+                inside = step.high_goes.inside;
+                part = IsPart-high call.whole (asked key) (asked low)
+                    (asked high) track step.split works.underway.0.part;
+              };
               split = step.split;
             })
             works.underway.1,
@@ -105,13 +121,15 @@ module _ {K : Type 0} (eq : K → K → Bool) (asked : K → Asking) (is_in : K 
     }
 
 -- the whole is due at the start
-pub works-start : {K : Type 0} (eq : K → K → Bool) (asked : K → Asking) (is_in : K → Bool) (call : Call) (memo : Memo K) (key : K) → call.whole ≡ asked key → IsTrue (is_in key) → IsShelf call.shelf → ((other : K) → get eq memo other ≡ None) → Works eq asked is_in call call.shelf call.answers memo [] (Visit key)
+pub works-start : {K : Type 0} (eq : K → K → Bool) (asked : K → Asking) (is_in : K → Bool) (call : Call)
+    (memo : Memo K) (key : K) → call.whole ≡ asked key → IsTrue (is_in key) → IsShelf call.shelf →
+    ((other : K) → get eq memo other ≡ None) → Works eq asked is_in call call.shelf call.answers memo [] (Visit key)
 unfolding IsMemo AllWait AsksSame
 works-start eq asked is_in call memo key whole inside is_shelf empty = record {
   progress = record {
     before = is_shelf;
     now = is_shelf;
-    keeps = Keeps-itself call.shelf;
+    keeps = Keeps-refl call.shelf;
     same_limit = refl;
     tables = refl;
     adds = AddsNew-none call;
@@ -126,9 +144,12 @@ works-start eq asked is_in call memo key whole inside is_shelf empty = record {
 }
 
 -- a result for the key on top
-module _ {K : Type 0} (eq : K → K → Bool) (asked : K → Asking) (is_in : K → Bool) (call : Call) (shelf : Contents) (answers : Answers) (memo : Memo K) (stack : List (Frame K)) (made : NodeRef) where
+module _ {K : Type 0} (eq : K → K → Bool) (asked : K → Asking) (is_in : K → Bool) (call : Call) (shelf : Contents)
+    (answers : Answers) (memo : Memo K) (stack : List (Frame K)) (made : NodeRef) where
   -- the high side comes next
-  pub works-high : (key : K) (track : ℕ) (high : K) → Works eq asked is_in call shelf answers memo (stack ++ Low key track high ∷ []) (Done made) → Works eq asked is_in call shelf answers memo (stack ++ High key track made ∷ []) (Visit high)
+  pub works-high : (key : K) (track : ℕ) (high : K) →
+      Works eq asked is_in call shelf answers memo (stack ++ Low key track high ∷ []) (Done made) →
+      Works eq asked is_in call shelf answers memo (stack ++ High key track made ∷ []) (Visit high)
   works-high key track high works =
       let waits = AllWait-pop asked is_in call.whole shelf answers stack (Low key track high) works.underway.focus works.underway.waits in
       record {
@@ -142,13 +163,16 @@ module _ {K : Type 0} (eq : K → K → Bool) (asked : K → Asking) (is_in : K 
       }
 
   -- the key past a dropped track has its result
-  pub works-past : (key : K) (after : Memo K) → Respects eq asked → Works eq asked is_in call shelf answers memo (stack ++ Skip key ∷ []) (Done made) → Updates eq memo after key (Some made) → Works eq asked is_in call shelf answers after stack (Done made)
+  pub works-past : (key : K) (after : Memo K) → Respects eq asked →
+      Works eq asked is_in call shelf answers memo (stack ++ Skip key ∷ []) (Done made) →
+      Updates eq memo after key (Some made) → Works eq asked is_in call shelf answers after stack (Done made)
   works-past key after respects works updates =
       let waits = AllWait-pop asked is_in call.whole shelf answers stack (Skip key) works.underway.focus works.underway.waits in
       let stands = Stands-same shelf answers (asked key) works.underway.focus made waits.0 works.underway.result in
       record {
         progress = works.progress;
-        kept = IsMemo-insert eq asked shelf shelf answers answers (Keeps-itself shelf) (λ states answer was. was) memo after key made respects works.kept stands updates;
+        kept = IsMemo-insert eq asked shelf shelf answers answers (Keeps-refl shelf)
+            (λ states answer was. was) memo after key made respects works.kept stands updates;
         underway = record { focus = asked key; result = stands; waits = waits.1 };
       }
 
@@ -163,20 +187,27 @@ module _ {K : Type 0} (eq : K → K → Bool) (asked : K → Asking) (is_in : K 
   FitsFrame-works (Skip key) works = tt
 
   module _ (key : K) (track : ℕ) (low : NodeRef) (works : Works eq asked is_in call shelf answers memo (stack ++ High key track low ∷ []) (Done made)) where
-    waits_on_top : WaitsHigh asked is_in shelf answers call.whole key track low works.underway.focus × AllWait asked is_in shelf answers call.whole (reverse stack) (asked key)
+    waits_on_top : WaitsHigh asked is_in shelf answers call.whole key track low works.underway.focus
+        × AllWait asked is_in shelf answers call.whole (reverse stack) (asked key)
     waits_on_top = AllWait-pop asked is_in call.whole shelf answers stack (High key track low) works.underway.focus works.underway.waits
 
     answered : (label : Label) → answers (asked key label) ≡ Some (choice_of shelf track low made label)
-    answered = answers-choice shelf answers track (asked key) waits_on_top.0.side works.underway.focus low made waits_on_top.0.split waits_on_top.0.stands works.underway.result
+    answered = answers-choice shelf answers track (asked key) waits_on_top.0.side works.underway.focus low made
+        waits_on_top.0.split waits_on_top.0.stands works.underway.result
 
     -- there was no room for it
-    pub Exceeds-works : (given : List ℕ → ℕ) → Completes answers given → IsSideFor shelf track low → IsSideFor shelf track made → IsFullFor shelf track low made → Exceeds call.shelf (λ label. given (call.whole label))
+    pub Exceeds-works : (given : List ℕ → ℕ) → Completes answers given → IsSideFor shelf track low →
+        IsSideFor shelf track made → IsFullFor shelf track low made →
+        Exceeds call.shelf (λ label. given (call.whole label))
     Exceeds-works given completes low_side high_side full =
         Exceeds-full call shelf answers given completes works.progress track low made low_side high_side full (asked key) waits_on_top.0.part answered
 
     -- a node was made of both sides
-    module _ (new : Contents) (node : NodeRef) (value : (label : Label) → state_of new node label ≡ choice_of shelf track low made label) (valid : IsValid new node) (keeps : Keeps shelf new) (only : AddsOnly shelf new node)
-        (count : count_of new ≡ (if is_valid shelf node then count_of shelf else count_of shelf + 1)) (limit : limit_of new ≡ limit_of shelf) (tables : SameTables shelf new) (is_shelf : IsShelf new) where
+    module _ (new : Contents) (node : NodeRef) (value : (label : Label) → state_of new node label
+        ≡ choice_of shelf track low made label) (valid : IsValid new node) (keeps : Keeps shelf new)
+        (only : AddsOnly shelf new node)
+        (count : count_of new ≡ (if is_valid shelf node then count_of shelf else count_of shelf + 1))
+        (limit : limit_of new ≡ limit_of shelf) (tables : SameTables shelf new) (is_shelf : IsShelf new) where
       stands : Stands new answers (asked key) node
       stands = record { valid = valid; states = λ label. answered label ∙ ap Some (sym (value label)) }
 
@@ -192,7 +223,8 @@ module _ {K : Type 0} (eq : K → K → Bool) (asked : K → Asking) (is_in : K 
         only = works.progress.only;
       }
 
-      pub works-made : (after : Memo K) → Respects eq asked → Updates eq memo after key (Some node) → Works eq asked is_in call new answers after stack (Done node)
+      pub works-made : (after : Memo K) → Respects eq asked → Updates eq memo after key (Some node) →
+          Works eq asked is_in call new answers after stack (Done node)
       works-made after respects updates = record {
         progress = progress-made;
         kept = IsMemo-insert eq asked shelf new answers answers keeps (λ states answer was. was) memo after key node respects works.kept stands updates;
@@ -204,13 +236,19 @@ module _ {K : Type 0} (eq : K → K → Bool) (asked : K → Asking) (is_in : K 
       }
 
 -- an empty stack waits for the whole
-pub stands-whole : {K : Type 0} (eq : K → K → Bool) (asked : K → Asking) (is_in : K → Bool) (call : Call) (shelf : Contents) (answers : Answers) (memo : Memo K) (stack : List (Frame K)) (made : NodeRef) → length stack ≡ 0 → Works eq asked is_in call shelf answers memo stack (Done made) → Stands shelf answers call.whole made
+pub stands-whole : {K : Type 0} (eq : K → K → Bool) (asked : K → Asking) (is_in : K → Bool) (call : Call)
+    (shelf : Contents) (answers : Answers) (memo : Memo K) (stack : List (Frame K)) (made : NodeRef) →
+    length stack ≡ 0 → Works eq asked is_in call shelf answers memo stack (Done made) →
+    Stands shelf answers call.whole made
 stands-whole eq asked is_in call shelf answers memo [] made empty works =
-    Stands-same shelf answers call.whole works.underway.focus made (AllWait-none asked is_in call.whole shelf answers works.underway.focus works.underway.waits) works.underway.result
+    Stands-same shelf answers call.whole works.underway.focus made
+    (AllWait-none asked is_in call.whole shelf answers works.underway.focus works.underway.waits)
+    works.underway.result
 stands-whole eq asked is_in call shelf answers memo (frame ∷ stack) made empty works = absurd (omega arith)
 
 -- what is due may be asked where the whole may
-pub whole-asked : (May : List ℕ → Type 0) (whole asking other : Asking) → IsPart whole asking → AsksSame other asking → ((label : Label) → May (whole label)) → (label : Label) → May (other label)
+pub whole-asked : (May : List ℕ → Type 0) (whole asking other : Asking) → IsPart whole asking →
+    AsksSame other asking → ((label : Label) → May (whole label)) → (label : Label) → May (other label)
 unfolding AsksSame
 whole-asked May whole asking other part same may label =
     subst May (sym (same label ∙ part.asks label)) (may (with_below part.below part.fixed label))

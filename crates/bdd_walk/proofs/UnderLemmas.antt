@@ -3,15 +3,16 @@ use Rattle.std.proofs.Common.{◌≡◌, ℕ, suc, zero, ◌≤◌, Bool, Some, 
 use Rattle.std.proofs.lemmas.Bool.{cases_lt, cases_Bool}
 use Rattle.std.proofs.lemmas.List.Elements.{All-contains}
 use Rattle.bdd_nodes.specs.declared.node_ref.NodeRef.{NodeRef}
-use Rattle.bdd_nodes.specs.Nodes.{Label}
+use Rattle.labels.specs.Labels.{Label, with_below}
 use Rattle.bdd_nodes.specs.Shelf.{Contents, IsShelf, IsValid, rank_of, state_of, low_of, high_of}
 use Rattle.bdd_nodes.specs.Changes.{Reaches, itself, by_low, by_high}
 use Rattle.bdd_nodes.proofs.SplitLemmas.{same_reference, unasked, is_leaf, splits, cases_of}
 use Rattle.bdd_walk.specs.Answers.{Answers}
-use Rattle.bdd_walk.specs.Under.{with_below, AddsUnder}
+use Rattle.bdd_walk.specs.Under.{AddsUnder}
 use Rattle.bdd_walk.specs.Stands.{Stands}
 use Rattle.bdd_walk.specs.Progress.{Call, IsNew, Progress}
-use Rattle.bdd_walk.proofs.LabelLemmas.{with_below-under, with_below-from}
+use Rattle.labels.proofs.LabelsLemmas.{with_below-under, with_below-from}
+use Rattle.bdd_walk.proofs.StandsLemmas.{same_answer}
 
 -- a reference that is reached, with the function of another where the tracks below some number are fixed
 record Leads (shelf : Contents) (start from : NodeRef) (below : ℕ) (fixed : Label) : Type 0 where
@@ -22,7 +23,9 @@ record Leads (shelf : Contents) (start from : NodeRef) (below : ℕ) (fixed : La
 
 module _ (shelf : Contents) (is_shelf : IsShelf shelf) (start : NodeRef) (below : ℕ) (fixed : Label) where
   -- what asks from the number on is there
-  arrived : (r : NodeRef) → IsValid shelf r → Reaches shelf.nodes start r → ((l m : Label) → ((u : ℕ) → below ≤ u → l u ≡ m u) → state_of shelf r l ≡ state_of shelf r m) → Leads shelf start r below fixed
+  arrived : (r : NodeRef) → IsValid shelf r → Reaches shelf.nodes start r →
+      ((l m : Label) → ((u : ℕ) → below ≤ u → l u ≡ m u) → state_of shelf r l ≡ state_of shelf r m) →
+      Leads shelf start r below fixed
   arrived r valid reached depends = record {
     to = r;
     valid = valid;
@@ -31,7 +34,10 @@ module _ (shelf : Contents) (is_shelf : IsShelf shelf) (start : NodeRef) (below 
   }
 
   -- a side where the first track is fixed
-  further : (r side : NodeRef) → ((label : Label) → state_of shelf side (with_below below fixed label) ≡ state_of shelf r (with_below below fixed label)) → Leads shelf start side below fixed → Leads shelf start r below fixed
+  further : (r side : NodeRef) →
+      ((label : Label) → state_of shelf side (with_below below fixed label)
+      ≡ state_of shelf r (with_below below fixed label)) → Leads shelf start side below fixed →
+      Leads shelf start r below fixed
   further r side same leads = record {
     to = leads.to;
     valid = leads.valid;
@@ -51,20 +57,22 @@ module _ (shelf : Contents) (is_shelf : IsShelf shelf) (start : NodeRef) (below 
       | inl under ↦ elim (cases_Bool (fixed track)) [
         | inl is_set ↦ further r (high_of shelf r)
             (λ label. sym (split.states (with_below below fixed label)
-            ∙ ap (λ (b : Bool). if b then state_of shelf (high_of shelf r) (with_below below fixed label) else state_of shelf (low_of shelf r) (with_below below fixed label)) (with_below-under below fixed label track under ∙ is_set)))
+            ∙ ap (λ (b : Bool). if b then state_of shelf (high_of shelf r) (with_below below fixed label)
+            else state_of shelf (low_of shelf r) (with_below below fixed label))
+            (with_below-under below fixed label track under ∙ is_set)))
             (leads_within k (high_of shelf r) (let falls = split.high_falls in omega arith) split.high.valid (by_high r reached))
         | inr is_unset ↦ further r (low_of shelf r)
             (λ label. sym (split.states (with_below below fixed label)
-            ∙ ap (λ (b : Bool). if b then state_of shelf (high_of shelf r) (with_below below fixed label) else state_of shelf (low_of shelf r) (with_below below fixed label)) (with_below-under below fixed label track under ∙ is_unset)))
+            ∙ ap (λ (b : Bool). if b then state_of shelf (high_of shelf r) (with_below below fixed label)
+            else state_of shelf (low_of shelf r) (with_below below fixed label))
+            (with_below-under below fixed label track under ∙ is_unset)))
             (leads_within k (low_of shelf r) (let falls = split.low_falls in omega arith) split.low.valid (by_low r reached))
       ]
     ]
   ]
 
-same_answer : (a b : ℕ) → Some a ≡ Some b → a ≡ b
-same_answer a b e = cc
-
-new-reached : (call : Call) (shelf : Contents) (answers : Answers) (made r : NodeRef) → IsShelf shelf → Stands shelf answers call.whole made → IsNew call shelf answers r → Reaches shelf.nodes made r
+new-reached : (call : Call) (shelf : Contents) (answers : Answers) (made r : NodeRef) → IsShelf shelf →
+    Stands shelf answers call.whole made → IsNew call shelf answers r → Reaches shelf.nodes made r
 new-reached call shelf answers made r is_shelf stands is_new =
     let below = is_new.part.below in
     let fixed = is_new.part.fixed in
@@ -77,9 +85,11 @@ new-reached call shelf answers made r is_shelf stands is_new =
     leads.reached
 
 -- the nodes after the call are those before it and those under the result
-pub AddsUnder-stands : (call : Call) (shelf : Contents) (answers : Answers) (made : NodeRef) → Progress call shelf answers → Stands shelf answers call.whole made → AddsUnder call.shelf shelf made
+pub AddsUnder-stands : (call : Call) (shelf : Contents) (answers : Answers) (made : NodeRef) →
+    Progress call shelf answers → Stands shelf answers call.whole made → AddsUnder call.shelf shelf made
 unfolding AddsUnder
 AddsUnder-stands call shelf answers made progress stands = λ r valid. elim (progress.adds.only r valid) [
   | inl was ↦ inl was
-  | inr is_there ↦ inr (new-reached call shelf answers made r progress.now stands (All-contains (IsNew call shelf answers) progress.adds.nodes r progress.adds.each is_there))
+  | inr is_there ↦ inr (new-reached call shelf answers made r progress.now stands
+      (All-contains (IsNew call shelf answers) progress.adds.nodes r progress.adds.each is_there))
 ]

@@ -1,12 +1,8 @@
 -- The lists of leaves that a join puts to its rule: one for each label.
 use Rattle.std.specs.Prelude.{◌≡◌, ℕ, Bool, true, false, List, ◌++◌, map, Option, Some, None, nat_eq, if◌then◌else◌}
 use Rattle.bdd_nodes.specs.declared.node_ref.NodeRef.{NodeRef}
-use Rattle.bdd_nodes.specs.Nodes.{Label}
+use Rattle.labels.specs.Labels.{Label, with_track}
 use Rattle.bdd_nodes.specs.Shelf.{Contents, state_of}
-
--- the label with the track set or unset
-abbrev pub with_track : Label → ℕ → Bool → Label
-with_track label t bit = λ u. if nat_eq u t then bit else label u
 
 -- the leaf of each root for a label, in order
 abbrev pub leaves_of : Contents → List NodeRef → Label → List ℕ

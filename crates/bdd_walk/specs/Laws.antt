@@ -4,7 +4,7 @@ use Rattle.std.specs.List.{list_all}
 use Rattle.std.proofs.Common.{◌∙◌, ap, refl}
 use Rattle.std.proofs.lemmas.Bool.{eqb-true, false≢true}
 use Rattle.bdd_nodes.specs.declared.node_ref.NodeRef.{NodeRef}
-use Rattle.bdd_nodes.specs.Nodes.{Label}
+use Rattle.labels.specs.Labels.{Label}
 use Rattle.bdd_nodes.specs.Shelf.{Contents, state_of}
 use Rattle.bdd_nodes.specs.Changes.{Keeps, is_valid}
 use Rattle.bdd_nodes.proofs.SplitLemmas.{is_valid-true, is_valid-IsValid}
@@ -36,7 +36,8 @@ module _ (old new : Contents) (keeps : Keeps old new) where
   pub leaves-kept : (rs : List NodeRef) (label : Label) → IsTrue (list_all (is_valid old) rs) → leaves_of new rs label ≡ leaves_of old rs label
   leaves-kept [] label valid = refl
   leaves-kept (r ∷ rs) label valid =
-      ap (λ (state : ℕ). state ∷ leaves_of new rs label) (keeps.states r label (is_valid-true old r (and-left (is_valid old r) (list_all (is_valid old) rs) valid)))
+      ap (λ (state : ℕ). state ∷ leaves_of new rs label)
+      (keeps.states r label (is_valid-true old r (and-left (is_valid old r) (list_all (is_valid old) rs) valid)))
       ∙ ap (λ (states : List ℕ). state_of old r label ∷ states) (leaves-kept rs label (and-right (is_valid old r) (list_all (is_valid old) rs) valid))
 
 -- equal words are equal references
@@ -52,11 +53,14 @@ Respects-equal {K} eq asked equal = λ a b e label. ap (λ (key : K). asked key 
 pub one-stays_in : (old new : Contents) (r : NodeRef) → Keeps old new → IsTrue (is_valid old r) → IsTrue (is_valid new r)
 one-stays_in old new r keeps inside = is_valid-IsValid new r (keeps.valid r (is_valid-true old r inside))
 
-pub one-asks_still : (view : Label → Label) (old new : Contents) (r : NodeRef) → Keeps old new → IsTrue (is_valid old r) → AsksSame (λ label. leaves_of new (r ∷ []) (view label)) (λ label. leaves_of old (r ∷ []) (view label))
+pub one-asks_still : (view : Label → Label) (old new : Contents) (r : NodeRef) → Keeps old new →
+    IsTrue (is_valid old r) → AsksSame (λ label. leaves_of new (r ∷ []) (view label))
+    (λ label. leaves_of old (r ∷ []) (view label))
 unfolding AsksSame
 one-asks_still view old new r keeps inside = λ label. ap (λ (state : ℕ). state ∷ []) (keeps.states r (view label) (is_valid-true old r inside))
 
 -- references
-pub leaves-still : (old new : Contents) → Keeps old new → (rs : List NodeRef) → IsTrue (list_all (is_valid old) rs) → AsksSame (λ label. leaves_of new rs label) (λ label. leaves_of old rs label)
+pub leaves-still : (old new : Contents) → Keeps old new → (rs : List NodeRef) →
+    IsTrue (list_all (is_valid old) rs) → AsksSame (λ label. leaves_of new rs label) (λ label. leaves_of old rs label)
 unfolding AsksSame
 leaves-still old new keeps rs inside = λ label. leaves-kept old new keeps rs label inside

@@ -7,7 +7,8 @@ use Rattle.std.proofs.lemmas.Bool.{false≢true}
 use Rattle.bdd_nodes.specs.declared.node_ref.NodeRef.{NodeRef}
 use Rattle.bdd_nodes.specs.Shelf.{Contents}
 use Rattle.bdd_nodes.specs.Changes.{Keeps, is_valid}
-use Rattle.bdd_walk.specs.Asked.{with_track, leaves_of}
+use Rattle.labels.specs.Labels.{with_track}
+use Rattle.bdd_walk.specs.Asked.{leaves_of}
 use Rattle.bdd_walk.specs.Stands.{Asking, AsksSame}
 use Rattle.bdd_walk.specs.Waits.{Respects}
 use Rattle.bdd_walk.specs.Sides.{asked_by}
@@ -35,21 +36,28 @@ same_list (x ∷ xs) (y ∷ ys) e =
     ap (λ (r : NodeRef). r ∷ xs) (same_word x y (and-left (nat_eq x.word y.word) (pointwise (λ a b. nat_eq a.word b.word) xs ys) e))
     ∙ ap (λ (rs : List NodeRef). y ∷ rs) (same_list xs ys (and-right (nat_eq x.word y.word) (pointwise (λ a b. nat_eq a.word b.word) xs ys) e))
 
-pub Respects-lists : {K : Type 0} (eq : K → K → Bool) (refs : K → List NodeRef) (asked : List NodeRef → Asking) → ((a b : K) → eq a b ≡ true → refs a ≡ refs b) → Respects eq (λ key. asked (refs key))
+pub Respects-lists : {K : Type 0} (eq : K → K → Bool) (refs : K → List NodeRef) (asked : List NodeRef → Asking) →
+    ((a b : K) → eq a b ≡ true → refs a ≡ refs b) → Respects eq (λ key. asked (refs key))
 unfolding Respects AsksSame
 Respects-lists {K} eq refs asked equal = λ a b e label. ap (λ (rs : List NodeRef). asked rs label) (equal a b e)
 
-pub many-stays_in : (old new : Contents) → Keeps old new → (half : ℕ) (rs : List NodeRef) → IsTrue (list_all (is_valid old) rs && nat_le half (length rs)) → IsTrue (list_all (is_valid new) rs && nat_le half (length rs))
+pub many-stays_in : (old new : Contents) → Keeps old new → (half : ℕ) (rs : List NodeRef) →
+    IsTrue (list_all (is_valid old) rs && nat_le half (length rs)) →
+    IsTrue (list_all (is_valid new) rs && nat_le half (length rs))
 many-stays_in old new keeps half rs inside =
     and-both (list_all (is_valid new) rs) (nat_le half (length rs))
     (valid-kept old new keeps rs (and-left (list_all (is_valid old) rs) (nat_le half (length rs)) inside))
     (and-right (list_all (is_valid old) rs) (nat_le half (length rs)) inside)
 
-pub many-asks_still : (old new : Contents) → Keeps old new → (dropped : Option ℕ) (half : ℕ) (rs : List NodeRef) → IsTrue (list_all (is_valid old) rs && nat_le half (length rs)) → AsksSame (λ label. asked_by new dropped half rs label) (λ label. asked_by old dropped half rs label)
+pub many-asks_still : (old new : Contents) → Keeps old new → (dropped : Option ℕ) (half : ℕ) (rs : List NodeRef) →
+    IsTrue (list_all (is_valid old) rs && nat_le half (length rs)) →
+    AsksSame (λ label. asked_by new dropped half rs label) (λ label. asked_by old dropped half rs label)
 unfolding AsksSame
 many-asks_still old new keeps None half rs inside =
     λ label. leaves-kept old new keeps rs label (and-left (list_all (is_valid old) rs) (nat_le half (length rs)) inside)
 many-asks_still old new keeps (Some t) half rs inside = λ label.
     let valid = and-left (list_all (is_valid old) rs) (nat_le half (length rs)) inside in
-    ap (λ (states : List ℕ). states ++ leaves_of new (drop half rs) (with_track label t true)) (leaves-kept old new keeps (take half rs) (with_track label t false) (valid-take old half rs valid))
-    ∙ ap (λ (states : List ℕ). leaves_of old (take half rs) (with_track label t false) ++ states) (leaves-kept old new keeps (drop half rs) (with_track label t true) (valid-drop old half rs valid))
+    ap (λ (states : List ℕ). states ++ leaves_of new (drop half rs) (with_track label t true))
+    (leaves-kept old new keeps (take half rs) (with_track label t false) (valid-take old half rs valid))
+    ∙ ap (λ (states : List ℕ). leaves_of old (take half rs) (with_track label t false) ++ states)
+    (leaves-kept old new keeps (drop half rs) (with_track label t true) (valid-drop old half rs valid))

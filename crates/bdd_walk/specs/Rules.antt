@@ -14,14 +14,14 @@ pub record IsState (states : List ℕ) : Type 0 where
   pub alone : states ≡ state ∷ []
   pub small : state < 2 ^ 31
 
--- a lone state has the number at its place
+-- a lone state has the number at its index
 abbrev pub renamed_by : List ℕ → Answers
 renamed_by numbers [] = None
 renamed_by numbers (state ∷ []) = slice_get numbers state
 renamed_by numbers (state ∷ other ∷ states) = None
 
--- the list is one state with a place
-pub record HasPlace (numbers states : List ℕ) : Type 0 where
+-- the list is one state that has a new number
+pub record IsNumbered (numbers states : List ℕ) : Type 0 where
   pub state : ℕ
   pub alone : states ≡ state ∷ []
   pub within : state < length numbers

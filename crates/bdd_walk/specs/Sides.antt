@@ -2,10 +2,10 @@
 use Rattle.std.specs.Prelude.{◌≡◌, ◌+◌, ℕ, Bool, true, false, List, [], ◌∷◌, ◌++◌, take, drop, min, Option, Some, None, nat_eq, if◌then◌else◌, ◌⊎◌}
 use Rattle.std.specs.List.{AllByRecursion}
 use Rattle.bdd_nodes.specs.declared.node_ref.NodeRef.{NodeRef}
-use Rattle.bdd_nodes.specs.Nodes.{Label}
+use Rattle.labels.specs.Labels.{Label, with_track}
 use Rattle.bdd_nodes.specs.Shelf.{Contents, AsksFrom, top_of, low_of, high_of, rank_of}
 use Rattle.bdd_walk.specs.declared.one_root.FixedTrack.{FixedTrack}
-use Rattle.bdd_walk.specs.Asked.{with_track, leaves_of}
+use Rattle.bdd_walk.specs.Asked.{leaves_of}
 use Rattle.bdd_walk.specs.Stands.{Asking}
 
 -- whether the first track is this one

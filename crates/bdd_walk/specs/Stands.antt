@@ -1,10 +1,9 @@
 -- What is wanted, and when a reference stands for it.
 use Rattle.std.specs.Prelude.{◌≡◌, ◌≤◌, ℕ, List, Some}
 use Rattle.bdd_nodes.specs.declared.node_ref.NodeRef.{NodeRef}
-use Rattle.bdd_nodes.specs.Nodes.{Label}
+use Rattle.labels.specs.Labels.{Label, with_below}
 use Rattle.bdd_nodes.specs.Shelf.{Contents, IsValid, state_of}
 use Rattle.bdd_walk.specs.Answers.{Answers}
-use Rattle.bdd_walk.specs.Under.{with_below}
 
 -- for each label the list that is put to the rule
 abbrev pub Asking : Type 0

@@ -1,6 +1,6 @@
 -- A step down from a key.
 use Rattle.std.specs.Prelude.{◌≡◌, ◌<◌, ℕ, suc, Bool, IsTrue, if◌then◌else◌}
-use Rattle.bdd_nodes.specs.Nodes.{Label}
+use Rattle.labels.specs.Labels.{Label}
 use Rattle.bdd_walk.specs.declared.walk.Step.{Step}
 use Rattle.bdd_walk.specs.declared.walk.Step.TheVariants.{Leaf, Skip, Split}
 use Rattle.bdd_walk.specs.Stands.{Asking, AsksSame, AsksByFrom}

@@ -1,19 +1,9 @@
 -- The functions under a function, which are those of the nodes under its node; and what doesn't fit into a shelf.
 use Rattle.std.specs.Prelude.{◌≡◌, ◌≢◌, ◌+◌, ◌<◌, ℕ, List, length, All, AllPairs, nat_lt, if◌then◌else◌, ◌⊎◌}
 use Rattle.bdd_nodes.specs.declared.node_ref.NodeRef.{NodeRef}
-use Rattle.bdd_nodes.specs.Nodes.{Label, Function}
+use Rattle.labels.specs.Labels.{Label, Function, IsUnder}
 use Rattle.bdd_nodes.specs.Shelf.{Contents, Has, IsValid, state_of, count_of, limit_of}
 use Rattle.bdd_nodes.specs.Changes.{Reaches}
-
--- the label with the tracks below t as they are fixed
-abbrev pub with_below : ℕ → Label → Label → Label
-with_below t fixed label = λ u. if nat_lt u t then fixed u else label u
-
--- what the function becomes when the tracks below some number are fixed
-pub record IsUnder (function part : Function) : Type 0 where
-  pub below : ℕ
-  pub fixed : Label
-  pub states : (label : Label) → part label ≡ function (with_below below fixed label)
 
 -- all labels get one state
 abbrev pub IsConstant : Function → Type 0

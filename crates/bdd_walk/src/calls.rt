@@ -1,11 +1,11 @@
 //! The calls.
 
 ghost use Rattle.std.specs.Prelude.{◌≡◌, ◌<◌, ◌^◌, ℕ, Bool, List, Option, Some, Err, length, slice_index, All, IfOk, OnErr};
-ghost use Rattle.bdd_nodes.specs.Nodes.{Label};
+ghost use Rattle.labels.specs.Labels.{Label, with_track};
 ghost use Rattle.bdd_nodes.specs.Shelf.{IsShelf, IsValid, state_of, limit_of};
 ghost use Rattle.bdd_nodes.specs.Changes.{Keeps, SameTables};
 ghost use Rattle.bdd_walk.specs.Answers.{Answers, KeepsAnswers, AnswersOnly, Completes};
-ghost use Rattle.bdd_walk.specs.Asked.{with_track, asked_of, IsGiven};
+ghost use Rattle.bdd_walk.specs.Asked.{asked_of, IsGiven};
 ghost use Rattle.bdd_walk.specs.Under.{Exceeds, AddsParts, AddsUnder};
 
 use crate::one_root::{FixedTrack, OneRoot};
@@ -18,7 +18,7 @@ use bdd_nodes::{NodeRef, RefList, Shelf};
 use plain_data::Items;
 use std::alloc::Global;
 
-/// Numbers of states: at place q the new number of state q.
+/// Numbers of states: at index q the new number of state q.
 pub type StateMap = Items<u32>;
 
 /// For each label the rule's answer on the list of leaves.
@@ -68,7 +68,7 @@ pub fn rename(
     states: &StateMap,
 ) -> Result<NodeRef, Stop>
     requires valid { IsValid shelf.old root }
-    requires placed { (label : Label) → state_of shelf.old root label < length states.now }
+    requires numbered { (label : Label) → state_of shelf.old root label < length states.now }
     requires numbers { All (λ state. state < 2 ^ 31) states.now }
 
     // The result.

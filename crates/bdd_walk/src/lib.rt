@@ -18,6 +18,3 @@ mod walk;
 pub use calls::{StateMap, join, rename, restrict};
 pub use rule::{LeafRule, StateList};
 pub use stop::{NoMemory, Stop};
-
-#[cfg(test)]
-mod tests;

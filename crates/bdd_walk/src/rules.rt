@@ -20,18 +20,18 @@ impl LeafRule for SameState {
     }
 }
 
-/// A state gets the number at its place.
+/// A state gets its new number.
 #[derive(Clone, Copy, Debug)]
 pub(crate) struct Renaming<'a> {
     pub(crate) numbers: &'a StateMap,
 }
 
 impl LeafRule for Renaming<'_> {
-    ghost use Rattle.bdd_walk.specs.Rules.{renamed_by, HasPlace};
+    ghost use Rattle.bdd_walk.specs.Rules.{renamed_by, IsNumbered};
 
     ghost answers = { λ rule. renamed_by rule.numbers.now };
 
-    ghost may_ask = { λ rule. HasPlace rule.numbers.now };
+    ghost may_ask = { λ rule. IsNumbered rule.numbers.now };
 
     fn leaf(&mut self, states: &StateList) -> Result<u32, AllocError> {
         let state = states.as_slice()[0];

@@ -2,7 +2,7 @@
 
 ghost use Rattle.std.specs.Prelude.{◌≡◌, ◌++◌, ◌∷◌, [], Bool, true, List, Option, Some, None, map, IfOk, OnOk, IsTrue};
 ghost use Rattle.std.specs.List.{list_all, AllByRecursion};
-ghost use Rattle.bdd_nodes.specs.Nodes.{Label};
+ghost use Rattle.labels.specs.Labels.{Label};
 ghost use Rattle.bdd_nodes.specs.Shelf.{Contents, IsShelf, IsValid, top_of};
 ghost use Rattle.bdd_nodes.specs.Changes.{is_valid};
 ghost use Rattle.bdd_walk.specs.Asked.{leaves_of};

@@ -2,7 +2,7 @@
 //! nodes are made, and each key once. A stack keeps the keys that wait, so that no call goes deep.
 
 ghost use Rattle.std.specs.Prelude.{◌≡◌, ◌≢◌, ◌+◌, ◌<◌, ℕ, Bool, List, [], ◌∷◌, ◌++◌, Err, IfOk, OnErr, IsTrue};
-ghost use Rattle.bdd_nodes.specs.Nodes.{Label};
+ghost use Rattle.labels.specs.Labels.{Label};
 ghost use Rattle.bdd_nodes.specs.Shelf.{Contents, IsShelf, IsValid, IsSideFor, limit_of};
 ghost use Rattle.bdd_nodes.specs.Changes.{Keeps};
 ghost use Rattle.bdd_walk.specs.Answers.{Answers, KeepsAnswers, AnswersOnly, Completes};

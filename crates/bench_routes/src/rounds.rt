@@ -7,9 +7,8 @@ use crate::shapes::{Shape, declare, spell, to_all};
 use anyhow::{Result, ensure};
 use routing_expr::{destinations, well_formed};
 use std::alloc::{AllocError, Global};
-use store_core::{
-    CellId, Store, TypeId, TypeTable, VarKind, VarTable, read_store, read_stores_fit,
-};
+use store_core::{CellId, Store, TypeId, TypeTable, VarKind, VarTable};
+use store_text::{read_store, read_stores_fit};
 
 /// How many cells the store has, whether it is well-formed, and how many destinations its first cell has.
 #[derive(Drop)]

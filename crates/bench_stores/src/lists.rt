@@ -8,8 +8,9 @@ ghost use Rattle.store_core.specs.Stores.{Fits, class_of};
 use std::alloc::{AllocError, Global};
 use store_core::{
     CellId, FieldId, FieldKind, Owner, Store, TypeId, TypeTable, Value, VarId, VarKind, VarTable,
-    VariantId, read_store, read_stores_fit, store_text,
+    VariantId,
 };
+use store_text::{read_store, read_stores_fit, store_text};
 
 const NODE: TypeId = TypeId(0);
 

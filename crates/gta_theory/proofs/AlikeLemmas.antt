@@ -137,10 +137,20 @@ module _ {Q S T : Type 0} (g : Spaces) (guide : IsGuide g) (A : Automaton Q) (of
       one_answer (C.accepting x) (D.accepting y) ((λ is. is), (λ is. is)) (
         (λ is.
             let some = (of_D.accepting y in_D).0 is in
-            (of_C.accepting x in_C).1 (record { state = some.state; inside = (twins-members 0 x y guide.not_empty twins some.state).1 some.inside; accepting = some.accepting })),
+            (of_C.accepting x in_C).1 (record {
+              state = some.state;
+              inside = (twins-members 0 x y guide.not_empty twins some.state).1 some.inside;
+              accepting =
+                  some.accepting;
+            })),
         (λ is.
             let some = (of_C.accepting x in_C).0 is in
-            (of_D.accepting y in_D).1 (record { state = some.state; inside = (twins-members 0 x y guide.not_empty twins some.state).0 some.inside; accepting = some.accepting })),
+            (of_D.accepting y in_D).1 (record {
+              state = some.state;
+              inside = (twins-members 0 x y guide.not_empty twins some.state).0 some.inside;
+              accepting =
+                  some.accepting;
+            })),
       ))
 
 -- the complement of a minimal automaton is minimal

@@ -1,7 +1,8 @@
 -- On assignments: covering depths, and an assignment put together from a label and two halves.
 use Rattle.std.proofs.Common.{◌≡◌, ◌≢◌, ℕ, suc, ◌≤◌, Bool, true, false, cond, eqb, [], ◌∷◌, refl, arith, eq-eqb, ne_eqb, zero-le, suc-le-suc}
 use mathlib.Core.Path.{fun_ext}
-use Rattle.gta_theory.specs.Assignments.{PositionSet, Assignment, Label, IsWithin, IsFinite, Covers, half, root_label, empty_label, replace, empty_assignment}
+use Rattle.labels.specs.Labels.{Label, empty_label}
+use Rattle.gta_theory.specs.Assignments.{PositionSet, Assignment, IsWithin, IsFinite, Covers, half, root_label, replace, empty_assignment}
 
 -- a deeper depth covers too
 pub IsWithin-more : (n m : ℕ) (set : PositionSet) → n ≤ m → IsWithin n set → IsWithin m set

@@ -1,7 +1,8 @@
 -- On values: the depth is free once it covers, and complements, pairs and names.
 use Rattle.std.proofs.Common.{◌≡◌, ℕ, zero, suc, ◌+◌, ◌-◌, ◌≤◌, max, Bool, true, false, not, ◌&&◌, IsTrue, ◌↔◌, refl, sym, ap, ◌∙◌, arith}
-use Rattle.std.proofs.lemmas.Bool.{false≢true, both_ways, not-true}
-use Rattle.gta_theory.specs.Assignments.{Assignment, Covers, half, root_label, empty_assignment, empty_label}
+use Rattle.std.proofs.lemmas.Bool.{and_from, and_parts, false≢true, both_ways, not-true}
+use Rattle.labels.specs.Labels.{empty_label}
+use Rattle.gta_theory.specs.Assignments.{Assignment, Covers, half, root_label, empty_assignment}
 use Rattle.gta_theory.specs.Guides.{Spaces, IsSpace, IsGuide, left, right}
 use Rattle.gta_theory.specs.Automata.{Automaton, value, IsStable, Accepts, IsValue}
 use Rattle.gta_theory.specs.Constructions.{complement, pairs, IsReached, IsClosed, IsNaming, IsOnce, IsProduct}
@@ -114,22 +115,13 @@ pub IsStable-pairs : {Q R : Type 0} (g : Spaces) (A : Automaton Q) (B : Automato
     IsStable g (pairs A B)
 IsStable-pairs g A B of_A of_B = record { at = λ s there i. (of_A.at s there i, of_B.at s there i) }
 
-and-true : (b c : Bool) → b && c ≡ true → (b ≡ true) × (c ≡ true)
-and-true true true both = (refl, refl)
-and-true true false both = absurd (false≢true both)
-and-true false c both = absurd (false≢true both)
-
-true-and : (b c : Bool) → b ≡ true → c ≡ true → b && c ≡ true
-true-and true c one other = other
-true-and false c one other = one
-
 pub Accepts-pairs : {Q R : Type 0} (g : Spaces) (guide : IsGuide g) (A : Automaton Q) (B : Automaton R) →
     IsStable g A → IsStable g B → (a : Assignment) → Accepts g (pairs A B) a ↔ (Accepts g A a × Accepts g B a)
 Accepts-pairs g guide A B of_A of_B a = (there, back)
   where
     there : Accepts g (pairs A B) a → Accepts g A a × Accepts g B a
     there accepts =
-        let both = and-true _ _ (sym (ap (λ q. (pairs A B).accepting q) (value-pairs g A B 0 accepts.depth a)) ∙ accepts.accepted) in (
+        let both = and_parts _ _ (sym (ap (λ q. (pairs A B).accepting q) (value-pairs g A B 0 accepts.depth a)) ∙ accepts.accepted) in (
           record { depth = accepts.depth; covers = accepts.covers; accepted = both.0 },
           record { depth = accepts.depth; covers = accepts.covers; accepted = both.1 },
         )
@@ -139,7 +131,7 @@ Accepts-pairs g guide A B of_A of_B a = (there, back)
       depth = (both.0).depth;
       covers = (both.0).covers;
       accepted = ap (λ q. (pairs A B).accepting q) (value-pairs g A B 0 (both.0).depth a)
-          ∙ true-and _ _ (both.0).accepted (Accepts-at g guide B of_B (both.0).depth a (both.0).covers both.1);
+          ∙ and_from _ _ (both.0).accepted (Accepts-at g guide B of_B (both.0).depth a (both.0).covers both.1);
     }
 
 -- names keep values and acceptance

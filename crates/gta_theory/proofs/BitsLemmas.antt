@@ -1,9 +1,11 @@
 -- On sets of numbers below a bound, as lists of bits: two with the same members are the same list.
-use Rattle.std.proofs.Common.{◌≡◌, ◌≢◌, ℕ, zero, suc, ◌<◌, Bool, true, false, cond, eqb, IsTrue, ◌↔◌, ◌⊎◌, inl, inr, List, [], ◌∷◌, map, length, drop, slice_index_or, Contains, flat_map, refl, sym, ap, ◌∙◌, arith, eq-eqb, ne_eqb, eqb-true}
+use Rattle.std.proofs.Common.{◌≡◌, ◌≢◌, ℕ, zero, suc, ◌<◌, Bool, true, false, cond, eqb, IsTrue, ◌↔◌, ◌⊎◌, inl, inr, List, [], ◌∷◌, map}
+use Rattle.std.proofs.Common.{length, drop, slice_index_or, Contains, flat_map, refl, sym, ap, ◌∙◌, arith, eq-eqb, ne_eqb, eqb-true}
 use Rattle.std.specs.Bool.{one_answer}
 use Rattle.std.proofs.lemmas.Bool.{eqb-false, false≢true}
 use Rattle.std.proofs.lemmas.List.Elements.{All-contains, All-map}
-use Rattle.gta_theory.proofs.ListsLemmas.{Contains-first, Contains-later, Contains-cases, Contains-none, All-from_contains, Contains-map, Contains-flat_map, All-flat_map}
+use Rattle.gta_theory.proofs.ListsLemmas.{Contains-first, Contains-later, Contains-cases, Contains-none, All-from_contains, Contains-map}
+use Rattle.gta_theory.proofs.ListsLemmas.{Contains-flat_map, All-flat_map}
 
 -- the bit of a number, where the last bit is that of 0
 pub member : List Bool → ℕ → Bool

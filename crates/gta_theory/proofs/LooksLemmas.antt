@@ -1,6 +1,7 @@
 -- On the tracks that steps look at: products, subset automata and automata of classes look no further.
 use Rattle.std.proofs.Common.{◌≡◌, ℕ, Bool, cond, eqb, ◌↔◌, refl, sym, ap, subst, ◌∙◌}
-use Rattle.gta_theory.specs.Assignments.{Label, with_track, replace}
+use Rattle.labels.specs.Labels.{Label, with_track}
+use Rattle.gta_theory.specs.Assignments.{replace}
 use Rattle.gta_theory.specs.Guides.{Spaces, IsSpace, IsGuide, left, right}
 use Rattle.gta_theory.specs.Automata.{Automaton, value, IsStable}
 use Rattle.gta_theory.specs.Constructions.{pairs, IsReached, IsClosed, IsNaming, IsOnce, IsStepOf, IsProduct, IsSubset}
@@ -74,8 +75,8 @@ module _ {Q R S : Type 0} (g : Spaces) (guide : IsGuide g) (A : Automaton Q) (ha
       })
 
 -- labels that are the same below k still are with one track set or unset
-with_track-same : (k t : ℕ) (bit : Bool) (l m : Label) → AreSameBelow k l m → AreSameBelow k (with_track l t bit) (with_track m t bit)
-with_track-same k t bit l m same u below = λ i. cond (eqb u t) bit (same u below i)
+AreSameBelow-with_track : (k t : ℕ) (bit : Bool) (l m : Label) → AreSameBelow k l m → AreSameBelow k (with_track l t bit) (with_track m t bit)
+AreSameBelow-with_track k t bit l m same u below = λ i. cond (eqb u t) bit (same u below i)
 
 -- a step of a set, on a label that is the same below k
 pub IsStepOf-looks : {Q : Type 0} (g : Spaces) (A : Automaton Q) (has : ℕ → Q → Type 0) (k : ℕ) → LooksBelow g A has k → (t s : ℕ)
@@ -88,7 +89,7 @@ IsStepOf-looks g A has k looks t s Left Right there of_left of_right l m q same 
   in_left = h.in_left;
   in_right = h.in_right;
   is_step = sym (looks.step s h.left h.right (with_track l t h.bit) (with_track m t h.bit) there
-      (of_left h.left h.in_left) (of_right h.right h.in_right) (with_track-same k t h.bit l m same)) ∙ h.is_step;
+      (of_left h.left h.in_left) (of_right h.right h.in_right) (AreSameBelow-with_track k t h.bit l m same)) ∙ h.is_step;
 }
 
 -- subset automata

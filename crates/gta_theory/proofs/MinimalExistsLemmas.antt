@@ -1,9 +1,11 @@
 -- On minimal automata: one with numbered states exists of an automaton with finitely many states, whose steps look at
 -- finitely many tracks.
-use Rattle.std.proofs.Common.{◌≡◌, ◌≢◌, ℕ, ◌<◌, Bool, true, false, ◌↔◌, ◌⊎◌, inl, inr, List, map, length, slice_index_or, nat_lt, Contains, flat_map, refl, sym, ap, subst, ◌∙◌, arith}
+use Rattle.std.proofs.Common.{◌≡◌, ◌≢◌, ℕ, ◌<◌, Bool, true, false, ◌↔◌, ◌⊎◌, inl, inr, List, map, length, slice_index_or, nat_lt, Contains}
+use Rattle.std.proofs.Common.{flat_map, refl, sym, ap, subst, ◌∙◌, arith}
 use Rattle.std.proofs.lemmas.Bool.{cases_eq, ltb-true, ltb-false, lt-ltb}
 use Rattle.std.proofs.lemmas.List.Elements.{All-contains, Contains-get_or}
-use Rattle.gta_theory.specs.Assignments.{Assignment, Label}
+use Rattle.labels.specs.Labels.{Label}
+use Rattle.gta_theory.specs.Assignments.{Assignment}
 use Rattle.gta_theory.specs.Guides.{Spaces, IsSpace, IsGuide, left, right}
 use Rattle.gta_theory.specs.Automata.{Automaton, IsStable, Accepts, IsValue}
 use Rattle.gta_theory.specs.Constructions.{IsReached, IsClosed, IsNaming}
@@ -16,7 +18,8 @@ use Rattle.gta_theory.proofs.LooksLemmas.{LooksBelow-named, LooksBelow-classes}
 use Rattle.gta_theory.proofs.SizesExistLemmas.{labels, labels-all}
 use Rattle.gta_theory.proofs.ClosingLemmas.{IsClosedList, closed-list}
 use Rattle.gta_theory.proofs.NumberedLemmas.{name-inside, IsNumbered-counted}
-use Rattle.gta_theory.proofs.ListsLemmas.{Contains-map, Contains-flat_map, numbers, Contains-numbers, numbers-below, find, compare-pairs, all-pairs, Contains-all-pairs, all-pairs-inside}
+use Rattle.gta_theory.proofs.ListsLemmas.{Contains-map, Contains-flat_map, numbers, Contains-numbers, numbers-below, find, compare-pairs}
+use Rattle.gta_theory.proofs.ListsLemmas.{all-pairs, Contains-all-pairs, all-pairs-inside}
 use Rattle.gta_theory.proofs.DecisionsLemmas.{decide-some, decide-either, decide-and, decide-differ, same-bit, passing, Contains-passing, passing-is}
 use Rattle.gta_theory.proofs.ClassesLemmas.{firsts, firsts-inside, firsts-cover, firsts-apart, class-place, class-place-is}
 

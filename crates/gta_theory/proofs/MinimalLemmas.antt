@@ -1,7 +1,8 @@
 -- On minimal automata: what keeps states apart, and that two of them that accept the same are one to one.
 use Rattle.std.proofs.Common.{◌≡◌, ◌≢◌, ℕ, suc, ◌≤◌, max, Bool, true, false, ◌↔◌, ◌⊎◌, inl, inr, [], ◌∷◌, ◌++◌, refl, sym, ap, subst, ◌∙◌, arith}
 use Rattle.std.specs.Bool.{one_answer}
-use Rattle.gta_theory.specs.Assignments.{Position, Assignment, Label, Covers, half, root_label, empty_assignment, empty_label}
+use Rattle.labels.specs.Labels.{Label, empty_label}
+use Rattle.gta_theory.specs.Assignments.{Position, Assignment, Covers, half, root_label, empty_assignment}
 use Rattle.gta_theory.specs.Guides.{Spaces, IsSpace, IsGuide, left, right, space_at}
 use Rattle.gta_theory.specs.Automata.{Automaton, value, IsStable, Accepts}
 use Rattle.gta_theory.specs.Constructions.{IsReached, IsClosed, IsNaming}
@@ -83,10 +84,12 @@ module _ {Q : Type 0} (g : Spaces) (guide : IsGuide g) (A : Automaton Q) (stable
   value_with-same [] s n m q a there in_n in_m = refl
   value_with-same (false ∷ u) s n m q a there in_n in_m = λ i. A.step s
       (value_with-same u (left g s) n m q (half false a) (guide.left_inside s there) (Covers-half_same n false a in_n) (Covers-half_same m false a in_m) i)
-      (value-same g guide A stable (right g s) n m (half true a) (guide.right_inside s there) (Covers-half_same n true a in_n) (Covers-half_same m true a in_m) i)
+      (value-same g guide A stable (right g s) n m (half true a) (guide.right_inside s there)
+      (Covers-half_same n true a in_n) (Covers-half_same m true a in_m) i)
       (root_label a)
   value_with-same (true ∷ u) s n m q a there in_n in_m = λ i. A.step s
-      (value-same g guide A stable (left g s) n m (half false a) (guide.left_inside s there) (Covers-half_same n false a in_n) (Covers-half_same m false a in_m) i)
+      (value-same g guide A stable (left g s) n m (half false a) (guide.left_inside s there)
+      (Covers-half_same n false a in_n) (Covers-half_same m false a in_m) i)
       (value_with-same u (right g s) n m q (half true a) (guide.right_inside s there) (Covers-half_same n true a in_n) (Covers-half_same m true a in_m) i)
       (root_label a)
 
@@ -228,8 +231,10 @@ module _ {Q R : Type 0} (g : Spaces) (guide : IsGuide g) (A : Automaton Q) (stab
   pub IsStable-classes : IsStable g M
   IsStable-classes = record {
     at = λ s there.
-        (λ i. M.step s (sym (naming.initial (left g s) (guide.left_inside s there)) i) (sym (naming.initial (right g s) (guide.right_inside s there)) i) empty_label)
-        ∙ sym (naming.step s _ _ empty_label there (closed.initial (left g s) (guide.left_inside s there)) (closed.initial (right g s) (guide.right_inside s there)))
+        (λ i. M.step s (sym (naming.initial (left g s) (guide.left_inside s there)) i)
+        (sym (naming.initial (right g s) (guide.right_inside s there)) i) empty_label)
+        ∙ sym (naming.step s _ _ empty_label there (closed.initial (left g s) (guide.left_inside s there))
+        (closed.initial (right g s) (guide.right_inside s there)))
         ∙ ap (name s) (stable.at s there)
         ∙ naming.initial s there;
   }

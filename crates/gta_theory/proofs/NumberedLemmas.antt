@@ -1,9 +1,10 @@
 -- On numbering: an automaton with finitely many states, whose steps look at finitely many tracks, can be numbered.
-use Rattle.std.proofs.Common.{◌≡◌, ◌≢◌, ℕ, suc, ◌<◌, Bool, true, false, cond, eqb, ◌⊎◌, inl, inr, List, [], ◌∷◌, map, length, slice_index_or, Contains, AllPairs, flat_map, refl, sym, ap, subst, ◌∙◌, arith, eqb-true}
+use Rattle.std.proofs.Common.{◌≡◌, ◌≢◌, ℕ, suc, ◌<◌, Bool, true, false, cond, eqb, ◌⊎◌, inl, inr, List, [], ◌∷◌, map, length}
+use Rattle.std.proofs.Common.{slice_index_or, Contains, AllPairs, flat_map, refl, sym, ap, subst, ◌∙◌, arith, eqb-true}
 use Rattle.std.proofs.lemmas.Bool.{cases_eq, eqb-false, ltb-true, lt-ltb}
 use Rattle.std.proofs.lemmas.List.Elements.{All-cons, All-map, All-contains, Contains-get_or}
 use Rattle.std.proofs.lemmas.List.Kept.{AllPairs-cons}
-use Rattle.gta_theory.specs.Assignments.{Label}
+use Rattle.labels.specs.Labels.{Label}
 use Rattle.gta_theory.specs.Guides.{Spaces, IsSpace, IsGuide, left, right}
 use Rattle.gta_theory.specs.Automata.{Automaton, value, IsStable}
 use Rattle.gta_theory.specs.Constructions.{pairs, IsReached, IsClosed, IsNaming, IsOnce, IsProduct}
@@ -14,7 +15,9 @@ use Rattle.gta_theory.proofs.AutomataLemmas.{IsClosed-reached, name-value, IsSta
 use Rattle.gta_theory.proofs.GeneratedLemmas.{value-closed, IsValue-closed, IsReached-generated}
 use Rattle.gta_theory.proofs.SizesExistLemmas.{labels, labels-all}
 use Rattle.gta_theory.proofs.ClosingLemmas.{closed-list}
-use Rattle.gta_theory.proofs.ListsLemmas.{Contains-first, Contains-later, Contains-cases, Contains-none, All-from_contains, Contains-map, Contains-flat_map, All-flat_map, numbers, Contains-numbers, numbers-below, compare-pairs, all-pairs, Contains-all-pairs, all-pairs-inside, place, place-is, place-once}
+use Rattle.gta_theory.proofs.ListsLemmas.{Contains-first, Contains-later, Contains-cases, Contains-none, All-from_contains, Contains-map}
+use Rattle.gta_theory.proofs.ListsLemmas.{Contains-flat_map, All-flat_map, numbers, Contains-numbers, numbers-below, compare-pairs}
+use Rattle.gta_theory.proofs.ListsLemmas.{all-pairs, Contains-all-pairs, all-pairs-inside, place, place-is, place-once}
 
 -- the states of one space among the states of all
 module _ {Q : Type 0} where

@@ -1,14 +1,17 @@
 -- On Sizes: an automaton with finitely many states, whose steps look at finitely many tracks, has one.
-use Rattle.std.proofs.Common.{◌≡◌, ◌≢◌, ℕ, zero, suc, ◌+◌, ◌<◌, ◌≤◌, Bool, true, false, cond, eqb, ◌⊎◌, inl, inr, List, [], ◌∷◌, ◌++◌, map, length, nat_lt, All, Contains, AllPairs, flat_map, refl, sym, ap, subst, ◌∙◌, arith, eqb-true}
+use Rattle.std.proofs.Common.{◌≡◌, ◌≢◌, ℕ, zero, suc, ◌+◌, ◌<◌, ◌≤◌, Bool, true, false, cond, eqb, ◌⊎◌, inl, inr, List, [], ◌∷◌, ◌++◌, map}
+use Rattle.std.proofs.Common.{length, nat_lt, All, Contains, AllPairs, flat_map, refl, sym, ap, subst, ◌∙◌, arith, eqb-true}
 use Rattle.std.proofs.lemmas.Bool.{cases_eq, eqb-false, ltb-true, ltb-false, lt-ltb}
 use Rattle.std.proofs.lemmas.List.Elements.{All-nil, All-cons, All-map, All-contains, Contains-append_left, Contains-append_right}
 use Rattle.std.proofs.lemmas.List.Kept.{AllPairs-cons}
 use mathlib.Core.Path.{fun_ext}
-use Rattle.gta_theory.specs.Assignments.{Label, with_track, empty_label}
+use Rattle.labels.specs.Labels.{Label, empty_label, with_track, with_below}
 use Rattle.gta_theory.specs.Guides.{Spaces, IsSpace, left, right}
 use Rattle.gta_theory.specs.Automata.{Automaton, Has}
-use Rattle.gta_theory.specs.Sizes.{IsListOf, with_below, AreDifferent, IsVaried, IsUnderTable, IsPart, IsChildPair, SizeIn, sum_below, SizeOf, AreSameBelow, LooksBelow}
-use Rattle.gta_theory.proofs.ListsLemmas.{Contains-first, Contains-later, Contains-cases, Contains-none, All-from_contains, Contains-map, Contains-flat_map, All-flat_map, numbers, Contains-numbers, numbers-below, find, compare-pairs}
+use Rattle.gta_theory.specs.Sizes.{IsListOf, AreDifferent, IsVaried, IsUnderTable, IsPart, IsChildPair, SizeIn, sum_below, SizeOf}
+use Rattle.gta_theory.specs.Sizes.{AreSameBelow, LooksBelow}
+use Rattle.gta_theory.proofs.ListsLemmas.{Contains-first, Contains-later, Contains-cases, Contains-none, All-from_contains, Contains-map}
+use Rattle.gta_theory.proofs.ListsLemmas.{Contains-flat_map, All-flat_map, numbers, Contains-numbers, numbers-below, find, compare-pairs}
 
 -- of a list of things that can be compared and tested: those that pass, each once
 module _ {X : Type 0} (Apart : X → X → Type 0) (Fine Is : X → Type 0)

@@ -1,13 +1,14 @@
 -- On Sizes: each automaton has one at most, and alike automata have the same in each space.
-use Rattle.std.proofs.Common.{◌≡◌, ◌≢◌, ℕ, zero, suc, ◌+◌, ◌<◌, ◌≤◌, Bool, true, false, List, [], ◌∷◌, length, slice_index_or, nat_lt, All, Contains, AllPairs, refl, sym, ap, subst, ◌∙◌, arith}
+use Rattle.std.proofs.Common.{◌≡◌, ◌≢◌, ℕ, zero, suc, ◌+◌, ◌<◌, ◌≤◌, Bool, true, false, List, [], ◌∷◌, length, slice_index_or, nat_lt, All}
+use Rattle.std.proofs.Common.{Contains, AllPairs, refl, sym, ap, subst, ◌∙◌, arith}
 use Rattle.std.proofs.lemmas.Bool.{ltb-true, ltb-false}
 use Rattle.std.proofs.lemmas.List.{get_or_default}
 use Rattle.std.proofs.lemmas.List.Elements.{All-contains}
-use Rattle.gta_theory.specs.Assignments.{Label}
+use Rattle.labels.specs.Labels.{Label, with_below}
 use Rattle.gta_theory.specs.Guides.{Spaces, IsSpace, IsGuide, left, right}
 use Rattle.gta_theory.specs.Automata.{Automaton}
 use Rattle.gta_theory.specs.Minimal.{AreTwins, AreAlike}
-use Rattle.gta_theory.specs.Sizes.{with_below, AreDifferent, IsPart, IsChildPair, SizeIn, sum_below, SizeOf}
+use Rattle.gta_theory.specs.Sizes.{AreDifferent, IsPart, IsChildPair, SizeIn, sum_below, SizeOf}
 use Rattle.gta_theory.proofs.AlikeMoreLemmas.{AreAlike-sym}
 use Rattle.gta_theory.proofs.CountingLemmas.{matched-le}
 

@@ -3,7 +3,8 @@
 use Rattle.std.proofs.Common.{◌≡◌, ◌≢◌, ℕ, ◌<◌, Bool, IsTrue, ◌↔◌, ◌⊎◌, inl, inr, List, map, length, Contains, refl, sym, subst, ◌∙◌, arith}
 use Rattle.std.proofs.lemmas.Bool.{cases_eq, ltb-true, lt-ltb}
 use Rattle.std.proofs.lemmas.List.Elements.{All-contains, All-map}
-use Rattle.gta_theory.specs.Assignments.{Label, empty_label, with_track, HasAtMost}
+use Rattle.labels.specs.Labels.{Label, empty_label, with_track, HasAtMost}
+use Rattle.labels.proofs.LabelsLemmas.{with_track-at_most, HasAtMost-with_track}
 use Rattle.gta_theory.specs.Guides.{Spaces, IsSpace, IsGuide, left, right}
 use Rattle.gta_theory.specs.Automata.{Automaton, IsStable}
 use Rattle.gta_theory.specs.Constructions.{IsClosed, Settled, starts, steps, IsStepOf, HasAccepting, IsSubset}
@@ -11,11 +12,12 @@ use Rattle.gta_theory.specs.Generated.{IsNamingSets}
 use Rattle.gta_theory.specs.Sizes.{LooksBelow}
 use Rattle.gta_theory.specs.Numbered.{Below, IsNumbered}
 use Rattle.gta_theory.proofs.GeneratedLemmas.{IsStable-closed_sets}
-use Rattle.gta_theory.proofs.SubsetLemmas.{with_track-at_most, HasAtMost-with_track}
 use Rattle.gta_theory.proofs.LooksLemmas.{IsStepOf-looks}
 use Rattle.gta_theory.proofs.NumberedLemmas.{IsMadeList, made-listed, listed-below, name-inside, IsNumbered-exists}
-use Rattle.gta_theory.proofs.BitsLemmas.{member, bits, length-bits, member-bits, member-below, bits-same, decide-bits, bit-lists, Contains-bit-lists, bit-lists-length}
-use Rattle.gta_theory.proofs.ListsLemmas.{All-from_contains, Contains-map, numbers, Contains-numbers, numbers-below, find, compare-pairs, all-pairs, Contains-all-pairs}
+use Rattle.gta_theory.proofs.BitsLemmas.{member, bits, length-bits, member-bits, member-below, bits-same, decide-bits, bit-lists}
+use Rattle.gta_theory.proofs.BitsLemmas.{Contains-bit-lists, bit-lists-length}
+use Rattle.gta_theory.proofs.ListsLemmas.{All-from_contains, Contains-map, numbers, Contains-numbers, numbers-below, find, compare-pairs}
+use Rattle.gta_theory.proofs.ListsLemmas.{all-pairs, Contains-all-pairs}
 use Rattle.gta_theory.proofs.DecisionsLemmas.{both-bits, Contains-both-bits, decide-true, search-list, as-bit, as-bit-is, decide-and}
 
 -- the members of a list of decisions are what holds

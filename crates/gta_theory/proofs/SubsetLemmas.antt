@@ -2,27 +2,15 @@
 use Rattle.std.proofs.Common.{◌≡◌, ℕ, zero, suc, ◌≤◌, max, Bool, true, false, cond, eqb, ◌↔◌, [], ◌∷◌, refl, sym, ap, subst, ◌∙◌, arith, eqb-true}
 use Rattle.std.proofs.lemmas.Bool.{eqb-false}
 use mathlib.Core.Path.{fun_ext}
-use Rattle.gta_theory.specs.Assignments.{PositionSet, Assignment, Label, IsWithin, IsFiniteSet, Covers, half, root_label, empty_assignment, empty_label, with_track, replace, HasAtMost, no_positions}
+use Rattle.labels.specs.Labels.{Label, empty_label, with_track, HasAtMost}
+use Rattle.gta_theory.specs.Assignments.{PositionSet, Assignment, IsWithin, IsFiniteSet, Covers, half, root_label, empty_assignment, replace, no_positions}
+use Rattle.labels.proofs.LabelsLemmas.{with_track-at_most, HasAtMost-with_track}
 use Rattle.gta_theory.specs.Guides.{Spaces, IsSpace, IsGuide, left, right}
 use Rattle.gta_theory.specs.Automata.{Automaton, value, IsStable, Accepts}
 use Rattle.gta_theory.specs.Constructions.{IsClosed, Settled, starts, steps, IsStepOf, IsSubset}
-use Rattle.gta_theory.proofs.AssignmentsLemmas.{IsWithin-more, Covers-half, Covers-half_same, Covers-more, Covers-replace, joined_set, IsWithin-joined_set, Covers-empty}
+use Rattle.gta_theory.proofs.AssignmentsLemmas.{IsWithin-more, Covers-half, Covers-half_same, Covers-more, Covers-replace}
+use Rattle.gta_theory.proofs.AssignmentsLemmas.{joined_set, IsWithin-joined_set, Covers-empty}
 use Rattle.gta_theory.proofs.AutomataLemmas.{value-same, Accepts-at, IsClosed-reached}
-
--- a label with at most one track is the empty one with that track as it stands
-pub with_track-at_most : (t : ℕ) (label : Label) → HasAtMost t label → with_track empty_label t (label t) ≡ label
-with_track-at_most t label at_most = fun_ext (λ u. pick u (eqb u t) refl)
-  where
-    pick : (u : ℕ) (b : Bool) → eqb u t ≡ b → cond b (label t) false ≡ label u
-    pick u true is = ap label (sym (eqb-true u t is))
-    pick u false is = sym (at_most u (eqb-false u t is))
-
-pub HasAtMost-with_track : (t : ℕ) (bit : Bool) → HasAtMost t (with_track empty_label t bit)
-HasAtMost-with_track t bit u other = pick (eqb u t) refl
-  where
-    pick : (b : Bool) → eqb u t ≡ b → cond b bit false ≡ false
-    pick true is = absurd (other (eqb-true u t is))
-    pick false is = refl
 
 -- some set for the dropped track, to a depth of at least n, gives the state
 pub record Chosen {Q : Type 0} (g : Spaces) (A : Automaton Q) (t s n : ℕ) (a : Assignment) (q : Q) : Type 0 where
@@ -55,7 +43,8 @@ module _ {Q : Type 0} (g : Spaces) (guide : IsGuide g) (A : Automaton Q) (stable
         depth = suc m;
         set = joined_set bit l.set r'.set;
         deep = omega (arith, l.deep);
-        within = IsWithin-joined_set m bit l.set r'.set (IsWithin-more l.depth m l.set (omega arith) l.within) (IsWithin-more r'.depth m r'.set (omega arith) r'.within);
+        within = IsWithin-joined_set m bit l.set r'.set (IsWithin-more l.depth m l.set (omega arith) l.within)
+            (IsWithin-more r'.depth m r'.set (omega arith) r'.within);
         gives = (λ i. A.step s (is_l i) (is_r i) (with_track (root_label a) t bit)) ∙ is;
       }
 

@@ -1,7 +1,9 @@
 -- On weights: the depth is free once it covers, fewer positions weigh no more, and a relaxed table has the least weights.
-use Rattle.std.proofs.Common.{◌≡◌, ℕ, zero, suc, ◌+◌, ◌<◌, ◌≤◌, max, Bool, true, false, cond, eqb, IsTrue, ◌↔◌, inl, inr, List, [], ◌∷◌, Contains, Option, Some, None, unwrap_or, refl, sym, ap, subst, ◌∙◌, arith, eqb-true}
+use Rattle.std.proofs.Common.{◌≡◌, ℕ, zero, suc, ◌+◌, ◌<◌, ◌≤◌, max, Bool, true, false, cond, eqb, IsTrue, ◌↔◌, inl, inr, List, [], ◌∷◌}
+use Rattle.std.proofs.Common.{Contains, Option, Some, None, unwrap_or, refl, sym, ap, subst, ◌∙◌, arith, eqb-true}
 use Rattle.std.proofs.lemmas.Bool.{false≢true}
-use Rattle.gta_theory.specs.Assignments.{PositionSet, Assignment, Label, Covers, half, root_label, empty_label, empty_assignment, replace, no_positions}
+use Rattle.labels.specs.Labels.{Label, empty_label}
+use Rattle.gta_theory.specs.Assignments.{PositionSet, Assignment, Covers, half, root_label, empty_assignment, replace, no_positions}
 use Rattle.gta_theory.specs.Guides.{Spaces, IsSpace, IsGuide, left, right}
 use Rattle.gta_theory.specs.Automata.{Automaton, value, IsStable, Accepts, IsValue}
 use Rattle.gta_theory.specs.Weights.{label_weight, weight, IsWithinOn, Weighs, IsLeastWeight, WeightTable, IsRelaxed, IsLightest}

@@ -2,6 +2,7 @@
 -- (Thatcher and Wright 1968; Doner 1970.)
 use Rattle.std.specs.Prelude.{◌≡◌, ◌≢◌, ℕ, ◌≤◌, Bool, true, false, ◌&&◌, ◌==◌, nat_lt, if◌then◌else◌, IsTrue, ◌↔◌, List, [], ◌∷◌, length}
 use Rattle.std.specs.List.{list_any}
+use Rattle.labels.specs.Labels.{Label}
 
 -- a word over 0 (`false`) and 1 (`true`): the way to a node from the root, which is the empty word
 abbrev pub Position : Type 0
@@ -47,25 +48,9 @@ Covers depth a = (t : ℕ) → IsWithin depth (a t)
 abbrev pub half : Bool → Assignment → Assignment
 half letter a = λ t p. a t (letter ∷ p)
 
--- a label: which tracks hold a position
-abbrev pub Label : Type 0
-Label = ℕ → Bool
-
 -- the label of the empty word
 abbrev pub root_label : Assignment → Label
 root_label a = λ t. a t []
-
--- no track holds the position
-abbrev pub empty_label : Label
-empty_label = λ t. false
-
--- the label with one track set or unset
-abbrev pub with_track : Label → ℕ → Bool → Label
-with_track label t bit = λ u. if u == t then bit else label u
-
--- the label has no track but t, at most
-abbrev pub HasAtMost : ℕ → Label → Type 0
-HasAtMost t label = (u : ℕ) → u ≢ t → label u ≡ false
 
 -- the assignment with another set for one track
 abbrev pub replace : Assignment → ℕ → PositionSet → Assignment

@@ -1,7 +1,8 @@
 -- Guided tree automata, from the leaves to the root, over any type of states. (Thatcher and Wright 1968; guided
 -- automata: Klarlund and Schwartzbach 1993.)
 use Rattle.std.specs.Prelude.{◌≡◌, ℕ, zero, suc, Bool, true, false, IsTrue}
-use Rattle.gta_theory.specs.Assignments.{Assignment, Label, Covers, half, root_label, empty_label}
+use Rattle.labels.specs.Labels.{Label, empty_label}
+use Rattle.gta_theory.specs.Assignments.{Assignment, Covers, half, root_label}
 use Rattle.gta_theory.specs.Guides.{Spaces, IsSpace, left, right}
 
 -- for each space an initial state, and a function of the states of the two children and the label; and which

@@ -1,7 +1,7 @@
 -- The complement, the product, the subset automaton, and other names for states. (Textbook: Comon and others,
 -- Tree Automata Techniques and Applications, chapter 1.)
 use Rattle.std.specs.Prelude.{◌≡◌, ℕ, Bool, not, ◌&&◌, IsTrue, ◌↔◌}
-use Rattle.gta_theory.specs.Assignments.{Label, with_track, HasAtMost}
+use Rattle.labels.specs.Labels.{Label, with_track, HasAtMost}
 use Rattle.gta_theory.specs.Guides.{Spaces, IsSpace, left, right}
 use Rattle.gta_theory.specs.Automata.{Automaton, IsValue}
 

@@ -1,6 +1,6 @@
 -- What a worklist finds: the states that steps make from the initial ones, and the names that it gives them.
 use Rattle.std.specs.Prelude.{◌≡◌, ℕ, IsTrue, ◌↔◌}
-use Rattle.gta_theory.specs.Assignments.{Label}
+use Rattle.labels.specs.Labels.{Label}
 use Rattle.gta_theory.specs.Guides.{Spaces, IsSpace, left, right}
 use Rattle.gta_theory.specs.Automata.{Automaton}
 use Rattle.gta_theory.specs.Constructions.{Settled, IsStepOf, HasAccepting}

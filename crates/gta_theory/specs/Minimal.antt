@@ -1,7 +1,8 @@
 -- Minimal automata, in each space. (The theorem of Myhill and Nerode for trees; guided: Biehl, Klarlund and Rauhe
 -- 1996.)
 use Rattle.std.specs.Prelude.{◌≡◌, ◌≢◌, ℕ, true, false, [], ◌∷◌}
-use Rattle.gta_theory.specs.Assignments.{Position, Assignment, Label, Covers, half, root_label}
+use Rattle.labels.specs.Labels.{Label}
+use Rattle.gta_theory.specs.Assignments.{Position, Assignment, Covers, half, root_label}
 use Rattle.gta_theory.specs.Guides.{Spaces, IsSpace, left, right, space_at}
 use Rattle.gta_theory.specs.Automata.{Automaton, value, IsStable, IsValue}
 use Rattle.gta_theory.specs.Constructions.{IsReached}

@@ -1,7 +1,7 @@
 -- The Size of an automaton: pairs of child states, and the functions of decision diagrams that stand for its table.
 -- (Shared diagrams: Bryant 1986; as tables of tree automata: the guided tree automata of MONA.)
-use Rattle.std.specs.Prelude.{◌≡◌, ◌≢◌, ℕ, zero, suc, ◌+◌, ◌<◌, nat_lt, if◌then◌else◌, List, length, Contains, AllPairs}
-use Rattle.gta_theory.specs.Assignments.{Label}
+use Rattle.std.specs.Prelude.{◌≡◌, ◌≢◌, ℕ, zero, suc, ◌+◌, ◌<◌, List, length, Contains, AllPairs}
+use Rattle.labels.specs.Labels.{Label, with_below}
 use Rattle.gta_theory.specs.Guides.{Spaces, IsSpace, left, right}
 use Rattle.gta_theory.specs.Automata.{Automaton}
 
@@ -10,10 +10,6 @@ pub record IsListOf {X : Type 0} (Apart : X → X → Type 0) (Is : X → Type 0
   pub every : (x : X) → Is x → Contains xs x
   pub only : (x : X) → Contains xs x → Is x
   pub once : AllPairs Apart xs
-
--- the label with the tracks below k as another one has them
-abbrev pub with_below : ℕ → Label → Label → Label
-with_below k fixed label = λ u. if nat_lt u k then fixed u else label u
 
 -- some label has different states by the two functions
 pub record AreDifferent {Q : Type 0} (f h : Label → Q) : Type 0 where

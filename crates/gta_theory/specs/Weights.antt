@@ -1,7 +1,8 @@
 -- Weights of assignments on listed tracks, and the least weight that gives a state. (Dijkstra 1959, for trees: Knuth
 -- 1977.)
 use Rattle.std.specs.Prelude.{◌≡◌, ℕ, zero, suc, ◌+◌, ◌<◌, ◌≤◌, if◌then◌else◌, IsTrue, ◌⊎◌, true, false, List, [], ◌∷◌, Contains, Option, Some}
-use Rattle.gta_theory.specs.Assignments.{Position, Assignment, Label, Covers, half, root_label}
+use Rattle.labels.specs.Labels.{Label}
+use Rattle.gta_theory.specs.Assignments.{Position, Assignment, Covers, half, root_label}
 use Rattle.gta_theory.specs.Guides.{Spaces, IsSpace, left, right}
 use Rattle.gta_theory.specs.Automata.{Automaton, value, Accepts}
 

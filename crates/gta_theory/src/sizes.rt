@@ -1,7 +1,8 @@
 //! Laws of Sizes.
 
 ghost use Rattle.std.specs.Prelude.{◌≡◌, ◌≢◌, ℕ, ◌+◌, ◌≤◌, Bool, ◌↔◌, IsTrue, List, length, All, AllPairs};
-ghost use Rattle.gta_theory.specs.Assignments.{Assignment, Label, Covers};
+ghost use Rattle.labels.specs.Labels.{Label};
+ghost use Rattle.gta_theory.specs.Assignments.{Assignment, Covers};
 ghost use Rattle.gta_theory.specs.Guides.{Spaces, IsGuide, IsSpace};
 ghost use Rattle.gta_theory.specs.Automata.{Automaton, IsStable, Accepts, Has};
 ghost use Rattle.gta_theory.specs.Constructions.{IsReached, IsNaming, IsProduct, IsSubset};

@@ -1,5 +1,6 @@
 -- Steps of the reader as moves.
-use Rattle.std.proofs.Common.{◌≡◌, ℕ, List, [], ◌∷◌, ◌++◌, map, Option, Some, None, sym, ◌∙◌, ap, subst, refl, append-nil, append_assoc, Result, Ok, Err, ◌==◌, Bool, true, false, length}
+use Rattle.std.proofs.Common.{◌≡◌, ℕ, List, [], ◌∷◌, ◌++◌, map, Option, Some, None, sym, ◌∙◌, ap, subst, refl, append-nil}
+use Rattle.std.proofs.Common.{append_assoc, Result, Ok, Err, ◌==◌, Bool, true, false, length}
 use Rattle.std.proofs.lemmas.List.{map-append, nil_from_length}
 use Rattle.std.proofs.lemmas.Bool.{eqb-true}
 use Rattle.std.specs.Prelude.{IfOk}
@@ -24,7 +25,9 @@ module _ {N P A K : Type 0} (rules : Rules N P A K) (hints : Hints N P K) where
       MovesOnce rules hints next (Row row d (stack_of old)) old new
   moves_by next row row' d t done old new same m to events = record {
     done = done;
-    moved = subst (λ x. IsMove rules hints next (Row x d (stack_of old)) (stack_of new) done) (sym same) (subst (λ x. IsMove rules hints next (Row row' d (stack_of old)) x done) (sym to) m);
+    moved =
+        subst (λ x. IsMove rules hints next (Row x d (stack_of old)) (stack_of new) done) (sym same)
+        (subst (λ x. IsMove rules hints next (Row row' d (stack_of old)) x done) (sym to) m);
     happened = events;
   }
 
@@ -39,9 +42,11 @@ module _ {N P A K : Type 0} (rules : Rules N P A K) (hints : Hints N P K) where
 
   -- a move that does nothing but put a row on
   pub moves_by_one : (next : Option K) (row row' r : List (Symbol N A K)) (d : ℕ) (old new : Work N A K) →
-      row ≡ row' → IsMove rules hints next (Row row' d (stack_of old)) (Row r d (stack_of old)) [] → stack_of new ≡ Row r d (stack_of old) → new.events ≡ old.events →
+      row ≡ row' → IsMove rules hints next (Row row' d (stack_of old)) (Row r d (stack_of old)) [] →
+      stack_of new ≡ Row r d (stack_of old) → new.events ≡ old.events →
       MovesOnce rules hints next (Row row d (stack_of old)) old new
-  moves_by_one next row row' r d old new same m to one = moves_by next row row' d (Row r d (stack_of old)) [] old new same m to (one ∙ sym (append-nil old.events))
+  moves_by_one next row row' r d old new same m to one =
+      moves_by next row row' d (Row r d (stack_of old)) [] old new same m to (one ∙ sym (append-nil old.events))
 
   -- a token that was read
   pub takes_by : (limit : ℕ) (k : K) (row row' : List (Symbol N A K)) (d : ℕ) (t : Stack N A K) (step : Step A) (old new : Work N A K) →
@@ -49,12 +54,15 @@ module _ {N P A K : Type 0} (rules : Rules N P A K) (hints : Hints N P K) where
       Takes rules hints limit k (Row row d (stack_of old)) old new
   takes_by limit k row row' d t step old new same m to events = record {
     step = step;
-    taken = subst (λ x. IsTake limit k (Row x d (stack_of old)) (stack_of new) step) (sym same) (subst (λ x. IsTake limit k (Row row' d (stack_of old)) x step) (sym to) m);
+    taken =
+        subst (λ x. IsTake limit k (Row x d (stack_of old)) (stack_of new) step) (sym same)
+        (subst (λ x. IsTake limit k (Row row' d (stack_of old)) x step) (sym to) m);
     happened = events;
   }
 
   -- moves after moves
-  pub moves_then : {next : Option K} {s t : Stack N A K} {a : List (Step A)} → AreMoves rules hints next s t a → (u : Stack N A K) (b : List (Step A)) → AreMoves rules hints next t u b → AreMoves rules hints next s u (a ++ b)
+  pub moves_then : {next : Option K} {s t : Stack N A K} {a : List (Step A)} → AreMoves rules hints next s t a →
+      (u : Stack N A K) (b : List (Step A)) → AreMoves rules hints next t u b → AreMoves rules hints next s u (a ++ b)
   moves_then (stay s) u b n = n
   moves_then {next = next} (move s t v done more m ms) u b n =
       subst (λ (x : List (Step A)). AreMoves rules hints next s u x) (sym (append_assoc done more b)) (move s t u done (more ++ b) m (moves_then ms u b n))
@@ -72,21 +80,26 @@ module _ {N P A K : Type 0} (rules : Rules N P A K) (hints : Hints N P K) where
   exposing_first next w = record { done = []; moved = stay (stack_of w); happened = sym (append-nil w.events) }
 
   -- the frame that was taken off stood on top
-  pub popped : (frames rest : List (Frame N A K)) (frame : Frame N A K) → frames ≡ rest ++ frame ∷ [] → pile frames Bottom ≡ Row frame.rest.now frame.depth (pile rest Bottom)
+  pub popped : (frames rest : List (Frame N A K)) (frame : Frame N A K) → frames ≡ rest ++ frame ∷ [] →
+      pile frames Bottom ≡ Row frame.rest.now frame.depth (pile rest Bottom)
   popped frames rest frame e = ap (λ x. pile x Bottom) e ∙ pile-last rest frame Bottom
 
   -- after one more move
-  pub exposing_more : (next : Option K) (row : List (Symbol N A K)) (d : ℕ) (first now old new : Work N A K) → Exposing next first now → stack_of now ≡ Row row d (stack_of old) → old.events ≡ now.events →
+  pub exposing_more : (next : Option K) (row : List (Symbol N A K)) (d : ℕ) (first now old new : Work N A K) →
+      Exposing next first now → stack_of now ≡ Row row d (stack_of old) → old.events ≡ now.events →
       MovesOnce rules hints next (Row row d (stack_of old)) old new → Exposing next first new
   exposing_more next row d first now old new e top same m = record {
     done = e.done ++ m.done;
-    moved = moves_then e.moved (stack_of new) m.done (one_move next (stack_of now) (stack_of new) m.done (subst (λ x. IsMove rules hints next x (stack_of new) m.done) (sym top) m.moved));
+    moved =
+        moves_then e.moved (stack_of new) m.done
+        (one_move next (stack_of now) (stack_of new) m.done (subst (λ x. IsMove rules hints next x (stack_of new) m.done) (sym top) m.moved));
     happened = m.happened ∙ ap (λ x. x ++ map event_of m.done) (same ∙ e.happened) ∙ append_assoc first.events (map event_of e.done) (map event_of m.done)
         ∙ ap (λ x. first.events ++ x) (sym (map-append event_of e.done m.done));
   }
 
   -- where a token was found on top
-  pub exposed_by : (next : Option K) (row : List (Symbol N A K)) (d : ℕ) (first now old new : Work N A K) → Exposing next first now → stack_of now ≡ Row row d (stack_of old) → old.events ≡ now.events →
+  pub exposed_by : (next : Option K) (row : List (Symbol N A K)) (d : ℕ) (first now old new : Work N A K) →
+      Exposing next first now → stack_of now ≡ Row row d (stack_of old) → old.events ≡ now.events →
       StaysReady rules hints (Row row d (stack_of old)) old new → Exposed rules hints next first new
   exposed_by next row d first now old new e top same r = record {
     done = e.done;
@@ -96,13 +109,17 @@ module _ {N P A K : Type 0} (rules : Rules N P A K) (hints : Hints N P K) where
   }
 
   -- where nothing begins with what comes next
-  pub sticks_by : (next : Option K) (row : List (Symbol N A K)) (d : ℕ) (first now old : Work N A K) → Exposing next first now → stack_of now ≡ Row row d (stack_of old) →
+  pub sticks_by : (next : Option K) (row : List (Symbol N A K)) (d : ℕ) (first now old : Work N A K) → Exposing next first now →
+      stack_of now ≡ Row row d (stack_of old) →
       IsStuck rules hints next (Row row d (stack_of old)) → Sticks rules hints next (stack_of first)
-  sticks_by next row d first now old e top s = record { there = stack_of now; done = e.done; moved = e.moved; stuck = subst (IsStuck rules hints next) (sym top) s }
+  sticks_by next row d first now old e top s =
+      record { there = stack_of now; done = e.done; moved = e.moved; stuck = subst (IsStuck rules hints next) (sym top) s }
 
   -- a token that was fed: moves, and then the token
-  pub fed_by : {E : Type 0} (limit : ℕ) (k : K) (row : List (Symbol N A K)) (d : ℕ) (first mid old new : Work N A K) (r : Result Fed E) → Exposed rules hints (Some k) first mid →
-      stack_of mid ≡ Row row d (stack_of old) → old.events ≡ mid.events → IfOk r (TakesToken rules hints limit k row d old new) → IfOk r (IsFed rules hints limit k first new)
+  pub fed_by : {E : Type 0} (limit : ℕ) (k : K) (row : List (Symbol N A K)) (d : ℕ) (first mid old new : Work N A K) (r : Result Fed E) →
+      Exposed rules hints (Some k) first mid →
+      stack_of mid ≡ Row row d (stack_of old) → old.events ≡ mid.events →
+      IfOk r (TakesToken rules hints limit k row d old new) → IfOk r (IsFed rules hints limit k first new)
   fed_by limit k row d first mid old new (Err e) x top same t = tt
   fed_by limit k row d first mid old new (Ok fed.Read) x top same t = record {
     there = stack_of mid;
@@ -113,8 +130,10 @@ module _ {N P A K : Type 0} (rules : Rules N P A K) (hints : Hints N P K) where
     happened = t.happened ∙ ap (λ y. y ++ event_of t.step ∷ []) (same ∙ x.happened) ∙ append_assoc first.events (map event_of x.done) (event_of t.step ∷ [])
         ∙ ap (λ y. first.events ++ y) (sym (map-append event_of x.done (t.step ∷ [])));
   }
-  fed_by limit k row d first mid old new (Ok fed.Wrong) x top same t = record { there = stack_of mid; done = x.done; moved = x.moved; stuck = subst (IsStuck rules hints (Some k)) (sym top) t }
-  fed_by limit k row d first mid old new (Ok fed.Deep) x top same t = record { there = stack_of mid; done = x.done; moved = x.moved; deep = subst (IsTooDeep limit k) (sym top) t }
+  fed_by limit k row d first mid old new (Ok fed.Wrong) x top same t =
+      record { there = stack_of mid; done = x.done; moved = x.moved; stuck = subst (IsStuck rules hints (Some k)) (sym top) t }
+  fed_by limit k row d first mid old new (Ok fed.Deep) x top same t =
+      record { there = stack_of mid; done = x.done; moved = x.moved; deep = subst (IsTooDeep limit k) (sym top) t }
 
   -- ---- at the end
 
@@ -137,8 +156,21 @@ module _ {N P A K : Type 0} (rules : Rules N P A K) (hints : Hints N P K) where
   nil_or_not (frame ∷ frames) h e = pile-row frames frame.rest.now frame.depth Bottom e
 
   -- where the tokens end: whether a frame is left
-  pub finished_by : (first now : Work N A K) (b : Bool) → Exposed rules hints None first now → b ≡ (length now.frames.items == 0) → IsFinished rules hints first now b
+  pub finished_by : (first now : Work N A K) (b : Bool) → Exposed rules hints None first now →
+      b ≡ (length now.frames.items == 0) → IsFinished rules hints first now b
   finished_by first now true x e =
       let none : now.frames.items ≡ [] = nil_from_length now.frames.items (eqb-true _ _ (sym e)) in
-      record { done = x.done; moved = subst (λ y. AreMoves rules hints None (stack_of first) y x.done) (ap (λ y. pile y Bottom) none) x.moved; happened = x.happened }
-  finished_by first now false x e = record { there = stack_of now; done = x.done; moved = x.moved; stuck = stuck_at_end (stack_of now) x.ready (nil_or_not now.frames.items (sym e)) }
+      record {
+        done = x.done;
+        moved = subst (λ y. AreMoves rules hints None (stack_of first) y x.done)
+            (ap (λ y. pile y Bottom) none) x.moved;
+        happened = x.happened;
+      }
+  finished_by first now false x e =
+      record {
+        there = stack_of now;
+        done = x.done;
+        moved = x.moved;
+        stuck = stuck_at_end (stack_of now) x.ready
+            (nil_or_not now.frames.items (sym e));
+      }

@@ -1,5 +1,6 @@
 -- Going over the choices of a nonterminal.
-use Rattle.std.proofs.Common.{◌≡◌, ℕ, zero, suc, ◌+◌, ◌<◌, ◌≤◌, ◌==◌, ◌||◌, Bool, true, false, List, [], ◌∷◌, ◌++◌, length, get_or, drop, drop-cons, add-one, inl, inr, sym, ◌∙◌, ap, subst, refl, arith}
+use Rattle.std.proofs.Common.{◌≡◌, ℕ, zero, suc, ◌+◌, ◌<◌, ◌≤◌, ◌==◌, ◌||◌, Bool, true, false, List, [], ◌∷◌, ◌++◌, length}
+use Rattle.std.proofs.Common.{get_or, drop, drop-cons, add-one, inl, inr, sym, ◌∙◌, ap, subst, refl, arith}
 use Rattle.std.proofs.lemmas.List.{drop_all}
 use Rattle.std.specs.List.{flat_map}
 use Rattle.ll1_reader.specs.Grammars.{Rules, IsOneOf}
@@ -16,7 +17,9 @@ module _ {N P A K : Type 0} (rules : Rules N P A K) (hints : Hints N P K) where
   among-append_none k [] ys h = refl
   among-append_none k (x ∷ xs) ys h = by (hints.number k == hints.number x) refl h (among-append_none k xs ys)
     where
-      by : (b : Bool) → (hints.number k == hints.number x) ≡ b → (b || among rules hints k xs) ≡ false → (among rules hints k xs ≡ false → among rules hints k (xs ++ ys) ≡ among rules hints k ys) → (b || among rules hints k (xs ++ ys)) ≡ among rules hints k ys
+      by : (b : Bool) → (hints.number k == hints.number x) ≡ b → (b || among rules hints k xs) ≡ false →
+          (among rules hints k xs ≡ false → among rules hints k (xs ++ ys) ≡ among rules hints k ys) →
+          (b || among rules hints k (xs ++ ys)) ≡ among rules hints k ys
       by true e f more = absurd (cc f)
       by false e f more = more f
 

@@ -2,7 +2,8 @@
 use Rattle.std.proofs.Common.{◌≡◌, ℕ, zero, suc, ◌+◌, ◌≤◌, List, [], ◌∷◌, ◌++◌, take, drop, Some, sym, ◌∙◌, ap, subst, refl, arith, append-nil}
 use Rattle.std.specs.Prelude.{slice_get}
 use Rattle.ll1_reader.specs.Grammars.{Rules}
-use Rattle.ll1_reader.specs.Readings.{Stack, Step, Reads, over, row_over, read, opened, acted, once, taken, left_out, again, ended, AnyEnd, IsNotBegun, IsAnyReading, IsReading}
+use Rattle.ll1_reader.specs.Readings.{Stack, Step, Reads, over, row_over, read, opened, acted, once, taken, left_out, again}
+use Rattle.ll1_reader.specs.Readings.{ended, AnyEnd, IsNotBegun, IsAnyReading, IsReading}
 use Rattle.ll1_reader.specs.Answers.{levels, AreLow, NoneGoesOn, IsWrongAt, IsDeepAt}
 
 -- a list is its front and its rest
@@ -40,12 +41,17 @@ module _ {N P A K : Type 0} (rules : Rules N P A K) where
     where
       by : (rest : List K) → drop place tokens ≡ rest → NoneGoesOn rules limit (take place tokens) rest → ⊥
       by [] e none =
-          none steps (subst (λ (l : List K). IsAnyReading rules l steps) (sym (front_and_rest place tokens) ∙ ap (λ l. take place tokens ++ l) e ∙ append-nil (take place tokens)) (weaker r))
+          none steps (subst (λ (l : List K). IsAnyReading rules l steps)
+          (sym (front_and_rest place tokens) ∙ ap (λ l. take place tokens ++ l) e ∙ append-nil (take place tokens))
+          (weaker r))
       by (k ∷ rest) e none =
-          none rest steps (subst (λ (l : List K). IsAnyReading rules l steps) (sym (front_and_rest place tokens) ∙ ap (λ l. take place tokens ++ l) e) (weaker r))
+          none rest steps
+          (subst (λ (l : List K). IsAnyReading rules l steps) (sym (front_and_rest place tokens) ∙ ap (λ l. take place tokens ++ l) e) (weaker r))
 
-  pub not_deep : (limit : ℕ) (tokens : List K) (place : ℕ) (steps : List (Step A)) → IsReading rules tokens steps → AreLow limit (levels steps) → IsDeepAt rules limit tokens place → ⊥
+  pub not_deep : (limit : ℕ) (tokens : List K) (place : ℕ) (steps : List (Step A)) → IsReading rules tokens steps →
+      AreLow limit (levels steps) → IsDeepAt rules limit tokens place → ⊥
   not_deep limit tokens place steps r low d =
-      let whole : tokens ≡ take place tokens ++ d.kind ∷ drop (suc place) tokens = sym (front_and_rest place tokens) ∙ ap (λ l. take place tokens ++ l) (rest_at place tokens d.kind d.here) in
+      let whole : tokens ≡ take place tokens ++ d.kind ∷ drop (suc place) tokens =
+      sym (front_and_rest place tokens) ∙ ap (λ l. take place tokens ++ l) (rest_at place tokens d.kind d.here) in
       let at = d.deep (drop (suc place) tokens) steps (subst (λ (l : List K). IsReading rules l steps) whole r) in
       absurd (omega (arith, low_at limit (levels steps) place (limit + 1) low at.there))

@@ -4,7 +4,8 @@ use Rattle.ll1_reader.specs.declared.symbol.Symbol.{Symbol}
 use Rattle.ll1_reader.specs.declared.symbol.Symbol.TheVariants.{Read, Open, Once, Maybe, Many, Act}
 use Rattle.ll1_reader.specs.Grammars.{Rules, IsOneOf}
 use Rattle.ll1_reader.specs.Predicting.{Hints, IsSound, among, starts_of, own, may_begin, all_begin, moves, sizes, lead}
-use Rattle.ll1_reader.specs.Readings.{Stack, Bottom, Row, Step, Took, Did, Reads, over, row_over, read, opened, acted, once, taken, left_out, again, ended, AnyEnd, IsNotBegun}
+use Rattle.ll1_reader.specs.Readings.{Stack, Bottom, Row, Step, Took, Did, Reads, over, row_over, read, opened, acted, once}
+use Rattle.ll1_reader.specs.Readings.{taken, left_out, again, ended, AnyEnd, IsNotBegun}
 use Rattle.ll1_reader.specs.Moves.{first_of, is_next}
 use Rattle.ll1_reader.proofs.KindLists.{and_left, and_right, or_cases, false_true, kind_by, among_some, all_among_self, fine_choice, short_choice}
 use Rattle.ll1_reader.proofs.Firsts.{starts_well}
@@ -20,7 +21,8 @@ module _ {N P A K : Type 0} (rules : Rules N P A K) (hints : Hints N P K) (sound
     pub first : first_of tokens ≡ lead_at rules hints s
 
   -- what may come again or be left out may end before what `lead_at` tells
-  ends_before : (n : N) (row : List (Symbol N A K)) (d : ℕ) (below : Stack N A K) → RowEndsWell rules hints row below × IsSafe rules hints below → AreSafe rules hints (own rules hints n) row below →
+  ends_before : (n : N) (row : List (Symbol N A K)) (d : ℕ) (below : Stack N A K) →
+      RowEndsWell rules hints row below × IsSafe rules hints below → AreSafe rules hints (own rules hints n) row below →
       (ks : List K) → first_of ks ≡ lead_at rules hints (Row row d below) → MayEnd n ks
   ends_before n row d below w s ks e = may_end n ks (by (first_of ks) refl)
     where
@@ -44,8 +46,11 @@ module _ {N P A K : Type 0} (rules : Rules N P A K) (hints : Hints N P K) (sound
   lead_some (Many n ∷ row) k after h = lead_some row k after h
 
   -- a row ends on what ends, where shorter rows do
-  row_ends : (f : ℕ) → ((row : List (Symbol N A K)) (d : ℕ) (below : Stack N A K) → sizes rules hints row < f → RowEndsWell rules hints row below → IsSafe rules hints below → Ends below → Ends (Row row d below)) →
-      (row : List (Symbol N A K)) (d : ℕ) (below : Stack N A K) → sizes rules hints row ≤ f → RowEndsWell rules hints row below → IsSafe rules hints below → Ends below → Ends (Row row d below)
+  row_ends : (f : ℕ) →
+      ((row : List (Symbol N A K)) (d : ℕ) (below : Stack N A K) → sizes rules hints row < f → RowEndsWell rules hints row below
+      → IsSafe rules hints below → Ends below → Ends (Row row d below)) →
+      (row : List (Symbol N A K)) (d : ℕ) (below : Stack N A K) → sizes rules hints row ≤ f →
+      RowEndsWell rules hints row below → IsSafe rules hints below → Ends below → Ends (Row row d below)
   row_ends f deeper [] d below h w s e = record { tokens = e.tokens; steps = e.steps; reads = row_over d below e.tokens e.steps e.reads; first = e.first }
   row_ends f deeper (Read k ∷ row) d below h w s e =
       let r = row_ends f deeper row d below h w.1 s e in
@@ -60,7 +65,9 @@ module _ {N P A K : Type 0} (rules : Rules N P A K) (hints : Hints N P K) (sound
       let r = row_ends f deeper row d below (omega arith) w.1 s e in
       let p = (short_choice rules hints sound n).0 in
       let short = (short_choice rules hints sound n).1 in
-      let q = deeper (rules.row p) d (Row row d below) (omega (arith, short.small)) (safe_choice rules hints sound n p d row below short.choice w.0) (w.1, s) r in
+      let q =
+      deeper (rules.row p) d (Row row d below) (omega (arith, short.small))
+      (safe_choice rules hints sound n p d row below short.choice w.0) (w.1, s) r in
       record {
         tokens = q.tokens;
         steps = q.steps;
@@ -69,17 +76,31 @@ module _ {N P A K : Type 0} (rules : Rules N P A K) (hints : Hints N P K) (sound
       }
   row_ends f deeper (Maybe n ∷ row) d below h w s e =
       let r = row_ends f deeper row d below h w.1 s e in
-      record { tokens = r.tokens; steps = r.steps; reads = left_out n row d below r.tokens r.steps (ends_before n row d below (w.1, s) w.0.0 r.tokens r.first) r.reads; first = r.first }
+      record {
+        tokens = r.tokens;
+        steps = r.steps;
+        reads = left_out n row d below r.tokens r.steps
+            (ends_before n row d below (w.1, s) w.0.0 r.tokens r.first) r.reads;
+        first = r.first;
+      }
   row_ends f deeper (Many n ∷ row) d below h w s e =
       let r = row_ends f deeper row d below h w.1 s e in
-      record { tokens = r.tokens; steps = r.steps; reads = ended n row d below r.tokens r.steps (ends_before n row d below (w.1, s) w.0.0 r.tokens r.first) r.reads; first = r.first }
+      record {
+        tokens = r.tokens;
+        steps = r.steps;
+        reads = ended n row d below r.tokens r.steps
+            (ends_before n row d below (w.1, s) w.0.0 r.tokens r.first) r.reads;
+        first = r.first;
+      }
 
-  all_rows_end : (f : ℕ) (row : List (Symbol N A K)) (d : ℕ) (below : Stack N A K) → sizes rules hints row ≤ f → RowEndsWell rules hints row below → IsSafe rules hints below → Ends below → Ends (Row row d below)
+  all_rows_end : (f : ℕ) (row : List (Symbol N A K)) (d : ℕ) (below : Stack N A K) → sizes rules hints row ≤ f →
+      RowEndsWell rules hints row below → IsSafe rules hints below → Ends below → Ends (Row row d below)
   all_rows_end zero = row_ends zero (λ row d below h w s e. absurd (omega (arith, h)))
   all_rows_end (suc f) = row_ends (suc f) (λ row d below h w s e. all_rows_end f row d below (omega (arith, h)) w s e)
 
   -- a row on what ends can be read to its end, and so can a stack
-  pub row_can_end : (row : List (Symbol N A K)) (d : ℕ) (below : Stack N A K) → RowEndsWell rules hints row below → IsSafe rules hints below → Ends below → Ends (Row row d below)
+  pub row_can_end : (row : List (Symbol N A K)) (d : ℕ) (below : Stack N A K) → RowEndsWell rules hints row below →
+      IsSafe rules hints below → Ends below → Ends (Row row d below)
   row_can_end row d below w s e = all_rows_end (sizes rules hints row) row d below (omega arith) w s e
 
   pub can_end : (s : Stack N A K) → IsSafe rules hints s → Ends s
@@ -96,7 +117,8 @@ module _ {N P A K : Type 0} (rules : Rules N P A K) (hints : Hints N P K) (sound
     steps : List (Step A)
     reads : Reads rules (AnyEnd rules) s (k ∷ after) steps
 
-  begins_at : (k : K) (ks : List K) (row : List (Symbol N A K)) → all_begin rules hints ks row ≡ true → among rules hints k ks ≡ true → may_begin rules hints k row ≡ true
+  begins_at : (k : K) (ks : List K) (row : List (Symbol N A K)) → all_begin rules hints ks row ≡ true →
+      among rules hints k ks ≡ true → may_begin rules hints k row ≡ true
   begins_at k [] row h i = false_true i
   begins_at k (j ∷ ks) row h i =
       elim (or_cases (hints.number k == hints.number j) _ i) [
@@ -109,7 +131,8 @@ module _ {N P A K : Type 0} (rules : Rules N P A K) (hints : Hints N P K) (sound
       RowEndsWell rules hints row below → IsSafe rules hints below → Ends rules hints sound (AnyEnd rules) any_ends below → Begins k (Row row d below)
 
   -- a choice begins with each of its kinds, where rows of fewer moves do
-  choice_begins : (k : K) (f : ℕ) → Deeper k f → (n : N) (d : ℕ) (row : List (Symbol N A K)) (below : Stack N A K) → hints.cost n < f → among rules hints k (starts_of rules hints n) ≡ true →
+  choice_begins : (k : K) (f : ℕ) → Deeper k f → (n : N) (d : ℕ) (row : List (Symbol N A K)) (below : Stack N A K) →
+      hints.cost n < f → among rules hints k (starts_of rules hints n) ≡ true →
       AreSafe rules hints (hints.tails n) row below → IsSafe rules hints (Row row d below) → Ends rules hints sound (AnyEnd rules) any_ends (Row row d below) →
       (p : P) × IsOneOf p (rules.choices n) × Begins k (Row (rules.row p) d (Row row d below))
   unfolding Deeper
@@ -122,7 +145,8 @@ module _ {N P A K : Type 0} (rules : Rules N P A K) (hints : Hints N P K) (sound
             (safe_choice rules hints sound n c.0 d row below c.1 t) s e,
       )
 
-  row_begins : (k : K) (f : ℕ) → Deeper k f → (row : List (Symbol N A K)) (d : ℕ) (below : Stack N A K) → moves rules hints row ≤ f → may_begin rules hints k row ≡ true →
+  row_begins : (k : K) (f : ℕ) → Deeper k f → (row : List (Symbol N A K)) (d : ℕ) (below : Stack N A K) →
+      moves rules hints row ≤ f → may_begin rules hints k row ≡ true →
       RowEndsWell rules hints row below → IsSafe rules hints below → Ends rules hints sound (AnyEnd rules) any_ends below → Begins k (Row row d below)
   row_begins k f deeper [] d below h i w s e = false_true i
   row_begins k f deeper (Read j ∷ row) d below h i w s e =
@@ -130,14 +154,18 @@ module _ {N P A K : Type 0} (rules : Rules N P A K) (hints : Hints N P K) (sound
       record {
         after = r.tokens;
         steps = Took d ∷ r.steps;
-        reads = subst (λ (x : K). Reads rules (AnyEnd rules) (Row (Read j ∷ row) d below) (x ∷ r.tokens) (Took d ∷ r.steps)) (sym (kind_by rules hints sound k j i)) (read j row d below r.tokens r.steps r.reads);
+        reads =
+            subst (λ (x : K). Reads rules (AnyEnd rules) (Row (Read j ∷ row) d below) (x ∷ r.tokens) (Took d ∷ r.steps))
+            (sym (kind_by rules hints sound k j i)) (read j row d below r.tokens r.steps r.reads);
       }
   row_begins k f deeper (Open j ∷ row) d below h i w s e =
       let r = row_can_end rules hints sound (AnyEnd rules) any_ends row (suc d) below w.1 s e in
       record {
         after = r.tokens;
         steps = Took (suc d) ∷ r.steps;
-        reads = subst (λ (x : K). Reads rules (AnyEnd rules) (Row (Open j ∷ row) d below) (x ∷ r.tokens) (Took (suc d) ∷ r.steps)) (sym (kind_by rules hints sound k j i)) (opened j row d below r.tokens r.steps r.reads);
+        reads =
+            subst (λ (x : K). Reads rules (AnyEnd rules) (Row (Open j ∷ row) d below) (x ∷ r.tokens) (Took (suc d) ∷ r.steps))
+            (sym (kind_by rules hints sound k j i)) (opened j row d below r.tokens r.steps r.reads);
       }
   row_begins k f deeper (Act a ∷ row) d below h i w s e =
       let r = row_begins k f deeper row d below (omega arith) i w.1 s e in
@@ -178,10 +206,14 @@ module _ {N P A K : Type 0} (rules : Rules N P A K) (hints : Hints N P K) (sound
   -- a token of no kind that the nonterminal begins with begins none of its sentences
   pub not_begun : (n : N) (ks : List K) → is_next rules hints (starts_of rules hints n) (first_of ks) ≡ false → IsNotBegun rules n ks
   not_begun n [] h = tt
-  not_begun n (k ∷ ks) h = λ after steps r. cc (h, starts_well rules hints sound (AnyEnd rules) r (starts_of rules hints n) (all_among_self rules hints sound (starts_of rules hints n)))
+  not_begun n (k ∷ ks) h =
+      λ after steps r. cc
+      (h, starts_well rules hints sound (AnyEnd rules) r (starts_of rules hints n) (all_among_self rules hints sound (starts_of rules hints n)))
 
   -- and one of such a kind begins one
   pub begun : (n : N) (k : K) (ks : List K) → among rules hints k (starts_of rules hints n) ≡ true → IsNotBegun rules n (k ∷ ks) → ⊥
   begun n k ks h f =
-      let b = all_rows_begin k (moves rules hints (Once n ∷ [])) (Once n ∷ []) 0 Bottom (omega arith) h (safe_bottom rules hints sound (hints.tails n), tt) tt (can_end rules hints sound (AnyEnd rules) any_ends Bottom tt) in
+      let b =
+      all_rows_begin k (moves rules hints (Once n ∷ [])) (Once n ∷ []) 0 Bottom (omega arith) h
+      (safe_bottom rules hints sound (hints.tails n), tt) tt (can_end rules hints sound (AnyEnd rules) any_ends Bottom tt) in
       f b.after b.steps b.reads

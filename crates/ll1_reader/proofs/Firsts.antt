@@ -15,7 +15,8 @@ module _ {N P A K : Type 0} (rules : Rules N P A K) (hints : Hints N P K) (sound
   begins_in_all ks js [] h b = absurd b
   begins_in_all ks js (k ∷ _) h b = all_among_at rules hints sound k ks js h b
 
-  begins_of_choice : (n : N) (p : P) (tokens : List K) → IsOneOf p (rules.choices n) → BeginsAmong (hints.starts p) tokens → BeginsAmong (starts_of rules hints n) tokens
+  begins_of_choice : (n : N) (p : P) (tokens : List K) → IsOneOf p (rules.choices n) → BeginsAmong (hints.starts p) tokens →
+      BeginsAmong (starts_of rules hints n) tokens
   begins_of_choice n p [] i b = absurd b
   begins_of_choice n p (k ∷ _) i b = among_all rules hints sound k (rules.choices n) p i b
 
@@ -32,7 +33,8 @@ module _ {N P A K : Type 0} (rules : Rules N P A K) (hints : Hints N P K) (sound
     starts_well (opened k row d below ks steps r) = λ js h. h
     starts_well (acted a row d below ks steps r) = λ js h. starts_well r js h
     starts_well (once n p row d below ks steps i r) = λ js h.
-        begins_in_all (starts_of rules hints n) js ks h (begins_of_choice n p ks i (starts_well r (hints.starts p) (fine_choice rules hints sound n p i).covered))
+        begins_in_all (starts_of rules hints n) js ks h
+        (begins_of_choice n p ks i (starts_well r (hints.starts p) (fine_choice rules hints sound n p i).covered))
     starts_well (taken n p row d below ks steps i r) = λ js h.
         begins_in_all (starts_of rules hints n) js ks (and_left (all_among rules hints (starts_of rules hints n) js) _ h)
         (begins_of_choice n p ks i (starts_well r (hints.starts p) (fine_choice rules hints sound n p i).covered))

@@ -1,10 +1,12 @@
 -- Lists of kinds, and what the test of a grammar says of its rows.
-use Rattle.std.proofs.Common.{◌≡◌, ℕ, zero, suc, ◌+◌, ◌<◌, ◌==◌, ◌&&◌, ◌||◌, not, Bool, true, false, nat_lt, List, [], ◌∷◌, ◌++◌, Option, None, Some, ◌⊎◌, inl, inr, sym, ◌∙◌, ap, subst, refl}
+use Rattle.std.proofs.Common.{◌≡◌, ℕ, zero, suc, ◌+◌, ◌<◌, ◌==◌, ◌&&◌, ◌||◌, not, Bool, true, false, nat_lt, List, [], ◌∷◌, ◌++◌}
+use Rattle.std.proofs.Common.{Option, None, Some, ◌⊎◌, inl, inr, sym, ◌∙◌, ap, subst, refl}
 use Rattle.std.specs.Prelude.{slice_get}
 use Rattle.std.specs.List.{flat_map}
 use Rattle.std.proofs.lemmas.Bool.{eqb-true, eq-eqb, ltb-true, and_parts}
 use Rattle.ll1_reader.specs.Grammars.{Rules, IsOneOf}
-use Rattle.ll1_reader.specs.Predicting.{Hints, IsSound, among, all_among, none_among, starts_of, covers, all_begin, moves, all_end_well, are_apart, sizes, lead, is_this, is_sample, is_fine_row, are_fine_rows}
+use Rattle.ll1_reader.specs.Predicting.{Hints, IsSound, among, all_among, none_among, starts_of, covers, all_begin, moves}
+use Rattle.ll1_reader.specs.Predicting.{all_end_well, are_apart, sizes, lead, is_this, is_sample, is_fine_row, are_fine_rows}
 
 pub or_cases : (x y : Bool) → (x || y) ≡ true → (x ≡ true) ⊎ (y ≡ true)
 or_cases true y h = inl refl
@@ -62,13 +64,17 @@ module _ {N P A K : Type 0} (rules : Rules N P A K) (hints : Hints N P K) (sound
       ]
 
   -- a choice's kinds are its nonterminal's
-  pub among_all : (k : K) (ps : List P) (p : P) → IsOneOf p ps → among rules hints k (hints.starts p) ≡ true → among rules hints k (flat_map hints.starts ps) ≡ true
+  pub among_all : (k : K) (ps : List P) (p : P) → IsOneOf p ps → among rules hints k (hints.starts p) ≡ true →
+      among rules hints k (flat_map hints.starts ps) ≡ true
   among_all k [] p i h = absurd i
-  among_all k (q ∷ ps) p (inl e) h = among_append_left k (hints.starts q) (flat_map hints.starts ps) (subst (λ (x : P). among rules hints k (hints.starts x) ≡ true) e h)
+  among_all k (q ∷ ps) p (inl e) h =
+      among_append_left k (hints.starts q) (flat_map hints.starts ps)
+      (subst (λ (x : P). among rules hints k (hints.starts x) ≡ true) e h)
   among_all k (q ∷ ps) p (inr i) h = among_append_right k (hints.starts q) (flat_map hints.starts ps) (among_all k ps p i h)
 
   -- and a nonterminal's kind is one of some choice
-  pub among_some : (k : K) (ps : List P) → among rules hints k (flat_map hints.starts ps) ≡ true → (p : P) × IsOneOf p ps × (among rules hints k (hints.starts p) ≡ true)
+  pub among_some : (k : K) (ps : List P) → among rules hints k (flat_map hints.starts ps) ≡ true →
+      (p : P) × IsOneOf p ps × (among rules hints k (hints.starts p) ≡ true)
   among_some k [] h = false_true h
   among_some k (q ∷ ps) h =
       elim (among_append_cases k (hints.starts q) (flat_map hints.starts ps) h) [
@@ -96,11 +102,16 @@ module _ {N P A K : Type 0} (rules : Rules N P A K) (hints : Hints N P K) (sound
   all_among_more : (x : K) (ks js : List K) → all_among rules hints ks js ≡ true → all_among rules hints ks (x ∷ js) ≡ true
   all_among_more x [] js h = refl
   all_among_more x (k ∷ ks) js h =
-      cc (or_right (hints.number k == hints.number x) (among rules hints k js) (and_left (among rules hints k js) _ h), all_among_more x ks js (and_right (among rules hints k js) _ h))
+      cc (
+        or_right (hints.number k == hints.number x) (among rules hints k js) (and_left (among rules hints k js) _ h),
+        all_among_more x ks js (and_right (among rules hints k js) _ h),
+      )
 
   pub all_among_self : (ks : List K) → all_among rules hints ks ks ≡ true
   all_among_self [] = refl
-  all_among_self (k ∷ ks) = cc (or_left (hints.number k == hints.number k) (among rules hints k ks) (kind_is k k refl), all_among_more k ks ks (all_among_self ks))
+  all_among_self (k ∷ ks) =
+      cc
+      (or_left (hints.number k == hints.number k) (among rules hints k ks) (kind_is k k refl), all_among_more k ks ks (all_among_self ks))
 
   -- only one choice may begin with a token
   pub one_choice : (k : K) (ps : List P) (p q : P) → are_apart rules hints ps ≡ true → IsOneOf p ps → IsOneOf q ps →
@@ -115,7 +126,8 @@ module _ {N P A K : Type 0} (rules : Rules N P A K) (hints : Hints N P K) (sound
       let here : among rules hints k (hints.starts r) ≡ true = subst (λ (x : P). among rules hints k (hints.starts x) ≡ true) f l in
       let not_there = none_among_at k (hints.starts r) (flat_map hints.starts ps) (and_left _ (are_apart rules hints ps) a) here in
       absurd (cc (not_there, among_all k ps p i h))
-  one_choice k (r ∷ ps) p q a (inr i) (inr j) h l = one_choice k ps p q (and_right (none_among rules hints (hints.starts r) (flat_map hints.starts ps)) _ a) i j h l
+  one_choice k (r ∷ ps) p q a (inr i) (inr j) h l =
+      one_choice k ps p q (and_right (none_among rules hints (hints.starts r) (flat_map hints.starts ps)) _ a) i j h l
 
   fine_row_in : (n : N) (ps : List P) (p : P) → are_fine_rows rules hints n ps ≡ true → IsOneOf p ps → is_fine_row rules hints n p ≡ true
   fine_row_in n [] p h i = absurd i
@@ -132,7 +144,9 @@ module _ {N P A K : Type 0} (rules : Rules N P A K) (hints : Hints N P K) (sound
       (and_left _ (among rules hints (hints.begin n) (starts_of rules hints n)) whole))
 
   pub begin_among : (n : N) → among rules hints (hints.begin n) (starts_of rules hints n) ≡ true
-  begin_among n = and_right (are_fine_rows rules hints n (rules.choices n) && are_apart rules hints (rules.choices n) && is_sample rules hints n (slice_get (rules.choices n) (hints.sample n))) _ (sound.predictable n)
+  begin_among n =
+      and_right (are_fine_rows rules hints n (rules.choices n) && are_apart rules hints (rules.choices n) && is_sample rules
+      hints n (slice_get (rules.choices n) (hints.sample n))) _ (sound.predictable n)
 
   sample_part : (n : N) → is_sample rules hints n (slice_get (rules.choices n) (hints.sample n)) ≡ true
   sample_part n =
@@ -155,13 +169,17 @@ module _ {N P A K : Type 0} (rules : Rules N P A K) (hints : Hints N P K) (sound
       (and_left _ (is_sample rules hints n (slice_get (rules.choices n) (hints.sample n)))
       (and_left _ (among rules hints (hints.begin n) (starts_of rules hints n)) (sound.predictable n))) in
       let row = fine_row_in n (rules.choices n) p all i in
-      let three = and_left (covers rules hints (hints.starts p) (rules.row p) && all_begin rules hints (hints.starts p) (rules.row p) && nat_lt (moves rules hints (rules.row p)) (hints.cost n + 1)) _ row in
+      let three =
+      and_left (covers rules hints (hints.starts p) (rules.row p) && all_begin rules hints (hints.starts p) (rules.row p)
+      && nat_lt (moves rules hints (rules.row p)) (hints.cost n + 1)) _ row in
       let two = and_left (covers rules hints (hints.starts p) (rules.row p) && all_begin rules hints (hints.starts p) (rules.row p)) _ three in
       record {
         covered = and_left _ (all_begin rules hints (hints.starts p) (rules.row p)) two;
         begins = and_right (covers rules hints (hints.starts p) (rules.row p)) _ two;
         moved = ltb-true _ _ (and_right (covers rules hints (hints.starts p) (rules.row p) && all_begin rules hints (hints.starts p) (rules.row p)) _ three);
-        well = and_right (covers rules hints (hints.starts p) (rules.row p) && all_begin rules hints (hints.starts p) (rules.row p) && nat_lt (moves rules hints (rules.row p)) (hints.cost n + 1)) _ row;
+        well =
+            and_right (covers rules hints (hints.starts p) (rules.row p) && all_begin rules hints (hints.starts p) (rules.row p)
+            && nat_lt (moves rules hints (rules.row p)) (hints.cost n + 1)) _ row;
       }
 
   pub record IsShort (n : N) (p : P) : Type 0 where

@@ -3,7 +3,8 @@ use Rattle.std.proofs.Common.{◌≡◌, ℕ, suc, List, [], ◌∷◌, sym, ◌
 use Rattle.ll1_reader.specs.declared.symbol.Symbol.TheVariants.{Many}
 use Rattle.ll1_reader.specs.Grammars.{Rows, Rules, IsOneOf, rules_of}
 use Rattle.ll1_reader.specs.Predicting.{Hints, IsSound, AreNamed}
-use Rattle.ll1_reader.specs.Readings.{Stack, Bottom, Row, Step, Took, Did, Reads, over, row_over, read, opened, acted, once, taken, left_out, again, ended, IsNotBegun, IsAnyReading, IsReading}
+use Rattle.ll1_reader.specs.Readings.{Stack, Bottom, Row, Step, Took, Did, Reads, over, row_over, read, opened, acted, once}
+use Rattle.ll1_reader.specs.Readings.{taken, left_out, again, ended, IsNotBegun, IsAnyReading, IsReading}
 use Rattle.ll1_reader.proofs.Firsts.{BeginsAmong, choice_starts}
 use Rattle.ll1_reader.proofs.KindLists.{only_choice, among_all}
 use Rattle.ll1_reader.proofs.SafeStacks.{text_ends_well}
@@ -17,23 +18,28 @@ module _ {N P A K : Type 0} (rules : Rules N P A K) (hints : Hints N P K) (sound
   Counts = IsNotBegun rules
 
   -- two choices of a nonterminal that are read from the same tokens are one
-  same_choice : (n : N) (p q : P) (d e : ℕ) (x y : Stack N A K) (ks : List K) (one other : List (Step A)) → IsOneOf p (rules.choices n) → IsOneOf q (rules.choices n) →
+  same_choice : (n : N) (p q : P) (d e : ℕ) (x y : Stack N A K) (ks : List K) (one other : List (Step A)) →
+      IsOneOf p (rules.choices n) → IsOneOf q (rules.choices n) →
       Reads rules Counts (Row (rules.row p) d x) ks one → Reads rules Counts (Row (rules.row q) e y) ks other → p ≡ q
-  same_choice n p q d e x y ks one other i j r s = by ks (choice_starts rules hints sound Counts n p d x ks one i r) (choice_starts rules hints sound Counts n q e y ks other j s)
+  same_choice n p q d e x y ks one other i j r s =
+      by ks (choice_starts rules hints sound Counts n p d x ks one i r)
+      (choice_starts rules hints sound Counts n q e y ks other j s)
     where
       by : (tokens : List K) → BeginsAmong rules hints sound (hints.starts p) tokens → BeginsAmong rules hints sound (hints.starts q) tokens → p ≡ q
       by [] a b = absurd a
       by (k ∷ tokens) a b = only_choice rules hints sound n k p q i j a b
 
   -- a nonterminal that is read isn't ended there
-  read_or_ended : (n : N) (p : P) (d : ℕ) (x : Stack N A K) (ks : List K) (steps : List (Step A)) → IsOneOf p (rules.choices n) → Reads rules Counts (Row (rules.row p) d x) ks steps → IsNotBegun rules n ks → ⊥
+  read_or_ended : (n : N) (p : P) (d : ℕ) (x : Stack N A K) (ks : List K) (steps : List (Step A)) → IsOneOf p (rules.choices n) →
+      Reads rules Counts (Row (rules.row p) d x) ks steps → IsNotBegun rules n ks → ⊥
   read_or_ended n p d x ks steps i r m = by ks (choice_starts rules hints sound Counts n p d x ks steps i r) m
     where
       by : (tokens : List K) → BeginsAmong rules hints sound (hints.starts p) tokens → IsNotBegun rules n tokens → ⊥
       by [] a b = a
       by (k ∷ tokens) a b = begun rules hints sound n k tokens (among_all rules hints sound k (rules.choices n) p i a) b
 
-  along : {s : Stack N A K} {ks : List K} {one : List (Step A)} → Reads rules Counts s ks one → (other : List (Step A)) → Reads rules Counts s ks other → one ≡ other
+  along : {s : Stack N A K} {ks : List K} {one : List (Step A)} → Reads rules Counts s ks one → (other : List (Step A)) →
+      Reads rules Counts s ks other → one ≡ other
   along over other r = sym (un_bottom rules Counts r).1
   along (row_over d below ks steps q) other r = along q other (un_row rules Counts r)
   along (read k row d below ks steps q) other r =
@@ -74,11 +80,18 @@ module _ {N P A K : Type 0} (rules : Rules N P A K) (hints : Hints N P K) (sound
         | inr u ↦ along q other u.1
       ]
 
-module _ {N P A K : Type 0} (grammar : Rows N A K) (rules : Rules N P A K) (named : AreNamed grammar rules) (hints : Hints N P K) (sound : IsSound rules hints) where
-  pub sentence_counts : (tokens : List K) (steps : List (Step A)) → IsAnyReading (rules_of grammar) tokens steps → (counted : List (Step A)) × IsReading (rules_of grammar) tokens counted
+module _ {N P A K : Type 0} (grammar : Rows N A K) (rules : Rules N P A K) (named : AreNamed grammar rules) (hints : Hints N P K)
+    (sound : IsSound rules hints) where
+  pub sentence_counts : (tokens : List K) (steps : List (Step A)) → IsAnyReading (rules_of grammar) tokens steps →
+      (counted : List (Step A)) × IsReading (rules_of grammar) tokens counted
   sentence_counts tokens steps r =
-      let counted = any_counts rules hints sound (Row rules.text 0 Bottom) tokens steps (text_ends_well rules hints sound, tt) (any_to_names grammar rules named tokens steps r) in
+      let counted =
+      any_counts rules hints sound (Row rules.text 0 Bottom) tokens steps (text_ends_well rules hints sound, tt)
+      (any_to_names grammar rules named tokens steps r) in
       (counted.0, reading_to_rows grammar rules named tokens counted.0 counted.1)
 
-  pub one_counts : (tokens : List K) (one other : List (Step A)) → IsReading (rules_of grammar) tokens one → IsReading (rules_of grammar) tokens other → one ≡ other
-  one_counts tokens one other r s = along rules hints sound (reading_to_names grammar rules named tokens one r) other (reading_to_names grammar rules named tokens other s)
+  pub one_counts : (tokens : List K) (one other : List (Step A)) → IsReading (rules_of grammar) tokens one →
+      IsReading (rules_of grammar) tokens other → one ≡ other
+  one_counts tokens one other r s =
+      along rules hints sound (reading_to_names grammar rules named tokens one r) other
+      (reading_to_names grammar rules named tokens other s)

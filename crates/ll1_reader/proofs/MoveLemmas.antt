@@ -16,7 +16,8 @@ module _ {N P A K : Type 0} (rules : Rules N P A K) (hints : Hints N P K) where
   -- From one stack to the other, where the next token is this one: what is read from the other is read from the one,
   -- with these steps before it, and the other way round.
   pub record Leads (next : Option K) (s t : Stack N A K) (done : List (Step A)) : Type 0 where
-    pub back : (ks : List K) (steps : List (Step A)) → first_of ks ≡ next → Reads rules (IsNotBegun rules) t ks steps → Reads rules (IsNotBegun rules) s ks (done ++ steps)
+    pub back : (ks : List K) (steps : List (Step A)) → first_of ks ≡ next → Reads rules (IsNotBegun rules) t ks steps →
+        Reads rules (IsNotBegun rules) s ks (done ++ steps)
     pub on : (ks : List K) (steps : List (Step A)) → first_of ks ≡ next → Reads rules (IsNotBegun rules) s ks steps →
         (more : List (Step A)) × (steps ≡ done ++ more) × Reads rules (IsNotBegun rules) t ks more
 
@@ -60,10 +61,13 @@ module _ {N P A K : Type 0} (rules : Rules N P A K) (hints : Hints N P K) (sound
       cc (among_all rules hints sound k (rules.choices n) q j b, subst (λ (o : Option K). is_next rules hints (starts_of rules hints n) o ≡ false) (sym e) h)
 
   -- the nonterminal is begun, so it isn't ended there
-  not_ended : (n : N) (p : P) (ks : List K) (next : Option K) → first_of ks ≡ next → IsOneOf p (rules.choices n) → is_next rules hints (hints.starts p) next ≡ true → IsNotBegun rules n ks → ⊥
+  not_ended : (n : N) (p : P) (ks : List K) (next : Option K) → first_of ks ≡ next → IsOneOf p (rules.choices n) →
+      is_next rules hints (hints.starts p) next ≡ true → IsNotBegun rules n ks → ⊥
   not_ended n p [] next e i h b = false_true (subst (λ (o : Option K). is_next rules hints (hints.starts p) o ≡ true) (sym e) h)
   not_ended n p (k ∷ ks) next e i h b =
-      begun rules hints sound n k ks (among_all rules hints sound k (rules.choices n) p i (subst (λ (o : Option K). is_next rules hints (hints.starts p) o ≡ true) (sym e) h)) b
+      begun rules hints sound n k ks
+      (among_all rules hints sound k (rules.choices n) p i (subst (λ (o : Option K). is_next rules hints (hints.starts p) o ≡ true) (sym e) h))
+      b
 
   may_stop : (n : N) (ks : List K) (next : Option K) → first_of ks ≡ next → is_next rules hints (starts_of rules hints n) next ≡ false → IsNotBegun rules n ks
   may_stop n ks next e h = not_begun rules hints sound n ks (subst (λ (o : Option K). is_next rules hints (starts_of rules hints n) o ≡ false) (sym e) h)
@@ -72,8 +76,10 @@ module _ {N P A K : Type 0} (rules : Rules N P A K) (hints : Hints N P K) (sound
   Counts = IsNotBegun rules
 
   -- the choice that is read is the one that was told
-  told : (n : N) (p q : P) (row : List (Symbol N A K)) (d : ℕ) (below : Stack N A K) (ks : List K) (steps : List (Step A)) (next : Option K) → first_of ks ≡ next → IsOneOf p (rules.choices n) →
-      IsOneOf q (rules.choices n) → is_next rules hints (hints.starts p) next ≡ true → Reads rules Counts (Row (rules.row q) d below) ks steps → Reads rules Counts (Row (rules.row p) d below) ks steps
+  told : (n : N) (p q : P) (row : List (Symbol N A K)) (d : ℕ) (below : Stack N A K) (ks : List K) (steps : List (Step A)) (next : Option K) →
+      first_of ks ≡ next → IsOneOf p (rules.choices n) →
+      IsOneOf q (rules.choices n) → is_next rules hints (hints.starts p) next ≡ true →
+      Reads rules Counts (Row (rules.row q) d below) ks steps → Reads rules Counts (Row (rules.row p) d below) ks steps
   told n p q row d below ks steps next e i j h r =
       subst (λ (x : P). Reads rules Counts (Row (rules.row x) d below) ks steps)
       (same_choice n p q ks next e i j h (choice_starts rules hints sound Counts n q d below ks steps j r)) r
@@ -128,7 +134,9 @@ module _ {N P A K : Type 0} (rules : Rules N P A K) (hints : Hints N P K) (sound
       let first = move_leads m in
       let others = moves_lead ms in
       record {
-        back = λ ks steps e r. subst (λ (x : List (Step A)). Reads rules Counts s ks x) (sym (append_assoc done more steps)) (first.back ks (more ++ steps) e (others.back ks steps e r));
+        back =
+            λ ks steps e r. subst (λ (x : List (Step A)). Reads rules Counts s ks x) (sym (append_assoc done more steps))
+            (first.back ks (more ++ steps) e (others.back ks steps e r));
         on = λ ks steps e r.
             let a = first.on ks steps e r in
             let b = others.on ks a.0 e a.2 in
@@ -146,11 +154,13 @@ module _ {N P A K : Type 0} (rules : Rules N P A K) (hints : Hints N P K) (sound
   move_safe (go_on n p row d below i h) w = (safe_choice rules hints sound n p d (Many n ∷ row) below i w.0.0.1, w)
   move_safe (stop n row d below h) w = (w.0.1, w.1)
 
-  pub moves_safe : {next : Option K} {s t : Stack N A K} {done : List (Step A)} → AreMoves rules hints next s t done → IsSafe rules hints s → IsSafe rules hints t
+  pub moves_safe : {next : Option K} {s t : Stack N A K} {done : List (Step A)} → AreMoves rules hints next s t done →
+      IsSafe rules hints s → IsSafe rules hints t
   moves_safe (stay s) w = w
   moves_safe (move s t u done more m ms) w = moves_safe ms (move_safe m w)
 
-  move_shallow : (limit : ℕ) {next : Option K} {s t : Stack N A K} {done : List (Step A)} → IsMove rules hints next s t done → IsShallow rules hints limit s → IsShallow rules hints limit t
+  move_shallow : (limit : ℕ) {next : Option K} {s t : Stack N A K} {done : List (Step A)} → IsMove rules hints next s t done →
+      IsShallow rules hints limit s → IsShallow rules hints limit t
   move_shallow limit (row_end d below) w = w.1
   move_shallow limit (act a row d below) w = w
   move_shallow limit (enter n p row d below i h) w = (w.0, w)
@@ -159,27 +169,34 @@ module _ {N P A K : Type 0} (rules : Rules N P A K) (hints : Hints N P K) (sound
   move_shallow limit (go_on n p row d below i h) w = (w.0, w)
   move_shallow limit (stop n row d below h) w = w
 
-  pub moves_shallow : (limit : ℕ) {next : Option K} {s t : Stack N A K} {done : List (Step A)} → AreMoves rules hints next s t done → IsShallow rules hints limit s → IsShallow rules hints limit t
+  pub moves_shallow : (limit : ℕ) {next : Option K} {s t : Stack N A K} {done : List (Step A)} →
+      AreMoves rules hints next s t done → IsShallow rules hints limit s → IsShallow rules hints limit t
   moves_shallow limit (stay s) w = w
   moves_shallow limit (move s t u done more m ms) w = moves_shallow limit ms (move_shallow limit m w)
 
   -- ---- moves come to an end
 
-  moves_covered : (js : List K) (row : List (Symbol N A K)) (after : ℕ) → covers rules hints js row ≡ true → moves_to rules hints row after ≡ moves rules hints row
+  moves_covered : (js : List K) (row : List (Symbol N A K)) (after : ℕ) → covers rules hints js row ≡ true →
+      moves_to rules hints row after ≡ moves rules hints row
   moves_covered js [] after h = false_true h
   moves_covered js (Read _ ∷ _) after h = refl
   moves_covered js (Open _ ∷ _) after h = refl
   moves_covered js (Act _ ∷ row) after h = ap (λ n. n + 1) (moves_covered js row after h)
   moves_covered js (Once n ∷ _) after h = refl
-  moves_covered js (Maybe n ∷ row) after h = ap (λ x. x + (hints.cost n + 1)) (moves_covered js row after (and_right (all_among rules hints (starts_of rules hints n) js) _ h))
-  moves_covered js (Many n ∷ row) after h = ap (λ x. x + (hints.cost n + 1)) (moves_covered js row after (and_right (all_among rules hints (starts_of rules hints n) js) _ h))
+  moves_covered js (Maybe n ∷ row) after h =
+      ap (λ x. x + (hints.cost n + 1))
+      (moves_covered js row after (and_right (all_among rules hints (starts_of rules hints n) js) _ h))
+  moves_covered js (Many n ∷ row) after h =
+      ap (λ x. x + (hints.cost n + 1))
+      (moves_covered js row after (and_right (all_among rules hints (starts_of rules hints n) js) _ h))
 
   pub entered : (n : N) (p : P) (after : ℕ) → IsOneOf p (rules.choices n) → moves_to rules hints (rules.row p) after < hints.cost n + 1
   entered n p after i =
       let fine = fine_choice rules hints sound n p i in
       omega (arith, moves_covered (hints.starts p) (rules.row p) after fine.covered, fine.moved)
 
-  pub move_smaller : {next : Option K} {s t : Stack N A K} {done : List (Step A)} → IsMove rules hints next s t done → moves_at rules hints t < moves_at rules hints s
+  pub move_smaller : {next : Option K} {s t : Stack N A K} {done : List (Step A)} → IsMove rules hints next s t done →
+      moves_at rules hints t < moves_at rules hints s
   move_smaller (row_end d below) = omega arith
   move_smaller (act a row d below) = omega arith
   move_smaller (enter n p row d below i h) = entered n p _ i
@@ -190,7 +207,8 @@ module _ {N P A K : Type 0} (rules : Rules N P A K) (hints : Hints N P K) (sound
 
   -- ---- what is stuck is read from no tokens that begin so
 
-  pub stuck_reads_nothing : (next : Option K) (s : Stack N A K) → IsStuck rules hints next s → (ks : List K) (steps : List (Step A)) → first_of ks ≡ next → Reads rules Counts s ks steps → ⊥
+  pub stuck_reads_nothing : (next : Option K) (s : Stack N A K) → IsStuck rules hints next s →
+      (ks : List K) (steps : List (Step A)) → first_of ks ≡ next → Reads rules Counts s ks steps → ⊥
   stuck_reads_nothing next Bottom h ks steps e r = h (sym e ∙ ap first_of (un_bottom rules Counts r).0)
   stuck_reads_nothing next (Row [] d below) h ks steps e r = h
   stuck_reads_nothing next (Row (Read j ∷ row) d below) h ks steps e r = h (sym e ∙ ap first_of (un_read rules Counts r).2)

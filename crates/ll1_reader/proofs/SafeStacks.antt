@@ -54,17 +54,23 @@ if_mono false x y z f h = f h
 
 module _ {N P A K : Type 0} (rules : Rules N P A K) (hints : Hints N P K) (sound : IsSound rules hints) where
   -- what is safe before an end is safe before what is safe
-  safe_mono : (k : K) (n : N) (row : List (Symbol N A K)) (a b : Bool) → (a ≡ true → b ≡ true) → is_safe rules hints k n row a ≡ true → is_safe rules hints k n row b ≡ true
+  safe_mono : (k : K) (n : N) (row : List (Symbol N A K)) (a b : Bool) → (a ≡ true → b ≡ true) →
+      is_safe rules hints k n row a ≡ true → is_safe rules hints k n row b ≡ true
   safe_mono k n [] a b f h = f h
   safe_mono k n (Read j ∷ row) a b f h = h
   safe_mono k n (Open j ∷ row) a b f h = h
   safe_mono k n (Act _ ∷ row) a b f h = safe_mono k n row a b f h
   safe_mono k n (Once m ∷ row) a b f h = h
-  safe_mono k n (Maybe m ∷ row) a b f h = if_mono (among rules hints k (starts_of rules hints m)) (hints.label n == hints.label m) (is_safe rules hints k n row a) (is_safe rules hints k n row b) (safe_mono k n row a b f) h
-  safe_mono k n (Many m ∷ row) a b f h = if_mono (among rules hints k (starts_of rules hints m)) (hints.label n == hints.label m) (is_safe rules hints k n row a) (is_safe rules hints k n row b) (safe_mono k n row a b f) h
+  safe_mono k n (Maybe m ∷ row) a b f h =
+      if_mono (among rules hints k (starts_of rules hints m)) (hints.label n == hints.label m) (is_safe rules hints k n row a)
+      (is_safe rules hints k n row b) (safe_mono k n row a b f) h
+  safe_mono k n (Many m ∷ row) a b f h =
+      if_mono (among rules hints k (starts_of rules hints m)) (hints.label n == hints.label m) (is_safe rules hints k n row a)
+      (is_safe rules hints k n row b) (safe_mono k n row a b f) h
 
   -- a pair among those that are safe is safe
-  safe_pair : (k : K) (n : N) (ps : List (K × N)) (row : List (Symbol N A K)) (below : Stack N A K) → is_pair rules hints k n ps ≡ true → AreSafe rules hints ps row below →
+  safe_pair : (k : K) (n : N) (ps : List (K × N)) (row : List (Symbol N A K)) (below : Stack N A K) →
+      is_pair rules hints k n ps ≡ true → AreSafe rules hints ps row below →
       is_safe rules hints k n row (safe_at rules hints k n below) ≡ true
   safe_pair k n [] row below h s = false_true h
   safe_pair k n (p ∷ ps) row below h s =
@@ -81,7 +87,8 @@ module _ {N P A K : Type 0} (rules : Rules N P A K) (hints : Hints N P K) (sound
       (ps : List (K × N)) (row : List (Symbol N A K)) → are_safe rules hints ps row tail ≡ true → AreSafe rules hints ps row (Row below_row d below)
   safe_by tail d below_row below s [] row h = tt
   safe_by tail d below_row below s (p ∷ ps) row h = (
-    safe_mono p.0 p.1 row (is_pair rules hints p.0 p.1 tail) (safe_at rules hints p.0 p.1 (Row below_row d below)) (λ i. safe_pair p.0 p.1 tail below_row below i s)
+    safe_mono p.0 p.1 row (is_pair rules hints p.0 p.1 tail) (safe_at rules hints p.0 p.1 (Row below_row d below))
+        (λ i. safe_pair p.0 p.1 tail below_row below i s)
         (and_left (is_safe rules hints p.0 p.1 row (is_pair rules hints p.0 p.1 tail)) _ h),
     safe_by tail d below_row below s ps row (and_right (is_safe rules hints p.0 p.1 row (is_pair rules hints p.0 p.1 tail)) _ h),
   )
@@ -103,7 +110,8 @@ module _ {N P A K : Type 0} (rules : Rules N P A K) (hints : Hints N P K) (sound
           safe_by tail d below_row below s (own rules hints n) row (and_left (are_safe rules hints (own rules hints n) row tail) _ here),
           safe_by tail d below_row below s (hints.tails n) row (and_right (are_safe rules hints (own rules hints n) row tail) _ here),
         ),
-        row_by tail d below_row below s row (and_right (are_safe rules hints (own rules hints n) row tail && are_safe rules hints (hints.tails n) row tail) _ h),
+        row_by tail d below_row below s row
+            (and_right (are_safe rules hints (own rules hints n) row tail && are_safe rules hints (hints.tails n) row tail) _ h),
       )
   row_by tail d below_row below s (Many n ∷ row) h =
       let here = and_left (are_safe rules hints (own rules hints n) row tail && are_safe rules hints (hints.tails n) (Many n ∷ row) tail) _ h in (
@@ -111,16 +119,19 @@ module _ {N P A K : Type 0} (rules : Rules N P A K) (hints : Hints N P K) (sound
           safe_by tail d below_row below s (own rules hints n) row (and_left (are_safe rules hints (own rules hints n) row tail) _ here),
           safe_by tail d below_row below s (hints.tails n) (Many n ∷ row) (and_right (are_safe rules hints (own rules hints n) row tail) _ here),
         ),
-        row_by tail d below_row below s row (and_right (are_safe rules hints (own rules hints n) row tail && are_safe rules hints (hints.tails n) (Many n ∷ row) tail) _ h),
+        row_by tail d below_row below s row
+            (and_right (are_safe rules hints (own rules hints n) row tail && are_safe rules hints (hints.tails n) (Many n ∷ row) tail) _ h),
       )
 
   -- so what a nonterminal stands for may stand in its place
-  pub safe_choice : (n : N) (p : P) (d : ℕ) (row : List (Symbol N A K)) (below : Stack N A K) → IsOneOf p (rules.choices n) → AreSafe rules hints (hints.tails n) row below →
+  pub safe_choice : (n : N) (p : P) (d : ℕ) (row : List (Symbol N A K)) (below : Stack N A K) → IsOneOf p (rules.choices n) →
+      AreSafe rules hints (hints.tails n) row below →
       RowEndsWell rules hints (rules.row p) (Row row d below)
   safe_choice n p d row below i s = row_by (hints.tails n) d row below s (rules.row p) (fine_choice rules hints sound n p i).well
 
   -- one of a nonterminal's own ways to go on
-  own_safe : (k : K) (n : N) (ks : List K) (row : List (Symbol N A K)) (below : Stack N A K) → among rules hints k ks ≡ true → AreSafe rules hints (map (λ j. (j, n)) ks) row below →
+  own_safe : (k : K) (n : N) (ks : List K) (row : List (Symbol N A K)) (below : Stack N A K) → among rules hints k ks ≡ true →
+      AreSafe rules hints (map (λ j. (j, n)) ks) row below →
       is_safe rules hints k n row (safe_at rules hints k n below) ≡ true
   own_safe k n [] row below h s = false_true h
   own_safe k n (j ∷ ks) row below h s =
@@ -129,25 +140,34 @@ module _ {N P A K : Type 0} (rules : Rules N P A K) (hints : Hints N P K) (sound
         | inr e ↦ own_safe k n ks row below e s.1
       ]
 
-  pub maybe_safe : (k : K) (n : N) (row : List (Symbol N A K)) (below : Stack N A K) → among rules hints k (starts_of rules hints n) ≡ true → AreSafe rules hints (own rules hints n) row below →
+  pub maybe_safe : (k : K) (n : N) (row : List (Symbol N A K)) (below : Stack N A K) →
+      among rules hints k (starts_of rules hints n) ≡ true → AreSafe rules hints (own rules hints n) row below →
       is_safe rules hints k n row (safe_at rules hints k n below) ≡ true
   maybe_safe k n row below h s = own_safe k n (starts_of rules hints n) row below h s
 
   -- what is safe before something that may be left out is safe behind it too
   pub safe_past : (k : K) (n m : N) (row : List (Symbol N A K)) (below : Stack N A K) → AreSafe rules hints (own rules hints m) row below →
-      (if among rules hints k (starts_of rules hints m) then hints.label n == hints.label m else is_safe rules hints k n row (safe_at rules hints k n below)) ≡ true →
+      (if among rules hints k (starts_of rules hints m) then hints.label n == hints.label m else is_safe rules hints k n row
+      (safe_at rules hints k n below)) ≡ true →
       is_safe rules hints k n row (safe_at rules hints k n below) ≡ true
   safe_past k n m row below s h = by (among rules hints k (starts_of rules hints m)) refl
     where
       by : (b : Bool) → among rules hints k (starts_of rules hints m) ≡ b → is_safe rules hints k n row (safe_at rules hints k n below) ≡ true
       by true i =
-          let same = label_by rules hints sound n m (sym (if_true (among rules hints k (starts_of rules hints m)) (hints.label n == hints.label m) (is_safe rules hints k n row (safe_at rules hints k n below)) i) ∙ h) in
+          let same =
+          label_by rules hints sound n m (sym (if_true (among rules hints k (starts_of rules hints m))
+          (hints.label n == hints.label m) (is_safe rules hints k n row (safe_at rules hints k n below)) i) ∙ h) in
           subst (λ (x : N). is_safe rules hints k x row (safe_at rules hints k x below) ≡ true) (sym same) (maybe_safe k m row below i s)
-      by false i = sym (if_false (among rules hints k (starts_of rules hints m)) (hints.label n == hints.label m) (is_safe rules hints k n row (safe_at rules hints k n below)) i) ∙ h
+      by false i =
+          sym (if_false (among rules hints k (starts_of rules hints m)) (hints.label n == hints.label m)
+          (is_safe rules hints k n row (safe_at rules hints k n below)) i)
+          ∙ h
 
   -- the shortest way to the end doesn't go on where something could
-  lead_not : (k : K) (n : N) (row : List (Symbol N A K)) (below : Stack N A K) → (safe_at rules hints k n below ≡ true → lead_at rules hints below ≡ Some k → ⊥) →
-      RowEndsWell rules hints row below → is_safe rules hints k n row (safe_at rules hints k n below) ≡ true → lead rules hints row (lead_at rules hints below) ≡ Some k → ⊥
+  lead_not : (k : K) (n : N) (row : List (Symbol N A K)) (below : Stack N A K) →
+      (safe_at rules hints k n below ≡ true → lead_at rules hints below ≡ Some k → ⊥) →
+      RowEndsWell rules hints row below → is_safe rules hints k n row (safe_at rules hints k n below) ≡ true →
+      lead rules hints row (lead_at rules hints below) ≡ Some k → ⊥
   lead_not k n [] below f w h e = f h e
   lead_not k n (Read j ∷ row) below f w h e = cc (not_true _ h, kind_is rules hints sound k j (cc))
   lead_not k n (Open j ∷ row) below f w h e = cc (not_true _ h, kind_is rules hints sound k j (cc))

@@ -8,7 +8,8 @@ use Rattle.ll1_reader.specs.declared.stop.ReadStop.{ReadStop}
 use Rattle.ll1_reader.specs.declared.stop.ReadStop.TheVariants as stop
 use Rattle.ll1_reader.specs.Grammars.{Rows, Rules, IsOneOf, rules_of}
 use Rattle.ll1_reader.specs.Predicting.{AreNamed}
-use Rattle.ll1_reader.specs.Readings.{Stack, Bottom, Row, Step, Reads, over, row_over, read, opened, acted, once, taken, left_out, again, ended, AnyEnd, IsNotBegun, IsAnyReading, IsReading}
+use Rattle.ll1_reader.specs.Readings.{Stack, Bottom, Row, Step, Reads, over, row_over, read, opened, acted, once, taken}
+use Rattle.ll1_reader.specs.Readings.{left_out, again, ended, AnyEnd, IsNotBegun, IsAnyReading, IsReading}
 use Rattle.ll1_reader.specs.Answers.{levels, AreLow, IsParsed, NoneGoesOn}
 use Rattle.ll1_reader.specs.Stops.{IsStop}
 use Rattle.ll1_reader.proofs.CompleteLemmas.{not_wrong, not_deep}
@@ -27,12 +28,18 @@ module _ {N P Q A K : Type 0} (one : Rules N P A K) (other : Rules N Q A K) wher
   carried M M' has f (opened k row d below ks steps r) = opened k row d below ks steps (carried M M' has f r)
   carried M M' has f (acted a row d below ks steps r) = acted a row d below ks steps (carried M M' has f r)
   carried M M' has f (once n p row d below ks steps i r) =
-      let q = has n p i in once n q.0 row d below ks steps q.1 (subst (λ (x : List (Symbol N A K)). Reads other M' (Row x d (Row row d below)) ks steps) (sym q.2) (carried M M' has f r))
+      let q = has n p i in
+      once n q.0 row d below ks steps q.1
+      (subst (λ (x : List (Symbol N A K)). Reads other M' (Row x d (Row row d below)) ks steps) (sym q.2) (carried M M' has f r))
   carried M M' has f (taken n p row d below ks steps i r) =
-      let q = has n p i in taken n q.0 row d below ks steps q.1 (subst (λ (x : List (Symbol N A K)). Reads other M' (Row x d (Row row d below)) ks steps) (sym q.2) (carried M M' has f r))
+      let q = has n p i in
+      taken n q.0 row d below ks steps q.1
+      (subst (λ (x : List (Symbol N A K)). Reads other M' (Row x d (Row row d below)) ks steps) (sym q.2) (carried M M' has f r))
   carried M M' has f (left_out n row d below ks steps m r) = left_out n row d below ks steps (f n ks m) (carried M M' has f r)
   carried M M' has f (again n p row d below ks steps i r) =
-      let q = has n p i in again n q.0 row d below ks steps q.1 (subst (λ (x : List (Symbol N A K)). Reads other M' (Row x d (Row (Many n ∷ row) d below)) ks steps) (sym q.2) (carried M M' has f r))
+      let q = has n p i in
+      again n q.0 row d below ks steps q.1
+      (subst (λ (x : List (Symbol N A K)). Reads other M' (Row x d (Row (Many n ∷ row) d below)) ks steps) (sym q.2) (carried M M' has f r))
   carried M M' has f (ended n row d below ks steps m r) = ended n row d below ks steps (f n ks m) (carried M M' has f r)
 
 module _ {N P Q A K : Type 0} (one : Rules N P A K) (other : Rules N Q A K) (has : Has one other) (back : Has other one) where
@@ -66,17 +73,22 @@ module _ {N P A K : Type 0} (grammar : Rows N A K) (rules : Rules N P A K) (name
 
   pub reading_to_rows : (tokens : List K) (steps : List (Step A)) → IsReading rules tokens steps → IsReading (rules_of grammar) tokens steps
   reading_to_rows tokens steps r =
-      subst (λ (x : List (Symbol N A K)). Reads (rules_of grammar) (IsNotBegun (rules_of grammar)) (Row x 0 Bottom) tokens steps) named.text (counts_too rules (rules_of grammar) to_rows to_names r)
+      subst
+      (λ (x : List (Symbol N A K)). Reads (rules_of grammar) (IsNotBegun (rules_of grammar)) (Row x 0 Bottom) tokens steps)
+      named.text (counts_too rules (rules_of grammar) to_rows to_names r)
 
   pub reading_to_names : (tokens : List K) (steps : List (Step A)) → IsReading (rules_of grammar) tokens steps → IsReading rules tokens steps
   reading_to_names tokens steps r =
-      subst (λ (x : List (Symbol N A K)). Reads rules (IsNotBegun rules) (Row x 0 Bottom) tokens steps) (sym named.text) (counts_too (rules_of grammar) rules to_names to_rows r)
+      subst (λ (x : List (Symbol N A K)). Reads rules (IsNotBegun rules) (Row x 0 Bottom) tokens steps) (sym named.text)
+      (counts_too (rules_of grammar) rules to_names to_rows r)
 
   pub any_to_names : (tokens : List K) (steps : List (Step A)) → IsAnyReading (rules_of grammar) tokens steps → IsAnyReading rules tokens steps
   any_to_names tokens steps r =
-      subst (λ (x : List (Symbol N A K)). Reads rules (AnyEnd rules) (Row x 0 Bottom) tokens steps) (sym named.text) (any_too (rules_of grammar) rules to_names to_rows r)
+      subst (λ (x : List (Symbol N A K)). Reads rules (AnyEnd rules) (Row x 0 Bottom) tokens steps) (sym named.text)
+      (any_too (rules_of grammar) rules to_names to_rows r)
 
-  pub parsed_to_rows : (limit : ℕ) (tokens : List K) (events : List (Event A)) → IsParsed rules limit tokens events → IsParsed (rules_of grammar) limit tokens events
+  pub parsed_to_rows : (limit : ℕ) (tokens : List K) (events : List (Event A)) → IsParsed rules limit tokens events →
+      IsParsed (rules_of grammar) limit tokens events
   parsed_to_rows limit tokens events p = record {
     steps = p.steps;
     reading = reading_to_rows tokens p.steps p.reading;
@@ -104,19 +116,25 @@ module _ {N P A K : Type 0} (grammar : Rows N A K) (rules : Rules N P A K) (name
     after = d.after;
     steps = d.steps;
     reading = reading_to_rows (take place tokens ++ d.kind ∷ d.after) d.steps d.reading;
-    deep = λ rest other r. let x = d.deep rest other (reading_to_names (take place tokens ++ d.kind ∷ rest) other r) in record { before = x.before; there = x.there };
+    deep =
+        λ rest other r. let x = d.deep rest other (reading_to_names (take place tokens ++ d.kind ∷ rest) other r)
+        in record { before = x.before; there = x.there };
   }
   stop_to_rows limit tokens stop.NoMemory s = tt
 
-  pub answer_to_rows : (limit : ℕ) (tokens : List K) (r : Result (List (Event A)) ReadStop) → MatchResult r (IsParsed rules limit tokens) (IsStop rules limit tokens) →
+  pub answer_to_rows : (limit : ℕ) (tokens : List K) (r : Result (List (Event A)) ReadStop) →
+      MatchResult r (IsParsed rules limit tokens) (IsStop rules limit tokens) →
       MatchResult r (IsParsed (rules_of grammar) limit tokens) (IsStop (rules_of grammar) limit tokens)
   answer_to_rows limit tokens (Ok events) p = parsed_to_rows limit tokens events p
   answer_to_rows limit tokens (Err s) p = stop_to_rows limit tokens s p
 
   -- what has a reading that counts and opens no level above the limit is read, unless memory runs out
-  pub answer_complete : (limit : ℕ) (tokens : List K) (r : Result (List (Event A)) ReadStop) → MatchResult r (IsParsed rules limit tokens) (IsStop rules limit tokens) →
+  pub answer_complete : (limit : ℕ) (tokens : List K) (r : Result (List (Event A)) ReadStop) →
+      MatchResult r (IsParsed rules limit tokens) (IsStop rules limit tokens) →
       (steps : List (Step A)) → IsReading (rules_of grammar) tokens steps → AreLow limit (levels steps) → IsOkUnless r stop.NoMemory
   answer_complete limit tokens (Ok events) p steps reading low = tt
-  answer_complete limit tokens (Err (stop.Wrong place)) p steps reading low = absurd (not_wrong rules limit tokens place steps (reading_to_names tokens steps reading) p)
-  answer_complete limit tokens (Err (stop.Deep place)) p steps reading low = absurd (not_deep rules limit tokens place steps (reading_to_names tokens steps reading) low p)
+  answer_complete limit tokens (Err (stop.Wrong place)) p steps reading low =
+      absurd (not_wrong rules limit tokens place steps (reading_to_names tokens steps reading) p)
+  answer_complete limit tokens (Err (stop.Deep place)) p steps reading low =
+      absurd (not_deep rules limit tokens place steps (reading_to_names tokens steps reading) low p)
   answer_complete limit tokens (Err stop.NoMemory) p steps reading low = refl

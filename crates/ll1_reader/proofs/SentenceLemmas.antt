@@ -1,10 +1,12 @@
 -- Each sentence of the grammar as written has a reading that counts.
-use Rattle.std.proofs.Common.{◌≡◌, ℕ, zero, suc, ◌+◌, ◌<◌, ◌≤◌, ◌==◌, if◌then◌else◌, Bool, true, false, List, [], ◌∷◌, ◌⊎◌, inl, inr, sym, ◌∙◌, subst, refl, arith}
+use Rattle.std.proofs.Common.{◌≡◌, ℕ, zero, suc, ◌+◌, ◌<◌, ◌≤◌, ◌==◌, if◌then◌else◌, Bool, true, false, List, [], ◌∷◌, ◌⊎◌, inl}
+use Rattle.std.proofs.Common.{inr, sym, ◌∙◌, subst, refl, arith}
 use Rattle.ll1_reader.specs.declared.symbol.Symbol.{Symbol}
 use Rattle.ll1_reader.specs.declared.symbol.Symbol.TheVariants.{Read, Open, Once, Maybe, Many, Act}
 use Rattle.ll1_reader.specs.Grammars.{Rules, IsOneOf}
 use Rattle.ll1_reader.specs.Predicting.{Hints, IsSound, among, starts_of, own}
-use Rattle.ll1_reader.specs.Readings.{Stack, Bottom, Row, Step, Took, Did, Reads, over, row_over, read, opened, acted, once, taken, left_out, again, ended, AnyEnd, IsNotBegun}
+use Rattle.ll1_reader.specs.Readings.{Stack, Bottom, Row, Step, Took, Did, Reads, over, row_over, read, opened, acted, once}
+use Rattle.ll1_reader.specs.Readings.{taken, left_out, again, ended, AnyEnd, IsNotBegun}
 use Rattle.ll1_reader.proofs.KindLists.{not_true, kind_is, label_by, among_all}
 use Rattle.ll1_reader.proofs.Firsts.{BeginsAmong, choice_starts}
 use Rattle.ll1_reader.proofs.SafeStacks.{IsSafe, AreSafe, safe_at, safe_choice, safe_past, maybe_safe, if_true}
@@ -26,14 +28,27 @@ module _ {N P A K : Type 0} (rules : Rules N P A K) where
       {x y : Stack N A K} {ks : List K} {steps : List (Step A)} → Lifts low high x y → Reads rules (AnyEnd rules) x ks steps → Some_Reads y ks
   lift low high f {ks = ks} {steps = steps} base r = f ks steps r
   lift low high f (lifted row d e x y l) (row_over d' x' ks steps r) = let m = lift low high f l r in (m.0, row_over e y ks m.0 m.1)
-  lift low high f (lifted row d e x y l) (read k row' d' x' ks steps r) = let m = lift low high f (lifted row' d e x y l) r in (Took e ∷ m.0, read k row' e y ks m.0 m.1)
-  lift low high f (lifted row d e x y l) (opened k row' d' x' ks steps r) = let m = lift low high f (lifted row' (suc d) (suc e) x y l) r in (Took (suc e) ∷ m.0, opened k row' e y ks m.0 m.1)
-  lift low high f (lifted row d e x y l) (acted a row' d' x' ks steps r) = let m = lift low high f (lifted row' d e x y l) r in (Did a ∷ m.0, acted a row' e y ks m.0 m.1)
-  lift low high f (lifted row d e x y l) (once n p row' d' x' ks steps i r) = let m = lift low high f (lifted (rules.row p) d e (Row row' d x) (Row row' e y) (lifted row' d e x y l)) r in (m.0, once n p row' e y ks m.0 i m.1)
-  lift low high f (lifted row d e x y l) (taken n p row' d' x' ks steps i r) = let m = lift low high f (lifted (rules.row p) d e (Row row' d x) (Row row' e y) (lifted row' d e x y l)) r in (m.0, taken n p row' e y ks m.0 i m.1)
-  lift low high f (lifted row d e x y l) (left_out n row' d' x' ks steps t r) = let m = lift low high f (lifted row' d e x y l) r in (m.0, left_out n row' e y ks m.0 tt m.1)
-  lift low high f (lifted row d e x y l) (again n p row' d' x' ks steps i r) = let m = lift low high f (lifted (rules.row p) d e (Row (Many n ∷ row') d x) (Row (Many n ∷ row') e y) (lifted (Many n ∷ row') d e x y l)) r in (m.0, again n p row' e y ks m.0 i m.1)
-  lift low high f (lifted row d e x y l) (ended n row' d' x' ks steps t r) = let m = lift low high f (lifted row' d e x y l) r in (m.0, ended n row' e y ks m.0 tt m.1)
+  lift low high f (lifted row d e x y l) (read k row' d' x' ks steps r) =
+      let m = lift low high f (lifted row' d e x y l) r in (Took e ∷ m.0, read k row' e y ks m.0 m.1)
+  lift low high f (lifted row d e x y l) (opened k row' d' x' ks steps r) =
+      let m = lift low high f (lifted row' (suc d) (suc e) x y l) r in (Took (suc e) ∷ m.0, opened k row' e y ks m.0 m.1)
+  lift low high f (lifted row d e x y l) (acted a row' d' x' ks steps r) =
+      let m = lift low high f (lifted row' d e x y l) r in (Did a ∷ m.0, acted a row' e y ks m.0 m.1)
+  lift low high f (lifted row d e x y l) (once n p row' d' x' ks steps i r) =
+      let m = lift low high f (lifted (rules.row p) d e (Row row' d x) (Row row' e y) (lifted row' d e x y l)) r in
+      (m.0, once n p row' e y ks m.0 i m.1)
+  lift low high f (lifted row d e x y l) (taken n p row' d' x' ks steps i r) =
+      let m = lift low high f (lifted (rules.row p) d e (Row row' d x) (Row row' e y) (lifted row' d e x y l)) r in
+      (m.0, taken n p row' e y ks m.0 i m.1)
+  lift low high f (lifted row d e x y l) (left_out n row' d' x' ks steps t r) =
+      let m = lift low high f (lifted row' d e x y l) r in (m.0, left_out n row' e y ks m.0 tt m.1)
+  lift low high f (lifted row d e x y l) (again n p row' d' x' ks steps i r) =
+      let m =
+      lift low high f
+      (lifted (rules.row p) d e (Row (Many n ∷ row') d x) (Row (Many n ∷ row') e y) (lifted (Many n ∷ row') d e x y l)) r in
+      (m.0, again n p row' e y ks m.0 i m.1)
+  lift low high f (lifted row d e x y l) (ended n row' d' x' ks steps t r) =
+      let m = lift low high f (lifted row' d e x y l) r in (m.0, ended n row' e y ks m.0 tt m.1)
 
 module _ {N P A K : Type 0} (rules : Rules N P A K) (hints : Hints N P K) (sound : IsSound rules hints) where
   -- Behind parts that are left out, a row that begins with the token is read; and what is read from what follows that
@@ -48,7 +63,8 @@ module _ {N P A K : Type 0} (rules : Rules N P A K) (hints : Hints N P K) (sound
     without : (rest : List K) (more : List (Step A)) → Reads rules (AnyEnd rules) after rest more → Some_Reads rules s rest
 
   -- the token that the choice of a nonterminal begins with is one of its kinds
-  of_kind : (m : N) (p : P) (k : K) (rest ks : List K) → ks ≡ k ∷ rest → IsOneOf p (rules.choices m) → BeginsAmong rules hints sound (hints.starts p) ks → among rules hints k (starts_of rules hints m) ≡ true
+  of_kind : (m : N) (p : P) (k : K) (rest ks : List K) → ks ≡ k ∷ rest → IsOneOf p (rules.choices m) →
+      BeginsAmong rules hints sound (hints.starts p) ks → among rules hints k (starts_of rules hints m) ≡ true
   of_kind m p k rest [] e i b = absurd b
   of_kind m p k rest (j ∷ ks) e i b =
       let same : k ≡ j = cc in
@@ -56,9 +72,12 @@ module _ {N P A K : Type 0} (rules : Rules N P A K) (hints : Hints N P K) (sound
 
   same_nonterminal : (k : K) (n m : N) (b : Bool) → among rules hints k (starts_of rules hints m) ≡ true →
       (if among rules hints k (starts_of rules hints m) then hints.label n == hints.label m else b) ≡ true → m ≡ n
-  same_nonterminal k n m b i h = sym (label_by rules hints sound n m (sym (if_true (among rules hints k (starts_of rules hints m)) (hints.label n == hints.label m) b i) ∙ h))
+  same_nonterminal k n m b i h =
+      sym
+      (label_by rules hints sound n m (sym (if_true (among rules hints k (starts_of rules hints m)) (hints.label n == hints.label m) b i) ∙ h))
 
-  find : {s : Stack N A K} {ks : List K} {steps : List (Step A)} → Reads rules (AnyEnd rules) s ks steps → (k : K) (rest : List K) (n : N) → ks ≡ k ∷ rest → IsSafe rules hints s →
+  find : {s : Stack N A K} {ks : List K} {steps : List (Step A)} → Reads rules (AnyEnd rules) s ks steps →
+      (k : K) (rest : List K) (n : N) → ks ≡ k ∷ rest → IsSafe rules hints s →
       safe_at rules hints k n s ≡ true → Found k n s ks
   find over k rest n e w h = absurd (cc)
   find (row_over d below ks steps r) k rest n e w h =
@@ -88,7 +107,9 @@ module _ {N P A K : Type 0} (rules : Rules N P A K) (hints : Hints N P K) (sound
   find (once m p row d below ks steps i r) k rest n e w h =
       absurd (cc (not_true _ h, of_kind m p k rest ks e i (choice_starts rules hints sound (AnyEnd rules) m p d (Row row d below) ks steps i r)))
   find (taken m p row d below ks steps i r) k rest n e w h =
-      let same = same_nonterminal k n m (safe_at rules hints k n (Row row d below)) (of_kind m p k rest ks e i (choice_starts rules hints sound (AnyEnd rules) m p d (Row row d below) ks steps i r)) h in
+      let same =
+      same_nonterminal k n m (safe_at rules hints k n (Row row d below))
+      (of_kind m p k rest ks e i (choice_starts rules hints sound (AnyEnd rules) m p d (Row row d below) ks steps i r)) h in
       record {
         choice = p;
         is_choice = subst (λ (x : N). IsOneOf p (rules.choices x)) same i;
@@ -110,7 +131,10 @@ module _ {N P A K : Type 0} (rules : Rules N P A K) (hints : Hints N P K) (sound
         without = λ a b q. let x = f.without a b q in (x.0, left_out m row d below a x.0 tt x.1);
       }
   find (again m p row d below ks steps i r) k rest n e w h =
-      let same = same_nonterminal k n m (safe_at rules hints k n (Row row d below)) (of_kind m p k rest ks e i (choice_starts rules hints sound (AnyEnd rules) m p d (Row (Many m ∷ row) d below) ks steps i r)) h in
+      let same =
+      same_nonterminal k n m (safe_at rules hints k n (Row row d below))
+      (of_kind m p k rest ks e i (choice_starts rules hints sound (AnyEnd rules) m p d (Row (Many m ∷ row) d below) ks steps i r))
+      h in
       record {
         choice = p;
         is_choice = subst (λ (x : N). IsOneOf p (rules.choices x)) same i;
@@ -133,7 +157,8 @@ module _ {N P A K : Type 0} (rules : Rules N P A K) (hints : Hints N P K) (sound
       }
 
   -- what is left out before a token with which it may begin can be read there as well
-  instead : (n : N) (k : K) (rest : List K) (steps : List (Step A)) (row : List (Symbol N A K)) (d : ℕ) (below more : Stack N A K) → among rules hints k (starts_of rules hints n) ≡ true →
+  instead : (n : N) (k : K) (rest : List K) (steps : List (Step A)) (row : List (Symbol N A K)) (d : ℕ) (below more : Stack N A K) →
+      among rules hints k (starts_of rules hints n) ≡ true →
       IsSafe rules hints (Row row d below) → AreSafe rules hints (own rules hints n) row below → Reads rules (AnyEnd rules) (Row row d below) (k ∷ rest) steps →
       ((ks : List K) (others : List (Step A)) → Reads rules (AnyEnd rules) (Row row d below) ks others → Some_Reads rules more ks) →
       (p : P) × IsOneOf p (rules.choices n) × Some_Reads rules (Row (rules.row p) d more) (k ∷ rest)
@@ -141,7 +166,8 @@ module _ {N P A K : Type 0} (rules : Rules N P A K) (hints : Hints N P K) (sound
       let found = find r k rest n refl w (maybe_safe rules hints sound k n row below i s) in (
         found.choice,
         found.is_choice,
-        lift rules found.after more (λ ks others q. let x = found.without ks others q in f ks x.0 x.1) (lifted (rules.row found.choice) found.depth d found.after more base) found.reads,
+        lift rules found.after more (λ ks others q. let x = found.without ks others q in f ks x.0 x.1)
+            (lifted (rules.row found.choice) found.depth d found.after more base) found.reads,
       )
 
   -- ---- going through a reading
@@ -155,9 +181,12 @@ module _ {N P A K : Type 0} (rules : Rules N P A K) (hints : Hints N P K) (sound
   Later (k ∷ rest) = (s : Stack N A K) (steps : List (Step A)) → IsSafe rules hints s → Reads rules (AnyEnd rules) s rest steps → Counted s rest
 
   Sooner : List K → ℕ → Type 0
-  Sooner ks f = (s : Stack N A K) (steps : List (Step A)) → moves_at rules hints s < f → IsSafe rules hints s → Reads rules (AnyEnd rules) s ks steps → Counted s ks
+  Sooner ks f =
+      (s : Stack N A K) (steps : List (Step A)) → moves_at rules hints s < f → IsSafe rules hints s →
+      Reads rules (AnyEnd rules) s ks steps → Counted s ks
 
-  begins_or_not : (n : N) (ks : List K) → ((k : K) × (rest : List K) × (ks ≡ k ∷ rest) × (among rules hints k (starts_of rules hints n) ≡ true)) ⊎ IsNotBegun rules n ks
+  begins_or_not : (n : N) (ks : List K) →
+      ((k : K) × (rest : List K) × (ks ≡ k ∷ rest) × (among rules hints k (starts_of rules hints n) ≡ true)) ⊎ IsNotBegun rules n ks
   begins_or_not n [] = inr tt
   begins_or_not n (k ∷ rest) = by (among rules hints k (starts_of rules hints n)) refl
     where
@@ -167,31 +196,46 @@ module _ {N P A K : Type 0} (rules : Rules N P A K) (hints : Hints N P K) (sound
       by false e = inr (not_begun rules hints sound n (k ∷ rest) e)
 
   -- a nonterminal's choice on a stack
-  with_choice : (ks : List K) (f : ℕ) → Sooner ks f → (n : N) (p : P) (d : ℕ) (row : List (Symbol N A K)) (below : Stack N A K) (steps : List (Step A)) → IsOneOf p (rules.choices n) →
-      hints.cost n + 1 ≤ f → AreSafe rules hints (hints.tails n) row below → IsSafe rules hints (Row row d below) → Reads rules (AnyEnd rules) (Row (rules.row p) d (Row row d below)) ks steps →
+  with_choice : (ks : List K) (f : ℕ) → Sooner ks f →
+      (n : N) (p : P) (d : ℕ) (row : List (Symbol N A K)) (below : Stack N A K) (steps : List (Step A)) →
+      IsOneOf p (rules.choices n) →
+      hints.cost n + 1 ≤ f → AreSafe rules hints (hints.tails n) row below → IsSafe rules hints (Row row d below) →
+      Reads rules (AnyEnd rules) (Row (rules.row p) d (Row row d below)) ks steps →
       Counted (Row (rules.row p) d (Row row d below)) ks
   unfolding Sooner
   with_choice ks f sooner n p d row below steps i h t w r =
-      sooner (Row (rules.row p) d (Row row d below)) steps (omega (arith, entered rules hints sound n p (moves_at rules hints (Row row d below)) i)) (safe_choice rules hints sound n p d row below i t, w) r
+      sooner (Row (rules.row p) d (Row row d below)) steps
+      (omega (arith, entered rules hints sound n p (moves_at rules hints (Row row d below)) i))
+      (safe_choice rules hints sound n p d row below i t, w) r
 
-  at_token : (k : K) (rest ks : List K) (s : Stack N A K) (steps : List (Step A)) → Later ks → ks ≡ k ∷ rest → IsSafe rules hints s → Reads rules (AnyEnd rules) s rest steps → Counted s rest
+  at_token : (k : K) (rest ks : List K) (s : Stack N A K) (steps : List (Step A)) → Later ks → ks ≡ k ∷ rest →
+      IsSafe rules hints s → Reads rules (AnyEnd rules) s rest steps → Counted s rest
   at_token k rest ks s steps later e w r =
       let at : Later (k ∷ rest) = subst Later e later in at s steps w r
 
-  one_more : (ks : List K) → Later ks → (f : ℕ) → Sooner ks f → (s : Stack N A K) (steps : List (Step A)) → moves_at rules hints s < suc f → IsSafe rules hints s → Reads rules (AnyEnd rules) s ks steps → Counted s ks
+  one_more : (ks : List K) → Later ks → (f : ℕ) → Sooner ks f → (s : Stack N A K) (steps : List (Step A)) →
+      moves_at rules hints s < suc f → IsSafe rules hints s → Reads rules (AnyEnd rules) s ks steps → Counted s ks
   unfolding Sooner
-  one_more ks later f sooner Bottom steps h w r = ([], subst (λ (x : List K). Reads rules (IsNotBegun rules) Bottom x []) (sym (un_bottom rules (AnyEnd rules) r).0) over)
+  one_more ks later f sooner Bottom steps h w r =
+      ([], subst (λ (x : List K). Reads rules (IsNotBegun rules) Bottom x []) (sym (un_bottom rules (AnyEnd rules) r).0) over)
   one_more ks later f sooner (Row [] d below) steps h w r =
       let c = sooner below steps (omega arith) w.1 (un_row rules (AnyEnd rules) r) in
       (c.0, row_over d below ks c.0 c.1)
   one_more ks later f sooner (Row (Read k ∷ row) d below) steps h w r =
       let u = un_read rules (AnyEnd rules) r in
-      let c = at_token k u.0 ks (Row row d below) u.1 later u.2 (w.0.1, w.1) u.4 in
-      (Took d ∷ c.0, subst (λ (x : List K). Reads rules (IsNotBegun rules) (Row (Read k ∷ row) d below) x (Took d ∷ c.0)) (sym u.2) (read k row d below u.0 c.0 c.1))
+      let c = at_token k u.0 ks (Row row d below) u.1 later u.2 (w.0.1, w.1) u.4 in (
+        Took d ∷ c.0,
+        subst (λ (x : List K). Reads rules (IsNotBegun rules) (Row (Read k ∷ row) d below) x (Took d ∷ c.0))
+            (sym u.2) (read k row d below u.0 c.0 c.1),
+      )
   one_more ks later f sooner (Row (Open k ∷ row) d below) steps h w r =
       let u = un_open rules (AnyEnd rules) r in
-      let c = at_token k u.0 ks (Row row (suc d) below) u.1 later u.2 (w.0.1, w.1) u.4 in
-      (Took (suc d) ∷ c.0, subst (λ (x : List K). Reads rules (IsNotBegun rules) (Row (Open k ∷ row) d below) x (Took (suc d) ∷ c.0)) (sym u.2) (opened k row d below u.0 c.0 c.1))
+      let c = at_token k u.0 ks (Row row (suc d) below) u.1 later u.2 (w.0.1, w.1) u.4 in (
+        Took (suc d) ∷ c.0,
+        subst
+            (λ (x : List K). Reads rules (IsNotBegun rules) (Row (Open k ∷ row) d below) x (Took (suc d) ∷ c.0)) (sym u.2)
+            (opened k row d below u.0 c.0 c.1),
+      )
   one_more ks later f sooner (Row (Act a ∷ row) d below) steps h w r =
       let u = un_act rules (AnyEnd rules) r in
       let c = sooner (Row row d below) u.0 (omega arith) (w.0.1, w.1) u.2 in
@@ -225,7 +269,9 @@ module _ {N P A K : Type 0} (rules : Rules N P A K) (hints : Hints N P K) (sound
         | inr u ↦ elim (begins_or_not n ks) [
           | inl b ↦
               let q = subst (λ (x : List K). Reads rules (AnyEnd rules) (Row row d below) x steps) b.2 u.1 in
-              let i = instead n b.0 b.1 steps row d below (Row (Many n ∷ row) d below) b.3 (w.0.1, w.1) w.0.0.0 q (λ xs others x. (others, ended n row d below xs others tt x)) in
+              let i =
+              instead n b.0 b.1 steps row d below (Row (Many n ∷ row) d below) b.3 (w.0.1, w.1) w.0.0.0 q
+              (λ xs others x. (others, ended n row d below xs others tt x)) in
               let back = subst (λ (x : List K). Reads rules (AnyEnd rules) (Row (rules.row i.0) d (Row (Many n ∷ row) d below)) x i.2.0) (sym b.2) i.2.1 in
               let c = with_choice ks f sooner n i.0 d (Many n ∷ row) below i.2.0 i.1 (omega arith) w.0.0.1 w back in
               (c.0, again n i.0 row d below ks c.0 i.1 c.1)

@@ -1,5 +1,6 @@
 -- What is known of a reader between two tokens, and what follows from it.
-use Rattle.std.proofs.Common.{◌≡◌, ℕ, zero, suc, ◌≤◌, List, [], ◌∷◌, ◌++◌, map, length, take, drop, Option, None, Some, sym, ◌∙◌, ap, subst, refl, arith, append-nil, append_assoc, length-append}
+use Rattle.std.proofs.Common.{◌≡◌, ℕ, zero, suc, ◌≤◌, List, [], ◌∷◌, ◌++◌, map, length, take, drop, Option, None, Some, sym, ◌∙◌}
+use Rattle.std.proofs.Common.{ap, subst, refl, arith, append-nil, append_assoc, length-append}
 use Rattle.std.specs.Prelude.{slice_get}
 use Rattle.std.proofs.lemmas.List.{map-append}
 use Rattle.ll1_reader.specs.declared.symbol.Symbol.{Symbol}
@@ -58,7 +59,8 @@ module _ {N P A K : Type 0} (rules : Rules N P A K) (hints : Hints N P K) (limit
     pub safe : IsSafe rules hints (stack_of w)
     pub shallow : IsShallow rules hints limit (stack_of w)
     pub back : (ks : List K) (more : List (Step A)) → Reads rules (IsNotBegun rules) (stack_of w) ks more → IsReading rules (before ++ ks) (steps ++ more)
-    pub on : (ks : List K) (more : List (Step A)) → IsReading rules (before ++ ks) more → (rest : List (Step A)) × (more ≡ steps ++ rest) × Reads rules (IsNotBegun rules) (stack_of w) ks rest
+    pub on : (ks : List K) (more : List (Step A)) → IsReading rules (before ++ ks) more →
+        (rest : List (Step A)) × (more ≡ steps ++ rest) × Reads rules (IsNotBegun rules) (stack_of w) ks rest
 
 module _ {N P A K : Type 0} (rules : Rules N P A K) (hints : Hints N P K) (sound : IsSound rules hints) (limit : ℕ) where
   abbrev Counts : N → List K → Type 0
@@ -80,7 +82,8 @@ module _ {N P A K : Type 0} (rules : Rules N P A K) (hints : Hints N P K) (sound
 
   -- ---- one token
 
-  take_back : {k : K} {s t : Stack N A K} {step : Step A} → IsTake limit k s t step → (ks : List K) (more : List (Step A)) → Reads rules Counts t ks more → Reads rules Counts s (k ∷ ks) (step ∷ more)
+  take_back : {k : K} {s t : Stack N A K} {step : Step A} → IsTake limit k s t step → (ks : List K) (more : List (Step A)) →
+      Reads rules Counts t ks more → Reads rules Counts s (k ∷ ks) (step ∷ more)
   take_back {k = k} (take_read row d below) ks more r = read k row d below ks more r
   take_back {k = k} (take_open row d below h) ks more r = opened k row d below ks more r
 
@@ -112,16 +115,20 @@ module _ {N P A K : Type 0} (rules : Rules N P A K) (hints : Hints N P K) (sound
   take_one (take_open row d below h) = refl
 
   -- a token that was fed is read
-  pub stands_fed : (before : List K) (k : K) (old new : Work N A K) → Stands rules hints limit before old → Feeds rules hints limit k old new → Stands rules hints limit (before ++ k ∷ []) new
+  pub stands_fed : (before : List K) (k : K) (old new : Work N A K) → Stands rules hints limit before old →
+      Feeds rules hints limit k old new → Stands rules hints limit (before ++ k ∷ []) new
   stands_fed before k old new s f =
       let lead = moves_lead rules hints sound f.moved in
       let shallow = moves_shallow rules hints sound limit f.moved s.shallow in
       let noted : levels (s.steps ++ (f.done ++ f.step ∷ [])) ≡ levels s.steps ++ levels (f.step ∷ []) =
-      levels-append s.steps (f.done ++ f.step ∷ []) ∙ ap (λ l. levels s.steps ++ l) (levels-append f.done (f.step ∷ []) ∙ ap (λ l. l ++ levels (f.step ∷ [])) (moves_levels f.moved)) in
+      levels-append s.steps (f.done ++ f.step ∷ [])
+      ∙ ap (λ l. levels s.steps ++ l) (levels-append f.done (f.step ∷ []) ∙ ap (λ l. l ++ levels (f.step ∷ [])) (moves_levels f.moved)) in
       record {
         steps = s.steps ++ (f.done ++ f.step ∷ []);
         low = subst (AreLow limit) (sym noted) (low_append limit (levels s.steps) (levels (f.step ∷ [])) s.low (take_low f.taken shallow));
-        count = ap length noted ∙ length-append (levels s.steps) (levels (f.step ∷ [])) ∙ omega (arith, s.count, take_one f.taken, length-append before (k ∷ []));
+        count =
+            ap length noted ∙ length-append (levels s.steps) (levels (f.step ∷ []))
+            ∙ omega (arith, s.count, take_one f.taken, length-append before (k ∷ []));
         happened = f.happened ∙ ap (λ x. x ++ map event_of (f.done ++ f.step ∷ [])) s.happened ∙ sym (map-append event_of s.steps (f.done ++ f.step ∷ []));
         safe = take_safe f.taken (moves_safe rules hints sound f.moved s.safe);
         shallow = take_shallow f.taken shallow;
@@ -130,13 +137,15 @@ module _ {N P A K : Type 0} (rules : Rules N P A K) (hints : Hints N P K) (sound
             let tokens : before ++ k ∷ ks ≡ (before ++ k ∷ []) ++ ks = sym (append_assoc before (k ∷ []) ks) in
             let all : s.steps ++ (f.done ++ f.step ∷ more) ≡ (s.steps ++ (f.done ++ f.step ∷ [])) ++ more =
             ap (λ x. s.steps ++ x) (sym (append_assoc f.done (f.step ∷ []) more)) ∙ sym (append_assoc s.steps (f.done ++ f.step ∷ []) more) in
-            subst (λ (x : List K). IsReading rules x ((s.steps ++ (f.done ++ f.step ∷ [])) ++ more)) tokens (subst (λ (x : List (Step A)). IsReading rules (before ++ k ∷ ks) x) all there);
+            subst (λ (x : List K). IsReading rules x ((s.steps ++ (f.done ++ f.step ∷ [])) ++ more)) tokens
+            (subst (λ (x : List (Step A)). IsReading rules (before ++ k ∷ ks) x) all there);
         on = λ ks more r.
             let a = s.on (k ∷ ks) more (subst (λ (x : List K). IsReading rules x more) (append_assoc before (k ∷ []) ks) r) in
             let b = lead.on (k ∷ ks) a.0 refl a.2 in
             let c = take_on f.taken ks b.0 b.2 in (
               c.0,
-              a.1 ∙ ap (λ x. s.steps ++ x) (b.1 ∙ ap (λ x. f.done ++ x) c.1 ∙ sym (append_assoc f.done (f.step ∷ []) c.0)) ∙ sym (append_assoc s.steps (f.done ++ f.step ∷ []) c.0),
+              a.1 ∙ ap (λ x. s.steps ++ x) (b.1 ∙ ap (λ x. f.done ++ x) c.1 ∙ sym (append_assoc f.done (f.step ∷ []) c.0))
+                  ∙ sym (append_assoc s.steps (f.done ++ f.step ∷ []) c.0),
               c.2,
             );
       }
@@ -148,15 +157,18 @@ module _ {N P A K : Type 0} (rules : Rules N P A K) (hints : Hints N P K) (sound
   goes_on before w s = can_end rules hints sound Counts (not_begun rules hints sound) (stack_of w) s.safe
 
   -- any sentence that goes on so has a reading that counts, and goes on from what is left
-  any_on : (before : List K) (w : Work N A K) → Stands rules hints limit before w → IsSafe rules hints (Row rules.text 0 Bottom) → (ks : List K) (steps : List (Step A)) → IsAnyReading rules (before ++ ks) steps →
+  any_on : (before : List K) (w : Work N A K) → Stands rules hints limit before w →
+      IsSafe rules hints (Row rules.text 0 Bottom) → (ks : List K) (steps : List (Step A)) → IsAnyReading rules (before ++ ks) steps →
       (rest : List (Step A)) × Reads rules Counts (stack_of w) ks rest
   any_on before w s t ks steps r =
       let counted = any_counts rules hints sound (Row rules.text 0 Bottom) (before ++ ks) steps t r in
       let on = s.on ks counted.0 counted.1 in
       (on.0, on.2)
 
-  pub stands_wrong : (tokens : List K) (place : ℕ) (before after : List K) (k : K) (w : Work N A K) → place ≤ length tokens → length before ≡ place → take place tokens ≡ before → drop place tokens ≡ k ∷ after →
-      IsSafe rules hints (Row rules.text 0 Bottom) → Stands rules hints limit before w → Sticks rules hints (Some k) (stack_of w) → IsWrongAt rules limit tokens place
+  pub stands_wrong : (tokens : List K) (place : ℕ) (before after : List K) (k : K) (w : Work N A K) → place ≤ length tokens →
+      length before ≡ place → take place tokens ≡ before → drop place tokens ≡ k ∷ after →
+      IsSafe rules hints (Row rules.text 0 Bottom) → Stands rules hints limit before w →
+      Sticks rules hints (Some k) (stack_of w) → IsWrongAt rules limit tokens place
   stands_wrong tokens place before after k w inside n front back t s x =
       let e = goes_on before w s in
       let all = s.back e.tokens e.steps e.reads in
@@ -166,7 +178,10 @@ module _ {N P A K : Type 0} (rules : Rules N P A K) (hints : Hints N P K) (sound
         after = e.tokens;
         steps = s.steps ++ e.steps;
         reading = subst (λ (l : List K). IsReading rules (l ++ e.tokens) (s.steps ++ e.steps)) (sym front) all;
-        low = subst (AreLow limit) (sym (ap (take place) (levels-append s.steps e.steps) ∙ take_front (levels s.steps) (levels e.steps) place (s.count ∙ n))) s.low;
+        low =
+            subst (AreLow limit)
+            (sym (ap (take place) (levels-append s.steps e.steps) ∙ take_front (levels s.steps) (levels e.steps) place (s.count ∙ n)))
+            s.low;
         wrong = subst (λ (l : List K). NoneGoesOn rules limit (take place tokens) l) (sym back)
             (λ rest steps r.
             let on = any_on before w s t (k ∷ rest) steps (subst (λ (l : List K). IsAnyReading rules (l ++ k ∷ rest) steps) front r) in
@@ -175,7 +190,8 @@ module _ {N P A K : Type 0} (rules : Rules N P A K) (hints : Hints N P K) (sound
       }
 
   pub stands_short : (tokens : List K) (w : Work N A K) → take (length tokens) tokens ≡ tokens → drop (length tokens) tokens ≡ [] →
-      IsSafe rules hints (Row rules.text 0 Bottom) → Stands rules hints limit tokens w → Sticks rules hints None (stack_of w) → IsWrongAt rules limit tokens (length tokens)
+      IsSafe rules hints (Row rules.text 0 Bottom) → Stands rules hints limit tokens w →
+      Sticks rules hints None (stack_of w) → IsWrongAt rules limit tokens (length tokens)
   stands_short tokens w front back t s x =
       let e = goes_on tokens w s in
       let all = s.back e.tokens e.steps e.reads in
@@ -185,7 +201,10 @@ module _ {N P A K : Type 0} (rules : Rules N P A K) (hints : Hints N P K) (sound
         after = e.tokens;
         steps = s.steps ++ e.steps;
         reading = subst (λ (l : List K). IsReading rules (l ++ e.tokens) (s.steps ++ e.steps)) (sym front) all;
-        low = subst (AreLow limit) (sym (ap (take (length tokens)) (levels-append s.steps e.steps) ∙ take_front (levels s.steps) (levels e.steps) (length tokens) s.count)) s.low;
+        low =
+            subst (AreLow limit)
+            (sym (ap (take (length tokens)) (levels-append s.steps e.steps) ∙ take_front (levels s.steps) (levels e.steps) (length tokens) s.count))
+            s.low;
         wrong = subst (λ (l : List K). NoneGoesOn rules limit (take (length tokens) tokens) l) (sym back)
             (λ steps r.
             let on = any_on tokens w s t [] steps (subst (λ (l : List K). IsAnyReading rules l steps) (front ∙ sym (append-nil tokens)) r) in
@@ -205,13 +224,15 @@ module _ {N P A K : Type 0} (rules : Rules N P A K) (hints : Hints N P K) (sound
   deep_top k Bottom h = absurd h
   deep_top k (Row [] d below) h = absurd h
   deep_top k (Row (Read j ∷ row) d below) h = absurd h
-  deep_top k (Row (Open j ∷ row) d below) h = record { row = row; depth = d; below = below; is = ap (λ (x : K). Row (Open x ∷ row) d below) (sym h.0); high = h.1 }
+  deep_top k (Row (Open j ∷ row) d below) h =
+      record { row = row; depth = d; below = below; is = ap (λ (x : K). Row (Open x ∷ row) d below) (sym h.0); high = h.1 }
   deep_top k (Row (Once n ∷ row) d below) h = absurd h
   deep_top k (Row (Maybe n ∷ row) d below) h = absurd h
   deep_top k (Row (Many n ∷ row) d below) h = absurd h
   deep_top k (Row (Act a ∷ row) d below) h = absurd h
 
-  pub stands_deep : (tokens : List K) (place : ℕ) (before : List K) (k : K) (w : Work N A K) → length before ≡ place → take place tokens ≡ before → slice_get tokens place ≡ Some k →
+  pub stands_deep : (tokens : List K) (place : ℕ) (before : List K) (k : K) (w : Work N A K) → length before ≡ place →
+      take place tokens ≡ before → slice_get tokens place ≡ Some k →
       Stands rules hints limit before w → Overflows rules hints limit k (stack_of w) → IsDeepAt rules limit tokens place
   stands_deep tokens place before k w n front here s x =
       let lead = moves_lead rules hints sound x.moved in
@@ -236,22 +257,32 @@ module _ {N P A K : Type 0} (rules : Rules N P A K) (hints : Hints N P K) (sound
             let u = un_open rules Counts (subst (λ (y : Stack N A K). Reads rules Counts y (k ∷ rest) at.0) d.is at.2) in
             let noted : levels other ≡ levels s.steps ++ (suc d.depth ∷ levels u.1) =
             ap levels (on.1 ∙ ap (λ z. s.steps ++ z) (at.1 ∙ ap (λ z. x.done ++ z) u.3)) ∙ levels-append s.steps (x.done ++ Took (suc d.depth) ∷ u.1)
-            ∙ ap (λ z. levels s.steps ++ z) (levels-append x.done (Took (suc d.depth) ∷ u.1) ∙ ap (λ z. z ++ levels (Took (suc d.depth) ∷ u.1)) (moves_levels x.moved)) in
+            ∙ ap (λ z. levels s.steps ++ z)
+            (levels-append x.done (Took (suc d.depth) ∷ u.1) ∙ ap (λ z. z ++ levels (Took (suc d.depth) ∷ u.1)) (moves_levels x.moved))
+            in
             record {
               before = subst (AreLow limit) (sym (ap (take place) noted ∙ take_front (levels s.steps) (suc d.depth ∷ levels u.1) place (s.count ∙ n))) s.low;
-              there = ap (λ z. slice_get z place) noted ∙ get_front (levels s.steps) (suc d.depth) (levels u.1) place (s.count ∙ n) ∙ ap (λ z. Some z) (omega (arith, d.high, low.0));
+              there =
+                  ap (λ z. slice_get z place) noted ∙ get_front (levels s.steps) (suc d.depth) (levels u.1) place (s.count ∙ n)
+                  ∙ ap (λ z. Some z) (omega (arith, d.high, low.0));
             };
       }
 
-  pub stands_finished : (tokens : List K) (old new : Work N A K) → Stands rules hints limit tokens old → Finishes rules hints old new → IsParsed rules limit tokens new.events
+  pub stands_finished : (tokens : List K) (old new : Work N A K) → Stands rules hints limit tokens old →
+      Finishes rules hints old new → IsParsed rules limit tokens new.events
   stands_finished tokens old new s f =
       let lead = moves_lead rules hints sound f.moved in
       let end = lead.back [] [] refl over in
       let whole = s.back [] (f.done ++ []) end in
       record {
         steps = s.steps ++ f.done;
-        reading = subst (λ (l : List K). IsReading rules l (s.steps ++ f.done)) (append-nil tokens) (subst (λ (l : List (Step A)). IsReading rules (tokens ++ []) (s.steps ++ l)) (append-nil f.done) whole);
-        low = subst (AreLow limit) (sym (levels-append s.steps f.done ∙ ap (λ l. levels s.steps ++ l) (moves_levels f.moved) ∙ append-nil (levels s.steps))) s.low;
+        reading =
+            subst (λ (l : List K). IsReading rules l (s.steps ++ f.done)) (append-nil tokens)
+            (subst (λ (l : List (Step A)). IsReading rules (tokens ++ []) (s.steps ++ l)) (append-nil f.done) whole);
+        low =
+            subst (AreLow limit)
+            (sym (levels-append s.steps f.done ∙ ap (λ l. levels s.steps ++ l) (moves_levels f.moved) ∙ append-nil (levels s.steps)))
+            s.low;
         happens = f.happened ∙ ap (λ x. x ++ map event_of f.done) s.happened ∙ sym (map-append event_of s.steps f.done);
         only = λ other r.
             let on = s.on [] other (subst (λ (l : List K). IsReading rules l other) (sym (append-nil tokens)) r) in
@@ -260,7 +291,8 @@ module _ {N P A K : Type 0} (rules : Rules N P A K) (hints : Hints N P K) (sound
       }
 
   -- nothing is read yet
-  pub stands_first : (w : Work N A K) → stack_of w ≡ Row rules.text 0 Bottom → w.events ≡ [] → IsSafe rules hints (Row rules.text 0 Bottom) → Stands rules hints limit [] w
+  pub stands_first : (w : Work N A K) → stack_of w ≡ Row rules.text 0 Bottom → w.events ≡ [] →
+      IsSafe rules hints (Row rules.text 0 Bottom) → Stands rules hints limit [] w
   stands_first w top none t = record {
     steps = [];
     low = tt;

@@ -1,5 +1,6 @@
 -- Tokens have one stop at most.
-use Rattle.std.proofs.Common.{◌≡◌, ℕ, zero, suc, ◌+◌, ◌<◌, ◌≤◌, List, [], ◌∷◌, ◌++◌, length, take, drop, Some, Ok, Err, Result, sym, ◌∙◌, ap, subst, refl, arith, inl, inr}
+use Rattle.std.proofs.Common.{◌≡◌, ℕ, zero, suc, ◌+◌, ◌<◌, ◌≤◌, List, [], ◌∷◌, ◌++◌, length, take, drop, Some, Ok, Err, Result}
+use Rattle.std.proofs.Common.{sym, ◌∙◌, ap, subst, refl, arith, inl, inr}
 use Rattle.std.proofs.Math.Nat.{eq-or-lt_of_le}
 use Rattle.std.proofs.lemmas.Bool.{cases_lt}
 use Rattle.std.proofs.lemmas.Option.{slice_get_within}
@@ -37,7 +38,8 @@ low_before limit (x ∷ xs) (suc p) (suc q) d low below there = low_before limit
 
 module _ {N P A K : Type 0} (rules : Rules N P A K) (limit : ℕ) (tokens : List K) where
   -- no sentence begins with tokens that go on past a wrong one
-  none_longer : (p : ℕ) (w : IsWrongAt rules limit tokens p) (more : List K) → Longer p tokens more → (steps : List (Step A)) → IsAnyReading rules more steps → ⊥
+  none_longer : (p : ℕ) (w : IsWrongAt rules limit tokens p) (more : List K) → Longer p tokens more → (steps : List (Step A)) →
+      IsAnyReading rules more steps → ⊥
   none_longer p w more l steps r =
       let none = subst (λ x. NoneGoesOn rules limit (take p tokens) x) l.here w.wrong in
       none l.after steps (subst (λ (x : List K). IsAnyReading rules x steps) l.whole r)
@@ -56,13 +58,15 @@ module _ {N P A K : Type 0} (rules : Rules N P A K) (limit : ℕ) (tokens : List
       ]
 
   -- in a reading that counts of tokens that go on past one that is too deep, this one opens a level above the limit
-  too_deep : (p : ℕ) (d : IsDeepAt rules limit tokens p) (more : List K) → Longer p tokens more → (steps : List (Step A)) → IsReading rules more steps → slice_get (levels steps) p ≡ Some (limit + 1)
+  too_deep : (p : ℕ) (d : IsDeepAt rules limit tokens p) (more : List K) → Longer p tokens more → (steps : List (Step A)) →
+      IsReading rules more steps → slice_get (levels steps) p ≡ Some (limit + 1)
   too_deep p d more l steps r =
       let same : l.next ≡ d.kind = cc (sym l.here ∙ rest_at p tokens d.kind d.here) in
       let there = l.whole ∙ ap (λ k. take p tokens ++ k ∷ l.after) same in
       (d.deep l.after steps (subst (λ (x : List K). IsReading rules x steps) there r)).there
 
-  low_or_deep : (p q : ℕ) (d : IsDeepAt rules limit tokens p) (rest : List K) (steps : List (Step A)) → IsReading rules (take q tokens ++ rest) steps → AreLow limit (take q (levels steps)) → q ≤ length tokens → p < q → ⊥
+  low_or_deep : (p q : ℕ) (d : IsDeepAt rules limit tokens p) (rest : List K) (steps : List (Step A)) →
+      IsReading rules (take q tokens ++ rest) steps → AreLow limit (take q (levels steps)) → q ≤ length tokens → p < q → ⊥
   low_or_deep p q d rest steps r low inside below =
       let there = too_deep p d (take q tokens ++ rest) (longer p q tokens rest below inside) steps r in
       absurd (omega (arith, low_before limit (levels steps) p q (limit + 1) low below there))
@@ -89,20 +93,32 @@ module _ {N P A K : Type 0} (rules : Rules N P A K) (limit : ℕ) (tokens : List
         | inr up ↦ elim (eq-or-lt_of_le up) [
           | inl same ↦
               let here = rest_at q tokens d.kind d.here in
-              none_longer p w (take q tokens ++ d.kind ∷ d.after) (record { next = d.kind; more = drop (suc q) tokens; after = d.after; here = ap (λ n. drop n tokens) same ∙ here; whole = ap (λ n. take n tokens ++ d.kind ∷ d.after) (sym same) }) d.steps (weaker rules d.reading)
+              none_longer p w (take q tokens ++ d.kind ∷ d.after) (record {
+                next = d.kind;
+                more = drop (suc q) tokens;
+                after = d.after;
+                here = ap (λ n. drop n tokens) same ∙ here;
+                whole = ap
+                    (λ n. take n tokens ++ d.kind ∷ d.after) (sym same);
+              }) d.steps (weaker rules d.reading)
           | inr below ↦
               let inside = slice_get_within tokens q d.kind d.here in
-              none_longer p w (take q tokens ++ d.kind ∷ d.after) (longer p q tokens (d.kind ∷ d.after) below (omega (arith, inside))) d.steps (weaker rules d.reading)
+              none_longer p w (take q tokens ++ d.kind ∷ d.after)
+              (longer p q tokens (d.kind ∷ d.after) below (omega (arith, inside))) d.steps (weaker rules d.reading)
         ]
       ]
 
-  pub stops_at_wrong : (r : Result (List (Event A)) ReadStop) → MatchResult r (IsParsed rules limit tokens) (IsStop rules limit tokens) → (place : ℕ) → IsWrongAt rules limit tokens place → IsStopUnless r (stop.Wrong place)
+  pub stops_at_wrong : (r : Result (List (Event A)) ReadStop) →
+      MatchResult r (IsParsed rules limit tokens) (IsStop rules limit tokens) → (place : ℕ) → IsWrongAt rules limit tokens place →
+      IsStopUnless r (stop.Wrong place)
   stops_at_wrong (Ok events) p place w = absurd (not_wrong rules limit tokens place p.steps p.reading w)
   stops_at_wrong (Err (stop.Wrong other)) p place w = inl (ap (λ n. stop.Wrong n) (one_wrong other place p w))
   stops_at_wrong (Err (stop.Deep other)) p place w = absurd (wrong_or_deep place other w p)
   stops_at_wrong (Err stop.NoMemory) p place w = inr refl
 
-  pub stops_at_deep : (r : Result (List (Event A)) ReadStop) → MatchResult r (IsParsed rules limit tokens) (IsStop rules limit tokens) → (place : ℕ) → IsDeepAt rules limit tokens place → IsStopUnless r (stop.Deep place)
+  pub stops_at_deep : (r : Result (List (Event A)) ReadStop) →
+      MatchResult r (IsParsed rules limit tokens) (IsStop rules limit tokens) → (place : ℕ) → IsDeepAt rules limit tokens place →
+      IsStopUnless r (stop.Deep place)
   stops_at_deep (Ok events) p place d = absurd (not_deep rules limit tokens place p.steps p.reading p.low d)
   stops_at_deep (Err (stop.Wrong other)) p place d = absurd (wrong_or_deep other place p d)
   stops_at_deep (Err (stop.Deep other)) p place d = inl (ap (λ n. stop.Deep n) (one_deep other place p d))

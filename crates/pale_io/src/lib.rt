@@ -28,6 +28,3 @@ pub use std_sink::StdSink;
 pub use std_source::StdSource;
 pub use stops::{Failed, ReadStop, WriteStop};
 pub use writing::write_all;
-
-#[cfg(test)]
-mod tests;

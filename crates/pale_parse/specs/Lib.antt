@@ -1,4 +1,3 @@
-pub mod Building
 pub mod Hints
 pub mod TableLaws
 pub mod Tables

@@ -5,11 +5,11 @@ use Rattle.ll1_reader.specs.Grammars.{Rows}
 use Rattle.ll1_reader.specs.Predicting.{is_predictable, all_end_well, IsSound, AreNamed}
 use Rattle.pale_text.specs.declared.token.Mark.{Mark}
 use Rattle.pale_text.specs.declared.token.Mark.TheVariants as mark
-use Rattle.pale_text.specs.declared.grammar.kind.ProgramKind.{ProgramKind}
-use Rattle.pale_text.specs.declared.grammar.kind.ProgramKind.TheVariants as kind
-use Rattle.pale_text.specs.declared.grammar.part.ProgramPart.{ProgramPart}
-use Rattle.pale_text.specs.declared.grammar.part.ProgramPart.TheVariants as part
-use Rattle.pale_text.specs.ProgramGrammar.{rows_of, program_grammar}
+use Rattle.pale_syntax.specs.declared.grammar.kind.ProgramKind.{ProgramKind}
+use Rattle.pale_syntax.specs.declared.grammar.kind.ProgramKind.TheVariants as kind
+use Rattle.pale_syntax.specs.declared.grammar.part.ProgramPart.{ProgramPart}
+use Rattle.pale_syntax.specs.declared.grammar.part.ProgramPart.TheVariants as part
+use Rattle.pale_syntax.specs.ProgramGrammar.{rows_of, program_grammar}
 use Rattle.pale_parse.specs.Tables.{choices_of, row_of, program_rules}
 use Rattle.pale_parse.specs.Hints.{number_of, mark_number, label_of, starts_of, tails_of, cost_of, sample_of, begin_of, size_of, program_hints}
 

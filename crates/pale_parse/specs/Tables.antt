@@ -2,11 +2,11 @@
 use Rattle.std.specs.Prelude.{ℕ, List, [], ◌∷◌, slice_get, Option, Some, None}
 use Rattle.ll1_reader.specs.declared.symbol.Symbol.TheVariants.{Many}
 use Rattle.ll1_reader.specs.Grammars.{Rules}
-use Rattle.pale_text.specs.declared.grammar.kind.ProgramKind.{ProgramKind}
-use Rattle.pale_text.specs.declared.grammar.part.ProgramPart.{ProgramPart}
-use Rattle.pale_text.specs.declared.grammar.part.ProgramPart.TheVariants as part
-use Rattle.pale_text.specs.declared.grammar.act.Act.{Act}
-use Rattle.pale_text.specs.ProgramGrammar.{ProgramSymbol, rows_of}
+use Rattle.pale_syntax.specs.declared.grammar.kind.ProgramKind.{ProgramKind}
+use Rattle.pale_syntax.specs.declared.grammar.part.ProgramPart.{ProgramPart}
+use Rattle.pale_syntax.specs.declared.grammar.part.ProgramPart.TheVariants as part
+use Rattle.pale_syntax.specs.declared.grammar.act.Act.{Act}
+use Rattle.pale_syntax.specs.ProgramGrammar.{ProgramSymbol, rows_of}
 use Rattle.pale_parse.specs.declared.tables.choice.ProgramChoice.{ProgramChoice}
 use Rattle.pale_parse.specs.declared.tables.choice.ProgramChoice.TheVariants as row
 

@@ -1,14 +1,14 @@
 //! The grammar of programs, as the reader of grammars takes it.
 
 ghost use Rattle.std.specs.Prelude.{◌≡◌};
-ghost use Rattle.pale_text.specs.ProgramGrammar.{program_grammar};
+ghost use Rattle.pale_syntax.specs.ProgramGrammar.{program_grammar};
 ghost use Rattle.pale_parse.specs.Tables.{program_rules};
 ghost use Rattle.pale_parse.specs.Hints.{program_hints};
 ghost use Rattle.pale_parse.specs.TableLaws.{program_named, program_sound};
 
 use crate::tables::{ProgramChoice, ProgramSymbol, choices_of, number_of, row_of, starts_of};
 use ll1_reader::{Grammar, Symbol};
-use pale_text::{Act, ProgramKind, ProgramPart};
+use pale_syntax::{Act, ProgramKind, ProgramPart};
 
 /// The grammar of programs.
 pub(crate) struct ProgramGrammar;

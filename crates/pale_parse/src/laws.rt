@@ -2,11 +2,11 @@
 
 ghost use Rattle.std.specs.Prelude.{◌≡◌, List};
 ghost use Rattle.ll1_reader.specs.Readings.{Step, IsAnyReading};
-ghost use Rattle.pale_text.specs.declared.grammar.act.Act.{Act};
+ghost use Rattle.pale_syntax.specs.declared.grammar.act.Act.{Act};
 ghost use Rattle.pale_text.specs.declared.token.Token.{Token};
-ghost use Rattle.pale_text.specs.declared.tree.declaration.Program.{Program};
-ghost use Rattle.pale_text.specs.ProgramWords.{kinds_in};
-ghost use Rattle.pale_text.specs.ProgramReading.{program_rows, IsProgram};
+ghost use Rattle.pale_syntax.specs.declared.tree.declaration.Program.{Program};
+ghost use Rattle.pale_syntax.specs.ProgramWords.{kinds_in};
+ghost use Rattle.pale_syntax.specs.ProgramReading.{program_rows, IsProgram};
 
 use crate::grammar::ProgramGrammar;
 use ll1_reader::{each_sentence_has_a_reading_that_counts, one_reading_counts};

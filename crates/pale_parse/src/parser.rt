@@ -2,17 +2,18 @@
 
 ghost use Rattle.std.specs.Prelude.{◌≡◌, List, IfOk, IfErr, IsOkUnless};
 ghost use Rattle.ll1_reader.specs.Readings.{Step};
-ghost use Rattle.pale_text.specs.declared.grammar.act.Act.{Act as ProgramAct};
-ghost use Rattle.pale_text.specs.declared.tree.declaration.Program.{Program as ProgramTree};
+ghost use Rattle.pale_syntax.specs.declared.grammar.act.Act.{Act as ProgramAct};
+ghost use Rattle.pale_syntax.specs.declared.tree.declaration.Program.{Program as ProgramTree};
 ghost use Rattle.pale_text.specs.declared.refusal.Refusal.{Refusal as RefusedThere};
 ghost use Rattle.pale_text.specs.declared.refusal.TextStop.TheVariants.{NoMemory, Refused};
-ghost use Rattle.pale_text.specs.ProgramWords.{kinds_in};
-ghost use Rattle.pale_text.specs.ProgramReading.{IsProgram, IsShallow, IsParsedAs, IsParseStop};
+ghost use Rattle.pale_syntax.specs.ProgramWords.{kinds_in};
+ghost use Rattle.pale_syntax.specs.ProgramReading.{IsProgram, IsShallow, IsParsedAs, IsParseStop};
 ghost use Rattle.pale_text.specs.TextStops.{IsRefusedUnless};
 
-use crate::build::build;
 use crate::grammar::ProgramGrammar;
-use pale_text::{Program, ProgramKind, TextStop, Token, TokenList, read_tokens};
+use pale_build::build;
+use pale_syntax::{Program, ProgramKind};
+use pale_text::{TextStop, Token, TokenList, read_tokens};
 use plain_data::Items;
 use std::alloc::{AllocError, Global};
 

@@ -1,4 +1,4 @@
-//! The grammar of programs as tables, row by row as `specs/ProgramGrammar.antt` of `pale_text` has it.
+//! The grammar of programs as tables, row by row as `specs/ProgramGrammar.antt` of `pale_syntax` has it.
 
 mod assertions;
 mod choice;

@@ -3,3 +3,5 @@
 
 #[cfg(test)]
 mod texts_read;
+#[cfg(test)]
+mod tokens;

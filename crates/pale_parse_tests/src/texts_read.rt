@@ -5,7 +5,8 @@ mod trees;
 ghost use Rattle.std.specs.Prelude.{◌<◌, length};
 
 use pale_parse::parse;
-use pale_text::{Program, TextStop, lex};
+use pale_syntax::Program;
+use pale_text::{TextStop, lex};
 use std::alloc::{AllocError, Global};
 use std::test::Fail;
 use texts::{FIFTH, FIRST, FOURTH, SECOND, SIXTH, THIRD};

@@ -4,16 +4,19 @@ use Rattle.pale_text.specs.declared.place.Pos.{Pos}
 use Rattle.pale_text.specs.declared.token.Mark.{Mark}
 use Rattle.pale_text.specs.declared.token.Mark.TheVariants as mark
 use Rattle.pale_text.specs.declared.token.TokenKind.{TokenKind}
-use Rattle.pale_text.specs.declared.tree.names.Name.{Name}
-use Rattle.pale_text.specs.declared.tree.names.Path.{Path}
-use Rattle.pale_text.specs.declared.tree.names.Term.{Term}
-use Rattle.pale_text.specs.declared.tree.route.Route.{Route}
-use Rattle.pale_text.specs.declared.tree.assertion.Quantifier.{Quantifier}
-use Rattle.pale_text.specs.declared.tree.assertion.Assertion.{Assertion, roll-Assertion}
-use Rattle.pale_text.specs.declared.tree.assertion.Assertion.TheVariants as assertion
-use Rattle.pale_text.specs.declared.tree.assertion.Assertion.TheVariants.{rolls-True, rolls-False, rolls-Truth, rolls-Same, rolls-Differ, rolls-Member, rolls-Subset, rolls-Walk, rolls-Is, rolls-Use, rolls-Not, rolls-And, rolls-Or, rolls-Imp, rolls-Iff, rolls-Quantified}
-use Rattle.pale_text.specs.declared.tree.assertion.Assertion.TheOpen.{Assertion-F}
-use Rattle.pale_text.specs.declared.tree.assertion.Assertion.TheFolds.{map-Assertion, fold-roll-Assertion}
+use Rattle.pale_syntax.specs.declared.tree.names.Name.{Name}
+use Rattle.pale_syntax.specs.declared.tree.names.Path.{Path}
+use Rattle.pale_syntax.specs.declared.tree.names.Term.{Term}
+use Rattle.pale_syntax.specs.declared.tree.route.Route.{Route}
+use Rattle.pale_syntax.specs.declared.tree.assertion.Quantifier.{Quantifier}
+use Rattle.pale_syntax.specs.declared.tree.assertion.Assertion.{Assertion, roll-Assertion}
+use Rattle.pale_syntax.specs.declared.tree.assertion.Assertion.TheVariants as assertion
+use Rattle.pale_syntax.specs.declared.tree.assertion.Assertion.TheVariants.{rolls-True, rolls-False, rolls-Truth, rolls-Same}
+use Rattle.pale_syntax.specs.declared.tree.assertion.Assertion.TheVariants.{rolls-Differ, rolls-Member, rolls-Subset, rolls-Walk}
+use Rattle.pale_syntax.specs.declared.tree.assertion.Assertion.TheVariants.{rolls-Is, rolls-Use, rolls-Not, rolls-And, rolls-Or}
+use Rattle.pale_syntax.specs.declared.tree.assertion.Assertion.TheVariants.{rolls-Imp, rolls-Iff, rolls-Quantified}
+use Rattle.pale_syntax.specs.declared.tree.assertion.Assertion.TheOpen.{Assertion-F}
+use Rattle.pale_syntax.specs.declared.tree.assertion.Assertion.TheFolds.{map-Assertion, fold-roll-Assertion}
 use Rattle.pale_print.specs.Tokens.{Tokens, ◌>>◌, sign, word, path_tokens}
 use Rattle.pale_print.specs.AssertionTokens.{Followed, Operand, grouped, is_followed, operands, chained, implied, quantified, assertion_node, assertion_tokens}
 use Rattle.pale_print.specs.Writing.{compared, variant_tested, opening, closing, inside, goes_on, related, walked, used, quantifier_tokens, assertion_operands}
@@ -97,7 +100,8 @@ same_chain : (needed : Bool) (mark : Mark) (asked : ℕ) (first : Assertion) (ot
 same_chain needed mark asked first others followed after =
     between needed (chained mark asked (assertion_tokens first) (map assertion_tokens others)) followed after
     ∙ ap
-    (λ before. opening needed >> assertion_tokens first asked before >> operands mark asked (map assertion_tokens others) (inside needed followed) >> closing needed >> after)
+    (λ before. opening needed >> assertion_tokens first asked before >> operands mark asked (map assertion_tokens others)
+    (inside needed followed) >> closing needed >> after)
     (same_followed others (inside needed followed))
     ∙ ap (λ rest. opening needed >> assertion_tokens first asked (goes_on (length others) (inside needed followed)) >> rest)
     (same_operands mark asked others (inside needed followed) (closing needed after))
@@ -160,7 +164,8 @@ lent_chain : (needed : Bool) (mark : Mark) (asked : ℕ) (first lent : Assertion
     ≡ (opening needed >> assertion_tokens lent asked before >> assertion_operands mark asked slice last >> closing needed >> after)
 lent_chain needed mark asked first lent others slice followed last before count one rest last_is count_is before_is after =
     let flag : before ≡ goes_on (length others) (inside needed followed) = before_is ∙ (λ i. goes_on (count_is i) (last_is i)) in
-    λ i. opening needed >> assertion_tokens (sym one i) asked (sym flag i) >> assertion_operands mark asked (sym rest i) (sym last_is i) >> closing needed >> after
+    λ i. opening needed >> assertion_tokens (sym one i) asked (sym flag i) >> assertion_operands mark asked (sym rest i)
+    (sym last_is i) >> closing needed >> after
 
 pub at-And : (a first lent : Assertion) (others slice : List Assertion) (asked : ℕ) (followed last before : Bool) (count : ℕ) →
     a ≡ assertion.And first others → lent ≡ first → slice ≡ others → last ≡ inside (nat_lt 3 asked) followed → count ≡ length others →

@@ -4,13 +4,15 @@ use Rattle.pale_text.specs.declared.place.Pos.{Pos}
 use Rattle.pale_text.specs.declared.token.Mark.{Mark}
 use Rattle.pale_text.specs.declared.token.Mark.TheVariants as mark
 use Rattle.pale_text.specs.declared.token.TokenKind.{TokenKind}
-use Rattle.pale_text.specs.declared.tree.names.Name.{Name}
-use Rattle.pale_text.specs.declared.tree.names.Term.{Term}
-use Rattle.pale_text.specs.declared.tree.condition.Condition.{Condition, roll-Condition}
-use Rattle.pale_text.specs.declared.tree.condition.Condition.TheVariants as condition
-use Rattle.pale_text.specs.declared.tree.condition.Condition.TheVariants.{rolls-True, rolls-False, rolls-Truth, rolls-Same, rolls-Differ, rolls-Is, rolls-Not, rolls-And, rolls-Or}
-use Rattle.pale_text.specs.declared.tree.condition.Condition.TheOpen.{Condition-F}
-use Rattle.pale_text.specs.declared.tree.condition.Condition.TheFolds.{map-Condition, fold-roll-Condition}
+use Rattle.pale_syntax.specs.declared.tree.names.Name.{Name}
+use Rattle.pale_syntax.specs.declared.tree.names.Term.{Term}
+use Rattle.pale_syntax.specs.declared.tree.condition.Condition.{Condition, roll-Condition}
+use Rattle.pale_syntax.specs.declared.tree.condition.Condition.TheVariants as condition
+use Rattle.pale_syntax.specs.declared.tree.condition.Condition.TheVariants.{rolls-True, rolls-False, rolls-Truth, rolls-Same}
+use Rattle.pale_syntax.specs.declared.tree.condition.Condition.TheVariants.{rolls-Differ, rolls-Is, rolls-Not, rolls-And}
+use Rattle.pale_syntax.specs.declared.tree.condition.Condition.TheVariants.{rolls-Or}
+use Rattle.pale_syntax.specs.declared.tree.condition.Condition.TheOpen.{Condition-F}
+use Rattle.pale_syntax.specs.declared.tree.condition.Condition.TheFolds.{map-Condition, fold-roll-Condition}
 use Rattle.pale_print.specs.Tokens.{Tokens, ◌>>◌, sign, word, each_behind, term_tokens}
 use Rattle.pale_print.specs.RouteTokens.{Placed, grouped, chained}
 use Rattle.pale_print.specs.ConditionTokens.{condition_node, condition_tokens}

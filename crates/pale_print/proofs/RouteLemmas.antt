@@ -4,11 +4,14 @@ use Rattle.pale_text.specs.declared.place.Pos.{Pos}
 use Rattle.pale_text.specs.declared.token.Mark.{Mark}
 use Rattle.pale_text.specs.declared.token.Mark.TheVariants as mark
 use Rattle.pale_text.specs.declared.token.TokenKind.{TokenKind}
-use Rattle.pale_text.specs.declared.tree.names.Name.{Name}
-use Rattle.pale_text.specs.declared.tree.route.Route.{Route, roll-Route}
-use Rattle.pale_text.specs.declared.tree.route.Route.TheVariants.{Down, Up, UpAny, Root, Leaf, IsType, IsVariant, IsBool, Then, Or, Star, rolls-Down, rolls-Up, rolls-UpAny, rolls-Root, rolls-Leaf, rolls-IsType, rolls-IsVariant, rolls-IsBool, rolls-Then, rolls-Or, rolls-Star}
-use Rattle.pale_text.specs.declared.tree.route.Route.TheOpen.{Route-F}
-use Rattle.pale_text.specs.declared.tree.route.Route.TheFolds.{map-Route, fold-roll-Route}
+use Rattle.pale_syntax.specs.declared.tree.names.Name.{Name}
+use Rattle.pale_syntax.specs.declared.tree.route.Route.{Route, roll-Route}
+use Rattle.pale_syntax.specs.declared.tree.route.Route.TheVariants.{Down, Up, UpAny, Root, Leaf, IsType, IsVariant, IsBool, Then}
+use Rattle.pale_syntax.specs.declared.tree.route.Route.TheVariants.{Or, Star, rolls-Down, rolls-Up, rolls-UpAny, rolls-Root}
+use Rattle.pale_syntax.specs.declared.tree.route.Route.TheVariants.{rolls-Leaf, rolls-IsType, rolls-IsVariant, rolls-IsBool}
+use Rattle.pale_syntax.specs.declared.tree.route.Route.TheVariants.{rolls-Then, rolls-Or, rolls-Star}
+use Rattle.pale_syntax.specs.declared.tree.route.Route.TheOpen.{Route-F}
+use Rattle.pale_syntax.specs.declared.tree.route.Route.TheFolds.{map-Route, fold-roll-Route}
 use Rattle.pale_print.specs.Tokens.{Tokens, ◌>>◌, sign, word, each_behind, typed_tokens, name_tokens}
 use Rattle.pale_print.specs.RouteTokens.{Placed, grouped, chained, stars, bool_test, route_node, route_tokens}
 use Rattle.pale_print.specs.Writing.{opening, closing, route_operands}

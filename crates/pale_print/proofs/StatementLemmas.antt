@@ -3,17 +3,18 @@ use Rattle.std.proofs.Common.{◌≡◌, List, [], ◌∷◌, map, Option, Some,
 use Rattle.pale_text.specs.declared.place.Pos.{Pos}
 use Rattle.pale_text.specs.declared.token.Mark.TheVariants as mark
 use Rattle.pale_text.specs.declared.token.TokenKind.{TokenKind}
-use Rattle.pale_text.specs.declared.tree.names.Name.{Name}
-use Rattle.pale_text.specs.declared.tree.names.Path.{Path}
-use Rattle.pale_text.specs.declared.tree.condition.Condition.{Condition}
-use Rattle.pale_text.specs.declared.tree.assertion.Bracketed.{Bracketed}
-use Rattle.pale_text.specs.declared.tree.statement.Call.{Call}
-use Rattle.pale_text.specs.declared.tree.statement.Value.{Value}
-use Rattle.pale_text.specs.declared.tree.statement.Statement.{Statement, roll-Statement}
-use Rattle.pale_text.specs.declared.tree.statement.Statement.TheVariants as statement
-use Rattle.pale_text.specs.declared.tree.statement.Statement.TheVariants.{rolls-Skip, rolls-If, rolls-While, rolls-Split, rolls-Assert, rolls-Free, rolls-Call, rolls-Assign}
-use Rattle.pale_text.specs.declared.tree.statement.Statement.TheOpen.{Statement-F}
-use Rattle.pale_text.specs.declared.tree.statement.Statement.TheFolds.{map-Statement, fold-roll-Statement}
+use Rattle.pale_syntax.specs.declared.tree.names.Name.{Name}
+use Rattle.pale_syntax.specs.declared.tree.names.Path.{Path}
+use Rattle.pale_syntax.specs.declared.tree.condition.Condition.{Condition}
+use Rattle.pale_syntax.specs.declared.tree.assertion.Bracketed.{Bracketed}
+use Rattle.pale_syntax.specs.declared.tree.statement.Call.{Call}
+use Rattle.pale_syntax.specs.declared.tree.statement.Value.{Value}
+use Rattle.pale_syntax.specs.declared.tree.statement.Statement.{Statement, roll-Statement}
+use Rattle.pale_syntax.specs.declared.tree.statement.Statement.TheVariants as statement
+use Rattle.pale_syntax.specs.declared.tree.statement.Statement.TheVariants.{rolls-Skip, rolls-If, rolls-While, rolls-Split}
+use Rattle.pale_syntax.specs.declared.tree.statement.Statement.TheVariants.{rolls-Assert, rolls-Free, rolls-Call, rolls-Assign}
+use Rattle.pale_syntax.specs.declared.tree.statement.Statement.TheOpen.{Statement-F}
+use Rattle.pale_syntax.specs.declared.tree.statement.Statement.TheFolds.{map-Statement, fold-roll-Statement}
 use Rattle.pale_print.specs.Tokens.{Tokens, ◌>>◌, sign, word, each}
 use Rattle.pale_print.specs.AssertionTokens.{bracketed_tokens}
 use Rattle.pale_print.specs.StatementTokens.{call_tokens, block_tokens, statement_node, statement_tokens}

@@ -3,13 +3,13 @@
 use Rattle.std.specs.Prelude.{ℕ, nat_lt, Bool, true, false, List, [], ◌∷◌, codes}
 use Rattle.pale_text.specs.declared.token.Mark.{Mark}
 use Rattle.pale_text.specs.declared.token.Mark.TheVariants as mark
-use Rattle.pale_text.specs.declared.tree.assertion.Assertion.{Assertion}
-use Rattle.pale_text.specs.declared.tree.assertion.Assertion.TheOpen.{Assertion-F}
-use Rattle.pale_text.specs.declared.tree.assertion.Assertion.TheFolds.{fold-Assertion}
-use Rattle.pale_text.specs.declared.tree.assertion.Bracketed.{Bracketed}
-use Rattle.pale_text.specs.declared.tree.assertion.Quantifier.{Quantifier}
-use Rattle.pale_text.specs.declared.tree.assertion.QuantifierKind.{QuantifierKind}
-use Rattle.pale_text.specs.declared.tree.assertion.QuantifierKind.TheVariants as quantifier
+use Rattle.pale_syntax.specs.declared.tree.assertion.Assertion.{Assertion}
+use Rattle.pale_syntax.specs.declared.tree.assertion.Assertion.TheOpen.{Assertion-F}
+use Rattle.pale_syntax.specs.declared.tree.assertion.Assertion.TheFolds.{fold-Assertion}
+use Rattle.pale_syntax.specs.declared.tree.assertion.Bracketed.{Bracketed}
+use Rattle.pale_syntax.specs.declared.tree.assertion.Quantifier.{Quantifier}
+use Rattle.pale_syntax.specs.declared.tree.assertion.QuantifierKind.{QuantifierKind}
+use Rattle.pale_syntax.specs.declared.tree.assertion.QuantifierKind.TheVariants as quantifier
 use Rattle.pale_print.specs.Tokens.{Tokens, ◌>>◌, nothing, sign, word, separated, name_tokens, path_tokens, term_tokens}
 use Rattle.pale_print.specs.RouteTokens.{route_tokens}
 

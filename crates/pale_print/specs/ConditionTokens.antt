@@ -1,9 +1,9 @@
 -- The tokens of conditions of code, in parentheses exactly where their place asks for a tighter construct.
 use Rattle.std.specs.Prelude.{nat_lt, codes}
 use Rattle.pale_text.specs.declared.token.Mark.TheVariants as mark
-use Rattle.pale_text.specs.declared.tree.condition.Condition.{Condition}
-use Rattle.pale_text.specs.declared.tree.condition.Condition.TheOpen.{Condition-F}
-use Rattle.pale_text.specs.declared.tree.condition.Condition.TheFolds.{fold-Condition}
+use Rattle.pale_syntax.specs.declared.tree.condition.Condition.{Condition}
+use Rattle.pale_syntax.specs.declared.tree.condition.Condition.TheOpen.{Condition-F}
+use Rattle.pale_syntax.specs.declared.tree.condition.Condition.TheFolds.{fold-Condition}
 use Rattle.pale_print.specs.Tokens.{◌>>◌, sign, word, name_tokens, term_tokens}
 use Rattle.pale_print.specs.RouteTokens.{Placed, grouped, chained}
 

@@ -3,9 +3,9 @@ use Rattle.std.specs.Prelude.{ℕ, nat_lt, Bool, true, false, List, codes}
 use Rattle.pale_text.specs.declared.token.Mark.{Mark}
 use Rattle.pale_text.specs.declared.token.Mark.TheVariants as mark
 use Rattle.pale_text.specs.declared.place.Pos.{Pos}
-use Rattle.pale_text.specs.declared.tree.route.Route.{Route}
-use Rattle.pale_text.specs.declared.tree.route.Route.TheOpen.{Route-F}
-use Rattle.pale_text.specs.declared.tree.route.Route.TheFolds.{fold-Route}
+use Rattle.pale_syntax.specs.declared.tree.route.Route.{Route}
+use Rattle.pale_syntax.specs.declared.tree.route.Route.TheOpen.{Route-F}
+use Rattle.pale_syntax.specs.declared.tree.route.Route.TheFolds.{fold-Route}
 use Rattle.pale_print.specs.Tokens.{Tokens, ◌>>◌, sign, word, each, each_behind, name_tokens}
 
 -- tokens at a place that asks how tightly they bind: `+` binds 0, `.` 1, `*` 2, a single step 3

@@ -3,7 +3,7 @@ use Rattle.std.specs.Prelude.{ℕ, List, [], ◌∷◌, ◌++◌}
 use Rattle.pale_text.specs.declared.token.Mark.TheVariants as mark
 use Rattle.pale_text.specs.declared.token.TokenKind.{TokenKind}
 use Rattle.pale_text.specs.declared.token.TokenKind.TheVariants as kind
-use Rattle.pale_text.specs.declared.tree.declaration.Program.{Program}
+use Rattle.pale_syntax.specs.declared.tree.declaration.Program.{Program}
 use Rattle.pale_text.specs.Spelling.{bytes_of}
 use Rattle.pale_print.specs.DeclarationTokens.{program_tokens}
 

@@ -1,16 +1,16 @@
 -- The tokens of statements.
 use Rattle.std.specs.Prelude.{ℕ, Bool, true, false, List, [], ◌∷◌, Option, Some, None, codes}
 use Rattle.pale_text.specs.declared.token.Mark.TheVariants as mark
-use Rattle.pale_text.specs.declared.tree.names.Name.{Name}
-use Rattle.pale_text.specs.declared.tree.assertion.Bracketed.{Bracketed}
-use Rattle.pale_text.specs.declared.tree.statement.Argument.{Argument}
-use Rattle.pale_text.specs.declared.tree.statement.Argument.TheVariants as argument
-use Rattle.pale_text.specs.declared.tree.statement.Call.{Call}
-use Rattle.pale_text.specs.declared.tree.statement.Statement.{Statement}
-use Rattle.pale_text.specs.declared.tree.statement.Statement.TheOpen.{Statement-F}
-use Rattle.pale_text.specs.declared.tree.statement.Statement.TheFolds.{fold-Statement}
-use Rattle.pale_text.specs.declared.tree.statement.Value.{Value}
-use Rattle.pale_text.specs.declared.tree.statement.Value.TheVariants as value
+use Rattle.pale_syntax.specs.declared.tree.names.Name.{Name}
+use Rattle.pale_syntax.specs.declared.tree.assertion.Bracketed.{Bracketed}
+use Rattle.pale_syntax.specs.declared.tree.statement.Argument.{Argument}
+use Rattle.pale_syntax.specs.declared.tree.statement.Argument.TheVariants as argument
+use Rattle.pale_syntax.specs.declared.tree.statement.Call.{Call}
+use Rattle.pale_syntax.specs.declared.tree.statement.Statement.{Statement}
+use Rattle.pale_syntax.specs.declared.tree.statement.Statement.TheOpen.{Statement-F}
+use Rattle.pale_syntax.specs.declared.tree.statement.Statement.TheFolds.{fold-Statement}
+use Rattle.pale_syntax.specs.declared.tree.statement.Value.{Value}
+use Rattle.pale_syntax.specs.declared.tree.statement.Value.TheVariants as value
 use Rattle.pale_print.specs.Tokens.{Tokens, ◌>>◌, sign, word, each, separated, name_tokens, path_tokens}
 use Rattle.pale_print.specs.ConditionTokens.{condition_tokens}
 use Rattle.pale_print.specs.AssertionTokens.{bracketed_tokens}

@@ -5,10 +5,10 @@ use Rattle.pale_text.specs.declared.token.Mark.{Mark}
 use Rattle.pale_text.specs.declared.token.Mark.TheVariants as mark
 use Rattle.pale_text.specs.declared.token.TokenKind.{TokenKind}
 use Rattle.pale_text.specs.declared.token.TokenKind.TheVariants as kind
-use Rattle.pale_text.specs.declared.tree.names.Name.{Name}
-use Rattle.pale_text.specs.declared.tree.names.Path.{Path}
-use Rattle.pale_text.specs.declared.tree.names.Term.{Term}
-use Rattle.pale_text.specs.declared.tree.names.Term.TheVariants as term
+use Rattle.pale_syntax.specs.declared.tree.names.Name.{Name}
+use Rattle.pale_syntax.specs.declared.tree.names.Path.{Path}
+use Rattle.pale_syntax.specs.declared.tree.names.Term.{Term}
+use Rattle.pale_syntax.specs.declared.tree.names.Term.TheVariants as term
 
 -- tokens, as what they make of the tokens that come after them
 abbrev pub Tokens : Type 0

@@ -11,7 +11,8 @@ use crate::names::{
 };
 use crate::routes::push_route;
 use crate::tokens::{close_group, open_group, push_mark, push_word};
-use pale_text::{Assertion, Bracketed, Mark, Name, Path, Quantifier, QuantifierKind, Route, Term};
+use pale_syntax::{Assertion, Bracketed, Name, Path, Quantifier, QuantifierKind, Route, Term};
+use pale_text::Mark;
 use std::alloc::AllocError;
 
 /// Whether an operator follows an operand behind which so many others of its chain stand.

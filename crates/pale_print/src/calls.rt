@@ -10,7 +10,8 @@ use crate::assertions::push_bracketed;
 use crate::conditions::push_condition;
 use crate::names::{push_marked, push_name, push_names};
 use crate::tokens::{push_mark, push_word};
-use pale_text::{Argument, Bracketed, Call, Mark, Name, Value};
+use pale_syntax::{Argument, Bracketed, Call, Name, Value};
+use pale_text::Mark;
 use std::alloc::AllocError;
 
 fn push_argument(text: &mut Vec<u8>, argument: &Argument) -> Result<(), AllocError>

@@ -6,7 +6,8 @@ ghost use Rattle.pale_print.specs.Writing.{Writes, condition_operands};
 
 use crate::names::{push_compared, push_term, push_variant_test};
 use crate::tokens::{close_group, open_group, push_mark, push_word};
-use pale_text::{Condition, Mark};
+use pale_syntax::Condition;
+use pale_text::Mark;
 use std::alloc::AllocError;
 
 /// Operands of a chain, each behind its operator.

@@ -13,11 +13,11 @@ use crate::names::{push_name, push_typed};
 use crate::routes::push_route;
 use crate::statements::push_statements;
 use crate::tokens::{push_mark, push_word};
-use pale_text::{
-    Declaration, FieldDeclaration, FieldForm, LogicParameter, Mark, Parameter,
-    PredicateDeclaration, PredicateParameter, Procedure, Program, Route, TypeDeclaration,
-    VariantDeclaration,
+use pale_syntax::{
+    Declaration, FieldDeclaration, FieldForm, LogicParameter, Parameter, PredicateDeclaration,
+    PredicateParameter, Procedure, Program, Route, TypeDeclaration, VariantDeclaration,
 };
+use pale_text::Mark;
 use std::alloc::{AllocError, Global};
 
 /// `[ R ]`

@@ -6,7 +6,8 @@ ghost use Rattle.pale_print.specs.Tokens.{each_behind, separated, name_tokens, t
 ghost use Rattle.pale_print.specs.Writing.{Writes, marked, compared, variant_tested};
 
 use crate::tokens::{push_mark, push_word};
-use pale_text::{Mark, Name, Path, Term};
+use pale_syntax::{Name, Path, Term};
+use pale_text::Mark;
 use std::alloc::AllocError;
 
 pub fn push_name(text: &mut Vec<u8>, name: &Name) -> Result<(), AllocError>

@@ -7,7 +7,8 @@ ghost use Rattle.pale_print.specs.Writing.{Writes, bool_tested, route_operands};
 
 use crate::names::{push_marked, push_name};
 use crate::tokens::{close_group, open_group, push_mark, push_word};
-use pale_text::{Mark, Name, Pos, Route};
+use pale_syntax::{Name, Route};
+use pale_text::{Mark, Pos};
 use std::alloc::AllocError;
 
 /// `? f` or `! f`

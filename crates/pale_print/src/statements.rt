@@ -9,7 +9,8 @@ use crate::calls::{push_call, push_value};
 use crate::conditions::push_condition;
 use crate::names::{push_name, push_path};
 use crate::tokens::{push_mark, push_word};
-use pale_text::{Bracketed, Condition, Mark, Name, Path, Statement, Value};
+use pale_syntax::{Bracketed, Condition, Name, Path, Statement, Value};
+use pale_text::Mark;
 use std::alloc::AllocError;
 
 /// `if ( c )` or `while ( c )`

@@ -1,16 +1,17 @@
 -- How many tokens an assertion has where it may stand as well; and chains of assertions that grow at their end.
 use Rattle.std.proofs.Common.{◌≡◌, ℕ, suc, ◌+◌, ◌≤◌, nat_lt, Bool, true, false, List, [], ◌∷◌, ◌++◌, map, refl, sym, subst, arith}
-use Rattle.pale_text.specs.declared.tree.assertion.Assertion.{Assertion, roll-Assertion, out-roll-Assertion}
-use Rattle.pale_text.specs.declared.tree.assertion.Assertion.TheVariants as assertion
-use Rattle.pale_text.specs.declared.tree.assertion.Assertion.TheOpen.{Assertion-F}
-use Rattle.pale_text.specs.declared.tree.assertion.Assertion.TheFolds.{ind-Assertion, map-Assertion}
+use Rattle.pale_syntax.specs.declared.tree.assertion.Assertion.{Assertion, roll-Assertion, out-roll-Assertion}
+use Rattle.pale_syntax.specs.declared.tree.assertion.Assertion.TheVariants as assertion
+use Rattle.pale_syntax.specs.declared.tree.assertion.Assertion.TheOpen.{Assertion-F}
+use Rattle.pale_syntax.specs.declared.tree.assertion.Assertion.TheFolds.{ind-Assertion, map-Assertion}
 use denote.Hole.Carrier.{roll}
-use Rattle.pale_text.specs.MakingAssertions.{and_by, or_by, iff_by, both, either, equivalent}
+use Rattle.pale_syntax.specs.MakingAssertions.{and_by, or_by, iff_by, both, either, equivalent}
 use Rattle.pale_print_laws.specs.CanonicalAssertions.{is_and_node, is_or_node, is_iff_node}
 use Rattle.pale_print_laws.proofs.AssertionShapes.{opened_assertion}
 use Rattle.pale_print_laws.proofs.RouteSizes.{route_size}
 use Rattle.pale_print_laws.proofs.NameSizes.{path_size, term_size}
-use Rattle.pale_print_laws.proofs.AssertionSizes.{OperandSize, grouped_size, operands_size, chain_size, used_size, quantified_size, size_node, assertion_size, sized_at, form}
+use Rattle.pale_print_laws.proofs.AssertionSizes.{OperandSize, grouped_size, operands_size, chain_size, used_size}
+use Rattle.pale_print_laws.proofs.AssertionSizes.{quantified_size, size_node, assertion_size, sized_at, form}
 
 -- ---- at other places
 
@@ -125,15 +126,18 @@ assertion_rises = ind-Assertion (λ a. Rises (assertion_size a)) (λ x y is.
 
 -- ---- chains
 
-size_and : (a : Assertion) (others : List Assertion) (f : Bool) → assertion_size (assertion.And a others) 3 f ≡ chain_size 4 (assertion_size a) (map assertion_size others) f
+size_and : (a : Assertion) (others : List Assertion) (f : Bool) →
+    assertion_size (assertion.And a others) 3 f ≡ chain_size 4 (assertion_size a) (map assertion_size others) f
 unfolding roll-Assertion roll
 size_and a others f = form (Assertion-F.And a others) 3 f
 
-size_or : (a : Assertion) (others : List Assertion) (f : Bool) → assertion_size (assertion.Or a others) 2 f ≡ chain_size 3 (assertion_size a) (map assertion_size others) f
+size_or : (a : Assertion) (others : List Assertion) (f : Bool) →
+    assertion_size (assertion.Or a others) 2 f ≡ chain_size 3 (assertion_size a) (map assertion_size others) f
 unfolding roll-Assertion roll
 size_or a others f = form (Assertion-F.Or a others) 2 f
 
-size_iff : (a : Assertion) (others : List Assertion) (f : Bool) → assertion_size (assertion.Iff a others) 0 f ≡ chain_size 1 (assertion_size a) (map assertion_size others) f
+size_iff : (a : Assertion) (others : List Assertion) (f : Bool) →
+    assertion_size (assertion.Iff a others) 0 f ≡ chain_size 1 (assertion_size a) (map assertion_size others) f
 unfolding roll-Assertion roll
 size_iff a others f = form (Assertion-F.Iff a others) 0 f
 
@@ -144,7 +148,8 @@ operands_last asked (one ∷ []) a f = omega arith
 operands_last asked (one ∷ two ∷ xs) a f = let e = operands_last asked (two ∷ xs) a f in omega arith
 
 chain_last : (asked : ℕ) (first : Assertion) (xs : List Assertion) (a : Assertion) (f : Bool) →
-    chain_size asked (assertion_size first) (map assertion_size (xs ++ a ∷ [])) f ≡ chain_size asked (assertion_size first) (map assertion_size xs) true + suc (assertion_size a asked f)
+    chain_size asked (assertion_size first) (map assertion_size (xs ++ a ∷ [])) f ≡ chain_size asked (assertion_size first)
+    (map assertion_size xs) true + suc (assertion_size a asked f)
 chain_last asked first [] a f = omega arith
 chain_last asked first (one ∷ xs) a f = let e = operands_last asked (one ∷ xs) a f in omega arith
 
@@ -182,8 +187,12 @@ and_by_size (Assertion-F.And first others) other f =
 and_by_size x other f = begun_and x other f refl
 
 pub both_size : (a other : Assertion) (f : Bool) → assertion_size (both a other) 3 f ≤ assertion_size a 3 true + suc (assertion_size other 4 f)
-both_size = opened_assertion (λ a. (other : Assertion) (f : Bool) → assertion_size (both a other) 3 f ≤ assertion_size a 3 true + suc (assertion_size other 4 f)) (λ x other f.
-    subst (λ (n : Assertion-F Assertion). assertion_size (and_by n (roll-Assertion x) other) 3 f ≤ assertion_size (roll-Assertion x) 3 true + suc (assertion_size other 4 f))
+both_size =
+    opened_assertion
+    (λ a. (other : Assertion) (f : Bool) → assertion_size (both a other) 3 f ≤ assertion_size a 3 true + suc (assertion_size other 4 f))
+    (λ x other f.
+    subst (λ (n : Assertion-F Assertion). assertion_size (and_by n (roll-Assertion x) other) 3 f ≤ assertion_size
+    (roll-Assertion x) 3 true + suc (assertion_size other 4 f))
     (sym (out-roll-Assertion x)) (and_by_size x other f))
 
 begun_or : (x : Assertion-F Assertion) (other : Assertion) (f : Bool) → is_or_node x ≡ false →
@@ -205,8 +214,12 @@ or_by_size (Assertion-F.Or first others) other f =
 or_by_size x other f = begun_or x other f refl
 
 pub either_size : (a other : Assertion) (f : Bool) → assertion_size (either a other) 2 f ≤ assertion_size a 2 true + suc (assertion_size other 3 f)
-either_size = opened_assertion (λ a. (other : Assertion) (f : Bool) → assertion_size (either a other) 2 f ≤ assertion_size a 2 true + suc (assertion_size other 3 f)) (λ x other f.
-    subst (λ (n : Assertion-F Assertion). assertion_size (or_by n (roll-Assertion x) other) 2 f ≤ assertion_size (roll-Assertion x) 2 true + suc (assertion_size other 3 f))
+either_size =
+    opened_assertion
+    (λ a. (other : Assertion) (f : Bool) → assertion_size (either a other) 2 f ≤ assertion_size a 2 true + suc (assertion_size other 3 f))
+    (λ x other f.
+    subst (λ (n : Assertion-F Assertion). assertion_size (or_by n (roll-Assertion x) other) 2 f ≤ assertion_size
+    (roll-Assertion x) 2 true + suc (assertion_size other 3 f))
     (sym (out-roll-Assertion x)) (or_by_size x other f))
 
 begun_iff : (x : Assertion-F Assertion) (other : Assertion) (f : Bool) → is_iff_node x ≡ false →
@@ -228,6 +241,10 @@ iff_by_size (Assertion-F.Iff first others) other f =
 iff_by_size x other f = begun_iff x other f refl
 
 pub equivalent_size : (a other : Assertion) (f : Bool) → assertion_size (equivalent a other) 0 f ≤ assertion_size a 0 true + suc (assertion_size other 1 f)
-equivalent_size = opened_assertion (λ a. (other : Assertion) (f : Bool) → assertion_size (equivalent a other) 0 f ≤ assertion_size a 0 true + suc (assertion_size other 1 f)) (λ x other f.
-    subst (λ (n : Assertion-F Assertion). assertion_size (iff_by n (roll-Assertion x) other) 0 f ≤ assertion_size (roll-Assertion x) 0 true + suc (assertion_size other 1 f))
+equivalent_size =
+    opened_assertion
+    (λ a. (other : Assertion) (f : Bool) → assertion_size (equivalent a other) 0 f ≤ assertion_size a 0 true + suc (assertion_size other 1 f))
+    (λ x other f.
+    subst (λ (n : Assertion-F Assertion). assertion_size (iff_by n (roll-Assertion x) other) 0 f ≤ assertion_size
+    (roll-Assertion x) 0 true + suc (assertion_size other 1 f))
     (sym (out-roll-Assertion x)) (iff_by_size x other f))

@@ -6,21 +6,22 @@ use Rattle.pale_text.specs.declared.token.Mark.{Mark}
 use Rattle.pale_text.specs.declared.token.Mark.TheVariants as mark
 use Rattle.pale_text.specs.declared.token.TokenKind.{TokenKind}
 use Rattle.pale_text.specs.declared.token.TokenKind.TheVariants as token
-use Rattle.pale_text.specs.declared.tree.names.Name.{Name}
-use Rattle.pale_text.specs.declared.tree.names.Path.{Path}
-use Rattle.pale_text.specs.declared.tree.names.Term.{Term}
-use Rattle.pale_text.specs.declared.tree.route.Route.{Route}
-use Rattle.pale_text.specs.declared.tree.assertion.Assertion.{Assertion, roll-Assertion}
-use Rattle.pale_text.specs.declared.tree.assertion.Assertion.TheVariants as assertion
-use Rattle.pale_text.specs.declared.tree.assertion.Assertion.TheOpen.{Assertion-F}
-use Rattle.pale_text.specs.declared.tree.assertion.Assertion.TheFolds.{fold-Assertion, fold-roll-Assertion, ind-Assertion, map-Assertion}
-use Rattle.pale_text.specs.declared.tree.assertion.Quantifier.{Quantifier}
-use Rattle.pale_text.specs.declared.tree.assertion.QuantifierKind.{QuantifierKind}
-use Rattle.pale_text.specs.declared.tree.assertion.QuantifierKind.TheVariants as quantifier
+use Rattle.pale_syntax.specs.declared.tree.names.Name.{Name}
+use Rattle.pale_syntax.specs.declared.tree.names.Path.{Path}
+use Rattle.pale_syntax.specs.declared.tree.names.Term.{Term}
+use Rattle.pale_syntax.specs.declared.tree.route.Route.{Route}
+use Rattle.pale_syntax.specs.declared.tree.assertion.Assertion.{Assertion, roll-Assertion}
+use Rattle.pale_syntax.specs.declared.tree.assertion.Assertion.TheVariants as assertion
+use Rattle.pale_syntax.specs.declared.tree.assertion.Assertion.TheOpen.{Assertion-F}
+use Rattle.pale_syntax.specs.declared.tree.assertion.Assertion.TheFolds.{fold-Assertion, fold-roll-Assertion, ind-Assertion, map-Assertion}
+use Rattle.pale_syntax.specs.declared.tree.assertion.Quantifier.{Quantifier}
+use Rattle.pale_syntax.specs.declared.tree.assertion.QuantifierKind.{QuantifierKind}
+use Rattle.pale_syntax.specs.declared.tree.assertion.QuantifierKind.TheVariants as quantifier
 use denote.Hole.Carrier.{roll}
 use Rattle.pale_print.specs.Tokens.{each_behind, separated, sign, word, ◌>>◌, name_tokens, path_tokens, term_tokens}
 use Rattle.pale_print.specs.RouteTokens.{route_tokens}
-use Rattle.pale_print.specs.AssertionTokens.{Followed, Operand, grouped, is_followed, operands, chained, quantifier_word, set_word, quantified, assertion_node, assertion_tokens}
+use Rattle.pale_print.specs.AssertionTokens.{Followed, Operand, grouped, is_followed, operands, chained, quantifier_word}
+use Rattle.pale_print.specs.AssertionTokens.{set_word, quantified, assertion_node, assertion_tokens}
 use Rattle.pale_print_laws.proofs.RouteSizes.{route_size, route_takes, Takes}
 use Rattle.pale_print_laws.proofs.NameSizes.{names_size, names_take, path_size, path_takes, term_size, term_takes}
 
@@ -108,7 +109,8 @@ Known = (a : Assertion) × Sized a
 abbrev trees : List Known → List Assertion
 trees others = map (λ (e : Known). e.0) others
 
-follows_alike : (others : List Known) (followed : Bool) → is_followed (map assertion_tokens (trees others)) followed ≡ goes_on (map assertion_size (trees others)) followed
+follows_alike : (others : List Known) (followed : Bool) →
+    is_followed (map assertion_tokens (trees others)) followed ≡ goes_on (map assertion_size (trees others)) followed
 follows_alike [] followed = refl
 follows_alike (one ∷ others) followed = refl
 
@@ -116,11 +118,13 @@ one_takes : (one : Known) (asked : ℕ) (others : List Known) (followed : Bool) 
     length (assertion_tokens one.0 asked (is_followed (map assertion_tokens (trees others)) followed) after) ≡
     assertion_size one.0 asked (goes_on (map assertion_size (trees others)) followed) + length after
 one_takes one asked others followed after =
-    subst (λ (b : Bool). length (assertion_tokens one.0 asked b after) ≡ assertion_size one.0 asked (goes_on (map assertion_size (trees others)) followed) + length after)
+    subst (λ (b : Bool). length (assertion_tokens one.0 asked b after) ≡ assertion_size one.0 asked
+    (goes_on (map assertion_size (trees others)) followed) + length after)
     (sym (follows_alike others followed)) ((one.1 asked (goes_on (map assertion_size (trees others)) followed)).takes after)
 
 operands_take : (m : Mark) (asked : ℕ) (others : List Known) (followed : Bool) (after : List TokenKind) →
-    length (operands m asked (map assertion_tokens (trees others)) followed after) ≡ operands_size asked (map assertion_size (trees others)) followed + length after
+    length (operands m asked (map assertion_tokens (trees others)) followed after) ≡ operands_size asked
+    (map assertion_size (trees others)) followed + length after
 operands_take m asked [] followed after = omega arith
 operands_take m asked (one ∷ others) followed after =
     let e = one_takes one asked others followed (operands m asked (map assertion_tokens (trees others)) followed after) in
@@ -163,7 +167,8 @@ set_takes : (sets : Bool) (after : List TokenKind) → length (set_word sets aft
 set_takes true after = omega arith
 set_takes false after = omega arith
 
-quantified_takes : (q : Quantifier) (inner : Known) (followed : Bool) → Takes (quantified q (assertion_tokens inner.0) followed) (quantified_size q (assertion_size inner.0) followed)
+quantified_takes : (q : Quantifier) (inner : Known) (followed : Bool) →
+    Takes (quantified q (assertion_tokens inner.0) followed) (quantified_size q (assertion_size inner.0) followed)
 quantified_takes q inner followed = record {
   takes = λ after.
       let body = assertion_tokens inner.0 0 followed after in
@@ -239,7 +244,9 @@ tokens_at x = fold-roll-Assertion Operand assertion_node x
 pub assertion_takes : (a : Assertion) (asked : ℕ) (followed : Bool) → Takes (assertion_tokens a asked followed) (assertion_size a asked followed)
 assertion_takes = ind-Assertion Sized (λ x y is asked followed.
     subst (λ (t : Operand). Takes (t asked followed) (assertion_size (roll-Assertion x) asked followed)) (sym (tokens_at x))
-    (subst (λ (s : OperandSize). Takes (assertion_node (map-Assertion Assertion Operand assertion_tokens x) asked followed) (s asked followed)) (sym (sized_at x))
+    (subst
+    (λ (s : OperandSize). Takes (assertion_node (map-Assertion Assertion Operand assertion_tokens x) asked followed) (s asked followed))
+    (sym (sized_at x))
     (subst (λ (z : Assertion-F Assertion). Takes (assertion_node (map-Assertion Assertion Operand assertion_tokens z) asked followed)
     (size_node (map-Assertion Assertion OperandSize assertion_size z) asked followed)) is (node_takes y asked followed))))
 
@@ -265,7 +272,8 @@ pub size_same : (t : Term) (place : Pos) (u : Term) (asked : ℕ) (f : Bool) →
 unfolding roll-Assertion roll
 size_same t place u asked f = form (Assertion-F.Same t place u) asked f
 
-pub size_differ : (t : Term) (place : Pos) (u : Term) (asked : ℕ) (f : Bool) → assertion_size (assertion.Differ t place u) asked f ≡ term_size t + suc (term_size u)
+pub size_differ : (t : Term) (place : Pos) (u : Term) (asked : ℕ) (f : Bool) →
+    assertion_size (assertion.Differ t place u) asked f ≡ term_size t + suc (term_size u)
 unfolding roll-Assertion roll
 size_differ t place u asked f = form (Assertion-F.Differ t place u) asked f
 
@@ -294,11 +302,13 @@ pub size_not : (place : Pos) (a : Assertion) (asked : ℕ) (f : Bool) → assert
 unfolding roll-Assertion roll
 size_not place a asked f = form (Assertion-F.Not place a) asked f
 
-pub size_imp : (a : Assertion) (place : Pos) (b : Assertion) (f : Bool) → assertion_size (assertion.Imp a place b) 1 f ≡ assertion_size a 2 true + suc (assertion_size b 1 f)
+pub size_imp : (a : Assertion) (place : Pos) (b : Assertion) (f : Bool) →
+    assertion_size (assertion.Imp a place b) 1 f ≡ assertion_size a 2 true + suc (assertion_size b 1 f)
 unfolding roll-Assertion roll
 size_imp a place b f = form (Assertion-F.Imp a place b) 1 f
 
-pub size_quantified : (q : Quantifier) (a : Assertion) (asked : ℕ) → assertion_size (assertion.Quantified q a) asked false ≡ quantified_size q (assertion_size a) false
+pub size_quantified : (q : Quantifier) (a : Assertion) (asked : ℕ) →
+    assertion_size (assertion.Quantified q a) asked false ≡ quantified_size q (assertion_size a) false
 unfolding roll-Assertion roll
 size_quantified q a asked = form (Assertion-F.Quantified q a) asked false
 

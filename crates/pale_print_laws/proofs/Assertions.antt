@@ -3,25 +3,25 @@ use Rattle.std.proofs.Common.{◌≡◌, ℕ, ◌+◌, ◌≤◌, List, [], ◌�
 use Rattle.std.specs.Prelude.{codes}
 use Rattle.ll1_reader.specs.declared.symbol.Symbol.TheVariants.{Read, Once, Maybe, Many}
 use Rattle.ll1_reader.specs.Readings.{Row}
-use Rattle.pale_text.specs.declared.grammar.act.AtomAct.TheVariants as atoms
-use Rattle.pale_text.specs.declared.grammar.act.WordAct.TheVariants as words
-use Rattle.pale_text.specs.declared.grammar.kind.ProgramKind.TheVariants as kind
-use Rattle.pale_text.specs.declared.grammar.part.ProgramPart.{ProgramPart}
-use Rattle.pale_text.specs.declared.grammar.part.ProgramPart.TheVariants as part
+use Rattle.pale_syntax.specs.declared.grammar.act.AtomAct.TheVariants as atoms
+use Rattle.pale_syntax.specs.declared.grammar.act.WordAct.TheVariants as words
+use Rattle.pale_syntax.specs.declared.grammar.kind.ProgramKind.TheVariants as kind
+use Rattle.pale_syntax.specs.declared.grammar.part.ProgramPart.{ProgramPart}
+use Rattle.pale_syntax.specs.declared.grammar.part.ProgramPart.TheVariants as part
 use Rattle.pale_text.specs.declared.token.Mark.TheVariants as mark
 use Rattle.pale_text.specs.declared.token.TokenKind.{TokenKind}
 use Rattle.pale_text.specs.declared.token.TokenKind.TheVariants as token
-use Rattle.pale_text.specs.declared.tree.names.Name.{Name}
-use Rattle.pale_text.specs.declared.tree.names.Path.{Path}
-use Rattle.pale_text.specs.declared.tree.names.Term.{Term}
-use Rattle.pale_text.specs.declared.tree.names.Term.TheVariants as term
-use Rattle.pale_text.specs.declared.tree.route.Route.{Route}
-use Rattle.pale_text.specs.declared.tree.assertion.Assertion.{Assertion}
-use Rattle.pale_text.specs.declared.tree.assertion.Assertion.TheVariants as assertion
-use Rattle.pale_text.specs.MakingParts.{Parts}
-use Rattle.pale_text.specs.MakingWords.{extended}
-use Rattle.pale_text.specs.MakingAssertions.{path_alone}
-use Rattle.pale_text.specs.ProgramGrammar.{ProgramSymbol, program_grammar, rows_of, reads, push_name, mark_place, atom as makes, word as says}
+use Rattle.pale_syntax.specs.declared.tree.names.Name.{Name}
+use Rattle.pale_syntax.specs.declared.tree.names.Path.{Path}
+use Rattle.pale_syntax.specs.declared.tree.names.Term.{Term}
+use Rattle.pale_syntax.specs.declared.tree.names.Term.TheVariants as term
+use Rattle.pale_syntax.specs.declared.tree.route.Route.{Route}
+use Rattle.pale_syntax.specs.declared.tree.assertion.Assertion.{Assertion}
+use Rattle.pale_syntax.specs.declared.tree.assertion.Assertion.TheVariants as assertion
+use Rattle.pale_syntax.specs.MakingParts.{Parts}
+use Rattle.pale_syntax.specs.MakingWords.{extended}
+use Rattle.pale_syntax.specs.MakingAssertions.{path_alone}
+use Rattle.pale_syntax.specs.ProgramGrammar.{ProgramSymbol, program_grammar, rows_of, reads, push_name, mark_place, atom as makes, word as says}
 use Rattle.pale_parse.specs.Tables.{program_rules, choices_of}
 use Rattle.pale_parse.specs.Hints.{program_hints, number_of, mark_number, starts_of}
 use Rattle.pale_print.specs.Placeless.{nowhere, placeless_name, placeless_path, placeless_term, placeless_route}
@@ -31,7 +31,8 @@ use Rattle.pale_print_laws.specs.CanonicalNames.{IsFree, AreFree, AreFreePaths, 
 use Rattle.pale_print_laws.specs.CanonicalRoutes.{IsCanonicalRoute, whole as whole_route}
 use Rattle.pale_print_laws.specs.CanonicalAssertions.{AssertionPlace, whole, implication, disjunct, conjunct, operand}
 use Rattle.pale_print_laws.proofs.AssertionShapes.{path-alone}
-use Rattle.pale_print_laws.proofs.Framework.{ProgramStack, Stops, Aim, Ends, room_now, mark, mark_with, word_with, does, row_ends, goes, takes, leaves, goes_on, stops_there}
+use Rattle.pale_print_laws.proofs.Framework.{ProgramStack, Stops, Aim, Ends, room_now, mark, mark_with, word_with, does}
+use Rattle.pale_print_laws.proofs.Framework.{row_ends, goes, takes, leaves, goes_on, stops_there}
 use Rattle.pale_print_laws.proofs.Stopping.{at_mark, at_word}
 use Rattle.pale_print_laws.proofs.Terms.{path_read, term_read}
 use Rattle.pale_print_laws.proofs.Routes.{at_greater, route_read}
@@ -52,7 +53,9 @@ StopsAt operand after = StopsOperand after
 StopsAt conjunct after = Stops part.NextNegation after × StopsOperand after
 StopsAt disjunct after = Stops part.NextAndChain after × Stops part.NextNegation after × StopsOperand after
 StopsAt implication after = Stops part.Implied after × Stops part.NextAndChain after × Stops part.NextNegation after × StopsOperand after
-StopsAt whole after = Stops part.NextImplication after × Stops part.Implied after × Stops part.NextAndChain after × Stops part.NextNegation after × StopsOperand after
+StopsAt whole after =
+    Stops part.NextImplication after × Stops part.Implied after × Stops part.NextAndChain after × Stops part.NextNegation after
+    × StopsOperand after
 
 pub operand_stops : (p : AssertionPlace) {after : List TokenKind} → StopsAt p after → StopsAt operand after
 operand_stops whole s = s.4
@@ -64,33 +67,42 @@ operand_stops operand s = s
 -- ---- paths alone
 
 -- one more step of the path that is an assertion alone
-stepped : {aim : Aim} {s : ProgramStack} {tokens : List TokenKind} {parts : Parts} (p : Path) (f : Name) → Ends aim s tokens (record parts { assertions = assertion.Truth (extended p f) ∷ parts.assertions }) →
+stepped : {aim : Aim} {s : ProgramStack} {tokens : List TokenKind} {parts : Parts} (p : Path) (f : Name) →
+    Ends aim s tokens (record parts { assertions = assertion.Truth (extended p f) ∷ parts.assertions }) →
     Ends aim s tokens (record parts { assertions = assertion.Truth (extended (path_alone (assertion.Truth p)) f) ∷ parts.assertions })
 stepped {aim} {s} {tokens} {parts} p f next =
     subst (λ (q : Path). Ends aim s tokens (record parts { assertions = assertion.Truth (extended q f) ∷ parts.assertions })) (sym (path-alone p)) next
 
 -- the path that was an assertion alone
-back : {aim : Aim} {s : ProgramStack} {tokens : List TokenKind} {parts : Parts} (p : Path) → Ends aim s tokens (record parts { terms = term.Path p ∷ parts.terms }) →
+back : {aim : Aim} {s : ProgramStack} {tokens : List TokenKind} {parts : Parts} (p : Path) →
+    Ends aim s tokens (record parts { terms = term.Path p ∷ parts.terms }) →
     Ends aim s tokens (record parts { terms = term.Path (path_alone (assertion.Truth p)) ∷ parts.terms })
 back {aim} {s} {tokens} {parts} p next = subst (λ (q : Path). Ends aim s tokens (record parts { terms = term.Path q ∷ parts.terms })) (sym (path-alone p)) next
 
-alone_steps : {aim : Aim} {row : List ProgramSymbol} {d : ℕ} {below : ProgramStack} {after : List TokenKind} {parts : Parts} (base : Name) (done fields : List Name) →
+alone_steps : {aim : Aim} {row : List ProgramSymbol} {d : ℕ} {below : ProgramStack} {after : List TokenKind} {parts : Parts}
+    (base : Name) (done fields : List Name) →
     AreFree fields → d ≤ aim.top → Stops part.PathAloneStep after →
-    Ends aim (Row row d below) after (record parts { assertions = assertion.Truth (record { base = base; fields = done ++ map placeless_name fields }) ∷ parts.assertions }) →
+    Ends aim (Row row d below) after
+    (record parts { assertions = assertion.Truth (record { base = base; fields = done ++ map placeless_name fields }) ∷ parts.assertions })
+    →
     Ends aim (Row (Many part.PathAloneStep ∷ row) d below) (each_behind mark.Dot name_tokens fields after)
     (record parts { assertions = assertion.Truth (record { base = base; fields = done }) ∷ parts.assertions })
 unfolding program_grammar rows_of
 alone_steps {aim} {row} {d} {below} {after} {parts} base done [] free low stops next =
     stops_there stops
-    (subst (λ l. Ends aim (Row row d below) after (record parts { assertions = assertion.Truth (record { base = base; fields = l }) ∷ parts.assertions })) (append-nil done) next)
+    (subst (λ l. Ends aim (Row row d below) after
+    (record parts { assertions = assertion.Truth (record { base = base; fields = l }) ∷ parts.assertions })) (append-nil
+    done) next)
 alone_steps {aim} {row} {d} {below} {after} {parts} base done (f ∷ fields) free low stops next =
     goes_on (reads mark.Dot ∷ Read kind.Name ∷ push_name ∷ makes atoms.ExtendPathAlone ∷ []) (inl refl)
-    (mark low (word_with (is_name free.0) low (λ n. refl) (does (λ n. refl) (row_ends (stepped {parts = parts} (record { base = base; fields = done }) (placeless_name f)
+    (mark low (word_with (is_name free.0) low (λ n. refl)
+    (does (λ n. refl) (row_ends (stepped {parts = parts} (record { base = base; fields = done }) (placeless_name f)
     (alone_steps {parts = parts} base (done ++ placeless_name f ∷ []) fields free.1 low stops
     (subst (λ l. Ends aim (Row row d below) after (record parts { assertions = assertion.Truth (record { base = base; fields = l }) ∷ parts.assertions }))
     (sym (append_assoc done (placeless_name f ∷ []) (map placeless_name fields))) next)))))))
 
-pub path_alone_read : {aim : Aim} {d : ℕ} {after : List TokenKind} {parts : Parts} (base : Name) (fields : List Name) → IsFree base → AreFree fields → d ≤ aim.top →
+pub path_alone_read : {aim : Aim} {d : ℕ} {after : List TokenKind} {parts : Parts} (base : Name) (fields : List Name) →
+    IsFree base → AreFree fields → d ≤ aim.top →
     StopsAt operand after → ReadsAssertion aim d part.Primary (path_tokens (record { base = base; fields = fields }) after) after parts
     (assertion.Truth (placeless_path (record { base = base; fields = fields })))
 unfolding program_grammar rows_of
@@ -102,7 +114,8 @@ path_alone_read {parts = parts} base (f ∷ fields) free free_too low stops = λ
     (word_with (is_name free) low (λ n. refl) (does (λ n. refl) (does (λ n. refl)
     (takes (Once part.PathAloneStep ∷ Many part.PathAloneStep ∷ Maybe part.NameRelation ∷ []) (inr (inl refl))
     (goes (reads mark.Dot ∷ Read kind.Name ∷ push_name ∷ makes atoms.ExtendPathAlone ∷ []) (inl refl)
-    (mark low (word_with (is_name free_too.0) low (λ n. refl) (does (λ n. refl) (row_ends (stepped {parts = parts} (record { base = placeless_name base; fields = [] }) (placeless_name f)
+    (mark low (word_with (is_name free_too.0) low (λ n. refl)
+    (does (λ n. refl) (row_ends (stepped {parts = parts} (record { base = placeless_name base; fields = [] }) (placeless_name f)
     (alone_steps {parts = parts} (placeless_name base) (placeless_name f ∷ []) fields free_too.1 low stops.1
     (leaves stops.2 (row_ends (row_ends next))))))))))))))
 
@@ -115,7 +128,8 @@ ReadsRelation aim d tokens after t parts a =
     Ends aim (Row (Once part.Relation ∷ row) d below) tokens (record parts { terms = t ∷ parts.terms })
 
 -- a term and its relation
-pub relation_read : {aim : Aim} {d : ℕ} {tokens after : List TokenKind} {parts : Parts} {a : Assertion} (t : Term) → IsFreeTerm t → d ≤ aim.top → Stops part.PathAloneStep tokens →
+pub relation_read : {aim : Aim} {d : ℕ} {tokens after : List TokenKind} {parts : Parts} {a : Assertion} (t : Term) →
+    IsFreeTerm t → d ≤ aim.top → Stops part.PathAloneStep tokens →
     ReadsRelation aim d tokens after (placeless_term t) parts a → ReadsAssertion aim d part.Primary (term_tokens t tokens) after parts a
 unfolding program_grammar rows_of
 relation_read (term.Null place) free low stops relation = λ row below next.
@@ -131,16 +145,19 @@ relation_read {aim} {d} {tokens} {after} {parts} {a} (term.Path p) free low stop
         (word_with (is_name is) low (λ n. refl) (does (λ n. refl) (does (λ n. refl)
         (takes (Once part.NameRelation ∷ []) (inr (inr (inl refl)))
         (goes (makes atoms.TakePathBack ∷ Once part.Relation ∷ []) (inl refl)
-        (does (λ n. refl) (back {parts = parts} (record { base = placeless_name base; fields = [] }) (relation [] _ (row_ends (row_ends (row_ends next)))))))))))
+        (does (λ n. refl)
+        (back {parts = parts} (record { base = placeless_name base; fields = [] }) (relation [] _ (row_ends (row_ends (row_ends next)))))))))))
     by base (f ∷ fields) is is_too relation = λ row below next.
         goes (Read kind.Name ∷ push_name ∷ says words.StartPath ∷ makes atoms.PathAlone ∷ Maybe part.NameRest ∷ []) (inr (inr (inr (inr (inl refl)))))
         (word_with (is_name is) low (λ n. refl) (does (λ n. refl) (does (λ n. refl)
         (takes (Once part.PathAloneStep ∷ Many part.PathAloneStep ∷ Maybe part.NameRelation ∷ []) (inr (inl refl))
         (goes (reads mark.Dot ∷ Read kind.Name ∷ push_name ∷ makes atoms.ExtendPathAlone ∷ []) (inl refl)
-        (mark low (word_with (is_name is_too.0) low (λ n. refl) (does (λ n. refl) (row_ends (stepped {parts = parts} (record { base = placeless_name base; fields = [] }) (placeless_name f)
+        (mark low (word_with (is_name is_too.0) low (λ n. refl)
+        (does (λ n. refl) (row_ends (stepped {parts = parts} (record { base = placeless_name base; fields = [] }) (placeless_name f)
         (alone_steps {parts = parts} (placeless_name base) (placeless_name f ∷ []) fields is_too.1 low stops
         (takes (makes atoms.TakePathBack ∷ Once part.Relation ∷ []) (inl refl)
-        (does (λ n. refl) (back {parts = parts} (placeless_path (record { base = base; fields = f ∷ fields })) (relation [] _ (row_ends (row_ends (row_ends next))))))))))))))))))
+        (does (λ n. refl) (back {parts = parts} (placeless_path (record { base = base; fields = f ∷ fields }))
+        (relation [] _ (row_ends (row_ends (row_ends next))))))))))))))))))
 
 pub at_equals : (after : List TokenKind) → Stops part.PathAloneStep (token.Mark mark.Equals ∷ after)
 unfolding program_rules program_hints choices_of starts_of number_of mark_number
@@ -194,9 +211,11 @@ subset_read set free low = λ row below next.
     goes (Read kind.Sub ∷ mark_place ∷ Read kind.Name ∷ push_name ∷ makes atoms.MakeSubset ∷ []) (inr (inr (inr (inl refl))))
     (word_with is_sub low (λ n. refl) (word_with (is_name free) low (λ n. refl) (does (λ n. refl) (row_ends next))))
 
-pub walk_read : {aim : Aim} {d room : ℕ} {after : List TokenKind} {t : Term} {parts : Parts} {r : Route} (u : Term) → IsCanonicalRoute whole_route room r → IsFreeTerm u →
+pub walk_read : {aim : Aim} {d room : ℕ} {after : List TokenKind} {t : Term} {parts : Parts} {r : Route} (u : Term) →
+    IsCanonicalRoute whole_route room r → IsFreeTerm u →
     d + room ≤ aim.top → StopsAt operand after →
-    ReadsRelation aim d (token.Mark mark.Less ∷ route_tokens r 0 (token.Mark mark.Greater ∷ term_tokens u after)) after t parts (assertion.Walk t nowhere (placeless_route r) (placeless_term u))
+    ReadsRelation aim d (token.Mark mark.Less ∷ route_tokens r 0 (token.Mark mark.Greater ∷ term_tokens u after)) after t
+    parts (assertion.Walk t nowhere (placeless_route r) (placeless_term u))
 unfolding program_grammar rows_of
 walk_read {aim} {d} {room} u c free low stops = λ row below next.
     goes (reads mark.Less ∷ mark_place ∷ Once part.Route ∷ reads mark.Greater ∷ Once part.Term ∷ makes atoms.MakeWalk ∷ []) (inr (inr (inr (inr (inl refl)))))
@@ -236,7 +255,8 @@ path_ends (p ∷ paths) after = path_at_comma _
 more_used : {aim : Aim} {row : List ProgramSymbol} {d : ℕ} {below : ProgramStack} {after : List TokenKind} (parts : Parts) (done paths : List Path) →
     AreFreePaths paths → d ≤ aim.top →
     Ends aim (Row row d below) (token.Mark mark.RightParen ∷ after) (record parts { used = done ++ map placeless_path paths }) →
-    Ends aim (Row (Many part.NextUsedPath ∷ row) d below) (each_behind mark.Comma path_tokens paths (token.Mark mark.RightParen ∷ after)) (record parts { used = done })
+    Ends aim (Row (Many part.NextUsedPath ∷ row) d below)
+    (each_behind mark.Comma path_tokens paths (token.Mark mark.RightParen ∷ after)) (record parts { used = done })
 unfolding program_grammar rows_of
 more_used {aim} {row} {d} {below} {after} parts done [] free low next =
     stops_there (next_at_paren after)
@@ -258,13 +278,17 @@ used_paths {aim} {row} {d} {below} {after} {parts} [] free low none next =
 used_paths {aim} {row} {d} {below} {after} {parts} (p ∷ paths) free low none next =
     takes (Once part.Path ∷ makes atoms.AddUsedPath ∷ Many part.NextUsedPath ∷ []) (inl refl)
     (path_read p free.0 low (path_ends paths after) (does (λ n. refl)
-    (subst (λ l. Ends aim (Row (Many part.NextUsedPath ∷ []) d (Row row d below)) (each_behind mark.Comma path_tokens paths (token.Mark mark.RightParen ∷ after))
+    (subst (λ l. Ends aim (Row (Many part.NextUsedPath ∷ []) d (Row row d below))
+    (each_behind mark.Comma path_tokens paths (token.Mark mark.RightParen ∷ after))
     (record parts { used = l ++ placeless_path p ∷ [] })) (sym none)
     (more_used parts (placeless_path p ∷ []) paths free.1 low (row_ends next)))))
 
-pub use_read : {aim : Aim} {d : ℕ} {after : List TokenKind} {parts : Parts} (predicate : Name) (arguments : List Path) → IsFree predicate → AreFreePaths arguments →
+pub use_read : {aim : Aim} {d : ℕ} {after : List TokenKind} {parts : Parts} (predicate : Name) (arguments : List Path) →
+    IsFree predicate → AreFreePaths arguments →
     d ≤ aim.top → parts.used ≡ [] →
-    ReadsAssertion aim d part.Primary (name_tokens predicate (token.Mark mark.LeftParen ∷ separated mark.Comma path_tokens arguments (token.Mark mark.RightParen ∷ after))) after parts
+    ReadsAssertion aim d part.Primary
+    (name_tokens predicate (token.Mark mark.LeftParen ∷ separated mark.Comma path_tokens arguments (token.Mark mark.RightParen ∷ after)))
+    after parts
     (assertion.Use (placeless_name predicate) (map placeless_path arguments))
 unfolding program_grammar rows_of
 use_read {aim} {d} {after} {parts} predicate arguments free free_too low none = λ row below next.
@@ -272,5 +296,11 @@ use_read {aim} {d} {after} {parts} predicate arguments free free_too low none = 
     (word_with (is_name free) low (λ n. refl) (does (λ n. refl) (does (λ n. refl)
     (takes (reads mark.LeftParen ∷ Maybe part.UsedPaths ∷ reads mark.RightParen ∷ makes atoms.MakeUse ∷ []) (inl refl)
     (mark low (used_paths arguments free_too low none (mark low (does (λ n. refl) (row_ends (row_ends
-    (subst (λ (q : Path). Ends aim (Row row d below) after (record parts { assertions = assertion.Use q.base (map placeless_path arguments) ∷ parts.assertions; used = [] })) (sym (path-alone (record { base = placeless_name predicate; fields = [] })))
-    (subst (λ l. Ends aim (Row row d below) after (record parts { assertions = assertion.Use (placeless_name predicate) (map placeless_path arguments) ∷ parts.assertions; used = l })) none next))))))))))))
+    (subst (λ (q : Path). Ends aim (Row row d below) after
+    (record parts { assertions = assertion.Use q.base (map placeless_path arguments) ∷ parts.assertions; used = [] })) (sym
+    (path-alone (record { base = placeless_name predicate; fields = [] })))
+    (subst (λ l. Ends aim (Row row d below) after (record parts {
+      assertions = assertion.Use (placeless_name predicate)
+          (map placeless_path arguments) ∷ parts.assertions;
+      used = l;
+    })) none next))))))))))))

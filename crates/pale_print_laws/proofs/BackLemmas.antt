@@ -3,12 +3,12 @@ use Rattle.std.proofs.Common.{◌≡◌, ℕ, List, [], ◌∷◌, None, map, re
 use Rattle.ll1_reader.specs.Answers.{event_of}
 use Rattle.ll1_reader.specs.Readings.{IsReading}
 use Rattle.pale_text.specs.declared.token.Token.{Token}
-use Rattle.pale_text.specs.declared.tree.declaration.Program.{Program}
-use Rattle.pale_text.specs.Making.{run, program_of}
-use Rattle.pale_text.specs.MakingParts.{Parts, nothing}
-use Rattle.pale_text.specs.ProgramGrammar.{program_grammar}
-use Rattle.pale_text.specs.ProgramReading.{program_rows}
-use Rattle.pale_text.specs.ProgramWords.{kind_of, kinds_in}
+use Rattle.pale_syntax.specs.declared.tree.declaration.Program.{Program}
+use Rattle.pale_syntax.specs.Making.{run, program_of}
+use Rattle.pale_syntax.specs.MakingParts.{Parts, nothing}
+use Rattle.pale_syntax.specs.ProgramGrammar.{program_grammar}
+use Rattle.pale_syntax.specs.ProgramReading.{program_rows}
+use Rattle.pale_syntax.specs.ProgramWords.{kind_of, kinds_in}
 use Rattle.pale_text.specs.Spelled.{kinds_of, IsReadAs}
 use Rattle.pale_text.proofs.SpelledLemmas.{spelled_tokens_are_read}
 use Rattle.pale_print.specs.DeclarationTokens.{program_tokens}
@@ -34,7 +34,9 @@ pub read_back : (limit : ℕ) (tree : Program) → IsCanonical limit tree → Is
 unfolding spelling placeless program_grammar
 read_back limit tree is =
     let found = program_read limit limit tree is (omega arith) in
-    let again : IsReadAs (program_tokens tree) (spelled (program_tokens tree)) = spelled_tokens_are_read (program_tokens tree) (spelled (program_tokens tree)) (spelled_apart (program_tokens tree) found.spelled) in
+    let again : IsReadAs (program_tokens tree) (spelled (program_tokens tree)) =
+    spelled_tokens_are_read (program_tokens tree) (spelled (program_tokens tree))
+    (spelled_apart (program_tokens tree) found.spelled) in
     let known : kinds (program_tokens tree) ≡ kinds_in again.list.tokens = ap kinds (sym again.same) ∙ kinds_known again.list.tokens in
     let alike : plain (program_tokens tree) ≡ map placeless_token again.list.tokens = ap plain (sym again.same) ∙ plain_placeless again.list.tokens in
     let made = run_placeless (map event_of found.steps) None again.list.tokens nothing in

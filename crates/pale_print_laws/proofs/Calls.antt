@@ -4,21 +4,21 @@ use Rattle.std.specs.Prelude.{codes}
 use Rattle.std.specs.Option.{option_map}
 use Rattle.ll1_reader.specs.declared.symbol.Symbol.TheVariants.{Read, Once, Maybe, Many}
 use Rattle.ll1_reader.specs.Readings.{Row}
-use Rattle.pale_text.specs.declared.grammar.act.CallAct.TheVariants as calls
-use Rattle.pale_text.specs.declared.grammar.kind.ProgramKind.TheVariants as kind
-use Rattle.pale_text.specs.declared.grammar.part.ProgramPart.TheVariants as part
+use Rattle.pale_syntax.specs.declared.grammar.act.CallAct.TheVariants as calls
+use Rattle.pale_syntax.specs.declared.grammar.kind.ProgramKind.TheVariants as kind
+use Rattle.pale_syntax.specs.declared.grammar.part.ProgramPart.TheVariants as part
 use Rattle.pale_text.specs.declared.token.Mark.TheVariants as mark
 use Rattle.pale_text.specs.declared.token.TokenKind.{TokenKind}
 use Rattle.pale_text.specs.declared.token.TokenKind.TheVariants as token
-use Rattle.pale_text.specs.declared.tree.names.Name.{Name}
-use Rattle.pale_text.specs.declared.tree.assertion.Bracketed.{Bracketed}
-use Rattle.pale_text.specs.declared.tree.statement.Argument.{Argument}
-use Rattle.pale_text.specs.declared.tree.statement.Argument.TheVariants as argument
-use Rattle.pale_text.specs.declared.tree.statement.Call.{Call}
-use Rattle.pale_text.specs.declared.tree.statement.Statement.TheVariants as statement
-use Rattle.pale_text.specs.declared.tree.statement.Statement.{Statement}
-use Rattle.pale_text.specs.MakingParts.{Parts}
-use Rattle.pale_text.specs.ProgramGrammar.{ProgramSymbol, program_grammar, rows_of, reads, push_name, mark_place, call as makes}
+use Rattle.pale_syntax.specs.declared.tree.names.Name.{Name}
+use Rattle.pale_syntax.specs.declared.tree.assertion.Bracketed.{Bracketed}
+use Rattle.pale_syntax.specs.declared.tree.statement.Argument.{Argument}
+use Rattle.pale_syntax.specs.declared.tree.statement.Argument.TheVariants as argument
+use Rattle.pale_syntax.specs.declared.tree.statement.Call.{Call}
+use Rattle.pale_syntax.specs.declared.tree.statement.Statement.TheVariants as statement
+use Rattle.pale_syntax.specs.declared.tree.statement.Statement.{Statement}
+use Rattle.pale_syntax.specs.MakingParts.{Parts}
+use Rattle.pale_syntax.specs.ProgramGrammar.{ProgramSymbol, program_grammar, rows_of, reads, push_name, mark_place, call as makes}
 use Rattle.pale_parse.specs.Tables.{program_rules, choices_of}
 use Rattle.pale_parse.specs.Hints.{program_hints, number_of, mark_number, starts_of}
 use Rattle.pale_print.specs.Placeless.{nowhere, placeless_name, placeless_bracketed, placeless_argument, placeless_call}
@@ -26,14 +26,17 @@ use Rattle.pale_print.specs.Tokens.{each_behind, separated, name_tokens}
 use Rattle.pale_print.specs.StatementTokens.{argument_tokens, logic_argument_tokens, clause_tokens, call_result_tokens, call_tokens}
 use Rattle.pale_print_laws.specs.CanonicalNames.{IsFree, AreFree}
 use Rattle.pale_print_laws.specs.CanonicalStatements.{IsFreeArgument, AreFreeArguments, IsCanonicalClause, IsCanonicalCall}
-use Rattle.pale_print_laws.proofs.Framework.{ProgramStack, Stops, Aim, Ends, room_now, mark, word, word_with, does, row_ends, goes, takes, leaves, goes_on, stops_there}
+use Rattle.pale_print_laws.proofs.Framework.{ProgramStack, Stops, Aim, Ends, room_now, mark, word, word_with, does, row_ends}
+use Rattle.pale_print_laws.proofs.Framework.{goes, takes, leaves, goes_on, stops_there}
 use Rattle.pale_print_laws.proofs.Stopping.{at_mark}
 use Rattle.pale_print_laws.proofs.Connectives.{bracketed_read}
 use Rattle.pale_print_laws.proofs.Words.{is_name, is_null, is_true, is_false, is_call, is_keep}
 
 -- ---- arguments
 
-argument_read : {aim : Aim} {row : List ProgramSymbol} {d : ℕ} {below : ProgramStack} {after : List TokenKind} (parts : Parts) (done : List Argument) (a : Argument) → IsFreeArgument a → d ≤ aim.top →
+argument_read : {aim : Aim} {row : List ProgramSymbol} {d : ℕ} {below : ProgramStack} {after : List TokenKind}
+    (parts : Parts) (done : List Argument) (a : Argument) →
+    IsFreeArgument a → d ≤ aim.top →
     Ends aim (Row row d below) after (record parts { arguments = done ++ placeless_argument a ∷ [] }) →
     Ends aim (Row (Once part.Argument ∷ row) d below) (argument_tokens a after) (record parts { arguments = done })
 unfolding program_grammar rows_of
@@ -46,7 +49,9 @@ argument_read parts done (argument.Truth place true) free low next =
 argument_read parts done (argument.Truth place false) free low next =
     goes (Read kind.False ∷ makes calls.FalseArgument ∷ []) (inr (inr (inr (inl refl)))) (word_with is_false low (λ n. refl) (row_ends next))
 
-more_arguments : {aim : Aim} {row : List ProgramSymbol} {d : ℕ} {below : ProgramStack} {after : List TokenKind} (parts : Parts) (done arguments : List Argument) → AreFreeArguments arguments → d ≤ aim.top →
+more_arguments : {aim : Aim} {row : List ProgramSymbol} {d : ℕ} {below : ProgramStack} {after : List TokenKind}
+    (parts : Parts) (done arguments : List Argument) →
+    AreFreeArguments arguments → d ≤ aim.top →
     Stops part.NextArgument after →
     Ends aim (Row row d below) after (record parts { arguments = done ++ map placeless_argument arguments }) →
     Ends aim (Row (Many part.NextArgument ∷ row) d below) (each_behind mark.Comma argument_tokens arguments after) (record parts { arguments = done })
@@ -96,9 +101,14 @@ argued_at_logics : (logics : List Argument) (after : List TokenKind) → Stops p
 argued_at_logics [] after = argued_at_paren after
 argued_at_logics (a ∷ logics) after = argued_at_semicolon _
 
-argued_read : {aim : Aim} {row : List ProgramSymbol} {d : ℕ} {below : ProgramStack} (after : List TokenKind) (parts : Parts) (arguments logics : List Argument) → AreFreeArguments arguments → d ≤ aim.top →
-    Ends aim (Row row d below) (logic_argument_tokens logics (token.Mark mark.RightParen ∷ after)) (record parts { arguments = map placeless_argument arguments }) →
-    Ends aim (Row (Maybe part.Argued ∷ row) d below) (separated mark.Comma argument_tokens arguments (logic_argument_tokens logics (token.Mark mark.RightParen ∷ after))) (record parts { arguments = [] })
+argued_read : {aim : Aim} {row : List ProgramSymbol} {d : ℕ} {below : ProgramStack} (after : List TokenKind) (parts : Parts)
+    (arguments logics : List Argument) →
+    AreFreeArguments arguments → d ≤ aim.top →
+    Ends aim (Row row d below) (logic_argument_tokens logics (token.Mark mark.RightParen ∷ after))
+    (record parts { arguments = map placeless_argument arguments }) →
+    Ends aim (Row (Maybe part.Argued ∷ row) d below)
+    (separated mark.Comma argument_tokens arguments (logic_argument_tokens logics (token.Mark mark.RightParen ∷ after)))
+    (record parts { arguments = [] })
 unfolding program_grammar rows_of
 argued_read after parts [] logics free low next = leaves (argued_at_logics logics after) next
 argued_read after parts (a ∷ arguments) logics free low next =
@@ -106,9 +116,12 @@ argued_read after parts (a ∷ arguments) logics free low next =
     (argument_read parts [] a free.0 low
     (more_arguments parts (placeless_argument a ∷ []) arguments free.1 low (next_at_logics logics after) (row_ends next)))
 
-logics_read : {aim : Aim} {row : List ProgramSymbol} {d : ℕ} {below : ProgramStack} {after : List TokenKind} (parts : Parts) (logics : List Argument) → AreFreeArguments logics → d ≤ aim.top →
+logics_read : {aim : Aim} {row : List ProgramSymbol} {d : ℕ} {below : ProgramStack} {after : List TokenKind} (parts : Parts)
+    (logics : List Argument) →
+    AreFreeArguments logics → d ≤ aim.top →
     Ends aim (Row row d below) (token.Mark mark.RightParen ∷ after) (record parts { arguments = map placeless_argument logics }) →
-    Ends aim (Row (Maybe part.LogicArguments ∷ row) d below) (logic_argument_tokens logics (token.Mark mark.RightParen ∷ after)) (record parts { arguments = [] })
+    Ends aim (Row (Maybe part.LogicArguments ∷ row) d below)
+    (logic_argument_tokens logics (token.Mark mark.RightParen ∷ after)) (record parts { arguments = [] })
 unfolding program_grammar rows_of
 logics_read {after = after} parts [] free low next = leaves (logics_at_paren after) next
 logics_read {after = after} parts (a ∷ logics) free low next =
@@ -116,7 +129,9 @@ logics_read {after = after} parts (a ∷ logics) free low next =
     (mark low (argument_read parts [] a free.0 low
     (more_arguments parts (placeless_argument a ∷ []) logics free.1 low (next_at_paren after) (row_ends next))))
 
-keep_read : {aim : Aim} {row : List ProgramSymbol} {d : ℕ} {below : ProgramStack} {after : List TokenKind} (room : ℕ) (parts : Parts) (keep : Option Bracketed) → IsCanonicalClause room keep → d + room ≤ aim.top →
+keep_read : {aim : Aim} {row : List ProgramSymbol} {d : ℕ} {below : ProgramStack} {after : List TokenKind} (room : ℕ)
+    (parts : Parts) (keep : Option Bracketed) →
+    IsCanonicalClause room keep → d + room ≤ aim.top →
     parts.used ≡ [] →
     Ends aim (Row row d below) (token.Mark mark.Semicolon ∷ after) (record parts { keep = option_map placeless_bracketed keep }) →
     Ends aim (Row (Maybe part.Keep ∷ row) d below) (clause_tokens (codes "keep") keep (token.Mark mark.Semicolon ∷ after)) (record parts { keep = None })
@@ -126,12 +141,14 @@ keep_read {aim} {row} {d} room parts (Some b) c low none next =
     takes (Read kind.Keep ∷ Once part.Bracketed ∷ makes calls.SetKeep ∷ []) (inl refl)
     (word is_keep (room_now d room aim.top low) (bracketed_read b c low none (does (λ n. refl) (row_ends next))))
 
-arguments_read : {aim : Aim} {row : List ProgramSymbol} {d : ℕ} {below : ProgramStack} {after : List TokenKind} (room : ℕ) (parts : Parts) (arguments logics : List Argument) (keep : Option Bracketed) →
+arguments_read : {aim : Aim} {row : List ProgramSymbol} {d : ℕ} {below : ProgramStack} {after : List TokenKind} (room : ℕ)
+    (parts : Parts) (arguments logics : List Argument) (keep : Option Bracketed) →
     AreFreeArguments arguments → AreFreeArguments logics → IsCanonicalClause room keep → d + room ≤ aim.top → parts.used ≡ [] →
     Ends aim (Row row d below) (token.Mark mark.Semicolon ∷ after)
     (record parts { given = map placeless_argument arguments; arguments = map placeless_argument logics; keep = option_map placeless_bracketed keep }) →
     Ends aim (Row (Once part.Arguments ∷ row) d below)
-    (separated mark.Comma argument_tokens arguments (logic_argument_tokens logics (token.Mark mark.RightParen ∷ clause_tokens (codes "keep") keep (token.Mark mark.Semicolon ∷ after))))
+    (separated mark.Comma argument_tokens arguments
+    (logic_argument_tokens logics (token.Mark mark.RightParen ∷ clause_tokens (codes "keep") keep (token.Mark mark.Semicolon ∷ after))))
     (record parts { arguments = []; keep = None })
 unfolding program_grammar rows_of
 arguments_read {aim} {row} {d} room parts arguments logics keep free free_too c low none next =
@@ -143,12 +160,16 @@ arguments_read {aim} {row} {d} room parts arguments logics keep free free_too c 
 
 -- ---- results
 
-more_results : {aim : Aim} {row : List ProgramSymbol} {d : ℕ} {below : ProgramStack} {after : List TokenKind} (parts : Parts) (done names : List Name) → AreFree names → d ≤ aim.top →
+more_results : {aim : Aim} {row : List ProgramSymbol} {d : ℕ} {below : ProgramStack} {after : List TokenKind} (parts : Parts)
+    (done names : List Name) →
+    AreFree names → d ≤ aim.top →
     Ends aim (Row row d below) (token.Mark mark.Equals ∷ after) (record parts { call_results = done ++ map placeless_name names }) →
-    Ends aim (Row (Many part.NextResult ∷ row) d below) (each_behind mark.Comma name_tokens names (token.Mark mark.Equals ∷ after)) (record parts { call_results = done })
+    Ends aim (Row (Many part.NextResult ∷ row) d below)
+    (each_behind mark.Comma name_tokens names (token.Mark mark.Equals ∷ after)) (record parts { call_results = done })
 unfolding program_grammar rows_of
 more_results {aim} {row} {d} {below} {after} parts done [] free low next =
-    stops_there (result_at_equals after) (subst (λ l. Ends aim (Row row d below) (token.Mark mark.Equals ∷ after) (record parts { call_results = l })) (append-nil done) next)
+    stops_there (result_at_equals after)
+    (subst (λ l. Ends aim (Row row d below) (token.Mark mark.Equals ∷ after) (record parts { call_results = l })) (append-nil done) next)
 more_results {aim} {row} {d} {below} {after} parts done (x ∷ names) free low next =
     goes_on (reads mark.Comma ∷ Read kind.Name ∷ push_name ∷ makes calls.TakeResult ∷ []) (inl refl)
     (mark low (word_with (is_name free.0) low (λ n. refl) (does (λ n. refl) (row_ends
@@ -168,8 +189,11 @@ idle parts = record parts { call_results = []; given = []; arguments = []; keep 
 pub idle_already : (parts : Parts) → IsIdle parts → idle parts ≡ parts
 idle_already parts is = λ i. record parts { call_results = sym is.1 i; given = sym is.2 i; arguments = sym is.3 i; keep = sym is.4 i }
 
-call_by : {aim : Aim} {d : ℕ} {below : ProgramStack} {after : List TokenKind} (room : ℕ) (parts : Parts) (done : List Statement) (blocks : List (List Statement)) (results : List Name) (callee : Name) (arguments logics : List Argument) (keep : Option Bracketed) →
-    AreFree results → IsFree callee → AreFreeArguments arguments → AreFreeArguments logics → IsCanonicalClause room keep → d + room ≤ aim.top → parts.used ≡ [] →
+call_by : {aim : Aim} {d : ℕ} {below : ProgramStack} {after : List TokenKind} (room : ℕ) (parts : Parts)
+    (done : List Statement) (blocks : List (List Statement)) (results : List Name) (callee : Name)
+    (arguments logics : List Argument) (keep : Option Bracketed) →
+    AreFree results → IsFree callee → AreFreeArguments arguments → AreFreeArguments logics → IsCanonicalClause room keep →
+    d + room ≤ aim.top → parts.used ≡ [] →
     Ends aim below after
     (record (idle parts) {
       blocks =
@@ -186,29 +210,55 @@ call_by : {aim : Aim} {d : ℕ} {below : ProgramStack} {after : List TokenKind} 
     }) →
     Ends aim (Row (Read kind.Call ∷ mark_place ∷ Read kind.Name ∷ push_name ∷ Once part.CallRest ∷ reads mark.Semicolon ∷ makes calls.MakeCall ∷ []) d below)
     (token.Name (codes "call") ∷ call_result_tokens results (name_tokens callee (token.Mark mark.LeftParen ∷
-    separated mark.Comma argument_tokens arguments (logic_argument_tokens logics (token.Mark mark.RightParen ∷ clause_tokens (codes "keep") keep (token.Mark mark.Semicolon ∷ after))))))
+    separated mark.Comma argument_tokens arguments
+    (logic_argument_tokens logics (token.Mark mark.RightParen ∷ clause_tokens (codes "keep") keep (token.Mark mark.Semicolon ∷ after))))))
     (record (idle parts) { blocks = done ∷ blocks })
 unfolding program_grammar rows_of
 call_by {aim} {d} {below} {after} room parts done blocks [] callee arguments logics keep free free_callee free_arguments free_logics c low none next =
     word_with is_call (room_now d room aim.top low) (λ n. refl) (word_with (is_name free_callee) (room_now d room aim.top low) (λ n. refl)
     (goes (reads mark.LeftParen ∷ Once part.Arguments ∷ []) (inl refl) (mark (room_now d room aim.top low)
-    (arguments_read room (record parts { call_results = []; given = []; blocks = done ∷ blocks; places = nowhere ∷ parts.places; names = placeless_name callee ∷ parts.names }) arguments logics keep free_arguments free_logics c low none
+    (arguments_read room (record parts {
+      call_results = [];
+      given = [];
+      blocks = done ∷ blocks;
+      places = nowhere
+          ∷ parts.places;
+      names = placeless_name callee ∷ parts.names;
+    }) arguments logics keep free_arguments free_logics c low none
     (row_ends (mark (room_now d room aim.top low) (does (λ n. refl) (row_ends next))))))))
-call_by {aim} {d} {below} {after} room parts done blocks (first ∷ others) callee arguments logics keep free free_callee free_arguments free_logics c low none next =
+call_by {aim} {d} {below} {after} room parts done blocks (first ∷ others) callee arguments logics keep free free_callee
+    free_arguments free_logics c low none next =
     word_with is_call (room_now d room aim.top low) (λ n. refl) (word_with (is_name free.0) (room_now d room aim.top low) (λ n. refl)
-    (goes (makes calls.TakeResult ∷ Many part.NextResult ∷ reads mark.Equals ∷ Read kind.Name ∷ push_name ∷ reads mark.LeftParen ∷ Once part.Arguments ∷ []) (inr (inl refl)) (does (λ n. refl)
-    (more_results (record parts { given = []; arguments = []; keep = None; blocks = done ∷ blocks; places = nowhere ∷ parts.places }) (placeless_name first ∷ []) others free.1 (room_now d room aim.top low)
+    (goes (makes calls.TakeResult ∷ Many part.NextResult ∷ reads mark.Equals ∷ Read kind.Name ∷ push_name ∷ reads
+    mark.LeftParen ∷ Once part.Arguments ∷ []) (inr (inl refl)) (does (λ n. refl)
+    (more_results
+    (record parts { given = []; arguments = []; keep = None; blocks = done ∷ blocks; places = nowhere ∷ parts.places })
+    (placeless_name first ∷ []) others free.1 (room_now d room aim.top low)
     (mark (room_now d room aim.top low) (word_with (is_name free_callee) (room_now d room aim.top low) (λ n. refl) (mark (room_now d room aim.top low)
-    (arguments_read room (record parts { call_results = placeless_name first ∷ map placeless_name others; given = []; blocks = done ∷ blocks; places = nowhere ∷ parts.places; names = placeless_name callee ∷ parts.names }) arguments logics keep free_arguments free_logics c low none
+    (arguments_read room (record parts {
+      call_results = placeless_name first ∷ map placeless_name others;
+      given = [];
+      blocks = done ∷ blocks;
+      places = nowhere ∷ parts.places;
+      names = placeless_name callee ∷ parts.names;
+    }) arguments logics keep free_arguments free_logics c low none
     (row_ends (mark (room_now d room aim.top low) (does (λ n. refl) (row_ends next))))))))))))
 
-pub call_read : {aim : Aim} {d : ℕ} {below : ProgramStack} {after : List TokenKind} (room : ℕ) (parts : Parts) (done : List Statement) (blocks : List (List Statement)) (c : Call) → IsCanonicalCall room c →
+pub call_read : {aim : Aim} {d : ℕ} {below : ProgramStack} {after : List TokenKind} (room : ℕ) (parts : Parts)
+    (done : List Statement) (blocks : List (List Statement)) (c : Call) →
+    IsCanonicalCall room c →
     d + room ≤ aim.top → IsIdle parts →
     Ends aim below after (record parts { blocks = (done ++ statement.Call (placeless_call c) ∷ []) ∷ blocks }) →
-    Ends aim (Row (Read kind.Call ∷ mark_place ∷ Read kind.Name ∷ push_name ∷ Once part.CallRest ∷ reads mark.Semicolon ∷ makes calls.MakeCall ∷ []) d below) (call_tokens c after)
+    Ends aim (Row
+    (Read kind.Call ∷ mark_place ∷ Read kind.Name ∷ push_name ∷ Once part.CallRest ∷ reads mark.Semicolon ∷ makes calls.MakeCall ∷ [])
+    d below) (call_tokens c after)
     (record parts { blocks = done ∷ blocks })
 call_read {aim} {d} {below} {after} room parts done blocks c is low at_rest next =
-    subst (λ (ps : Parts). Ends aim (Row (Read kind.Call ∷ mark_place ∷ Read kind.Name ∷ push_name ∷ Once part.CallRest ∷ reads mark.Semicolon ∷ makes calls.MakeCall ∷ []) d below) (call_tokens c after) (record ps { blocks = done ∷ blocks }))
+    subst (λ (ps : Parts). Ends aim (Row
+    (Read kind.Call ∷ mark_place ∷ Read kind.Name ∷ push_name ∷ Once part.CallRest ∷ reads mark.Semicolon ∷ makes calls.MakeCall ∷ [])
+    d below) (call_tokens c after) (record ps { blocks = done ∷ blocks }))
     (idle_already parts at_rest)
     (call_by room parts done blocks c.results c.callee c.arguments c.logics c.keep is.results is.callee is.arguments is.logics is.keep low at_rest.0
-    (subst (λ (ps : Parts). Ends aim below after (record ps { blocks = (done ++ statement.Call (placeless_call c) ∷ []) ∷ blocks })) (sym (idle_already parts at_rest)) next))
+    (subst
+    (λ (ps : Parts). Ends aim below after (record ps { blocks = (done ++ statement.Call (placeless_call c) ∷ []) ∷ blocks }))
+    (sym (idle_already parts at_rest)) next))

@@ -1,12 +1,14 @@
 -- Conditions that are opened: what the acts that join them make.
 use Rattle.std.proofs.Common.{◌≡◌, false, List, [], ◌∷◌, ◌++◌, refl, sym, ap, ◌∙◌}
-use Rattle.pale_text.specs.declared.tree.names.Term.{Term}
-use Rattle.pale_text.specs.declared.tree.condition.Condition.{Condition, out-Condition, roll-Condition, out-roll-Condition}
-use Rattle.pale_text.specs.declared.tree.condition.Condition.TheVariants as condition
-use Rattle.pale_text.specs.declared.tree.condition.Condition.TheVariants.{rolls-True, rolls-False, rolls-Truth, rolls-Same, rolls-Differ, rolls-Is, rolls-Not, rolls-And, rolls-Or}
-use Rattle.pale_text.specs.declared.tree.condition.Condition.TheOpen.{Condition-F}
-use Rattle.pale_text.specs.declared.tree.condition.Condition.TheFolds.{fold-roll-Condition, ind-Condition, map-Condition}
-use Rattle.pale_text.specs.MakingConditions.{alone_in, and_by, both_conditions, either_condition, or_by, term_alone}
+use Rattle.pale_syntax.specs.declared.tree.names.Term.{Term}
+use Rattle.pale_syntax.specs.declared.tree.condition.Condition.{Condition, out-Condition, roll-Condition, out-roll-Condition}
+use Rattle.pale_syntax.specs.declared.tree.condition.Condition.TheVariants as condition
+use Rattle.pale_syntax.specs.declared.tree.condition.Condition.TheVariants.{rolls-True, rolls-False, rolls-Truth, rolls-Same}
+use Rattle.pale_syntax.specs.declared.tree.condition.Condition.TheVariants.{rolls-Differ, rolls-Is, rolls-Not, rolls-And}
+use Rattle.pale_syntax.specs.declared.tree.condition.Condition.TheVariants.{rolls-Or}
+use Rattle.pale_syntax.specs.declared.tree.condition.Condition.TheOpen.{Condition-F}
+use Rattle.pale_syntax.specs.declared.tree.condition.Condition.TheFolds.{fold-roll-Condition, ind-Condition, map-Condition}
+use Rattle.pale_syntax.specs.MakingConditions.{alone_in, and_by, both_conditions, either_condition, or_by, term_alone}
 use Rattle.pale_print.specs.Placeless.{nowhere, placeless_name, placeless_term, placeless_condition_node, placeless_condition}
 use Rattle.pale_print_laws.specs.CanonicalConditions.{is_and_node, is_or_node}
 
@@ -38,9 +40,13 @@ rolled (Condition-F.Not place inner) = sym (rolls-Not nowhere inner)
 rolled (Condition-F.And first others) = sym (rolls-And first others)
 rolled (Condition-F.Or first others) = sym (rolls-Or first others)
 
-pub placeless-out : (x : Condition-F Condition) → out-Condition (placeless_condition (roll-Condition x)) ≡ shape (map-Condition Condition Condition placeless_condition x)
+pub placeless-out : (x : Condition-F Condition) →
+    out-Condition (placeless_condition (roll-Condition x)) ≡ shape (map-Condition Condition Condition placeless_condition x)
 unfolding placeless_condition
-placeless-out x = ap out-Condition (fold-roll-Condition Condition placeless_condition_node x ∙ rolled (map-Condition Condition Condition placeless_condition x)) ∙ out-roll-Condition _
+placeless-out x =
+    ap out-Condition
+    (fold-roll-Condition Condition placeless_condition_node x ∙ rolled (map-Condition Condition Condition placeless_condition x))
+    ∙ out-roll-Condition _
 
 and_by-first : (x : Condition-F Condition) → is_and_node x ≡ false → (one : Condition) (other : Condition) → and_by x one other ≡ condition.And one (other ∷ [])
 and_by-first (Condition-F.And first others) is one other = absurd (cc is)
@@ -51,13 +57,19 @@ unfolding shape
 is_and_node-shape (Condition-F.And first others) = refl
 is_and_node-shape _ = refl
 
-pub both_conditions-first : (first : Condition) → is_and_node (out-Condition first) ≡ false → (other : Condition) → both_conditions (placeless_condition first) other ≡ condition.And (placeless_condition first) (other ∷ [])
-both_conditions-first = opened_condition (λ first. is_and_node (out-Condition first) ≡ false → (other : Condition) → both_conditions (placeless_condition first) other ≡ condition.And (placeless_condition first) (other ∷ [])) (λ x is other.
+pub both_conditions-first : (first : Condition) → is_and_node (out-Condition first) ≡ false → (other : Condition) →
+    both_conditions (placeless_condition first) other ≡ condition.And (placeless_condition first) (other ∷ [])
+both_conditions-first =
+    opened_condition (λ first. is_and_node (out-Condition first) ≡ false → (other : Condition) → both_conditions
+    (placeless_condition first) other ≡ condition.And (placeless_condition first) (other ∷ [])) (λ x is other.
     and_by-first (out-Condition (placeless_condition (roll-Condition x)))
     (ap is_and_node (placeless-out x) ∙ is_and_node-shape x ∙ sym (ap is_and_node (out-roll-Condition x)) ∙ is) (placeless_condition (roll-Condition x)) other)
 
-pub both_conditions-more : (first : Condition) (done : List Condition) (other : Condition) → both_conditions (condition.And first done) other ≡ condition.And first (done ++ other ∷ [])
-both_conditions-more first done other = ap (λ (x : Condition-F Condition). and_by x (condition.And first done) other) (ap out-Condition (sym (rolls-And first done)) ∙ out-roll-Condition _)
+pub both_conditions-more : (first : Condition) (done : List Condition) (other : Condition) →
+    both_conditions (condition.And first done) other ≡ condition.And first (done ++ other ∷ [])
+both_conditions-more first done other =
+    ap (λ (x : Condition-F Condition). and_by x (condition.And first done) other)
+    (ap out-Condition (sym (rolls-And first done)) ∙ out-roll-Condition _)
 
 or_by-first : (x : Condition-F Condition) → is_or_node x ≡ false → (one : Condition) (other : Condition) → or_by x one other ≡ condition.Or one (other ∷ [])
 or_by-first (Condition-F.Or first others) is one other = absurd (cc is)
@@ -68,13 +80,19 @@ unfolding shape
 is_or_node-shape (Condition-F.Or first others) = refl
 is_or_node-shape _ = refl
 
-pub either_condition-first : (first : Condition) → is_or_node (out-Condition first) ≡ false → (other : Condition) → either_condition (placeless_condition first) other ≡ condition.Or (placeless_condition first) (other ∷ [])
-either_condition-first = opened_condition (λ first. is_or_node (out-Condition first) ≡ false → (other : Condition) → either_condition (placeless_condition first) other ≡ condition.Or (placeless_condition first) (other ∷ [])) (λ x is other.
+pub either_condition-first : (first : Condition) → is_or_node (out-Condition first) ≡ false → (other : Condition) →
+    either_condition (placeless_condition first) other ≡ condition.Or (placeless_condition first) (other ∷ [])
+either_condition-first =
+    opened_condition (λ first. is_or_node (out-Condition first) ≡ false → (other : Condition) → either_condition
+    (placeless_condition first) other ≡ condition.Or (placeless_condition first) (other ∷ [])) (λ x is other.
     or_by-first (out-Condition (placeless_condition (roll-Condition x)))
     (ap is_or_node (placeless-out x) ∙ is_or_node-shape x ∙ sym (ap is_or_node (out-roll-Condition x)) ∙ is) (placeless_condition (roll-Condition x)) other)
 
-pub either_condition-more : (first : Condition) (done : List Condition) (other : Condition) → either_condition (condition.Or first done) other ≡ condition.Or first (done ++ other ∷ [])
-either_condition-more first done other = ap (λ (x : Condition-F Condition). or_by x (condition.Or first done) other) (ap out-Condition (sym (rolls-Or first done)) ∙ out-roll-Condition _)
+pub either_condition-more : (first : Condition) (done : List Condition) (other : Condition) →
+    either_condition (condition.Or first done) other ≡ condition.Or first (done ++ other ∷ [])
+either_condition-more first done other =
+    ap (λ (x : Condition-F Condition). or_by x (condition.Or first done) other)
+    (ap out-Condition (sym (rolls-Or first done)) ∙ out-roll-Condition _)
 
 pub term-alone : (t : Term) → term_alone (condition.Truth t) ≡ t
 term-alone t = ap alone_in (ap out-Condition (sym (rolls-Truth t)) ∙ out-roll-Condition _)

@@ -4,14 +4,14 @@ use Rattle.pale_text.specs.declared.token.Mark.{Mark}
 use Rattle.pale_text.specs.declared.token.Mark.TheVariants as mark
 use Rattle.pale_text.specs.declared.token.TokenKind.{TokenKind}
 use Rattle.pale_text.specs.declared.place.Pos.{Pos}
-use Rattle.pale_text.specs.declared.tree.names.Name.{Name}
-use Rattle.pale_text.specs.declared.tree.names.Term.{Term}
-use Rattle.pale_text.specs.declared.tree.condition.Condition.{Condition, roll-Condition, out-roll-Condition}
-use Rattle.pale_text.specs.declared.tree.condition.Condition.TheVariants as condition
-use Rattle.pale_text.specs.declared.tree.condition.Condition.TheOpen.{Condition-F}
-use Rattle.pale_text.specs.declared.tree.condition.Condition.TheFolds.{fold-Condition, fold-roll-Condition, ind-Condition, map-Condition}
+use Rattle.pale_syntax.specs.declared.tree.names.Name.{Name}
+use Rattle.pale_syntax.specs.declared.tree.names.Term.{Term}
+use Rattle.pale_syntax.specs.declared.tree.condition.Condition.{Condition, roll-Condition, out-roll-Condition}
+use Rattle.pale_syntax.specs.declared.tree.condition.Condition.TheVariants as condition
+use Rattle.pale_syntax.specs.declared.tree.condition.Condition.TheOpen.{Condition-F}
+use Rattle.pale_syntax.specs.declared.tree.condition.Condition.TheFolds.{fold-Condition, fold-roll-Condition, ind-Condition, map-Condition}
 use denote.Hole.Carrier.{roll}
-use Rattle.pale_text.specs.MakingConditions.{and_by, or_by, both_conditions, either_condition}
+use Rattle.pale_syntax.specs.MakingConditions.{and_by, or_by, both_conditions, either_condition}
 use Rattle.pale_print.specs.Tokens.{each_behind, sign, ◌>>◌, name_tokens, term_tokens}
 use Rattle.pale_print.specs.RouteTokens.{Placed}
 use Rattle.pale_print.specs.ConditionTokens.{condition_node, condition_tokens}
@@ -102,7 +102,8 @@ pub condition_takes : (c : Condition) (asked : ℕ) → Takes (condition_tokens 
 condition_takes = ind-Condition Sized (λ x y is asked.
     subst (λ (t : Placed). Takes (t asked) (condition_size (roll-Condition x) asked)) (sym (tokens_at x))
     (subst (λ (s : Size). Takes (condition_node (map-Condition Condition Placed condition_tokens x) asked) (s asked)) (sym (sized_at x))
-    (subst (λ (z : Condition-F Condition). Takes (condition_node (map-Condition Condition Placed condition_tokens z) asked) (size_node (map-Condition Condition Size condition_size z) asked)) is (node_takes y asked))))
+    (subst (λ (z : Condition-F Condition). Takes (condition_node (map-Condition Condition Placed condition_tokens z) asked)
+    (size_node (map-Condition Condition Size condition_size z) asked)) is (node_takes y asked))))
 
 -- ---- at other places
 
@@ -118,7 +119,9 @@ node_rises (Condition-F.Or first others) = record { to_one = omega arith; to_two
 node_rises _ = record { to_one = omega arith; to_two = omega arith; at_most = omega arith }
 
 pub condition_rises : (c : Condition) → Rises (condition_size c)
-condition_rises = opened_condition (λ c. Rises (condition_size c)) (λ x. subst Rises (sym (sized_at x)) (node_rises (map-Condition Condition Size condition_size x)))
+condition_rises =
+    opened_condition (λ c. Rises (condition_size c))
+    (λ x. subst Rises (sym (sized_at x)) (node_rises (map-Condition Condition Size condition_size x)))
 
 -- ---- forms
 
@@ -126,35 +129,42 @@ pub size_not : (at : Pos) (inner : Condition) (asked : ℕ) → condition_size (
 unfolding roll-Condition roll
 size_not at inner asked = ap (λ (s : Size). s asked) (sized_at (Condition-F.Not at inner))
 
-pub size_or : (first : Condition) (others : List Condition) (asked : ℕ) → condition_size (condition.Or first others) asked ≡ grouped_size (nat_lt 0 asked) (condition_size first 1 + behind_size 1 (map condition_size others))
+pub size_or : (first : Condition) (others : List Condition) (asked : ℕ) →
+    condition_size (condition.Or first others) asked ≡ grouped_size (nat_lt 0 asked) (condition_size first 1 + behind_size 1 (map condition_size others))
 unfolding roll-Condition roll
 size_or first others asked = ap (λ (s : Size). s asked) (sized_at (Condition-F.Or first others))
 
-pub size_and : (first : Condition) (others : List Condition) (asked : ℕ) → condition_size (condition.And first others) asked ≡ grouped_size (nat_lt 1 asked) (condition_size first 2 + behind_size 2 (map condition_size others))
+pub size_and : (first : Condition) (others : List Condition) (asked : ℕ) →
+    condition_size (condition.And first others) asked ≡ grouped_size (nat_lt 1 asked) (condition_size first 2 + behind_size 2 (map condition_size others))
 unfolding roll-Condition roll
 size_and first others asked = ap (λ (s : Size). s asked) (sized_at (Condition-F.And first others))
 
 -- ---- chains
 
-behind_last : (asked : ℕ) (cs : List Condition) (c : Condition) → behind_size asked (map condition_size (cs ++ c ∷ [])) ≡ behind_size asked (map condition_size cs) + suc (condition_size c asked)
+behind_last : (asked : ℕ) (cs : List Condition) (c : Condition) →
+    behind_size asked (map condition_size (cs ++ c ∷ [])) ≡ behind_size asked (map condition_size cs) + suc (condition_size c asked)
 behind_last asked [] c = omega arith
 behind_last asked (one ∷ cs) c = let e = behind_last asked cs c in omega arith
 
-no_or_node : (x : Condition-F Condition) → is_or_node x ≡ false → size_node (map-Condition Condition Size condition_size x) 1 ≤ size_node (map-Condition Condition Size condition_size x) 0
+no_or_node : (x : Condition-F Condition) → is_or_node x ≡ false →
+    size_node (map-Condition Condition Size condition_size x) 1 ≤ size_node (map-Condition Condition Size condition_size x) 0
 no_or_node (Condition-F.Or first others) is = absurd (cc is)
 no_or_node _ is = omega arith
 
-no_and_node : (x : Condition-F Condition) → is_and_node x ≡ false → size_node (map-Condition Condition Size condition_size x) 2 ≤ size_node (map-Condition Condition Size condition_size x) 1
+no_and_node : (x : Condition-F Condition) → is_and_node x ≡ false →
+    size_node (map-Condition Condition Size condition_size x) 2 ≤ size_node (map-Condition Condition Size condition_size x) 1
 no_and_node (Condition-F.And first others) is = absurd (cc is)
 no_and_node _ is = omega arith
 
-begun_or : (x : Condition-F Condition) (other : Condition) → is_or_node x ≡ false → condition_size (condition.Or (roll-Condition x) (other ∷ [])) 0 ≤ condition_size (roll-Condition x) 0 + suc (condition_size other 1)
+begun_or : (x : Condition-F Condition) (other : Condition) → is_or_node x ≡ false →
+    condition_size (condition.Or (roll-Condition x) (other ∷ [])) 0 ≤ condition_size (roll-Condition x) 0 + suc (condition_size other 1)
 begun_or x other is =
     let e = size_or (roll-Condition x) (other ∷ []) 0 in
     let l : condition_size (roll-Condition x) 1 ≤ condition_size (roll-Condition x) 0 = subst (λ (s : Size). s 1 ≤ s 0) (sym (sized_at x)) (no_or_node x is) in
     omega arith
 
-or_by_size : (x : Condition-F Condition) (other : Condition) → condition_size (or_by x (roll-Condition x) other) 0 ≤ condition_size (roll-Condition x) 0 + suc (condition_size other 1)
+or_by_size : (x : Condition-F Condition) (other : Condition) →
+    condition_size (or_by x (roll-Condition x) other) 0 ≤ condition_size (roll-Condition x) 0 + suc (condition_size other 1)
 unfolding roll-Condition roll
 or_by_size (Condition-F.Or first others) other =
     let e = size_or first others 0 in
@@ -164,16 +174,22 @@ or_by_size (Condition-F.Or first others) other =
 or_by_size x other = begun_or x other refl
 
 pub either_size : (c other : Condition) → condition_size (either_condition c other) 0 ≤ condition_size c 0 + suc (condition_size other 1)
-either_size = opened_condition (λ c. (other : Condition) → condition_size (either_condition c other) 0 ≤ condition_size c 0 + suc (condition_size other 1)) (λ x other.
-    subst (λ (n : Condition-F Condition). condition_size (or_by n (roll-Condition x) other) 0 ≤ condition_size (roll-Condition x) 0 + suc (condition_size other 1)) (sym (out-roll-Condition x)) (or_by_size x other))
+either_size =
+    opened_condition
+    (λ c. (other : Condition) → condition_size (either_condition c other) 0 ≤ condition_size c 0 + suc (condition_size other 1))
+    (λ x other.
+    subst (λ (n : Condition-F Condition). condition_size (or_by n (roll-Condition x) other) 0 ≤ condition_size
+    (roll-Condition x) 0 + suc (condition_size other 1)) (sym (out-roll-Condition x)) (or_by_size x other))
 
-begun_and : (x : Condition-F Condition) (other : Condition) → is_and_node x ≡ false → condition_size (condition.And (roll-Condition x) (other ∷ [])) 1 ≤ condition_size (roll-Condition x) 1 + suc (condition_size other 2)
+begun_and : (x : Condition-F Condition) (other : Condition) → is_and_node x ≡ false →
+    condition_size (condition.And (roll-Condition x) (other ∷ [])) 1 ≤ condition_size (roll-Condition x) 1 + suc (condition_size other 2)
 begun_and x other is =
     let e = size_and (roll-Condition x) (other ∷ []) 1 in
     let l : condition_size (roll-Condition x) 2 ≤ condition_size (roll-Condition x) 1 = subst (λ (s : Size). s 2 ≤ s 1) (sym (sized_at x)) (no_and_node x is) in
     omega arith
 
-and_by_size : (x : Condition-F Condition) (other : Condition) → condition_size (and_by x (roll-Condition x) other) 1 ≤ condition_size (roll-Condition x) 1 + suc (condition_size other 2)
+and_by_size : (x : Condition-F Condition) (other : Condition) →
+    condition_size (and_by x (roll-Condition x) other) 1 ≤ condition_size (roll-Condition x) 1 + suc (condition_size other 2)
 unfolding roll-Condition roll
 and_by_size (Condition-F.And first others) other =
     let e = size_and first others 1 in
@@ -183,8 +199,12 @@ and_by_size (Condition-F.And first others) other =
 and_by_size x other = begun_and x other refl
 
 pub both_size : (c other : Condition) → condition_size (both_conditions c other) 1 ≤ condition_size c 1 + suc (condition_size other 2)
-both_size = opened_condition (λ c. (other : Condition) → condition_size (both_conditions c other) 1 ≤ condition_size c 1 + suc (condition_size other 2)) (λ x other.
-    subst (λ (n : Condition-F Condition). condition_size (and_by n (roll-Condition x) other) 1 ≤ condition_size (roll-Condition x) 1 + suc (condition_size other 2)) (sym (out-roll-Condition x)) (and_by_size x other))
+both_size =
+    opened_condition
+    (λ c. (other : Condition) → condition_size (both_conditions c other) 1 ≤ condition_size c 1 + suc (condition_size other 2))
+    (λ x other.
+    subst (λ (n : Condition-F Condition). condition_size (and_by n (roll-Condition x) other) 1 ≤ condition_size
+    (roll-Condition x) 1 + suc (condition_size other 2)) (sym (out-roll-Condition x)) (and_by_size x other))
 
 -- ---- literals
 

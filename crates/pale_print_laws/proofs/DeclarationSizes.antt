@@ -2,28 +2,31 @@
 use Rattle.std.proofs.Common.{◌≡◌, ℕ, suc, ◌+◌, ◌≤◌, false, List, [], ◌∷◌, length, arith}
 use Rattle.std.specs.Prelude.{codes}
 use Rattle.pale_text.specs.declared.token.Mark.TheVariants as mark
-use Rattle.pale_text.specs.declared.tree.declaration.Declaration.{Declaration}
-use Rattle.pale_text.specs.declared.tree.declaration.Declaration.TheVariants as declaration
-use Rattle.pale_text.specs.declared.tree.declaration.FieldDeclaration.{FieldDeclaration}
-use Rattle.pale_text.specs.declared.tree.declaration.FieldForm.{FieldForm}
-use Rattle.pale_text.specs.declared.tree.declaration.FieldForm.TheVariants as form
-use Rattle.pale_text.specs.declared.tree.declaration.LogicParameter.{LogicParameter}
-use Rattle.pale_text.specs.declared.tree.declaration.LogicParameter.TheVariants as logic
-use Rattle.pale_text.specs.declared.tree.declaration.Parameter.{Parameter}
-use Rattle.pale_text.specs.declared.tree.declaration.Parameter.TheVariants as parameter
-use Rattle.pale_text.specs.declared.tree.declaration.PredicateDeclaration.{PredicateDeclaration}
-use Rattle.pale_text.specs.declared.tree.declaration.PredicateParameter.{PredicateParameter}
-use Rattle.pale_text.specs.declared.tree.declaration.PredicateParameter.TheVariants as predicate
-use Rattle.pale_text.specs.declared.tree.declaration.Procedure.{Procedure}
-use Rattle.pale_text.specs.declared.tree.declaration.Program.{Program}
-use Rattle.pale_text.specs.declared.tree.declaration.TypeDeclaration.{TypeDeclaration}
-use Rattle.pale_text.specs.declared.tree.declaration.VariantDeclaration.{VariantDeclaration}
-use Rattle.pale_text.specs.declared.tree.names.Name.{Name}
-use Rattle.pale_text.specs.declared.tree.statement.Statement.{Statement}
+use Rattle.pale_syntax.specs.declared.tree.declaration.Declaration.{Declaration}
+use Rattle.pale_syntax.specs.declared.tree.declaration.Declaration.TheVariants as declaration
+use Rattle.pale_syntax.specs.declared.tree.declaration.FieldDeclaration.{FieldDeclaration}
+use Rattle.pale_syntax.specs.declared.tree.declaration.FieldForm.{FieldForm}
+use Rattle.pale_syntax.specs.declared.tree.declaration.FieldForm.TheVariants as form
+use Rattle.pale_syntax.specs.declared.tree.declaration.LogicParameter.{LogicParameter}
+use Rattle.pale_syntax.specs.declared.tree.declaration.LogicParameter.TheVariants as logic
+use Rattle.pale_syntax.specs.declared.tree.declaration.Parameter.{Parameter}
+use Rattle.pale_syntax.specs.declared.tree.declaration.Parameter.TheVariants as parameter
+use Rattle.pale_syntax.specs.declared.tree.declaration.PredicateDeclaration.{PredicateDeclaration}
+use Rattle.pale_syntax.specs.declared.tree.declaration.PredicateParameter.{PredicateParameter}
+use Rattle.pale_syntax.specs.declared.tree.declaration.PredicateParameter.TheVariants as predicate
+use Rattle.pale_syntax.specs.declared.tree.declaration.Procedure.{Procedure}
+use Rattle.pale_syntax.specs.declared.tree.declaration.Program.{Program}
+use Rattle.pale_syntax.specs.declared.tree.declaration.TypeDeclaration.{TypeDeclaration}
+use Rattle.pale_syntax.specs.declared.tree.declaration.VariantDeclaration.{VariantDeclaration}
+use Rattle.pale_syntax.specs.declared.tree.names.Name.{Name}
+use Rattle.pale_syntax.specs.declared.tree.statement.Statement.{Statement}
 use Rattle.pale_print.specs.Tokens.{each, each_behind, sign, ◌>>◌}
 use Rattle.pale_print.specs.AssertionTokens.{bracketed_tokens}
 use Rattle.pale_print.specs.StatementTokens.{clause_tokens, statement_tokens}
-use Rattle.pale_print.specs.DeclarationTokens.{field_form_tokens, field_tokens, fields_tokens, variant_tokens, type_tokens, predicate_parameter_tokens, predicate_tokens, parameter_tokens, parameters_tokens, results_tokens, logic_parameter_tokens, logics_tokens, local_tokens, procedure_tokens, declaration_tokens, program_tokens}
+use Rattle.pale_print.specs.DeclarationTokens.{field_form_tokens, field_tokens, fields_tokens, variant_tokens, type_tokens}
+use Rattle.pale_print.specs.DeclarationTokens.{predicate_parameter_tokens, predicate_tokens, parameter_tokens, parameters_tokens}
+use Rattle.pale_print.specs.DeclarationTokens.{results_tokens, logic_parameter_tokens, logics_tokens, local_tokens}
+use Rattle.pale_print.specs.DeclarationTokens.{procedure_tokens, declaration_tokens, program_tokens}
 use Rattle.pale_print_laws.proofs.RouteSizes.{Takes, route_size, route_takes}
 use Rattle.pale_print_laws.proofs.AssertionSizes.{assertion_size}
 use Rattle.pale_print_laws.proofs.ListSizes.{each_size, behind_size, separated_size, each_takes, behind_takes, separated_takes}
@@ -49,7 +52,9 @@ predicate_parameter_size (predicate.Set x ty) = 4
 predicate_parameter_size (predicate.Bool x) = 2
 
 abbrev pub predicate_size : PredicateDeclaration → ℕ
-predicate_size p = suc (suc (suc (separated_size predicate_parameter_size p.parameters + suc (suc (suc (suc (suc (assertion_size p.body.assertion 0 false))))))))
+predicate_size p =
+    suc
+    (suc (suc (separated_size predicate_parameter_size p.parameters + suc (suc (suc (suc (suc (assertion_size p.body.assertion 0 false))))))))
 
 abbrev pub parameter_size : Parameter → ℕ
 parameter_size (parameter.Data x ty) = 4
@@ -73,7 +78,8 @@ local_size p = suc (parameter_size p)
 
 abbrev pub procedure_size : Procedure → ℕ
 procedure_size p =
-    suc (suc (suc (suc (separated_size parameter_size p.parameters + (results_size p.results + (logics_size p.logics + (clause_size p.pre + (clause_size p.post +
+    suc (suc (suc (suc
+    (separated_size parameter_size p.parameters + (results_size p.results + (logics_size p.logics + (clause_size p.pre + (clause_size p.post +
     suc (suc (each_size local_size p.locals + statements_size p.body))))))))))
 
 abbrev pub declaration_size : Declaration → ℕ
@@ -129,7 +135,11 @@ parameter_takes (parameter.Pointer x ty) = record { takes = λ after. omega arit
 parameter_takes (parameter.Bool x) = record { takes = λ after. omega arith }
 
 parameters_take : (ps : List Parameter) → Takes (parameters_tokens ps) (suc (suc (separated_size parameter_size ps)))
-parameters_take ps = record { takes = λ after. let e = separated_takes parameter_tokens parameter_size parameter_takes mark.Comma ps (sign mark.RightParen >> after) in omega arith }
+parameters_take ps =
+    record {
+      takes = λ after. let e = separated_takes parameter_tokens parameter_size parameter_takes mark.Comma ps
+          (sign mark.RightParen >> after) in omega arith;
+    }
 
 results_take : (ps : List Parameter) → Takes (results_tokens ps) (results_size ps)
 results_take [] = record { takes = λ after. omega arith }

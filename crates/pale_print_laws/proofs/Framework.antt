@@ -4,22 +4,25 @@ use Rattle.ll1_reader.specs.declared.symbol.Symbol.TheVariants.{Read, Open, Once
 use Rattle.ll1_reader.specs.Grammars.{IsOneOf}
 use Rattle.ll1_reader.specs.Readings.{Stack, Row, Step, Took, Did, Reads, row_over, read, opened, acted, once, taken, left_out, again, ended, IsNotBegun}
 use Rattle.ll1_reader.specs.Answers.{levels, event_of, AreLow}
-use Rattle.pale_text.specs.declared.grammar.act.Act.{Act}
-use Rattle.pale_text.specs.declared.grammar.act.Act.TheVariants as act
-use Rattle.pale_text.specs.declared.grammar.act.WordAct.TheVariants as words
-use Rattle.pale_text.specs.declared.grammar.kind.ProgramKind.{ProgramKind}
-use Rattle.pale_text.specs.declared.grammar.kind.ProgramKind.TheVariants as kind
-use Rattle.pale_text.specs.declared.grammar.part.ProgramPart.{ProgramPart}
+use Rattle.pale_syntax.specs.declared.grammar.act.Act.{Act}
+use Rattle.pale_syntax.specs.declared.grammar.act.Act.TheVariants as act
+use Rattle.pale_syntax.specs.declared.grammar.act.WordAct.TheVariants as words
+use Rattle.pale_syntax.specs.declared.grammar.kind.ProgramKind.{ProgramKind}
+use Rattle.pale_syntax.specs.declared.grammar.kind.ProgramKind.TheVariants as kind
+use Rattle.pale_syntax.specs.declared.grammar.part.ProgramPart.{ProgramPart}
 use Rattle.pale_text.specs.declared.token.Mark.{Mark}
 use Rattle.pale_text.specs.declared.token.Token.{Token}
 use Rattle.pale_text.specs.declared.token.TokenKind.{TokenKind}
 use Rattle.pale_text.specs.declared.token.TokenKind.TheVariants as token
-use Rattle.pale_text.specs.declared.tree.declaration.Declaration.{Declaration}
-use Rattle.pale_text.specs.Making.{after, first_of, run}
-use Rattle.pale_text.specs.MakingParts.{Parts, Near, nowhere, place_of}
-use Rattle.pale_text.specs.ProgramGrammar.{ProgramSymbol}
-use Rattle.pale_text.specs.ProgramReading.{program_rows}
-use Rattle.pale_text.specs.ProgramWords.{name_kind, kind_of}
+use Rattle.pale_syntax.specs.declared.tree.declaration.Declaration.{Declaration}
+use Rattle.pale_syntax.specs.Making.{after, run}
+use Rattle.pale_text.specs.Tokens.{first_of}
+use Rattle.pale_syntax.specs.MakingParts.{Parts, Near}
+use Rattle.pale_text.specs.Places.{nowhere}
+use Rattle.pale_text.specs.Tokens.{place_of}
+use Rattle.pale_syntax.specs.ProgramGrammar.{ProgramSymbol}
+use Rattle.pale_syntax.specs.ProgramReading.{program_rows}
+use Rattle.pale_syntax.specs.ProgramWords.{name_kind, kind_of}
 use Rattle.pale_text.specs.Spelling.{IsName, Spells}
 use Rattle.pale_print.specs.Spelling.{bytes}
 
@@ -85,7 +88,8 @@ reads_as k j row d below left steps is r =
     subst (λ i. Reads program_rows Counts (Row (Read k ∷ row) d below) (i ∷ left) (Took d ∷ steps)) (sym is) (read k row d below left steps r)
 
 opens_as : (k j : ProgramKind) (row : List ProgramSymbol) (d : ℕ) (below : ProgramStack) (left : List ProgramKind) (steps : List (Step Act)) →
-    j ≡ k → Reads program_rows Counts (Row row (suc d) below) left steps → Reads program_rows Counts (Row (Open k ∷ row) d below) (j ∷ left) (Took (suc d) ∷ steps)
+    j ≡ k → Reads program_rows Counts (Row row (suc d) below) left steps →
+    Reads program_rows Counts (Row (Open k ∷ row) d below) (j ∷ left) (Took (suc d) ∷ steps)
 opens_as k j row d below left steps is r =
     subst (λ i. Reads program_rows Counts (Row (Open k ∷ row) d below) (i ∷ left) (Took (suc d) ∷ steps)) (sym is) (opened k row d below left steps r)
 
@@ -107,7 +111,9 @@ mark {aim} {row} {d} {below} {tokens} {parts} {m} low next =
 
 -- a mark, and what is made at it
 pub mark_with : {aim : Aim} {row : List ProgramSymbol} {d : ℕ} {below : ProgramStack} {tokens : List TokenKind} {parts : Parts} {m : Mark} {a : Act} →
-    d ≤ aim.top → ((next : Option Token) → after a (record { last = Some (plain_token (token.Mark m)); next = next }) parts ≡ after a (near (token.Mark m)) parts) →
+    d ≤ aim.top →
+    ((next : Option Token) → after a (record { last = Some (plain_token (token.Mark m)); next = next }) parts ≡ after a
+    (near (token.Mark m)) parts) →
     Ends aim (Row row d below) tokens (after a (near (token.Mark m)) parts) →
     Ends aim (Row (Read (kind.Mark m) ∷ Does a ∷ row) d below) (token.Mark m ∷ tokens) parts
 mark_with {aim} {row} {d} {below} {tokens} {parts} {m} {a} low free next =
@@ -134,14 +140,18 @@ mark_open {aim} {row} {d} {below} {tokens} {parts} {m} low next =
     }
 
 pub mark_open_with : {aim : Aim} {row : List ProgramSymbol} {d : ℕ} {below : ProgramStack} {tokens : List TokenKind} {parts : Parts} {m : Mark} {a : Act} →
-    suc d ≤ aim.top → ((next : Option Token) → after a (record { last = Some (plain_token (token.Mark m)); next = next }) parts ≡ after a (near (token.Mark m)) parts) →
+    suc d ≤ aim.top →
+    ((next : Option Token) → after a (record { last = Some (plain_token (token.Mark m)); next = next }) parts ≡ after a
+    (near (token.Mark m)) parts) →
     Ends aim (Row row (suc d) below) tokens (after a (near (token.Mark m)) parts) →
     Ends aim (Row (Open (kind.Mark m) ∷ Does a ∷ row) d below) (token.Mark m ∷ tokens) parts
 mark_open_with {aim} {row} {d} {below} {tokens} {parts} {m} {a} low free next =
     record {
       spelled = (refl, next.spelled);
       steps = Took (suc d) ∷ Did a ∷ next.steps;
-      reading = opened (kind.Mark m) (Does a ∷ row) d below (kinds tokens) (Did a ∷ next.steps) (acted a row (suc d) below (kinds tokens) next.steps next.reading);
+      reading =
+          opened (kind.Mark m) (Does a ∷ row) d below (kinds tokens) (Did a ∷ next.steps)
+          (acted a row (suc d) below (kinds tokens) next.steps next.reading);
       low = (low, next.low);
       made = λ last.
           ap (λ p. (run (map event_of next.steps) (Some (plain_token (token.Mark m))) (plain tokens) p).declarations) (free (first_of (plain tokens)))
@@ -160,30 +170,40 @@ word {aim} {row} {d} {below} {tokens} {parts} {name} {k} is low next =
       made = λ last. next.made (Some (plain_token (token.Name name)));
     }
 
-pub word_with : {aim : Aim} {row : List ProgramSymbol} {d : ℕ} {below : ProgramStack} {tokens : List TokenKind} {parts : Parts} {name : List ℕ} {k : ProgramKind} {a : Act} →
-    IsWord name k → d ≤ aim.top → ((next : Option Token) → after a (record { last = Some (plain_token (token.Name name)); next = next }) parts ≡ after a (near (token.Name name)) parts) →
+pub word_with : {aim : Aim} {row : List ProgramSymbol} {d : ℕ} {below : ProgramStack} {tokens : List TokenKind}
+    {parts : Parts} {name : List ℕ} {k : ProgramKind} {a : Act} →
+    IsWord name k → d ≤ aim.top →
+    ((next : Option Token) → after a (record { last = Some (plain_token (token.Name name)); next = next }) parts ≡ after a
+    (near (token.Name name)) parts) →
     Ends aim (Row row d below) tokens (after a (near (token.Name name)) parts) →
     Ends aim (Row (Read k ∷ Does a ∷ row) d below) (token.Name name ∷ tokens) parts
 word_with {aim} {row} {d} {below} {tokens} {parts} {name} {k} {a} is low free next =
     record {
       spelled = ((refl, is.named), next.spelled);
       steps = Took d ∷ Did a ∷ next.steps;
-      reading = reads_as k (name_kind name) (Does a ∷ row) d below (kinds tokens) (Did a ∷ next.steps) is.same (acted a row d below (kinds tokens) next.steps next.reading);
+      reading =
+          reads_as k (name_kind name) (Does a ∷ row) d below (kinds tokens) (Did a ∷ next.steps) is.same
+          (acted a row d below (kinds tokens) next.steps next.reading);
       low = (low, next.low);
       made = λ last.
           ap (λ p. (run (map event_of next.steps) (Some (plain_token (token.Name name))) (plain tokens) p).declarations) (free (first_of (plain tokens)))
           ∙ next.made (Some (plain_token (token.Name name)));
     }
 
-pub word_open_with : {aim : Aim} {row : List ProgramSymbol} {d : ℕ} {below : ProgramStack} {tokens : List TokenKind} {parts : Parts} {name : List ℕ} {k : ProgramKind} {a : Act} →
-    IsWord name k → suc d ≤ aim.top → ((next : Option Token) → after a (record { last = Some (plain_token (token.Name name)); next = next }) parts ≡ after a (near (token.Name name)) parts) →
+pub word_open_with : {aim : Aim} {row : List ProgramSymbol} {d : ℕ} {below : ProgramStack} {tokens : List TokenKind}
+    {parts : Parts} {name : List ℕ} {k : ProgramKind} {a : Act} →
+    IsWord name k → suc d ≤ aim.top →
+    ((next : Option Token) → after a (record { last = Some (plain_token (token.Name name)); next = next }) parts ≡ after a
+    (near (token.Name name)) parts) →
     Ends aim (Row row (suc d) below) tokens (after a (near (token.Name name)) parts) →
     Ends aim (Row (Open k ∷ Does a ∷ row) d below) (token.Name name ∷ tokens) parts
 word_open_with {aim} {row} {d} {below} {tokens} {parts} {name} {k} {a} is low free next =
     record {
       spelled = ((refl, is.named), next.spelled);
       steps = Took (suc d) ∷ Did a ∷ next.steps;
-      reading = opens_as k (name_kind name) (Does a ∷ row) d below (kinds tokens) (Did a ∷ next.steps) is.same (acted a row (suc d) below (kinds tokens) next.steps next.reading);
+      reading =
+          opens_as k (name_kind name) (Does a ∷ row) d below (kinds tokens) (Did a ∷ next.steps) is.same
+          (acted a row (suc d) below (kinds tokens) next.steps next.reading);
       low = (low, next.low);
       made = λ last.
           ap (λ p. (run (map event_of next.steps) (Some (plain_token (token.Name name))) (plain tokens) p).declarations) (free (first_of (plain tokens)))
@@ -240,7 +260,8 @@ row_ends {aim} {d} {below} {tokens} {parts} next =
       made = next.made;
     }
 
-pub goes : {aim : Aim} {row : List ProgramSymbol} {d : ℕ} {below : ProgramStack} {tokens : List TokenKind} {parts : Parts} {n : ProgramPart} (p : List ProgramSymbol) →
+pub goes : {aim : Aim} {row : List ProgramSymbol} {d : ℕ} {below : ProgramStack} {tokens : List TokenKind} {parts : Parts}
+    {n : ProgramPart} (p : List ProgramSymbol) →
     IsOneOf p (program_rows.choices n) → Ends aim (Row p d (Row row d below)) tokens parts → Ends aim (Row (Once n ∷ row) d below) tokens parts
 goes {aim} {row} {d} {below} {tokens} {parts} {n} p is next =
     record {
@@ -251,7 +272,8 @@ goes {aim} {row} {d} {below} {tokens} {parts} {n} p is next =
       made = next.made;
     }
 
-pub takes : {aim : Aim} {row : List ProgramSymbol} {d : ℕ} {below : ProgramStack} {tokens : List TokenKind} {parts : Parts} {n : ProgramPart} (p : List ProgramSymbol) →
+pub takes : {aim : Aim} {row : List ProgramSymbol} {d : ℕ} {below : ProgramStack} {tokens : List TokenKind} {parts : Parts}
+    {n : ProgramPart} (p : List ProgramSymbol) →
     IsOneOf p (program_rows.choices n) → Ends aim (Row p d (Row row d below)) tokens parts → Ends aim (Row (Maybe n ∷ row) d below) tokens parts
 takes {aim} {row} {d} {below} {tokens} {parts} {n} p is next =
     record {
@@ -273,7 +295,8 @@ leaves {aim} {row} {d} {below} {tokens} {parts} {n} stops next =
       made = next.made;
     }
 
-pub goes_on : {aim : Aim} {row : List ProgramSymbol} {d : ℕ} {below : ProgramStack} {tokens : List TokenKind} {parts : Parts} {n : ProgramPart} (p : List ProgramSymbol) →
+pub goes_on : {aim : Aim} {row : List ProgramSymbol} {d : ℕ} {below : ProgramStack} {tokens : List TokenKind} {parts : Parts}
+    {n : ProgramPart} (p : List ProgramSymbol) →
     IsOneOf p (program_rows.choices n) → Ends aim (Row p d (Row (Many n ∷ row) d below)) tokens parts → Ends aim (Row (Many n ∷ row) d below) tokens parts
 goes_on {aim} {row} {d} {below} {tokens} {parts} {n} p is next =
     record {

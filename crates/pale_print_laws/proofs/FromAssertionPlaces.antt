@@ -3,16 +3,20 @@ use Rattle.std.proofs.Common.{◌≡◌, ℕ, suc, nat_lt, Bool, true, false, Li
 use Rattle.pale_text.specs.declared.place.Pos.{Pos}
 use Rattle.pale_text.specs.declared.token.Mark.TheVariants as mark
 use Rattle.pale_text.specs.declared.token.TokenKind.{TokenKind}
-use Rattle.pale_text.specs.declared.tree.assertion.Assertion.{Assertion, out-Assertion, roll-Assertion, out-roll-Assertion}
-use Rattle.pale_text.specs.declared.tree.assertion.Assertion.TheVariants as assertion
-use Rattle.pale_text.specs.declared.tree.assertion.Assertion.TheOpen.{Assertion-F}
-use Rattle.pale_text.specs.declared.tree.assertion.Assertion.TheFolds.{fold-roll-Assertion, map-Assertion}
-use Rattle.pale_text.specs.declared.tree.assertion.Quantifier.{Quantifier}
+use Rattle.pale_syntax.specs.declared.tree.assertion.Assertion.{Assertion, out-Assertion, roll-Assertion, out-roll-Assertion}
+use Rattle.pale_syntax.specs.declared.tree.assertion.Assertion.TheVariants as assertion
+use Rattle.pale_syntax.specs.declared.tree.assertion.Assertion.TheOpen.{Assertion-F}
+use Rattle.pale_syntax.specs.declared.tree.assertion.Assertion.TheFolds.{fold-roll-Assertion, map-Assertion}
+use Rattle.pale_syntax.specs.declared.tree.assertion.Quantifier.{Quantifier}
 use denote.Hole.Carrier.{roll, out}
-use Rattle.pale_text.specs.MakingAssertions.{and_by, or_by, iff_by, both, either, equivalent}
+use Rattle.pale_syntax.specs.MakingAssertions.{and_by, or_by, iff_by, both, either, equivalent}
 use Rattle.pale_print.specs.Tokens.{◌>>◌, sign}
 use Rattle.pale_print.specs.AssertionTokens.{Operand, assertion_node, assertion_tokens}
-use Rattle.pale_print_laws.specs.CanonicalAssertions.{AssertionPlace, whole, implication, disjunct, conjunct, operand, asks, is_and_node, is_or_node, is_iff_node, IsGrouped, IsCanonicalAssertion, truth, falsehood, path, same, differ, member, subset, walk, of_variant, use_of, not, and, or, imp, iff, quantified, group, AreCanonicalAssertions, last, more}
+use Rattle.pale_print_laws.specs.CanonicalAssertions.{AssertionPlace, whole, implication, disjunct, conjunct, operand, asks}
+use Rattle.pale_print_laws.specs.CanonicalAssertions.{is_and_node, is_or_node, is_iff_node, IsGrouped, IsCanonicalAssertion}
+use Rattle.pale_print_laws.specs.CanonicalAssertions.{truth, falsehood, path, same, differ, member, subset, walk, of_variant}
+use Rattle.pale_print_laws.specs.CanonicalAssertions.{use_of, not, and, or, imp, iff, quantified, group, AreCanonicalAssertions}
+use Rattle.pale_print_laws.specs.CanonicalAssertions.{last, more}
 use Rattle.pale_print_laws.proofs.FromRoutePlaces.{roomier as roomier_route}
 use Rattle.pale_print_laws.proofs.FromLevels.{Wider, alike, wider}
 
@@ -24,10 +28,12 @@ node_grouped : (p : AssertionPlace) (followed : Bool) (x : Assertion-F Assertion
     IsGrouped p followed (roll-Assertion x)
 unfolding assertion_tokens
 node_grouped p followed x agrees after =
-    subst (λ (t : Operand). t (asks p) followed after ≡ (sign mark.LeftParen >> t 0 false >> sign mark.RightParen >> after)) (sym (fold-roll-Assertion Operand assertion_node x))
+    subst (λ (t : Operand). t (asks p) followed after ≡ (sign mark.LeftParen >> t 0 false >> sign mark.RightParen >> after))
+    (sym (fold-roll-Assertion Operand assertion_node x))
     (agrees after)
 
-and_grouped : (p : AssertionPlace) (followed : Bool) (first : Assertion) (others : List Assertion) → nat_lt 3 (asks p) ≡ true → IsGrouped p followed (assertion.And first others)
+and_grouped : (p : AssertionPlace) (followed : Bool) (first : Assertion) (others : List Assertion) → nat_lt 3 (asks p) ≡ true →
+    IsGrouped p followed (assertion.And first others)
 unfolding roll-Assertion roll
 and_grouped whole followed first others loose = absurd (cc loose)
 and_grouped implication followed first others loose = absurd (cc loose)
@@ -35,7 +41,8 @@ and_grouped disjunct followed first others loose = absurd (cc loose)
 and_grouped conjunct followed first others loose = absurd (cc loose)
 and_grouped operand followed first others loose = node_grouped operand followed (Assertion-F.And first others) (λ after. refl)
 
-or_grouped : (p : AssertionPlace) (followed : Bool) (first : Assertion) (others : List Assertion) → nat_lt 2 (asks p) ≡ true → IsGrouped p followed (assertion.Or first others)
+or_grouped : (p : AssertionPlace) (followed : Bool) (first : Assertion) (others : List Assertion) → nat_lt 2 (asks p) ≡ true →
+    IsGrouped p followed (assertion.Or first others)
 unfolding roll-Assertion roll
 or_grouped whole followed first others loose = absurd (cc loose)
 or_grouped implication followed first others loose = absurd (cc loose)
@@ -43,7 +50,8 @@ or_grouped disjunct followed first others loose = absurd (cc loose)
 or_grouped conjunct followed first others loose = node_grouped conjunct followed (Assertion-F.Or first others) (λ after. refl)
 or_grouped operand followed first others loose = node_grouped operand followed (Assertion-F.Or first others) (λ after. refl)
 
-imp_grouped : (p : AssertionPlace) (followed : Bool) (left : Assertion) (place : Pos) (right : Assertion) → nat_lt 1 (asks p) ≡ true → IsGrouped p followed (assertion.Imp left place right)
+imp_grouped : (p : AssertionPlace) (followed : Bool) (left : Assertion) (place : Pos) (right : Assertion) →
+    nat_lt 1 (asks p) ≡ true → IsGrouped p followed (assertion.Imp left place right)
 unfolding roll-Assertion roll
 imp_grouped whole followed left place right loose = absurd (cc loose)
 imp_grouped implication followed left place right loose = absurd (cc loose)
@@ -51,7 +59,8 @@ imp_grouped disjunct followed left place right loose = node_grouped disjunct fol
 imp_grouped conjunct followed left place right loose = node_grouped conjunct followed (Assertion-F.Imp left place right) (λ after. refl)
 imp_grouped operand followed left place right loose = node_grouped operand followed (Assertion-F.Imp left place right) (λ after. refl)
 
-iff_grouped : (p : AssertionPlace) (followed : Bool) (first : Assertion) (others : List Assertion) → nat_lt 0 (asks p) ≡ true → IsGrouped p followed (assertion.Iff first others)
+iff_grouped : (p : AssertionPlace) (followed : Bool) (first : Assertion) (others : List Assertion) → nat_lt 0 (asks p) ≡ true →
+    IsGrouped p followed (assertion.Iff first others)
 unfolding roll-Assertion roll
 iff_grouped whole followed first others loose = absurd (cc loose)
 iff_grouped implication followed first others loose = node_grouped implication followed (Assertion-F.Iff first others) (λ after. refl)
@@ -66,7 +75,8 @@ quantified_grouped p q inner = node_grouped p true (Assertion-F.Quantified q inn
 -- ---- more room
 
 mutual
-  pub roomier : {p : AssertionPlace} {followed : Bool} {room : ℕ} {a : Assertion} → IsCanonicalAssertion p followed room a → IsCanonicalAssertion p followed (suc room) a
+  pub roomier : {p : AssertionPlace} {followed : Bool} {room : ℕ} {a : Assertion} → IsCanonicalAssertion p followed room a →
+      IsCanonicalAssertion p followed (suc room) a
   roomier (truth p followed room) = truth p followed (suc room)
   roomier (falsehood p followed room) = falsehood p followed (suc room)
   roomier (path p followed room x free) = path p followed (suc room) x free
@@ -91,7 +101,8 @@ mutual
   roomier_all (last p followed room a c) = last p followed (suc room) a (roomier c)
   roomier_all (more p followed room a b others c cs) = more p followed (suc room) a b others (roomier c) (roomier_all cs)
 
-widened : {n m : ℕ} → Wider n m → {p : AssertionPlace} {followed : Bool} {a : Assertion} → IsCanonicalAssertion p followed n a → IsCanonicalAssertion p followed m a
+widened : {n m : ℕ} → Wider n m → {p : AssertionPlace} {followed : Bool} {a : Assertion} → IsCanonicalAssertion p followed n a →
+    IsCanonicalAssertion p followed m a
 widened (alike n) c = c
 widened (wider w) c = widened w (roomier c)
 
@@ -104,7 +115,8 @@ widened_all (wider w) cs = widened_all w (roomier_all cs)
 
 mutual
   -- where no operator follows, there are no more parentheses
-  pub unfollowed : {p : AssertionPlace} {followed : Bool} {room : ℕ} {a : Assertion} → IsCanonicalAssertion p followed room a → IsCanonicalAssertion p false room a
+  pub unfollowed : {p : AssertionPlace} {followed : Bool} {room : ℕ} {a : Assertion} → IsCanonicalAssertion p followed room a →
+      IsCanonicalAssertion p false room a
   unfollowed (truth p followed room) = truth p false room
   unfollowed (falsehood p followed room) = falsehood p false room
   unfollowed (path p followed room x free) = path p false room x free
@@ -180,14 +192,19 @@ mutual
   anywhere operand then (iff p followed room first next others bare apart c cs) =
       group operand then room (assertion.Iff first (next ∷ others)) (iff_grouped operand then first (next ∷ others) refl)
       (iff whole false room first next others refl apart c (unfollowed_all cs))
-  anywhere whole then (imp p followed room left place right bare c d) = imp whole then (suc room) left place right refl (roomier c) (anywhere implication then d)
-  anywhere implication then (imp p followed room left place right bare c d) = imp implication then (suc room) left place right refl (roomier c) (anywhere implication then d)
+  anywhere whole then (imp p followed room left place right bare c d) =
+      imp whole then (suc room) left place right refl (roomier c) (anywhere implication then d)
+  anywhere implication then (imp p followed room left place right bare c d) =
+      imp implication then (suc room) left place right refl (roomier c) (anywhere implication then d)
   anywhere disjunct then (imp p followed room left place right bare c d) =
-      group disjunct then (suc room) (assertion.Imp left place right) (imp_grouped disjunct then left place right refl) (imp whole false room left place right refl c (unfollowed d))
+      group disjunct then (suc room) (assertion.Imp left place right) (imp_grouped disjunct then left place right refl)
+      (imp whole false room left place right refl c (unfollowed d))
   anywhere conjunct then (imp p followed room left place right bare c d) =
-      group conjunct then (suc room) (assertion.Imp left place right) (imp_grouped conjunct then left place right refl) (imp whole false room left place right refl c (unfollowed d))
+      group conjunct then (suc room) (assertion.Imp left place right) (imp_grouped conjunct then left place right refl)
+      (imp whole false room left place right refl c (unfollowed d))
   anywhere operand then (imp p followed room left place right bare c d) =
-      group operand then (suc room) (assertion.Imp left place right) (imp_grouped operand then left place right refl) (imp whole false room left place right refl c (unfollowed d))
+      group operand then (suc room) (assertion.Imp left place right) (imp_grouped operand then left place right refl)
+      (imp whole false room left place right refl c (unfollowed d))
   anywhere q false (quantified p room kind place sets first others ty inner free frees ty_free c) =
       quantified q (suc room) kind place sets first others ty inner free frees ty_free (roomier c)
   anywhere q true (quantified p room kind place sets first others ty inner free frees ty_free c) =
@@ -230,7 +247,8 @@ moved q (group p followed room a grouped c) i m o n = anywhere q followed c
 pub as_whole : {followed : Bool} {room : ℕ} {a : Assertion} → IsCanonicalAssertion implication followed room a → IsCanonicalAssertion whole followed room a
 as_whole c = moved whole c (λ i b. refl) (λ b. refl) (λ o b. refl) (λ n b. refl)
 
-pub as_implication : {followed : Bool} {room : ℕ} {a : Assertion} → IsCanonicalAssertion disjunct followed room a → IsCanonicalAssertion implication followed room a
+pub as_implication : {followed : Bool} {room : ℕ} {a : Assertion} → IsCanonicalAssertion disjunct followed room a →
+    IsCanonicalAssertion implication followed room a
 as_implication c = moved implication c (λ i b. absurd (cc b)) (λ b. refl) (λ o b. refl) (λ n b. refl)
 
 pub as_disjunct : {followed : Bool} {room : ℕ} {a : Assertion} → IsCanonicalAssertion conjunct followed room a → IsCanonicalAssertion disjunct followed room a
@@ -262,7 +280,8 @@ inner_joins : {followed : Bool} {n m : ℕ} → Joins followed (suc n) m → Joi
 inner_joins (here n) = inside (alike n)
 inner_joins (inside w) = inside (wider w)
 
-joined : {followed : Bool} {n m : ℕ} → Joins followed n m → {p : AssertionPlace} {a : Assertion} → IsCanonicalAssertion p true n a → IsCanonicalAssertion p true m a
+joined : {followed : Bool} {n m : ℕ} → Joins followed n m → {p : AssertionPlace} {a : Assertion} →
+    IsCanonicalAssertion p true n a → IsCanonicalAssertion p true m a
 joined (here n) c = c
 joined (inside w) c = widened w (roomier c)
 
@@ -280,10 +299,12 @@ and_from : {p : AssertionPlace} {inner then : Bool} {n room : ℕ} {a other : As
     IsCanonicalAssertion conjunct true room a → IsCanonicalAssertion operand then room other → IsCanonicalAssertion conjunct then room (both a other)
 unfolding roll-Assertion roll out-Assertion out
 and_from {then = then} {room = room} {other = other} (and p inner n first next others bare apart f fs) j c one =
-    subst (λ x. IsCanonicalAssertion conjunct then room (and_by x (assertion.And first (next ∷ others)) other)) (sym (out-roll-Assertion (Assertion-F.And first (next ∷ others))))
+    subst (λ x. IsCanonicalAssertion conjunct then room (and_by x (assertion.And first (next ∷ others)) other))
+    (sym (out-roll-Assertion (Assertion-F.And first (next ∷ others))))
     (and conjunct then room first next (others ++ other ∷ []) refl apart (joined j f) (one_more_assertion (joined_all j fs) one))
 and_from (group p inner n a grouped f) j c one = and_from f (inner_joins j) c one
-and_from {then = then} {room = room} {a = a} {other = other} e j c one = and conjunct then room a other [] refl refl (of_and c refl) (last operand then room other one)
+and_from {then = then} {room = room} {a = a} {other = other} e j c one =
+    and conjunct then room a other [] refl refl (of_and c refl) (last operand then room other one)
 
 pub and_settled : {then : Bool} {room : ℕ} {a other : Assertion} → IsCanonicalAssertion conjunct true room a → IsCanonicalAssertion operand then room other →
     IsCanonicalAssertion conjunct then room (both a other)
@@ -293,10 +314,12 @@ or_from : {p : AssertionPlace} {inner then : Bool} {n room : ℕ} {a other : Ass
     IsCanonicalAssertion disjunct true room a → IsCanonicalAssertion conjunct then room other → IsCanonicalAssertion disjunct then room (either a other)
 unfolding roll-Assertion roll out-Assertion out
 or_from {then = then} {room = room} {other = other} (or p inner n first next others bare apart f fs) j c one =
-    subst (λ x. IsCanonicalAssertion disjunct then room (or_by x (assertion.Or first (next ∷ others)) other)) (sym (out-roll-Assertion (Assertion-F.Or first (next ∷ others))))
+    subst (λ x. IsCanonicalAssertion disjunct then room (or_by x (assertion.Or first (next ∷ others)) other))
+    (sym (out-roll-Assertion (Assertion-F.Or first (next ∷ others))))
     (or disjunct then room first next (others ++ other ∷ []) refl apart (joined j f) (one_more_assertion (joined_all j fs) one))
 or_from (group p inner n a grouped f) j c one = or_from f (inner_joins j) c one
-or_from {then = then} {room = room} {a = a} {other = other} e j c one = or disjunct then room a other [] refl refl (of_or c refl) (last conjunct then room other one)
+or_from {then = then} {room = room} {a = a} {other = other} e j c one =
+    or disjunct then room a other [] refl refl (of_or c refl) (last conjunct then room other one)
 
 pub or_settled : {then : Bool} {room : ℕ} {a other : Assertion} → IsCanonicalAssertion disjunct true room a → IsCanonicalAssertion conjunct then room other →
     IsCanonicalAssertion disjunct then room (either a other)
@@ -306,10 +329,12 @@ iff_from : {p : AssertionPlace} {inner then : Bool} {n room : ℕ} {a other : As
     IsCanonicalAssertion whole true room a → IsCanonicalAssertion implication then room other → IsCanonicalAssertion whole then room (equivalent a other)
 unfolding roll-Assertion roll out-Assertion out
 iff_from {then = then} {room = room} {other = other} (iff p inner n first next others bare apart f fs) j c one =
-    subst (λ x. IsCanonicalAssertion whole then room (iff_by x (assertion.Iff first (next ∷ others)) other)) (sym (out-roll-Assertion (Assertion-F.Iff first (next ∷ others))))
+    subst (λ x. IsCanonicalAssertion whole then room (iff_by x (assertion.Iff first (next ∷ others)) other))
+    (sym (out-roll-Assertion (Assertion-F.Iff first (next ∷ others))))
     (iff whole then room first next (others ++ other ∷ []) refl apart (joined j f) (one_more_assertion (joined_all j fs) one))
 iff_from (group p inner n a grouped f) j c one = iff_from f (inner_joins j) c one
-iff_from {then = then} {room = room} {a = a} {other = other} e j c one = iff whole then room a other [] refl refl (of_iff c refl) (last implication then room other one)
+iff_from {then = then} {room = room} {a = a} {other = other} e j c one =
+    iff whole then room a other [] refl refl (of_iff c refl) (last implication then room other one)
 
 pub iff_settled : {then : Bool} {room : ℕ} {a other : Assertion} → IsCanonicalAssertion whole true room a → IsCanonicalAssertion implication then room other →
     IsCanonicalAssertion whole then room (equivalent a other)

@@ -1,24 +1,26 @@
 -- Assertions that a reading makes are canonical, and spelled in no more tokens than they were read from.
-use Rattle.std.proofs.Common.{◌+◌, ◌≤◌, length, arith, ◌≡◌, inl, inr, ℕ, suc, Bool, true, false, List, [], ◌∷◌, ◌++◌, Some, refl, sym, ap, ◌∙◌, subst, append_assoc, append-nil}
+use Rattle.std.proofs.Common.{◌+◌, ◌≤◌, length, arith, ◌≡◌, inl, inr, ℕ, suc, Bool, true, false, List, [], ◌∷◌, ◌++◌, Some, refl}
+use Rattle.std.proofs.Common.{sym, ap, ◌∙◌, subst, append_assoc, append-nil}
 use Rattle.ll1_reader.specs.declared.symbol.Symbol.TheVariants.{Read, Once}
-use Rattle.pale_text.specs.declared.grammar.act.ConnectiveAct.TheVariants as connectives
-use Rattle.pale_text.specs.declared.grammar.kind.ProgramKind.TheVariants as kind
-use Rattle.pale_text.specs.declared.grammar.part.ProgramPart.TheVariants as part
+use Rattle.pale_syntax.specs.declared.grammar.act.ConnectiveAct.TheVariants as connectives
+use Rattle.pale_syntax.specs.declared.grammar.kind.ProgramKind.TheVariants as kind
+use Rattle.pale_syntax.specs.declared.grammar.part.ProgramPart.TheVariants as part
 use Rattle.pale_text.specs.declared.place.Pos.{Pos}
 use Rattle.pale_text.specs.declared.token.Mark.{Mark}
 use Rattle.pale_text.specs.declared.token.Mark.TheVariants as mark
 use Rattle.pale_text.specs.declared.token.Token.{Token}
-use Rattle.pale_text.specs.declared.tree.names.Name.{Name}
-use Rattle.pale_text.specs.declared.tree.assertion.Assertion.{Assertion}
-use Rattle.pale_text.specs.declared.tree.assertion.Assertion.TheVariants as assertion
-use Rattle.pale_text.specs.declared.tree.assertion.Bracketed.{Bracketed}
-use Rattle.pale_text.specs.declared.tree.assertion.Quantifier.{Quantifier}
-use Rattle.pale_text.specs.declared.tree.assertion.QuantifierKind.{QuantifierKind}
-use Rattle.pale_text.specs.declared.tree.assertion.QuantifierKind.TheVariants as quantifier
+use Rattle.pale_syntax.specs.declared.tree.names.Name.{Name}
+use Rattle.pale_syntax.specs.declared.tree.assertion.Assertion.{Assertion}
+use Rattle.pale_syntax.specs.declared.tree.assertion.Assertion.TheVariants as assertion
+use Rattle.pale_syntax.specs.declared.tree.assertion.Bracketed.{Bracketed}
+use Rattle.pale_syntax.specs.declared.tree.assertion.Quantifier.{Quantifier}
+use Rattle.pale_syntax.specs.declared.tree.assertion.QuantifierKind.{QuantifierKind}
+use Rattle.pale_syntax.specs.declared.tree.assertion.QuantifierKind.TheVariants as quantifier
 use Rattle.plain_data.specs.Stacks.{top, rest}
-use Rattle.pale_text.specs.MakingParts.{Parts, name_of, place_of}
-use Rattle.pale_text.specs.MakingAssertions.{both, either, equivalent, begun, quantifierless, of_sets, binding, over}
-use Rattle.pale_text.specs.ProgramGrammar.{ProgramSymbol, rows_of, reads, push_name, connective}
+use Rattle.pale_syntax.specs.MakingParts.{Parts, name_of}
+use Rattle.pale_text.specs.Tokens.{place_of}
+use Rattle.pale_syntax.specs.MakingAssertions.{both, either, equivalent, begun, quantifierless, of_sets, binding, over}
+use Rattle.pale_syntax.specs.ProgramGrammar.{ProgramSymbol, rows_of, reads, push_name, connective}
 use Rattle.pale_print_laws.specs.CanonicalNames.{IsFree, AreFree}
 use Rattle.pale_print_laws.specs.CanonicalAssertions.{whole, implication, disjunct, conjunct, operand, IsCanonicalAssertion, not, imp, quantified}
 use Rattle.pale_print_laws.proofs.NameSizes.{names_size, one_less}
@@ -40,8 +42,10 @@ conjuncts_made : (room : ℕ) (start end : List Token) (several : Several progra
     ((f : Bool) → MayFollow f start → IsCanonicalAssertion conjunct f room a) →
     (first : List Token) → ((f : Bool) → MayFollow f start → assertion_size a 3 f + length start ≤ length first) → (parts : Parts) (below : List Assertion) →
     (made : AssertionMade conjunct room 0 first end) × EndsAnd end ×
-    (puts program_meaning part.NextNegation room start end several (record parts { assertions = a ∷ below }) ≡ record parts { assertions = made.assertion ∷ below })
-conjuncts_made room start end (no_more _ stops) a c first short parts below = (record { assertion = a; canonical = c; short = λ f m. omega (arith, short f m) }, record { and = stops }, refl)
+    (puts program_meaning part.NextNegation room start end several (record parts { assertions = a ∷ below }) ≡ record parts
+    { assertions = made.assertion ∷ below })
+conjuncts_made room start end (no_more _ stops) a c first short parts below =
+    (record { assertion = a; canonical = c; short = λ f m. omega (arith, short f m) }, record { and = stops }, refl)
 conjuncts_made room start end (one_more _ middle _ one others) a c first short parts below =
     conjuncts_made room middle end others (both a one.1.assertion) (λ f m. and_settled (c true (inl (inl one.0))) (one.1.canonical f m))
     first (λ f m. omega (arith, both_size a one.1.assertion f, short true (inl (inl one.0)), one.1.short f m)) parts below
@@ -50,8 +54,13 @@ disjuncts_made : (room : ℕ) (start end : List Token) (several : Several progra
     ((f : Bool) → MayFollow f start → IsCanonicalAssertion disjunct f room a) → EndsAnd start →
     (first : List Token) → ((f : Bool) → MayFollow f start → assertion_size a 2 f + length start ≤ length first) → (parts : Parts) (below : List Assertion) →
     (made : AssertionMade disjunct room 0 first end) × EndsOr end ×
-    (puts program_meaning part.NextAndChain room start end several (record parts { assertions = a ∷ below }) ≡ record parts { assertions = made.assertion ∷ below })
-disjuncts_made room start end (no_more _ stops) a c ends first short parts below = (record { assertion = a; canonical = c; short = λ f m. omega (arith, short f m) }, record { and = ends.and; or = stops }, refl)
+    (puts program_meaning part.NextAndChain room start end several (record parts { assertions = a ∷ below }) ≡ record parts
+    { assertions = made.assertion ∷ below })
+disjuncts_made room start end (no_more _ stops) a c ends first short parts below = (
+  record { assertion = a; canonical = c; short = λ f m. omega (arith, short f m) },
+  record { and = ends.and; or = stops },
+  refl,
+)
 disjuncts_made room start end (one_more _ middle _ one others) a c ends first short parts below =
     disjuncts_made room middle end others (either a one.1.assertion) (λ f m. or_settled (c true (inl (inr one.0))) (one.1.canonical f m)) one.2
     first (λ f m. omega (arith, either_size a one.1.assertion f, short true (inl (inr one.0)), one.1.short f m)) parts below
@@ -60,9 +69,13 @@ equivalents_made : (room : ℕ) (start end : List Token) (several : Several prog
     ((f : Bool) → MayFollow f start → IsCanonicalAssertion whole f room a) → EndsImplication start →
     (first : List Token) → ((f : Bool) → MayFollow f start → assertion_size a 0 f + length start ≤ length first) → (parts : Parts) (below : List Assertion) →
     (made : AssertionMade whole room 0 first end) × EndsIff end ×
-    (puts program_meaning part.NextImplication room start end several (record parts { assertions = a ∷ below }) ≡ record parts { assertions = made.assertion ∷ below })
-equivalents_made room start end (no_more _ stops) a c ends first short parts below =
-    (record { assertion = a; canonical = c; short = λ f m. omega (arith, short f m) }, record { and = ends.and; or = ends.or; imp = ends.imp; iff = stops }, refl)
+    (puts program_meaning part.NextImplication room start end several (record parts { assertions = a ∷ below })
+    ≡ record parts { assertions = made.assertion ∷ below })
+equivalents_made room start end (no_more _ stops) a c ends first short parts below = (
+  record { assertion = a; canonical = c; short = λ f m. omega (arith, short f m) },
+  record { and = ends.and; or = ends.or; imp = ends.imp; iff = stops },
+  refl,
+)
 equivalents_made room start end (one_more _ middle _ one others) a c ends first short parts below =
     equivalents_made room middle end others (equivalent a one.1.assertion) (λ f m. iff_settled (c true (inr (inr one.0))) (one.1.canonical f m)) one.2
     first (λ f m. omega (arith, equivalent_size a one.1.assertion f, short true (inr (inr one.0)), one.1.short f m)) parts below
@@ -173,8 +186,11 @@ next_implication_sound = or_row next_iff_row no_row
 
 -- ---- implications
 
-implied_canonical : (room inside : ℕ) (start end : List Token) (left : Assertion) (place : Pos) (right : AssertionMade implication inside 1 start end) → room ≡ suc inside →
-    IsCanonicalAssertion disjunct true room left → (f : Bool) → MayFollow f end → IsCanonicalAssertion implication f room (assertion.Imp left place right.assertion)
+implied_canonical : (room inside : ℕ) (start end : List Token) (left : Assertion) (place : Pos)
+    (right : AssertionMade implication inside 1 start end) →
+    room ≡ suc inside →
+    IsCanonicalAssertion disjunct true room left → (f : Bool) → MayFollow f end →
+    IsCanonicalAssertion implication f room (assertion.Imp left place right.assertion)
 implied_canonical room inside start end left place right is c f m =
     subst (λ n. IsCanonicalAssertion implication f n (assertion.Imp left place right.assertion)) (sym is)
     (imp implication f inside left place right.assertion refl (subst (λ n. IsCanonicalAssertion disjunct true n left) is c) (right.canonical f m))
@@ -266,7 +282,8 @@ not_row = record {
         record {
           assertion = assertion.Not place inner.2.assertion;
           canonical = λ f m.
-              subst (λ n. IsCanonicalAssertion operand f n (assertion.Not place inner.2.assertion)) (sym g.1) (not operand f g.0 place inner.2.assertion (inner.2.canonical f m));
+              subst (λ n. IsCanonicalAssertion operand f n (assertion.Not place inner.2.assertion)) (sym g.1)
+              (not operand f g.0 place inner.2.assertion (inner.2.canonical f m));
           short = λ f m. omega (arith, size_not place inner.2.assertion 4 f, one_less g.4, inner.2.short f m);
         },
         inner.3,
@@ -348,8 +365,12 @@ next_bound_row : IsSoundRow part.NextBound (nth (rows_of part.NextBound) 0)
 unfolding rows_of
 next_bound_row = record {
   along = λ room last tokens parts goal g before.
-      let name = g.4 in
-      (Some name.0, name.1, record { name = name_of (Some name.0); free = free_name name.0 name.3; short = omega (arith, one_less g.2, one_less name.2) }, name.4);
+      let name = g.4 in (
+        Some name.0,
+        name.1,
+        record { name = name_of (Some name.0); free = free_name name.0 name.3; short = omega (arith, one_less g.2, one_less name.2) },
+        name.4,
+      );
 }
 
 pub next_bound_sound : AreSoundRows part.NextBound (rows_of part.NextBound)
@@ -362,7 +383,8 @@ with_names q names = record q { names = q.names ++ names }
 
 bounds_made : (room : ℕ) (start end : List Token) (several : Several program_meaning part.NextBound room start end) →
     (names : List Name) × AreFree names × ((q : Quantifier) (parts : Parts) (below : List Quantifier) →
-    puts program_meaning part.NextBound room start end several (record parts { quantifiers = q ∷ below }) ≡ record parts { quantifiers = with_names q names ∷ below }) ×
+    puts program_meaning part.NextBound room start end several (record parts { quantifiers = q ∷ below }) ≡ record parts
+    { quantifiers = with_names q names ∷ below }) ×
     (names_size names + length end ≤ length start)
 bounds_made room start end (no_more _ stops) = (
   [],
@@ -385,7 +407,9 @@ body_row =
     reads mark.Colon ∷ Read kind.Name ∷ push_name ∷ reads mark.Colon ∷ Once part.Iff ∷ connective connectives.MakeQuantified ∷ []
 
 -- behind the names a quantifier binds
-body_made : (room : ℕ) (last : _) (start : List Token) (parts : Parts) (below : List Quantifier) (goal : Goal) (sets : Bool) (x : Name) (names : List Name) → IsFree x → AreFree names →
+body_made : (room : ℕ) (last : _) (start : List Token) (parts : Parts) (below : List Quantifier) (goal : Goal) (sets : Bool)
+    (x : Name) (names : List Name) →
+    IsFree x → AreFree names →
     parts.used ≡ [] → (tokens : List Token) → set_size sets + (suc (names_size names) + length start) ≤ length tokens → (bind : Quantifier → Quantifier) →
     ((kind : QuantifierKind) (place : Pos) → bind (begun kind place) ≡ record (begun kind place) { of_sets = sets; names = x ∷ names }) →
     (q : Quantifier) → Goes program_meaning body_row room last start (record parts { quantifiers = bind q ∷ below }) goal →
@@ -405,10 +429,14 @@ body_made room last start parts below goal sets x names free frees before tokens
           quantifier = λ q. over (bind q) ty_name;
           body = body.2.0.assertion;
           canonical = λ kind place.
-              subst (λ (b : Quantifier). IsCanonicalAssertion operand false (suc room) (assertion.Quantified (over b ty_name) body.2.0.assertion)) (sym (bound kind place))
+              subst
+              (λ (b : Quantifier). IsCanonicalAssertion operand false (suc room) (assertion.Quantified (over b ty_name) body.2.0.assertion))
+              (sym (bound kind place))
               (quantified operand room kind place sets x names ty_name body.2.0.assertion free frees (free_name ty.0 ty.3) (body.2.0.canonical false tt));
           short = λ kind place.
-              subst (λ (b : Quantifier). quantified_size (over b ty_name) (assertion_size body.2.0.assertion) false + length body.1 ≤ suc (length tokens)) (sym (bound kind place))
+              subst
+              (λ (b : Quantifier). quantified_size (over b ty_name) (assertion_size body.2.0.assertion) false + length body.1 ≤ suc (length tokens))
+              (sym (bound kind place))
               (omega (arith, body.2.0.short false tt, one_less g.2, one_less ty.2, one_less ty.4.2));
         },
         body.2.1,
@@ -429,7 +457,8 @@ quantified_row = record {
             body_made room others.0 others.1 parts (rest parts.quantifiers) goal false x made.0 (free_name first.0 first.3) made.1 before
             tokens (omega (arith, one_less first.2, made.3))
             (λ q. with_names (binding q x) made.0) (λ kind place. refl) (top quantifierless parts.quantifiers)
-            (subst (λ (p : Parts). Goes program_meaning body_row room others.0 others.1 p goal) (made.2 (binding (top quantifierless parts.quantifiers) x) parts (rest parts.quantifiers)) others.3)
+            (subst (λ (p : Parts). Goes program_meaning body_row room others.0 others.1 p goal)
+            (made.2 (binding (top quantifierless parts.quantifiers) x) parts (rest parts.quantifiers)) others.3)
         | inr sets ↦
             let first = sets.3 in
             let x : Name = name_of (Some first.0) in
@@ -438,7 +467,8 @@ quantified_row = record {
             body_made room others.0 others.1 parts (rest parts.quantifiers) goal true x made.0 (free_name first.0 first.3) made.1 before
             tokens (omega (arith, sets.2, one_less first.2, made.3))
             (λ q. with_names (binding (of_sets q) x) made.0) (λ kind place. refl) (top quantifierless parts.quantifiers)
-            (subst (λ (p : Parts). Goes program_meaning body_row room others.0 others.1 p goal) (made.2 (binding (of_sets (top quantifierless parts.quantifiers)) x) parts (rest parts.quantifiers)) others.3)
+            (subst (λ (p : Parts). Goes program_meaning body_row room others.0 others.1 p goal)
+            (made.2 (binding (of_sets (top quantifierless parts.quantifiers)) x) parts (rest parts.quantifiers)) others.3)
       ];
 }
 
@@ -454,8 +484,17 @@ bracketed_row = record {
   along = λ room last tokens parts goal g before.
       let made = g.4 before in
       let close = made.3 in
-      let b : Bracketed = record { place = place_of (Some g.0); assertion = made.2.0.assertion } in
-      (Some close.0, close.1, record { bracketed = b; canonical = made.2.0.canonical false tt; short = omega (arith, one_less g.2, made.2.0.short false tt, one_less close.2) }, close.4);
+      let b : Bracketed = record { place = place_of (Some g.0); assertion = made.2.0.assertion } in (
+        Some close.0,
+        close.1,
+        record {
+          bracketed = b;
+          canonical = made.2.0.canonical false tt;
+          short = omega
+              (arith, one_less g.2, made.2.0.short false tt, one_less close.2);
+        },
+        close.4,
+      );
 }
 
 pub bracketed_sound : AreSoundRows part.Bracketed (rows_of part.Bracketed)

@@ -1,23 +1,26 @@
 -- Assertions without connectives that a reading makes are canonical, and spelled in no more tokens than they were read from.
 use Rattle.std.proofs.Common.{◌+◌, ◌≤◌, length, arith, ap, ◌≡◌, inl, inr, ℕ, false, List, [], ◌∷◌, ◌++◌, Some, refl, sym, subst}
-use Rattle.pale_text.specs.declared.grammar.part.ProgramPart.TheVariants as part
+use Rattle.pale_syntax.specs.declared.grammar.part.ProgramPart.TheVariants as part
 use Rattle.pale_text.specs.declared.place.Pos.{Pos}
 use Rattle.pale_text.specs.declared.token.Token.{Token}
-use Rattle.pale_text.specs.declared.tree.names.Name.{Name}
-use Rattle.pale_text.specs.declared.tree.names.Path.{Path}
-use Rattle.pale_text.specs.declared.tree.names.Term.TheVariants as tree_term
-use Rattle.pale_text.specs.declared.tree.assertion.Assertion.{Assertion, out-Assertion, roll-Assertion}
-use Rattle.pale_text.specs.declared.tree.assertion.Assertion.TheVariants as assertion
+use Rattle.pale_syntax.specs.declared.tree.names.Name.{Name}
+use Rattle.pale_syntax.specs.declared.tree.names.Path.{Path}
+use Rattle.pale_syntax.specs.declared.tree.names.Term.TheVariants as tree_term
+use Rattle.pale_syntax.specs.declared.tree.assertion.Assertion.{Assertion, out-Assertion, roll-Assertion}
+use Rattle.pale_syntax.specs.declared.tree.assertion.Assertion.TheVariants as assertion
 use denote.Hole.Carrier.{roll, out}
 use Rattle.plain_data.specs.Stacks.{top, rest}
-use Rattle.pale_text.specs.MakingParts.{Parts, name_of, place_of}
-use Rattle.pale_text.specs.MakingWords.{path_at, extended}
-use Rattle.pale_text.specs.MakingAssertions.{assertionless, path_alone}
-use Rattle.pale_text.specs.ProgramGrammar.{rows_of}
+use Rattle.pale_syntax.specs.MakingParts.{Parts, name_of}
+use Rattle.pale_text.specs.Tokens.{place_of}
+use Rattle.pale_syntax.specs.MakingWords.{path_at, extended}
+use Rattle.pale_syntax.specs.MakingAssertions.{assertionless, path_alone}
+use Rattle.pale_syntax.specs.ProgramGrammar.{rows_of}
 use Rattle.pale_print_laws.specs.CanonicalNames.{IsFreePath, AreFreePaths}
-use Rattle.pale_print_laws.specs.CanonicalAssertions.{operand, IsCanonicalAssertion, truth, falsehood, path, same, differ, member, subset, walk, of_variant, use_of}
+use Rattle.pale_print_laws.specs.CanonicalAssertions.{operand, IsCanonicalAssertion, truth, falsehood, path, same, differ}
+use Rattle.pale_print_laws.specs.CanonicalAssertions.{member, subset, walk, of_variant, use_of}
 use Rattle.pale_print_laws.proofs.NameSizes.{path_size, extended_size, one_less}
-use Rattle.pale_print_laws.proofs.AssertionSizes.{used_size, used_last, size_true, size_false, size_truth, size_same, size_differ, size_member, size_subset, size_is, size_walk, size_use}
+use Rattle.pale_print_laws.proofs.AssertionSizes.{used_size, used_last, size_true, size_false, size_truth, size_same}
+use Rattle.pale_print_laws.proofs.AssertionSizes.{size_differ, size_member, size_subset, size_is, size_walk, size_use}
 use Rattle.pale_print_laws.proofs.AssertionPlaceSizes.{assertion_rises}
 use Rattle.pale_print_laws.proofs.FromRows.{Several, no_more, one_more, puts}
 use Rattle.pale_print_laws.proofs.FromMade.{FreeName, PathsMade}
@@ -33,8 +36,17 @@ unfolding rows_of
 same_row = record {
   along = λ room last tokens parts goal g before.
       let u = g.4 tt in
-      let place : Pos = place_of (Some g.0) in
-      (u.0, u.1, record { of = λ t. assertion.Same t place u.2.term; canonical = λ t free f. same operand f room t place u.2.term free u.2.free; short = λ t f. omega (arith, size_same t place u.2.term 4 f, one_less g.2, u.2.short) }, u.3);
+      let place : Pos = place_of (Some g.0) in (
+        u.0,
+        u.1,
+        record {
+          of = λ t. assertion.Same t place u.2.term;
+          canonical = λ t free f. same operand f room t place
+              u.2.term free u.2.free;
+          short = λ t f. omega (arith, size_same t place u.2.term 4 f, one_less g.2, u.2.short);
+        },
+        u.3,
+      );
 }
 
 differ_row : IsSoundRow part.Relation (nth (rows_of part.Relation) 1)
@@ -42,8 +54,17 @@ unfolding rows_of
 differ_row = record {
   along = λ room last tokens parts goal g before.
       let u = g.4 tt in
-      let place : Pos = place_of (Some g.0) in
-      (u.0, u.1, record { of = λ t. assertion.Differ t place u.2.term; canonical = λ t free f. differ operand f room t place u.2.term free u.2.free; short = λ t f. omega (arith, size_differ t place u.2.term 4 f, one_less g.2, u.2.short) }, u.3);
+      let place : Pos = place_of (Some g.0) in (
+        u.0,
+        u.1,
+        record {
+          of = λ t. assertion.Differ t place u.2.term;
+          canonical = λ t free f. differ operand f room t place
+              u.2.term free u.2.free;
+          short = λ t f. omega (arith, size_differ t place u.2.term 4 f, one_less g.2, u.2.short);
+        },
+        u.3,
+      );
 }
 
 member_row : IsSoundRow part.Relation (nth (rows_of part.Relation) 2)
@@ -52,8 +73,17 @@ member_row = record {
   along = λ room last tokens parts goal g before.
       let v = g.4 in
       let place : Pos = place_of (Some g.0) in
-      let x : Name = name_of (Some v.0) in
-      (Some v.0, v.1, record { of = λ t. assertion.Member t place x; canonical = λ t free f. member operand f room t place x free (free_name v.0 v.3); short = λ t f. omega (arith, size_member t place x 4 f, one_less g.2, one_less v.2) }, v.4);
+      let x : Name = name_of (Some v.0) in (
+        Some v.0,
+        v.1,
+        record {
+          of = λ t. assertion.Member t place x;
+          canonical = λ t free f. member operand f room t place x
+              free (free_name v.0 v.3);
+          short = λ t f. omega (arith, size_member t place x 4 f, one_less g.2, one_less v.2);
+        },
+        v.4,
+      );
 }
 
 subset_row : IsSoundRow part.Relation (nth (rows_of part.Relation) 3)
@@ -62,8 +92,17 @@ subset_row = record {
   along = λ room last tokens parts goal g before.
       let v = g.4 in
       let place : Pos = place_of (Some g.0) in
-      let x : Name = name_of (Some v.0) in
-      (Some v.0, v.1, record { of = λ t. assertion.Subset t place x; canonical = λ t free f. subset operand f room t place x free (free_name v.0 v.3); short = λ t f. omega (arith, size_subset t place x 4 f, one_less g.2, one_less v.2) }, v.4);
+      let x : Name = name_of (Some v.0) in (
+        Some v.0,
+        v.1,
+        record {
+          of = λ t. assertion.Subset t place x;
+          canonical = λ t free f. subset operand f room t place x
+              free (free_name v.0 v.3);
+          short = λ t f. omega (arith, size_subset t place x 4 f, one_less g.2, one_less v.2);
+        },
+        v.4,
+      );
 }
 
 walk_row : IsSoundRow part.Relation (nth (rows_of part.Relation) 4)
@@ -90,8 +129,17 @@ is_row = record {
   along = λ room last tokens parts goal g before.
       let v = g.4 in
       let place : Pos = place_of (Some g.0) in
-      let x : Name = name_of (Some v.0) in
-      (Some v.0, v.1, record { of = λ t. assertion.Is t place x; canonical = λ t free f. of_variant operand f room t place x free (free_name v.0 v.3); short = λ t f. omega (arith, size_is t place x 4 f, one_less g.2, one_less v.2) }, v.4);
+      let x : Name = name_of (Some v.0) in (
+        Some v.0,
+        v.1,
+        record {
+          of = λ t. assertion.Is t place x;
+          canonical = λ t free f. of_variant operand f room t place x
+              free (free_name v.0 v.3);
+          short = λ t f. omega (arith, size_is t place x 4 f, one_less g.2, one_less v.2);
+        },
+        v.4,
+      );
 }
 
 pub relation_sound : AreSoundRows part.Relation (rows_of part.Relation)
@@ -117,7 +165,8 @@ no_paths parts is = subst (λ ps. AreFreePaths ps) (sym is) tt
 
 used_made : (room : ℕ) (start end : List Token) (several : Several program_meaning part.NextUsedPath room start end) (ps : List Path) → AreFreePaths ps →
     (first : List Token) → used_size ps + length start ≤ length first → (parts : Parts) →
-    (made : PathsMade first end) × (puts program_meaning part.NextUsedPath room start end several (record parts { used = ps }) ≡ record parts { used = made.paths })
+    (made : PathsMade first end)
+    × (puts program_meaning part.NextUsedPath room start end several (record parts { used = ps }) ≡ record parts { used = made.paths })
 used_made room start end (no_more _ stops) ps free first short parts = (record { paths = ps; free = free; short = short }, refl)
 used_made room start end (one_more _ middle _ one others) ps free first short parts =
     let l = one.short in
@@ -129,8 +178,11 @@ used_row = record {
   along = λ room last tokens parts goal g before.
       let first = g tt in
       let others = first.3 tt in
-      let made = used_made room first.1 others.1 others.2 (parts.used ++ first.2.path ∷ []) (one_more_path parts.used first.2.path (no_paths parts before) first.2.free)
-      tokens (subst (λ (ps : List Path). used_size (ps ++ first.2.path ∷ []) + length first.1 ≤ length tokens) (sym before) (omega (arith, first.2.short))) parts in
+      let made =
+      used_made room first.1 others.1 others.2 (parts.used ++ first.2.path ∷ [])
+      (one_more_path parts.used first.2.path (no_paths parts before) first.2.free)
+      tokens (subst (λ (ps : List Path). used_size (ps ++ first.2.path ∷ []) + length first.1 ≤ length tokens) (sym before)
+      (omega (arith, first.2.short))) parts in
       (others.0, others.1, made.0, subst (λ q. goal others.0 others.1 q) made.1 others.3);
 }
 
@@ -156,8 +208,12 @@ step_row : IsSoundRow part.PathAloneStep (nth (rows_of part.PathAloneStep) 0)
 unfolding rows_of
 step_row = record {
   along = λ room last tokens parts goal g before.
-      let name = g.4 in
-      (Some name.0, name.1, record { name = name_of (Some name.0); free = free_name name.0 name.3; short = omega (arith, one_less g.2, one_less name.2) }, name.4);
+      let name = g.4 in (
+        Some name.0,
+        name.1,
+        record { name = name_of (Some name.0); free = free_name name.0 name.3; short = omega (arith, one_less g.2, one_less name.2) },
+        name.4,
+      );
 }
 
 pub path_alone_step_sound : AreSoundRows part.PathAloneStep (rows_of part.PathAloneStep)
@@ -203,7 +259,8 @@ use_row = record {
                 short = λ p f. omega (arith, size_use p.base parts.used 4 f, ap used_size before, one_less g.2, one_less close.2);
               },
               subst (λ u. goal (Some close.0) close.1
-                  (record parts { assertions = assertion.Use (path_alone (top assertionless parts.assertions)).base parts.used ∷ rest parts.assertions; used = u }))
+                  (record parts
+                  { assertions = assertion.Use (path_alone (top assertionless parts.assertions)).base parts.used ∷ rest parts.assertions; used = u }))
                   (sym before) close.4,
             )
         | inr some ↦
@@ -216,7 +273,8 @@ use_row = record {
                 short = λ p f. omega (arith, size_use p.base some.2.paths 4 f, some.2.short, one_less g.2, one_less close.2);
               },
               subst (λ u. goal (Some close.0) close.1
-                  (record parts { assertions = assertion.Use (path_alone (top assertionless parts.assertions)).base some.2.paths ∷ rest parts.assertions; used = u }))
+                  (record parts
+                  { assertions = assertion.Use (path_alone (top assertionless parts.assertions)).base some.2.paths ∷ rest parts.assertions; used = u }))
                   (sym before) close.4,
             )
       ];
@@ -274,8 +332,17 @@ related_row : IsSoundRow part.NameRest (nth (rows_of part.NameRest) 2)
 unfolding rows_of
 related_row = record {
   along = λ room last tokens parts goal g before.
-      let made = g tt in
-      (made.0, made.1, record { of = λ p. made.2.of (tree_term.Path p); canonical = λ p free f. made.2.canonical (tree_term.Path p) free f; short = λ p f. omega (arith, made.2.short (tree_term.Path p) f) }, made.3);
+      let made = g tt in (
+        made.0,
+        made.1,
+        record {
+          of = λ p. made.2.of (tree_term.Path p);
+          canonical = λ p free f. made.2.canonical
+              (tree_term.Path p) free f;
+          short = λ p f. omega (arith, made.2.short (tree_term.Path p) f);
+        },
+        made.3,
+      );
 }
 
 pub name_rest_sound : AreSoundRows part.NameRest (rows_of part.NameRest)
@@ -303,13 +370,25 @@ group_row = record {
 
 true_row : IsSoundRow part.Primary (nth (rows_of part.Primary) 1)
 unfolding rows_of
-true_row = record { along = λ room last tokens parts goal g before. (Some g.0, g.1, record { assertion = assertion.True; canonical = λ f. truth operand f room; short = λ f. omega (arith, size_true 4 f, one_less g.2) }, g.4) }
+true_row =
+    record {
+      along = λ room last tokens parts goal g before. (
+        Some g.0,
+        g.1,
+        record { assertion = assertion.True; canonical = λ f. truth operand f room; short = λ f. omega (arith, size_true 4 f, one_less g.2) },
+        g.4,
+      );
+    }
 
 false_row : IsSoundRow part.Primary (nth (rows_of part.Primary) 2)
 unfolding rows_of
 false_row = record {
-  along = λ room last tokens parts goal g before.
-      (Some g.0, g.1, record { assertion = assertion.False; canonical = λ f. falsehood operand f room; short = λ f. omega (arith, size_false 4 f, one_less g.2) }, g.4);
+  along = λ room last tokens parts goal g before. (
+    Some g.0,
+    g.1,
+    record { assertion = assertion.False; canonical = λ f. falsehood operand f room; short = λ f. omega (arith, size_false 4 f, one_less g.2) },
+    g.4,
+  );
 }
 
 null_row : IsSoundRow part.Primary (nth (rows_of part.Primary) 3)
@@ -320,7 +399,12 @@ null_row = record {
       let place : Pos = place_of (Some g.0) in (
         related.0,
         related.1,
-        record { assertion = related.2.of (tree_term.Null place); canonical = λ f. related.2.canonical (tree_term.Null place) tt f; short = λ f. omega (arith, related.2.short (tree_term.Null place) f, one_less g.2) },
+        record {
+          assertion = related.2.of (tree_term.Null place);
+          canonical = λ f. related.2.canonical (tree_term.Null place)
+              tt f;
+          short = λ f. omega (arith, related.2.short (tree_term.Null place) f, one_less g.2);
+        },
         related.3,
       );
 }
@@ -332,8 +416,27 @@ name_row = record {
       let x : Name = name_of (Some g.0) in
       let free : IsFreePath (path_at x) = record { base = free_name g.0 g.3; fields = tt } in
       elim (g.4 before) [
-        | inl stopped ↦ (Some g.0, g.1, record { assertion = assertion.Truth (path_at x); canonical = λ f. path operand f room (path_at x) free; short = λ f. omega (arith, size_truth (path_at x) 4 f, one_less g.2) }, stopped.1)
-        | inr more ↦ (more.0, more.1, record { assertion = more.2.of (path_at x); canonical = λ f. more.2.canonical (path_at x) free f; short = λ f. omega (arith, more.2.short (path_at x) f, one_less g.2) }, more.3)
+        | inl stopped ↦ (
+          Some g.0,
+          g.1,
+          record {
+            assertion = assertion.Truth (path_at x);
+            canonical = λ f. path operand f room (path_at x)
+                free;
+            short = λ f. omega (arith, size_truth (path_at x) 4 f, one_less g.2);
+          },
+          stopped.1,
+        )
+        | inr more ↦ (
+          more.0,
+          more.1,
+          record {
+            assertion = more.2.of (path_at x);
+            canonical = λ f. more.2.canonical (path_at x) free f;
+            short = λ f. omega (arith, more.2.short (path_at x) f, one_less g.2);
+          },
+          more.3,
+        )
       ];
 }
 

@@ -1,20 +1,22 @@
 -- Values, arguments and calls that a reading makes are canonical, and spelled in no more tokens than they were read from.
-use Rattle.std.proofs.Common.{◌+◌, ◌≤◌, length, arith, ◌≡◌, inl, inr, ℕ, true, false, List, [], ◌∷◌, ◌++◌, Option, None, Some, refl, sym, ap, ◌∙◌, subst, append_assoc, append-nil}
+use Rattle.std.proofs.Common.{◌+◌, ◌≤◌, length, arith, ◌≡◌, inl, inr, ℕ, true, false, List, [], ◌∷◌, ◌++◌, Option, None, Some}
+use Rattle.std.proofs.Common.{refl, sym, ap, ◌∙◌, subst, append_assoc, append-nil}
 use Rattle.ll1_reader.specs.declared.symbol.Symbol.TheVariants.{Read, Once, Maybe}
-use Rattle.pale_text.specs.declared.grammar.kind.ProgramKind.TheVariants as kind
-use Rattle.pale_text.specs.declared.grammar.part.ProgramPart.TheVariants as part
+use Rattle.pale_syntax.specs.declared.grammar.kind.ProgramKind.TheVariants as kind
+use Rattle.pale_syntax.specs.declared.grammar.part.ProgramPart.TheVariants as part
 use Rattle.pale_text.specs.declared.place.Pos.{Pos}
 use Rattle.pale_text.specs.declared.token.Mark.TheVariants as mark
 use Rattle.pale_text.specs.declared.token.Token.{Token}
-use Rattle.pale_text.specs.declared.tree.names.Name.{Name}
-use Rattle.pale_text.specs.declared.tree.assertion.Bracketed.{Bracketed}
-use Rattle.pale_text.specs.declared.tree.statement.Argument.{Argument}
-use Rattle.pale_text.specs.declared.tree.statement.Argument.TheVariants as argument
-use Rattle.pale_text.specs.declared.tree.statement.Value.TheVariants as value
+use Rattle.pale_syntax.specs.declared.tree.names.Name.{Name}
+use Rattle.pale_syntax.specs.declared.tree.assertion.Bracketed.{Bracketed}
+use Rattle.pale_syntax.specs.declared.tree.statement.Argument.{Argument}
+use Rattle.pale_syntax.specs.declared.tree.statement.Argument.TheVariants as argument
+use Rattle.pale_syntax.specs.declared.tree.statement.Value.TheVariants as value
 use Rattle.plain_data.specs.Stacks.{top, rest}
-use Rattle.pale_text.specs.Making.{first_of}
-use Rattle.pale_text.specs.MakingParts.{Parts, nameless, name_of, place_of}
-use Rattle.pale_text.specs.ProgramGrammar.{ProgramSymbol, rows_of, reads, push_name}
+use Rattle.pale_text.specs.Tokens.{first_of}
+use Rattle.pale_syntax.specs.MakingParts.{Parts, nameless, name_of}
+use Rattle.pale_text.specs.Tokens.{place_of}
+use Rattle.pale_syntax.specs.ProgramGrammar.{ProgramSymbol, rows_of, reads, push_name}
 use Rattle.pale_print_laws.specs.CanonicalNames.{AreFree}
 use Rattle.pale_print_laws.specs.CanonicalStatements.{IsFreeArgument, AreFreeArguments, IsCanonicalClause}
 use Rattle.pale_print_laws.proofs.NameSizes.{one_less}
@@ -78,9 +80,11 @@ one_more_argument (y ∷ xs) x free is = (free.0, one_more_argument xs x free.1 
 no_arguments : (parts : Parts) → parts.arguments ≡ [] → AreFreeArguments parts.arguments
 no_arguments parts is = subst (λ xs. AreFreeArguments xs) (sym is) tt
 
-arguments_made : (room : ℕ) (start end : List Token) (several : Several program_meaning part.NextArgument room start end) (xs : List Argument) → AreFreeArguments xs →
+arguments_made : (room : ℕ) (start end : List Token) (several : Several program_meaning part.NextArgument room start end) (xs : List Argument) →
+    AreFreeArguments xs →
     (n : ℕ) (first : List Token) → n + (separated_size one_token xs + length start) ≤ length first → (parts : Parts) →
-    (made : ArgumentsMade n first end) × (puts program_meaning part.NextArgument room start end several (record parts { arguments = xs }) ≡ record parts { arguments = made.arguments })
+    (made : ArgumentsMade n first end) × (puts program_meaning part.NextArgument room start end several
+    (record parts { arguments = xs }) ≡ record parts { arguments = made.arguments })
 arguments_made room start end (no_more _ stops) xs free n first short parts = (record { arguments = xs; free = free; short = short }, refl)
 arguments_made room start end (one_more _ middle _ one others) xs free n first short parts =
     let l = one.short in
@@ -93,7 +97,9 @@ argued_row = record {
   along = λ room last tokens parts goal g before.
       let first = g tt in
       let others = first.3 tt in
-      let made = arguments_made room first.1 others.1 others.2 (parts.arguments ++ first.2.argument ∷ []) (one_more_argument parts.arguments first.2.argument (no_arguments parts before) first.2.free)
+      let made =
+      arguments_made room first.1 others.1 others.2 (parts.arguments ++ first.2.argument ∷ [])
+      (one_more_argument parts.arguments first.2.argument (no_arguments parts before) first.2.free)
       0 tokens (subst (λ (xs : List Argument). 0 + (separated_size one_token (xs ++ first.2.argument ∷ []) + length first.1) ≤ length tokens) (sym before)
       (omega (arith, first.2.short))) parts in
       (others.0, others.1, made.0, subst (λ q. goal others.0 others.1 q) made.1 others.3);
@@ -109,7 +115,9 @@ logic_row = record {
   along = λ room last tokens parts goal g before.
       let first = g.4 tt in
       let others = first.3 tt in
-      let made = arguments_made room first.1 others.1 others.2 (parts.arguments ++ first.2.argument ∷ []) (one_more_argument parts.arguments first.2.argument (no_arguments parts before) first.2.free)
+      let made =
+      arguments_made room first.1 others.1 others.2 (parts.arguments ++ first.2.argument ∷ [])
+      (one_more_argument parts.arguments first.2.argument (no_arguments parts before) first.2.free)
       1 tokens (subst (λ (xs : List Argument). 1 + (separated_size one_token (xs ++ first.2.argument ∷ []) + length first.1) ≤ length tokens) (sym before)
       (omega (arith, first.2.short, one_less g.2))) parts in
       (others.0, others.1, made.0, subst (λ q. goal others.0 others.1 q) made.1 others.3);
@@ -140,9 +148,12 @@ GivenAt room start parts goal =
 abbrev closing_row : List ProgramSymbol
 closing_row = reads mark.RightParen ∷ Maybe part.Keep ∷ []
 
-keep_made : (room : ℕ) (last : Option Token) (tokens : List Token) (parts : Parts) (goal : Goal) (given logics : List Argument) → AreFreeArguments given → AreFreeArguments logics →
+keep_made : (room : ℕ) (last : Option Token) (tokens : List Token) (parts : Parts) (goal : Goal) (given logics : List Argument) →
+    AreFreeArguments given → AreFreeArguments logics →
     (start : List Token) → separated_size one_token given + (logic_argument_size logics + length tokens) ≤ length start →
-    parts.used ≡ [] → parts.keep ≡ None → Goes program_meaning closing_row room last tokens (record parts { given = given; arguments = logics }) goal → GivenAt room start parts goal
+    parts.used ≡ [] → parts.keep ≡ None →
+    Goes program_meaning closing_row room last tokens (record parts { given = given; arguments = logics }) goal →
+    GivenAt room start parts goal
 unfolding GivenAt
 keep_made room last tokens parts goal given logics free free_too start short used keep g =
     elim (g.4 used) [
@@ -177,7 +188,9 @@ keep_made room last tokens parts goal given logics free free_too start short use
     ]
 
 logics_made : (room : ℕ) (last : Option Token) (tokens : List Token) (parts : Parts) (goal : Goal) (given : List Argument) → AreFreeArguments given →
-    (start : List Token) → separated_size one_token given + length tokens ≤ length start → parts.used ≡ [] → parts.keep ≡ None → Goes program_meaning (Maybe part.LogicArguments ∷ closing_row) room last tokens (record parts { given = given; arguments = [] }) goal →
+    (start : List Token) → separated_size one_token given + length tokens ≤ length start → parts.used ≡ [] →
+    parts.keep ≡ None →
+    Goes program_meaning (Maybe part.LogicArguments ∷ closing_row) room last tokens (record parts { given = given; arguments = [] }) goal →
     GivenAt room start parts goal
 logics_made room last tokens parts goal given free start short used keep g =
     elim (g refl) [
@@ -207,8 +220,12 @@ next_result_row : IsSoundRow part.NextResult (nth (rows_of part.NextResult) 0)
 unfolding rows_of
 next_result_row = record {
   along = λ room last tokens parts goal g before.
-      let name = g.4 in
-      (Some name.0, name.1, record { name = name_of (Some name.0); free = free_name name.0 name.3; short = omega (arith, one_less g.2, one_less name.2) }, name.4);
+      let name = g.4 in (
+        Some name.0,
+        name.1,
+        record { name = name_of (Some name.0); free = free_name name.0 name.3; short = omega (arith, one_less g.2, one_less name.2) },
+        name.4,
+      );
 }
 
 pub next_result_sound : AreSoundRows part.NextResult (rows_of part.NextResult)
@@ -219,7 +236,8 @@ results_made : (room : ℕ) (start end : List Token) (several : Several program_
     (names : List Name) × AreFree names × ((xs : List Name) (parts : Parts) →
     puts program_meaning part.NextResult room start end several (record parts { call_results = xs }) ≡ record parts { call_results = xs ++ names }) ×
     (behind_size one_token names + length end ≤ length start)
-results_made room start end (no_more _ stops) = ([], tt, λ xs parts. ap (λ (l : List Name). record parts { call_results = l }) (sym (append-nil xs)), omega arith)
+results_made room start end (no_more _ stops) =
+    ([], tt, λ xs parts. ap (λ (l : List Name). record parts { call_results = l }) (sym (append-nil xs)), omega arith)
 results_made room start end (one_more _ middle _ one others) =
     let more = results_made room middle end others in (
       one.name ∷ more.0,
@@ -278,8 +296,22 @@ new_row = record {
       let place : Pos = place_of (Some g.0) in
       let x : Name = name_of (Some ty.0) in
       elim (ty.4 tt) [
-        | inl none ↦ (Some ty.0, ty.1, record { value = value.New place x None; canonical = (free_name ty.0 ty.3, tt); short = omega (arith, one_less g.2, one_less ty.2) }, none.1)
-        | inr some ↦ (some.0, some.1, record { value = value.New place x (Some some.2.name); canonical = (free_name ty.0 ty.3, some.2.free); short = omega (arith, one_less g.2, one_less ty.2, some.2.short) }, some.3)
+        | inl none ↦ (
+          Some ty.0,
+          ty.1,
+          record { value = value.New place x None; canonical = (free_name ty.0 ty.3, tt); short = omega (arith, one_less g.2, one_less ty.2) },
+          none.1,
+        )
+        | inr some ↦ (
+          some.0,
+          some.1,
+          record {
+            value = value.New place x (Some some.2.name);
+            canonical = (free_name ty.0 ty.3, some.2.free);
+            short = omega (arith, one_less g.2, one_less ty.2, some.2.short);
+          },
+          some.3,
+        )
       ];
 }
 
@@ -287,8 +319,12 @@ condition_row : IsSoundRow part.Value (nth (rows_of part.Value) 1)
 unfolding rows_of
 condition_row = record {
   along = λ room last tokens parts goal g before.
-      let c = g tt in
-      (c.0, c.1, record { value = value.Condition (place_of (first_of tokens)) c.2.condition; canonical = c.2.canonical; short = omega (arith, c.2.short) }, c.3);
+      let c = g tt in (
+        c.0,
+        c.1,
+        record { value = value.Condition (place_of (first_of tokens)) c.2.condition; canonical = c.2.canonical; short = omega (arith, c.2.short) },
+        c.3,
+      );
 }
 
 pub value_sound : AreSoundRows part.Value (rows_of part.Value)
@@ -299,8 +335,12 @@ new_variant_row : IsSoundRow part.NewVariant (nth (rows_of part.NewVariant) 0)
 unfolding rows_of
 new_variant_row = record {
   along = λ room last tokens parts goal g before.
-      let name = g.4 in
-      (Some name.0, name.1, record { name = name_of (Some name.0); free = free_name name.0 name.3; short = omega (arith, one_less g.2, one_less name.2) }, name.4);
+      let name = g.4 in (
+        Some name.0,
+        name.1,
+        record { name = name_of (Some name.0); free = free_name name.0 name.3; short = omega (arith, one_less g.2, one_less name.2) },
+        name.4,
+      );
 }
 
 pub new_variant_sound : AreSoundRows part.NewVariant (rows_of part.NewVariant)

@@ -2,16 +2,18 @@
 use Rattle.std.proofs.Common.{◌≡◌, ℕ, suc, nat_lt, true, false, List, [], ◌∷◌, ◌++◌, refl, sym, subst}
 use Rattle.pale_text.specs.declared.token.Mark.TheVariants as mark
 use Rattle.pale_text.specs.declared.token.TokenKind.{TokenKind}
-use Rattle.pale_text.specs.declared.tree.condition.Condition.{Condition, out-Condition, roll-Condition, out-roll-Condition}
-use Rattle.pale_text.specs.declared.tree.condition.Condition.TheVariants as condition
-use Rattle.pale_text.specs.declared.tree.condition.Condition.TheOpen.{Condition-F}
-use Rattle.pale_text.specs.declared.tree.condition.Condition.TheFolds.{fold-roll-Condition, map-Condition}
+use Rattle.pale_syntax.specs.declared.tree.condition.Condition.{Condition, out-Condition, roll-Condition, out-roll-Condition}
+use Rattle.pale_syntax.specs.declared.tree.condition.Condition.TheVariants as condition
+use Rattle.pale_syntax.specs.declared.tree.condition.Condition.TheOpen.{Condition-F}
+use Rattle.pale_syntax.specs.declared.tree.condition.Condition.TheFolds.{fold-roll-Condition, map-Condition}
 use denote.Hole.Carrier.{roll, out}
-use Rattle.pale_text.specs.MakingConditions.{and_by, or_by, both_conditions, either_condition}
+use Rattle.pale_syntax.specs.MakingConditions.{and_by, or_by, both_conditions, either_condition}
 use Rattle.pale_print.specs.Tokens.{◌>>◌, sign}
 use Rattle.pale_print.specs.RouteTokens.{Placed}
 use Rattle.pale_print.specs.ConditionTokens.{condition_node, condition_tokens}
-use Rattle.pale_print_laws.specs.CanonicalConditions.{ConditionPlace, whole, conjunction, literal, asks, is_and_node, is_or_node, IsGrouped, IsCanonicalCondition, truth, falsehood, term, same, differ, of_variant, not, and, or, group, AreCanonicalConditions, last, more}
+use Rattle.pale_print_laws.specs.CanonicalConditions.{ConditionPlace, whole, conjunction, literal, asks, is_and_node, is_or_node}
+use Rattle.pale_print_laws.specs.CanonicalConditions.{IsGrouped, IsCanonicalCondition, truth, falsehood, term, same, differ}
+use Rattle.pale_print_laws.specs.CanonicalConditions.{of_variant, not, and, or, group, AreCanonicalConditions, last, more}
 use Rattle.pale_print_laws.proofs.FromLevels.{Wider, alike, wider}
 
 -- ---- parentheses
@@ -22,7 +24,8 @@ node_grouped : (p : ConditionPlace) (x : Condition-F Condition) →
     IsGrouped p (roll-Condition x)
 unfolding condition_tokens
 node_grouped p x agrees after =
-    subst (λ (t : Placed). t (asks p) after ≡ (sign mark.LeftParen >> t 0 >> sign mark.RightParen >> after)) (sym (fold-roll-Condition Placed condition_node x)) (agrees after)
+    subst (λ (t : Placed). t (asks p) after ≡ (sign mark.LeftParen >> t 0 >> sign mark.RightParen >> after))
+    (sym (fold-roll-Condition Placed condition_node x)) (agrees after)
 
 or_grouped : (p : ConditionPlace) (first : Condition) (others : List Condition) → nat_lt 0 (asks p) ≡ true → IsGrouped p (condition.Or first others)
 unfolding roll-Condition roll
@@ -123,10 +126,12 @@ one_more_condition {x = x} (more p room y others c cs) one = more p room y (othe
 or_from : {p : ConditionPlace} {n room : ℕ} {x other : Condition} → IsCanonicalCondition p n x → Wider n room → IsCanonicalCondition whole room x →
     IsCanonicalCondition conjunction room other → IsCanonicalCondition whole room (either_condition x other)
 unfolding roll-Condition roll out-Condition out
-or_from {room = room} {other = other} (truth p n place) w c one = or whole room (condition.True place) (other ∷ []) refl refl (as_alternative c refl) (last conjunction room other one)
+or_from {room = room} {other = other} (truth p n place) w c one =
+    or whole room (condition.True place) (other ∷ []) refl refl (as_alternative c refl) (last conjunction room other one)
 or_from {room = room} {other = other} (falsehood p n place) w c one =
     or whole room (condition.False place) (other ∷ []) refl refl (as_alternative c refl) (last conjunction room other one)
-or_from {room = room} {other = other} (term p n t free) w c one = or whole room (condition.Truth t) (other ∷ []) refl refl (as_alternative c refl) (last conjunction room other one)
+or_from {room = room} {other = other} (term p n t free) w c one =
+    or whole room (condition.Truth t) (other ∷ []) refl refl (as_alternative c refl) (last conjunction room other one)
 or_from {room = room} {other = other} (same p n t place u free free_too) w c one =
     or whole room (condition.Same t place u) (other ∷ []) refl refl (as_alternative c refl) (last conjunction room other one)
 or_from {room = room} {other = other} (differ p n t place u free free_too) w c one =
@@ -149,10 +154,12 @@ or_settled {room} c one = or_from c (alike room) c one
 and_from : {p : ConditionPlace} {n room : ℕ} {x other : Condition} → IsCanonicalCondition p n x → Wider n room → IsCanonicalCondition conjunction room x →
     IsCanonicalCondition literal room other → IsCanonicalCondition conjunction room (both_conditions x other)
 unfolding roll-Condition roll out-Condition out
-and_from {room = room} {other = other} (truth p n place) w c one = and conjunction room (condition.True place) (other ∷ []) refl refl (as_literal c refl) (last literal room other one)
+and_from {room = room} {other = other} (truth p n place) w c one =
+    and conjunction room (condition.True place) (other ∷ []) refl refl (as_literal c refl) (last literal room other one)
 and_from {room = room} {other = other} (falsehood p n place) w c one =
     and conjunction room (condition.False place) (other ∷ []) refl refl (as_literal c refl) (last literal room other one)
-and_from {room = room} {other = other} (term p n t free) w c one = and conjunction room (condition.Truth t) (other ∷ []) refl refl (as_literal c refl) (last literal room other one)
+and_from {room = room} {other = other} (term p n t free) w c one =
+    and conjunction room (condition.Truth t) (other ∷ []) refl refl (as_literal c refl) (last literal room other one)
 and_from {room = room} {other = other} (same p n t place u free free_too) w c one =
     and conjunction room (condition.Same t place u) (other ∷ []) refl refl (as_literal c refl) (last literal room other one)
 and_from {room = room} {other = other} (differ p n t place u free free_too) w c one =

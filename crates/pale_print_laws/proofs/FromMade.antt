@@ -1,41 +1,46 @@
 -- What each part of program text makes.
 use Rattle.std.proofs.Common.{◌+◌, ◌≤◌, length, ◌≡◌, ◌⊎◌, inl, inr, ℕ, suc, Bool, true, false, List, ◌∷◌, Option}
-use Rattle.pale_text.specs.declared.grammar.kind.ProgramKind.TheVariants as kind
-use Rattle.pale_text.specs.declared.grammar.part.ProgramPart.{ProgramPart}
-use Rattle.pale_text.specs.declared.grammar.part.ProgramPart.TheVariants as part
+use Rattle.pale_syntax.specs.declared.grammar.kind.ProgramKind.TheVariants as kind
+use Rattle.pale_syntax.specs.declared.grammar.part.ProgramPart.{ProgramPart}
+use Rattle.pale_syntax.specs.declared.grammar.part.ProgramPart.TheVariants as part
 use Rattle.pale_text.specs.declared.place.Pos.{Pos}
 use Rattle.pale_text.specs.declared.token.Mark.{Mark}
 use Rattle.pale_text.specs.declared.token.Mark.TheVariants as mark
 use Rattle.pale_text.specs.declared.token.Token.{Token}
-use Rattle.pale_text.specs.declared.tree.names.Name.{Name}
-use Rattle.pale_text.specs.declared.tree.names.Path.{Path}
-use Rattle.pale_text.specs.declared.tree.names.Term.{Term}
-use Rattle.pale_text.specs.declared.tree.route.Route.{Route}
-use Rattle.pale_text.specs.declared.tree.condition.Condition.{Condition}
-use Rattle.pale_text.specs.declared.tree.assertion.Assertion.{Assertion}
-use Rattle.pale_text.specs.declared.tree.assertion.Assertion.TheVariants as assertion
-use Rattle.pale_text.specs.declared.tree.assertion.Bracketed.{Bracketed}
-use Rattle.pale_text.specs.declared.tree.assertion.Quantifier.{Quantifier}
-use Rattle.pale_text.specs.declared.tree.assertion.QuantifierKind.{QuantifierKind}
-use Rattle.pale_text.specs.declared.tree.statement.Argument.{Argument}
-use Rattle.pale_text.specs.declared.tree.statement.Statement.{Statement}
-use Rattle.pale_text.specs.declared.tree.statement.Value.{Value}
-use Rattle.pale_text.specs.declared.tree.declaration.FieldDeclaration.{FieldDeclaration}
-use Rattle.pale_text.specs.declared.tree.declaration.LogicParameter.{LogicParameter}
-use Rattle.pale_text.specs.declared.tree.declaration.Parameter.{Parameter}
-use Rattle.pale_text.specs.declared.tree.declaration.PredicateDeclaration.{PredicateDeclaration}
-use Rattle.pale_text.specs.declared.tree.declaration.PredicateParameter.{PredicateParameter}
-use Rattle.pale_text.specs.declared.tree.declaration.Procedure.{Procedure}
-use Rattle.pale_text.specs.declared.tree.declaration.TypeDeclaration.{TypeDeclaration}
-use Rattle.pale_text.specs.declared.tree.declaration.VariantDeclaration.{VariantDeclaration}
-use Rattle.pale_text.specs.MakingAssertions.{begun}
-use Rattle.pale_text.specs.ProgramWords.{kind_of, kinds_in}
+use Rattle.pale_syntax.specs.declared.tree.names.Name.{Name}
+use Rattle.pale_syntax.specs.declared.tree.names.Path.{Path}
+use Rattle.pale_syntax.specs.declared.tree.names.Term.{Term}
+use Rattle.pale_syntax.specs.declared.tree.route.Route.{Route}
+use Rattle.pale_syntax.specs.declared.tree.condition.Condition.{Condition}
+use Rattle.pale_syntax.specs.declared.tree.assertion.Assertion.{Assertion}
+use Rattle.pale_syntax.specs.declared.tree.assertion.Assertion.TheVariants as assertion
+use Rattle.pale_syntax.specs.declared.tree.assertion.Bracketed.{Bracketed}
+use Rattle.pale_syntax.specs.declared.tree.assertion.Quantifier.{Quantifier}
+use Rattle.pale_syntax.specs.declared.tree.assertion.QuantifierKind.{QuantifierKind}
+use Rattle.pale_syntax.specs.declared.tree.statement.Argument.{Argument}
+use Rattle.pale_syntax.specs.declared.tree.statement.Statement.{Statement}
+use Rattle.pale_syntax.specs.declared.tree.statement.Value.{Value}
+use Rattle.pale_syntax.specs.declared.tree.declaration.FieldDeclaration.{FieldDeclaration}
+use Rattle.pale_syntax.specs.declared.tree.declaration.LogicParameter.{LogicParameter}
+use Rattle.pale_syntax.specs.declared.tree.declaration.Parameter.{Parameter}
+use Rattle.pale_syntax.specs.declared.tree.declaration.PredicateDeclaration.{PredicateDeclaration}
+use Rattle.pale_syntax.specs.declared.tree.declaration.PredicateParameter.{PredicateParameter}
+use Rattle.pale_syntax.specs.declared.tree.declaration.Procedure.{Procedure}
+use Rattle.pale_syntax.specs.declared.tree.declaration.TypeDeclaration.{TypeDeclaration}
+use Rattle.pale_syntax.specs.declared.tree.declaration.VariantDeclaration.{VariantDeclaration}
+use Rattle.pale_syntax.specs.MakingAssertions.{begun}
+use Rattle.pale_syntax.specs.ProgramWords.{kind_of, kinds_in}
 use Rattle.pale_print_laws.specs.CanonicalNames.{IsFree, AreFree, IsFreePath, AreFreePaths, IsFreeTerm}
 use Rattle.pale_print_laws.specs.CanonicalRoutes.{asks as route_asks, RoutePlace, IsCanonicalRoute, whole as whole_route, sequence, repeated, single}
-use Rattle.pale_print_laws.specs.CanonicalConditions.{asks as condition_asks, ConditionPlace, IsCanonicalCondition, whole as whole_condition, conjunction, literal}
-use Rattle.pale_print_laws.specs.CanonicalAssertions.{asks, AssertionPlace, IsCanonicalAssertion, IsCanonicalBracketed, whole, implication, disjunct, conjunct, operand}
-use Rattle.pale_print_laws.specs.CanonicalStatements.{AreFreeArguments, IsFreeArgument, IsCanonicalClause, IsCanonicalValue, IsCanonicalStatement, AreCanonicalStatements}
-use Rattle.pale_print_laws.specs.CanonicalDeclarations.{All, IsCanonicalField, IsCanonicalVariant, IsCanonicalType, IsFreePredicateParameter, IsCanonicalPredicate, IsFreeParameter, IsFreeLogicParameter, IsCanonicalProcedure}
+use Rattle.pale_print_laws.specs.CanonicalConditions.{asks as condition_asks, ConditionPlace, IsCanonicalCondition}
+use Rattle.pale_print_laws.specs.CanonicalConditions.{whole as whole_condition, conjunction, literal}
+use Rattle.pale_print_laws.specs.CanonicalAssertions.{asks, AssertionPlace, IsCanonicalAssertion, IsCanonicalBracketed, whole}
+use Rattle.pale_print_laws.specs.CanonicalAssertions.{implication, disjunct, conjunct, operand}
+use Rattle.pale_print_laws.specs.CanonicalStatements.{AreFreeArguments, IsFreeArgument, IsCanonicalClause, IsCanonicalValue}
+use Rattle.pale_print_laws.specs.CanonicalStatements.{IsCanonicalStatement, AreCanonicalStatements}
+use Rattle.pale_print_laws.specs.CanonicalDeclarations.{All, IsCanonicalField, IsCanonicalVariant, IsCanonicalType}
+use Rattle.pale_print_laws.specs.CanonicalDeclarations.{IsFreePredicateParameter, IsCanonicalPredicate, IsFreeParameter}
+use Rattle.pale_print_laws.specs.CanonicalDeclarations.{IsFreeLogicParameter, IsCanonicalProcedure}
 use Rattle.pale_print_laws.proofs.Framework.{Counts}
 use Rattle.pale_print_laws.proofs.NameSizes.{path_size, term_size}
 use Rattle.pale_print_laws.proofs.RouteSizes.{route_size}
@@ -43,7 +48,8 @@ use Rattle.pale_print_laws.proofs.ConditionSizes.{condition_size}
 use Rattle.pale_print_laws.proofs.AssertionSizes.{assertion_size, quantified_size, used_size}
 use Rattle.pale_print_laws.proofs.ListSizes.{behind_size, separated_size}
 use Rattle.pale_print_laws.proofs.StatementSizes.{one_token, clause_size, logic_argument_size, statement_size, statements_size, value_size}
-use Rattle.pale_print_laws.proofs.DeclarationSizes.{field_size, variant_size, type_size, predicate_parameter_size, predicate_size, parameter_size, logic_parameter_size, procedure_size}
+use Rattle.pale_print_laws.proofs.DeclarationSizes.{field_size, variant_size, type_size, predicate_parameter_size}
+use Rattle.pale_print_laws.proofs.DeclarationSizes.{predicate_size, parameter_size, logic_parameter_size, procedure_size}
 
 -- ---- what parts make
 
@@ -159,8 +165,10 @@ pub record ImpliedMade (room : ℕ) (start end : List Token) : Type 0 where
 pub record QuantifiedMade (room : ℕ) (start end : List Token) : Type 0 where
   pub quantifier : Quantifier → Quantifier
   pub body : Assertion
-  pub canonical : (kind : QuantifierKind) (place : Pos) → IsCanonicalAssertion operand false (suc room) (assertion.Quantified (quantifier (begun kind place)) body)
-  pub short : (kind : QuantifierKind) (place : Pos) → quantified_size (quantifier (begun kind place)) (assertion_size body) false + length end ≤ suc (length start)
+  pub canonical : (kind : QuantifierKind) (place : Pos) →
+      IsCanonicalAssertion operand false (suc room) (assertion.Quantified (quantifier (begun kind place)) body)
+  pub short : (kind : QuantifierKind) (place : Pos) →
+      quantified_size (quantifier (begun kind place)) (assertion_size body) false + length end ≤ suc (length start)
 
 pub record BracketedMade (room n : ℕ) (start end : List Token) : Type 0 where
   pub bracketed : Bracketed

@@ -1,19 +1,19 @@
 -- What becomes of the parts that were made before, where a part of program text is read; and what has to hold of them.
 use Rattle.std.proofs.Common.{◌≡◌, ◌⊎◌, inl, inr, ℕ, List, [], ◌∷◌, ◌++◌, None, Some}
 use Rattle.plain_data.specs.Stacks.{top, rest}
-use Rattle.pale_text.specs.declared.grammar.part.ProgramPart.{ProgramPart}
-use Rattle.pale_text.specs.declared.grammar.part.ProgramPart.TheVariants as part
+use Rattle.pale_syntax.specs.declared.grammar.part.ProgramPart.{ProgramPart}
+use Rattle.pale_syntax.specs.declared.grammar.part.ProgramPart.TheVariants as part
 use Rattle.pale_text.specs.declared.token.Token.{Token}
-use Rattle.pale_text.specs.declared.tree.names.Term.TheVariants as term
-use Rattle.pale_text.specs.declared.tree.route.Route.TheVariants as route
-use Rattle.pale_text.specs.declared.tree.assertion.Assertion.TheVariants as assertion
-use Rattle.pale_text.specs.declared.tree.declaration.Declaration.TheVariants as declaration
-use Rattle.pale_text.specs.MakingParts.{Parts, nameless}
-use Rattle.pale_text.specs.MakingWords.{pathless, termless, extended}
-use Rattle.pale_text.specs.MakingRoutes.{routeless, tested_type, joined_then, joined_or, starred}
-use Rattle.pale_text.specs.MakingConditions.{conditionless, term_alone, both_conditions, either_condition}
-use Rattle.pale_text.specs.MakingAssertions.{assertionless, path_alone, both, either, equivalent, quantifierless, of_sets, binding}
-use Rattle.pale_text.specs.MakingStatements.{valueless, narrowed, with_statement}
+use Rattle.pale_syntax.specs.declared.tree.names.Term.TheVariants as term
+use Rattle.pale_syntax.specs.declared.tree.route.Route.TheVariants as route
+use Rattle.pale_syntax.specs.declared.tree.assertion.Assertion.TheVariants as assertion
+use Rattle.pale_syntax.specs.declared.tree.declaration.Declaration.TheVariants as declaration
+use Rattle.pale_syntax.specs.MakingParts.{Parts, nameless}
+use Rattle.pale_syntax.specs.MakingWords.{pathless, termless, extended}
+use Rattle.pale_syntax.specs.MakingRoutes.{routeless, tested_type, joined_then, joined_or, starred}
+use Rattle.pale_syntax.specs.MakingConditions.{conditionless, term_alone, both_conditions, either_condition}
+use Rattle.pale_syntax.specs.MakingAssertions.{assertionless, path_alone, both, either, equivalent, quantifierless, of_sets, binding}
+use Rattle.pale_syntax.specs.MakingStatements.{valueless, narrowed, with_statement}
 use Rattle.pale_print_laws.proofs.FromRows.{Meaning}
 use Rattle.pale_print_laws.proofs.FromMade.{GivenMade, ResultsMade, TypeMade, PredicateMade, ProcedureMade, Made}
 
@@ -39,7 +39,8 @@ put_procedure made parts =
       post = None;
     }
 
-abbrev pub put_declaration : {room : ℕ} {start end : List Token} → TypeMade room start end ⊎ (PredicateMade room start end ⊎ ProcedureMade room start end) → Parts → Parts
+abbrev pub put_declaration : {room : ℕ} {start end : List Token} →
+    TypeMade room start end ⊎ (PredicateMade room start end ⊎ ProcedureMade room start end) → Parts → Parts
 put_declaration (inl made) parts = put_type made parts
 put_declaration (inr (inl made)) parts = put_predicate made parts
 put_declaration (inr (inr made)) parts = put_procedure made parts

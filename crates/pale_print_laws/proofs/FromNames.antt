@@ -1,13 +1,14 @@
 -- Names, paths and terms that a reading makes are free of reserved words, and spelled in no more tokens than they were read from.
 use Rattle.std.proofs.Common.{◌+◌, ◌≤◌, length, arith, ◌≡◌, ℕ, List, [], ◌∷◌, ◌++◌, Some, refl, subst}
-use Rattle.pale_text.specs.declared.grammar.part.ProgramPart.TheVariants as part
+use Rattle.pale_syntax.specs.declared.grammar.part.ProgramPart.TheVariants as part
 use Rattle.pale_text.specs.declared.token.Token.{Token}
-use Rattle.pale_text.specs.declared.tree.names.Name.{Name}
-use Rattle.pale_text.specs.declared.tree.names.Path.{Path}
-use Rattle.pale_text.specs.declared.tree.names.Term.TheVariants as term
-use Rattle.pale_text.specs.MakingParts.{Parts, name_of, place_of}
-use Rattle.pale_text.specs.MakingWords.{path_at, extended}
-use Rattle.pale_text.specs.ProgramGrammar.{rows_of}
+use Rattle.pale_syntax.specs.declared.tree.names.Name.{Name}
+use Rattle.pale_syntax.specs.declared.tree.names.Path.{Path}
+use Rattle.pale_syntax.specs.declared.tree.names.Term.TheVariants as term
+use Rattle.pale_syntax.specs.MakingParts.{Parts, name_of}
+use Rattle.pale_text.specs.Tokens.{place_of}
+use Rattle.pale_syntax.specs.MakingWords.{path_at, extended}
+use Rattle.pale_syntax.specs.ProgramGrammar.{rows_of}
 use Rattle.pale_print_laws.specs.CanonicalNames.{IsFree, AreFree, IsFreePath}
 use Rattle.pale_print_laws.proofs.NameSizes.{path_size, extended_size, one_less}
 use Rattle.pale_print_laws.proofs.FromRows.{Several, no_more, one_more, puts}
@@ -25,7 +26,8 @@ extended_free p f free is = record { base = free.base; fields = one_more_free p.
 -- the steps of a path go to the end of the path on top
 pub steps_made : (room : ℕ) (start end : List Token) (steps : Several program_meaning part.PathStep room start end) (p : Path) → IsFreePath p →
     (first : List Token) → path_size p + length start ≤ length first → (parts : Parts) (below : List Path) →
-    (made : PathMade 0 first end) × (puts program_meaning part.PathStep room start end steps (record parts { paths = p ∷ below }) ≡ record parts { paths = made.path ∷ below })
+    (made : PathMade 0 first end) × (puts program_meaning part.PathStep room start end steps
+    (record parts { paths = p ∷ below }) ≡ record parts { paths = made.path ∷ below })
 steps_made room start end (no_more _ stops) p free first short parts below = (record { path = p; free = free; short = omega arith }, refl)
 steps_made room start end (one_more _ middle _ one others) p free first short parts below =
     let e = extended_size p one.name in
@@ -38,7 +40,9 @@ path_row = record {
   along = λ room last tokens parts goal g before.
       let more = g.4 tt in
       let x : Name = name_of (Some g.0) in
-      let steps = steps_made room g.1 more.1 more.2 (path_at x) (record { base = free_name g.0 g.3; fields = tt }) tokens (omega (arith, one_less g.2)) parts parts.paths in
+      let steps =
+      steps_made room g.1 more.1 more.2 (path_at x) (record { base = free_name g.0 g.3; fields = tt }) tokens
+      (omega (arith, one_less g.2)) parts parts.paths in
       (more.0, more.1, steps.0, subst (λ q. goal more.0 more.1 q) steps.1 more.3);
 }
 
@@ -50,8 +54,12 @@ step_row : IsSoundRow part.PathStep (nth (rows_of part.PathStep) 0)
 unfolding rows_of
 step_row = record {
   along = λ room last tokens parts goal g before.
-      let name = g.4 in
-      (Some name.0, name.1, record { name = name_of (Some name.0); free = free_name name.0 name.3; short = omega (arith, one_less g.2, one_less name.2) }, name.4);
+      let name = g.4 in (
+        Some name.0,
+        name.1,
+        record { name = name_of (Some name.0); free = free_name name.0 name.3; short = omega (arith, one_less g.2, one_less name.2) },
+        name.4,
+      );
 }
 
 pub path_step_sound : AreSoundRows part.PathStep (rows_of part.PathStep)

@@ -1,15 +1,16 @@
 -- How a part's rows are proved sound, one by one; and the names that tokens are.
 use Rattle.std.proofs.Common.{◌≡◌, inl, inr, ℕ, zero, suc, List, [], ◌∷◌, Option, Some, subst}
 use Rattle.ll1_reader.specs.Grammars.{IsOneOf}
-use Rattle.pale_text.specs.declared.grammar.kind.ProgramKind.TheVariants as kind
-use Rattle.pale_text.specs.declared.grammar.part.ProgramPart.{ProgramPart}
+use Rattle.pale_syntax.specs.declared.grammar.kind.ProgramKind.TheVariants as kind
+use Rattle.pale_syntax.specs.declared.grammar.part.ProgramPart.{ProgramPart}
 use Rattle.pale_text.specs.declared.token.Token.{Token}
 use Rattle.pale_text.specs.declared.token.TokenKind.{TokenKind}
 use Rattle.pale_text.specs.declared.token.TokenKind.TheVariants as token
 use Rattle.ll1_reader.specs.declared.symbol.Symbol.TheVariants.{Once}
-use Rattle.pale_text.specs.MakingParts.{Parts, name_of, name_bytes}
-use Rattle.pale_text.specs.ProgramGrammar.{ProgramSymbol, rows_of}
-use Rattle.pale_text.specs.ProgramWords.{kind_of, name_kind}
+use Rattle.pale_syntax.specs.MakingParts.{Parts, name_of}
+use Rattle.pale_text.specs.Tokens.{name_bytes}
+use Rattle.pale_syntax.specs.ProgramGrammar.{ProgramSymbol, rows_of}
+use Rattle.pale_syntax.specs.ProgramWords.{kind_of, name_kind}
 use Rattle.pale_text.specs.Spelling.{IsName}
 use Rattle.pale_print_laws.specs.CanonicalNames.{IsFree}
 use Rattle.pale_print_laws.proofs.FromRows.{IsNamed, IsOfKind, Goal, Goes, IsSoundAt}

@@ -1,26 +1,28 @@
 -- Procedures that a reading makes are canonical, and spelled in no more tokens than they were read from.
 use Rattle.std.proofs.Common.{◌+◌, ◌≤◌, None, length, ap, sym, ◌≡◌, inl, inr, ℕ, suc, List, [], ◌∷◌, ◌++◌, Option, Some, refl, subst, arith}
 use Rattle.ll1_reader.specs.declared.symbol.Symbol.TheVariants.{Maybe, Many}
-use Rattle.pale_text.specs.declared.grammar.act.ProcedureAct.TheVariants as procedures
-use Rattle.pale_text.specs.declared.grammar.act.StatementAct.TheVariants as statements
-use Rattle.pale_text.specs.declared.grammar.part.ProgramPart.TheVariants as part
+use Rattle.pale_syntax.specs.declared.grammar.act.ProcedureAct.TheVariants as procedures
+use Rattle.pale_syntax.specs.declared.grammar.act.StatementAct.TheVariants as statements
+use Rattle.pale_syntax.specs.declared.grammar.part.ProgramPart.TheVariants as part
 use Rattle.pale_text.specs.declared.place.Pos.{Pos}
 use Rattle.pale_text.specs.declared.token.Mark.TheVariants as mark
 use Rattle.pale_text.specs.declared.token.Token.{Token}
-use Rattle.pale_text.specs.declared.tree.assertion.Bracketed.{Bracketed}
-use Rattle.pale_text.specs.declared.tree.statement.Statement.{Statement}
-use Rattle.pale_text.specs.declared.tree.declaration.LogicParameter.{LogicParameter}
-use Rattle.pale_text.specs.declared.tree.declaration.LogicParameter.TheVariants as logic
-use Rattle.pale_text.specs.declared.tree.declaration.Parameter.{Parameter}
-use Rattle.pale_text.specs.declared.tree.declaration.Parameter.TheVariants as parameter
-use Rattle.pale_text.specs.MakingParts.{Parts, name_of, place_of}
-use Rattle.pale_text.specs.ProgramGrammar.{ProgramSymbol, rows_of, reads, opens, mark_place, statement, procedure}
+use Rattle.pale_syntax.specs.declared.tree.assertion.Bracketed.{Bracketed}
+use Rattle.pale_syntax.specs.declared.tree.statement.Statement.{Statement}
+use Rattle.pale_syntax.specs.declared.tree.declaration.LogicParameter.{LogicParameter}
+use Rattle.pale_syntax.specs.declared.tree.declaration.LogicParameter.TheVariants as logic
+use Rattle.pale_syntax.specs.declared.tree.declaration.Parameter.{Parameter}
+use Rattle.pale_syntax.specs.declared.tree.declaration.Parameter.TheVariants as parameter
+use Rattle.pale_syntax.specs.MakingParts.{Parts, name_of}
+use Rattle.pale_text.specs.Tokens.{place_of}
+use Rattle.pale_syntax.specs.ProgramGrammar.{ProgramSymbol, rows_of, reads, opens, mark_place, statement, procedure}
 use Rattle.pale_print_laws.specs.CanonicalStatements.{IsCanonicalClause, AreCanonicalStatements, none}
 use Rattle.pale_print_laws.specs.CanonicalDeclarations.{All, IsFreeParameter, IsFreeLogicParameter}
 use Rattle.pale_print_laws.proofs.NameSizes.{one_less}
 use Rattle.pale_print_laws.proofs.ListSizes.{each_size, each_last, separated_size, separated_last}
 use Rattle.pale_print_laws.proofs.StatementSizes.{clause_size, statements_size}
-use Rattle.pale_print_laws.proofs.DeclarationSizes.{parameter_size, local_size, logic_parameter_size, results_size, logics_size, results_at_most, logics_at_most}
+use Rattle.pale_print_laws.proofs.DeclarationSizes.{parameter_size, local_size, logic_parameter_size, results_size, logics_size}
+use Rattle.pale_print_laws.proofs.DeclarationSizes.{results_at_most, logics_at_most}
 use Rattle.pale_print_laws.proofs.FromRows.{Several, no_more, one_more, puts, Goal, Goes}
 use Rattle.pale_print_laws.proofs.FromMade.{FreeName, ParametersMade, LogicsMade, ProcedureMade}
 use Rattle.pale_print_laws.proofs.FromMeaning.{program_meaning, NoCall, put_procedure}
@@ -68,8 +70,16 @@ bool_row : IsSoundRow part.Parameter (nth (rows_of part.Parameter) 2)
 unfolding rows_of
 bool_row = record {
   along = λ room last tokens parts goal g before.
-      let name = g.4 in
-      (Some name.0, name.1, record { parameter = parameter.Bool (name_of (Some name.0)); free = free_name name.0 name.3; short = omega (arith, one_less g.2, one_less name.2) }, name.4);
+      let name = g.4 in (
+        Some name.0,
+        name.1,
+        record {
+          parameter = parameter.Bool (name_of (Some name.0));
+          free = free_name name.0 name.3;
+          short = omega (arith, one_less g.2, one_less name.2);
+        },
+        name.4,
+      );
 }
 
 pub parameter_sound : AreSoundRows part.Parameter (rows_of part.Parameter)
@@ -88,13 +98,16 @@ pub next_parameter_sound : AreSoundRows part.NextParameter (rows_of part.NextPar
 unfolding rows_of
 next_parameter_sound = or_row next_parameter_row no_row
 
-parameters_made : (room : ℕ) (start end : List Token) (several : Several program_meaning part.NextParameter room start end) (ps : List Parameter) → All IsFreeParameter ps →
+parameters_made : (room : ℕ) (start end : List Token) (several : Several program_meaning part.NextParameter room start end) (ps : List Parameter) →
+    All IsFreeParameter ps →
     (first : List Token) → separated_size parameter_size ps + length start ≤ length first → (parts : Parts) →
-    (made : ParametersMade 0 first end) × (puts program_meaning part.NextParameter room start end several (record parts { variables = ps }) ≡ record parts { variables = made.parameters })
+    (made : ParametersMade 0 first end) × (puts program_meaning part.NextParameter room start end several
+    (record parts { variables = ps }) ≡ record parts { variables = made.parameters })
 parameters_made room start end (no_more _ stops) ps c first short parts = (record { parameters = ps; free = c; short = omega arith }, refl)
 parameters_made room start end (one_more _ middle _ one others) ps c first short parts =
     let l = one.short in
-    parameters_made room middle end others (ps ++ one.parameter ∷ []) (all_and IsFreeParameter ps one.parameter c one.free) first (omega (arith, separated_last parameter_size ps one.parameter)) parts
+    parameters_made room middle end others (ps ++ one.parameter ∷ []) (all_and IsFreeParameter ps one.parameter c one.free)
+    first (omega (arith, separated_last parameter_size ps one.parameter)) parts
 
 parameters_row : IsSoundRow part.Parameters (nth (rows_of part.Parameters) 0)
 unfolding rows_of
@@ -134,19 +147,30 @@ record LocalsMade (start end : List Token) : Type 0 where
 
 locals_made : (room : ℕ) (start end : List Token) (several : Several program_meaning part.Local room start end) (ps : List Parameter) → All IsFreeParameter ps →
     (first : List Token) → each_size local_size ps + length start ≤ length first → (parts : Parts) →
-    (made : LocalsMade first end) × (puts program_meaning part.Local room start end several (record parts { variables = ps }) ≡ record parts { variables = made.parameters })
+    (made : LocalsMade first end)
+    × (puts program_meaning part.Local room start end several (record parts { variables = ps }) ≡ record parts { variables = made.parameters })
 locals_made room start end (no_more _ stops) ps c first short parts = (record { parameters = ps; free = c; short = short }, refl)
 locals_made room start end (one_more _ middle _ one others) ps c first short parts =
     let l = one.short in
-    locals_made room middle end others (ps ++ one.parameter ∷ []) (all_and IsFreeParameter ps one.parameter c one.free) first (omega (arith, each_last local_size ps one.parameter)) parts
+    locals_made room middle end others (ps ++ one.parameter ∷ []) (all_and IsFreeParameter ps one.parameter c one.free) first
+    (omega (arith, each_last local_size ps one.parameter)) parts
 
 returns_row : IsSoundRow part.Returns (nth (rows_of part.Returns) 0)
 unfolding rows_of
 returns_row = record {
   along = λ room last tokens parts goal g before.
       let made = g.4.4 before in
-      let close = made.3 in
-      (Some close.0, close.1, record { parameters = made.2.parameters; free = made.2.free; short = omega (arith, made.2.short, one_less g.2, one_less g.4.2, one_less close.2) }, close.4);
+      let close = made.3 in (
+        Some close.0,
+        close.1,
+        record {
+          parameters = made.2.parameters;
+          free = made.2.free;
+          short = omega
+              (arith, made.2.short, one_less g.2, one_less g.4.2, one_less close.2);
+        },
+        close.4,
+      );
 }
 
 pub returns_sound : AreSoundRows part.Returns (rows_of part.Returns)
@@ -176,8 +200,12 @@ bool_logic_row : IsSoundRow part.LogicParameter (nth (rows_of part.LogicParamete
 unfolding rows_of
 bool_logic_row = record {
   along = λ room last tokens parts goal g before.
-      let name = g.4 in
-      (Some name.0, name.1, record { logic = logic.Bool (name_of (Some name.0)); free = free_name name.0 name.3; short = omega (arith, one_less g.2, one_less name.2) }, name.4);
+      let name = g.4 in (
+        Some name.0,
+        name.1,
+        record { logic = logic.Bool (name_of (Some name.0)); free = free_name name.0 name.3; short = omega (arith, one_less g.2, one_less name.2) },
+        name.4,
+      );
 }
 
 pub logic_parameter_sound : AreSoundRows part.LogicParameter (rows_of part.LogicParameter)
@@ -196,13 +224,17 @@ pub next_logic_parameter_sound : AreSoundRows part.NextLogicParameter (rows_of p
 unfolding rows_of
 next_logic_parameter_sound = or_row next_logic_row no_row
 
-logics_made : (room : ℕ) (start end : List Token) (several : Several program_meaning part.NextLogicParameter room start end) (ls : List LogicParameter) → All IsFreeLogicParameter ls →
+logics_made : (room : ℕ) (start end : List Token) (several : Several program_meaning part.NextLogicParameter room start end)
+    (ls : List LogicParameter) →
+    All IsFreeLogicParameter ls →
     (first : List Token) → suc (separated_size logic_parameter_size ls + length start) ≤ length first → (parts : Parts) →
-    (made : LogicsMade first end) × (puts program_meaning part.NextLogicParameter room start end several (record parts { logics = ls }) ≡ record parts { logics = made.logics })
+    (made : LogicsMade first end) × (puts program_meaning part.NextLogicParameter room start end several
+    (record parts { logics = ls }) ≡ record parts { logics = made.logics })
 logics_made room start end (no_more _ stops) ls c first short parts = (record { logics = ls; free = c; short = short }, refl)
 logics_made room start end (one_more _ middle _ one others) ls c first short parts =
     let l = one.short in
-    logics_made room middle end others (ls ++ one.logic ∷ []) (all_and IsFreeLogicParameter ls one.logic c one.free) first (omega (arith, separated_last logic_parameter_size ls one.logic)) parts
+    logics_made room middle end others (ls ++ one.logic ∷ []) (all_and IsFreeLogicParameter ls one.logic c one.free) first
+    (omega (arith, separated_last logic_parameter_size ls one.logic)) parts
 
 logic_row : IsSoundRow part.Logic (nth (rows_of part.Logic) 0)
 unfolding rows_of
@@ -210,8 +242,12 @@ logic_row = record {
   along = λ room last tokens parts goal g before.
       let first = g.4 tt in
       let others = first.3 tt in
-      let made = logics_made room first.1 others.1 others.2 (parts.logics ++ first.2.logic ∷ []) (all_and IsFreeLogicParameter parts.logics first.2.logic (none_all IsFreeLogicParameter parts.logics before) first.2.free)
-      tokens (subst (λ (ls : List LogicParameter). suc (separated_size logic_parameter_size (ls ++ first.2.logic ∷ []) + length first.1) ≤ length tokens) (sym before)
+      let made =
+      logics_made room first.1 others.1 others.2 (parts.logics ++ first.2.logic ∷ [])
+      (all_and IsFreeLogicParameter parts.logics first.2.logic (none_all IsFreeLogicParameter parts.logics before) first.2.free)
+      tokens (subst
+      (λ (ls : List LogicParameter). suc (separated_size logic_parameter_size (ls ++ first.2.logic ∷ []) + length first.1) ≤ length tokens)
+      (sym before)
       (omega (arith, first.2.short, one_less g.2))) parts in
       (others.0, others.1, made.0, subst (λ q. goal others.0 others.1 q) made.1 others.3);
 }
@@ -273,7 +309,8 @@ pub record Header (room : ℕ) : Type 0 where
 
 abbrev header_size : {room : ℕ} → Header room → ℕ
 header_size h =
-    separated_size parameter_size h.parameters.parameters + (results_size h.results.parameters + (logics_size h.logics.logics + (clause_size h.pre.clause + clause_size h.post.clause)))
+    separated_size parameter_size h.parameters.parameters
+    + (results_size h.results.parameters + (logics_size h.logics.logics + (clause_size h.pre.clause + clause_size h.post.clause)))
 
 -- the parts where this was read
 abbrev with_header : {room : ℕ} → Parts → Header room → Parts
@@ -300,7 +337,9 @@ body_row = opens mark.LeftBrace ∷ statement statements.BeginBlock ∷ Many par
 
 -- the procedure is made, and the goal reached
 ProcedureAt : ℕ → List Token → Parts → Goal → Type 0
-ProcedureAt room start parts goal = (behind : Option Token) × (others : List Token) × (made : ProcedureMade room start others) × goal behind others (put_procedure made parts)
+ProcedureAt room start parts goal =
+    (behind : Option Token) × (others : List Token) × (made : ProcedureMade room start others) × goal behind others
+    (put_procedure made parts)
 
 -- what stands in the braces of a body
 inside_made : (inside : ℕ) (last : Option Token) (tokens : List Token) (parts : Parts) (below : List (List Statement)) (goal : Goal) → NoCall parts →
@@ -322,7 +361,8 @@ inside_made inside last tokens parts below goal before g =
       omega (arith, made.0.short, ss.3),
     )
 
-body_made : (room : ℕ) (last : Option Token) (tokens : List Token) (parts : Parts) (goal : Goal) (h : Header room) → (start : List Token) → suc (suc (suc (suc (header_size h + length tokens)))) ≤ length start → NoCall parts →
+body_made : (room : ℕ) (last : Option Token) (tokens : List Token) (parts : Parts) (goal : Goal) (h : Header room) →
+    (start : List Token) → suc (suc (suc (suc (header_size h + length tokens)))) ≤ length start → NoCall parts →
     Goes program_meaning body_row room last tokens (with_header parts h) goal → ProcedureAt room start parts goal
 unfolding ProcedureAt
 body_made room last tokens parts goal h start short before g =
@@ -363,7 +403,9 @@ body_made room last tokens parts goal h start short before g =
       close.4,
     )
 
-post_made : (room : ℕ) (last : Option Token) (tokens : List Token) (parts : Parts) (goal : Goal) (h : Header room) → (start : List Token) → suc (suc (suc (suc (header_size h + length tokens)))) ≤ length start → clause_size h.post.clause ≡ 0 → NoCall parts →
+post_made : (room : ℕ) (last : Option Token) (tokens : List Token) (parts : Parts) (goal : Goal) (h : Header room) →
+    (start : List Token) → suc (suc (suc (suc (header_size h + length tokens)))) ≤ length start → clause_size h.post.clause ≡ 0 →
+    NoCall parts →
     Goes program_meaning (Maybe part.Post ∷ body_row) room last tokens (with_header parts h) goal → ProcedureAt room start parts goal
 post_made room last tokens parts goal h start short no_post before g =
     elim (g before.0) [
@@ -372,7 +414,9 @@ post_made room last tokens parts goal h start short no_post before g =
           start (omega (arith, short, no_post, some.2.short)) before some.3
     ]
 
-pre_made : (room : ℕ) (last : Option Token) (tokens : List Token) (parts : Parts) (goal : Goal) (h : Header room) → (start : List Token) → suc (suc (suc (suc (header_size h + length tokens)))) ≤ length start → clause_size h.pre.clause ≡ 0 → clause_size h.post.clause ≡ 0 → NoCall parts →
+pre_made : (room : ℕ) (last : Option Token) (tokens : List Token) (parts : Parts) (goal : Goal) (h : Header room) →
+    (start : List Token) → suc (suc (suc (suc (header_size h + length tokens)))) ≤ length start → clause_size h.pre.clause ≡ 0 →
+    clause_size h.post.clause ≡ 0 → NoCall parts →
     Goes program_meaning (Maybe part.Pre ∷ Maybe part.Post ∷ body_row) room last tokens (with_header parts h) goal → ProcedureAt room start parts goal
 pre_made room last tokens parts goal h start short no_pre no_post before g =
     elim (g before.0) [
@@ -381,8 +425,11 @@ pre_made room last tokens parts goal h start short no_pre no_post before g =
           start (omega (arith, short, no_pre, some.2.short)) no_post before some.3
     ]
 
-logic_made : (room : ℕ) (last : Option Token) (tokens : List Token) (parts : Parts) (goal : Goal) (h : Header room) → (start : List Token) → suc (suc (suc (suc (header_size h + length tokens)))) ≤ length start → h.logics.logics ≡ [] → clause_size h.pre.clause ≡ 0 → clause_size h.post.clause ≡ 0 → NoCall parts →
-    Goes program_meaning (Maybe part.Logic ∷ Maybe part.Pre ∷ Maybe part.Post ∷ body_row) room last tokens (with_header parts h) goal → ProcedureAt room start parts goal
+logic_made : (room : ℕ) (last : Option Token) (tokens : List Token) (parts : Parts) (goal : Goal) (h : Header room) →
+    (start : List Token) → suc (suc (suc (suc (header_size h + length tokens)))) ≤ length start → h.logics.logics ≡ [] →
+    clause_size h.pre.clause ≡ 0 → clause_size h.post.clause ≡ 0 → NoCall parts →
+    Goes program_meaning (Maybe part.Logic ∷ Maybe part.Pre ∷ Maybe part.Post ∷ body_row) room last tokens
+    (with_header parts h) goal → ProcedureAt room start parts goal
 logic_made room last tokens parts goal h start short no_logics no_pre no_post before g =
     elim (g no_logics) [
       | inl alone ↦ pre_made room last tokens parts goal h start short no_pre no_post before alone.1
@@ -390,7 +437,10 @@ logic_made room last tokens parts goal h start short no_logics no_pre no_post be
           start (omega (arith, short, ap logics_size no_logics, some.2.short, logics_at_most some.2.logics)) no_pre no_post before some.3
     ]
 
-returns_made : (room : ℕ) (last : Option Token) (tokens : List Token) (parts : Parts) (goal : Goal) (h : Header room) → (start : List Token) → suc (suc (suc (suc (header_size h + length tokens)))) ≤ length start → results_size h.results.parameters ≡ 0 → h.logics.logics ≡ [] → clause_size h.pre.clause ≡ 0 → clause_size h.post.clause ≡ 0 → NoCall parts →
+returns_made : (room : ℕ) (last : Option Token) (tokens : List Token) (parts : Parts) (goal : Goal) (h : Header room) →
+    (start : List Token) → suc (suc (suc (suc (header_size h + length tokens)))) ≤ length start →
+    results_size h.results.parameters ≡ 0 → h.logics.logics ≡ [] → clause_size h.pre.clause ≡ 0 → clause_size h.post.clause ≡ 0 →
+    NoCall parts →
     Goes program_meaning (Maybe part.Returns ∷ Maybe part.Logic ∷ Maybe part.Pre ∷ Maybe part.Post ∷ body_row) room last tokens (with_header parts h) goal →
     ProcedureAt room start parts goal
 returns_made room last tokens parts goal h start short no_results no_logics no_pre no_post before g =
@@ -421,13 +471,37 @@ procedure_row = record {
       elim (name.4.4 before.1) [
         | inl alone ↦
             let close = alone.1 in
-            returns_made room (Some close.0) close.1 parts goal (head (record { parameters = parts.variables; free = none_all IsFreeParameter parts.variables before.1 }))
-            tokens (omega (arith, ap (separated_size parameter_size) before.1, ap results_size before.2, ap logics_size before.3, ap clause_size before.4, ap clause_size before.5, one_less g.2, one_less name.2, one_less name.4.2, one_less close.2))
+            returns_made room (Some close.0) close.1 parts goal
+            (head (record { parameters = parts.variables; free = none_all IsFreeParameter parts.variables before.1 }))
+            tokens (omega (
+              arith,
+              ap (separated_size parameter_size) before.1,
+              ap results_size before.2,
+              ap logics_size
+                  before.3,
+              ap clause_size before.4,
+              ap clause_size before.5,
+              one_less g.2,
+              one_less name.2,
+              one_less name.4.2,
+              one_less close.2,
+            ))
             (ap results_size before.2) before.3 (ap clause_size before.4) (ap clause_size before.5) before.0 close.4
         | inr some ↦
             let close = some.3 in
             returns_made room (Some close.0) close.1 parts goal (head (record { parameters = some.2.parameters; free = some.2.free }))
-            tokens (omega (arith, some.2.short, ap results_size before.2, ap logics_size before.3, ap clause_size before.4, ap clause_size before.5, one_less g.2, one_less name.2, one_less name.4.2, one_less close.2))
+            tokens (omega (
+              arith,
+              some.2.short,
+              ap results_size before.2,
+              ap logics_size before.3,
+              ap clause_size before.4,
+              ap clause_size before.5,
+              one_less g.2,
+              one_less name.2,
+              one_less name.4.2,
+              one_less close.2,
+            ))
             (ap results_size before.2) before.3 (ap clause_size before.4) (ap clause_size before.5) before.0 close.4
       ];
 }

@@ -2,19 +2,19 @@
 use Rattle.std.proofs.Common.{◌≡◌, ◌+◌, ◌-◌, ◌≤◌, length, arith, ◌⊎◌, inl, inr, ℕ, List, [], ◌∷◌, ◌++◌, None, refl, sym, subst}
 use Rattle.ll1_reader.specs.Answers.{levels, AreLow}
 use Rattle.ll1_reader.specs.Readings.{Step}
-use Rattle.pale_text.specs.declared.grammar.act.Act.{Act}
-use Rattle.pale_text.specs.declared.grammar.part.ProgramPart.{ProgramPart}
-use Rattle.pale_text.specs.declared.grammar.part.ProgramPart.TheVariants as part
+use Rattle.pale_syntax.specs.declared.grammar.act.Act.{Act}
+use Rattle.pale_syntax.specs.declared.grammar.part.ProgramPart.{ProgramPart}
+use Rattle.pale_syntax.specs.declared.grammar.part.ProgramPart.TheVariants as part
 use Rattle.pale_text.specs.declared.token.Token.{Token}
 use Rattle.pale_text.specs.declared.token.TokenKind.{TokenKind}
 use Rattle.pale_text.specs.declared.token.TokenKind.TheVariants as token
 use Rattle.pale_text.specs.declared.token.TokenList.{TokenList}
-use Rattle.pale_text.specs.declared.tree.declaration.Declaration.TheVariants as declaration
-use Rattle.pale_text.specs.declared.tree.declaration.Program.{Program}
+use Rattle.pale_syntax.specs.declared.tree.declaration.Declaration.TheVariants as declaration
+use Rattle.pale_syntax.specs.declared.tree.declaration.Program.{Program}
 use Rattle.pale_text.specs.Lexing.{Reaches, at_start, past_gap, past_comment, past_token, IsLexed}
-use Rattle.pale_text.specs.MakingParts.{Parts, nothing}
-use Rattle.pale_text.specs.ProgramGrammar.{program_grammar}
-use Rattle.pale_text.specs.ProgramReading.{IsProgram}
+use Rattle.pale_syntax.specs.MakingParts.{Parts, nothing}
+use Rattle.pale_syntax.specs.ProgramGrammar.{program_grammar}
+use Rattle.pale_syntax.specs.ProgramReading.{IsProgram}
 use Rattle.pale_text.specs.Spelling.{IsName, Spells}
 use Rattle.pale_print_laws.specs.CanonicalDeclarations.{All, IsCanonicalDeclaration, IsCanonical}
 use Rattle.pale_print.specs.DeclarationTokens.{program_tokens}
@@ -25,14 +25,25 @@ use Rattle.pale_print_laws.proofs.FromMade.{TypeMade, PredicateMade, ProcedureMa
 use Rattle.pale_print_laws.proofs.FromMeaning.{program_meaning, put_declaration, BeforeDeclaration}
 use Rattle.pale_print_laws.proofs.FromParts.{sound_at}
 use Rattle.pale_print_laws.proofs.FromNames.{path_sound, path_step_sound, term_sound}
-use Rattle.pale_print_laws.proofs.FromRoutes.{route_sound, next_alternative_sound, sequence_sound, next_repeated_sound, repeated_sound, star_sound, step_sound, up_name_sound, variant_test_sound}
-use Rattle.pale_print_laws.proofs.FromConditions.{condition_sound, next_conjunction_sound, conjunction_sound, next_literal_sound, literal_sound, literal_relation_sound}
-use Rattle.pale_print_laws.proofs.FromAtoms.{relation_sound, name_relation_sound, used_paths_sound, next_used_path_sound, path_alone_step_sound, name_rest_sound, primary_sound}
-use Rattle.pale_print_laws.proofs.FromAssertions.{and_chain_sound, next_negation_sound, or_chain_sound, next_and_chain_sound, iff_sound, next_implication_sound, implication_sound, implied_sound, negation_sound, set_word_sound, next_bound_sound, quantified_sound, bracketed_sound}
-use Rattle.pale_print_laws.proofs.FromCalls.{argument_sound, next_argument_sound, argued_sound, logic_arguments_sound, keep_sound, arguments_sound, next_result_sound, call_rest_sound, value_sound, new_variant_sound}
+use Rattle.pale_print_laws.proofs.FromRoutes.{route_sound, next_alternative_sound, sequence_sound, next_repeated_sound}
+use Rattle.pale_print_laws.proofs.FromRoutes.{repeated_sound, star_sound, step_sound, up_name_sound, variant_test_sound}
+use Rattle.pale_print_laws.proofs.FromConditions.{condition_sound, next_conjunction_sound, conjunction_sound, next_literal_sound}
+use Rattle.pale_print_laws.proofs.FromConditions.{literal_sound, literal_relation_sound}
+use Rattle.pale_print_laws.proofs.FromAtoms.{relation_sound, name_relation_sound, used_paths_sound, next_used_path_sound}
+use Rattle.pale_print_laws.proofs.FromAtoms.{path_alone_step_sound, name_rest_sound, primary_sound}
+use Rattle.pale_print_laws.proofs.FromAssertions.{and_chain_sound, next_negation_sound, or_chain_sound, next_and_chain_sound}
+use Rattle.pale_print_laws.proofs.FromAssertions.{iff_sound, next_implication_sound, implication_sound, implied_sound}
+use Rattle.pale_print_laws.proofs.FromAssertions.{negation_sound, set_word_sound, next_bound_sound, quantified_sound}
+use Rattle.pale_print_laws.proofs.FromAssertions.{bracketed_sound}
+use Rattle.pale_print_laws.proofs.FromCalls.{argument_sound, next_argument_sound, argued_sound, logic_arguments_sound}
+use Rattle.pale_print_laws.proofs.FromCalls.{keep_sound, arguments_sound, next_result_sound, call_rest_sound, value_sound}
+use Rattle.pale_print_laws.proofs.FromCalls.{new_variant_sound}
 use Rattle.pale_print_laws.proofs.FromStatements.{block_sound, else_sound, statement_sound}
-use Rattle.pale_print_laws.proofs.FromTypes.{all_and, field_sound, variant_sound, type_sound, predicate_parameter_sound, next_predicate_parameter_sound, predicate_parameters_sound, predicate_sound}
-use Rattle.pale_print_laws.proofs.FromProcedures.{parameter_sound, next_parameter_sound, parameters_sound, local_sound, returns_sound, logic_parameter_sound, next_logic_parameter_sound, logic_sound, pre_sound, post_sound, procedure_sound, declaration_sound}
+use Rattle.pale_print_laws.proofs.FromTypes.{all_and, field_sound, variant_sound, type_sound, predicate_parameter_sound}
+use Rattle.pale_print_laws.proofs.FromTypes.{next_predicate_parameter_sound, predicate_parameters_sound, predicate_sound}
+use Rattle.pale_print_laws.proofs.FromProcedures.{parameter_sound, next_parameter_sound, parameters_sound, local_sound}
+use Rattle.pale_print_laws.proofs.FromProcedures.{returns_sound, logic_parameter_sound, next_logic_parameter_sound, logic_sound}
+use Rattle.pale_print_laws.proofs.FromProcedures.{pre_sound, post_sound, procedure_sound, declaration_sound}
 
 -- ---- each part makes what it means
 
@@ -108,7 +119,9 @@ sound part.PathAloneStep = sound_at path_alone_step_sound
 sound part.NameRelation = sound_at name_relation_sound
 sound part.Relation = sound_at relation_sound
 
-declaration_kept : (room : ℕ) {start end : List Token} (made : TypeMade room start end ⊎ (PredicateMade room start end ⊎ ProcedureMade room start end)) (parts : Parts) → BeforeDeclaration room parts →
+declaration_kept : (room : ℕ) {start end : List Token}
+    (made : TypeMade room start end ⊎ (PredicateMade room start end ⊎ ProcedureMade room start end)) (parts : Parts) →
+    BeforeDeclaration room parts →
     BeforeDeclaration room (put_declaration made parts)
 declaration_kept room (inl made) parts before = ((refl, refl), before.1, before.2)
 declaration_kept room (inr (inl made)) parts before = (before.0, (before.1.0, refl), before.2)
@@ -173,7 +186,8 @@ declarations_made room start end (one_more _ middle _ (inr (inr one)) others) pa
     (all_and (IsCanonicalDeclaration room) parts.declarations (declaration.Procedure one.procedure) all one.canonical)
 
 -- a program that is read, and opens no level above the limit, is canonical, and so does its spelling
-pub canonical_from : (limit : ℕ) (text : List ℕ) (list : TokenList) (steps : List (Step Act)) (tree : Program) → IsLexed text list → IsProgram list.tokens steps tree →
+pub canonical_from : (limit : ℕ) (text : List ℕ) (list : TokenList) (steps : List (Step Act)) (tree : Program) →
+    IsLexed text list → IsProgram list.tokens steps tree →
     AreLow limit (levels steps) → IsCanonical limit tree
 unfolding program_grammar
 canonical_from limit text list steps tree lexed program low =
@@ -186,7 +200,8 @@ canonical_from limit text list steps tree lexed program low =
 
 -- ---- the spelling is the shortest text of its tree
 
-declarations_short : (room : ℕ) (start end : List Token) (several : Several program_meaning part.Declaration room start end) (parts : Parts) (first : List Token) →
+declarations_short : (room : ℕ) (start end : List Token) (several : Several program_meaning part.Declaration room start end)
+    (parts : Parts) (first : List Token) →
     each_size declaration_size parts.declarations + length start ≤ length first →
     each_size declaration_size (puts program_meaning part.Declaration room start end several parts).declarations + length end ≤ length first
 declarations_short room start end (no_more _ stops) parts first short = short

@@ -3,15 +3,18 @@ use Rattle.std.proofs.Common.{◌≡◌, ℕ, suc, nat_lt, true, false, List, []
 use Rattle.pale_text.specs.declared.place.Pos.{Pos}
 use Rattle.pale_text.specs.declared.token.Mark.TheVariants as mark
 use Rattle.pale_text.specs.declared.token.TokenKind.{TokenKind}
-use Rattle.pale_text.specs.declared.tree.route.Route.{Route, out-Route, roll-Route, out-roll-Route}
-use Rattle.pale_text.specs.declared.tree.route.Route.TheVariants as route
-use Rattle.pale_text.specs.declared.tree.route.Route.TheOpen.{Route-F}
-use Rattle.pale_text.specs.declared.tree.route.Route.TheFolds.{fold-roll-Route, map-Route}
+use Rattle.pale_syntax.specs.declared.tree.route.Route.{Route, out-Route, roll-Route, out-roll-Route}
+use Rattle.pale_syntax.specs.declared.tree.route.Route.TheVariants as route
+use Rattle.pale_syntax.specs.declared.tree.route.Route.TheOpen.{Route-F}
+use Rattle.pale_syntax.specs.declared.tree.route.Route.TheFolds.{fold-roll-Route, map-Route}
 use denote.Hole.Carrier.{roll, out}
-use Rattle.pale_text.specs.MakingRoutes.{then_by, or_by, star_by, joined_then, joined_or, starred}
+use Rattle.pale_syntax.specs.MakingRoutes.{then_by, or_by, star_by, joined_then, joined_or, starred}
 use Rattle.pale_print.specs.Tokens.{◌>>◌, sign}
 use Rattle.pale_print.specs.RouteTokens.{Placed, route_node, route_tokens}
-use Rattle.pale_print_laws.specs.CanonicalRoutes.{RoutePlace, whole, sequence, repeated, single, asks, is_then_node, is_or_node, is_star_node, IsGrouped, IsCanonicalRoute, down, up, up_any, root, leaf, is_type, is_variant, is_bool, then, or, star, group, AreCanonicalRoutes, last, more}
+use Rattle.pale_print_laws.specs.CanonicalRoutes.{RoutePlace, whole, sequence, repeated, single, asks, is_then_node, is_or_node}
+use Rattle.pale_print_laws.specs.CanonicalRoutes.{is_star_node, IsGrouped, IsCanonicalRoute, down, up, up_any, root, leaf}
+use Rattle.pale_print_laws.specs.CanonicalRoutes.{is_type, is_variant, is_bool, then, or, star, group, AreCanonicalRoutes, last}
+use Rattle.pale_print_laws.specs.CanonicalRoutes.{more}
 use Rattle.pale_print_laws.proofs.FromLevels.{Wider, alike, wider}
 
 -- ---- parentheses
@@ -22,7 +25,8 @@ node_grouped : (p : RoutePlace) (x : Route-F Route) →
     IsGrouped p (roll-Route x)
 unfolding route_tokens
 node_grouped p x same after =
-    subst (λ (t : Placed). t (asks p) after ≡ (sign mark.LeftParen >> t 0 >> sign mark.RightParen >> after)) (sym (fold-roll-Route Placed route_node x)) (same after)
+    subst (λ (t : Placed). t (asks p) after ≡ (sign mark.LeftParen >> t 0 >> sign mark.RightParen >> after))
+    (sym (fold-roll-Route Placed route_node x)) (same after)
 
 or_grouped : (p : RoutePlace) (first : Route) (others : List Route) → nat_lt 0 (asks p) ≡ true → IsGrouped p (route.Or first others)
 unfolding roll-Route roll
@@ -150,15 +154,22 @@ one_more_route : {p : RoutePlace} {room : ℕ} {rs : List Route} {r : Route} →
 one_more_route {r = r} (last p room x c) one = more p room x (r ∷ []) c (last p room r one)
 one_more_route {r = r} (more p room x others c cs) one = more p room x (others ++ r ∷ []) c (one_more_route cs one)
 
-or_from : {p : RoutePlace} {n room : ℕ} {r other : Route} → IsCanonicalRoute p n r → Wider n room → IsCanonicalRoute whole room r → IsCanonicalRoute sequence room other →
+or_from : {p : RoutePlace} {n room : ℕ} {r other : Route} → IsCanonicalRoute p n r → Wider n room →
+    IsCanonicalRoute whole room r → IsCanonicalRoute sequence room other →
     IsCanonicalRoute whole room (joined_or r other)
 unfolding roll-Route roll out-Route out
-or_from {room = room} {other = other} (down p n f free) w c one = or whole room (route.Down f) (other ∷ []) refl refl (as_alternative c refl) (last sequence room other one)
-or_from {room = room} {other = other} (up p n f free) w c one = or whole room (route.Up f) (other ∷ []) refl refl (as_alternative c refl) (last sequence room other one)
-or_from {room = room} {other = other} (up_any p n) w c one = or whole room route.UpAny (other ∷ []) refl refl (as_alternative c refl) (last sequence room other one)
-or_from {room = room} {other = other} (root p n) w c one = or whole room route.Root (other ∷ []) refl refl (as_alternative c refl) (last sequence room other one)
-or_from {room = room} {other = other} (leaf p n) w c one = or whole room route.Leaf (other ∷ []) refl refl (as_alternative c refl) (last sequence room other one)
-or_from {room = room} {other = other} (is_type p n ty free) w c one = or whole room (route.IsType ty) (other ∷ []) refl refl (as_alternative c refl) (last sequence room other one)
+or_from {room = room} {other = other} (down p n f free) w c one =
+    or whole room (route.Down f) (other ∷ []) refl refl (as_alternative c refl) (last sequence room other one)
+or_from {room = room} {other = other} (up p n f free) w c one =
+    or whole room (route.Up f) (other ∷ []) refl refl (as_alternative c refl) (last sequence room other one)
+or_from {room = room} {other = other} (up_any p n) w c one =
+    or whole room route.UpAny (other ∷ []) refl refl (as_alternative c refl) (last sequence room other one)
+or_from {room = room} {other = other} (root p n) w c one =
+    or whole room route.Root (other ∷ []) refl refl (as_alternative c refl) (last sequence room other one)
+or_from {room = room} {other = other} (leaf p n) w c one =
+    or whole room route.Leaf (other ∷ []) refl refl (as_alternative c refl) (last sequence room other one)
+or_from {room = room} {other = other} (is_type p n ty free) w c one =
+    or whole room (route.IsType ty) (other ∷ []) refl refl (as_alternative c refl) (last sequence room other one)
 or_from {room = room} {other = other} (is_variant p n ty variant free free_too) w c one =
     or whole room (route.IsVariant ty variant) (other ∷ []) refl refl (as_alternative c refl) (last sequence room other one)
 or_from {room = room} {other = other} (is_bool p n f value free) w c one =
@@ -172,18 +183,26 @@ or_from {room = room} {other = other} (star p n inner place places bare apart f)
     or whole room (route.Star inner (place ∷ places)) (other ∷ []) refl refl (as_alternative c refl) (last sequence room other one)
 or_from (group p n r grouped f) w c one = or_from f (wider w) c one
 
-pub or_settled : {room : ℕ} {r other : Route} → IsCanonicalRoute whole room r → IsCanonicalRoute sequence room other → IsCanonicalRoute whole room (joined_or r other)
+pub or_settled : {room : ℕ} {r other : Route} → IsCanonicalRoute whole room r → IsCanonicalRoute sequence room other →
+    IsCanonicalRoute whole room (joined_or r other)
 or_settled {room} c one = or_from c (alike room) c one
 
-then_from : {p : RoutePlace} {n room : ℕ} {r other : Route} → IsCanonicalRoute p n r → Wider n room → IsCanonicalRoute sequence room r → IsCanonicalRoute repeated room other →
+then_from : {p : RoutePlace} {n room : ℕ} {r other : Route} → IsCanonicalRoute p n r → Wider n room →
+    IsCanonicalRoute sequence room r → IsCanonicalRoute repeated room other →
     IsCanonicalRoute sequence room (joined_then r other)
 unfolding roll-Route roll out-Route out
-then_from {room = room} {other = other} (down p n f free) w c one = then sequence room (route.Down f) (other ∷ []) refl refl (as_link c refl) (last repeated room other one)
-then_from {room = room} {other = other} (up p n f free) w c one = then sequence room (route.Up f) (other ∷ []) refl refl (as_link c refl) (last repeated room other one)
-then_from {room = room} {other = other} (up_any p n) w c one = then sequence room route.UpAny (other ∷ []) refl refl (as_link c refl) (last repeated room other one)
-then_from {room = room} {other = other} (root p n) w c one = then sequence room route.Root (other ∷ []) refl refl (as_link c refl) (last repeated room other one)
-then_from {room = room} {other = other} (leaf p n) w c one = then sequence room route.Leaf (other ∷ []) refl refl (as_link c refl) (last repeated room other one)
-then_from {room = room} {other = other} (is_type p n ty free) w c one = then sequence room (route.IsType ty) (other ∷ []) refl refl (as_link c refl) (last repeated room other one)
+then_from {room = room} {other = other} (down p n f free) w c one =
+    then sequence room (route.Down f) (other ∷ []) refl refl (as_link c refl) (last repeated room other one)
+then_from {room = room} {other = other} (up p n f free) w c one =
+    then sequence room (route.Up f) (other ∷ []) refl refl (as_link c refl) (last repeated room other one)
+then_from {room = room} {other = other} (up_any p n) w c one =
+    then sequence room route.UpAny (other ∷ []) refl refl (as_link c refl) (last repeated room other one)
+then_from {room = room} {other = other} (root p n) w c one =
+    then sequence room route.Root (other ∷ []) refl refl (as_link c refl) (last repeated room other one)
+then_from {room = room} {other = other} (leaf p n) w c one =
+    then sequence room route.Leaf (other ∷ []) refl refl (as_link c refl) (last repeated room other one)
+then_from {room = room} {other = other} (is_type p n ty free) w c one =
+    then sequence room (route.IsType ty) (other ∷ []) refl refl (as_link c refl) (last repeated room other one)
 then_from {room = room} {other = other} (is_variant p n ty variant free free_too) w c one =
     then sequence room (route.IsVariant ty variant) (other ∷ []) refl refl (as_link c refl) (last repeated room other one)
 then_from {room = room} {other = other} (is_bool p n f value free) w c one =

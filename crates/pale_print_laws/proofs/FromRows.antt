@@ -4,17 +4,18 @@ use Rattle.ll1_reader.specs.declared.symbol.Symbol.TheVariants.{Read, Open, Once
 use Rattle.ll1_reader.specs.Grammars.{IsOneOf}
 use Rattle.ll1_reader.specs.Readings.{Bottom, Row, Step, Reads, over, row_over, read, opened, acted, once, taken, left_out, again, ended}
 use Rattle.ll1_reader.specs.Answers.{levels, event_of, AreLow}
-use Rattle.pale_text.specs.declared.grammar.act.Act.{Act}
-use Rattle.pale_text.specs.declared.grammar.kind.ProgramKind.{ProgramKind}
-use Rattle.pale_text.specs.declared.grammar.part.ProgramPart.{ProgramPart}
+use Rattle.pale_syntax.specs.declared.grammar.act.Act.{Act}
+use Rattle.pale_syntax.specs.declared.grammar.kind.ProgramKind.{ProgramKind}
+use Rattle.pale_syntax.specs.declared.grammar.part.ProgramPart.{ProgramPart}
 use Rattle.pale_text.specs.declared.token.Token.{Token}
 use Rattle.pale_text.specs.declared.token.TokenKind.{TokenKind}
 use Rattle.pale_text.specs.declared.token.TokenKind.TheVariants as token
-use Rattle.pale_text.specs.Making.{after, first_of, run}
-use Rattle.pale_text.specs.MakingParts.{Parts}
-use Rattle.pale_text.specs.ProgramGrammar.{ProgramSymbol, rows_of, program_grammar}
-use Rattle.pale_text.specs.ProgramReading.{program_rows}
-use Rattle.pale_text.specs.ProgramWords.{kind_of, kinds_in}
+use Rattle.pale_syntax.specs.Making.{after, run}
+use Rattle.pale_text.specs.Tokens.{first_of}
+use Rattle.pale_syntax.specs.MakingParts.{Parts}
+use Rattle.pale_syntax.specs.ProgramGrammar.{ProgramSymbol, rows_of, program_grammar}
+use Rattle.pale_syntax.specs.ProgramReading.{program_rows}
+use Rattle.pale_syntax.specs.ProgramWords.{kind_of, kinds_in}
 use Rattle.pale_text.specs.Spelling.{IsName}
 use Rattle.pale_print_laws.proofs.Framework.{Counts, ProgramStack}
 
@@ -113,15 +114,19 @@ module _ (meaning : Meaning) (sound : (n : ProgramPart) → IsSoundAt meaning n)
   held (acted a row d below ks steps r) tokens is named low last parts =
       held r tokens is named low last (after a (record { last = last; next = first_of tokens }) parts)
   held (once n p row d below ks steps i r) tokens is named low last parts =
-      sound n p i (limit - d) last tokens parts (λ l t q. Goes meaning row (limit - d) l t q (λ l t p. Holds (run (map event_of steps) last tokens parts) below l t p))
+      sound n p i (limit - d) last tokens parts
+      (λ l t q. Goes meaning row (limit - d) l t q (λ l t p. Holds (run (map event_of steps) last tokens parts) below l t p))
       (held r tokens is named low last parts)
   held (taken n p row d below ks steps i r) tokens is named low last parts = λ before.
-      inr (sound n p i (limit - d) last tokens parts (λ l t q. Goes meaning row (limit - d) l t q (λ l t p. Holds (run (map event_of steps) last tokens parts) below l t p))
+      inr (sound n p i (limit - d) last tokens parts
+      (λ l t q. Goes meaning row (limit - d) l t q (λ l t p. Holds (run (map event_of steps) last tokens parts) below l t p))
       (held r tokens is named low last parts) before)
   held (left_out n row d below ks steps stops r) tokens is named low last parts = λ before.
       inl (subst (λ k. Counts n k) (sym is) stops, held r tokens is named low last parts)
   held (again n p row d below ks steps i r) tokens is named low last parts = λ before.
-      let g = sound n p i (limit - d) last tokens parts (λ l t q. Goes meaning (Many n ∷ row) (limit - d) l t q (λ l t p. Holds (run (map event_of steps) last tokens parts) below l t p))
+      let g =
+      sound n p i (limit - d) last tokens parts
+      (λ l t q. Goes meaning (Many n ∷ row) (limit - d) l t q (λ l t p. Holds (run (map event_of steps) last tokens parts) below l t p))
       (held r tokens is named low last parts) ((keeps n).enters (limit - d) parts before) in
       let more = g.3 ((keeps n).kept (limit - d) tokens g.1 g.2 parts before) in
       (more.0, more.1, one_more tokens g.1 more.1 g.2 more.2, more.3)

@@ -1,25 +1,29 @@
 -- Statements that a reading makes are canonical, and spelled in no more tokens than they were read from.
 use Rattle.std.proofs.Common.{◌+◌, ◌≤◌, suc, length, arith, ap, ◌≡◌, ◌⊎◌, inl, inr, ℕ, List, [], ◌∷◌, ◌++◌, Option, None, Some, refl, sym, subst}
-use Rattle.pale_text.specs.declared.grammar.act.CallAct.TheVariants as calls
-use Rattle.pale_text.specs.declared.grammar.part.ProgramPart.TheVariants as part
+use Rattle.pale_syntax.specs.declared.grammar.act.CallAct.TheVariants as calls
+use Rattle.pale_syntax.specs.declared.grammar.part.ProgramPart.TheVariants as part
 use Rattle.pale_text.specs.declared.place.Pos.{Pos}
 use Rattle.pale_text.specs.declared.token.Mark.TheVariants as mark
 use Rattle.pale_text.specs.declared.token.Token.{Token}
-use Rattle.pale_text.specs.declared.tree.names.Name.{Name}
-use Rattle.pale_text.specs.declared.tree.assertion.Bracketed.{Bracketed}
-use Rattle.pale_text.specs.declared.tree.statement.Argument.{Argument}
-use Rattle.pale_text.specs.declared.tree.statement.Call.{Call}
-use Rattle.pale_text.specs.declared.tree.statement.Statement.{Statement}
-use Rattle.pale_text.specs.declared.tree.statement.Statement.TheVariants as statement
-use Rattle.pale_text.specs.MakingParts.{Parts, name_of, place_of}
-use Rattle.pale_text.specs.MakingStatements.{with_statement}
-use Rattle.pale_text.specs.ProgramGrammar.{ProgramSymbol, rows_of, reads, call as calling}
+use Rattle.pale_syntax.specs.declared.tree.names.Name.{Name}
+use Rattle.pale_syntax.specs.declared.tree.assertion.Bracketed.{Bracketed}
+use Rattle.pale_syntax.specs.declared.tree.statement.Argument.{Argument}
+use Rattle.pale_syntax.specs.declared.tree.statement.Call.{Call}
+use Rattle.pale_syntax.specs.declared.tree.statement.Statement.{Statement}
+use Rattle.pale_syntax.specs.declared.tree.statement.Statement.TheVariants as statement
+use Rattle.pale_syntax.specs.MakingParts.{Parts, name_of}
+use Rattle.pale_text.specs.Tokens.{place_of}
+use Rattle.pale_syntax.specs.MakingStatements.{with_statement}
+use Rattle.pale_syntax.specs.ProgramGrammar.{ProgramSymbol, rows_of, reads, call as calling}
 use Rattle.pale_print_laws.specs.CanonicalNames.{IsFree, AreFree}
 use Rattle.pale_print_laws.specs.CanonicalConditions.{IsCanonicalCondition, whole}
 use Rattle.pale_print_laws.specs.CanonicalAssertions.{IsCanonicalBracketed}
-use Rattle.pale_print_laws.specs.CanonicalStatements.{IsCanonicalStatement, skip, if_alone, if_else, while, split, assert, free, call, assign, AreCanonicalStatements, none, more}
+use Rattle.pale_print_laws.specs.CanonicalStatements.{IsCanonicalStatement, skip, if_alone, if_else, while, split, assert, free}
+use Rattle.pale_print_laws.specs.CanonicalStatements.{call, assign, AreCanonicalStatements, none, more}
 use Rattle.pale_print_laws.proofs.NameSizes.{one_less}
-use Rattle.pale_print_laws.proofs.StatementSizes.{call_result_size, statements_size, statements_last, size_skip, size_if, size_if_else, size_while, size_split, size_assert, size_free, size_call, size_assign}
+use Rattle.pale_print_laws.proofs.StatementSizes.{call_result_size, statements_size, statements_last, size_skip, size_if}
+use Rattle.pale_print_laws.proofs.StatementSizes.{size_if_else, size_while, size_split, size_assert, size_free, size_call}
+use Rattle.pale_print_laws.proofs.StatementSizes.{size_assign}
 use Rattle.pale_print_laws.proofs.FromRows.{Several, no_more, one_more, puts, Goal, Goes}
 use Rattle.pale_print_laws.proofs.FromMade.{rest_size, StatementMade, BlockMade, ConditionMade, BracketedMade, GivenMade, ResultsMade}
 use Rattle.pale_print_laws.proofs.FromMeaning.{program_meaning, put, NoCall}
@@ -28,11 +32,13 @@ use Rattle.pale_print_laws.proofs.FromNames.{one_more_free}
 
 -- ---- blocks
 
-one_more_statement : {room : ℕ} {ss : List Statement} {s : Statement} → AreCanonicalStatements room ss → IsCanonicalStatement room s → AreCanonicalStatements room (ss ++ s ∷ [])
+one_more_statement : {room : ℕ} {ss : List Statement} {s : Statement} → AreCanonicalStatements room ss →
+    IsCanonicalStatement room s → AreCanonicalStatements room (ss ++ s ∷ [])
 one_more_statement {s = s} (none room) c = more room s [] c (none room)
 one_more_statement {s = s} (more room x ss d cs) c = more room x (ss ++ s ∷ []) d (one_more_statement cs c)
 
-pub statements_made : (room : ℕ) (start end : List Token) (several : Several program_meaning part.Statement room start end) (ss : List Statement) → AreCanonicalStatements room ss →
+pub statements_made : (room : ℕ) (start end : List Token) (several : Several program_meaning part.Statement room start end) (ss : List Statement) →
+    AreCanonicalStatements room ss →
     (first : List Token) → statements_size ss + length start ≤ length first → (parts : Parts) (below : List (List Statement)) →
     (made : List Statement) × AreCanonicalStatements room made ×
     (puts program_meaning part.Statement room start end several (record parts { blocks = ss ∷ below }) ≡ record parts { blocks = made ∷ below }) ×
@@ -40,7 +46,8 @@ pub statements_made : (room : ℕ) (start end : List Token) (several : Several p
 statements_made room start end (no_more _ stops) ss c first short parts below = (ss, c, refl, short)
 statements_made room start end (one_more _ middle _ one others) ss c first short parts below =
     let l = one.short in
-    statements_made room middle end others (ss ++ one.statement ∷ []) (one_more_statement c one.canonical) first (omega (arith, statements_last ss one.statement)) parts below
+    statements_made room middle end others (ss ++ one.statement ∷ []) (one_more_statement c one.canonical) first
+    (omega (arith, statements_last ss one.statement)) parts below
 
 abbrev closing_row : List ProgramSymbol
 closing_row = reads mark.RightBrace ∷ []
@@ -52,8 +59,12 @@ block_row = record {
       let body = g.6 before in
       let made = statements_made g.0 g.3 body.1 body.2 [] (none g.0) g.3 (omega arith) parts parts.blocks in
       let close : Goes program_meaning closing_row g.0 body.0 body.1 (record parts { blocks = made.0 ∷ parts.blocks }) goal =
-      subst (λ (p : Parts). Goes program_meaning closing_row g.0 body.0 body.1 p goal) made.2 body.3 in
-      (Some close.0, close.1, record { inside = g.0; opens = g.1; block = made.0; canonical = made.1; short = omega (arith, made.3, one_less g.4, one_less close.2) }, close.4);
+      subst (λ (p : Parts). Goes program_meaning closing_row g.0 body.0 body.1 p goal) made.2 body.3 in (
+        Some close.0,
+        close.1,
+        record { inside = g.0; opens = g.1; block = made.0; canonical = made.1; short = omega (arith, made.3, one_less g.4, one_less close.2) },
+        close.4,
+      );
 }
 
 pub block_sound : AreSoundRows part.Block (rows_of part.Block)
@@ -64,8 +75,18 @@ else_row : IsSoundRow part.Else (nth (rows_of part.Else) 0)
 unfolding rows_of
 else_row = record {
   along = λ room last tokens parts goal g before.
-      let made = g.4 before in
-      (made.0, made.1, record { inside = made.2.inside; opens = made.2.opens; block = made.2.block; canonical = made.2.canonical; short = omega (arith, one_less g.2, made.2.short) }, made.3);
+      let made = g.4 before in (
+        made.0,
+        made.1,
+        record {
+          inside = made.2.inside;
+          opens = made.2.opens;
+          block = made.2.block;
+          canonical = made.2.canonical;
+          short = omega (arith, one_less g.2, made.2.short);
+        },
+        made.3,
+      );
 }
 
 pub else_sound : AreSoundRows part.Else (rows_of part.Else)
@@ -79,21 +100,33 @@ unfolding rows_of
 skip_row = record {
   along = λ room last tokens parts goal g before.
       let place : Pos = place_of (Some g.0) in
-      let close = g.4 in
-      (Some close.0, close.1, record { statement = statement.Skip place; canonical = skip room place; short = omega (arith, size_skip place, one_less g.2, one_less close.2) }, close.4);
+      let close = g.4 in (
+        Some close.0,
+        close.1,
+        record {
+          statement = statement.Skip place;
+          canonical = skip room place;
+          short = omega
+              (arith, size_skip place, one_less g.2, one_less close.2);
+        },
+        close.4,
+      );
 }
 
-if_canonical : (room : ℕ) (place : Pos) {a b : List Token} (c : ConditionMade whole room 0 a b) {d e : List Token} (then : BlockMade room 0 d e) → IsCanonicalStatement room (statement.If place c.condition then.block None)
+if_canonical : (room : ℕ) (place : Pos) {a b : List Token} (c : ConditionMade whole room 0 a b) {d e : List Token} (then : BlockMade room 0 d e) →
+    IsCanonicalStatement room (statement.If place c.condition then.block None)
 if_canonical room place c then =
     subst (λ n. IsCanonicalStatement n (statement.If place c.condition then.block None)) (sym then.opens)
     (if_alone then.inside place c.condition then.block (subst (λ n. IsCanonicalCondition whole n c.condition) then.opens c.canonical) then.canonical)
 
-else_canonical : (room : ℕ) (place : Pos) {a b : List Token} (c : ConditionMade whole room 0 a b) {d e f g : List Token} (then : BlockMade room 0 d e) (otherwise : BlockMade room 1 f g) →
+else_canonical : (room : ℕ) (place : Pos) {a b : List Token} (c : ConditionMade whole room 0 a b) {d e f g : List Token}
+    (then : BlockMade room 0 d e) (otherwise : BlockMade room 1 f g) →
     IsCanonicalStatement room (statement.If place c.condition then.block (Some otherwise.block))
 else_canonical room place c then otherwise =
     let e : otherwise.inside ≡ then.inside = cc (then.opens, otherwise.opens) in
     subst (λ n. IsCanonicalStatement n (statement.If place c.condition then.block (Some otherwise.block))) (sym then.opens)
-    (if_else then.inside place c.condition then.block otherwise.block (subst (λ n. IsCanonicalCondition whole n c.condition) then.opens c.canonical) then.canonical
+    (if_else then.inside place c.condition then.block otherwise.block
+    (subst (λ n. IsCanonicalCondition whole n c.condition) then.opens c.canonical) then.canonical
     (subst (λ n. AreCanonicalStatements n otherwise.block) e otherwise.canonical))
 
 if_row : IsSoundRow part.Statement (nth (rows_of part.Statement) 1)
@@ -120,14 +153,25 @@ if_row = record {
           record {
             statement = statement.If place c.2.condition then.2.block (Some some.2.block);
             canonical = else_canonical room place c.2 then.2 some.2;
-            short = omega (arith, size_if_else place c.2.condition then.2.block some.2.block, one_less g.2, one_less g.4.2, c.2.short, one_less c.3.2, then.2.short, some.2.short);
+            short =
+                omega (
+                  arith,
+                  size_if_else place c.2.condition then.2.block some.2.block,
+                  one_less g.2,
+                  one_less g.4.2,
+                  c.2.short,
+                  one_less c.3.2,
+                  then.2.short,
+                  some.2.short,
+                );
           },
           some.3,
         )
       ];
 }
 
-while_canonical : (room : ℕ) (place : Pos) {k l : List Token} (c : ConditionMade whole room 0 k l) {d e f g : List Token} (b : BracketedMade room 0 d e) (body : BlockMade room 0 f g) →
+while_canonical : (room : ℕ) (place : Pos) {k l : List Token} (c : ConditionMade whole room 0 k l) {d e f g : List Token}
+    (b : BracketedMade room 0 d e) (body : BlockMade room 0 f g) →
     IsCanonicalStatement room (statement.While place c.condition b.bracketed body.block)
 while_canonical room place c b body =
     subst (λ n. IsCanonicalStatement n (statement.While place c.condition b.bracketed body.block)) (sym body.opens)
@@ -147,7 +191,17 @@ while_row = record {
         record {
           statement = statement.While place c.2.condition b.2.bracketed body.2.block;
           canonical = while_canonical room place c.2 b.2 body.2;
-          short = omega (arith, size_while place c.2.condition b.2.bracketed body.2.block, one_less g.2, one_less g.4.2, c.2.short, one_less c.3.2, b.2.short, body.2.short);
+          short =
+              omega (
+                arith,
+                size_while place c.2.condition b.2.bracketed body.2.block,
+                one_less g.2,
+                one_less g.4.2,
+                c.2.short,
+                one_less c.3.2,
+                b.2.short,
+                body.2.short,
+              );
         },
         body.3,
       );
@@ -212,7 +266,8 @@ free_row = record {
 restored : (parts : Parts) (blocks : List (List Statement)) → NoCall parts →
     record parts { blocks = blocks; call_results = []; given = []; arguments = []; keep = None } ≡ record parts { blocks = blocks }
 restored parts blocks quiet =
-    subst (λ (r : List Name). record parts { blocks = blocks; call_results = r; given = []; arguments = []; keep = None } ≡ record parts { blocks = blocks }) quiet.1
+    subst (λ (r : List Name). record parts { blocks = blocks; call_results = r; given = []; arguments = []; keep = None }
+    ≡ record parts { blocks = blocks }) quiet.1
     (subst (λ (g : List Argument). record parts { blocks = blocks; given = g; arguments = []; keep = None } ≡ record parts { blocks = blocks }) quiet.2
     (subst (λ (a : List Argument). record parts { blocks = blocks; arguments = a; keep = None } ≡ record parts { blocks = blocks }) quiet.3
     (subst (λ (k : Option Bracketed). record parts { blocks = blocks; keep = k } ≡ record parts { blocks = blocks }) quiet.4 refl)))
@@ -225,13 +280,28 @@ abbrev made_call : Parts → Pos → Name → {room : ℕ} {start end : List Tok
 made_call parts place x (inl _) made =
     record { place = place; results = parts.call_results; callee = x; arguments = made.given; logics = made.logics; keep = made.keep }
 made_call parts place x (inr r) made =
-    record { place = place; results = (parts.call_results ++ x ∷ []) ++ r.more; callee = r.callee.name; arguments = made.given; logics = made.logics; keep = made.keep }
+    record {
+      place = place;
+      results = (parts.call_results ++ x ∷ []) ++ r.more;
+      callee = r.callee.name;
+      arguments = made.given;
+      logics = made.logics;
+      keep = made.keep;
+    }
 
-call_canonical : (parts : Parts) (place : Pos) (x : Name) (room : ℕ) {start end : List Token} (results : Unit {0} ⊎ ResultsMade) (made : GivenMade room start end) → NoCall parts → IsFree x →
+call_canonical : (parts : Parts) (place : Pos) (x : Name) (room : ℕ) {start end : List Token}
+    (results : Unit {0} ⊎ ResultsMade) (made : GivenMade room start end) →
+    NoCall parts → IsFree x →
     IsCanonicalStatement room (statement.Call (made_call parts place x results made))
 call_canonical parts place x room (inl u) made quiet is =
     call room (made_call parts place x (inl u) made)
-    (record { results = subst (λ r. AreFree r) (sym quiet.1) tt; callee = is; arguments = made.given_free; logics = made.logics_free; keep = made.keep_canonical })
+    (record {
+      results = subst (λ r. AreFree r) (sym quiet.1) tt;
+      callee = is;
+      arguments = made.given_free;
+      logics = made.logics_free;
+      keep = made.keep_canonical;
+    })
 call_canonical parts place x room (inr r) made quiet is =
     call room (made_call parts place x (inr r) made)
     (record {
@@ -245,12 +315,15 @@ call_canonical parts place x room (inr r) made quiet is =
 abbrev ending_row : List ProgramSymbol
 ending_row = reads mark.Semicolon ∷ calling calls.MakeCall ∷ []
 
-call_made : (room : ℕ) (last : Option Token) (start tokens : List Token) (parts : Parts) (goal : Goal) (place : Pos) (x : Name) (results : Unit {0} ⊎ ResultsMade) (middle : List Token) (given : GivenMade room middle tokens) →
+call_made : (room : ℕ) (last : Option Token) (start tokens : List Token) (parts : Parts) (goal : Goal) (place : Pos)
+    (x : Name) (results : Unit {0} ⊎ ResultsMade) (middle : List Token) (given : GivenMade room middle tokens) →
     (short : rest_size results + length middle ≤ length start) (first : List Token) → suc (suc (length start)) ≤ length first →
     NoCall parts → IsFree x →
     Goes program_meaning ending_row room last tokens
-    (put part.CallRest room start tokens (record { results = results; middle = middle; given = given; short = short }) (record parts { places = place ∷ parts.places; names = x ∷ parts.names })) goal →
-    (behind : Option Token) × (others : List Token) × (made : StatementMade room first others) × goal behind others (record parts { blocks = with_statement made.statement parts.blocks })
+    (put part.CallRest room start tokens (record { results = results; middle = middle; given = given; short = short })
+    (record parts { places = place ∷ parts.places; names = x ∷ parts.names })) goal →
+    (behind : Option Token) × (others : List Token) × (made : StatementMade room first others) × goal behind others
+    (record parts { blocks = with_statement made.statement parts.blocks })
 call_made room last start tokens parts goal place x (inl u) middle given short first in_all quiet is g = (
   Some g.0,
   g.1,
@@ -259,7 +332,8 @@ call_made room last start tokens parts goal place x (inl u) middle given short f
     canonical = call_canonical parts place x room (inl u) given quiet is;
     short = omega (arith, size_call (made_call parts place x (inl u) given), ap call_result_size quiet.1, given.short, one_less g.2);
   },
-  subst (λ (p : Parts). goal (Some g.0) g.1 p) (restored parts (with_statement (statement.Call (made_call parts place x (inl u) given)) parts.blocks) quiet) g.4,
+  subst (λ (p : Parts). goal (Some g.0) g.1 p)
+      (restored parts (with_statement (statement.Call (made_call parts place x (inl u) given)) parts.blocks) quiet) g.4,
 )
 call_made room last start tokens parts goal place x (inr r) middle given short first in_all quiet is g = (
   Some g.0,
@@ -267,9 +341,18 @@ call_made room last start tokens parts goal place x (inr r) middle given short f
   record {
     statement = statement.Call (made_call parts place x (inr r) given);
     canonical = call_canonical parts place x room (inr r) given quiet is;
-    short = omega (arith, size_call (made_call parts place x (inr r) given), ap (λ (xs : List Name). call_result_size ((xs ++ x ∷ []) ++ r.more)) quiet.1, given.short, one_less g.2);
+    short =
+        omega (
+          arith,
+          size_call (made_call parts place x (inr r) given),
+          ap
+              (λ (xs : List Name). call_result_size ((xs ++ x ∷ []) ++ r.more)) quiet.1,
+          given.short,
+          one_less g.2,
+        );
   },
-  subst (λ (p : Parts). goal (Some g.0) g.1 p) (restored parts (with_statement (statement.Call (made_call parts place x (inr r) given)) parts.blocks) quiet) g.4,
+  subst (λ (p : Parts). goal (Some g.0) g.1 p)
+      (restored parts (with_statement (statement.Call (made_call parts place x (inr r) given)) parts.blocks) quiet) g.4,
 )
 
 call_row : IsSoundRow part.Statement (nth (rows_of part.Statement) 6)
@@ -280,7 +363,8 @@ call_row = record {
       let name = g.4 in
       let x : Name = name_of (Some name.0) in
       let others = name.4 (before.0, before.3, before.4) in
-      call_made room others.0 name.1 others.1 parts goal place x others.2.results others.2.middle others.2.given others.2.short tokens (omega (arith, one_less g.2, one_less name.2)) before (free_name name.0 name.3) others.3;
+      call_made room others.0 name.1 others.1 parts goal place x others.2.results others.2.middle others.2.given
+      others.2.short tokens (omega (arith, one_less g.2, one_less name.2)) before (free_name name.0 name.3) others.3;
 }
 
 assign_row : IsSoundRow part.Statement (nth (rows_of part.Statement) 7)

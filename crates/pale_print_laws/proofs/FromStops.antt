@@ -6,14 +6,14 @@ use Rattle.ll1_reader.specs.Predicting.{AreNamed, among, starts_of}
 use Rattle.ll1_reader.specs.Readings.{AnyEnd, IsNotBegun}
 use Rattle.ll1_reader.proofs.SameRows.{Has, carried}
 use Rattle.ll1_reader.proofs.Ends.{begun}
-use Rattle.pale_text.specs.declared.grammar.kind.ProgramKind.TheVariants as kind
-use Rattle.pale_text.specs.declared.grammar.part.ProgramPart.{ProgramPart}
-use Rattle.pale_text.specs.declared.grammar.part.ProgramPart.TheVariants as part
+use Rattle.pale_syntax.specs.declared.grammar.kind.ProgramKind.TheVariants as kind
+use Rattle.pale_syntax.specs.declared.grammar.part.ProgramPart.{ProgramPart}
+use Rattle.pale_syntax.specs.declared.grammar.part.ProgramPart.TheVariants as part
 use Rattle.pale_text.specs.declared.token.Mark.{Mark}
 use Rattle.pale_text.specs.declared.token.Mark.TheVariants as mark
 use Rattle.pale_text.specs.declared.token.Token.{Token}
-use Rattle.pale_text.specs.ProgramGrammar.{program_grammar}
-use Rattle.pale_text.specs.ProgramWords.{kinds_in}
+use Rattle.pale_syntax.specs.ProgramGrammar.{program_grammar}
+use Rattle.pale_syntax.specs.ProgramWords.{kinds_in}
 use Rattle.pale_parse.specs.Tables.{program_rules, choices_of}
 use Rattle.pale_parse.specs.Hints.{program_hints, number_of, mark_number, starts_of as tables_starts_of}
 use Rattle.pale_parse.specs.TableLaws.{program_named, program_sound}
@@ -33,7 +33,8 @@ module _ {N P A K : Type 0} (grammar : Rows N A K) (rules : Rules N P A K) (name
   by_names n k ks h = λ after steps r. h after steps (carried rules (rules_of grammar) (AnyEnd rules) (AnyEnd (rules_of grammar)) to_rows (λ m xs u. tt) r)
 
 -- a token of this kind begins the part
-goes_on_at : (n : ProgramPart) (m : Mark) (tokens : List Token) → among program_rules program_hints (kind.Mark m) (starts_of program_rules program_hints n) ≡ true →
+goes_on_at : (n : ProgramPart) (m : Mark) (tokens : List Token) →
+    among program_rules program_hints (kind.Mark m) (starts_of program_rules program_hints n) ≡ true →
     StopsAt n tokens → BeginsWith m tokens → ⊥
 goes_on_at n m tokens h stops begins =
     begun program_rules program_hints program_sound n (kind.Mark m) (kinds_in begins.others) h

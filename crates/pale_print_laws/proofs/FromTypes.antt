@@ -1,20 +1,20 @@
 -- Types and predicates that a reading makes are canonical, and spelled in no more tokens than they were read from.
 use Rattle.std.proofs.Common.{◌+◌, ◌≤◌, suc, length, arith, ap, sym, ◌≡◌, inl, inr, ℕ, List, [], ◌∷◌, ◌++◌, Option, Some, refl, subst}
 use Rattle.ll1_reader.specs.declared.symbol.Symbol.TheVariants.{Once, Many}
-use Rattle.pale_text.specs.declared.grammar.act.PredicateAct.TheVariants as predicates
-use Rattle.pale_text.specs.declared.grammar.act.TypeAct.TheVariants as types
-use Rattle.pale_text.specs.declared.grammar.part.ProgramPart.TheVariants as part
+use Rattle.pale_syntax.specs.declared.grammar.act.PredicateAct.TheVariants as predicates
+use Rattle.pale_syntax.specs.declared.grammar.act.TypeAct.TheVariants as types
+use Rattle.pale_syntax.specs.declared.grammar.part.ProgramPart.TheVariants as part
 use Rattle.pale_text.specs.declared.token.Mark.TheVariants as mark
 use Rattle.pale_text.specs.declared.token.Token.{Token}
-use Rattle.pale_text.specs.declared.tree.names.Name.{Name}
-use Rattle.pale_text.specs.declared.tree.declaration.FieldDeclaration.{FieldDeclaration}
-use Rattle.pale_text.specs.declared.tree.declaration.FieldForm.TheVariants as form
-use Rattle.pale_text.specs.declared.tree.declaration.PredicateParameter.{PredicateParameter}
-use Rattle.pale_text.specs.declared.tree.declaration.PredicateParameter.TheVariants as parameter
-use Rattle.pale_text.specs.declared.tree.declaration.TypeDeclaration.{TypeDeclaration}
-use Rattle.pale_text.specs.declared.tree.declaration.VariantDeclaration.{VariantDeclaration}
-use Rattle.pale_text.specs.MakingParts.{Parts, name_of}
-use Rattle.pale_text.specs.ProgramGrammar.{ProgramSymbol, rows_of, reads, type as making, predicate as judging}
+use Rattle.pale_syntax.specs.declared.tree.names.Name.{Name}
+use Rattle.pale_syntax.specs.declared.tree.declaration.FieldDeclaration.{FieldDeclaration}
+use Rattle.pale_syntax.specs.declared.tree.declaration.FieldForm.TheVariants as form
+use Rattle.pale_syntax.specs.declared.tree.declaration.PredicateParameter.{PredicateParameter}
+use Rattle.pale_syntax.specs.declared.tree.declaration.PredicateParameter.TheVariants as parameter
+use Rattle.pale_syntax.specs.declared.tree.declaration.TypeDeclaration.{TypeDeclaration}
+use Rattle.pale_syntax.specs.declared.tree.declaration.VariantDeclaration.{VariantDeclaration}
+use Rattle.pale_syntax.specs.MakingParts.{Parts, name_of}
+use Rattle.pale_syntax.specs.ProgramGrammar.{ProgramSymbol, rows_of, reads, type as making, predicate as judging}
 use Rattle.pale_print_laws.specs.CanonicalNames.{IsFree}
 use Rattle.pale_print_laws.specs.CanonicalDeclarations.{All, IsCanonicalField, IsCanonicalVariant, IsFreePredicateParameter}
 use Rattle.pale_print_laws.proofs.NameSizes.{one_less}
@@ -93,7 +93,8 @@ pub field_sound : AreSoundRows part.Field (rows_of part.Field)
 unfolding rows_of
 field_sound = or_row bool_row (or_row data_row (or_row pointer_row no_row))
 
-fields_made : (room : ℕ) (start end : List Token) (several : Several program_meaning part.Field room start end) (fs : List FieldDeclaration) → All (IsCanonicalField room) fs →
+fields_made : (room : ℕ) (start end : List Token) (several : Several program_meaning part.Field room start end) (fs : List FieldDeclaration) →
+    All (IsCanonicalField room) fs →
     (first : List Token) → each_size field_size fs + length start ≤ length first → (parts : Parts) →
     (made : List FieldDeclaration) × All (IsCanonicalField room) made ×
     (puts program_meaning part.Field room start end several (record parts { fields = fs }) ≡ record parts { fields = made }) ×
@@ -101,7 +102,8 @@ fields_made : (room : ℕ) (start end : List Token) (several : Several program_m
 fields_made room start end (no_more _ stops) fs c first short parts = (fs, c, refl, short)
 fields_made room start end (one_more _ middle _ one others) fs c first short parts =
     let l = one.short in
-    fields_made room middle end others (fs ++ one.field ∷ []) (all_and (IsCanonicalField room) fs one.field c one.canonical) first (omega (arith, each_last field_size fs one.field)) parts
+    fields_made room middle end others (fs ++ one.field ∷ []) (all_and (IsCanonicalField room) fs one.field c one.canonical)
+    first (omega (arith, each_last field_size fs one.field)) parts
 
 -- ---- types
 
@@ -136,7 +138,8 @@ pub variant_sound : AreSoundRows part.Variant (rows_of part.Variant)
 unfolding rows_of
 variant_sound = or_row variant_row no_row
 
-variants_made : (room : ℕ) (start end : List Token) (several : Several program_meaning part.Variant room start end) (vs : List VariantDeclaration) → All (IsCanonicalVariant room) vs →
+variants_made : (room : ℕ) (start end : List Token) (several : Several program_meaning part.Variant room start end) (vs : List VariantDeclaration) →
+    All (IsCanonicalVariant room) vs →
     (first : List Token) → behind_size variant_size vs + length start ≤ length first → (parts : Parts) →
     (made : List VariantDeclaration) × All (IsCanonicalVariant room) made ×
     (puts program_meaning part.Variant room start end several (record parts { variants = vs; fields = [] }) ≡ record parts { variants = made; fields = [] }) ×
@@ -144,7 +147,9 @@ variants_made : (room : ℕ) (start end : List Token) (several : Several program
 variants_made room start end (no_more _ stops) vs c first short parts = (vs, c, refl, short)
 variants_made room start end (one_more _ middle _ one others) vs c first short parts =
     let l = one.short in
-    variants_made room middle end others (vs ++ one.variant ∷ []) (all_and (IsCanonicalVariant room) vs one.variant c one.canonical) first (omega (arith, behind_last variant_size vs one.variant)) parts
+    variants_made room middle end others (vs ++ one.variant ∷ [])
+    (all_and (IsCanonicalVariant room) vs one.variant c one.canonical) first
+    (omega (arith, behind_last variant_size vs one.variant)) parts
 
 abbrev behind_fields : List ProgramSymbol
 behind_fields = making types.EndCommon ∷ reads mark.RightBrace ∷ Many part.Variant ∷ making types.AddType ∷ []
@@ -167,7 +172,8 @@ type_row = record {
       let others = behind.4 refl in
       let vs = variants_made room behind.1 others.1 others.2 parts.variants (none_all (IsCanonicalVariant room) parts.variants before.1)
       behind.1 (omega (arith, ap (behind_size variant_size) before.1)) (record parts { names = x ∷ parts.names; common = fs.0 }) in
-      let close : Goes program_meaning ending_type room others.0 others.1 (record parts { names = x ∷ parts.names; common = fs.0; fields = []; variants = vs.0 }) goal =
+      let close : Goes program_meaning ending_type room others.0 others.1
+      (record parts { names = x ∷ parts.names; common = fs.0; fields = []; variants = vs.0 }) goal =
       subst (λ (p : Parts). Goes program_meaning ending_type room others.0 others.1 p goal) vs.2 others.3 in
       let t : TypeDeclaration = record { name = x; fields = fs.0; variants = vs.0 } in (
         others.0,
@@ -191,8 +197,16 @@ cell_row : IsSoundRow part.PredicateParameter (nth (rows_of part.PredicateParame
 unfolding rows_of
 cell_row = record {
   along = λ room last tokens parts goal g before.
-      let ty = g.4.4 in
-      (Some ty.0, ty.1, record { parameter = parameter.Cell (name_of (Some g.0)) (name_of (Some ty.0)); free = (free_name g.0 g.3, free_name ty.0 ty.3); short = omega (arith, one_less g.2, one_less g.4.2, one_less ty.2) }, ty.4);
+      let ty = g.4.4 in (
+        Some ty.0,
+        ty.1,
+        record {
+          parameter = parameter.Cell (name_of (Some g.0)) (name_of (Some ty.0));
+          free = (free_name g.0 g.3, free_name ty.0 ty.3);
+          short = omega (arith, one_less g.2, one_less g.4.2, one_less ty.2);
+        },
+        ty.4,
+      );
 }
 
 set_row : IsSoundRow part.PredicateParameter (nth (rows_of part.PredicateParameter) 1)
@@ -216,8 +230,16 @@ bool_parameter_row : IsSoundRow part.PredicateParameter (nth (rows_of part.Predi
 unfolding rows_of
 bool_parameter_row = record {
   along = λ room last tokens parts goal g before.
-      let name = g.4 in
-      (Some name.0, name.1, record { parameter = parameter.Bool (name_of (Some name.0)); free = free_name name.0 name.3; short = omega (arith, one_less g.2, one_less name.2) }, name.4);
+      let name = g.4 in (
+        Some name.0,
+        name.1,
+        record {
+          parameter = parameter.Bool (name_of (Some name.0));
+          free = free_name name.0 name.3;
+          short = omega (arith, one_less g.2, one_less name.2);
+        },
+        name.4,
+      );
 }
 
 pub predicate_parameter_sound : AreSoundRows part.PredicateParameter (rows_of part.PredicateParameter)
@@ -236,14 +258,18 @@ pub next_predicate_parameter_sound : AreSoundRows part.NextPredicateParameter (r
 unfolding rows_of
 next_predicate_parameter_sound = or_row next_predicate_parameter_row no_row
 
-parameters_made : (room : ℕ) (start end : List Token) (several : Several program_meaning part.NextPredicateParameter room start end) (ps : List PredicateParameter) →
+parameters_made : (room : ℕ) (start end : List Token)
+    (several : Several program_meaning part.NextPredicateParameter room start end) (ps : List PredicateParameter) →
     All IsFreePredicateParameter ps → (first : List Token) → separated_size predicate_parameter_size ps + length start ≤ length first → (parts : Parts) →
     (made : PredicateParametersMade first end) ×
-    (puts program_meaning part.NextPredicateParameter room start end several (record parts { predicate_parameters = ps }) ≡ record parts { predicate_parameters = made.parameters })
+    (puts program_meaning part.NextPredicateParameter room start end several (record parts { predicate_parameters = ps })
+    ≡ record parts { predicate_parameters = made.parameters })
 parameters_made room start end (no_more _ stops) ps c first short parts = (record { parameters = ps; free = c; short = short }, refl)
 parameters_made room start end (one_more _ middle _ one others) ps c first short parts =
     let l = one.short in
-    parameters_made room middle end others (ps ++ one.parameter ∷ []) (all_and IsFreePredicateParameter ps one.parameter c one.free) first (omega (arith, separated_last predicate_parameter_size ps one.parameter)) parts
+    parameters_made room middle end others (ps ++ one.parameter ∷ [])
+    (all_and IsFreePredicateParameter ps one.parameter c one.free) first
+    (omega (arith, separated_last predicate_parameter_size ps one.parameter)) parts
 
 predicate_parameters_row : IsSoundRow part.PredicateParameters (nth (rows_of part.PredicateParameters) 0)
 unfolding rows_of
@@ -254,7 +280,9 @@ predicate_parameters_row = record {
       let made = parameters_made room first.1 others.1 others.2 (parts.predicate_parameters ++ first.2.parameter ∷ [])
       (all_and IsFreePredicateParameter parts.predicate_parameters first.2.parameter
       (none_all IsFreePredicateParameter parts.predicate_parameters before) first.2.free)
-      tokens (subst (λ (ps : List PredicateParameter). separated_size predicate_parameter_size (ps ++ first.2.parameter ∷ []) + length first.1 ≤ length tokens) (sym before)
+      tokens (subst
+      (λ (ps : List PredicateParameter). separated_size predicate_parameter_size (ps ++ first.2.parameter ∷ []) + length first.1 ≤ length tokens)
+      (sym before)
       (omega (arith, first.2.short))) parts in
       (others.0, others.1, made.0, subst (λ q. goal others.0 others.1 q) made.1 others.3);
 }
@@ -266,7 +294,8 @@ predicate_parameters_sound = or_row predicate_parameters_row no_row
 abbrev behind_parameters : List ProgramSymbol
 behind_parameters = reads mark.RightParen ∷ reads mark.Equals ∷ Once part.Bracketed ∷ reads mark.Semicolon ∷ judging predicates.AddPredicate ∷ []
 
-body_made : (room : ℕ) (last : Option Token) (tokens : List Token) (parts : Parts) (goal : Goal) (x : Name) (ps : List PredicateParameter) → IsFree x → All IsFreePredicateParameter ps →
+body_made : (room : ℕ) (last : Option Token) (tokens : List Token) (parts : Parts) (goal : Goal) (x : Name) (ps : List PredicateParameter) →
+    IsFree x → All IsFreePredicateParameter ps →
     (first : List Token) → suc (suc (suc (separated_size predicate_parameter_size ps + length tokens))) ≤ length first →
     parts.used ≡ [] → Goes program_meaning behind_parameters room last tokens (record parts { names = x ∷ parts.names; predicate_parameters = ps }) goal →
     Goes program_meaning (Once part.Predicate ∷ []) room last first parts goal
@@ -292,7 +321,9 @@ predicate_row = record {
       elim (name.4.4 before.1) [
         | inl alone ↦ body_made room (Some name.4.0) name.4.1 parts goal x parts.predicate_parameters (free_name name.0 name.3)
             (none_all IsFreePredicateParameter parts.predicate_parameters before.1)
-            tokens (omega (arith, ap (separated_size predicate_parameter_size) before.1, one_less g.2, one_less name.2, one_less name.4.2)) before.0 alone.1 before
+            tokens
+            (omega (arith, ap (separated_size predicate_parameter_size) before.1, one_less g.2, one_less name.2, one_less name.4.2))
+            before.0 alone.1 before
         | inr some ↦ body_made room some.0 some.1 parts goal x some.2.parameters (free_name name.0 name.3) some.2.free
             tokens (omega (arith, some.2.short, one_less g.2, one_less name.2, one_less name.4.2)) before.0 some.3 before
       ];

@@ -3,19 +3,24 @@ use Rattle.std.proofs.Common.{◌≡◌, List, [], ◌∷◌, ◌++◌, Option, 
 use Rattle.std.specs.Option.{option_map}
 use Rattle.plain_data.specs.Stacks.{top, rest}
 use Rattle.pale_text.specs.declared.token.Token.{Token}
-use Rattle.pale_text.specs.declared.tree.names.Name.{Name}
-use Rattle.pale_text.specs.declared.tree.names.Path.{Path}
-use Rattle.pale_text.specs.declared.tree.assertion.Quantifier.{Quantifier}
-use Rattle.pale_text.specs.declared.tree.statement.Statement.{Statement}
-use Rattle.pale_text.specs.declared.tree.statement.Value.{Value}
-use Rattle.pale_text.specs.declared.tree.statement.Value.TheVariants as value
-use Rattle.pale_text.specs.MakingParts.{Parts, Near, nameless, place_of, name_of}
-use Rattle.pale_text.specs.MakingWords.{pathless, termless, extended}
-use Rattle.pale_text.specs.MakingRoutes.{routeless}
-use Rattle.pale_text.specs.MakingConditions.{conditionless}
-use Rattle.pale_text.specs.MakingAssertions.{assertionless, quantifierless, binding}
-use Rattle.pale_text.specs.MakingStatements.{bracketless, valueless, narrowed, with_statement}
-use Rattle.pale_print.specs.Placeless.{nowhere, placeless_name, placeless_path, placeless_term, placeless_route, placeless_condition, placeless_quantifier, placeless_assertion, placeless_bracketed, placeless_value, placeless_argument, placeless_statement, placeless_field, placeless_variant, placeless_predicate_parameter, placeless_parameter, placeless_logic, placeless_declaration}
+use Rattle.pale_syntax.specs.declared.tree.names.Name.{Name}
+use Rattle.pale_syntax.specs.declared.tree.names.Path.{Path}
+use Rattle.pale_syntax.specs.declared.tree.assertion.Quantifier.{Quantifier}
+use Rattle.pale_syntax.specs.declared.tree.statement.Statement.{Statement}
+use Rattle.pale_syntax.specs.declared.tree.statement.Value.{Value}
+use Rattle.pale_syntax.specs.declared.tree.statement.Value.TheVariants as value
+use Rattle.pale_syntax.specs.MakingParts.{Parts, Near, nameless, name_of}
+use Rattle.pale_text.specs.Tokens.{place_of}
+use Rattle.pale_syntax.specs.MakingWords.{pathless, termless, extended}
+use Rattle.pale_syntax.specs.MakingRoutes.{routeless}
+use Rattle.pale_syntax.specs.MakingConditions.{conditionless}
+use Rattle.pale_syntax.specs.MakingAssertions.{assertionless, quantifierless, binding}
+use Rattle.pale_syntax.specs.MakingStatements.{bracketless, valueless, narrowed, with_statement}
+use Rattle.pale_print.specs.Placeless.{nowhere, placeless_name, placeless_path, placeless_term, placeless_route}
+use Rattle.pale_print.specs.Placeless.{placeless_condition, placeless_quantifier, placeless_assertion, placeless_bracketed}
+use Rattle.pale_print.specs.Placeless.{placeless_value, placeless_argument, placeless_statement, placeless_field}
+use Rattle.pale_print.specs.Placeless.{placeless_variant, placeless_predicate_parameter, placeless_parameter, placeless_logic}
+use Rattle.pale_print.specs.Placeless.{placeless_declaration}
 use Rattle.pale_print_laws.proofs.StackLemmas.{map-last, top-map, rest-map, second-map, rest-rest-map}
 use Rattle.pale_print_laws.proofs.PlacelessForms.{route-UpAny, condition-True, assertion-True}
 
@@ -143,7 +148,8 @@ routes2 parts = rest-rest-map placeless_route parts.routes
 pub condition1 : (parts : Parts) → placeless_condition (top conditionless parts.conditions) ≡ top conditionless (map placeless_condition parts.conditions)
 condition1 parts = top-map placeless_condition conditionless conditionless (condition-True nowhere) parts.conditions
 
-pub condition2 : (parts : Parts) → placeless_condition (top conditionless (rest parts.conditions)) ≡ top conditionless (rest (map placeless_condition parts.conditions))
+pub condition2 : (parts : Parts) →
+    placeless_condition (top conditionless (rest parts.conditions)) ≡ top conditionless (rest (map placeless_condition parts.conditions))
 condition2 parts = second-map placeless_condition conditionless conditionless (condition-True nowhere) parts.conditions
 
 pub conditions1 : (parts : Parts) → map placeless_condition (rest parts.conditions) ≡ rest (map placeless_condition parts.conditions)
@@ -155,7 +161,8 @@ conditions2 parts = rest-rest-map placeless_condition parts.conditions
 pub assertion1 : (parts : Parts) → placeless_assertion (top assertionless parts.assertions) ≡ top assertionless (map placeless_assertion parts.assertions)
 assertion1 parts = top-map placeless_assertion assertionless assertionless assertion-True parts.assertions
 
-pub assertion2 : (parts : Parts) → placeless_assertion (top assertionless (rest parts.assertions)) ≡ top assertionless (rest (map placeless_assertion parts.assertions))
+pub assertion2 : (parts : Parts) →
+    placeless_assertion (top assertionless (rest parts.assertions)) ≡ top assertionless (rest (map placeless_assertion parts.assertions))
 assertion2 parts = second-map placeless_assertion assertionless assertionless assertion-True parts.assertions
 
 pub assertions1 : (parts : Parts) → map placeless_assertion (rest parts.assertions) ≡ rest (map placeless_assertion parts.assertions)
@@ -164,10 +171,12 @@ assertions1 parts = rest-map placeless_assertion parts.assertions
 pub assertions2 : (parts : Parts) → map placeless_assertion (rest (rest parts.assertions)) ≡ rest (rest (map placeless_assertion parts.assertions))
 assertions2 parts = rest-rest-map placeless_assertion parts.assertions
 
-pub quantifier1 : (parts : Parts) → placeless_quantifier (top quantifierless parts.quantifiers) ≡ top quantifierless (map placeless_quantifier parts.quantifiers)
+pub quantifier1 : (parts : Parts) →
+    placeless_quantifier (top quantifierless parts.quantifiers) ≡ top quantifierless (map placeless_quantifier parts.quantifiers)
 quantifier1 parts = top-map placeless_quantifier quantifierless quantifierless refl parts.quantifiers
 
-pub quantifier2 : (parts : Parts) → placeless_quantifier (top quantifierless (rest parts.quantifiers)) ≡ top quantifierless (rest (map placeless_quantifier parts.quantifiers))
+pub quantifier2 : (parts : Parts) →
+    placeless_quantifier (top quantifierless (rest parts.quantifiers)) ≡ top quantifierless (rest (map placeless_quantifier parts.quantifiers))
 quantifier2 parts = second-map placeless_quantifier quantifierless quantifierless refl parts.quantifiers
 
 pub quantifiers1 : (parts : Parts) → map placeless_quantifier (rest parts.quantifiers) ≡ rest (map placeless_quantifier parts.quantifiers)
@@ -203,13 +212,15 @@ blocks2 parts = rest-rest-map (map placeless_statement) parts.blocks
 pub else1 : (parts : Parts) → (option_map (map placeless_statement)) (top None parts.elses) ≡ top None (map (option_map (map placeless_statement)) parts.elses)
 else1 parts = top-map (option_map (map placeless_statement)) None None refl parts.elses
 
-pub else2 : (parts : Parts) → (option_map (map placeless_statement)) (top None (rest parts.elses)) ≡ top None (rest (map (option_map (map placeless_statement)) parts.elses))
+pub else2 : (parts : Parts) →
+    (option_map (map placeless_statement)) (top None (rest parts.elses)) ≡ top None (rest (map (option_map (map placeless_statement)) parts.elses))
 else2 parts = second-map (option_map (map placeless_statement)) None None refl parts.elses
 
 pub elses1 : (parts : Parts) → map (option_map (map placeless_statement)) (rest parts.elses) ≡ rest (map (option_map (map placeless_statement)) parts.elses)
 elses1 parts = rest-map (option_map (map placeless_statement)) parts.elses
 
-pub elses2 : (parts : Parts) → map (option_map (map placeless_statement)) (rest (rest parts.elses)) ≡ rest (rest (map (option_map (map placeless_statement)) parts.elses))
+pub elses2 : (parts : Parts) →
+    map (option_map (map placeless_statement)) (rest (rest parts.elses)) ≡ rest (rest (map (option_map (map placeless_statement)) parts.elses))
 elses2 parts = rest-rest-map (option_map (map placeless_statement)) parts.elses
 
 pub value1 : (parts : Parts) → placeless_value (top valueless parts.values) ≡ top valueless (map placeless_value parts.values)
@@ -238,4 +249,6 @@ narrowed-placeless (value.Condition place c) x = refl
 pub with_statement-placeless : (one other : Statement) (blocks : List (List Statement)) → placeless_statement one ≡ other →
     map (map placeless_statement) (with_statement one blocks) ≡ with_statement other (map (map placeless_statement) blocks)
 with_statement-placeless one other [] is = λ i. (is i ∷ []) ∷ []
-with_statement-placeless one other (block ∷ blocks) is = λ i. (map-last placeless_statement block one ∙ ap (λ s. map placeless_statement block ++ s ∷ []) is) i ∷ map (map placeless_statement) blocks
+with_statement-placeless one other (block ∷ blocks) is =
+    λ i. (map-last placeless_statement block one ∙ ap (λ s. map placeless_statement block ++ s ∷ []) is) i ∷ map
+    (map placeless_statement) blocks

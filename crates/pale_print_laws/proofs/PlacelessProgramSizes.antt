@@ -1,36 +1,43 @@
 -- Statements, declarations and programs have as many tokens without their places.
 use Rattle.std.proofs.Common.{◌≡◌, ℕ, suc, false, List, [], ◌∷◌, length, Option, None, Some, map, refl, sym, ap, ◌∙◌, subst, arith}
 use Rattle.std.specs.Option.{option_map}
-use Rattle.pale_text.specs.declared.tree.names.Name.{Name}
-use Rattle.pale_text.specs.declared.tree.assertion.Bracketed.{Bracketed}
-use Rattle.pale_text.specs.declared.tree.statement.Argument.{Argument}
-use Rattle.pale_text.specs.declared.tree.statement.Call.{Call}
-use Rattle.pale_text.specs.declared.tree.statement.Value.{Value}
-use Rattle.pale_text.specs.declared.tree.statement.Value.TheVariants as value
-use Rattle.pale_text.specs.declared.tree.statement.Statement.{Statement, roll-Statement}
-use Rattle.pale_text.specs.declared.tree.statement.Statement.TheOpen.{Statement-F}
-use Rattle.pale_text.specs.declared.tree.statement.Statement.TheFolds.{fold-roll-Statement, ind-Statement, map-Statement}
+use Rattle.pale_syntax.specs.declared.tree.names.Name.{Name}
+use Rattle.pale_syntax.specs.declared.tree.assertion.Bracketed.{Bracketed}
+use Rattle.pale_syntax.specs.declared.tree.statement.Argument.{Argument}
+use Rattle.pale_syntax.specs.declared.tree.statement.Call.{Call}
+use Rattle.pale_syntax.specs.declared.tree.statement.Value.{Value}
+use Rattle.pale_syntax.specs.declared.tree.statement.Value.TheVariants as value
+use Rattle.pale_syntax.specs.declared.tree.statement.Statement.{Statement, roll-Statement}
+use Rattle.pale_syntax.specs.declared.tree.statement.Statement.TheOpen.{Statement-F}
+use Rattle.pale_syntax.specs.declared.tree.statement.Statement.TheFolds.{fold-roll-Statement, ind-Statement, map-Statement}
 use denote.Hole.Carrier.{roll}
-use Rattle.pale_text.specs.declared.tree.declaration.Declaration.{Declaration}
-use Rattle.pale_text.specs.declared.tree.declaration.Declaration.TheVariants as declaration
-use Rattle.pale_text.specs.declared.tree.declaration.FieldDeclaration.{FieldDeclaration}
-use Rattle.pale_text.specs.declared.tree.declaration.FieldForm.{FieldForm}
-use Rattle.pale_text.specs.declared.tree.declaration.FieldForm.TheVariants as form
-use Rattle.pale_text.specs.declared.tree.declaration.LogicParameter.{LogicParameter}
-use Rattle.pale_text.specs.declared.tree.declaration.LogicParameter.TheVariants as logic
-use Rattle.pale_text.specs.declared.tree.declaration.Parameter.{Parameter}
-use Rattle.pale_text.specs.declared.tree.declaration.Parameter.TheVariants as parameter
-use Rattle.pale_text.specs.declared.tree.declaration.PredicateDeclaration.{PredicateDeclaration}
-use Rattle.pale_text.specs.declared.tree.declaration.PredicateParameter.{PredicateParameter}
-use Rattle.pale_text.specs.declared.tree.declaration.PredicateParameter.TheVariants as predicate
-use Rattle.pale_text.specs.declared.tree.declaration.Procedure.{Procedure}
-use Rattle.pale_text.specs.declared.tree.declaration.Program.{Program}
-use Rattle.pale_text.specs.declared.tree.declaration.TypeDeclaration.{TypeDeclaration}
-use Rattle.pale_text.specs.declared.tree.declaration.VariantDeclaration.{VariantDeclaration}
+use Rattle.pale_syntax.specs.declared.tree.declaration.Declaration.{Declaration}
+use Rattle.pale_syntax.specs.declared.tree.declaration.Declaration.TheVariants as declaration
+use Rattle.pale_syntax.specs.declared.tree.declaration.FieldDeclaration.{FieldDeclaration}
+use Rattle.pale_syntax.specs.declared.tree.declaration.FieldForm.{FieldForm}
+use Rattle.pale_syntax.specs.declared.tree.declaration.FieldForm.TheVariants as form
+use Rattle.pale_syntax.specs.declared.tree.declaration.LogicParameter.{LogicParameter}
+use Rattle.pale_syntax.specs.declared.tree.declaration.LogicParameter.TheVariants as logic
+use Rattle.pale_syntax.specs.declared.tree.declaration.Parameter.{Parameter}
+use Rattle.pale_syntax.specs.declared.tree.declaration.Parameter.TheVariants as parameter
+use Rattle.pale_syntax.specs.declared.tree.declaration.PredicateDeclaration.{PredicateDeclaration}
+use Rattle.pale_syntax.specs.declared.tree.declaration.PredicateParameter.{PredicateParameter}
+use Rattle.pale_syntax.specs.declared.tree.declaration.PredicateParameter.TheVariants as predicate
+use Rattle.pale_syntax.specs.declared.tree.declaration.Procedure.{Procedure}
+use Rattle.pale_syntax.specs.declared.tree.declaration.Program.{Program}
+use Rattle.pale_syntax.specs.declared.tree.declaration.TypeDeclaration.{TypeDeclaration}
+use Rattle.pale_syntax.specs.declared.tree.declaration.VariantDeclaration.{VariantDeclaration}
 use Rattle.pale_print.specs.DeclarationTokens.{program_tokens}
-use Rattle.pale_print.specs.Placeless.{nowhere, placeless_name, placeless_path, placeless_condition, placeless_bracketed, placeless_value, placeless_argument, placeless_call, placeless_statement_node, placeless_statement, placeless_form, placeless_field, placeless_variant, placeless_type, placeless_predicate_parameter, placeless_predicate, placeless_parameter, placeless_logic, placeless_procedure, placeless_declaration, placeless, IsSameButForPlaces}
-use Rattle.pale_print_laws.proofs.StatementSizes.{one_token, clause_size, call_result_size, logic_argument_size, call_size, value_size, total, size_node, statement_size, statements_size, sized_at}
-use Rattle.pale_print_laws.proofs.DeclarationSizes.{form_size, field_size, variant_size, type_size, predicate_parameter_size, predicate_size, parameter_size, results_size, logic_parameter_size, logics_size, local_size, procedure_size, declaration_size, program_length}
+use Rattle.pale_print.specs.Placeless.{nowhere, placeless_name, placeless_path, placeless_condition, placeless_bracketed}
+use Rattle.pale_print.specs.Placeless.{placeless_value, placeless_argument, placeless_call, placeless_statement_node}
+use Rattle.pale_print.specs.Placeless.{placeless_statement, placeless_form, placeless_field, placeless_variant, placeless_type}
+use Rattle.pale_print.specs.Placeless.{placeless_predicate_parameter, placeless_predicate, placeless_parameter, placeless_logic}
+use Rattle.pale_print.specs.Placeless.{placeless_procedure, placeless_declaration, placeless, IsSameButForPlaces}
+use Rattle.pale_print_laws.proofs.StatementSizes.{one_token, clause_size, call_result_size, logic_argument_size, call_size}
+use Rattle.pale_print_laws.proofs.StatementSizes.{value_size, total, size_node, statement_size, statements_size, sized_at}
+use Rattle.pale_print_laws.proofs.DeclarationSizes.{form_size, field_size, variant_size, type_size, predicate_parameter_size}
+use Rattle.pale_print_laws.proofs.DeclarationSizes.{predicate_size, parameter_size, results_size, logic_parameter_size}
+use Rattle.pale_print_laws.proofs.DeclarationSizes.{logics_size, local_size, procedure_size, declaration_size, program_length}
 use Rattle.pale_print_laws.proofs.PlacelessSizes.{each_same, behind_same, separated_same, path_same, route_same, condition_same}
 use Rattle.pale_print_laws.proofs.PlacelessAssertionSizes.{assertion_same}
 
@@ -104,7 +111,8 @@ node_same (Statement-F.Free place x) = at_form (Statement-F.Free nowhere (placel
 node_same (Statement-F.Call c) = at_form (Statement-F.Call (placeless_call c)) ∙ call_same c
 node_same (Statement-F.Assign p place v) = omega (arith, at_form (Statement-F.Assign (placeless_path p) nowhere (placeless_value v)), path_same p, value_same v)
 
-opened_placeless : (x : Statement-F Statement) → placeless_statement (roll-Statement x) ≡ placeless_statement_node (map-Statement Statement Statement placeless_statement x)
+opened_placeless : (x : Statement-F Statement) →
+    placeless_statement (roll-Statement x) ≡ placeless_statement_node (map-Statement Statement Statement placeless_statement x)
 unfolding placeless_statement
 opened_placeless x = fold-roll-Statement Statement placeless_statement_node x
 

@@ -3,11 +3,12 @@ use Rattle.std.proofs.Common.{◌≡◌, List, [], ◌∷◌, Option, None, Some
 use Rattle.std.specs.Option.{option_map}
 use Rattle.ll1_reader.specs.declared.symbol.Event.{Event}
 use Rattle.ll1_reader.specs.declared.symbol.Event.TheVariants as event
-use Rattle.pale_text.specs.declared.grammar.act.Act.{Act}
-use Rattle.pale_text.specs.declared.grammar.act.Act.TheVariants as act
+use Rattle.pale_syntax.specs.declared.grammar.act.Act.{Act}
+use Rattle.pale_syntax.specs.declared.grammar.act.Act.TheVariants as act
 use Rattle.pale_text.specs.declared.token.Token.{Token}
-use Rattle.pale_text.specs.MakingParts.{Parts, Near}
-use Rattle.pale_text.specs.Making.{after, first_of, run}
+use Rattle.pale_syntax.specs.MakingParts.{Parts, Near}
+use Rattle.pale_syntax.specs.Making.{after, run}
+use Rattle.pale_text.specs.Tokens.{first_of}
 use Rattle.pale_print_laws.proofs.PlacelessParts.{placeless_parts, placeless_token, placeless_near}
 use Rattle.pale_print_laws.proofs.PlacelessMaking.{word_placeless, route_placeless, condition_placeless}
 use Rattle.pale_print_laws.proofs.PlacelessMakingAssertions.{atom_placeless, connective_placeless}

@@ -1,13 +1,15 @@
 -- Routes that are opened: what the acts that join them make.
 use Rattle.std.proofs.Common.{◌≡◌, false, List, [], ◌∷◌, ◌++◌, map, refl, sym, ap, ◌∙◌}
 use Rattle.pale_text.specs.declared.place.Pos.{Pos}
-use Rattle.pale_text.specs.declared.tree.names.Name.{Name}
-use Rattle.pale_text.specs.declared.tree.route.Route.{Route, out-Route, roll-Route, out-roll-Route}
-use Rattle.pale_text.specs.declared.tree.route.Route.TheVariants as route
-use Rattle.pale_text.specs.declared.tree.route.Route.TheVariants.{rolls-Down, rolls-Up, rolls-UpAny, rolls-Root, rolls-Leaf, rolls-IsType, rolls-IsVariant, rolls-IsBool, rolls-Then, rolls-Or, rolls-Star}
-use Rattle.pale_text.specs.declared.tree.route.Route.TheOpen.{Route-F}
-use Rattle.pale_text.specs.declared.tree.route.Route.TheFolds.{fold-roll-Route, ind-Route, map-Route}
-use Rattle.pale_text.specs.MakingRoutes.{joined_or, joined_then, or_by, star_by, starred, tested_by, tested_type, then_by}
+use Rattle.pale_syntax.specs.declared.tree.names.Name.{Name}
+use Rattle.pale_syntax.specs.declared.tree.route.Route.{Route, out-Route, roll-Route, out-roll-Route}
+use Rattle.pale_syntax.specs.declared.tree.route.Route.TheVariants as route
+use Rattle.pale_syntax.specs.declared.tree.route.Route.TheVariants.{rolls-Down, rolls-Up, rolls-UpAny, rolls-Root, rolls-Leaf}
+use Rattle.pale_syntax.specs.declared.tree.route.Route.TheVariants.{rolls-IsType, rolls-IsVariant, rolls-IsBool, rolls-Then}
+use Rattle.pale_syntax.specs.declared.tree.route.Route.TheVariants.{rolls-Or, rolls-Star}
+use Rattle.pale_syntax.specs.declared.tree.route.Route.TheOpen.{Route-F}
+use Rattle.pale_syntax.specs.declared.tree.route.Route.TheFolds.{fold-roll-Route, ind-Route, map-Route}
+use Rattle.pale_syntax.specs.MakingRoutes.{joined_or, joined_then, or_by, star_by, starred, tested_by, tested_type, then_by}
 use Rattle.pale_print.specs.Placeless.{nowhere, placeless_name, placeless_route, placeless_route_node, placeless_route}
 use Rattle.pale_print_laws.specs.CanonicalRoutes.{is_then_node, is_or_node, is_star_node}
 
@@ -56,13 +58,18 @@ unfolding shape
 is_then_node-shape (Route-F.Then first others) = refl
 is_then_node-shape _ = refl
 
-pub joined_then-first : (first : Route) → is_then_node (out-Route first) ≡ false → (other : Route) → joined_then (placeless_route first) other ≡ route.Then (placeless_route first) (other ∷ [])
-joined_then-first = opened_route (λ first. is_then_node (out-Route first) ≡ false → (other : Route) → joined_then (placeless_route first) other ≡ route.Then (placeless_route first) (other ∷ [])) (λ x is other.
+pub joined_then-first : (first : Route) → is_then_node (out-Route first) ≡ false → (other : Route) →
+    joined_then (placeless_route first) other ≡ route.Then (placeless_route first) (other ∷ [])
+joined_then-first =
+    opened_route (λ first. is_then_node (out-Route first) ≡ false → (other : Route) → joined_then (placeless_route first) other
+    ≡ route.Then (placeless_route first) (other ∷ [])) (λ x is other.
     then_by-first (out-Route (placeless_route (roll-Route x)))
     (ap is_then_node (placeless-out x) ∙ is_then_node-shape x ∙ sym (ap is_then_node (out-roll-Route x)) ∙ is) (placeless_route (roll-Route x)) other)
 
 pub joined_then-more : (first : Route) (done : List Route) (other : Route) → joined_then (route.Then first done) other ≡ route.Then first (done ++ other ∷ [])
-joined_then-more first done other = ap (λ (x : Route-F Route). then_by x (route.Then first done) other) (ap out-Route (sym (rolls-Then first done)) ∙ out-roll-Route _)
+joined_then-more first done other =
+    ap (λ (x : Route-F Route). then_by x (route.Then first done) other)
+    (ap out-Route (sym (rolls-Then first done)) ∙ out-roll-Route _)
 
 or_by-first : (x : Route-F Route) → is_or_node x ≡ false → (one : Route) (other : Route) → or_by x one other ≡ route.Or one (other ∷ [])
 or_by-first (Route-F.Or first others) is one other = absurd (cc is)
@@ -73,8 +80,11 @@ unfolding shape
 is_or_node-shape (Route-F.Or first others) = refl
 is_or_node-shape _ = refl
 
-pub joined_or-first : (first : Route) → is_or_node (out-Route first) ≡ false → (other : Route) → joined_or (placeless_route first) other ≡ route.Or (placeless_route first) (other ∷ [])
-joined_or-first = opened_route (λ first. is_or_node (out-Route first) ≡ false → (other : Route) → joined_or (placeless_route first) other ≡ route.Or (placeless_route first) (other ∷ [])) (λ x is other.
+pub joined_or-first : (first : Route) → is_or_node (out-Route first) ≡ false → (other : Route) →
+    joined_or (placeless_route first) other ≡ route.Or (placeless_route first) (other ∷ [])
+joined_or-first =
+    opened_route (λ first. is_or_node (out-Route first) ≡ false → (other : Route) → joined_or (placeless_route first) other
+    ≡ route.Or (placeless_route first) (other ∷ [])) (λ x is other.
     or_by-first (out-Route (placeless_route (roll-Route x)))
     (ap is_or_node (placeless-out x) ∙ is_or_node-shape x ∙ sym (ap is_or_node (out-roll-Route x)) ∙ is) (placeless_route (roll-Route x)) other)
 
@@ -90,13 +100,18 @@ unfolding shape
 is_star_node-shape (Route-F.Star first others) = refl
 is_star_node-shape _ = refl
 
-pub starred-first : (first : Route) → is_star_node (out-Route first) ≡ false → (place : Pos) → starred (placeless_route first) place ≡ route.Star (placeless_route first) (place ∷ [])
-starred-first = opened_route (λ first. is_star_node (out-Route first) ≡ false → (place : Pos) → starred (placeless_route first) place ≡ route.Star (placeless_route first) (place ∷ [])) (λ x is place.
+pub starred-first : (first : Route) → is_star_node (out-Route first) ≡ false → (place : Pos) →
+    starred (placeless_route first) place ≡ route.Star (placeless_route first) (place ∷ [])
+starred-first =
+    opened_route (λ first. is_star_node (out-Route first) ≡ false → (place : Pos) → starred (placeless_route first) place
+    ≡ route.Star (placeless_route first) (place ∷ [])) (λ x is place.
     star_by-first (out-Route (placeless_route (roll-Route x)))
     (ap is_star_node (placeless-out x) ∙ is_star_node-shape x ∙ sym (ap is_star_node (out-roll-Route x)) ∙ is) (placeless_route (roll-Route x)) place)
 
 pub starred-more : (first : Route) (done : List Pos) (place : Pos) → starred (route.Star first done) place ≡ route.Star first (done ++ place ∷ [])
-starred-more first done place = ap (λ (x : Route-F Route). star_by x (route.Star first done) place) (ap out-Route (sym (rolls-Star first done)) ∙ out-roll-Route _)
+starred-more first done place =
+    ap (λ (x : Route-F Route). star_by x (route.Star first done) place)
+    (ap out-Route (sym (rolls-Star first done)) ∙ out-roll-Route _)
 
 pub tested-type : (ty : Name) → tested_type (route.IsType ty) ≡ ty
 tested-type ty = ap tested_by (ap out-Route (sym (rolls-IsType ty)) ∙ out-roll-Route _)

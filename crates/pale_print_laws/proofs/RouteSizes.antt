@@ -5,13 +5,13 @@ use Rattle.pale_text.specs.declared.token.Mark.{Mark}
 use Rattle.pale_text.specs.declared.token.Mark.TheVariants as mark
 use Rattle.pale_text.specs.declared.token.TokenKind.{TokenKind}
 use Rattle.pale_text.specs.declared.token.TokenKind.TheVariants as token
-use Rattle.pale_text.specs.declared.tree.names.Name.{Name}
-use Rattle.pale_text.specs.declared.tree.route.Route.{Route, roll-Route, out-roll-Route}
-use Rattle.pale_text.specs.declared.tree.route.Route.TheVariants as route
-use Rattle.pale_text.specs.declared.tree.route.Route.TheOpen.{Route-F}
-use Rattle.pale_text.specs.declared.tree.route.Route.TheFolds.{fold-Route, fold-roll-Route, ind-Route, map-Route}
+use Rattle.pale_syntax.specs.declared.tree.names.Name.{Name}
+use Rattle.pale_syntax.specs.declared.tree.route.Route.{Route, roll-Route, out-roll-Route}
+use Rattle.pale_syntax.specs.declared.tree.route.Route.TheVariants as route
+use Rattle.pale_syntax.specs.declared.tree.route.Route.TheOpen.{Route-F}
+use Rattle.pale_syntax.specs.declared.tree.route.Route.TheFolds.{fold-Route, fold-roll-Route, ind-Route, map-Route}
 use denote.Hole.Carrier.{roll}
-use Rattle.pale_text.specs.MakingRoutes.{then_by, or_by, star_by, joined_then, joined_or, starred}
+use Rattle.pale_syntax.specs.MakingRoutes.{then_by, or_by, star_by, joined_then, joined_or, starred}
 use Rattle.pale_print.specs.Tokens.{Tokens, each_behind}
 use Rattle.pale_print.specs.RouteTokens.{Placed, grouped, stars, bool_test, route_node, route_tokens}
 use Rattle.pale_print_laws.specs.CanonicalRoutes.{is_then_node, is_or_node, is_star_node}
@@ -125,7 +125,8 @@ pub route_takes : (r : Route) (asked : ℕ) → Takes (route_tokens r asked) (ro
 route_takes = ind-Route Sized (λ x y is asked.
     subst (λ (t : Placed). Takes (t asked) (route_size (roll-Route x) asked)) (sym (tokens_at x))
     (subst (λ (s : Size). Takes (route_node (map-Route Route Placed route_tokens x) asked) (s asked)) (sym (sized_at x))
-    (subst (λ (z : Route-F Route). Takes (route_node (map-Route Route Placed route_tokens z) asked) (size_node (map-Route Route Size route_size z) asked)) is (node_takes y asked))))
+    (subst (λ (z : Route-F Route). Takes (route_node (map-Route Route Placed route_tokens z) asked)
+    (size_node (map-Route Route Size route_size z) asked)) is (node_takes y asked))))
 
 -- ---- at other places
 
@@ -147,19 +148,23 @@ route_rises = opened_route (λ r. Rises (route_size r)) (λ x. subst Rises (sym 
 
 -- ---- chains
 
-behind_last : (asked : ℕ) (rs : List Route) (r : Route) → behind_size asked (map route_size (rs ++ r ∷ [])) ≡ behind_size asked (map route_size rs) + suc (route_size r asked)
+behind_last : (asked : ℕ) (rs : List Route) (r : Route) →
+    behind_size asked (map route_size (rs ++ r ∷ [])) ≡ behind_size asked (map route_size rs) + suc (route_size r asked)
 behind_last asked [] r = omega arith
 behind_last asked (one ∷ rs) r = let e = behind_last asked rs r in omega arith
 
-pub size_or : (first : Route) (others : List Route) (asked : ℕ) → route_size (route.Or first others) asked ≡ grouped_size (nat_lt 0 asked) (route_size first 1 + behind_size 1 (map route_size others))
+pub size_or : (first : Route) (others : List Route) (asked : ℕ) →
+    route_size (route.Or first others) asked ≡ grouped_size (nat_lt 0 asked) (route_size first 1 + behind_size 1 (map route_size others))
 unfolding roll-Route roll
 size_or first others asked = ap (λ (s : Size). s asked) (sized_at (Route-F.Or first others))
 
-pub size_then : (first : Route) (others : List Route) (asked : ℕ) → route_size (route.Then first others) asked ≡ grouped_size (nat_lt 1 asked) (route_size first 2 + behind_size 2 (map route_size others))
+pub size_then : (first : Route) (others : List Route) (asked : ℕ) →
+    route_size (route.Then first others) asked ≡ grouped_size (nat_lt 1 asked) (route_size first 2 + behind_size 2 (map route_size others))
 unfolding roll-Route roll
 size_then first others asked = ap (λ (s : Size). s asked) (sized_at (Route-F.Then first others))
 
-pub size_star : (inner : Route) (places : List Pos) (asked : ℕ) → route_size (route.Star inner places) asked ≡ grouped_size (nat_lt 2 asked) (route_size inner 3 + length places)
+pub size_star : (inner : Route) (places : List Pos) (asked : ℕ) →
+    route_size (route.Star inner places) asked ≡ grouped_size (nat_lt 2 asked) (route_size inner 3 + length places)
 unfolding roll-Route roll
 size_star inner places asked = ap (λ (s : Size). s asked) (sized_at (Route-F.Star inner places))
 
@@ -176,7 +181,8 @@ no_star_node : (x : Route-F Route) → is_star_node x ≡ false → size_node (m
 no_star_node (Route-F.Star inner places) is = absurd (cc is)
 no_star_node _ is = omega arith
 
-begun_or : (x : Route-F Route) (other : Route) → is_or_node x ≡ false → route_size (route.Or (roll-Route x) (other ∷ [])) 0 ≤ route_size (roll-Route x) 0 + suc (route_size other 1)
+begun_or : (x : Route-F Route) (other : Route) → is_or_node x ≡ false →
+    route_size (route.Or (roll-Route x) (other ∷ [])) 0 ≤ route_size (roll-Route x) 0 + suc (route_size other 1)
 begun_or x other is =
     let e = size_or (roll-Route x) (other ∷ []) 0 in
     let l : route_size (roll-Route x) 1 ≤ route_size (roll-Route x) 0 = subst (λ (s : Size). s 1 ≤ s 0) (sym (sized_at x)) (no_or_node x is) in
@@ -193,9 +199,12 @@ or_by_size x other = begun_or x other refl
 
 pub joined_or_size : (r other : Route) → route_size (joined_or r other) 0 ≤ route_size r 0 + suc (route_size other 1)
 joined_or_size = opened_route (λ r. (other : Route) → route_size (joined_or r other) 0 ≤ route_size r 0 + suc (route_size other 1)) (λ x other.
-    subst (λ (n : Route-F Route). route_size (or_by n (roll-Route x) other) 0 ≤ route_size (roll-Route x) 0 + suc (route_size other 1)) (sym (out-roll-Route x)) (or_by_size x other))
+    subst
+    (λ (n : Route-F Route). route_size (or_by n (roll-Route x) other) 0 ≤ route_size (roll-Route x) 0 + suc (route_size other 1))
+    (sym (out-roll-Route x)) (or_by_size x other))
 
-begun_then : (x : Route-F Route) (other : Route) → is_then_node x ≡ false → route_size (route.Then (roll-Route x) (other ∷ [])) 1 ≤ route_size (roll-Route x) 1 + suc (route_size other 2)
+begun_then : (x : Route-F Route) (other : Route) → is_then_node x ≡ false →
+    route_size (route.Then (roll-Route x) (other ∷ [])) 1 ≤ route_size (roll-Route x) 1 + suc (route_size other 2)
 begun_then x other is =
     let e = size_then (roll-Route x) (other ∷ []) 1 in
     let l : route_size (roll-Route x) 2 ≤ route_size (roll-Route x) 1 = subst (λ (s : Size). s 2 ≤ s 1) (sym (sized_at x)) (no_then_node x is) in
@@ -212,7 +221,9 @@ then_by_size x other = begun_then x other refl
 
 pub joined_then_size : (r other : Route) → route_size (joined_then r other) 1 ≤ route_size r 1 + suc (route_size other 2)
 joined_then_size = opened_route (λ r. (other : Route) → route_size (joined_then r other) 1 ≤ route_size r 1 + suc (route_size other 2)) (λ x other.
-    subst (λ (n : Route-F Route). route_size (then_by n (roll-Route x) other) 1 ≤ route_size (roll-Route x) 1 + suc (route_size other 2)) (sym (out-roll-Route x)) (then_by_size x other))
+    subst
+    (λ (n : Route-F Route). route_size (then_by n (roll-Route x) other) 1 ≤ route_size (roll-Route x) 1 + suc (route_size other 2))
+    (sym (out-roll-Route x)) (then_by_size x other))
 
 places_last : (places : List Pos) (at : Pos) → length (places ++ at ∷ []) ≡ suc (length places)
 places_last [] at = refl

@@ -3,29 +3,35 @@ use Rattle.std.specs.Prelude.{nat_lt}
 use Rattle.std.proofs.Common.{◌≡◌, ℕ, ◌+◌, ◌≤◌, Bool, true, false, List, [], ◌∷◌, ◌++◌, map, refl, sym, subst, append_assoc, inl, inr}
 use Rattle.ll1_reader.specs.declared.symbol.Symbol.TheVariants.{Read, Once, Maybe, Many}
 use Rattle.ll1_reader.specs.Readings.{Row}
-use Rattle.pale_text.specs.declared.grammar.act.RouteAct.TheVariants as routes
-use Rattle.pale_text.specs.declared.grammar.kind.ProgramKind.TheVariants as kind
-use Rattle.pale_text.specs.declared.grammar.part.ProgramPart.{ProgramPart}
-use Rattle.pale_text.specs.declared.grammar.part.ProgramPart.TheVariants as part
+use Rattle.pale_syntax.specs.declared.grammar.act.RouteAct.TheVariants as routes
+use Rattle.pale_syntax.specs.declared.grammar.kind.ProgramKind.TheVariants as kind
+use Rattle.pale_syntax.specs.declared.grammar.part.ProgramPart.{ProgramPart}
+use Rattle.pale_syntax.specs.declared.grammar.part.ProgramPart.TheVariants as part
 use Rattle.pale_text.specs.declared.place.Pos.{Pos}
 use Rattle.pale_text.specs.declared.token.Mark.TheVariants as mark
 use Rattle.pale_text.specs.declared.token.TokenKind.{TokenKind}
 use Rattle.pale_text.specs.declared.token.TokenKind.TheVariants as token
-use Rattle.pale_text.specs.declared.tree.route.Route.{Route, roll-Route}
-use Rattle.pale_text.specs.declared.tree.route.Route.TheVariants as route
-use Rattle.pale_text.specs.declared.tree.route.Route.TheVariants.{rolls-Down, rolls-Up, rolls-UpAny, rolls-Root, rolls-Leaf, rolls-IsType, rolls-IsVariant, rolls-IsBool, rolls-Then, rolls-Or, rolls-Star}
-use Rattle.pale_text.specs.declared.tree.route.Route.TheOpen.{Route-F}
-use Rattle.pale_text.specs.declared.tree.route.Route.TheFolds.{fold-roll-Route, map-Route}
-use Rattle.pale_text.specs.MakingParts.{Parts}
-use Rattle.pale_text.specs.MakingRoutes.{joined_then, joined_or, starred}
-use Rattle.pale_text.specs.ProgramGrammar.{ProgramSymbol, program_grammar, rows_of, reads, opens, push_name, route as makes}
+use Rattle.pale_syntax.specs.declared.tree.route.Route.{Route, roll-Route}
+use Rattle.pale_syntax.specs.declared.tree.route.Route.TheVariants as route
+use Rattle.pale_syntax.specs.declared.tree.route.Route.TheVariants.{rolls-Down, rolls-Up, rolls-UpAny, rolls-Root, rolls-Leaf}
+use Rattle.pale_syntax.specs.declared.tree.route.Route.TheVariants.{rolls-IsType, rolls-IsVariant, rolls-IsBool, rolls-Then}
+use Rattle.pale_syntax.specs.declared.tree.route.Route.TheVariants.{rolls-Or, rolls-Star}
+use Rattle.pale_syntax.specs.declared.tree.route.Route.TheOpen.{Route-F}
+use Rattle.pale_syntax.specs.declared.tree.route.Route.TheFolds.{fold-roll-Route, map-Route}
+use Rattle.pale_syntax.specs.MakingParts.{Parts}
+use Rattle.pale_syntax.specs.MakingRoutes.{joined_then, joined_or, starred}
+use Rattle.pale_syntax.specs.ProgramGrammar.{ProgramSymbol, program_grammar, rows_of, reads, opens, push_name, route as makes}
 use Rattle.pale_parse.specs.Tables.{program_rules, choices_of}
 use Rattle.pale_parse.specs.Hints.{program_hints, number_of, mark_number, starts_of}
 use Rattle.pale_print.specs.Placeless.{nowhere, placeless_name, placeless_route_node, placeless_route}
 use Rattle.pale_print.specs.Tokens.{each_behind}
 use Rattle.pale_print.specs.RouteTokens.{Placed, grouped, chained, stars, route_node, route_tokens}
-use Rattle.pale_print_laws.specs.CanonicalRoutes.{RoutePlace, whole, sequence, repeated, single, asks, IsCanonicalRoute, down, up, up_any, root, leaf, is_type, is_variant, is_bool, then, or, star, group, AreCanonicalRoutes, last, more}
-use Rattle.pale_print_laws.proofs.Framework.{ProgramStack, Stops, Aim, Ends, room_now, room_open, room_in, mark, mark_with, mark_open, word, word_with, does, row_ends, goes, takes, leaves, goes_on, stops_there}
+use Rattle.pale_print_laws.specs.CanonicalRoutes.{RoutePlace, whole, sequence, repeated, single, asks, IsCanonicalRoute, down}
+use Rattle.pale_print_laws.specs.CanonicalRoutes.{up, up_any, root, leaf, is_type, is_variant, is_bool, then, or, star, group}
+use Rattle.pale_print_laws.specs.CanonicalRoutes.{AreCanonicalRoutes, last, more}
+use Rattle.pale_print_laws.proofs.Framework.{ProgramStack, Stops, Aim, Ends, room_now, room_open, room_in, mark, mark_with}
+use Rattle.pale_print_laws.proofs.Framework.{mark_open, word, word_with, does, row_ends, goes, takes, leaves, goes_on}
+use Rattle.pale_print_laws.proofs.Framework.{stops_there}
 use Rattle.pale_print_laws.proofs.RouteShapes.{joined_then-first, joined_then-more, joined_or-first, joined_or-more, starred-first, starred-more, tested-type}
 use Rattle.pale_print_laws.proofs.Stopping.{at_mark}
 use Rattle.pale_print_laws.proofs.Words.{is_name, is_root}
@@ -109,13 +115,15 @@ as_sequence : {aim : Aim} {d : ℕ} {tokens after : List TokenKind} {parts : Par
     ReadsRoute aim d part.Repeated tokens after parts r → ReadsRoute aim d part.Sequence tokens after parts r
 unfolding program_grammar rows_of
 as_sequence {d = d} stops read = λ row below next.
-    goes (Once part.Repeated ∷ Many part.NextRepeated ∷ []) (inl refl) (read (Many part.NextRepeated ∷ []) (Row row d below) (stops_there stops.0 (row_ends next)))
+    goes (Once part.Repeated ∷ Many part.NextRepeated ∷ []) (inl refl)
+    (read (Many part.NextRepeated ∷ []) (Row row d below) (stops_there stops.0 (row_ends next)))
 
 as_whole : {aim : Aim} {d : ℕ} {tokens after : List TokenKind} {parts : Parts} {r : Route} → StopsAt whole after →
     ReadsRoute aim d part.Sequence tokens after parts r → ReadsRoute aim d part.Route tokens after parts r
 unfolding program_grammar rows_of
 as_whole {d = d} stops read = λ row below next.
-    goes (Once part.Sequence ∷ Many part.NextAlternative ∷ []) (inl refl) (read (Many part.NextAlternative ∷ []) (Row row d below) (stops_there stops.0 (row_ends next)))
+    goes (Once part.Sequence ∷ Many part.NextAlternative ∷ []) (inl refl)
+    (read (Many part.NextAlternative ∷ []) (Row row d below) (stops_there stops.0 (row_ends next)))
 
 raised : {aim : Aim} {d : ℕ} {tokens after : List TokenKind} {parts : Parts} {r : Route} (p : RoutePlace) → StopsAt p after →
     ReadsRoute aim d part.Step tokens after parts r → ReadsRoute aim d (part_at p) tokens after parts r
@@ -126,7 +134,8 @@ raised single stops read = read
 
 -- what is read by a node is read by its route
 at_node : {aim : Aim} {d : ℕ} {n : ProgramPart} {after : List TokenKind} {parts : Parts} (p : RoutePlace) (x : Route-F Route) (r : Route) → roll-Route x ≡ r →
-    ReadsRoute aim d n (route_node (map-Route Route Placed route_tokens x) (asks p) after) after parts (placeless_route_node (map-Route Route Route placeless_route x)) →
+    ReadsRoute aim d n (route_node (map-Route Route Placed route_tokens x) (asks p) after) after parts
+    (placeless_route_node (map-Route Route Route placeless_route x)) →
     ReadsRoute aim d n (route_tokens r (asks p) after) after parts (placeless_route r)
 unfolding route_tokens placeless_route
 at_node {aim} {d} {n} {after} {parts} p x r is h =
@@ -138,7 +147,8 @@ at_node {aim} {d} {n} {after} {parts} p x r is h =
 -- ---- chains
 
 -- the stars behind a route
-more_stars : {aim : Aim} {row : List ProgramSymbol} {d : ℕ} {below : ProgramStack} {after : List TokenKind} {parts : Parts} (inner so_far : Route) (done : List Pos) (place : Pos) (places : List Pos) →
+more_stars : {aim : Aim} {row : List ProgramSymbol} {d : ℕ} {below : ProgramStack} {after : List TokenKind} {parts : Parts}
+    (inner so_far : Route) (done : List Pos) (place : Pos) (places : List Pos) →
     ((star : Pos) → starred so_far star ≡ route.Star inner (done ++ star ∷ [])) → d ≤ aim.top → StopsAt repeated after →
     Ends aim (Row row d below) after (record parts { routes = route.Star inner (done ++ nowhere ∷ map (λ place. nowhere) places) ∷ parts.routes }) →
     Ends aim (Row (Many part.Star ∷ row) d below) (token.Mark mark.Star ∷ stars places after) (record parts { routes = so_far ∷ parts.routes })
@@ -151,8 +161,10 @@ more_stars {aim} {row} {d} {below} {after} {parts} inner so_far done place [] jo
 more_stars {aim} {row} {d} {below} {after} {parts} inner so_far done place (second ∷ places) joins low stops next =
     goes_on (reads mark.Star ∷ makes routes.AddStar ∷ []) (inl refl)
     (mark_with low (λ n. refl) (row_ends
-    (subst (λ (l : Route). Ends aim (Row (Many part.Star ∷ row) d below) (token.Mark mark.Star ∷ stars places after) (record parts { routes = l ∷ parts.routes })) (sym (joins nowhere))
-    (more_stars {parts = parts} inner (route.Star inner (done ++ nowhere ∷ [])) (done ++ nowhere ∷ []) second places (starred-more inner (done ++ nowhere ∷ [])) low stops
+    (subst (λ (l : Route). Ends aim (Row (Many part.Star ∷ row) d below) (token.Mark mark.Star ∷ stars places after)
+    (record parts { routes = l ∷ parts.routes })) (sym (joins nowhere))
+    (more_stars {parts = parts} inner (route.Star inner (done ++ nowhere ∷ [])) (done ++ nowhere ∷ []) second places
+    (starred-more inner (done ++ nowhere ∷ [])) low stops
     (subst (λ l. Ends aim (Row row d below) after (record parts { routes = route.Star inner l ∷ parts.routes }))
     (sym (append_assoc done (nowhere ∷ []) (nowhere ∷ map (λ p. nowhere) places))) next)))))
 
@@ -184,22 +196,26 @@ lift_star single bare stops read = absurd (cc bare)
 mutual
   unfolding program_grammar rows_of
 
-  pub route_read : {aim : Aim} {d : ℕ} {after : List TokenKind} {parts : Parts} {p : RoutePlace} {room : ℕ} {r : Route} → IsCanonicalRoute p room r → d + room ≤ aim.top → StopsAt p after →
+  pub route_read : {aim : Aim} {d : ℕ} {after : List TokenKind} {parts : Parts} {p : RoutePlace} {room : ℕ} {r : Route} →
+      IsCanonicalRoute p room r → d + room ≤ aim.top → StopsAt p after →
       ReadsRoute aim d (part_at p) (route_tokens r (asks p) after) after parts (placeless_route r)
   route_read {aim} {d} {after} {parts} (down p room f free) low stops =
       at_node p (Route-F.Down f) (route.Down f) (rolls-Down f) (raised p stops (λ row below next.
-      goes (Read kind.Name ∷ push_name ∷ makes routes.Down ∷ []) (inl refl) (word_with (is_name free) (room_now d room aim.top low) (λ n. refl) (does (λ n. refl) (row_ends next)))))
+      goes (Read kind.Name ∷ push_name ∷ makes routes.Down ∷ []) (inl refl)
+      (word_with (is_name free) (room_now d room aim.top low) (λ n. refl) (does (λ n. refl) (row_ends next)))))
   route_read {aim} {d} {after} {parts} (up p room f free) low stops =
       at_node p (Route-F.Up f) (route.Up f) (rolls-Up f) (raised p stops (λ row below next.
       goes (reads mark.Caret ∷ makes routes.UpAny ∷ Maybe part.UpName ∷ []) (inr (inl refl)) (mark (room_now d room aim.top low) (does (λ n. refl)
-      (takes (Read kind.Name ∷ push_name ∷ makes routes.NameUp ∷ []) (inl refl) (word_with (is_name free) (room_now d room aim.top low) (λ n. refl) (does (λ n. refl) (row_ends (row_ends next)))))))))
+      (takes (Read kind.Name ∷ push_name ∷ makes routes.NameUp ∷ []) (inl refl)
+      (word_with (is_name free) (room_now d room aim.top low) (λ n. refl) (does (λ n. refl) (row_ends (row_ends next)))))))))
   route_read {aim} {d} {after} {parts} (up_any p room) low stops =
       at_node p Route-F.UpAny route.UpAny rolls-UpAny (raised p stops (λ row below next.
       goes (reads mark.Caret ∷ makes routes.UpAny ∷ Maybe part.UpName ∷ []) (inr (inl refl)) (mark (room_now d room aim.top low) (does (λ n. refl)
       (leaves (step_stops p stops).0 (row_ends next))))))
   route_read {aim} {d} {after} {parts} (root p room) low stops =
       at_node p Route-F.Root route.Root rolls-Root (raised p stops (λ row below next.
-      goes (Read kind.Root ∷ makes routes.Root ∷ []) (inr (inr (inr (inl refl)))) (word is_root (room_now d room aim.top low) (does (λ n. refl) (row_ends next)))))
+      goes (Read kind.Root ∷ makes routes.Root ∷ []) (inr (inr (inr (inl refl))))
+      (word is_root (room_now d room aim.top low) (does (λ n. refl) (row_ends next)))))
   route_read {aim} {d} {after} {parts} (leaf p room) low stops =
       at_node p Route-F.Leaf route.Leaf rolls-Leaf (raised p stops (λ row below next.
       goes (reads mark.Dollar ∷ makes routes.Leaf ∷ []) (inr (inr (inl refl))) (mark (room_now d room aim.top low) (does (λ n. refl) (row_ends next)))))
@@ -214,7 +230,9 @@ mutual
       (mark (room_now d room aim.top low) (word_with (is_name free) (room_now d room aim.top low) (λ n. refl) (does (λ n. refl)
       (takes (reads mark.Colon ∷ Read kind.Name ∷ push_name ∷ makes routes.NarrowToVariant ∷ []) (inl refl)
       (mark (room_now d room aim.top low) (word_with (is_name free_too) (room_now d room aim.top low) (λ n. refl) (does (λ n. refl) (row_ends (row_ends
-      (subst (λ l. Ends aim (Row row d below) after (record parts { routes = route.IsVariant l (placeless_name variant) ∷ parts.routes })) (sym (tested-type (placeless_name ty))) next))))))))))))
+      (subst
+      (λ l. Ends aim (Row row d below) after (record parts { routes = route.IsVariant l (placeless_name variant) ∷ parts.routes }))
+      (sym (tested-type (placeless_name ty))) next))))))))))))
   route_read {aim} {d} {after} {parts} (is_bool p room f true free) low stops =
       at_node p (Route-F.IsBool f true) (route.IsBool f true) (rolls-IsBool f true) (raised p stops (λ row below next.
       goes (reads mark.Question ∷ Read kind.Name ∷ push_name ∷ makes routes.IsTrue ∷ []) (inr (inr (inr (inr (inr (inl refl))))))
@@ -246,51 +264,72 @@ mutual
       (lift_star p bare stops (λ s row below next.
       goes (Once part.Step ∷ Many part.Star ∷ []) (inl refl)
       (route_read c low (at_star _) (Many part.Star ∷ []) (Row row d below)
-      (more_stars {parts = parts} (placeless_route inner) (placeless_route inner) [] place places (starred-first inner apart) (room_now d room aim.top low) s (row_ends next))))))
+      (more_stars {parts = parts} (placeless_route inner) (placeless_route inner) [] place places (starred-first inner apart)
+      (room_now d room aim.top low) s (row_ends next))))))
   route_read {aim} {d} {after} {parts} (group p room r grouped_there c) low stops =
       subst (λ l. ReadsRoute aim d (part_at p) l after parts (placeless_route r)) (sym (grouped_there after)) (raised p stops (λ row below next.
       goes (opens mark.LeftParen ∷ Once part.Route ∷ reads mark.RightParen ∷ []) (inr (inr (inr (inr (inr (inr (inr (inl refl))))))))
       (mark_open (room_open d room aim.top low) (route_read c (room_in d room aim.top low) (at_right_paren after) (reads mark.RightParen ∷ []) (Row row d below)
       (mark (room_open d room aim.top low) (row_ends next))))))
 
-  more_repeated : {aim : Aim} {row : List ProgramSymbol} {d : ℕ} {below : ProgramStack} {after : List TokenKind} {parts : Parts} {room : ℕ} {others : List Route} →
-      AreCanonicalRoutes repeated room others → (first so_far : Route) (done : List Route) → ((o : Route) → joined_then so_far o ≡ route.Then first (done ++ o ∷ [])) →
+  more_repeated : {aim : Aim} {row : List ProgramSymbol} {d : ℕ} {below : ProgramStack} {after : List TokenKind}
+      {parts : Parts} {room : ℕ} {others : List Route} →
+      AreCanonicalRoutes repeated room others → (first so_far : Route) (done : List Route) →
+      ((o : Route) → joined_then so_far o ≡ route.Then first (done ++ o ∷ [])) →
       d + room ≤ aim.top → StopsAt sequence after →
       Ends aim (Row row d below) after (record parts { routes = route.Then first (done ++ map placeless_route others) ∷ parts.routes }) →
-      Ends aim (Row (Many part.NextRepeated ∷ row) d below) (each_behind mark.Dot (λ other. other 2) (map route_tokens others) after) (record parts { routes = so_far ∷ parts.routes })
+      Ends aim (Row (Many part.NextRepeated ∷ row) d below)
+      (each_behind mark.Dot (λ other. other 2) (map route_tokens others) after)
+      (record parts { routes = so_far ∷ parts.routes })
   more_repeated {aim} {row} {d} {below} {after} {parts} (last p room r c) first so_far done joins low stops next =
       goes_on (reads mark.Dot ∷ Once part.Repeated ∷ makes routes.JoinThen ∷ []) (inl refl)
-      (mark (room_now d room aim.top low) (route_read c low (before_dots [] after stops) (makes routes.JoinThen ∷ []) (Row (Many part.NextRepeated ∷ row) d below)
+      (mark (room_now d room aim.top low)
+      (route_read c low (before_dots [] after stops) (makes routes.JoinThen ∷ []) (Row (Many part.NextRepeated ∷ row) d below)
       (does (λ n. refl) (row_ends
-      (subst (λ (l : Route). Ends aim (Row (Many part.NextRepeated ∷ row) d below) after (record parts { routes = l ∷ parts.routes })) (sym (joins (placeless_route r)))
+      (subst
+      (λ (l : Route). Ends aim (Row (Many part.NextRepeated ∷ row) d below) after (record parts { routes = l ∷ parts.routes }))
+      (sym (joins (placeless_route r)))
       (stops_there stops.0 next))))))
   more_repeated {aim} {row} {d} {below} {after} {parts} (more p room r others c cs) first so_far done joins low stops next =
       goes_on (reads mark.Dot ∷ Once part.Repeated ∷ makes routes.JoinThen ∷ []) (inl refl)
-      (mark (room_now d room aim.top low) (route_read c low (before_dots (map route_tokens others) after stops) (makes routes.JoinThen ∷ []) (Row (Many part.NextRepeated ∷ row) d below)
+      (mark (room_now d room aim.top low) (route_read c low (before_dots (map route_tokens others) after stops)
+      (makes routes.JoinThen ∷ []) (Row (Many part.NextRepeated ∷ row) d below)
       (does (λ n. refl) (row_ends
-      (subst (λ (l : Route). Ends aim (Row (Many part.NextRepeated ∷ row) d below) (each_behind mark.Dot (λ other. other 2) (map route_tokens others) after) (record parts { routes = l ∷ parts.routes }))
+      (subst (λ (l : Route). Ends aim (Row (Many part.NextRepeated ∷ row) d below)
+      (each_behind mark.Dot (λ other. other 2) (map route_tokens others) after) (record parts { routes = l ∷ parts.routes }))
       (sym (joins (placeless_route r)))
-      (more_repeated {parts = parts} cs first (route.Then first (done ++ placeless_route r ∷ [])) (done ++ placeless_route r ∷ []) (joined_then-more first (done ++ placeless_route r ∷ [])) low stops
+      (more_repeated {parts = parts} cs first (route.Then first (done ++ placeless_route r ∷ []))
+      (done ++ placeless_route r ∷ []) (joined_then-more first (done ++ placeless_route r ∷ [])) low stops
       (subst (λ l. Ends aim (Row row d below) after (record parts { routes = route.Then first l ∷ parts.routes }))
       (sym (append_assoc done (placeless_route r ∷ []) (map placeless_route others))) next)))))))
 
-  more_alternatives : {aim : Aim} {row : List ProgramSymbol} {d : ℕ} {below : ProgramStack} {after : List TokenKind} {parts : Parts} {room : ℕ} {others : List Route} →
-      AreCanonicalRoutes sequence room others → (first so_far : Route) (done : List Route) → ((o : Route) → joined_or so_far o ≡ route.Or first (done ++ o ∷ [])) →
+  more_alternatives : {aim : Aim} {row : List ProgramSymbol} {d : ℕ} {below : ProgramStack} {after : List TokenKind}
+      {parts : Parts} {room : ℕ} {others : List Route} →
+      AreCanonicalRoutes sequence room others → (first so_far : Route) (done : List Route) →
+      ((o : Route) → joined_or so_far o ≡ route.Or first (done ++ o ∷ [])) →
       d + room ≤ aim.top → StopsAt whole after →
       Ends aim (Row row d below) after (record parts { routes = route.Or first (done ++ map placeless_route others) ∷ parts.routes }) →
-      Ends aim (Row (Many part.NextAlternative ∷ row) d below) (each_behind mark.Plus (λ other. other 1) (map route_tokens others) after) (record parts { routes = so_far ∷ parts.routes })
+      Ends aim (Row (Many part.NextAlternative ∷ row) d below)
+      (each_behind mark.Plus (λ other. other 1) (map route_tokens others) after)
+      (record parts { routes = so_far ∷ parts.routes })
   more_alternatives {aim} {row} {d} {below} {after} {parts} (last p room r c) first so_far done joins low stops next =
       goes_on (reads mark.Plus ∷ Once part.Sequence ∷ makes routes.JoinOr ∷ []) (inl refl)
-      (mark (room_now d room aim.top low) (route_read c low (before_alternatives [] after stops) (makes routes.JoinOr ∷ []) (Row (Many part.NextAlternative ∷ row) d below)
+      (mark (room_now d room aim.top low)
+      (route_read c low (before_alternatives [] after stops) (makes routes.JoinOr ∷ []) (Row (Many part.NextAlternative ∷ row) d below)
       (does (λ n. refl) (row_ends
-      (subst (λ (l : Route). Ends aim (Row (Many part.NextAlternative ∷ row) d below) after (record parts { routes = l ∷ parts.routes })) (sym (joins (placeless_route r)))
+      (subst
+      (λ (l : Route). Ends aim (Row (Many part.NextAlternative ∷ row) d below) after (record parts { routes = l ∷ parts.routes }))
+      (sym (joins (placeless_route r)))
       (stops_there stops.0 next))))))
   more_alternatives {aim} {row} {d} {below} {after} {parts} (more p room r others c cs) first so_far done joins low stops next =
       goes_on (reads mark.Plus ∷ Once part.Sequence ∷ makes routes.JoinOr ∷ []) (inl refl)
-      (mark (room_now d room aim.top low) (route_read c low (before_alternatives (map route_tokens others) after stops) (makes routes.JoinOr ∷ []) (Row (Many part.NextAlternative ∷ row) d below)
+      (mark (room_now d room aim.top low) (route_read c low (before_alternatives (map route_tokens others) after stops)
+      (makes routes.JoinOr ∷ []) (Row (Many part.NextAlternative ∷ row) d below)
       (does (λ n. refl) (row_ends
-      (subst (λ (l : Route). Ends aim (Row (Many part.NextAlternative ∷ row) d below) (each_behind mark.Plus (λ other. other 1) (map route_tokens others) after) (record parts { routes = l ∷ parts.routes }))
+      (subst (λ (l : Route). Ends aim (Row (Many part.NextAlternative ∷ row) d below)
+      (each_behind mark.Plus (λ other. other 1) (map route_tokens others) after) (record parts { routes = l ∷ parts.routes }))
       (sym (joins (placeless_route r)))
-      (more_alternatives {parts = parts} cs first (route.Or first (done ++ placeless_route r ∷ [])) (done ++ placeless_route r ∷ []) (joined_or-more first (done ++ placeless_route r ∷ [])) low stops
+      (more_alternatives {parts = parts} cs first (route.Or first (done ++ placeless_route r ∷ []))
+      (done ++ placeless_route r ∷ []) (joined_or-more first (done ++ placeless_route r ∷ [])) low stops
       (subst (λ l. Ends aim (Row row d below) after (record parts { routes = route.Or first l ∷ parts.routes }))
       (sym (append_assoc done (placeless_route r ∷ []) (map placeless_route others))) next)))))))

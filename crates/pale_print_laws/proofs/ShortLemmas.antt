@@ -4,7 +4,7 @@ use Rattle.pale_text.specs.declared.token.Mark.TheVariants as mark
 use Rattle.pale_text.specs.declared.token.Token.{Token}
 use Rattle.pale_text.specs.declared.token.TokenKind.{TokenKind}
 use Rattle.pale_text.specs.declared.token.TokenKind.TheVariants as token
-use Rattle.pale_text.specs.declared.tree.declaration.Program.{Program}
+use Rattle.pale_syntax.specs.declared.tree.declaration.Program.{Program}
 use Rattle.pale_text.specs.Spelled.{kinds_of}
 use Rattle.pale_print_laws.specs.Shortest.{IsShortest, NeedsItsParentheses}
 use Rattle.pale_print_laws.proofs.FromPrograms.{short_from}

@@ -4,23 +4,25 @@ use Rattle.std.specs.Prelude.{codes}
 use Rattle.pale_text.specs.declared.place.Pos.{Pos}
 use Rattle.pale_text.specs.declared.token.Mark.TheVariants as mark
 use Rattle.pale_text.specs.declared.token.TokenKind.{TokenKind}
-use Rattle.pale_text.specs.declared.tree.names.Name.{Name}
-use Rattle.pale_text.specs.declared.tree.names.Path.{Path}
-use Rattle.pale_text.specs.declared.tree.condition.Condition.{Condition}
-use Rattle.pale_text.specs.declared.tree.assertion.Bracketed.{Bracketed}
-use Rattle.pale_text.specs.declared.tree.statement.Argument.{Argument}
-use Rattle.pale_text.specs.declared.tree.statement.Argument.TheVariants as argument
-use Rattle.pale_text.specs.declared.tree.statement.Call.{Call}
-use Rattle.pale_text.specs.declared.tree.statement.Value.{Value}
-use Rattle.pale_text.specs.declared.tree.statement.Value.TheVariants as value
-use Rattle.pale_text.specs.declared.tree.statement.Statement.{Statement, roll-Statement}
-use Rattle.pale_text.specs.declared.tree.statement.Statement.TheVariants as statement
-use Rattle.pale_text.specs.declared.tree.statement.Statement.TheOpen.{Statement-F}
-use Rattle.pale_text.specs.declared.tree.statement.Statement.TheFolds.{fold-Statement, fold-roll-Statement, ind-Statement, map-Statement}
+use Rattle.pale_syntax.specs.declared.tree.names.Name.{Name}
+use Rattle.pale_syntax.specs.declared.tree.names.Path.{Path}
+use Rattle.pale_syntax.specs.declared.tree.condition.Condition.{Condition}
+use Rattle.pale_syntax.specs.declared.tree.assertion.Bracketed.{Bracketed}
+use Rattle.pale_syntax.specs.declared.tree.statement.Argument.{Argument}
+use Rattle.pale_syntax.specs.declared.tree.statement.Argument.TheVariants as argument
+use Rattle.pale_syntax.specs.declared.tree.statement.Call.{Call}
+use Rattle.pale_syntax.specs.declared.tree.statement.Value.{Value}
+use Rattle.pale_syntax.specs.declared.tree.statement.Value.TheVariants as value
+use Rattle.pale_syntax.specs.declared.tree.statement.Statement.{Statement, roll-Statement}
+use Rattle.pale_syntax.specs.declared.tree.statement.Statement.TheVariants as statement
+use Rattle.pale_syntax.specs.declared.tree.statement.Statement.TheOpen.{Statement-F}
+use Rattle.pale_syntax.specs.declared.tree.statement.Statement.TheFolds.{fold-Statement, fold-roll-Statement, ind-Statement, map-Statement}
 use denote.Hole.Carrier.{roll}
 use Rattle.pale_print.specs.Tokens.{Tokens, each, separated, sign, word, ◌>>◌, name_tokens}
 use Rattle.pale_print.specs.AssertionTokens.{bracketed_tokens}
-use Rattle.pale_print.specs.StatementTokens.{argument_tokens, new_variant_tokens, value_tokens, clause_tokens, call_result_tokens, logic_argument_tokens, call_tokens, block_tokens, statement_node, statement_tokens}
+use Rattle.pale_print.specs.StatementTokens.{argument_tokens, new_variant_tokens, value_tokens, clause_tokens}
+use Rattle.pale_print.specs.StatementTokens.{call_result_tokens, logic_argument_tokens, call_tokens, block_tokens}
+use Rattle.pale_print.specs.StatementTokens.{statement_node, statement_tokens}
 use Rattle.pale_print_laws.proofs.RouteSizes.{Takes}
 use Rattle.pale_print_laws.proofs.NameSizes.{path_size, path_takes}
 use Rattle.pale_print_laws.proofs.ConditionSizes.{condition_size, condition_takes}
@@ -103,11 +105,19 @@ clause_takes bytes (Some b) = record { takes = λ after. let e = (bracketed_take
 
 call_results_take : (xs : List Name) → Takes (call_result_tokens xs) (call_result_size xs)
 call_results_take [] = record { takes = λ after. omega arith }
-call_results_take (x ∷ xs) = record { takes = λ after. let e = separated_takes name_tokens one_token name_takes mark.Comma (x ∷ xs) (sign mark.Equals >> after) in omega arith }
+call_results_take (x ∷ xs) =
+    record {
+      takes = λ after. let e = separated_takes name_tokens one_token name_takes mark.Comma (x ∷ xs)
+          (sign mark.Equals >> after) in omega arith;
+    }
 
 logic_arguments_take : (xs : List Argument) → Takes (logic_argument_tokens xs) (logic_argument_size xs)
 logic_arguments_take [] = record { takes = λ after. omega arith }
-logic_arguments_take (x ∷ xs) = record { takes = λ after. let e = separated_takes argument_tokens one_token argument_takes mark.Comma (x ∷ xs) after in omega arith }
+logic_arguments_take (x ∷ xs) =
+    record {
+      takes = λ after. let e = separated_takes argument_tokens one_token argument_takes mark.Comma (x ∷ xs) after in omega
+          arith;
+    }
 
 pub call_takes : (c : Call) → Takes (call_tokens c) (call_size c)
 call_takes c = record {
@@ -148,7 +158,8 @@ each_take (s ∷ ss) after =
     let more = each_take ss after in
     omega arith
 
-block_takes : (ss : List Known) (after : List TokenKind) → length (block_tokens (map statement_tokens (trees ss)) after) ≡ suc (suc (total (map statement_size (trees ss)) + length after))
+block_takes : (ss : List Known) (after : List TokenKind) →
+    length (block_tokens (map statement_tokens (trees ss)) after) ≡ suc (suc (total (map statement_size (trees ss)) + length after))
 block_takes ss after = let e = each_take ss (sign mark.RightBrace >> after) in omega arith
 
 node_takes : (y : Statement-F Known) →
@@ -197,7 +208,8 @@ pub statement_takes : (s : Statement) → Takes (statement_tokens s) (statement_
 statement_takes = ind-Statement Sized (λ x y is.
     subst (λ (t : Tokens). Takes t (statement_size (roll-Statement x))) (sym (tokens_at x))
     (subst (λ (n : ℕ). Takes (statement_node (map-Statement Statement Tokens statement_tokens x)) n) (sym (sized_at x))
-    (subst (λ (z : Statement-F Statement). Takes (statement_node (map-Statement Statement Tokens statement_tokens z)) (size_node (map-Statement Statement ℕ statement_size z))) is (node_takes y))))
+    (subst (λ (z : Statement-F Statement). Takes (statement_node (map-Statement Statement Tokens statement_tokens z))
+    (size_node (map-Statement Statement ℕ statement_size z))) is (node_takes y))))
 
 -- ---- forms
 
@@ -205,17 +217,20 @@ pub size_skip : (place : Pos) → statement_size (statement.Skip place) ≡ 2
 unfolding roll-Statement roll
 size_skip place = sized_at (Statement-F.Skip place)
 
-pub size_if : (place : Pos) (c : Condition) (then : List Statement) → statement_size (statement.If place c then None) ≡ suc (suc (condition_size c 0 + suc (suc (suc (statements_size then + 0)))))
+pub size_if : (place : Pos) (c : Condition) (then : List Statement) →
+    statement_size (statement.If place c then None) ≡ suc (suc (condition_size c 0 + suc (suc (suc (statements_size then + 0)))))
 unfolding roll-Statement roll
 size_if place c then = sized_at (Statement-F.If place c then None)
 
 pub size_if_else : (place : Pos) (c : Condition) (then otherwise : List Statement) →
-    statement_size (statement.If place c then (Some otherwise)) ≡ suc (suc (condition_size c 0 + suc (suc (suc (statements_size then + suc (suc (suc (statements_size otherwise))))))))
+    statement_size (statement.If place c then (Some otherwise)) ≡ suc
+    (suc (condition_size c 0 + suc (suc (suc (statements_size then + suc (suc (suc (statements_size otherwise))))))))
 unfolding roll-Statement roll
 size_if_else place c then otherwise = sized_at (Statement-F.If place c then (Some otherwise))
 
 pub size_while : (place : Pos) (c : Condition) (b : Bracketed) (body : List Statement) →
-    statement_size (statement.While place c b body) ≡ suc (suc (condition_size c 0 + suc (suc (suc (assertion_size b.assertion 0 false + suc (suc (statements_size body)))))))
+    statement_size (statement.While place c b body) ≡ suc
+    (suc (condition_size c 0 + suc (suc (suc (assertion_size b.assertion 0 false + suc (suc (statements_size body)))))))
 unfolding roll-Statement roll
 size_while place c b body = sized_at (Statement-F.While place c b body)
 

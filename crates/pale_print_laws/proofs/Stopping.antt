@@ -6,13 +6,13 @@ use Rattle.ll1_reader.specs.Predicting.{AreNamed, among, starts_of}
 use Rattle.ll1_reader.specs.Readings.{AnyEnd, IsNotBegun}
 use Rattle.ll1_reader.proofs.SameRows.{Has, carried}
 use Rattle.ll1_reader.proofs.Ends.{not_begun}
-use Rattle.pale_text.specs.declared.grammar.kind.ProgramKind.{ProgramKind}
-use Rattle.pale_text.specs.declared.grammar.kind.ProgramKind.TheVariants as kind
-use Rattle.pale_text.specs.declared.grammar.part.ProgramPart.{ProgramPart}
+use Rattle.pale_syntax.specs.declared.grammar.kind.ProgramKind.{ProgramKind}
+use Rattle.pale_syntax.specs.declared.grammar.kind.ProgramKind.TheVariants as kind
+use Rattle.pale_syntax.specs.declared.grammar.part.ProgramPart.{ProgramPart}
 use Rattle.pale_text.specs.declared.token.Mark.{Mark}
 use Rattle.pale_text.specs.declared.token.TokenKind.{TokenKind}
 use Rattle.pale_text.specs.declared.token.TokenKind.TheVariants as token
-use Rattle.pale_text.specs.ProgramGrammar.{program_grammar}
+use Rattle.pale_syntax.specs.ProgramGrammar.{program_grammar}
 use Rattle.pale_parse.specs.Tables.{program_rules}
 use Rattle.pale_parse.specs.Hints.{program_hints}
 use Rattle.pale_parse.specs.TableLaws.{program_named, program_sound}
@@ -31,14 +31,17 @@ module _ {N P A K : Type 0} (grammar : Rows N A K) (rules : Rules N P A K) (name
   by_rows n k ks h = λ after steps r. h after steps (carried (rules_of grammar) rules (AnyEnd (rules_of grammar)) (AnyEnd rules) to_names (λ m xs u. tt) r)
 
 -- a token of this kind begins none of the part
-pub stops_kind : (n : ProgramPart) (k : ProgramKind) (ks : List ProgramKind) → among program_rules program_hints k (starts_of program_rules program_hints n) ≡ false →
+pub stops_kind : (n : ProgramPart) (k : ProgramKind) (ks : List ProgramKind) →
+    among program_rules program_hints k (starts_of program_rules program_hints n) ≡ false →
     Counts n (k ∷ ks)
 stops_kind n k ks h = by_rows program_grammar program_rules program_named n k ks (not_begun program_rules program_hints program_sound n (k ∷ ks) h)
 
-pub at_mark : {n : ProgramPart} {m : Mark} {after : List TokenKind} → among program_rules program_hints (kind.Mark m) (starts_of program_rules program_hints n) ≡ false →
+pub at_mark : {n : ProgramPart} {m : Mark} {after : List TokenKind} →
+    among program_rules program_hints (kind.Mark m) (starts_of program_rules program_hints n) ≡ false →
     Stops n (token.Mark m ∷ after)
 at_mark {n} {m} {after} h = record { holds = stops_kind n (kind.Mark m) (kinds after) h }
 
-pub at_word : {n : ProgramPart} {k : ProgramKind} {word : List ℕ} {after : List TokenKind} → IsWord word k → among program_rules program_hints k (starts_of program_rules program_hints n) ≡ false →
+pub at_word : {n : ProgramPart} {k : ProgramKind} {word : List ℕ} {after : List TokenKind} → IsWord word k →
+    among program_rules program_hints k (starts_of program_rules program_hints n) ≡ false →
     Stops n (token.Name word ∷ after)
 at_word {n} {k} {word} {after} is h = record { holds = subst (λ j. Counts n (j ∷ kinds after)) (sym is.same) (stops_kind n k (kinds after) h) }

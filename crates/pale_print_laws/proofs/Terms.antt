@@ -2,28 +2,30 @@
 use Rattle.std.proofs.Common.{ℕ, ◌≤◌, List, [], ◌∷◌, ◌++◌, map, refl, sym, subst, append_assoc, append-nil, inl, inr}
 use Rattle.ll1_reader.specs.declared.symbol.Symbol.TheVariants.{Read, Once, Many, Act as Does}
 use Rattle.ll1_reader.specs.Readings.{Row}
-use Rattle.pale_text.specs.declared.grammar.act.Act.TheVariants as act
-use Rattle.pale_text.specs.declared.grammar.act.WordAct.TheVariants as words
-use Rattle.pale_text.specs.declared.grammar.kind.ProgramKind.TheVariants as kind
-use Rattle.pale_text.specs.declared.grammar.part.ProgramPart.TheVariants as part
+use Rattle.pale_syntax.specs.declared.grammar.act.Act.TheVariants as act
+use Rattle.pale_syntax.specs.declared.grammar.act.WordAct.TheVariants as words
+use Rattle.pale_syntax.specs.declared.grammar.kind.ProgramKind.TheVariants as kind
+use Rattle.pale_syntax.specs.declared.grammar.part.ProgramPart.TheVariants as part
 use Rattle.pale_text.specs.declared.token.Mark.TheVariants as mark
 use Rattle.pale_text.specs.declared.token.TokenKind.{TokenKind}
-use Rattle.pale_text.specs.declared.tree.names.Name.{Name}
-use Rattle.pale_text.specs.declared.tree.names.Path.{Path}
-use Rattle.pale_text.specs.declared.tree.names.Term.{Term}
-use Rattle.pale_text.specs.declared.tree.names.Term.TheVariants as term
-use Rattle.pale_text.specs.MakingParts.{Parts}
-use Rattle.pale_text.specs.ProgramGrammar.{ProgramSymbol, program_grammar, rows_of, reads, push_name}
+use Rattle.pale_syntax.specs.declared.tree.names.Name.{Name}
+use Rattle.pale_syntax.specs.declared.tree.names.Path.{Path}
+use Rattle.pale_syntax.specs.declared.tree.names.Term.{Term}
+use Rattle.pale_syntax.specs.declared.tree.names.Term.TheVariants as term
+use Rattle.pale_syntax.specs.MakingParts.{Parts}
+use Rattle.pale_syntax.specs.ProgramGrammar.{ProgramSymbol, program_grammar, rows_of, reads, push_name}
 use Rattle.pale_print.specs.Placeless.{placeless_name, placeless_path, placeless_term}
 use Rattle.pale_print.specs.Tokens.{each_behind, name_tokens, path_tokens, term_tokens}
 use Rattle.pale_print_laws.specs.CanonicalNames.{AreFree, IsFreePath, IsFreeTerm}
 use Rattle.pale_print_laws.proofs.Framework.{ProgramStack, Stops, Aim, Ends, mark, word_with, does, row_ends, goes, goes_on, stops_there}
 use Rattle.pale_print_laws.proofs.Words.{is_name, is_null}
 
-path_steps : {aim : Aim} {row : List ProgramSymbol} {d : ℕ} {below : ProgramStack} {after : List TokenKind} {parts : Parts} (base : Name) (done fields : List Name) →
+path_steps : {aim : Aim} {row : List ProgramSymbol} {d : ℕ} {below : ProgramStack} {after : List TokenKind} {parts : Parts}
+    (base : Name) (done fields : List Name) →
     AreFree fields → d ≤ aim.top → Stops part.PathStep after →
     Ends aim (Row row d below) after (record parts { paths = record { base = base; fields = done ++ map placeless_name fields } ∷ parts.paths }) →
-    Ends aim (Row (Many part.PathStep ∷ row) d below) (each_behind mark.Dot name_tokens fields after) (record parts { paths = record { base = base; fields = done } ∷ parts.paths })
+    Ends aim (Row (Many part.PathStep ∷ row) d below) (each_behind mark.Dot name_tokens fields after)
+    (record parts { paths = record { base = base; fields = done } ∷ parts.paths })
 unfolding program_grammar rows_of
 path_steps {aim} {row} {d} {below} {after} {parts} base done [] free low stops next =
     stops_there stops

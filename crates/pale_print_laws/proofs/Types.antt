@@ -2,34 +2,37 @@
 use Rattle.std.proofs.Common.{ℕ, ◌+◌, ◌≤◌, List, [], ◌∷◌, ◌++◌, map, refl, sym, subst, append_assoc, append-nil, inl, inr}
 use Rattle.ll1_reader.specs.declared.symbol.Symbol.TheVariants.{Read, Once, Maybe, Many}
 use Rattle.ll1_reader.specs.Readings.{Row}
-use Rattle.pale_text.specs.declared.grammar.act.TypeAct.TheVariants as types
-use Rattle.pale_text.specs.declared.grammar.act.PredicateAct.TheVariants as predicates
-use Rattle.pale_text.specs.declared.grammar.kind.ProgramKind.TheVariants as kind
-use Rattle.pale_text.specs.declared.grammar.part.ProgramPart.TheVariants as part
+use Rattle.pale_syntax.specs.declared.grammar.act.TypeAct.TheVariants as types
+use Rattle.pale_syntax.specs.declared.grammar.act.PredicateAct.TheVariants as predicates
+use Rattle.pale_syntax.specs.declared.grammar.kind.ProgramKind.TheVariants as kind
+use Rattle.pale_syntax.specs.declared.grammar.part.ProgramPart.TheVariants as part
 use Rattle.pale_text.specs.declared.token.Mark.TheVariants as mark
 use Rattle.pale_text.specs.declared.token.TokenKind.{TokenKind}
 use Rattle.pale_text.specs.declared.token.TokenKind.TheVariants as token
-use Rattle.pale_text.specs.declared.tree.names.Name.{Name}
-use Rattle.pale_text.specs.declared.tree.declaration.Declaration.{Declaration}
-use Rattle.pale_text.specs.declared.tree.declaration.Declaration.TheVariants as declaration
-use Rattle.pale_text.specs.declared.tree.declaration.FieldDeclaration.{FieldDeclaration}
-use Rattle.pale_text.specs.declared.tree.declaration.FieldForm.{FieldForm}
-use Rattle.pale_text.specs.declared.tree.declaration.FieldForm.TheVariants as form
-use Rattle.pale_text.specs.declared.tree.declaration.PredicateDeclaration.{PredicateDeclaration}
-use Rattle.pale_text.specs.declared.tree.declaration.PredicateParameter.{PredicateParameter}
-use Rattle.pale_text.specs.declared.tree.declaration.PredicateParameter.TheVariants as predicate
-use Rattle.pale_text.specs.declared.tree.declaration.TypeDeclaration.{TypeDeclaration}
-use Rattle.pale_text.specs.declared.tree.declaration.VariantDeclaration.{VariantDeclaration}
-use Rattle.pale_text.specs.MakingParts.{Parts, nothing}
-use Rattle.pale_text.specs.ProgramGrammar.{ProgramSymbol, program_grammar, rows_of, reads, push_name, type as makes, predicate as tells}
+use Rattle.pale_syntax.specs.declared.tree.names.Name.{Name}
+use Rattle.pale_syntax.specs.declared.tree.declaration.Declaration.{Declaration}
+use Rattle.pale_syntax.specs.declared.tree.declaration.Declaration.TheVariants as declaration
+use Rattle.pale_syntax.specs.declared.tree.declaration.FieldDeclaration.{FieldDeclaration}
+use Rattle.pale_syntax.specs.declared.tree.declaration.FieldForm.{FieldForm}
+use Rattle.pale_syntax.specs.declared.tree.declaration.FieldForm.TheVariants as form
+use Rattle.pale_syntax.specs.declared.tree.declaration.PredicateDeclaration.{PredicateDeclaration}
+use Rattle.pale_syntax.specs.declared.tree.declaration.PredicateParameter.{PredicateParameter}
+use Rattle.pale_syntax.specs.declared.tree.declaration.PredicateParameter.TheVariants as predicate
+use Rattle.pale_syntax.specs.declared.tree.declaration.TypeDeclaration.{TypeDeclaration}
+use Rattle.pale_syntax.specs.declared.tree.declaration.VariantDeclaration.{VariantDeclaration}
+use Rattle.pale_syntax.specs.MakingParts.{Parts, nothing}
+use Rattle.pale_syntax.specs.ProgramGrammar.{ProgramSymbol, program_grammar, rows_of, reads, push_name, type as makes, predicate as tells}
 use Rattle.pale_parse.specs.Tables.{program_rules, choices_of}
 use Rattle.pale_parse.specs.Hints.{program_hints, number_of, mark_number, starts_of}
-use Rattle.pale_print.specs.Placeless.{placeless_name, placeless_form, placeless_field, placeless_variant, placeless_type, placeless_predicate_parameter, placeless_predicate}
+use Rattle.pale_print.specs.Placeless.{placeless_name, placeless_form, placeless_field, placeless_variant, placeless_type}
+use Rattle.pale_print.specs.Placeless.{placeless_predicate_parameter, placeless_predicate}
 use Rattle.pale_print.specs.Tokens.{each, each_behind, separated}
 use Rattle.pale_print.specs.DeclarationTokens.{field_form_tokens, field_tokens, variant_tokens, type_tokens, predicate_parameter_tokens, predicate_tokens}
 use Rattle.pale_print_laws.specs.CanonicalNames.{IsFree}
-use Rattle.pale_print_laws.specs.CanonicalDeclarations.{All, IsCanonicalForm, IsCanonicalField, IsCanonicalVariant, IsCanonicalType, IsFreePredicateParameter, IsCanonicalPredicate}
-use Rattle.pale_print_laws.proofs.Framework.{ProgramStack, Stops, Aim, Ends, room_now, mark, word, word_with, does, row_ends, goes, takes, leaves, goes_on, stops_there}
+use Rattle.pale_print_laws.specs.CanonicalDeclarations.{All, IsCanonicalForm, IsCanonicalField, IsCanonicalVariant}
+use Rattle.pale_print_laws.specs.CanonicalDeclarations.{IsCanonicalType, IsFreePredicateParameter, IsCanonicalPredicate}
+use Rattle.pale_print_laws.proofs.Framework.{ProgramStack, Stops, Aim, Ends, room_now, mark, word, word_with, does, row_ends}
+use Rattle.pale_print_laws.proofs.Framework.{goes, takes, leaves, goes_on, stops_there}
 use Rattle.pale_print_laws.proofs.Stopping.{at_mark}
 use Rattle.pale_print_laws.proofs.Routes.{at_right_bracket, route_read}
 use Rattle.pale_print_laws.proofs.Connectives.{bracketed_read}
@@ -45,25 +48,34 @@ field_at_brace : (after : List TokenKind) → Stops part.Field (token.Mark mark.
 unfolding program_rules program_hints choices_of starts_of number_of mark_number
 field_at_brace after = at_mark refl
 
-more_fields : {aim : Aim} {row : List ProgramSymbol} {d : ℕ} {below : ProgramStack} {after : List TokenKind} (room : ℕ) (parts : Parts) (done fs : List FieldDeclaration) → All (IsCanonicalField room) fs →
+more_fields : {aim : Aim} {row : List ProgramSymbol} {d : ℕ} {below : ProgramStack} {after : List TokenKind} (room : ℕ)
+    (parts : Parts) (done fs : List FieldDeclaration) →
+    All (IsCanonicalField room) fs →
     d + room ≤ aim.top → Ends aim (Row row d below) (token.Mark mark.RightBrace ∷ after) (record parts { fields = done ++ map placeless_field fs }) →
     Ends aim (Row (Many part.Field ∷ row) d below) (each field_tokens fs (token.Mark mark.RightBrace ∷ after)) (record parts { fields = done })
 unfolding program_grammar rows_of
 more_fields {aim} {row} {d} {below} {after} room parts done [] are low next =
-    stops_there (field_at_brace after) (subst (λ l. Ends aim (Row row d below) (token.Mark mark.RightBrace ∷ after) (record parts { fields = l })) (append-nil done) next)
+    stops_there (field_at_brace after)
+    (subst (λ l. Ends aim (Row row d below) (token.Mark mark.RightBrace ∷ after) (record parts { fields = l })) (append-nil done) next)
 more_fields {aim} {row} {d} {below} {after} room parts done (f ∷ fs) are low next =
     by f.name f.form are.0.0 are.0.1
     (more_fields room parts (done ++ placeless_field f ∷ []) fs are.1 low
-    (subst (λ l. Ends aim (Row row d below) (token.Mark mark.RightBrace ∷ after) (record parts { fields = l })) (sym (append_assoc done (placeless_field f ∷ []) (map placeless_field fs))) next))
+    (subst (λ l. Ends aim (Row row d below) (token.Mark mark.RightBrace ∷ after) (record parts { fields = l }))
+    (sym (append_assoc done (placeless_field f ∷ []) (map placeless_field fs))) next))
   where
     by : (name : Name) (sort : FieldForm) → IsFree name → IsCanonicalForm room sort →
-        Ends aim (Row (Many part.Field ∷ row) d below) (each field_tokens fs (token.Mark mark.RightBrace ∷ after)) (record parts { fields = done ++ record { name = placeless_name name; form = placeless_form sort } ∷ [] }) →
-        Ends aim (Row (Many part.Field ∷ row) d below) (field_form_tokens name sort (each field_tokens fs (token.Mark mark.RightBrace ∷ after))) (record parts { fields = done })
+        Ends aim (Row (Many part.Field ∷ row) d below) (each field_tokens fs (token.Mark mark.RightBrace ∷ after))
+        (record parts { fields = done ++ record { name = placeless_name name; form = placeless_form sort } ∷ [] }) →
+        Ends aim (Row (Many part.Field ∷ row) d below)
+        (field_form_tokens name sort (each field_tokens fs (token.Mark mark.RightBrace ∷ after)))
+        (record parts { fields = done })
     by name form.Bool free is next =
         goes_on (Read kind.Bool ∷ Read kind.Name ∷ push_name ∷ makes types.BoolField ∷ reads mark.Semicolon ∷ []) (inl refl)
-        (word is_bool (room_now d room aim.top low) (word_with (is_name free) (room_now d room aim.top low) (λ n. refl) (does (λ n. refl) (mark (room_now d room aim.top low) (row_ends next)))))
+        (word is_bool (room_now d room aim.top low) (word_with (is_name free) (room_now d room aim.top low) (λ n. refl)
+        (does (λ n. refl) (mark (room_now d room aim.top low) (row_ends next)))))
     by name (form.Data ty) free is next =
-        goes_on (Read kind.Data ∷ Read kind.Name ∷ push_name ∷ reads mark.Colon ∷ Read kind.Name ∷ push_name ∷ makes types.DataField ∷ reads mark.Semicolon ∷ []) (inr (inl refl))
+        goes_on (Read kind.Data ∷ Read kind.Name ∷ push_name ∷ reads mark.Colon ∷ Read kind.Name ∷ push_name ∷ makes
+        types.DataField ∷ reads mark.Semicolon ∷ []) (inr (inl refl))
         (word is_data (room_now d room aim.top low) (word_with (is_name free) (room_now d room aim.top low) (λ n. refl) (mark (room_now d room aim.top low)
         (word_with (is_name is) (room_now d room aim.top low) (λ n. refl) (does (λ n. refl) (mark (room_now d room aim.top low) (row_ends next)))))))
     by name (form.Pointer ty r) free is next =
@@ -77,21 +89,29 @@ more_fields {aim} {row} {d} {below} {after} room parts done (f ∷ fs) are low n
 
 -- ---- types
 
-more_variants : {aim : Aim} {row : List ProgramSymbol} {d : ℕ} {below : ProgramStack} {after : List TokenKind} (room : ℕ) (parts : Parts) (done vs : List VariantDeclaration) → All (IsCanonicalVariant room) vs →
-    d + room ≤ aim.top → Stops part.Variant after → Ends aim (Row row d below) after (record parts { fields = []; variants = done ++ map placeless_variant vs }) →
+more_variants : {aim : Aim} {row : List ProgramSymbol} {d : ℕ} {below : ProgramStack} {after : List TokenKind} (room : ℕ)
+    (parts : Parts) (done vs : List VariantDeclaration) →
+    All (IsCanonicalVariant room) vs →
+    d + room ≤ aim.top → Stops part.Variant after →
+    Ends aim (Row row d below) after (record parts { fields = []; variants = done ++ map placeless_variant vs }) →
     Ends aim (Row (Many part.Variant ∷ row) d below) (each_behind mark.Bar variant_tokens vs after) (record parts { fields = []; variants = done })
 unfolding program_grammar rows_of
 more_variants {aim} {row} {d} {below} {after} room parts done [] are low stops next =
     stops_there stops (subst (λ l. Ends aim (Row row d below) after (record parts { fields = []; variants = l })) (append-nil done) next)
 more_variants {aim} {row} {d} {below} {after} room parts done (v ∷ vs) are low stops next =
-    goes_on (reads mark.Bar ∷ Read kind.Name ∷ push_name ∷ reads mark.LeftBrace ∷ Many part.Field ∷ reads mark.RightBrace ∷ makes types.AddVariant ∷ []) (inl refl)
+    goes_on
+    (reads mark.Bar ∷ Read kind.Name ∷ push_name ∷ reads mark.LeftBrace ∷ Many part.Field ∷ reads mark.RightBrace ∷ makes types.AddVariant ∷ [])
+    (inl refl)
     (mark (room_now d room aim.top low) (word_with (is_name are.0.0) (room_now d room aim.top low) (λ n. refl) (mark (room_now d room aim.top low)
     (more_fields room (record parts { names = placeless_name v.name ∷ parts.names; variants = done }) [] v.fields are.0.1 low
     (mark (room_now d room aim.top low) (does (λ n. refl) (row_ends
     (more_variants room parts (done ++ placeless_variant v ∷ []) vs are.1 low stops
-    (subst (λ l. Ends aim (Row row d below) after (record parts { fields = []; variants = l })) (sym (append_assoc done (placeless_variant v ∷ []) (map placeless_variant vs))) next)))))))))
+    (subst (λ l. Ends aim (Row row d below) after (record parts { fields = []; variants = l }))
+    (sym (append_assoc done (placeless_variant v ∷ []) (map placeless_variant vs))) next)))))))))
 
-pub type_read : {aim : Aim} {row : List ProgramSymbol} {d : ℕ} {below : ProgramStack} {after : List TokenKind} (room : ℕ) (done : List Declaration) (t : TypeDeclaration) → IsCanonicalType room t →
+pub type_read : {aim : Aim} {row : List ProgramSymbol} {d : ℕ} {below : ProgramStack} {after : List TokenKind} (room : ℕ)
+    (done : List Declaration) (t : TypeDeclaration) →
+    IsCanonicalType room t →
     d + room ≤ aim.top → Stops part.Variant after → Ends aim (Row row d below) after (declared (done ++ declaration.«Type» (placeless_type t) ∷ [])) →
     Ends aim (Row (Once part.Type ∷ row) d below) (type_tokens t after) (declared done)
 unfolding program_grammar rows_of
@@ -99,15 +119,20 @@ type_read {aim} {row} {d} {below} {after} room done t is low stops next =
     goes
     (Read kind.Type ∷ Read kind.Name ∷ push_name ∷ reads mark.Equals ∷ reads mark.LeftBrace ∷ Many part.Field ∷ makes types.EndCommon ∷
     reads mark.RightBrace ∷ Many part.Variant ∷ makes types.AddType ∷ []) (inl refl)
-    (word is_type (room_now d room aim.top low) (word_with (is_name is.name) (room_now d room aim.top low) (λ n. refl) (mark (room_now d room aim.top low) (mark (room_now d room aim.top low)
+    (word is_type (room_now d room aim.top low) (word_with (is_name is.name) (room_now d room aim.top low) (λ n. refl)
+    (mark (room_now d room aim.top low) (mark (room_now d room aim.top low)
     (more_fields room (record (declared done) { names = placeless_name t.name ∷ [] }) [] t.fields is.fields low
     (does (λ n. refl) (mark (room_now d room aim.top low)
-    (more_variants room (record (declared done) { names = placeless_name t.name ∷ []; common = map placeless_field t.fields }) [] t.variants is.variants low stops
+    (more_variants room
+    (record (declared done) { names = placeless_name t.name ∷ []; common = map placeless_field t.fields }) [] t.variants
+    is.variants low stops
     (does (λ n. refl) (row_ends next))))))))))
 
 -- ---- predicates
 
-parameter_read : {aim : Aim} {row : List ProgramSymbol} {d : ℕ} {below : ProgramStack} {after : List TokenKind} (parts : Parts) (done : List PredicateParameter) (p : PredicateParameter) → IsFreePredicateParameter p →
+parameter_read : {aim : Aim} {row : List ProgramSymbol} {d : ℕ} {below : ProgramStack} {after : List TokenKind}
+    (parts : Parts) (done : List PredicateParameter) (p : PredicateParameter) →
+    IsFreePredicateParameter p →
     d ≤ aim.top → Ends aim (Row row d below) after (record parts { predicate_parameters = done ++ placeless_predicate_parameter p ∷ [] }) →
     Ends aim (Row (Once part.PredicateParameter ∷ row) d below) (predicate_parameter_tokens p after) (record parts { predicate_parameters = done })
 unfolding program_grammar rows_of
@@ -129,12 +154,18 @@ none_at_paren : (after : List TokenKind) → Stops part.PredicateParameters (tok
 unfolding program_rules program_hints choices_of starts_of number_of mark_number
 none_at_paren after = at_mark refl
 
-more_parameters : {aim : Aim} {row : List ProgramSymbol} {d : ℕ} {below : ProgramStack} {after : List TokenKind} (parts : Parts) (done ps : List PredicateParameter) → All IsFreePredicateParameter ps → d ≤ aim.top →
+more_parameters : {aim : Aim} {row : List ProgramSymbol} {d : ℕ} {below : ProgramStack} {after : List TokenKind}
+    (parts : Parts) (done ps : List PredicateParameter) →
+    All IsFreePredicateParameter ps → d ≤ aim.top →
     Ends aim (Row row d below) (token.Mark mark.RightParen ∷ after) (record parts { predicate_parameters = done ++ map placeless_predicate_parameter ps }) →
-    Ends aim (Row (Many part.NextPredicateParameter ∷ row) d below) (each_behind mark.Comma predicate_parameter_tokens ps (token.Mark mark.RightParen ∷ after)) (record parts { predicate_parameters = done })
+    Ends aim (Row (Many part.NextPredicateParameter ∷ row) d below)
+    (each_behind mark.Comma predicate_parameter_tokens ps (token.Mark mark.RightParen ∷ after))
+    (record parts { predicate_parameters = done })
 unfolding program_grammar rows_of
 more_parameters {aim} {row} {d} {below} {after} parts done [] free low next =
-    stops_there (next_at_paren after) (subst (λ l. Ends aim (Row row d below) (token.Mark mark.RightParen ∷ after) (record parts { predicate_parameters = l })) (append-nil done) next)
+    stops_there (next_at_paren after) (subst
+    (λ l. Ends aim (Row row d below) (token.Mark mark.RightParen ∷ after) (record parts { predicate_parameters = l }))
+    (append-nil done) next)
 more_parameters {aim} {row} {d} {below} {after} parts done (p ∷ ps) free low next =
     goes_on (reads mark.Comma ∷ Once part.PredicateParameter ∷ []) (inl refl)
     (mark low (parameter_read parts done p free.0 low (row_ends
@@ -142,16 +173,22 @@ more_parameters {aim} {row} {d} {below} {after} parts done (p ∷ ps) free low n
     (subst (λ l. Ends aim (Row row d below) (token.Mark mark.RightParen ∷ after) (record parts { predicate_parameters = l }))
     (sym (append_assoc done (placeless_predicate_parameter p ∷ []) (map placeless_predicate_parameter ps))) next)))))
 
-parameters_read : {aim : Aim} {row : List ProgramSymbol} {d : ℕ} {below : ProgramStack} (after : List TokenKind) (parts : Parts) (ps : List PredicateParameter) → All IsFreePredicateParameter ps → d ≤ aim.top →
+parameters_read : {aim : Aim} {row : List ProgramSymbol} {d : ℕ} {below : ProgramStack} (after : List TokenKind)
+    (parts : Parts) (ps : List PredicateParameter) →
+    All IsFreePredicateParameter ps → d ≤ aim.top →
     Ends aim (Row row d below) (token.Mark mark.RightParen ∷ after) (record parts { predicate_parameters = map placeless_predicate_parameter ps }) →
-    Ends aim (Row (Maybe part.PredicateParameters ∷ row) d below) (separated mark.Comma predicate_parameter_tokens ps (token.Mark mark.RightParen ∷ after)) (record parts { predicate_parameters = [] })
+    Ends aim (Row (Maybe part.PredicateParameters ∷ row) d below)
+    (separated mark.Comma predicate_parameter_tokens ps (token.Mark mark.RightParen ∷ after))
+    (record parts { predicate_parameters = [] })
 unfolding program_grammar rows_of
 parameters_read after parts [] free low next = leaves (none_at_paren after) next
 parameters_read after parts (p ∷ ps) free low next =
     takes (Once part.PredicateParameter ∷ Many part.NextPredicateParameter ∷ []) (inl refl)
     (parameter_read parts [] p free.0 low (more_parameters parts (placeless_predicate_parameter p ∷ []) ps free.1 low (row_ends next)))
 
-pub predicate_read : {aim : Aim} {row : List ProgramSymbol} {d : ℕ} {below : ProgramStack} {after : List TokenKind} (room : ℕ) (done : List Declaration) (p : PredicateDeclaration) → IsCanonicalPredicate room p →
+pub predicate_read : {aim : Aim} {row : List ProgramSymbol} {d : ℕ} {below : ProgramStack} {after : List TokenKind}
+    (room : ℕ) (done : List Declaration) (p : PredicateDeclaration) →
+    IsCanonicalPredicate room p →
     d + room ≤ aim.top → Ends aim (Row row d below) after (declared (done ++ declaration.Predicate (placeless_predicate p) ∷ [])) →
     Ends aim (Row (Once part.Predicate ∷ row) d below) (predicate_tokens p after) (declared done)
 unfolding program_grammar rows_of

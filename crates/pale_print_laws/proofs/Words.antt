@@ -1,9 +1,9 @@
 -- The reserved words and their kinds.
 use Rattle.std.proofs.Common.{refl}
 use Rattle.std.specs.Prelude.{codes}
-use Rattle.pale_text.specs.declared.grammar.kind.ProgramKind.TheVariants as kind
-use Rattle.pale_text.specs.declared.tree.names.Name.{Name}
-use Rattle.pale_text.specs.ProgramWords.{name_kind}
+use Rattle.pale_syntax.specs.declared.grammar.kind.ProgramKind.TheVariants as kind
+use Rattle.pale_syntax.specs.declared.tree.names.Name.{Name}
+use Rattle.pale_syntax.specs.ProgramWords.{name_kind}
 use Rattle.pale_print_laws.specs.CanonicalNames.{IsFree}
 use Rattle.pale_print_laws.proofs.Framework.{IsWord}
 

@@ -1,11 +1,11 @@
 -- Names, paths and terms whose spelling is read as they are.
 use Rattle.std.specs.Prelude.{◌≡◌, List, [], ◌∷◌}
-use Rattle.pale_text.specs.declared.grammar.kind.ProgramKind.TheVariants as kind
-use Rattle.pale_text.specs.declared.tree.names.Name.{Name}
-use Rattle.pale_text.specs.declared.tree.names.Path.{Path}
-use Rattle.pale_text.specs.declared.tree.names.Term.{Term}
-use Rattle.pale_text.specs.declared.tree.names.Term.TheVariants as term
-use Rattle.pale_text.specs.ProgramWords.{name_kind}
+use Rattle.pale_syntax.specs.declared.grammar.kind.ProgramKind.TheVariants as kind
+use Rattle.pale_syntax.specs.declared.tree.names.Name.{Name}
+use Rattle.pale_syntax.specs.declared.tree.names.Path.{Path}
+use Rattle.pale_syntax.specs.declared.tree.names.Term.{Term}
+use Rattle.pale_syntax.specs.declared.tree.names.Term.TheVariants as term
+use Rattle.pale_syntax.specs.ProgramWords.{name_kind}
 use Rattle.pale_text.specs.Spelling.{IsName}
 
 -- the name is one, and no reserved word

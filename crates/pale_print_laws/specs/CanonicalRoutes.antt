@@ -3,10 +3,10 @@ use Rattle.std.specs.Prelude.{◌≡◌, ℕ, suc, nat_lt, Bool, true, false, Li
 use Rattle.pale_text.specs.declared.place.Pos.{Pos}
 use Rattle.pale_text.specs.declared.token.Mark.TheVariants as mark
 use Rattle.pale_text.specs.declared.token.TokenKind.{TokenKind}
-use Rattle.pale_text.specs.declared.tree.names.Name.{Name}
-use Rattle.pale_text.specs.declared.tree.route.Route.{Route, out-Route}
-use Rattle.pale_text.specs.declared.tree.route.Route.TheVariants as route
-use Rattle.pale_text.specs.declared.tree.route.Route.TheOpen.{Route-F}
+use Rattle.pale_syntax.specs.declared.tree.names.Name.{Name}
+use Rattle.pale_syntax.specs.declared.tree.route.Route.{Route, out-Route}
+use Rattle.pale_syntax.specs.declared.tree.route.Route.TheVariants as route
+use Rattle.pale_syntax.specs.declared.tree.route.Route.TheOpen.{Route-F}
 use Rattle.pale_print.specs.Tokens.{◌>>◌, sign}
 use Rattle.pale_print.specs.RouteTokens.{route_tokens}
 use Rattle.pale_print_laws.specs.CanonicalNames.{IsFree}

@@ -2,11 +2,11 @@
 use Rattle.std.specs.Prelude.{ℕ, List}
 use Rattle.ll1_reader.specs.Answers.{levels, AreLow}
 use Rattle.ll1_reader.specs.Readings.{Step}
-use Rattle.pale_text.specs.declared.grammar.act.Act.{Act}
+use Rattle.pale_syntax.specs.declared.grammar.act.Act.{Act}
 use Rattle.pale_text.specs.declared.token.TokenList.{TokenList}
-use Rattle.pale_text.specs.declared.tree.declaration.Program.{Program}
+use Rattle.pale_syntax.specs.declared.tree.declaration.Program.{Program}
 use Rattle.pale_text.specs.Lexing.{IsLexed}
-use Rattle.pale_text.specs.ProgramReading.{IsProgram}
+use Rattle.pale_syntax.specs.ProgramReading.{IsProgram}
 use Rattle.pale_print.specs.Placeless.{IsSameButForPlaces}
 use Rattle.pale_print.specs.Spelling.{spelling}
 

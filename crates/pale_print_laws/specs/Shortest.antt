@@ -1,14 +1,14 @@
 -- What it means that the spelling of a program is short.
 use Rattle.std.specs.Prelude.{◌≡◌, ◌≤◌, ℕ, List, ◌∷◌, ◌++◌, length}
 use Rattle.ll1_reader.specs.Readings.{Step}
-use Rattle.pale_text.specs.declared.grammar.act.Act.{Act}
+use Rattle.pale_syntax.specs.declared.grammar.act.Act.{Act}
 use Rattle.pale_text.specs.declared.token.Mark.TheVariants as mark
 use Rattle.pale_text.specs.declared.token.TokenKind.{TokenKind}
 use Rattle.pale_text.specs.declared.token.TokenKind.TheVariants as kind
 use Rattle.pale_text.specs.declared.token.TokenList.{TokenList}
-use Rattle.pale_text.specs.declared.tree.declaration.Program.{Program}
+use Rattle.pale_syntax.specs.declared.tree.declaration.Program.{Program}
 use Rattle.pale_text.specs.Lexing.{IsLexed}
-use Rattle.pale_text.specs.ProgramReading.{IsProgram}
+use Rattle.pale_syntax.specs.ProgramReading.{IsProgram}
 use Rattle.pale_text.specs.Spelled.{kinds_of}
 use Rattle.pale_print.specs.DeclarationTokens.{program_tokens}
 use Rattle.pale_print.specs.Placeless.{IsSameButForPlaces}

@@ -3,11 +3,11 @@
 ghost use Rattle.std.specs.Prelude.{ℕ, List};
 ghost use Rattle.ll1_reader.specs.Answers.{levels, AreLow};
 ghost use Rattle.ll1_reader.specs.Readings.{Step};
-ghost use Rattle.pale_text.specs.declared.grammar.act.Act.{Act};
+ghost use Rattle.pale_syntax.specs.declared.grammar.act.Act.{Act};
 ghost use Rattle.pale_text.specs.declared.token.TokenList.{TokenList};
-ghost use Rattle.pale_text.specs.declared.tree.declaration.Program.{Program};
+ghost use Rattle.pale_syntax.specs.declared.tree.declaration.Program.{Program};
 ghost use Rattle.pale_text.specs.Lexing.{IsLexed};
-ghost use Rattle.pale_text.specs.ProgramReading.{IsProgram};
+ghost use Rattle.pale_syntax.specs.ProgramReading.{IsProgram};
 ghost use Rattle.pale_print_laws.specs.CanonicalDeclarations.{IsCanonical};
 ghost use Rattle.pale_print_laws.specs.ReadBack.{IsReadBack};
 ghost use Rattle.pale_print_laws.specs.Shortest.{IsShortest, NeedsItsParentheses};

@@ -4,10 +4,18 @@ use pale_io::{CleanSink, CleanSource};
 use pale_top::pale_main;
 use std::alloc::{AllocError, Global};
 
+/// The words of a line.
+pub fn words_of(alloc: Global, line: &str) -> Result<Vec<String>, AllocError> {
+    let mut words = Vec::new(alloc);
+    for word in line.split_whitespace() {
+        words.push(String::from_str(alloc, word)?)?;
+    }
+    Ok(words)
+}
+
 /// What `pale MODE` writes for a text, and its status.
 pub fn called(alloc: Global, mode: &str, text: &[u8]) -> Result<(Vec<u8>, u8), AllocError> {
-    let mut words = Vec::new(alloc);
-    words.push(String::from_str(alloc, "pale")?)?;
+    let mut words = words_of(alloc, "pale")?;
     words.push(String::from_str(alloc, mode)?)?;
     let mut source = CleanSource::new(Vec::from_slice(alloc, text)?);
     let mut sink = CleanSink::new(alloc);

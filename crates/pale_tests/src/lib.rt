@@ -6,6 +6,10 @@ mod calls;
 #[cfg(test)]
 mod checks;
 #[cfg(test)]
+mod faults;
+#[cfg(test)]
 mod formats;
 #[cfg(test)]
 mod made;
+#[cfg(test)]
+mod words;

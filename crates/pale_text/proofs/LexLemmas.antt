@@ -1,5 +1,6 @@
 -- What one step of `lex` does.
-use Rattle.std.proofs.Common.{◌≡◌, ℕ, suc, ◌+◌, ◌<◌, ◌≤◌, Bool, true, false, cond, ◌==◌, not, List, [], ◌∷◌, ◌++◌, length, get_or, take, drop, refl, sym, ◌∙◌, subst, arith}
+use Rattle.std.proofs.Common.{◌≡◌, ℕ, suc, ◌+◌, ◌<◌, ◌≤◌, Bool, true, false, cond, ◌==◌, not, List, [], ◌∷◌, ◌++◌, length}
+use Rattle.std.proofs.Common.{get_or, take, drop, refl, sym, ◌∙◌, subst, arith}
 use Rattle.std.specs.List.{prefix_len}
 use Rattle.std.proofs.lemmas.List.{take-append-drop, length-drop, length-take-le}
 use Rattle.std.proofs.lemmas.List.Sums.{prefix_len-le-length}
@@ -45,7 +46,8 @@ place_after-bounds place byte = at (byte == 10)
   where
     at : (ends : Bool) →
         ((cond {A = Pos} ends (record { line = place.line + 1; column = 1 }) (record { line = place.line; column = place.column + 1 })).line ≤ place.line + 1)
-        × ((cond {A = Pos} ends (record { line = place.line + 1; column = 1 }) (record { line = place.line; column = place.column + 1 })).column ≤ place.column + 1)
+        × ((cond {A = Pos} ends (record { line = place.line + 1; column = 1 }) (record { line = place.line; column = place.column + 1 })).column
+        ≤ place.column + 1)
     at true = (omega arith, omega arith)
     at false = (omega arith, omega arith)
 
@@ -79,9 +81,11 @@ move text tokens later place left count reading within reached =
 pub gap_read : (text : List ℕ) (tokens : List Token) (place : Pos) (left : List ℕ) → IsReading text tokens place left → StandsFirst left front.Gap →
     IsReading text tokens (place_past place (take 1 left)) (drop 1 left)
 gap_read text tokens place [] reading gap = absurd gap
-gap_read text tokens place (byte ∷ left) reading gap = move text tokens tokens place (byte ∷ left) 1 reading (omega arith) (past_gap tokens place byte left reading.reached gap)
+gap_read text tokens place (byte ∷ left) reading gap =
+    move text tokens tokens place (byte ∷ left) 1 reading (omega arith) (past_gap tokens place byte left reading.reached gap)
 
-pub comment_read : (text : List ℕ) (tokens : List Token) (place : Pos) (left : List ℕ) (count : ℕ) → IsReading text tokens place left → StandsFirst left (front.Comment count) →
+pub comment_read : (text : List ℕ) (tokens : List Token) (place : Pos) (left : List ℕ) (count : ℕ) →
+    IsReading text tokens place left → StandsFirst left (front.Comment count) →
     IsReading text tokens (place_past place (take count left)) (drop count left)
 comment_read text tokens place [] count reading comment = absurd comment
 comment_read text tokens place (byte ∷ left) count reading comment =
@@ -92,13 +96,16 @@ comment_read text tokens place (byte ∷ left) count reading comment =
 
 pub token_read : (text : List ℕ) (tokens : List Token) (place : Pos) (left : List ℕ) (kind : TokenKind) (count : ℕ) → IsReading text tokens place left →
     StandsFirst left (front.Token kind count) →
-    IsReading text (tokens ++ record { span = record { start = place; length = count }; kind = kind } ∷ []) (place_past place (take count left)) (drop count left)
+    IsReading text (tokens ++ record { span = record { start = place; length = count }; kind = kind } ∷ [])
+    (place_past place (take count left)) (drop count left)
 token_read text tokens place [] kind count reading piece = absurd piece
 token_read text tokens place (byte ∷ left) kind count reading piece =
     let reached : Reaches text tokens place (take count (byte ∷ left) ++ drop count (byte ∷ left)) =
     subst (Reaches text tokens place) (sym (take-append-drop count (byte ∷ left))) reading.reached in
     let size : length (take count (byte ∷ left)) ≡ count = length-take-le count (byte ∷ left) piece.within in
-    let P : ℕ → Type 0 = λ n. Reaches text (tokens ++ record { span = record { start = place; length = n }; kind = kind } ∷ []) (place_past place (take count (byte ∷ left))) (drop count (byte ∷ left)) in
+    let P : ℕ → Type 0 =
+    λ n. Reaches text (tokens ++ record { span = record { start = place; length = n }; kind = kind } ∷ [])
+    (place_past place (take count (byte ∷ left))) (drop count (byte ∷ left)) in
     move text tokens _ place (byte ∷ left) count reading piece.within
     (subst P size (past_token tokens place kind (take count (byte ∷ left)) (drop count (byte ∷ left)) reached piece.longest))
 
@@ -106,7 +113,8 @@ token_read text tokens place (byte ∷ left) kind count reading piece =
 pub IsReading-start : (text : List ℕ) → IsReading text [] first_place text
 IsReading-start text = record { reached = at_start; lines = omega arith; columns = omega arith }
 
-pub stray_read : (text : List ℕ) (tokens : List Token) (place : Pos) (left : List ℕ) → IsReading text tokens place left → StandsFirst left front.Stray → IsStrayAt text place
+pub stray_read : (text : List ℕ) (tokens : List Token) (place : Pos) (left : List ℕ) → IsReading text tokens place left →
+    StandsFirst left front.Stray → IsStrayAt text place
 stray_read text tokens place [] reading stray = absurd stray
 stray_read text tokens place (byte ∷ left) reading stray = record { tokens = tokens; byte = byte; after = left; reached = reading.reached; stray = stray }
 

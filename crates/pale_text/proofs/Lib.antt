@@ -1,4 +1,3 @@
-mod WordLemmas
 pub mod LexLemmas
 pub mod ListLemmas
 pub mod MarkLemmas

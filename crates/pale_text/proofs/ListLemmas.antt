@@ -1,5 +1,6 @@
 -- Fronts of lists: runs of elements that pass a test, and lists that begin with others.
-use Rattle.std.proofs.Common.{◌≡◌, ℕ, suc, ◌+◌, ◌≤◌, Bool, true, false, cond, ◌&&◌, List, [], ◌∷◌, ◌++◌, length, take, drop, refl, sym, ◌∙◌, ap, nat_eq, eq-eqb, arith}
+use Rattle.std.proofs.Common.{◌≡◌, ℕ, suc, ◌+◌, ◌≤◌, Bool, true, false, cond, ◌&&◌, List, [], ◌∷◌, ◌++◌, length, take, drop}
+use Rattle.std.proofs.Common.{refl, sym, ◌∙◌, ap, nat_eq, eq-eqb, arith}
 use Rattle.std.specs.List.{list_all, prefix_len, starts_with}
 use lib.Pointwise.{pointwise}
 use Rattle.std.specs.Cmp.Lexicographic.{same_text}
@@ -37,7 +38,8 @@ pub prefix_len-stops : (p : ℕ → Bool) (xs : List ℕ) (next : ℕ) (rest : L
 prefix_len-stops p [] next rest e = cc
 prefix_len-stops p (x ∷ xs) next rest e = at (p x) refl (prefix_len-stops p xs next rest) e
   where
-    at : (v : Bool) → p x ≡ v → (drop (prefix_len p xs) xs ≡ next ∷ rest → p next ≡ false) → drop (cond v (1 + prefix_len p xs) 0) (x ∷ xs) ≡ next ∷ rest → p next ≡ false
+    at : (v : Bool) → p x ≡ v → (drop (prefix_len p xs) xs ≡ next ∷ rest → p next ≡ false) →
+        drop (cond v (1 + prefix_len p xs) 0) (x ∷ xs) ≡ next ∷ rest → p next ≡ false
     at true here later at_rest =
         let one_more : 1 + prefix_len p xs ≡ suc (prefix_len p xs) = omega arith in
         later (rw one_more at at_rest)

@@ -1,5 +1,6 @@
 -- What holds of each mark, and of the table of marks.
-use Rattle.std.proofs.Common.{◌≡◌, ℕ, zero, suc, ◌≤◌, Bool, true, false, cond, ◌&&◌, List, [], ◌∷◌, ◌++◌, length, refl, sym, ◌∙◌, ap, subst, nat_eq, nat_le, Some, None, arith}
+use Rattle.std.proofs.Common.{◌≡◌, ℕ, zero, suc, ◌≤◌, Bool, true, false, cond, ◌&&◌, List, [], ◌∷◌, ◌++◌, length, refl, sym, ◌∙◌}
+use Rattle.std.proofs.Common.{ap, subst, nat_eq, nat_le, Some, None, arith}
 use Rattle.std.specs.List.{list_all, starts_with, find, slice_get}
 use Rattle.std.specs.Char.{is_ascii_alphabetic, is_ascii_digit}
 use Rattle.std.specs.Str.{bytes_eq}
@@ -197,7 +198,8 @@ pub find-none : (p : Mark → Bool) (ms : List Mark) (k : ℕ) (m : Mark) → fi
 find-none p [] k m e there passes = cc
 find-none p (x ∷ xs) k m e there passes = at (p x) refl (λ later_is j. find-none p xs j m later_is) k e there
   where
-    at : (v : Bool) → p x ≡ v → (find p xs ≡ None → (j : ℕ) → slice_get xs j ≡ Some m → p m ≡ true → ⊥) → (j : ℕ) → cond v (Some x) (find p xs) ≡ None → slice_get (x ∷ xs) j ≡ Some m → ⊥
+    at : (v : Bool) → p x ≡ v → (find p xs ≡ None → (j : ℕ) → slice_get xs j ≡ Some m → p m ≡ true → ⊥) → (j : ℕ) →
+        cond v (Some x) (find p xs) ≡ None → slice_get (x ∷ xs) j ≡ Some m → ⊥
     at true here later j is at_j = cc
     at false here later zero is at_j =
         let same : m ≡ x = cc in
@@ -209,19 +211,22 @@ find-none p (x ∷ xs) k m e there passes = at (p x) refl (λ later_is j. find-n
 pub find-longest : (text : List ℕ) (ms : List Mark) → is_longest_first ms ≡ true → (found : Mark) → find (begins text) ms ≡ Some found →
     (k : ℕ) (other : Mark) → slice_get ms k ≡ Some other → begins text other ≡ true → length (bytes_of other) ≤ length (bytes_of found)
 find-longest text [] sorted found e k other there begun = cc
-find-longest text (x ∷ xs) sorted found e k other there begun = at (begins text x) refl (λ is j at_j. find-longest text xs order.1 found is j other at_j begun) k e there
+find-longest text (x ∷ xs) sorted found e k other there begun =
+    at (begins text x) refl (λ is j at_j. find-longest text xs order.1 found is j other at_j begun) k e there
   where
     order : (list_all (λ m. nat_le (length (bytes_of m)) (length (bytes_of x))) xs ≡ true) × (is_longest_first xs ≡ true)
     order = both _ (is_longest_first xs) sorted
 
-    at : (v : Bool) → begins text x ≡ v → (find (begins text) xs ≡ Some found → (j : ℕ) → slice_get xs j ≡ Some other → length (bytes_of other) ≤ length (bytes_of found)) →
+    at : (v : Bool) → begins text x ≡ v →
+        (find (begins text) xs ≡ Some found → (j : ℕ) → slice_get xs j ≡ Some other → length (bytes_of other) ≤ length (bytes_of found)) →
         (j : ℕ) → cond v (Some x) (find (begins text) xs) ≡ Some found → slice_get (x ∷ xs) j ≡ Some other → length (bytes_of other) ≤ length (bytes_of found)
     at true here later zero is at_j =
         let same : other ≡ found = cc in
         rw same (omega arith)
     at true here later (suc j) is at_j =
         let same : x ≡ found = cc in
-        let shorter : nat_le (length (bytes_of other)) (length (bytes_of x)) ≡ true = passes_at (λ m. nat_le (length (bytes_of m)) (length (bytes_of x))) xs j other order.0 at_j in
+        let shorter : nat_le (length (bytes_of other)) (length (bytes_of x)) ≡ true =
+        passes_at (λ m. nat_le (length (bytes_of m)) (length (bytes_of x))) xs j other order.0 at_j in
         subst (λ m. length (bytes_of other) ≤ length (bytes_of m)) same (leb-true _ _ shorter)
     at false here later zero is at_j =
         let same : x ≡ other = cc in

@@ -1,5 +1,6 @@
 -- Which piece of a text is the longest.
-use Rattle.std.proofs.Common.{◌≡◌, ℕ, suc, ◌+◌, ◌<◌, ◌≤◌, Bool, true, false, List, [], ◌∷◌, ◌++◌, length, take, drop, refl, sym, ◌∙◌, ap, subst, nat_eq, Some, None, arith}
+use Rattle.std.proofs.Common.{◌≡◌, ℕ, suc, ◌+◌, ◌<◌, ◌≤◌, Bool, true, false, List, [], ◌∷◌, ◌++◌, length, take, drop, refl, sym}
+use Rattle.std.proofs.Common.{◌∙◌, ap, subst, nat_eq, Some, None, arith}
 use Rattle.std.specs.List.{prefix_len, starts_with, find, slice_get}
 use Rattle.std.specs.Char.{is_ascii_alphabetic, is_ascii_digit}
 use Rattle.std.proofs.lemmas.List.{take-append-drop, length-append}
@@ -15,7 +16,8 @@ use Rattle.pale_text.specs.Spelling.{bytes_of, is_name_part, Spells}
 use Rattle.pale_text.specs.Lexing.{is_gap, is_hash, HasNoPiece}
 use Rattle.pale_text.specs.Fronts.{HasPiece}
 use Rattle.pale_text.proofs.ListLemmas.{list_all-prefix_len, prefix_len-longest, append-starts_with}
-use Rattle.pale_text.proofs.MarkLemmas.{BeginsAsMark, mark_begins, place_of, MARKS-place_of, begins, find-passes, find-none, find-longest, MARKS-longest_first, begins-append, mark_of_bytes}
+use Rattle.pale_text.proofs.MarkLemmas.{BeginsAsMark, mark_begins, place_of, MARKS-place_of, begins, find-passes, find-none}
+use Rattle.pale_text.proofs.MarkLemmas.{find-longest, MARKS-longest_first, begins-append, mark_of_bytes}
 
 -- no letter is a digit
 letter_is_no_digit : (byte : ℕ) → is_ascii_alphabetic byte ≡ true → is_ascii_digit byte ≡ true → ⊥
@@ -53,7 +55,8 @@ piece_begins (kind.Number digits) (first ∷ others) spells =
 piece_begins (kind.Mark m) piece spells = mark_piece_begins piece (subst BeginsAsMark spells (mark_begins m))
 
 -- the first byte of a text that begins with a mark is no letter and no digit
-mark_front : (bytes after : List ℕ) (first : ℕ) (others : List ℕ) → BeginsAsMark bytes → bytes ++ after ≡ first ∷ others → (is_ascii_alphabetic first ≡ false) × (is_ascii_digit first ≡ false)
+mark_front : (bytes after : List ℕ) (first : ℕ) (others : List ℕ) → BeginsAsMark bytes → bytes ++ after ≡ first ∷ others →
+    (is_ascii_alphabetic first ≡ false) × (is_ascii_digit first ≡ false)
 mark_front [] after first others begins e = absurd begins
 mark_front (byte ∷ bytes) after first others begins e =
     let same : byte ≡ first = cc in
@@ -123,11 +126,13 @@ run_starts p first others passes = rw passes (omega arith)
 whole_name : (first : ℕ) (others : List ℕ) → is_ascii_alphabetic first ≡ true →
     HasPiece (first ∷ others) (kind.Name (take (prefix_len is_name_part (first ∷ others)) (first ∷ others))) (prefix_len is_name_part (first ∷ others))
 whole_name first others letter =
-    let count : prefix_len is_name_part (first ∷ others) ≡ suc (prefix_len is_name_part others) = run_starts is_name_part first others (letter_in_name first letter) in
+    let count : prefix_len is_name_part (first ∷ others) ≡ suc (prefix_len is_name_part others) =
+    run_starts is_name_part first others (letter_in_name first letter) in
     run_is_piece (kind.Name (take (prefix_len is_name_part (first ∷ others)) (first ∷ others))) is_name_part (first ∷ others) (omega arith)
     (let P : ℕ → Type 0 = λ n. Spells (kind.Name (take n (first ∷ others))) (take n (first ∷ others)) in
     subst P (sym count) (refl, (letter, list_all-prefix_len is_name_part others)))
-    (λ other front after spells e. let bound : length front ≤ suc (prefix_len is_name_part others) = name_longest first others letter other front after spells e in omega arith)
+    (λ other front after spells e. let bound : length front ≤ suc (prefix_len is_name_part others) = name_longest first
+    others letter other front after spells e in omega arith)
 
 whole_number : (first : ℕ) (others : List ℕ) → is_ascii_digit first ≡ true →
     HasPiece (first ∷ others) (kind.Number (take (prefix_len is_ascii_digit (first ∷ others)) (first ∷ others))) (prefix_len is_ascii_digit (first ∷ others))
@@ -136,7 +141,8 @@ whole_number first others digit =
     run_is_piece (kind.Number (take (prefix_len is_ascii_digit (first ∷ others)) (first ∷ others))) is_ascii_digit (first ∷ others) (omega arith)
     (let P : ℕ → Type 0 = λ n. Spells (kind.Number (take n (first ∷ others))) (take n (first ∷ others)) in
     subst P (sym count) (refl, (digit, list_all-prefix_len is_ascii_digit others)))
-    (λ other front after spells e. let bound : length front ≤ suc (prefix_len is_ascii_digit others) = number_longest first others digit other front after spells e in omega arith)
+    (λ other front after spells e. let bound : length front ≤ suc (prefix_len is_ascii_digit others) = number_longest first
+    others digit other front after spells e in omega arith)
 
 -- the name parts at the front of a text that begins with a letter are its longest name
 pub name_is_piece : (text : List ℕ) (first count : ℕ) (name : List ℕ) → slice_get text 0 ≡ Some first → is_ascii_alphabetic first ≡ true →
@@ -194,7 +200,9 @@ HasPiece-mark first others m no_letter no_digit found =
             let at_front : piece ++ after ≡ text = e ∙ whole in
             let found_mark : (n : Mark) × (bytes_of n ≡ piece) = only_marks first others no_letter no_digit other piece after spells at_front in
             let there : begins text found_mark.0 ≡ true = begins-append found_mark.0 after text (ap (λ p. p ++ after) found_mark.1 ∙ at_front) in
-            let bound : length (bytes_of found_mark.0) ≤ length bytes = find-longest text MARKS MARKS-longest_first m found (place_of found_mark.0) found_mark.0 (MARKS-place_of found_mark.0) there in
+            let bound : length (bytes_of found_mark.0) ≤ length bytes =
+            find-longest text MARKS MARKS-longest_first m found (place_of found_mark.0) found_mark.0
+            (MARKS-place_of found_mark.0) there in
             subst (λ p. length p ≤ length bytes) found_mark.1 bound;
       });
     }
@@ -216,7 +224,8 @@ HasNoPiece-nil = λ k piece after spells e.
     cc
 
 -- what `mark_of` answers is the longest piece, or there is none, where the text begins with no letter and no digit
-pub mark_is_piece : (text : List ℕ) (first count : ℕ) (m : Mark) → slice_get text 0 ≡ Some first → is_ascii_alphabetic first ≡ false → is_ascii_digit first ≡ false →
+pub mark_is_piece : (text : List ℕ) (first count : ℕ) (m : Mark) → slice_get text 0 ≡ Some first →
+    is_ascii_alphabetic first ≡ false → is_ascii_digit first ≡ false →
     find (λ mark. starts_with nat_eq text (bytes_of mark)) MARKS ≡ Some m → count ≡ length (bytes_of m) → HasPiece text (kind.Mark m) count
 mark_is_piece text first count m e no_letter no_digit found counted =
     let start : (others : List ℕ) × (text ≡ first ∷ others) = front_of text first e in

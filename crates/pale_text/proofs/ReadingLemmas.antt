@@ -7,7 +7,8 @@ use Rattle.pale_text.specs.declared.token.TokenKind.{TokenKind}
 use Rattle.pale_text.specs.declared.token.TokenList.{TokenList}
 use Rattle.pale_text.specs.Places.{first_place, place_after, place_past}
 use Rattle.pale_text.specs.Spelling.{Spells}
-use Rattle.pale_text.specs.Lexing.{is_gap, is_hash, is_line_end, IsComment, EndsComment, IsLongestPiece, token_at, Reaches, at_start, past_gap, past_comment, past_token, IsLexed, IsStray, IsStrayAt}
+use Rattle.pale_text.specs.Lexing.{is_gap, is_hash, is_line_end, IsComment, EndsComment, IsLongestPiece, token_at, Reaches}
+use Rattle.pale_text.specs.Lexing.{at_start, past_gap, past_comment, past_token, IsLexed, IsStray, IsStrayAt}
 use Rattle.pale_text.proofs.ListLemmas.{both, same_front}
 use Rattle.std.proofs.lemmas.Bool.{eqb-true}
 use Rattle.std.proofs.lemmas.List.{append_cancel_left}
@@ -22,7 +23,8 @@ record Where : Type 0 where
 -- one gap, comment or token is read
 data Step (from to : Where) : Type 0 where
   over_gap : (byte : ℕ) → IsTrue (is_gap byte) → from.left ≡ byte ∷ to.left → to.place ≡ place_after from.place byte → to.tokens ≡ from.tokens → Step from to
-  over_comment : (bytes : List ℕ) → IsComment bytes → EndsComment to.left → from.left ≡ bytes ++ to.left → to.place ≡ place_past from.place bytes → to.tokens ≡ from.tokens → Step from to
+  over_comment : (bytes : List ℕ) → IsComment bytes → EndsComment to.left → from.left ≡ bytes ++ to.left →
+      to.place ≡ place_past from.place bytes → to.tokens ≡ from.tokens → Step from to
   over_token : (k : TokenKind) (piece : List ℕ) → IsLongestPiece k piece to.left → from.left ≡ piece ++ to.left → to.place ≡ place_past from.place piece →
       to.tokens ≡ from.tokens ++ token_at from.place k piece ∷ [] → Step from to
 
@@ -113,7 +115,8 @@ comment_or_token bytes k piece left rest comment spells e =
     cc
 
 -- the longest piece of a text is one
-same_piece : (k l : TokenKind) (piece front left rest : List ℕ) → IsLongestPiece k piece left → IsLongestPiece l front rest → piece ++ left ≡ front ++ rest → (k ≡ l) × (piece ≡ front)
+same_piece : (k l : TokenKind) (piece front left rest : List ℕ) → IsLongestPiece k piece left → IsLongestPiece l front rest →
+    piece ++ left ≡ front ++ rest → (k ≡ l) × (piece ≡ front)
 same_piece k l piece front left rest one other e =
     let below : length piece ≤ length front = other.longest k piece left one.spells e in
     let above : length front ≤ length piece = one.longest l front rest other.spells (sym e) in
@@ -171,7 +174,8 @@ start_of text = record { tokens = []; place = first_place; left = text }
 abbrev here_in : List Token → Pos → List ℕ → Where
 here_in tokens place left = record { tokens = tokens; place = place; left = left }
 
-Leads-Reaches : (text : List ℕ) (tokens : List Token) (place : Pos) (left : List ℕ) → Reaches text tokens place left → Leads (here_in tokens place left) (start_of text)
+Leads-Reaches : (text : List ℕ) (tokens : List Token) (place : Pos) (left : List ℕ) → Reaches text tokens place left →
+    Leads (here_in tokens place left) (start_of text)
 Leads-Reaches text tokens place left at_start = here
 Leads-Reaches text tokens place left (past_gap _ before byte _ reached is_gap_byte) =
     then_step _ _ _ (Leads-Reaches text tokens before (byte ∷ left) reached) (over_gap byte is_gap_byte refl refl refl)
@@ -220,7 +224,8 @@ tokens_are_one text one other lexed again =
 pub stray_is_one : (text : List ℕ) (one other : Pos) → IsStrayAt text one → IsStrayAt text other → one ≡ other
 stray_is_one text one other stray again =
     let same : here_in stray.tokens one (stray.byte ∷ stray.after) ≡ here_in again.tokens other (again.byte ∷ again.after) =
-    same_end _ _ _ (Leads-Reaches _ _ _ _ stray.reached) (Leads-Reaches _ _ _ _ again.reached) (stuck_at_stray _ _ _ stray.stray refl) (stuck_at_stray _ _ _ again.stray refl) in
+    same_end _ _ _ (Leads-Reaches _ _ _ _ stray.reached) (Leads-Reaches _ _ _ _ again.reached)
+    (stuck_at_stray _ _ _ stray.stray refl) (stuck_at_stray _ _ _ again.stray refl) in
     ap (λ w. w.place) same
 
 pub lexed_or_stray : (text : List ℕ) (list : TokenList) (place : Pos) → IsLexed text list → IsStrayAt text place → ⊥

@@ -76,7 +76,8 @@ piece_has_no_gap (kind.Name name) (first ∷ others) spells =
     both_true (part_is_no_gap first (letter_is_part first spells.1.0)) (all_pass is_name_part no_gap part_is_no_gap others spells.1.1)
 piece_has_no_gap (kind.Number digits) [] spells = absurd spells.1
 piece_has_no_gap (kind.Number digits) (first ∷ others) spells =
-    both_true (part_is_no_gap first (digit_is_part first spells.1.0)) (all_pass is_ascii_digit no_gap (λ b d. part_is_no_gap b (digit_is_part b d)) others spells.1.1)
+    both_true (part_is_no_gap first (digit_is_part first spells.1.0))
+    (all_pass is_ascii_digit no_gap (λ b d. part_is_no_gap b (digit_is_part b d)) others spells.1.1)
 piece_has_no_gap (kind.Mark m) piece spells = subst (λ p. list_all no_gap p ≡ true) spells (mark_has_no_gap m)
 
 -- ---- a piece that stands apart is the longest
@@ -115,7 +116,8 @@ record ComesToEnd (text : List ℕ) (tokens : List Token) (kinds : List TokenKin
   reached : Reaches text (tokens ++ others) end []
   same : kinds_of others ≡ kinds
 
-read_on : (text : List ℕ) (kinds : List TokenKind) (left : List ℕ) → IsSpelled kinds left → (tokens : List Token) (place : Pos) → Reaches text tokens place left → ComesToEnd text tokens kinds
+read_on : (text : List ℕ) (kinds : List TokenKind) (left : List ℕ) → IsSpelled kinds left → (tokens : List Token) (place : Pos) →
+    Reaches text tokens place left → ComesToEnd text tokens kinds
 read_on text kinds left nothing tokens place reached = record {
   others = [];
   end = place;

@@ -20,11 +20,13 @@ refusal_of line column why = record { line = line; column = column; kind = why }
 abbrev refusal_at : TokenList → ℕ → RefusalKind → Refusal
 refusal_at list number why = refusal_of (place_at list number).line (place_at list number).column why
 
-same_refusal : (refusal : Refusal) (line column : ℕ) (why : RefusalKind) → line ≡ refusal.line → column ≡ refusal.column → refusal.kind ≡ why → refusal_of line column why ≡ refusal
+same_refusal : (refusal : Refusal) (line column : ℕ) (why : RefusalKind) → line ≡ refusal.line → column ≡ refusal.column →
+    refusal.kind ≡ why → refusal_of line column why ≡ refusal
 same_refusal refusal line column why a b k =
     ap (λ x. refusal_of x column why) a ∙ ap (λ x. refusal_of refusal.line x why) b ∙ ap (λ x. refusal_of refusal.line refusal.column x) (sym k)
 
-told : (list : TokenList) (one other : ℕ) (why : RefusalKind) (refusal : Refusal) (answer : TextStop) → one ≡ other → place_at list other ≡ record { line = refusal.line; column = refusal.column } → refusal.kind ≡ why →
+told : (list : TokenList) (one other : ℕ) (why : RefusalKind) (refusal : Refusal) (answer : TextStop) → one ≡ other →
+    place_at list other ≡ record { line = refusal.line; column = refusal.column } → refusal.kind ≡ why →
     answer ≡ stop.Refused (refusal_at list one why) → answer ≡ stop.Refused refusal
 told list one other why refusal answer same place is said =
     let there : place_at list one ≡ record { line = refusal.line; column = refusal.column } = ap (place_at list) same ∙ place in
@@ -32,24 +34,31 @@ told list one other why refusal answer same place is said =
     let column : (place_at list one).column ≡ refusal.column = ap (λ (p : Pos). p.column) there in
     said ∙ ap (λ r. stop.Refused r) (same_refusal refusal (place_at list one).line (place_at list one).column why line column is)
 
-module _ {N P A K : Type 0} (rules : Rules N P A K) (limit : ℕ) (kinds : List K) (list : TokenList) (refusal : Refusal) (r : IsRefused rules limit kinds list refusal) where
+module _ {N P A K : Type 0} (rules : Rules N P A K) (limit : ℕ) (kinds : List K) (list : TokenList) (refusal : Refusal)
+    (r : IsRefused rules limit kinds list refusal) where
   pub not_read : ((place : ℕ) → IsWrongAt rules limit kinds place → ⊥) → ((place : ℕ) → IsDeepAt rules limit kinds place → ⊥) → ⊥
   not_read wrong deep = elim r.fault [ inl f ↦ wrong r.number f.1 | inr f ↦ deep r.number f.1 ]
 
-  pub told_wrong : (number : ℕ) (got : ReadStop) (is : got ≡ reads.Wrong number) (answer : TextStop) → ((place : ℕ) → IsWrongAt rules limit kinds place → (got ≡ reads.Wrong place) ⊎ (got ≡ reads.NoMemory)) →
+  pub told_wrong : (number : ℕ) (got : ReadStop) (is : got ≡ reads.Wrong number) (answer : TextStop) →
+      ((place : ℕ) → IsWrongAt rules limit kinds place → (got ≡ reads.Wrong place) ⊎ (got ≡ reads.NoMemory)) →
       ((place : ℕ) → IsDeepAt rules limit kinds place → (got ≡ reads.Deep place) ⊎ (got ≡ reads.NoMemory)) →
       answer ≡ stop.Refused (refusal_at list number kind.Syntax) → (answer ≡ stop.Refused refusal) ⊎ (answer ≡ stop.NoMemory)
   told_wrong number got is answer wrong deep said =
       elim r.fault [
-        | inl f ↦ elim (wrong r.number f.1) [ inl e ↦ inl (told list number r.number kind.Syntax refusal answer (cc (e, is)) r.place f.0 said) | inr e ↦ absurd (cc (e, is)) ]
+        | inl f ↦
+            elim (wrong r.number f.1)
+            [ inl e ↦ inl (told list number r.number kind.Syntax refusal answer (cc (e, is)) r.place f.0 said) | inr e ↦ absurd (cc (e, is)) ]
         | inr f ↦ elim (deep r.number f.1) [ inl e ↦ absurd (cc (e, is)) | inr e ↦ absurd (cc (e, is)) ]
       ]
 
-  pub told_deep : (number : ℕ) (got : ReadStop) (is : got ≡ reads.Deep number) (answer : TextStop) → ((place : ℕ) → IsWrongAt rules limit kinds place → (got ≡ reads.Wrong place) ⊎ (got ≡ reads.NoMemory)) →
+  pub told_deep : (number : ℕ) (got : ReadStop) (is : got ≡ reads.Deep number) (answer : TextStop) →
+      ((place : ℕ) → IsWrongAt rules limit kinds place → (got ≡ reads.Wrong place) ⊎ (got ≡ reads.NoMemory)) →
       ((place : ℕ) → IsDeepAt rules limit kinds place → (got ≡ reads.Deep place) ⊎ (got ≡ reads.NoMemory)) →
       answer ≡ stop.Refused (refusal_at list number kind.Deep) → (answer ≡ stop.Refused refusal) ⊎ (answer ≡ stop.NoMemory)
   told_deep number got is answer wrong deep said =
       elim r.fault [
         | inl f ↦ elim (wrong r.number f.1) [ inl e ↦ absurd (cc (e, is)) | inr e ↦ absurd (cc (e, is)) ]
-        | inr f ↦ elim (deep r.number f.1) [ inl e ↦ inl (told list number r.number kind.Deep refusal answer (cc (e, is)) r.place f.0 said) | inr e ↦ absurd (cc (e, is)) ]
+        | inr f ↦
+            elim (deep r.number f.1)
+            [ inl e ↦ inl (told list number r.number kind.Deep refusal answer (cc (e, is)) r.place f.0 said) | inr e ↦ absurd (cc (e, is)) ]
       ]

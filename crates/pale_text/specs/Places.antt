@@ -15,3 +15,7 @@ place_after place byte =
 abbrev pub place_past : Pos → List ℕ → Pos
 place_past place [] = place
 place_past place (byte ∷ bytes) = place_past (place_after place byte) bytes
+
+-- stands where no place is known
+abbrev pub nowhere : Pos
+nowhere = record { line = 0; column = 0 }

@@ -5,31 +5,17 @@
 #![tactic(auto)]
 
 mod front;
-mod grammar;
 mod laws;
 mod lexer;
 mod piece;
 mod place;
 mod reading;
 mod refusal;
-#[cfg(test)]
-mod tests;
 mod token;
-mod tree;
 
-pub use grammar::{
-    Act, AtomAct, CallAct, ConditionAct, ConnectiveAct, PredicateAct, ProcedureAct, ProgramKind,
-    ProgramPart, RouteAct, StatementAct, TypeAct, WordAct,
-};
 pub use laws::{spelled_tokens_are_read, stray_byte_is_one, tokens_are_one};
 pub use lexer::lex;
 pub use place::{Pos, Span};
 pub use reading::read_tokens;
 pub use refusal::{Refusal, RefusalKind, TextStop};
 pub use token::{ByteList, Mark, Token, TokenKind, TokenList};
-pub use tree::{
-    Argument, Assertion, Block, Bracketed, Call, Condition, Declaration, FieldDeclaration,
-    FieldForm, LogicParameter, Name, Parameter, Path, PredicateDeclaration, PredicateParameter,
-    Procedure, Program, Quantifier, QuantifierKind, Route, Statement, Term, TypeDeclaration, Value,
-    VariantDeclaration,
-};

@@ -19,7 +19,7 @@ use Rattle.pale_top.specs.Words.{Gives, IsRefused}
 use Rattle.pale_top.proofs.WrittenLemmas.{Wrote-weaker, WroteAtMost-weaker}
 use Rattle.pale_top.specs.Formatting.{Formats}
 use Rattle.pale_top.specs.Formatting as formatting
-use Rattle.pale_top.specs.Output.{Answers, Begins, Checks, too_long, not_yet, report, EndsBy, IsAnswer, IsCutShort, Output, asked, check, format, Reports, Wrote, WroteAtMost, status_of}
+use Rattle.pale_top.specs.Output.{Answers, Begins, CallOutput, Checks, too_long, not_yet, report, EndsBy, IsAnswer, IsCutShort, Output, check, format, given, Reports, Wrote, WroteAtMost, status_of}
 use Rattle.pale_top.specs.Report.{too_long_line}
 use Rattle.pale_top.specs.Texts.{most_bytes}
 
@@ -79,41 +79,41 @@ formatted_given text output status (formatting.stray refusal within stop) = tt
 formatted_given text output status (formatting.unparsed list refusal within lexed stop) = tt
 formatted_given text output status (formatting.program list tree within lexed parsed) = tt
 
-asked_given : (mode : Mode) (text output : List ℕ) (status : Status) → asked mode text output status → IsGiven status
-asked_given Check text output status checks = checked_given text output status checks
-asked_given Format text output status formats = formatted_given text output status formats
+output_given : (settings : Settings) (text output : List ℕ) (status : Status) → Output settings text output status → IsGiven status
+output_given settings text output status (check is written answer checks) = checked_given text output status checks
+output_given settings text output status (format is written answer formats) = formatted_given text output status formats
 
 -- such an output isn't cut short
 given_whole : (status : Status) → IsGiven status → IsCutShort status → ⊥
-given_whole Memory given cut = given
-given_whole WriteFault given cut = given
-given_whole Good given cut = cut
-given_whole Bad given cut = cut
-given_whole Words given cut = cut
-given_whole Text given cut = cut
-given_whole Limit given cut = cut
-given_whole ReadFault given cut = cut
+given_whole Memory one cut = one
+given_whole WriteFault one cut = one
+given_whole Good one cut = cut
+given_whole Bad one cut = cut
+given_whole Words one cut = cut
+given_whole Text one cut = cut
+given_whole Limit one cut = cut
+given_whole ReadFault one cut = cut
 
--- what is written for a text in a mode, by what the sink left and how the call ended
-module _ (mode : Mode) (text : List ℕ) (before after : Option (List ℕ)) where
-  wrote_given : (answer status : Status) → status ≡ answer → Wrote (asked mode text) before after answer → IsGiven status
-  wrote_given answer status ends wrote = subst IsGiven (sym ends) (asked_given mode text wrote.output answer wrote.allowed)
+-- what is written for a text with these settings, by what the sink left and how the call ended
+module _ (settings : Settings) (text : List ℕ) (before after : Option (List ℕ)) where
+  wrote_given : (answer status : Status) → status ≡ answer → Wrote (Output settings text) before after answer → IsGiven status
+  wrote_given answer status ends wrote = subst IsGiven (sym ends) (output_given settings text wrote.output answer wrote.allowed)
 
   -- where the writing was cut short, what was written begins an output
   pub text_begun : (left : Option (List ℕ)) (outcome : Result Status WriteStop) (status : Status) → IfSome left (λ bytes. text ≡ bytes) → EndsBy outcome status
-      → IfOk outcome (Wrote (asked mode text) before after) → OnErr outcome (WroteAtMost (asked mode text) before after) → IsCutShort status → Begins (asked mode) left before after
+      → IfOk outcome (Wrote (Output settings text) before after) → OnErr outcome (WroteAtMost (Output settings text) before after) → IsCutShort status → Begins (Output settings) left before after
   text_begun left (Ok answer) status told ends wrote begun cut = absurd (given_whole status (wrote_given answer status ends wrote) cut)
   text_begun left (Err Failed) status told ends wrote begun cut = record { text = text; told = told; wrote = begun }
   text_begun left (Err NoMemory) status told ends wrote begun cut = record { text = text; told = told; wrote = begun }
 
   -- it doesn't end as at a fault of the source
-  pub no_read_fault : (outcome : Result Status WriteStop) (status : Status) → EndsBy outcome status → IfOk outcome (Wrote (asked mode text) before after) → status ≡ ReadFault → ⊥
+  pub no_read_fault : (outcome : Result Status WriteStop) (status : Status) → EndsBy outcome status → IfOk outcome (Wrote (Output settings text) before after) → status ≡ ReadFault → ⊥
   no_read_fault (Ok answer) status ends wrote is = subst IsGiven is (wrote_given answer status ends wrote)
   no_read_fault (Err Failed) status ends wrote is = subst IsCutShort (sym ends ∙ is) tt
   no_read_fault (Err NoMemory) status ends wrote is = subst IsCutShort (sym ends ∙ is) tt
 
   -- and as at a fault of the sink only where the sink failed
-  pub write_failed : (outcome : Result Status WriteStop) (status : Status) → EndsBy outcome status → IfOk outcome (Wrote (asked mode text) before after) → status ≡ WriteFault
+  pub write_failed : (outcome : Result Status WriteStop) (status : Status) → EndsBy outcome status → IfOk outcome (Wrote (Output settings text) before after) → status ≡ WriteFault
       → IsErrOf outcome Failed
   write_failed (Ok answer) status ends wrote is = absurd (subst IsGiven is (wrote_given answer status ends wrote))
   write_failed (Err Failed) status ends wrote is = refl
@@ -122,9 +122,12 @@ module _ (mode : Mode) (text : List ℕ) (before after : Option (List ℕ)) wher
       cc
 
 -- each mode refuses a text with too many bytes
-pub too_long_asked : (mode : Mode) (text : List ℕ) → most_bytes < length text → asked mode text too_long_line Text
-too_long_asked Check text more = too_long more
-too_long_asked Format text more = formatting.too_long more
+pub too_long_output : (settings : Settings) (text : List ℕ) → most_bytes < length text → Output settings text too_long_line Text
+too_long_output settings text more = by_mode settings.mode refl
+  where
+    by_mode : (mode : Mode) → settings.mode ≡ mode → Output settings text too_long_line Text
+    by_mode Check is = check is too_long_line Text (too_long more)
+    by_mode Format is = format is too_long_line Text (formatting.too_long more)
 
 -- ---- a call that says one line
 
@@ -148,33 +151,28 @@ module _ (Allowed : List ℕ → List ℕ → Status → Type 0) (left before af
   line_begins (Err NoMemory) status ends whole said begun cut =
       record { text = text; told = told; wrote = inr (record { output = line; status = answer; allowed = allowed; written = begun }) }
 
--- ---- a call with words that ask for a mode
+-- ---- a call with words that give settings
 
-module _ (words : List (List ℕ)) (settings : Settings) (gives : Gives words settings) where
-  follows : (mode : Mode) → settings.mode ≡ mode → (text output : List ℕ) (status : Status) → asked mode text output status → Output words text output status
-  follows Check is text output status checks = check settings output status gives is checks
-  follows Format is text output status formats = format settings output status gives is formats
+module _ (words : List (List ℕ)) (settings : Settings) (gives : Gives words settings) (left before after : Option (List ℕ)) where
+  pub call_answers : (status : Status) → Answers (Output settings) left before after status → Answers (CallOutput words) left before after status
+  call_answers status answer = record {
+    text = answer.text;
+    told = answer.told;
+    wrote = Wrote-weaker (Output settings answer.text) (CallOutput words answer.text) (given settings gives) before after status answer.wrote;
+  }
 
-  module _ (left before after : Option (List ℕ)) where
-    pub call_answers : (status : Status) → Answers (asked settings.mode) left before after status → Answers (Output words) left before after status
-    call_answers status answer = record {
-      text = answer.text;
-      told = answer.told;
-      wrote = Wrote-weaker (asked settings.mode answer.text) (Output words answer.text) (follows settings.mode refl answer.text) before after status answer.wrote;
-    }
-
-    pub call_begins : Begins (asked settings.mode) left before after → Begins (Output words) left before after
-    call_begins begins = record {
-      text = begins.text;
-      told = begins.told;
-      wrote = WroteAtMost-weaker (asked settings.mode begins.text) (Output words begins.text) (follows settings.mode refl begins.text) before after begins.wrote;
-    }
+  pub call_begins : Begins (Output settings) left before after → Begins (CallOutput words) left before after
+  call_begins begins = record {
+    text = begins.text;
+    told = begins.told;
+    wrote = WroteAtMost-weaker (Output settings begins.text) (CallOutput words begins.text) (given settings gives) before after begins.wrote;
+  }
 
 -- no mode has an output with the status of the limit
-pub not_limit : (mode : Mode) (left before after : Option (List ℕ)) (status : Status) → (IsAnswer status → Answers (asked mode) left before after status) → status ≡ Limit → ⊥
-not_limit mode left before after status answers is =
+pub not_limit : (settings : Settings) (left before after : Option (List ℕ)) (status : Status) → (IsAnswer status → Answers (Output settings) left before after status) → status ≡ Limit → ⊥
+not_limit settings left before after status answers is =
     let answer = answers (subst IsAnswer (sym is) tt) in
-    subst IsGiven is (asked_given mode answer.text answer.wrote.output status answer.wrote.allowed)
+    subst IsGiven is (output_given settings answer.text answer.wrote.output status answer.wrote.allowed)
 
 -- words that give settings aren't refused
 pub not_refused : (words : List (List ℕ)) (settings : Settings) → Gives words settings → IsRefused words → ⊥

@@ -4,17 +4,17 @@ use Rattle.ll1_reader.specs.Grammars.{Rules}
 use Rattle.ll1_reader.specs.Readings.{Step}
 use Rattle.ll1_reader.proofs.CompleteLemmas.{not_deep, not_wrong}
 use Rattle.ll1_reader.proofs.StopLemmas.{one_deep, one_wrong, wrong_or_deep}
-use Rattle.pale_text.specs.declared.grammar.act.Act.{Act}
+use Rattle.pale_syntax.specs.declared.grammar.act.Act.{Act}
 use Rattle.pale_text.specs.declared.place.Pos.{Pos}
 use Rattle.pale_text.specs.declared.refusal.Refusal.{Refusal}
 use Rattle.pale_text.specs.declared.refusal.RefusalKind.{RefusalKind}
 use Rattle.pale_text.specs.declared.refusal.TextStop.TheVariants.{Refused}
 use Rattle.pale_text.specs.declared.token.Token.{Token}
 use Rattle.pale_text.specs.declared.token.TokenList.{TokenList}
-use Rattle.pale_text.specs.declared.tree.declaration.Program.{Program}
+use Rattle.pale_syntax.specs.declared.tree.declaration.Program.{Program}
 use Rattle.pale_text.specs.Lexing.{IsLexed, IsLexStop, IsStrayAt}
-use Rattle.pale_text.specs.ProgramReading.{IsParsedAs, IsParseStop, IsProgram, max_levels, program_rows}
-use Rattle.pale_text.specs.ProgramWords.{kinds_in}
+use Rattle.pale_syntax.specs.ProgramReading.{IsParsedAs, IsParseStop, IsProgram, max_levels, program_rows}
+use Rattle.pale_syntax.specs.ProgramWords.{kinds_in}
 use Rattle.pale_text.specs.TextStops.{IsFault, IsRefused, place_at}
 use Rattle.pale_print.specs.Spelling.{spelling}
 use Rattle.pale_top.specs.declared.status.Status.{Status}

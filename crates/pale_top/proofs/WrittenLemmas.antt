@@ -1,10 +1,11 @@
 -- What two writes leave, one after the other.
 use Rattle.std.proofs.Common.{◌≡◌, ◌∙◌, ◌+◌, ◌<◌, ◌≤◌, ℕ, List, ◌++◌, length, take, refl, ap, sym, arith, Option, Some, None, append_assoc, length-append, Result, Ok, Err, inl, inr}
-use Rattle.std.specs.Prelude.{OnErr}
+use Rattle.std.specs.Prelude.{IfOk, OnErr}
 use Rattle.std.proofs.lemmas.List.{take-append-le}
 use Rattle.std.proofs.Math.Seq.{take-append_seam, take-append-add}
 use Rattle.pale_io.specs.Told.{appended}
 use Rattle.pale_io.specs.Whole.{WritesAll, WritesFront}
+use Rattle.pale_io.specs.declared.stops.WriteStop.{WriteStop}
 use Rattle.pale_top.specs.declared.status.Status.{Status}
 use Rattle.pale_top.specs.Output.{Wrote, WroteAtMost}
 
@@ -74,3 +75,11 @@ module _ (A B : List ℕ → Status → Type 0) (follows : (output : List ℕ) (
     allowed = follows front.output front.status front.allowed;
     written = front.written;
   })
+
+  pub whole-weaker : (outcome : Result Status WriteStop) → IfOk outcome (Wrote A before after) → IfOk outcome (Wrote B before after)
+  whole-weaker (Ok status) wrote = Wrote-weaker status wrote
+  whole-weaker (Err stop) wrote = tt
+
+  pub begun-weaker : (outcome : Result Status WriteStop) → OnErr outcome (WroteAtMost A before after) → OnErr outcome (WroteAtMost B before after)
+  begun-weaker (Ok status) begun = tt
+  begun-weaker (Err stop) begun = WroteAtMost-weaker begun

@@ -3,9 +3,9 @@ use Rattle.std.specs.Prelude.{◌<◌, ◌≤◌, ℕ, List, length}
 use Rattle.pale_text.specs.declared.refusal.Refusal.{Refusal}
 use Rattle.pale_text.specs.declared.refusal.TextStop.TheVariants.{Refused}
 use Rattle.pale_text.specs.declared.token.TokenList.{TokenList}
-use Rattle.pale_text.specs.declared.tree.declaration.Program.{Program}
+use Rattle.pale_syntax.specs.declared.tree.declaration.Program.{Program}
 use Rattle.pale_text.specs.Lexing.{IsLexed, IsLexStop}
-use Rattle.pale_text.specs.ProgramReading.{IsParsedAs, IsParseStop}
+use Rattle.pale_syntax.specs.ProgramReading.{IsParsedAs, IsParseStop}
 use Rattle.pale_print.specs.Spelling.{spelling}
 use Rattle.pale_top.specs.declared.status.Status.{Status}
 use Rattle.pale_top.specs.declared.status.Status.TheVariants.{Good, Text}

@@ -12,7 +12,6 @@ use Rattle.pale_io.specs.declared.stops.WriteStop.TheVariants.{Failed, NoMemory}
 use Rattle.pale_io.specs.Whole.{WritesAll, WritesFront}
 use Rattle.pale_top.specs.declared.status.Status.{Status}
 use Rattle.pale_top.specs.declared.status.Status.TheVariants.{Good, Bad, Words, Text, Memory, ReadFault, WriteFault}
-use Rattle.pale_top.specs.declared.words.Mode.{Mode}
 use Rattle.pale_top.specs.declared.words.Mode.TheVariants.{Check, Format}
 use Rattle.pale_top.specs.declared.words.Settings.{Settings}
 use Rattle.pale_top.specs.Texts.{most_bytes}
@@ -57,18 +56,16 @@ pub data Checks (text : List ℕ) : List ℕ → Status → Type 0 where
 
 -- ---- a call
 
--- what a mode writes for a text, and the status
-abbrev pub asked : Mode → List ℕ → List ℕ → Status → Type 0
-asked Check = Checks
-asked Format = Formats
+-- what a call with these settings writes for a text, and its status, by the mode
+pub data Output (settings : Settings) (text : List ℕ) : List ℕ → Status → Type 0 where
+  check : settings.mode ≡ Check → (written : List ℕ) (status : Status) → Checks text written status → Output settings text written status
+  format : settings.mode ≡ Format → (written : List ℕ) (status : Status) → Formats text written status → Output settings text written status
 
--- what a call with these words writes for a text, and its status: the words are refused, or ask for a mode
-pub data Output (words : List (List ℕ)) (text : List ℕ) : List ℕ → Status → Type 0 where
-  refused : IsRefused words → Output words text usage_line Words
-  check : (settings : Settings) (output : List ℕ) (status : Status) → Gives words settings → settings.mode ≡ Check
-      → Checks text output status → Output words text output status
-  format : (settings : Settings) (output : List ℕ) (status : Status) → Gives words settings → settings.mode ≡ Format
-      → Formats text output status → Output words text output status
+-- what a call with these words writes for a text, and its status: the words are refused, or give settings
+pub data CallOutput (words : List (List ℕ)) (text : List ℕ) : List ℕ → Status → Type 0 where
+  refused : IsRefused words → CallOutput words text usage_line Words
+  given : (settings : Settings) → Gives words settings → (written : List ℕ) (status : Status) → Output settings text written status
+      → CallOutput words text written status
 
 -- the status is an answer, and not a fault or want of memory
 abbrev pub IsAnswer : Status → Type 0

@@ -4,7 +4,7 @@ ghost use Rattle.std.specs.String.{string_bytes};
 ghost use Rattle.pale_io.specs.Faults.{Rose};
 ghost use Rattle.pale_io.specs.Told.{without_first};
 ghost use Rattle.pale_io.specs.Whole.{ReadsFront};
-ghost use Rattle.pale_top.specs.Output.{Answers, Begins, IsAnswer, IsCutShort, Output, Wrote, WroteAtMost, asked};
+ghost use Rattle.pale_top.specs.Output.{Answers, Begins, IsAnswer, IsCutShort, CallOutput, Output, Wrote, WroteAtMost};
 ghost use Rattle.pale_top.specs.Report.{too_long_line, usage_line};
 ghost use Rattle.pale_top.specs.Texts.{most_bytes};
 ghost use Rattle.pale_top.specs.Words.{IsRefused};
@@ -12,36 +12,41 @@ ghost use Rattle.pale_top.specs.Words.{IsRefused};
 use crate::check::check_text;
 use crate::format::format_text;
 use crate::writing::{ended, say};
-use crate::{Mode, Status, WordsStop, read_words};
+use crate::{Mode, Settings, Status, WordsStop, read_words};
 use pale_io::{ReadStop, Sink, Source, WriteStop, read_all};
 use std::alloc::Global;
 
 /// The most bytes that a text may have.
 const MOST_BYTES: usize = 1_048_576;
 
-/// Writes what the mode gives for a text that isn't too long.
+/// Writes what the settings give for a text that isn't too long.
 fn answer_text<K: Sink>(
     alloc: Global,
-    mode: Mode,
+    settings: Settings,
     text: &[u8],
     sink: &mut K,
 ) -> Result<Status, WriteStop>
     requires { length text.now ≤ most_bytes }
-    ensures ok { IfOk result (Wrote (asked mode text.now) (K.written sink.old) (K.written sink.new)) }
-    ensures err { OnErr result (WroteAtMost (asked mode text.now) (K.written sink.old) (K.written sink.new)) }
+    ensures ok { IfOk result (Wrote (Output settings text.now) (K.written sink.old) (K.written sink.new)) }
+    ensures err { OnErr result (WroteAtMost (Output settings text.now) (K.written sink.old) (K.written sink.new)) }
     ensures failed { IsErrOf result WriteStop.Failed → Rose (K.faults sink.old) (K.faults sink.new) }
     ensures kept { K.faults sink.old ≤ K.faults sink.new }
 {
-    match mode {
+    match settings.mode {
         Mode::Check => check_text(alloc, text, sink),
         Mode::Format => format_text(alloc, text, sink),
     }
 }
 
-/// Reads the whole text, and writes what the mode gives for it.
-fn answer<S: Source, K: Sink>(alloc: Global, mode: Mode, source: &mut S, sink: &mut K) -> Status
-    ensures answer { IsAnswer result → Answers (asked mode) (S.left source.old) (K.written sink.old) (K.written sink.new) result }
-    ensures begins { IsCutShort result → Begins (asked mode) (S.left source.old) (K.written sink.old) (K.written sink.new) }
+/// Reads the whole text, and writes what the settings give for it.
+fn answer<S: Source, K: Sink>(
+    alloc: Global,
+    settings: Settings,
+    source: &mut S,
+    sink: &mut K,
+) -> Status
+    ensures answer { IsAnswer result → Answers (Output settings) (S.left source.old) (K.written sink.old) (K.written sink.new) result }
+    ensures begins { IsCutShort result → Begins (Output settings) (S.left source.old) (K.written sink.old) (K.written sink.new) }
 
     ensures read_fault { result ≡ Status.ReadFault → Rose (S.faults source.old) (S.faults source.new) }
     ensures unwritten { result ≡ Status.ReadFault → sink.new ≡ sink.old }
@@ -53,7 +58,7 @@ fn answer<S: Source, K: Sink>(alloc: Global, mode: Mode, source: &mut S, sink: &
     ensures sink_kept { K.faults sink.old ≤ K.faults sink.new }
 {
     match read_all(alloc, source, MOST_BYTES) {
-        Ok(text) => ended(answer_text(alloc, mode, &text, sink)),
+        Ok(text) => ended(answer_text(alloc, settings, &text, sink)),
         Err(ReadStop::TooLong) => ended(say(sink, b"refused too-long\n", Status::Text)),
         Err(ReadStop::Fault) => Status::ReadFault,
         Err(ReadStop::NoMemory) => Status::Memory,
@@ -72,10 +77,10 @@ pub fn pale_main<S: Source, K: Sink>(
     sink: &mut K,
 ) -> Status
     // What was written is the output for the words and for all that the source had left, and the status is that output's.
-    ensures answer { IsAnswer result → Answers (Output (map string_bytes words.now.items))
+    ensures answer { IsAnswer result → Answers (CallOutput (map string_bytes words.now.items))
         (S.left source.old) (K.written sink.old) (K.written sink.new) result }
     // At want of memory and at a fault of the sink, it begins such an output.
-    ensures begins { IsCutShort result → Begins (Output (map string_bytes words.now.items))
+    ensures begins { IsCutShort result → Begins (CallOutput (map string_bytes words.now.items))
         (S.left source.old) (K.written sink.old) (K.written sink.new) }
     ensures limit { result ≢ Status.Limit }
 
@@ -93,7 +98,7 @@ pub fn pale_main<S: Source, K: Sink>(
     ensures sink_kept { K.faults sink.old ≤ K.faults sink.new }
 {
     match read_words(alloc, words) {
-        Ok(settings) => answer(alloc, settings.mode, source, sink),
+        Ok(settings) => answer(alloc, settings, source, sink),
         Err(WordsStop::Refused) => {
             let usage = b"usage: pale MODE [--limit N] [--seed N]\n";
             ended(say(sink, usage, Status::Words))

@@ -14,7 +14,8 @@ use crate::writing::say;
 use pale_io::{Sink, WriteStop};
 use pale_parse::parse;
 use pale_print::print_program;
-use pale_text::{Program, TextStop, lex};
+use pale_syntax::Program;
+use pale_text::{TextStop, lex};
 use std::alloc::Global;
 
 /// The program of a text that isn't too long, or its first fault.

@@ -17,6 +17,3 @@ pub use call::pale_main;
 pub use laws::formatting_is_one;
 pub use status::Status;
 pub use words::{Mode, Settings, WordsStop, read_words};
-
-#[cfg(test)]
-mod tests;

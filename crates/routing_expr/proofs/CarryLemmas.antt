@@ -66,17 +66,28 @@ module _ (types : List TypeEntry) (to from : CellId → CellId) (s t : StoreMap)
     hereditary : IsHereditary IsCarried
     unfolding IsCarried
     hereditary = record {
-      of_Down = λ name a b w. (Walk-Down types t fields name (to a) (to b)).1 (LeadsByName-carried types to s t there fields name a b ((Walk-Down types s fields name a b).0 w));
-      of_Up = λ name a b w. (Walk-Up types t fields name (to a) (to b)).1 (LeadsByName-carried types to s t there fields name b a ((Walk-Up types s fields name a b).0 w));
+      of_Down = λ name a b w. (Walk-Down types t fields name (to a) (to b)).1
+          (LeadsByName-carried types to s t there fields name a b ((Walk-Down types s fields name a b).0 w));
+      of_Up = λ name a b w. (Walk-Up types t fields name (to a) (to b)).1
+          (LeadsByName-carried types to s t there fields name b a ((Walk-Up types s fields name a b).0 w));
       of_UpAny = λ a b w. (Walk-UpAny types t fields (to a) (to b)).1 (IsParent-carried types to s t there b a ((Walk-UpAny types s fields a b).0 w));
-      of_Root = λ a b w. (Walk-Root types t fields (to a) (to b)).1 (stays types to s t there (IsRoot types s) (IsRoot types t) IsRoot-carried a b ((Walk-Root types s fields a b).0 w));
-      of_Leaf = λ a b w. (Walk-Leaf types t fields (to a) (to b)).1 (stays types to s t there (IsLeaf types s) (IsLeaf types t) IsLeaf-carried a b ((Walk-Leaf types s fields a b).0 w));
-      of_IsType = λ ty a b w. (Walk-IsType types t fields ty (to a) (to b)).1 (stays types to s t there (IsOfType s ty) (IsOfType t ty) (λ c h. there.of_type c ty h) a b ((Walk-IsType types s fields ty a b).0 w));
-      of_IsVariant = λ v a b w. (Walk-IsVariant types t fields v (to a) (to b)).1 (stays types to s t there (IsOfVariant s v) (IsOfVariant t v) (λ c h. there.of_variant c v h) a b ((Walk-IsVariant types s fields v a b).0 w));
-      of_IsBool = λ name truth a b w. (Walk-IsBool types t fields name truth (to a) (to b)).1 (stays types to s t there (HasTruth types s name truth) (HasTruth types t name truth) (HasTruth-carried types to s t there name truth) a b ((Walk-IsBool types s fields name truth a b).0 w));
-      of_Then = λ first second one two a c w. let h = (Walk-Then types s fields first second a c).0 w in (Walk-Then types t fields first second (to a) (to c)).1 (to h.0, one a h.0 h.1, two h.0 c h.2);
-      of_Or = λ one other left right a b w. (Walk-Or types t fields one other (to a) (to b)).1 (elim ((Walk-Or types s fields one other a b).0 w) [ inl h ↦ inl (left a b h) | inr h ↦ inr (right a b h) ]);
-      of_Star = λ round each a b w. (Walk-Star types t fields round (to a) (to b)).1 (Chain-carried types to s t there each ((Walk-Star types s fields round a b).0 w));
+      of_Root = λ a b w. (Walk-Root types t fields (to a) (to b)).1
+          (stays types to s t there (IsRoot types s) (IsRoot types t) IsRoot-carried a b ((Walk-Root types s fields a b).0 w));
+      of_Leaf = λ a b w. (Walk-Leaf types t fields (to a) (to b)).1
+          (stays types to s t there (IsLeaf types s) (IsLeaf types t) IsLeaf-carried a b ((Walk-Leaf types s fields a b).0 w));
+      of_IsType = λ ty a b w. (Walk-IsType types t fields ty (to a) (to b)).1
+          (stays types to s t there (IsOfType s ty) (IsOfType t ty) (λ c h. there.of_type c ty h) a b ((Walk-IsType types s fields ty a b).0 w));
+      of_IsVariant = λ v a b w. (Walk-IsVariant types t fields v (to a) (to b)).1
+          (stays types to s t there (IsOfVariant s v) (IsOfVariant t v) (λ c h. there.of_variant c v h) a b ((Walk-IsVariant types s fields v a b).0 w));
+      of_IsBool = λ name truth a b w. (Walk-IsBool types t fields name truth (to a) (to b)).1
+          (stays types to s t there (HasTruth types s name truth) (HasTruth types t name truth)
+          (HasTruth-carried types to s t there name truth) a b ((Walk-IsBool types s fields name truth a b).0 w));
+      of_Then = λ first second one two a c w. let h = (Walk-Then types s fields first second a c).0 w in
+          (Walk-Then types t fields first second (to a) (to c)).1 (to h.0, one a h.0 h.1, two h.0 c h.2);
+      of_Or = λ one other left right a b w. (Walk-Or types t fields one other (to a) (to b)).1
+          (elim ((Walk-Or types s fields one other a b).0 w) [ inl h ↦ inl (left a b h) | inr h ↦ inr (right a b h) ]);
+      of_Star = λ round each a b w. (Walk-Star types t fields round (to a) (to b)).1
+          (Chain-carried types to s t there each ((Walk-Star types s fields round a b).0 w));
     }
 
     pub Walk-carried : (along : Route) (a b : CellId) → Walk types s fields along a b → Walk types t fields along (to a) (to b)

@@ -26,7 +26,8 @@ use Rattle.routing_expr.proofs.FittingLemmas.{IfSome-from, IfSome-at, IsSomeAnd-
 
 -- a cell of a type isn't dead
 not_dead : (s : StoreMap) (target : TypeId) (d : CellId) → IsOfType s target d → cell_of s d ≡ None → ⊥
-not_dead s target d of dead = let h : IsSomeAnd {T = CellEntry} None (λ cell. cell.variant.ty ≡ target) = subst (λ o. IsSomeAnd o (λ cell. cell.variant.ty ≡ target)) dead of in h
+not_dead s target d of dead = let h : IsSomeAnd {T = CellEntry} None (λ cell. cell.variant.ty ≡ target) =
+    subst (λ o. IsSomeAnd o (λ cell. cell.variant.ty ≡ target)) dead of in h
 
 -- a name of the right type that isn't dead names a cell of the type
 of_type : (s : StoreMap) (target : TypeId) (d : CellId) → NamesType s target d → (cell_of s d ≡ None → ⊥) → IsOfType s target d
@@ -38,7 +39,11 @@ of_type s target d = go (cell_of s d)
 
 -- two places are one or they are apart
 place_cases : (p q : Place) → (p ≡ q) ⊎ (p ≡ q → ⊥)
-place_cases (place.Var v) (place.Var w) = elim (cases_eq v.0 w.0) [ inl same ↦ inl (ap (λ (n : ℕ). place.Var (record { 0 = n })) same) | inr apart ↦ inr (λ e. apart (let is : v ≡ w = cc in ap (λ (x : VarId). x.0) is)) ]
+place_cases (place.Var v) (place.Var w) =
+    elim (cases_eq v.0 w.0) [
+      | inl same ↦ inl (ap (λ (n : ℕ). place.Var (record { 0 = n })) same)
+      | inr apart ↦ inr (λ e. apart (let is : v ≡ w = cc in ap (λ (x : VarId). x.0) is))
+    ]
 place_cases (place.Var v) (place.Field d g) = inr (λ e. cc)
 place_cases (place.Field c f) (place.Var w) = inr (λ e. cc)
 place_cases (place.Field c f) (place.Field d g) = elim (cases_eq c.0 d.0) [
@@ -47,7 +52,9 @@ place_cases (place.Field c f) (place.Field d g) = elim (cases_eq c.0 d.0) [
     | inr apart ↦ inr (λ e. apart (let is : f ≡ g = cc in ap (λ (x : FieldId). x.ty.0) is))
     | inl type ↦ elim (cases_eq f.index g.index) [
       | inr apart ↦ inr (λ e. apart (let is : f ≡ g = cc in ap (λ (x : FieldId). x.index) is))
-      | inl index ↦ inl (ap (λ (n : ℕ). place.Field (record { 0 = n }) f) cell ∙ ap (λ (n : ℕ). place.Field d (record { ty = record { 0 = n }; index = f.index })) type ∙ ap (λ (n : ℕ). place.Field d (record { ty = g.ty; index = n })) index)
+      | inl index ↦ inl (ap (λ (n : ℕ). place.Field (record { 0 = n }) f) cell ∙
+          ap (λ (n : ℕ). place.Field d (record { ty = record { 0 = n }; index = f.index })) type ∙
+          ap (λ (n : ℕ). place.Field d (record { ty = g.ty; index = n })) index)
     ]
   ]
 ]
@@ -90,15 +97,18 @@ module _ (types : List TypeEntry) (vars : List VarEntry) (s : StoreMap) (fits : 
     dest_lives (field.Data target) c d h dead = h
     dest_lives (field.Pointer target along) c d h dead = not_dead s target d h.of_target dead
 
-    field_lives : (c : CellId) (f : FieldId) (entry : FieldEntry) (kind : FieldKind) (x : Value) → field_at types f ≡ Some entry → entry.kind ≡ kind → field_value s c f ≡ Some x → FieldFits s kind x → NamesDead s x → ⊥
+    field_lives : (c : CellId) (f : FieldId) (entry : FieldEntry) (kind : FieldKind) (x : Value) → field_at types f ≡ Some entry →
+        entry.kind ≡ kind → field_value s c f ≡ Some x → FieldFits s kind x → NamesDead s x → ⊥
     field_lives c f entry kind (value.Bool b) at is_kind holds fit dead = dead
     field_lives c f entry kind (value.Cell None) at is_kind holds fit dead = dead
     field_lives c f entry kind (value.Cells cells) at is_kind holds fit dead = dead
     field_lives c f entry field.Bool (value.Cell (Some d)) at is_kind holds fit dead = fit
     field_lives c f entry (field.Data target) (value.Cell (Some d)) at is_kind holds fit dead =
-        not_dead s target d (subst (λ k. FieldHoldsLive s k (value.Cell (Some d))) is_kind (IfSome-at _ _ _ holds (IfSome-at _ _ entry at (is.backbone.data_fields c f)))) dead
+        not_dead s target d (subst (λ k. FieldHoldsLive s k (value.Cell (Some d))) is_kind
+        (IfSome-at _ _ _ holds (IfSome-at _ _ entry at (is.backbone.data_fields c f)))) dead
     field_lives c f entry (field.Pointer target along) (value.Cell (Some d)) at is_kind holds fit dead =
-        let only = IfSome-at _ (IsOnlyDestination types s c f) _ holds (is.pointers c f (subst (λ o. IsSomeAnd o (λ e. IsPointer e.kind)) (sym at) (subst IsPointer (sym is_kind) tt))) in
+        let only = IfSome-at _ (IsOnlyDestination types s c f) _ holds
+        (is.pointers c f (subst (λ o. IsSomeAnd o (λ e. IsPointer e.kind)) (sym at) (subst IsPointer (sym is_kind) tt))) in
         let dest = IsSomeAnd-at (field_at types f) _ only.0 in
         dest_lives dest.0.kind c d dest.2 dead
 
@@ -145,11 +155,13 @@ module _ (types : List TypeEntry) (vars : List VarEntry) (s : StoreMap) (fits : 
     of_var v var.Bool x holds fit = tt
     of_var v (var.Data target) (value.Bool b) holds fit = fit
     of_var v (var.Data target) (value.Cell None) holds fit = tt
-    of_var v (var.Data target) (value.Cell (Some d)) holds fit = of_type s target d fit (λ dead. none (place.Var v) (inl (subst (λ o. IsSomeAnd o (NamesDead s)) (sym holds) dead)))
+    of_var v (var.Data target) (value.Cell (Some d)) holds fit = of_type s target d fit
+        (λ dead. none (place.Var v) (inl (subst (λ o. IsSomeAnd o (NamesDead s)) (sym holds) dead)))
     of_var v (var.Data target) (value.Cells cells) holds fit = fit
     of_var v (var.Pointer target) (value.Bool b) holds fit = fit
     of_var v (var.Pointer target) (value.Cell None) holds fit = tt
-    of_var v (var.Pointer target) (value.Cell (Some d)) holds fit = of_type s target d fit (λ dead. none (place.Var v) (inl (subst (λ o. IsSomeAnd o (NamesDead s)) (sym holds) dead)))
+    of_var v (var.Pointer target) (value.Cell (Some d)) holds fit = of_type s target d fit
+        (λ dead. none (place.Var v) (inl (subst (λ o. IsSomeAnd o (NamesDead s)) (sym holds) dead)))
     of_var v (var.Pointer target) (value.Cells cells) holds fit = fit
     of_var v (var.LogicSet target) x holds fit = tt
     of_var v var.LogicBool x holds fit = tt
@@ -162,14 +174,16 @@ module _ (types : List TypeEntry) (vars : List VarEntry) (s : StoreMap) (fits : 
     of_set v (var.LogicSet target) (value.Cell c) holds fit = fit
     of_set v (var.LogicSet target) (value.Cells cells) holds fit = λ k d within.
         of_type s target (get_or cells k d) (All-from_recursion (NamesType s target) cells fit.1 k d within)
-        (λ dead. none (place.Var v) (inr (subst (λ o. IsSomeAnd o (HoldsDead s)) (sym holds) (k, get_or cells k d, within, get_or_default cells k (get_or cells k d) d within, dead))))
+        (λ dead. none (place.Var v) (inr (subst (λ o. IsSomeAnd o (HoldsDead s)) (sym holds)
+        (k, get_or cells k d, within, get_or_default cells k (get_or cells k d) d within, dead))))
     of_set v var.LogicBool x holds fit = tt
 
     of_field : (c : CellId) (f : FieldId) (kind : FieldKind) (x : Value) → field_value s c f ≡ Some x → FieldFits s kind x → FieldHoldsLive s kind x
     of_field c f field.Bool x holds fit = tt
     of_field c f (field.Data target) (value.Bool b) holds fit = fit
     of_field c f (field.Data target) (value.Cell None) holds fit = tt
-    of_field c f (field.Data target) (value.Cell (Some d)) holds fit = of_type s target d fit (λ dead. none (place.Field c f) (inl (subst (λ o. IsSomeAnd o (NamesDead s)) (sym holds) dead)))
+    of_field c f (field.Data target) (value.Cell (Some d)) holds fit = of_type s target d fit
+        (λ dead. none (place.Field c f) (inl (subst (λ o. IsSomeAnd o (NamesDead s)) (sym holds) dead)))
     of_field c f (field.Data target) (value.Cells cells) holds fit = fit
     of_field c f (field.Pointer target along) x holds fit = tt
 
@@ -191,7 +205,8 @@ module _ (types : List TypeEntry) (vars : List VarEntry) (s : StoreMap) (fits : 
         let same : found.entry ≡ entry = let both : Some found.entry ≡ Some entry = sym found.at ∙ at in cc in
         of_field c f entry.kind x holds (subst (λ (e : FieldEntry). FieldFits s e.kind x) same found.fits)))
 
-    pub well_formed_from : ((c : CellId) → IsShared types vars s c → ⊥) → ((c : CellId) → IsLive s c → IsInSomeTree types vars s c) → ((c : CellId) (f : FieldId) → IsRightField types s c f) → IsWellFormed types vars s
+    pub well_formed_from : ((c : CellId) → IsShared types vars s c → ⊥) → ((c : CellId) → IsLive s c → IsInSomeTree types vars s c) →
+        ((c : CellId) (f : FieldId) → IsRightField types s c f) → IsWellFormed types vars s
     well_formed_from unshared reached right = record {
       fits = fits;
       backbone = record {

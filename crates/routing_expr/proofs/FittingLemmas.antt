@@ -43,30 +43,38 @@ pub record SlotAt (s : StoreMap) (fs : List FieldEntry) (i : ℕ) (x : Value) : 
 flat_nil : (i : ℕ) (x : Value) → option_and_then (λ (v : Option Value). v) (slice_get [] i) ≡ Some x → ⊥
 flat_nil i x e = cc
 
-slot_fits : (s : StoreMap) (index : ℕ) (fs : List FieldEntry) (xs : List (Option Value)) (i : ℕ) (x : Value) → SlotsFit s index fs xs → option_and_then (λ (v : Option Value). v) (slice_get xs i) ≡ Some x → SlotAt s fs i x
+slot_fits : (s : StoreMap) (index : ℕ) (fs : List FieldEntry) (xs : List (Option Value)) (i : ℕ) (x : Value) →
+    SlotsFit s index fs xs → option_and_then (λ (v : Option Value). v) (slice_get xs i) ≡ Some x → SlotAt s fs i x
 slot_fits s index [] [] i x fit at = absurd (flat_nil i x at)
 slot_fits s index [] (y ∷ xs) i x fit at = absurd fit
 slot_fits s index (f ∷ fs) [] i x fit at = absurd fit
 slot_fits s index (f ∷ fs) (None ∷ xs) zero x fit at = absurd (cc)
-slot_fits s index (f ∷ fs) (Some y ∷ xs) zero x fit at = let same : y ≡ x = cc in record { entry = f; at = refl; fits = subst (FieldFits s f.kind) same fit.0.1 }
-slot_fits s index (f ∷ fs) (y ∷ xs) (suc i) x fit at = let rest = slot_fits s index fs xs i x fit.1 at in record { entry = rest.entry; at = rest.at; fits = rest.fits }
+slot_fits s index (f ∷ fs) (Some y ∷ xs) zero x fit at = let same : y ≡ x = cc in
+    record { entry = f; at = refl; fits = subst (FieldFits s f.kind) same fit.0.1 }
+slot_fits s index (f ∷ fs) (y ∷ xs) (suc i) x fit at = let rest = slot_fits s index fs xs i x fit.1 at in
+    record { entry = rest.entry; at = rest.at; fits = rest.fits }
 
-same_type : (cell : CellEntry) (f : FieldId) (x : Value) → field_of cell f ≡ Some x → (cell.variant.ty ≡ f.ty) × (option_and_then (λ (v : Option Value). v) (slice_get cell.values f.index) ≡ Some x)
+same_type : (cell : CellEntry) (f : FieldId) (x : Value) → field_of cell f ≡ Some x → (cell.variant.ty ≡ f.ty) ×
+    (option_and_then (λ (v : Option Value). v) (slice_get cell.values f.index) ≡ Some x)
 same_type cell f x e = elim (cases_eq cell.variant.ty.0 f.ty.0) [
   | inl same ↦ (ap (λ (n : ℕ). record { 0 = n }) same, tested (nat_eq cell.variant.ty.0 f.ty.0) _ x e)
-  | inr apart ↦ let none : None ≡ Some x = subst (λ t. cond t (option_and_then (λ (v : Option Value). v) (slice_get cell.values f.index)) None ≡ Some x) (ne_eqb cell.variant.ty.0 f.ty.0 apart) e in absurd (cc)
+  | inr apart ↦ let none : None ≡ Some x =
+      subst (λ t. cond t (option_and_then (λ (v : Option Value). v) (slice_get cell.values f.index)) None ≡ Some x)
+      (ne_eqb cell.variant.ty.0 f.ty.0 apart) e in absurd (cc)
 ]
   where
     tested : (t : Bool) (o : Option Value) (x : Value) → cond t o None ≡ Some x → o ≡ Some x
     tested true o x e = e
     tested false o x e = cc
 
-cell_slot : (types : List TypeEntry) (s : StoreMap) (o : Option CellEntry) (f : FieldId) (x : Value) → IfSome o (CellFits types s) → option_and_then (λ cell. field_of cell f) o ≡ Some x
+cell_slot : (types : List TypeEntry) (s : StoreMap) (o : Option CellEntry) (f : FieldId) (x : Value) →
+    IfSome o (CellFits types s) → option_and_then (λ cell. field_of cell f) o ≡ Some x
     → SlotAt s (fields_of types f.ty) f.index x
 cell_slot types s None f x fits at = absurd (cc)
 cell_slot types s (Some cell) f x fits at =
     let typed = same_type cell f x at in
-    subst (λ t. SlotAt s (fields_of types t) f.index x) typed.0 (slot_fits s cell.variant.index (fields_of types cell.variant.ty) cell.values f.index x fits.values typed.1)
+    subst (λ t. SlotAt s (fields_of types t) f.index x) typed.0
+    (slot_fits s cell.variant.index (fields_of types cell.variant.ty) cell.values f.index x fits.values typed.1)
 
 module _ (types : List TypeEntry) (vars : List VarEntry) (s : StoreMap) (fits : Fits types vars s) where
   pub var_at_value : (v : VarId) (x : Value) → var_value s v ≡ Some x → VarAt s vars v.0 x

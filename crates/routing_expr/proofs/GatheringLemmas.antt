@@ -114,10 +114,14 @@ module _ {X : Type 0} where
   Gathers-start At xs = Gathers-none xs (Before At 0) (λ x h. let below = h.before in absurd (omega arith))
 
   pub Gathers-next : (At : ℕ → X → Type 0) (n : ℕ) (xs ys zs : List X) → Gathers xs ys (Before At n) → Gathers ys zs (At n) → Gathers xs zs (Before At (n + 1))
-  Gathers-next At n xs ys zs one two = Gathers-alike xs zs (λ x. Before At n x ⊎ At n x) (Before At (n + 1)) (Gathers-both xs ys zs (Before At n) (At n) one two) alike
+  Gathers-next At n xs ys zs one two = Gathers-alike xs zs (λ x. Before At n x ⊎ At n x) (Before At (n + 1))
+      (Gathers-both xs ys zs (Before At n) (At n) one two) alike
     where
       last : (x : X) (h : Before At (n + 1) x) → Before At n x ⊎ At n x
-      last x h = elim (below_suc h.place n h.before) [ inl below ↦ inl (record { place = h.place; before = below; at = h.at }) | inr same ↦ inr (subst (λ i. At i x) same h.at) ]
+      last x h = elim (below_suc h.place n h.before) [
+        | inl below ↦ inl (record { place = h.place; before = below; at = h.at })
+        | inr same ↦ inr (subst (λ i. At i x) same h.at)
+      ]
 
       alike : (x : X) → (Before At n x ⊎ At n x) ↔ Before At (n + 1) x
       alike x = (

@@ -30,7 +30,8 @@ dead-mapped None f e live = cc
 dead-mapped (Some x) f e live = cc
 
 -- a field whose value a cell has is one of the cell's type
-pub field-type : (s : StoreMap) (c : CellId) (f : FieldId) (ty : TypeId) (x : Value) → Some ty ≡ option_map (λ (cell : CellEntry). cell.variant.ty) (cell_of s c) →
+pub field-type : (s : StoreMap) (c : CellId) (f : FieldId) (ty : TypeId) (x : Value) →
+    Some ty ≡ option_map (λ (cell : CellEntry). cell.variant.ty) (cell_of s c) →
     field_value s c f ≡ Some x → f.ty ≡ ty
 field-type s c f ty x typed value = by (cell_of s c) typed value
   where
@@ -38,7 +39,8 @@ field-type s c f ty x typed value = by (cell_of s c) typed value
     tested true o e = refl
     tested false o e = absurd (cc)
 
-    by : (o : Option CellEntry) → Some ty ≡ option_map (λ (cell : CellEntry). cell.variant.ty) o → option_and_then (λ cell. field_of cell f) o ≡ Some x → f.ty ≡ ty
+    by : (o : Option CellEntry) → Some ty ≡ option_map (λ (cell : CellEntry). cell.variant.ty) o →
+        option_and_then (λ cell. field_of cell f) o ≡ Some x → f.ty ≡ ty
     by None typed value = absurd (cc)
     by (Some cell) typed value =
         let numbers : cell.variant.ty.0 ≡ f.ty.0 = eqb-true cell.variant.ty.0 f.ty.0 (tested (eqb cell.variant.ty.0 f.ty.0) _ value) in
@@ -80,7 +82,8 @@ LinkAt-child types s followed parent ty index child leads x = (
   λ same. subst (λ y. LinkAt types s followed parent ty index y) (sym same) (record { parent_is = refl; field_is = refl; is = (leads child).0 refl }),
   λ h.
       let step : Leads types s (fields_in followed) (record { ty = ty; index = index }) parent x.child =
-      subst (λ f. Leads types s (fields_in followed) f parent x.child) h.field_is (subst (λ p. Leads types s (fields_in followed) x.field p x.child) h.parent_is h.is) in
+      subst (λ f. Leads types s (fields_in followed) f parent x.child) h.field_is
+      (subst (λ p. Leads types s (fields_in followed) x.field p x.child) h.parent_is h.is) in
       let child_is = same_Some child x.child ((leads x.child).1 step) in
       λ i. record { child = sym child_is i; parent = h.parent_is i; field = h.field_is i },
 )
@@ -89,7 +92,8 @@ pub LinkAt-none : (types : List TypeEntry) (s : StoreMap) (followed : Followed) 
     ((d : CellId) → (None ≡ Some d) ↔ Leads types s (fields_in followed) (record { ty = ty; index = index }) parent d) →
     (x : Link) → LinkAt types s followed parent ty index x → ⊥
 LinkAt-none types s followed parent ty index leads x h =
-    none_some x.child ((leads x.child).1 (subst (λ f. Leads types s (fields_in followed) f parent x.child) h.field_is (subst (λ p. Leads types s (fields_in followed) x.field p x.child) h.parent_is h.is)))
+    none_some x.child ((leads x.child).1 (subst (λ f. Leads types s (fields_in followed) f parent x.child) h.field_is
+    (subst (λ p. Leads types s (fields_in followed) x.field p x.child) h.parent_is h.is)))
   where
     none_some : (c : CellId) → None ≡ Some c → ⊥
     none_some c e = cc
@@ -108,10 +112,12 @@ LinkAt-all types s followed parent ty n typed enough x = (
 )
 
 -- a dead cell has no link
-pub LinkAt-dead : (types : List TypeEntry) (s : StoreMap) (followed : Followed) (parent : CellId) → None ≡ option_map (λ (cell : CellEntry). cell.variant.ty) (cell_of s parent) →
+pub LinkAt-dead : (types : List TypeEntry) (s : StoreMap) (followed : Followed) (parent : CellId) →
+    None ≡ option_map (λ (cell : CellEntry). cell.variant.ty) (cell_of s parent) →
     (x : Link) → (x.parent ≡ parent) × IsLink types s (fields_in followed) x → ⊥
 LinkAt-dead types s followed parent dead x h =
-    dead-mapped (cell_of s parent) (λ cell. cell.variant.ty) dead (subst (λ p. IsLive s p) h.0 (Leads-live types s (fields_in followed) x.field x.parent x.child h.1).0)
+    dead-mapped (cell_of s parent) (λ cell. cell.variant.ty) dead
+    (subst (λ p. IsLive s p) h.0 (Leads-live types s (fields_in followed) x.field x.parent x.child h.1).0)
 
 -- ---- cells place by place
 
@@ -146,4 +152,7 @@ CellAt-all types s followed n enough x = (
 
 -- a list put in order has the same
 pub HasAll-sorted : {X : Type 0} (P : X → Type 0) (xs ys : List X) → IsPermutation xs ys → HasAll xs P → HasAll ys P
-HasAll-sorted P xs ys order h x = (λ there. (h x).0 (Contains-permutation ys xs x (IsPermutation-sym xs ys order) there), λ p. Contains-permutation xs ys x order ((h x).1 p))
+HasAll-sorted P xs ys order h x = (
+  λ there. (h x).0 (Contains-permutation ys xs x (IsPermutation-sym xs ys order) there),
+  λ p. Contains-permutation xs ys x order ((h x).1 p),
+)

@@ -30,11 +30,14 @@ in_one : (d e : CellId) → Contains (d ∷ []) e → d ≡ e
 in_one d e (zero, within, is) = is
 in_one d e (suc k, within, is) = absurd (omega arith)
 
-module _ (types : List TypeEntry) (s : StoreMap) (c : CellId) (f : FieldId) (target : TypeId) (along : Route) (cells : List CellId) (kind : option_map (λ (entry : FieldEntry). entry.kind) (field_at types f) ≡ Some (field.Pointer target along))
+module _ (types : List TypeEntry) (s : StoreMap) (c : CellId) (f : FieldId) (target : TypeId) (along : Route)
+    (cells : List CellId) (kind : option_map (λ (entry : FieldEntry). entry.kind) (field_at types f) ≡ Some (field.Pointer target along))
     (lists : Lists (EndsWalk types s along target c) cells) where
-  ends_kind : (o : Option FieldEntry) (d : CellId) → option_map (λ (entry : FieldEntry). entry.kind) o ≡ Some (field.Pointer target along) → IsSomeAnd o (λ entry. EndsKind types s entry.kind c d) ↔ EndsWalk types s along target c d
+  ends_kind : (o : Option FieldEntry) (d : CellId) → option_map (λ (entry : FieldEntry). entry.kind) o ≡ Some
+      (field.Pointer target along) → IsSomeAnd o (λ entry. EndsKind types s entry.kind c d) ↔ EndsWalk types s along target c d
   ends_kind None d e = absurd (cc)
-  ends_kind (Some entry) d e = let is : entry.kind ≡ field.Pointer target along = cc in (λ h. subst (λ k. EndsKind types s k c d) is h, λ h. subst (λ k. EndsKind types s k c d) (sym is) h)
+  ends_kind (Some entry) d e = let is : entry.kind ≡ field.Pointer target along = cc in
+      (λ h. subst (λ k. EndsKind types s k c d) is h, λ h. subst (λ k. EndsKind types s k c d) (sym is) h)
 
   dest_in : (d : CellId) → Dest types s c f d → Contains cells d
   dest_in d h = (lists.members d).1 ((ends_kind (field_at types f) d kind).0 h)
@@ -69,7 +72,8 @@ module _ (types : List TypeEntry) (s : StoreMap) (c : CellId) (f : FieldId) (tar
   )
   only_iff (value.Cells others) = (λ h. h, λ h. h)
 
-  pointer_kind : (o : Option FieldEntry) → option_map (λ (entry : FieldEntry). entry.kind) o ≡ Some (field.Pointer target along) → IsSomeAnd o (λ entry. IsPointer entry.kind)
+  pointer_kind : (o : Option FieldEntry) → option_map (λ (entry : FieldEntry). entry.kind) o ≡ Some (field.Pointer target along) →
+      IsSomeAnd o (λ entry. IsPointer entry.kind)
   pointer_kind None e = absurd (cc)
   pointer_kind (Some entry) e = let is : entry.kind ≡ field.Pointer target along = cc in subst IsPointer (sym is) tt
 
@@ -105,7 +109,8 @@ wrong_there types s (place.Var v) wrong = absurd wrong
 wrong_there types s (place.Field c f) wrong = IsSome-and (field_value s c f) _ wrong.wrong
 
 -- where all places are right, all fields are
-pub all_right : (types : List TypeEntry) (s : StoreMap) (places : List Place) → ArePlaces s places → ((k : ℕ) (d : Place) → k < length places → IsRightPlace types s (get_or places k d))
+pub all_right : (types : List TypeEntry) (s : StoreMap) (places : List Place) → ArePlaces s places →
+    ((k : ℕ) (d : Place) → k < length places → IsRightPlace types s (get_or places k d))
     → (c : CellId) (f : FieldId) → IsRightField types s c f
 all_right types s places are right c f pointer = opened (field_value s c f) refl
   where

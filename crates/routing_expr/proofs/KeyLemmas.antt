@@ -25,7 +25,8 @@ below_at n [] j b below at = absurd (cc)
 below_at n (e ∷ es) zero b below at = let same : e.0 ≡ b = cc in subst (λ m. n < m) same (is_less n e.0 (both_first _ _ below))
 below_at n (e ∷ es) (suc j) b below at = below_at n es j b (both_second _ _ below) at
 
-rise_at : (es : List (ℕ × CellEntry)) → T (is_sorted nat_cmp es) → (i j a b : ℕ) → i < j → slice_get (map (λ e. e.0) es) i ≡ Some a → slice_get (map (λ e. e.0) es) j ≡ Some b → a < b
+rise_at : (es : List (ℕ × CellEntry)) → T (is_sorted nat_cmp es) → (i j a b : ℕ) → i < j → slice_get (map (λ e. e.0) es) i ≡ Some a →
+    slice_get (map (λ e. e.0) es) j ≡ Some b → a < b
 rise_at [] sorted i j a b lt at_i at_j = absurd (cc)
 rise_at (e ∷ es) sorted i zero a b lt at_i at_j = absurd (omega arith)
 rise_at (e ∷ es) sorted zero (suc j) a b lt at_i at_j = let same : e.0 ≡ a = cc in subst (λ m. m < b) same (below_at e.0 es j b (both_first _ _ sorted) at_j)

@@ -79,7 +79,8 @@ reaches_both P Q old mid new h k = record {
 -- ---- what is named, one place after the other
 
 module _ (types : List TypeEntry) (vars : List VarEntry) (s : StoreMap) where
-  pub root_step : (n : ℕ) (c : CellId) → (IsRootBelow types vars s n c ⊎ Names types vars s (place.Var (record { 0 = n })) c) ↔ IsRootBelow types vars s (n + 1) c
+  pub root_step : (n : ℕ) (c : CellId) → (IsRootBelow types vars s n c ⊎ Names types vars s (place.Var (record { 0 = n })) c) ↔
+      IsRootBelow types vars s (n + 1) c
   root_step n c = (
     λ h. elim h [
       | inl old ↦ record { var = old.var; below = omega (arith, old.below); names = old.names }
@@ -103,7 +104,8 @@ module _ (types : List TypeEntry) (vars : List VarEntry) (s : StoreMap) where
   )
 
   pub child_step : (parent : CellId) (ty : TypeId) (n : ℕ) → option_map (λ (cell : CellEntry). cell.variant.ty) (cell_of s parent) ≡ Some ty → (c : CellId)
-      → (IsChildBelow types vars s parent n c ⊎ Names types vars s (place.Field parent (record { ty = ty; index = n })) c) ↔ IsChildBelow types vars s parent (n + 1) c
+      → (IsChildBelow types vars s parent n c ⊎ Names types vars s (place.Field parent (record { ty = ty; index = n })) c) ↔
+      IsChildBelow types vars s parent (n + 1) c
   child_step parent ty n of c = (
     λ h. elim h [
       | inl old ↦ record { field = old.field; below = omega (arith, old.below); names = old.names }
@@ -112,11 +114,13 @@ module _ (types : List TypeEntry) (vars : List VarEntry) (s : StoreMap) where
     λ h. elim (cases_lt h.field.index n) [
       | inl less ↦ inl (record { field = h.field; below = less; names = h.names })
       | inr more ↦
-          inr (subst (λ p. Names types vars s p c) (the_field s parent ty n of parent h.field refl (omega (arith, h.below)) (there types vars s _ c h.names)) h.names)
+          inr (subst (λ p. Names types vars s p c)
+          (the_field s parent ty n of parent h.field refl (omega (arith, h.below)) (there types vars s _ c h.names)) h.names)
     ],
   )
 
-  pub children_all : (parent : CellId) (ty : TypeId) (n : ℕ) → option_map (λ (cell : CellEntry). cell.variant.ty) (cell_of s parent) ≡ Some ty → length (fields_of types ty) ≤ n → (c : CellId)
+  pub children_all : (parent : CellId) (ty : TypeId) (n : ℕ) → option_map (λ (cell : CellEntry). cell.variant.ty)
+      (cell_of s parent) ≡ Some ty → length (fields_of types ty) ≤ n → (c : CellId)
       → IsChildBelow types vars s parent n c ↔ IsChild types vars s parent c
   children_all parent ty n of all c = (
     λ h. record { field = h.field; names = h.names },
@@ -124,7 +128,8 @@ module _ (types : List TypeEntry) (vars : List VarEntry) (s : StoreMap) where
       field = h.field;
       below =
           let w = known_within (fields_of types h.field.ty) h.field.index _ h.names.place in
-          let same : h.field.ty ≡ ty = ap (λ (k : ℕ). record { 0 = k }) (typed (cell_of s parent) h.field ty (there types vars s (place.Field parent h.field) c h.names) of) in
+          let same : h.field.ty ≡ ty = ap (λ (k : ℕ). record { 0 = k })
+          (typed (cell_of s parent) h.field ty (there types vars s (place.Field parent h.field) c h.names) of) in
           let count : length (fields_of types h.field.ty) ≡ length (fields_of types ty) = ap (λ t. length (fields_of types t)) same in
           omega arith;
       names = h.names;
@@ -133,7 +138,8 @@ module _ (types : List TypeEntry) (vars : List VarEntry) (s : StoreMap) where
 
 -- ---- the live cells
 
-pub live_step : (s : StoreMap) (n : ℕ) (cell : CellId) → slice_get (keys s.cells) n ≡ Some cell.0 → (c : CellId) → (IsOneOfFirst s n c ⊎ (c.0 ≡ cell.0)) ↔ IsOneOfFirst s (n + 1) c
+pub live_step : (s : StoreMap) (n : ℕ) (cell : CellId) → slice_get (keys s.cells) n ≡ Some cell.0 → (c : CellId) →
+    (IsOneOfFirst s n c ⊎ (c.0 ≡ cell.0)) ↔ IsOneOfFirst s (n + 1) c
 live_step s n cell at c = (
   λ h. elim h [
     | inl old ↦ record { place = old.place; below = omega (arith, old.below); at = old.at }
@@ -174,7 +180,8 @@ module _ (types : List TypeEntry) (vars : List VarEntry) (s : StoreMap) where
   }
 
   -- from the data variables
-  pub reach_init : (old new : Reach) → ((c : CellId) → Has old.left c ↔ IsLive s c) → old.waiting.items ≡ [] → Reaches (IsRootCell types vars s) old new → IsReach types vars s new
+  pub reach_init : (old new : Reach) → ((c : CellId) → Has old.left c ↔ IsLive s c) → old.waiting.items ≡ [] →
+      Reaches (IsRootCell types vars s) old new → IsReach types vars s new
   reach_init old new left none h = record {
     live = λ c l. (left c).0 (h.was_left c l);
     waiting = in_tree;
@@ -190,7 +197,8 @@ module _ (types : List TypeEntry) (vars : List VarEntry) (s : StoreMap) where
       in_tree c w = elim (h.came c w) [ inl m ↦ absurd (empty c m) | inr r ↦ root_tree c r.1 ((left c).0 r.0) ]
 
   -- one cell's children
-  pub reach_step : (old mid new : Reach) (cell : CellId) → mid.left ≡ old.left → old.waiting.items ≡ mid.waiting.items ++ cell ∷ [] → Reaches (IsChild types vars s cell) mid new
+  pub reach_step : (old mid new : Reach) (cell : CellId) → mid.left ≡ old.left → old.waiting.items ≡ mid.waiting.items ++ cell ∷ [] →
+      Reaches (IsChild types vars s cell) mid new
       → IsReach types vars s old → IsReach types vars s new
   reach_step old mid new cell same popped h is = record {
     live = λ c l. is.live c (was c l);
@@ -228,7 +236,8 @@ module _ (types : List TypeEntry) (vars : List VarEntry) (s : StoreMap) where
         | inr new ↦ child_tree cell c cell_tree new.1 (is.live c (subst (λ set. Has set c) same new.0))
       ]
 
-  reached_along : (reach : Reach) → IsReach types vars s reach → reach.waiting.items ≡ [] → {a c : CellId} → Chain s (IsParent types s) a c → (Has reach.left a → ⊥) → Has reach.left c → ⊥
+  reached_along : (reach : Reach) → IsReach types vars s reach → reach.waiting.items ≡ [] → {a c : CellId} →
+      Chain s (IsParent types s) a c → (Has reach.left a → ⊥) → Has reach.left c → ⊥
   reached_along reach is none (stay a live) reached l = reached l
   reached_along reach is none (go a b c step chain) reached l = reached_along reach is none chain (λ m. next m) l
     where
@@ -247,7 +256,8 @@ module _ (types : List TypeEntry) (vars : List VarEntry) (s : StoreMap) where
   }
 
   -- the least that is left leaks first
-  pub first_left : (found : Option CellId) (IsLeft : CellId → Type 0) → ((c : CellId) → IsLeft c → IsLeaked types vars s c) → ((c : CellId) → IsLive s c → IsLeft c ⊎ IsInSomeTree types vars s c)
+  pub first_left : (found : Option CellId) (IsLeft : CellId → Type 0) → ((c : CellId) → IsLeft c → IsLeaked types vars s c) →
+      ((c : CellId) → IsLive s c → IsLeft c ⊎ IsInSomeTree types vars s c)
       → IfSome found (IsFirstCell IsLeft) → IfSome found (IsFirstCell (IsLeaked types vars s))
   first_left None IsLeft leaked reached h = h
   first_left (Some c) IsLeft leaked reached h = record {

@@ -57,7 +57,8 @@ module _ (types : List TypeEntry) (s : StoreMap) (fields : Fields) where
     of_Leaf = λ a b w. test-live types s (IsLeaf types s) (λ c h. h.live) a b ((Walk-Leaf types s fields a b).0 w);
     of_IsType = λ ty a b w. test-live types s (IsOfType s ty) (λ c h. IsSome-and (cell_of s c) _ h) a b ((Walk-IsType types s fields ty a b).0 w);
     of_IsVariant = λ v a b w. test-live types s (IsOfVariant s v) (λ c h. IsSome-and (cell_of s c) _ h) a b ((Walk-IsVariant types s fields v a b).0 w);
-    of_IsBool = λ name truth a b w. test-live types s (HasTruth types s name truth) (λ c h. IsLive-field_value s c h.field _ h.value) a b ((Walk-IsBool types s fields name truth a b).0 w);
+    of_IsBool = λ name truth a b w. test-live types s (HasTruth types s name truth)
+        (λ c h. IsLive-field_value s c h.field _ h.value) a b ((Walk-IsBool types s fields name truth a b).0 w);
     of_Then = λ first second one two a c w. let h = (Walk-Then types s fields first second a c).0 w in ((one a h.0 h.1).0, (two h.0 c h.2).1);
     of_Or = λ one other left right a b w. elim ((Walk-Or types s fields one other a b).0 w) [ inl h ↦ left a b h | inr h ↦ right a b h ];
     of_Star = λ round each a b w. Chain-live each ((Walk-Star types s fields round a b).0 w);

@@ -12,14 +12,11 @@ use Rattle.store_core.specs.Stores.{StoreMap}
 use Rattle.routing_expr.specs.Walks.{Fields, Chain, stay, go as go_round, Walk}
 use Rattle.routing_expr.specs.declared.machine.Edge.{Edge}
 use Rattle.routing_expr.specs.declared.machine.Part.{Part}
-use Rattle.routing_expr.specs.Machines.{Label, live, along, Arc, arc_of, part_of, Takes, Path, stop, go, Means, IsPlan}
+use Rattle.routing_expr.specs.Machines.{Label, live, along, Arc, arc, arc_of, part_of, Takes, Path, stop, go, Means, IsPlan}
 use Rattle.routing_expr.specs.Gathering.{Gathers, HasAll}
 use Rattle.routing_expr.proofs.WalkLemmas.{Walk-Then, Walk-Or, Walk-Star}
 use Rattle.routing_expr.proofs.LiveLemmas.{Walk-live, Chain-live}
 use Rattle.routing_expr.proofs.GatheringLemmas.{Contains-none, Contains-map, map-Contains, Gathers-both, Gathers-first, Gathers-last, Contains-one, Contains-here, Contains-there, Contains-cases}
-
-abbrev pub arc : ℕ → Label → ℕ → Arc
-arc p label q = record { from = p; label = label; to = q }
 
 apart : (m n : ℕ) → m < n → m ≡ n → ⊥
 apart m n below same = absurd (omega arith)
@@ -214,7 +211,10 @@ module _ (whole : Route) (rest now : List Arc) (n : ℕ) where
       to x held = elim (Contains-cases old rest x held) [ inl same ↦ (made x).1 (inr same) | inr there ↦ (made x).1 (inl there) ]
 
       back : (x : Arc) → Contains now x → Contains (old ∷ rest) x
-      back x held = elim ((made x).0 held) [ inl there ↦ Contains-there old rest x there | inr same ↦ subst (λ y. Contains (old ∷ rest) y) (sym same) (Contains-here old rest) ]
+      back x held = elim ((made x).0 held) [
+        | inl there ↦ Contains-there old rest x there
+        | inr same ↦ subst (λ y. Contains (old ∷ rest) y) (sym same) (Contains-here old rest)
+      ]
 
   others : (P : Arc → Type 0) → Gathers rest now P → (x : Arc) → Contains rest x → Contains now x
   others P made x there = (made x).1 (inl there)
@@ -226,7 +226,8 @@ module _ (whole : Route) (rest now : List Arc) (n : ℕ) where
       λ w. forward types s fields (then_arc from to first second) rest now (others _ made)
           (both-there types s fields from to n first second rest now plan.below made) ((plan.means types s fields a b).0 w),
       λ path. (plan.means types s fields a b).1
-          ((both-back types s fields from to n first second rest now plan.below made path (above n 1 plan.two (omega arith))).0 (above n 0 plan.two (omega arith))),
+          ((both-back types s fields from to n first second rest now plan.below made path (above n 1 plan.two (omega arith))).0
+          (above n 0 plan.two (omega arith))),
     );
     two = let two = plan.two in omega arith;
     below = λ x held. elim ((made x).0 held) [
@@ -289,7 +290,8 @@ IsPlan-whole whole = record {
   below = λ x held. inside 2 x (arc 0 (along whole) 1) (Contains-one (arc 0 (along whole) 1) x held) (omega arith, omega arith);
 }
   where
-    ended : (types : List TypeEntry) (s : StoreMap) (fields : Fields) {p : ℕ} {a : CellId} {q : ℕ} {b : CellId} → Path types s fields (arc 0 (along whole) 1 ∷ []) p a q b → p ≡ 1 → a ≡ b
+    ended : (types : List TypeEntry) (s : StoreMap) (fields : Fields) {p : ℕ} {a : CellId} {q : ℕ} {b : CellId} →
+        Path types s fields (arc 0 (along whole) 1 ∷ []) p a q b → p ≡ 1 → a ≡ b
     ended types s fields (stop p a) one = refl
     ended types s fields (go p a x b q c held at takes path) one =
         absurd (zero_one x.from (ap (λ (y : Arc). y.from) (Contains-one (arc 0 (along whole) 1) x held)) (at ∙ one))
@@ -297,7 +299,8 @@ IsPlan-whole whole = record {
         zero_one : (m : ℕ) → m ≡ 0 → m ≡ 1 → ⊥
         zero_one m zero one = absurd (omega arith)
 
-    walked : (types : List TypeEntry) (s : StoreMap) (fields : Fields) {p : ℕ} {a : CellId} {q : ℕ} {b : CellId} → Path types s fields (arc 0 (along whole) 1 ∷ []) p a q b → p ≡ 0 → q ≡ 1 → Walk types s fields whole a b
+    walked : (types : List TypeEntry) (s : StoreMap) (fields : Fields) {p : ℕ} {a : CellId} {q : ℕ} {b : CellId} →
+        Path types s fields (arc 0 (along whole) 1 ∷ []) p a q b → p ≡ 0 → q ≡ 1 → Walk types s fields whole a b
     walked types s fields (stop p a) zero one = absurd (omega arith)
     walked types s fields (go p a x b q c held at takes path) zero one =
         let same = Contains-one (arc 0 (along whole) 1) x held in
@@ -368,7 +371,8 @@ IsPlan-popped whole edges parts rest part n is plan = IsPlan-alike whole _ _ n a
     alike x = (
       λ h. elim ((part-added edges rest parts part is x).0 h) [
         | inl there ↦ Contains-there (part_of part) (map arc_of edges ++ map part_of rest) x there
-        | inr same ↦ subst (λ y. Contains (part_of part ∷ (map arc_of edges ++ map part_of rest)) y) (sym same) (Contains-here (part_of part) (map arc_of edges ++ map part_of rest))
+        | inr same ↦ subst (λ y. Contains (part_of part ∷ (map arc_of edges ++ map part_of rest)) y) (sym same)
+            (Contains-here (part_of part) (map arc_of edges ++ map part_of rest))
       ],
       λ h. elim (Contains-cases (part_of part) (map arc_of edges ++ map part_of rest) x h) [
         | inl same ↦ (part-added edges rest parts part is x).1 (inr same)

@@ -35,7 +35,8 @@ not_back (place.Field c f) (place.Field d g) h k = elim h [
 ]
 
 -- the first of the list of which something is so is the first place of which it is so
-pub first_place : (s : StoreMap) (places : List Place) (IsSo : Place → Type 0) → ((p : Place) → IsSo p → IsThere s p) → ArePlaces s places → (i : ℕ) (e : Place) → i < length places
+pub first_place : (s : StoreMap) (places : List Place) (IsSo : Place → Type 0) → ((p : Place) → IsSo p → IsThere s p) →
+    ArePlaces s places → (i : ℕ) (e : Place) → i < length places
     → ((k : ℕ) (d : Place) → k < i → IsSo (get_or places k d) → ⊥) → IsSo (get_or places i e) → IsFirstPlace IsSo (get_or places i e)
 first_place s places IsSo there are i e within none here = record { here = here; before = before }
   where
@@ -44,7 +45,9 @@ first_place s places IsSo there are i e within none here = record { here = here;
         elim (cases_order stands.0 i) [
           | inl same ↦ not_itself q (subst (λ p. ComesBefore q p) (get_or_default places i e q within ∙ ap (λ k. get_or places k q) (sym same) ∙ stands.2) lt)
           | inr (inl less) ↦ none stands.0 q less (subst IsSo (sym stands.2) so)
-          | inr (inr more) ↦ not_back q (get_or places i e) lt (subst (λ p. ComesBefore (get_or places i e) p) stands.2 (subst (λ p. ComesBefore p (get_or places stands.0 q)) (get_or_default places i q e within) (are.in_order i stands.0 q more stands.1)))
+          | inr (inr more) ↦ not_back q (get_or places i e) lt
+              (subst (λ p. ComesBefore (get_or places i e) p) stands.2
+              (subst (λ p. ComesBefore p (get_or places stands.0 q)) (get_or_default places i q e within) (are.in_order i stands.0 q more stands.1)))
         ]
 
 -- the same list, by what comes to the same
@@ -60,35 +63,44 @@ field_id : (f g : FieldId) → f.ty.0 ≡ g.ty.0 → f.index ≡ g.index → f �
 field_id f g e h = ap (λ (n : ℕ). record { ty = record { 0 = n }; index = f.index }) e ∙ ap (λ (n : ℕ). record { ty = g.ty; index = n }) h
 
 -- a field that a cell has is one of its type
-pub typed : (o : Option CellEntry) (f : FieldId) (ty : TypeId) → IsSome (option_and_then (λ cell. field_of cell f) o) → option_map (λ (cell : CellEntry). cell.variant.ty) o ≡ Some ty → f.ty.0 ≡ ty.0
+pub typed : (o : Option CellEntry) (f : FieldId) (ty : TypeId) → IsSome (option_and_then (λ cell. field_of cell f) o) →
+    option_map (λ (cell : CellEntry). cell.variant.ty) o ≡ Some ty → f.ty.0 ≡ ty.0
 typed None f ty there of = absurd (false≢true there)
 typed (Some cell) f ty there of =
     elim (cases_eq cell.variant.ty.0 f.ty.0) [
       | inl same ↦ let is : cell.variant.ty ≡ ty = cc in sym same ∙ ap (λ (t : TypeId). t.0) is
-      | inr apart ↦ absurd (false≢true (subst (λ t. IsSome (cond t (option_and_then (λ v. v) (slice_get cell.values f.index)) None)) (ne_eqb cell.variant.ty.0 f.ty.0 apart) there))
+      | inr apart ↦ absurd (false≢true (subst (λ t. IsSome (cond t (option_and_then (λ v. v) (slice_get cell.values f.index)) None))
+          (ne_eqb cell.variant.ty.0 f.ty.0 apart) there))
     ]
 
-untyped : (o : Option CellEntry) (f : FieldId) → IsSome (option_and_then (λ cell. field_of cell f) o) → option_map (λ (cell : CellEntry). cell.variant.ty) o ≡ None → ⊥
+untyped : (o : Option CellEntry) (f : FieldId) → IsSome (option_and_then (λ cell. field_of cell f) o) →
+    option_map (λ (cell : CellEntry). cell.variant.ty) o ≡ None → ⊥
 untyped None f there of = absurd (false≢true there)
 untyped (Some cell) f there of = cc
 
 -- a cell without a type has no field
-pub no_field : (s : StoreMap) (c : CellId) → option_map (λ (cell : CellEntry). cell.variant.ty) (cell_of s c) ≡ None → (p : Place) → IsFieldOf c p → IsThere s p → ⊥
+pub no_field : (s : StoreMap) (c : CellId) → option_map (λ (cell : CellEntry). cell.variant.ty) (cell_of s c) ≡ None →
+    (p : Place) → IsFieldOf c p → IsThere s p → ⊥
 no_field s c of (place.Var v) is there = absurd is
 no_field s c of (place.Field d g) is there = untyped (cell_of s c) g (subst (λ e. IsThere s (place.Field e g)) is there) of
 
 -- a field with this number is the one of the cell's type
-pub the_field : (s : StoreMap) (c : CellId) (ty : TypeId) (n : ℕ) → option_map (λ (cell : CellEntry). cell.variant.ty) (cell_of s c) ≡ Some ty → (d : CellId) (g : FieldId)
+pub the_field : (s : StoreMap) (c : CellId) (ty : TypeId) (n : ℕ) → option_map (λ (cell : CellEntry). cell.variant.ty)
+    (cell_of s c) ≡ Some ty → (d : CellId) (g : FieldId)
     → d ≡ c → g.index ≡ n → IsThere s (place.Field d g) → place.Field d g ≡ place.Field c (record { ty = ty; index = n })
 the_field s c ty n of d g is at there =
-    ap (λ e. place.Field e g) is ∙ ap (λ f. place.Field c f) (field_id g (record { ty = ty; index = n }) (typed (cell_of s c) g ty (subst (λ e. IsThere s (place.Field e g)) is there) of) at)
+    ap (λ e. place.Field e g) is ∙ ap (λ f. place.Field c f)
+    (field_id g (record { ty = ty; index = n }) (typed (cell_of s c) g ty (subst (λ e. IsThere s (place.Field e g)) is there) of) at)
 
 -- one field more
-pub fields_step : (s : StoreMap) (c : CellId) (ty : TypeId) (n : ℕ) (Old : Place → Type 0) → option_map (λ (cell : CellEntry). cell.variant.ty) (cell_of s c) ≡ Some ty → (p : Place)
-    → ((Old p ⊎ (IsFieldBelow c n p × IsThere s p)) ⊎ ((p ≡ place.Field c (record { ty = ty; index = n })) × IsThere s p)) ↔ (Old p ⊎ (IsFieldBelow c (n + 1) p × IsThere s p))
+pub fields_step : (s : StoreMap) (c : CellId) (ty : TypeId) (n : ℕ) (Old : Place → Type 0) →
+    option_map (λ (cell : CellEntry). cell.variant.ty) (cell_of s c) ≡ Some ty → (p : Place)
+    → ((Old p ⊎ (IsFieldBelow c n p × IsThere s p)) ⊎ ((p ≡ place.Field c (record { ty = ty; index = n })) × IsThere s p)) ↔
+    (Old p ⊎ (IsFieldBelow c (n + 1) p × IsThere s p))
 fields_step s c ty n Old of p = (forth, back)
   where
-    forth : ((Old p ⊎ (IsFieldBelow c n p × IsThere s p)) ⊎ ((p ≡ place.Field c (record { ty = ty; index = n })) × IsThere s p)) → (Old p ⊎ (IsFieldBelow c (n + 1) p × IsThere s p))
+    forth : ((Old p ⊎ (IsFieldBelow c n p × IsThere s p)) ⊎ ((p ≡ place.Field c (record { ty = ty; index = n })) × IsThere s p)) →
+        (Old p ⊎ (IsFieldBelow c (n + 1) p × IsThere s p))
     forth (inl (inl old)) = inl old
     forth (inl (inr below)) = inr (wider p below.0, below.1)
       where
@@ -99,9 +111,13 @@ fields_step s c ty n Old of p = (forth, back)
 
     new : (p : Place) → IsFieldBelow c (n + 1) p → IsThere s p → IsFieldBelow c n p ⊎ (p ≡ place.Field c (record { ty = ty; index = n }))
     new (place.Var v) h there = absurd h
-    new (place.Field d g) h there = elim (cases_lt g.index n) [ inl less ↦ inl (h.0, less) | inr more ↦ inr (the_field s c ty n of d g h.0 (omega (arith, h.1)) there) ]
+    new (place.Field d g) h there = elim (cases_lt g.index n) [
+      | inl less ↦ inl (h.0, less)
+      | inr more ↦ inr (the_field s c ty n of d g h.0 (omega (arith, h.1)) there)
+    ]
 
-    back : (Old p ⊎ (IsFieldBelow c (n + 1) p × IsThere s p)) → ((Old p ⊎ (IsFieldBelow c n p × IsThere s p)) ⊎ ((p ≡ place.Field c (record { ty = ty; index = n })) × IsThere s p))
+    back : (Old p ⊎ (IsFieldBelow c (n + 1) p × IsThere s p)) →
+        ((Old p ⊎ (IsFieldBelow c n p × IsThere s p)) ⊎ ((p ≡ place.Field c (record { ty = ty; index = n })) × IsThere s p))
     back (inl old) = inl (inl old)
     back (inr below) = elim (new p below.0 below.1) [ inl h ↦ inl (inr (h, below.1)) | inr is ↦ inr (is, below.1) ]
 
@@ -121,13 +137,15 @@ inside true xs i h = flat_within xs i h
 inside false xs i h = absurd (false≢true h)
 
 -- a field that a fitting cell has is one of its type's
-field_within : (types : List TypeEntry) (s : StoreMap) (o : Option CellEntry) (f : FieldId) (ty : TypeId) → IfSome o (CellFits types s) → option_map (λ (cell : CellEntry). cell.variant.ty) o ≡ Some ty
+field_within : (types : List TypeEntry) (s : StoreMap) (o : Option CellEntry) (f : FieldId) (ty : TypeId) →
+    IfSome o (CellFits types s) → option_map (λ (cell : CellEntry). cell.variant.ty) o ≡ Some ty
     → IsSome (option_and_then (λ cell. field_of cell f) o) → f.index < length (fields_of types ty)
 field_within types s None f ty fits of there = absurd (false≢true there)
 field_within types s (Some cell) f ty fits of there =
     let is : cell.variant.ty ≡ ty = cc in
     subst (λ t. f.index < length (fields_of types t)) is
-    (subst (λ n. f.index < n) (sym (slots_length s cell.variant.index (fields_of types cell.variant.ty) cell.values fits.values)) (inside (nat_eq cell.variant.ty.0 f.ty.0) cell.values f.index there))
+    (subst (λ n. f.index < n) (sym (slots_length s cell.variant.index (fields_of types cell.variant.ty) cell.values fits.values))
+    (inside (nat_eq cell.variant.ty.0 f.ty.0) cell.values f.index there))
 
 -- all fields of the cell
 pub fields_all : (types : List TypeEntry) (s : StoreMap) (c : CellId) (ty : TypeId) (n : ℕ) (Old : Place → Type 0) → IfSome (cell_of s c) (CellFits types s)
@@ -160,10 +178,13 @@ before_field c f (place.Field d g) (inr both) = inr (ap (λ (e : CellId). e.0) b
 -- ---- the variables
 
 -- one variable more, with the next number
-pub vars_step : (places : List Place) (n : ℕ) (p : Place) → p ≡ place.Var (record { 0 = n }) → IsListing (IsVarBelow n) places → IsListing (IsVarBelow (n + 1)) (places ++ p ∷ [])
+pub vars_step : (places : List Place) (n : ℕ) (p : Place) → p ≡ place.Var (record { 0 = n }) → IsListing (IsVarBelow n) places →
+    IsListing (IsVarBelow (n + 1)) (places ++ p ∷ [])
 vars_step places n p is h = record {
   members = λ q. (λ m. forth q (Contains-push_cases places p q m), λ b. back q b);
-  in_order = all_pairs_push ComesBefore places p h.in_order (λ k d within. subst (λ q. ComesBefore (get_or places k d) q) (sym is) (before (get_or places k d) ((h.members (get_or places k d)).0 (Contains-get_or places k d within))));
+  in_order = all_pairs_push ComesBefore places p h.in_order
+      (λ k d within. subst (λ q. ComesBefore (get_or places k d) q) (sym is)
+      (before (get_or places k d) ((h.members (get_or places k d)).0 (Contains-get_or places k d within))));
 }
   where
     wider : (q : Place) → IsVarBelow n q → IsVarBelow (n + 1) q
@@ -175,11 +196,18 @@ vars_step places n p is h = record {
     forth q (inr same) = subst (IsVarBelow (n + 1)) (sym is ∙ same) (omega arith)
 
     new : (q : Place) → IsVarBelow (n + 1) q → IsVarBelow n q ⊎ (p ≡ q)
-    new (place.Var v) b = elim (cases_lt v.0 n) [ inl less ↦ inl less | inr more ↦ let same : n ≡ v.0 = omega arith in inr (is ∙ ap (λ (m : ℕ). place.Var (record { 0 = m })) same) ]
+    new (place.Var v) b = elim (cases_lt v.0 n) [
+      | inl less ↦ inl less
+      | inr more ↦ let same : n ≡ v.0 = omega arith in
+          inr (is ∙ ap (λ (m : ℕ). place.Var (record { 0 = m })) same)
+    ]
     new (place.Field d g) b = absurd b
 
     back : (q : Place) → IsVarBelow (n + 1) q → Contains (places ++ p ∷ []) q
-    back q b = elim (new q b) [ inl old ↦ Contains-append_left places (p ∷ []) q ((h.members q).1 old) | inr same ↦ subst (λ r. Contains (places ++ p ∷ []) r) same (Contains-push places p) ]
+    back q b = elim (new q b) [
+      | inl old ↦ Contains-append_left places (p ∷ []) q ((h.members q).1 old)
+      | inr same ↦ subst (λ r. Contains (places ++ p ∷ []) r) same (Contains-push places p)
+    ]
 
     before : (q : Place) → IsVarBelow n q → ComesBefore q (place.Var (record { 0 = n }))
     before (place.Var v) b = b
@@ -203,7 +231,8 @@ known (x ∷ xs) zero h = refl
 known (x ∷ xs) (suc i) h = known xs i (omega arith)
 
 -- the variables are the places of no cell
-pub vars_all : (s : StoreMap) (vars : List VarEntry) (n : ℕ) → VarsFit s vars s.vars → n ≡ length vars → (p : Place) → IsVarBelow n p ↔ (IsOfFirst s 0 p × IsThere s p)
+pub vars_all : (s : StoreMap) (vars : List VarEntry) (n : ℕ) → VarsFit s vars s.vars → n ≡ length vars → (p : Place) →
+    IsVarBelow n p ↔ (IsOfFirst s 0 p × IsThere s p)
 vars_all s vars n fits all (place.Var v) = (
   λ b. (tt, known s.vars v.0 (omega (arith, vars_length s vars s.vars fits))),
   λ h. let w = within s.vars v.0 h.1 in omega (arith, vars_length s vars s.vars fits),
@@ -240,9 +269,11 @@ there_live None f h = absurd (false≢true h)
 there_live (Some cell) f h = refl
 
 -- all places
-pub places_all : (s : StoreMap) (places : List Place) (n : ℕ) → length (keys s.cells) ≤ n → IsListing (λ p. IsOfFirst s n p × IsThere s p) places → ArePlaces s places
+pub places_all : (s : StoreMap) (places : List Place) (n : ℕ) → length (keys s.cells) ≤ n →
+    IsListing (λ p. IsOfFirst s n p × IsThere s p) places → ArePlaces s places
 places_all s places n all h = record { complete = λ p there. (h.members p).1 (first p there, there); in_order = h.in_order }
   where
     first : (p : Place) → IsThere s p → IsOfFirst s n p
     first (place.Var v) there = tt
-    first (place.Field d g) there = let at = key_of_live s d (there_live (cell_of s d) g there) in (at.0, omega (arith, slice_get_within (keys s.cells) at.0 d.0 at.1), at.1)
+    first (place.Field d g) there = let at = key_of_live s d (there_live (cell_of s d) g there) in
+        (at.0, omega (arith, slice_get_within (keys s.cells) at.0 d.0 at.1), at.1)

@@ -130,7 +130,8 @@ module _ (types : List TypeEntry) (to from : CellId → CellId) (s t : StoreMap)
   VarFits-renamed var.LogicBool (value.Cell b) y e k = absurd k
   VarFits-renamed var.LogicBool (value.Cells b) y e k = absurd k
 
-  SlotsFit-renamed : (index : ℕ) (fs : List FieldEntry) (xs ys : List (Option Value)) → Pairwise (RenamesSlot to) xs ys → SlotsFit s index fs xs → SlotsFit t index fs ys
+  SlotsFit-renamed : (index : ℕ) (fs : List FieldEntry) (xs ys : List (Option Value)) → Pairwise (RenamesSlot to) xs ys →
+      SlotsFit s index fs xs → SlotsFit t index fs ys
   SlotsFit-renamed index [] [] [] e k = tt
   SlotsFit-renamed index [] [] (y ∷ ys) e k = absurd e
   SlotsFit-renamed index [] (x ∷ xs) ys e k = absurd k
@@ -262,7 +263,8 @@ module _ (types : List TypeEntry) (to from : CellId → CellId) (s t : StoreMap)
   dest_from : (c : CellId) (f : FieldId) (d : CellId) → Dest types t (to c) f d → Dest types s c f (from d)
   dest_from c f d e = Dest-back c f (from d) (subst (λ x. Dest types t (to c) f x) (sym (h.inverse.forth d)) e)
 
-  IsOnlyDestination-renamed : (c : CellId) (f : FieldId) (x y : Value) → RenamesValue to x y → IsOnlyDestination types s c f x → IsOnlyDestination types t (to c) f y
+  IsOnlyDestination-renamed : (c : CellId) (f : FieldId) (x y : Value) → RenamesValue to x y → IsOnlyDestination types s c f x →
+      IsOnlyDestination types t (to c) f y
   IsOnlyDestination-renamed c f (value.Bool b) y e k = absurd k
   IsOnlyDestination-renamed c f (value.Cell None) (value.Bool d) e k = absurd e
   IsOnlyDestination-renamed c f (value.Cell None) (value.Cell other) e k =
@@ -286,10 +288,12 @@ module _ (types : List TypeEntry) (to from : CellId → CellId) (s t : StoreMap)
   IsBackbone-renamed : (vars : List VarEntry) → IsBackbone types vars s → IsBackbone types vars t
   unfolding old_place
   IsBackbone-renamed vars backbone = record {
-    cell_vars = λ v. IfSome-map (var_at vars v) _ _ (λ entry k. var_kept types to from s t h _ _ (VarHoldsLive-renamed types to from s t h entry.kind) v k) (backbone.cell_vars v);
+    cell_vars = λ v. IfSome-map (var_at vars v) _ _
+        (λ entry k. var_kept types to from s t h _ _ (VarHoldsLive-renamed types to from s t h entry.kind) v k) (backbone.cell_vars v);
     data_fields = λ c f. everywhere types to from s t h (λ c. IfSome (field_at types f) (λ entry. IfSome (field_value t c f) (FieldHoldsLive t entry.kind)))
         (λ c. IfSome-map (field_at types f) _ _
-        (λ entry k. slot_kept types to from s t h _ _ (FieldHoldsLive-renamed types to from s t h entry.kind) (field_value s c f) (field_value t (to c) f) (field_value-renamed to from s t h c f) k)
+        (λ entry k. slot_kept types to from s t h _ _ (FieldHoldsLive-renamed types to from s t h entry.kind) (field_value s c f)
+        (field_value t (to c) f) (field_value-renamed to from s t h c f) k)
         (backbone.data_fields c f)) c;
     named_once = λ c p q live one other.
         sym (place_forth p) ∙ ap (new_place types to from s t h)
@@ -306,8 +310,10 @@ module _ (types : List TypeEntry) (to from : CellId → CellId) (s t : StoreMap)
     fits = Fits-renamed types to from s t h vars wf.fits;
     backbone = IsBackbone-renamed vars wf.backbone;
     pointers = λ c f pointer. everywhere types to from s t h (λ c. IfSome (field_value t c f) (IsOnlyDestination types t c f))
-        (λ c. slot_kept types to from s t h _ _ (IsOnlyDestination-renamed c f) (field_value s c f) (field_value t (to c) f) (field_value-renamed to from s t h c f) (wf.pointers c f pointer)) c;
-    sets = λ v. IfSome-map (var_at vars v) _ _ (λ entry k. var_kept types to from s t h _ _ (SetHoldsLive-renamed types to from s t h entry.kind) v k) (wf.sets v);
+        (λ c. slot_kept types to from s t h _ _ (IsOnlyDestination-renamed c f) (field_value s c f) (field_value t (to c) f)
+        (field_value-renamed to from s t h c f) (wf.pointers c f pointer)) c;
+    sets = λ v. IfSome-map (var_at vars v) _ _
+        (λ entry k. var_kept types to from s t h _ _ (SetHoldsLive-renamed types to from s t h entry.kind) v k) (wf.sets v);
   }
 
 pub GoesAlong-renamed : (types : List TypeEntry) (s t : StoreMap) (to from : CellId → CellId) → IsRenamed to from s t → GoesAlong types to s t

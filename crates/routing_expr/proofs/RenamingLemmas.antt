@@ -97,7 +97,8 @@ module _ (to : CellId → CellId) where
   RenamesEntry-live (Some cell) None h live = absurd h
   RenamesEntry-live (Some cell) (Some other) h live = refl
 
-  RenamesEntry-variant : (P : VariantId → Type 0) (o p : Option CellEntry) → RenamesEntry to o p → IsSomeAnd o (λ cell. P cell.variant) → IsSomeAnd p (λ cell. P cell.variant)
+  RenamesEntry-variant : (P : VariantId → Type 0) (o p : Option CellEntry) → RenamesEntry to o p →
+      IsSomeAnd o (λ cell. P cell.variant) → IsSomeAnd p (λ cell. P cell.variant)
   RenamesEntry-variant P None p h is = absurd is
   RenamesEntry-variant P (Some cell) None h is = absurd h
   RenamesEntry-variant P (Some cell) (Some other) h is = subst P (sym h.variant) is
@@ -108,7 +109,8 @@ module _ (to : CellId → CellId) where
 
   field_of-renamed : (f : FieldId) (cell other : CellEntry) → RenamesCell to cell other → RenamesSlot to (field_of cell f) (field_of other f)
   field_of-renamed f cell other h =
-      subst (λ (v : VariantId). RenamesSlot to (field_of cell f) (if v.ty.0 == f.ty.0 then option_and_then (λ v. v) (slice_get other.values f.index) else None)) (sym h.variant)
+      subst (λ (v : VariantId). RenamesSlot to (field_of cell f)
+      (if v.ty.0 == f.ty.0 then option_and_then (λ v. v) (slice_get other.values f.index) else None)) (sym h.variant)
       (slot_if (cell.variant.ty.0 == f.ty.0) _ _ (RenamesSlot-at to cell.values other.values f.index h.values))
 
   field_value-entry : (f : FieldId) (o p : Option CellEntry) → RenamesEntry to o p →

@@ -39,7 +39,8 @@ module _ (types : List TypeEntry) (vars : List VarEntry) (s : StoreMap) where
 
   module _ (places : List Place) where
     -- one place more
-    pub below_step : (n : ℕ) (p : Place) → slice_get places n ≡ Some p → (c : CellId) → (IsNamedBelow types vars s places n c ⊎ NamesLive types vars s p c) ↔ IsNamedBelow types vars s places (n + 1) c
+    pub below_step : (n : ℕ) (p : Place) → slice_get places n ≡ Some p → (c : CellId) →
+        (IsNamedBelow types vars s places n c ⊎ NamesLive types vars s p c) ↔ IsNamedBelow types vars s places (n + 1) c
     below_step n p at c = (
       λ h. elim h [
         | inl old ↦ record { place = old.place; below = omega (arith, old.below); names = old.names }
@@ -54,7 +55,8 @@ module _ (types : List TypeEntry) (vars : List VarEntry) (s : StoreMap) where
     )
 
     pub twice_step : (n : ℕ) (p : Place) → slice_get places n ≡ Some p → (c : CellId)
-        → (IsNamedTwiceBelow types vars s places n c ⊎ (NamesLive types vars s p c × IsNamedBelow types vars s places n c)) ↔ IsNamedTwiceBelow types vars s places (n + 1) c
+        → (IsNamedTwiceBelow types vars s places n c ⊎ (NamesLive types vars s p c × IsNamedBelow types vars s places n c)) ↔
+        IsNamedTwiceBelow types vars s places (n + 1) c
     twice_step n p at c = (
       λ h. elim h [
         | inl old ↦ record { place = old.place; below = omega (arith, old.below); names = old.names; before = old.before }
@@ -64,7 +66,11 @@ module _ (types : List TypeEntry) (vars : List VarEntry) (s : StoreMap) where
         | inl less ↦ inl (record { place = h.place; below = less; names = h.names; before = h.before })
         | inr more ↦
             let here : h.place ≡ n = omega (arith, h.below) in
-            inr (subst (λ o. IsSomeAnd o (λ q. NamesLive types vars s q c)) at (subst (λ k. NamesAt types vars s places k c) here h.names), subst (λ k. IsNamedBelow types vars s places k c) here h.before)
+            inr (
+              subst (λ o. IsSomeAnd o (λ q. NamesLive types vars s q c)) at
+                  (subst (λ k. NamesAt types vars s places k c) here h.names),
+              subst (λ k. IsNamedBelow types vars s places k c) here h.before,
+            )
       ],
     )
 
@@ -72,7 +78,8 @@ module _ (types : List TypeEntry) (vars : List VarEntry) (s : StoreMap) where
     at_number : (k : ℕ) (c : CellId) → NamesAt types vars s places k c → (p : Place) × (slice_get places k ≡ Some p) × NamesLive types vars s p c
     at_number k c h = opened (slice_get places k) refl h
       where
-        opened : (o : Option Place) → slice_get places k ≡ o → IsSomeAnd o (λ p. NamesLive types vars s p c) → (p : Place) × (slice_get places k ≡ Some p) × NamesLive types vars s p c
+        opened : (o : Option Place) → slice_get places k ≡ o → IsSomeAnd o (λ p. NamesLive types vars s p c) → (p : Place) ×
+            (slice_get places k ≡ Some p) × NamesLive types vars s p c
         opened None is h = absurd h
         opened (Some p) is h = (p, is, h)
 
@@ -83,7 +90,8 @@ module _ (types : List TypeEntry) (vars : List VarEntry) (s : StoreMap) where
     named_at : (k : ℕ) (p : Place) (c : CellId) → IsLive s c → Names types vars s p c → slice_get places k ≡ Some p → NamesAt types vars s places k c
     named_at k p c live names at = subst (λ o. IsSomeAnd o (λ q. NamesLive types vars s q c)) (sym at) (record { live = live; names = names })
 
-    two_of : (n i j : ℕ) (p q : Place) (c : CellId) → IsLive s c → Names types vars s p c → Names types vars s q c → slice_get places i ≡ Some p → slice_get places j ≡ Some q → i < j → length places ≤ n
+    two_of : (n i j : ℕ) (p q : Place) (c : CellId) → IsLive s c → Names types vars s p c → Names types vars s q c →
+        slice_get places i ≡ Some p → slice_get places j ≡ Some q → i < j → length places ≤ n
         → IsNamedTwiceBelow types vars s places n c
     two_of n i j p q c live by_p by_q at_i at_j less all = record {
       place = j;

@@ -65,7 +65,8 @@ module _ {K : Type 0} (eq : K → K → Bool) (same : (x y : K) → eq x y ≡ t
         end = nothing ks;
         members = λ x. (inl, λ either. elim either [ inl there ↦ there | inr new ↦ subst (λ y. Contains ks y) (sym new) (Contains-list_any eq same ks k e) ]);
       })
-      by false e = subst (λ l. Grows ks l (λ x. x ≡ k)) (sym (ap (λ c. if c then ks else ks ++ k ∷ []) e)) (record { more = k ∷ []; end = refl; members = Gathers-push ks k })
+      by false e = subst (λ l. Grows ks l (λ x. x ≡ k)) (sym (ap (λ c. if c then ks else ks ++ k ∷ []) e))
+          (record { more = k ∷ []; end = refl; members = Gathers-push ks k })
 
 -- ---- spots place by place
 
@@ -107,7 +108,8 @@ module _ (types : List TypeEntry) (s : StoreMap) (fields : Fields) where
         (h.place ∙ ap (λ (e : Edge). e.to) same, subst (λ (e : Edge). Takes types s fields (label_of e.step) from x.cell) same h.takes),
   )
 
-  pub EdgeSpot-all : (all edges : List Edge) (x : Spot) (n : ℕ) → length edges ≤ n → HasAll (map arc_of edges) (λ a. Contains (map arc_of all) a × (a.from ≡ x.place)) →
+  pub EdgeSpot-all : (all edges : List Edge) (x : Spot) (n : ℕ) → length edges ≤ n → HasAll (map arc_of edges)
+      (λ a. Contains (map arc_of all) a × (a.from ≡ x.place)) →
       (y : Spot) → Before (EdgeSpot types s fields edges x.cell) n y ↔ Follows types s fields (map arc_of all) x y
   EdgeSpot-all all edges x n enough from y = (
     λ h.
@@ -157,14 +159,16 @@ module _ (types : List TypeEntry) (s : StoreMap) (fields : Fields) (arcs : List 
     sound = λ y there. elim ((grows.members y).0 there) [
       | inl old ↦ h.sound y old
       | inr new ↦ Path-then types s fields (h.sound x (Contains-at found n x at))
-          (go x.place x.cell new.arc y.cell y.place y.cell new.held new.from new.takes (subst (λ p. Path types s fields arcs p y.cell y.place y.cell) (sym new.to) (stop y.place y.cell)))
+          (go x.place x.cell new.arc y.cell y.place y.cell new.held new.from new.takes
+          (subst (λ p. Path types s fields arcs p y.cell y.place y.cell) (sym new.to) (stop y.place y.cell)))
     ];
     closed = λ i y z below there follows.
         let within : n < length found = slice_get_within found n x at in
         let before : slice_get found i ≡ Some y = sym (prefix found grows.more i (omega arith)) ∙ sym (ap (λ l. slice_get l i) grows.end) ∙ there in
         elim (below_suc i n below) [
           | inl less ↦ (grows.members z).1 (inl (h.closed i y z less before follows))
-          | inr same ↦ (grows.members z).1 (inr (subst (λ w. Follows types s fields arcs w z) (same_Some y x (sym before ∙ ap (λ k. slice_get found k) same ∙ at)) follows))
+          | inr same ↦ (grows.members z).1 (inr (subst (λ w. Follows types s fields arcs w z)
+              (same_Some y x (sym before ∙ ap (λ k. slice_get found k) same ∙ at)) follows))
         ];
   }
 
@@ -191,7 +195,8 @@ pub record SpotCell (spots : List Spot) (P : Spot → Type 0) (i : ℕ) (d : Cel
   pub passes : P spot_at
   pub is : d ≡ spot_at.cell
 
-pub SpotCell-one : (spots : List Spot) (P : Spot → Type 0) (i : ℕ) (x : Spot) → slice_get spots i ≡ Some x → P x → (d : CellId) → (d ≡ x.cell) ↔ SpotCell spots P i d
+pub SpotCell-one : (spots : List Spot) (P : Spot → Type 0) (i : ℕ) (x : Spot) → slice_get spots i ≡ Some x → P x → (d : CellId) →
+    (d ≡ x.cell) ↔ SpotCell spots P i d
 SpotCell-one spots P i x at passes d = (
   λ is. record { spot_at = x; at = at; passes = passes; is = is },
   λ h. h.is ∙ ap (λ (y : Spot). y.cell) (same_Some h.spot_at x (sym h.at ∙ at)),
@@ -220,7 +225,8 @@ all-weaker P Q weaker [] all = tt
 all-weaker P Q weaker (x ∷ xs) all = (weaker x all.0, all-weaker P Q weaker xs all.1)
 
 -- all are below what the last one is below
-pub below-last : (cells : List CellId) (last : CellId) (n : ℕ) → AreRising cells → slice_get cells (length cells - 1) ≡ Some last → last.0 < n → AllByRecursion (λ d. d.0 < n) cells
+pub below-last : (cells : List CellId) (last : CellId) (n : ℕ) → AreRising cells → slice_get cells (length cells - 1) ≡ Some last →
+    last.0 < n → AllByRecursion (λ d. d.0 < n) cells
 below-last [] last n rising at less = tt
 below-last (c ∷ []) last n rising at less = let same = ap (λ (x : CellId). x.0) (same_Some c last at) in (omega arith, tt)
 below-last (c ∷ d ∷ cells) last n rising at less =
@@ -235,7 +241,8 @@ pub all-from : {X : Type 0} (P : X → Type 0) (xs : List X) → ((x : X) → Co
 all-from P [] each = tt
 all-from P (x ∷ xs) each = (each x (Contains-here x xs), all-from P xs (λ y there. each y (Contains-there x xs y there)))
 
-pub Lists-push : (cells : List CellId) (cell : CellId) → AreRising cells → AllByRecursion (λ d. d.0 < cell.0) cells → Lists (λ d. Contains cells d ⊎ (d ≡ cell)) (cells ++ cell ∷ [])
+pub Lists-push : (cells : List CellId) (cell : CellId) → AreRising cells → AllByRecursion (λ d. d.0 < cell.0) cells →
+    Lists (λ d. Contains cells d ⊎ (d ≡ cell)) (cells ++ cell ∷ [])
 Lists-push cells cell rising below = record { rising = AreRising-push cells cell rising below; members = Gathers-push cells cell }
 
 pub Lists-kept : (cells : List CellId) (cell : CellId) → AreRising cells → Contains cells cell → Lists (λ d. Contains cells d ⊎ (d ≡ cell)) cells
@@ -249,9 +256,13 @@ abbrev pub FirstCell : List CellId → ℕ → CellId → Type 0
 FirstCell cells i d = slice_get cells i ≡ Some d
 
 pub Lists-alike : (P Q : CellId → Type 0) (cells : List CellId) → ((d : CellId) → P d ↔ Q d) → Lists P cells → Lists Q cells
-Lists-alike P Q cells alike h = record { rising = h.rising; members = λ d. (λ there. (alike d).0 ((h.members d).0 there), λ q. (h.members d).1 ((alike d).1 q)) }
+Lists-alike P Q cells alike h = record {
+  rising = h.rising;
+  members = λ d. (λ there. (alike d).0 ((h.members d).0 there), λ q. (h.members d).1 ((alike d).1 q));
+}
 
-pub Lists-next : (cells : List CellId) (n : ℕ) (cell : CellId) (old now : List CellId) → slice_get cells n ≡ Some cell → Lists (Before (FirstCell cells) n) old →
+pub Lists-next : (cells : List CellId) (n : ℕ) (cell : CellId) (old now : List CellId) → slice_get cells n ≡ Some cell →
+    Lists (Before (FirstCell cells) n) old →
     Lists (λ d. Contains old d ⊎ (d ≡ cell)) now → Lists (Before (FirstCell cells) (n + 1)) now
 Lists-next cells n cell old now at before after = Lists-alike (λ d. Contains old d ⊎ (d ≡ cell)) (Before (FirstCell cells) (n + 1)) now alike after
   where
@@ -268,7 +279,8 @@ Lists-next cells n cell old now at before after = Lists-alike (λ d. Contains ol
     )
 
 -- those before a place have no greater numbers
-pub first-below : (cells : List CellId) (n : ℕ) (cell : CellId) (old : List CellId) → slice_get cells n ≡ Some cell → IsNonDecreasingBy (λ (c : CellId). c.0) cells →
+pub first-below : (cells : List CellId) (n : ℕ) (cell : CellId) (old : List CellId) → slice_get cells n ≡ Some cell →
+    IsNonDecreasingBy (λ (c : CellId). c.0) cells →
     Lists (Before (FirstCell cells) n) old → AllByRecursion (λ d. d.0 ≤ cell.0) old
 first-below cells n cell old at rising before = all-from (λ d. d.0 ≤ cell.0) old (λ d there.
     let h = (before.members d).0 there in
@@ -286,7 +298,8 @@ Lists-none cells = record {
 }
 
 -- after the last one these are all cells of a list that was put in order
-pub Lists-all : (cells sorted : List CellId) (n : ℕ) (now : List CellId) → IsPermutation cells sorted → length sorted ≤ n → Lists (Before (FirstCell sorted) n) now → Lists (Contains cells) now
+pub Lists-all : (cells sorted : List CellId) (n : ℕ) (now : List CellId) → IsPermutation cells sorted → length sorted ≤ n →
+    Lists (Before (FirstCell sorted) n) now → Lists (Contains cells) now
 Lists-all cells sorted n now order enough h = Lists-alike (Before (FirstCell sorted) n) (Contains cells) now alike h
   where
     alike : (d : CellId) → Before (FirstCell sorted) n d ↔ Contains cells d
@@ -319,7 +332,8 @@ OnOk-pushed (Err e) cells now cell is rising below = tt
 
 -- ---- from spots to walks
 
-pub at-end : (types : List TypeEntry) (s : StoreMap) (fields : Fields) (along : Route) (arcs : List Arc) (from : CellId) (found : List Spot) → Means along arcs →
+pub at-end : (types : List TypeEntry) (s : StoreMap) (fields : Fields) (along : Route) (arcs : List Arc) (from : CellId)
+    (found : List Spot) → Means along arcs →
     HasAll found (λ x. Path types s fields arcs 0 from x.place x.cell) → (d : CellId) → Contains found (spot 1 d) ↔ Walk types s fields along from d
 at-end types s fields along arcs from found means all d = (
   λ there. (means types s fields from d).1 ((all (spot 1 d)).0 there),

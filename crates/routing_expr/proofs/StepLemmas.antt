@@ -1,5 +1,5 @@
 -- Where single steps lead, by names and by the index of links.
-use Rattle.std.proofs.Common.{◌≡◌, ◌↔◌, ◌<◌, ◌≤◌, ℕ, Bool, true, false, IsTrue, Result, Ok, Err, IfOk, List, [], length, get_or, Option, Some, None, IsSomeAnd, refl, sym, ap, ◌∙◌, subst, arith, slice_get, Contains}
+use Rattle.std.proofs.Common.{◌≡◌, ◌↔◌, ◌<◌, ◌≤◌, ℕ, Bool, true, false, IsTrue, Result, Ok, Err, IfOk, List, [], ◌∷◌, ◌++◌, length, get_or, Option, Some, None, IsSomeAnd, refl, sym, ap, ◌∙◌, subst, arith, slice_get, Contains}
 use Rattle.std.specs.Option.{option_map, option_map_or}
 use Rattle.std.specs.Str.{bytes_eq}
 use Rattle.std.proofs.lemmas.Option.{slice_get_within, slice_get-get_or, slice_get-map, same_Some}
@@ -21,9 +21,9 @@ use Rattle.routing_expr.specs.declared.machine.Test.TheVariants as test
 use Rattle.routing_expr.specs.Machines.{label_of_test, Takes}
 use Rattle.routing_expr.proofs.WalkLemmas.{Walk-Root, Walk-Leaf, Walk-IsType, Walk-IsVariant, Walk-IsBool}
 use Rattle.routing_expr.specs.Walks.{Fields, Stays, DataAlone, IsFollowed, Leads, LeadsByName, IsParent, IsNamed}
-use Rattle.routing_expr.specs.Gathering.{HasAll, Before}
+use Rattle.routing_expr.specs.Gathering.{Gathers, HasAll, Before}
 use Rattle.routing_expr.specs.Searches.{IsLink}
-use Rattle.routing_expr.proofs.GatheringLemmas.{Contains-at, place_in}
+use Rattle.routing_expr.proofs.GatheringLemmas.{Contains-at, place_in, Gathers-none, Gathers-push, Gathers-alike}
 
 -- ---- names
 
@@ -45,9 +45,11 @@ named-known types f P h = by (type_at types f.ty) refl h
     by None at h = absurd h
     by (Some t) at h = slice_get_within types f.ty.0 t at
 
-named-there : (types : List TypeEntry) (ty : TypeId) (name : List ℕ) (i : ℕ) → IsTypeTable types → IsSomeAnd (slice_get (fields_of types ty) i) (λ entry. entry.name ≡ name) →
+named-there : (types : List TypeEntry) (ty : TypeId) (name : List ℕ) (i : ℕ) → IsTypeTable types →
+    IsSomeAnd (slice_get (fields_of types ty) i) (λ entry. entry.name ≡ name) →
     place_of name (field_names (fields_of types ty)) ≡ Some i
-named-there types ty name i table h = place_of-at (field_names (fields_of types ty)) i name (distinct_fields types ty table) (slice_get-map name_of (fields_of types ty) i ∙ by (slice_get (fields_of types ty) i) h)
+named-there types ty name i table h = place_of-at (field_names (fields_of types ty)) i name (distinct_fields types ty table)
+    (slice_get-map name_of (fields_of types ty) i ∙ by (slice_get (fields_of types ty) i) h)
   where
     by : (o : Option FieldEntry) → IsSomeAnd o (λ entry. entry.name ≡ name) → option_map name_of o ≡ Some name
     by None h = absurd h
@@ -57,7 +59,8 @@ named-back : (types : List TypeEntry) (ty : TypeId) (name : List ℕ) (i : ℕ) 
     IsSomeAnd (slice_get (fields_of types ty) i) (λ entry. entry.name ≡ name)
 named-back types ty name i at =
     let found = position-Some (bytes_eq name) (field_names (fields_of types ty)) i name at in
-    by (slice_get (fields_of types ty) i) (sym (slice_get-map name_of (fields_of types ty) i) ∙ slice_get-get_or (field_names (fields_of types ty)) i name found.0) found.1
+    by (slice_get (fields_of types ty) i) (sym (slice_get-map name_of (fields_of types ty) i) ∙ slice_get-get_or
+    (field_names (fields_of types ty)) i name found.0) found.1
   where
     same_name : (xs ys : List ℕ) → bytes_eq xs ys ≡ true → xs ≡ ys
     same_name xs ys e = decided (bytes_eq xs ys) e (bytes_eq-Decides xs ys)
@@ -66,16 +69,20 @@ named-back types ty name i at =
         decided true e d = d.0 refl
         decided false e d = absurd (cc)
 
-    by : (o : Option FieldEntry) → option_map name_of o ≡ Some (get_or (field_names (fields_of types ty)) i name) → bytes_eq name (get_or (field_names (fields_of types ty)) i name) ≡ true →
+    by : (o : Option FieldEntry) → option_map name_of o ≡ Some (get_or (field_names (fields_of types ty)) i name) →
+        bytes_eq name (get_or (field_names (fields_of types ty)) i name) ≡ true →
         IsSomeAnd o (λ entry. entry.name ≡ name)
     by None at test = absurd (cc)
-    by (Some entry) at test = same_Some entry.name (get_or (field_names (fields_of types ty)) i name) at ∙ sym (same_name name (get_or (field_names (fields_of types ty)) i name) test)
+    by (Some entry) at test = same_Some entry.name (get_or (field_names (fields_of types ty)) i name) at ∙
+        sym (same_name name (get_or (field_names (fields_of types ty)) i name) test)
 
 -- the field that is found by a name is the one that has it
-pub named : (types : List TypeEntry) (ty : TypeId) (name : List ℕ) → IsTypeTable types → (f : FieldId) → (field_named types ty name ≡ Some f) ↔ ((f.ty ≡ ty) × IsNamed types f name)
+pub named : (types : List TypeEntry) (ty : TypeId) (name : List ℕ) → IsTypeTable types → (f : FieldId) →
+    (field_named types ty name ≡ Some f) ↔ ((f.ty ≡ ty) × IsNamed types f name)
 named types ty name table f = (found (place_of name (field_names (fields_of types ty))) refl, there)
   where
-    found : (o : Option ℕ) → place_of name (field_names (fields_of types ty)) ≡ o → option_map (λ i. record { ty = ty; index = i }) o ≡ Some f → (f.ty ≡ ty) × IsNamed types f name
+    found : (o : Option ℕ) → place_of name (field_names (fields_of types ty)) ≡ o →
+        option_map (λ i. record { ty = ty; index = i }) o ≡ Some f → (f.ty ≡ ty) × IsNamed types f name
     found None at is = absurd (cc)
     found (Some i) at is =
         let same : record { ty = ty; index = i } ≡ f = same_Some (record { ty = ty; index = i }) f is in
@@ -83,7 +90,8 @@ named types ty name table f = (found (place_of name (field_names (fields_of type
 
     there : (f.ty ≡ ty) × IsNamed types f name → field_named types ty name ≡ Some f
     there h =
-        ap (option_map (λ i. record { ty = ty; index = i })) (named-there types ty name f.index table (subst (λ t. IsSomeAnd (slice_get (fields_of types t) f.index) (λ entry. entry.name ≡ name)) h.0 h.1))
+        ap (option_map (λ i. record { ty = ty; index = i }))
+        (named-there types ty name f.index table (subst (λ t. IsSomeAnd (slice_get (fields_of types t) f.index) (λ entry. entry.name ≡ name)) h.0 h.1))
         ∙ (λ i. Some (record { ty = sym h.0 i; index = f.index }))
 
 -- ---- the links to a cell
@@ -106,21 +114,24 @@ module _ (types : List TypeEntry) (s : StoreMap) (fields : Fields) (all links : 
             (subst (λ x. Leads types s fields h.link.field h.link.parent x) held.1 ((indexed h.link).0 held.0)),
       )
 
-  pub LinkOf-some : (P : FieldId → Type 0) (n : ℕ) → length links ≤ n → (f : FieldId) (a : CellId) → P f → Leads types s fields f a child → Before (LinkOf links P) n a
+  pub LinkOf-some : (P : FieldId → Type 0) (n : ℕ) → length links ≤ n → (f : FieldId) (a : CellId) → P f →
+      Leads types s fields f a child → Before (LinkOf links P) n a
   LinkOf-some P n enough f a passes leads =
       let l : Link = record { child = child; parent = a; field = f } in
       let place = place_in links l ((to_child l).1 ((indexed l).1 leads, refl)) in
       let inside = slice_get_within links place.0 l place.1 in
       record { place = place.0; before = omega arith; at = record { link = l; at = place.1; passes = passes; is = refl } }
 
-  pub LinkOf-named : (name : List ℕ) (n : ℕ) → length links ≤ n → (a : CellId) → Before (LinkOf links (λ f. IsNamed types f name)) n a ↔ LeadsByName types s fields name a child
+  pub LinkOf-named : (name : List ℕ) (n : ℕ) → length links ≤ n → (a : CellId) →
+      Before (LinkOf links (λ f. IsNamed types f name)) n a ↔ LeadsByName types s fields name a child
   LinkOf-named name n enough a = (
     λ h. let step = LinkOf-leads (λ f. IsNamed types f name) h.place a h.at in record { field = step.0; named = step.1; leads = step.2 },
     λ h. LinkOf-some (λ f. IsNamed types f name) n enough h.field a h.named h.leads,
   )
 
 -- a data field is followed whatever the fields are
-followed-more : (fields : Fields) (o : Option FieldEntry) → IsSomeAnd o (λ entry. IsFollowed DataAlone entry.kind) → IsSomeAnd o (λ entry. IsFollowed fields entry.kind)
+followed-more : (fields : Fields) (o : Option FieldEntry) → IsSomeAnd o (λ entry. IsFollowed DataAlone entry.kind) →
+    IsSomeAnd o (λ entry. IsFollowed fields entry.kind)
 followed-more fields None h = absurd h
 followed-more fields (Some entry) h = kind fields entry.kind h
   where
@@ -147,14 +158,27 @@ module _ (types : List TypeEntry) (s : StoreMap) (fields : Fields) (all links : 
   )
 
 -- what the link at a place adds
-pub LinkOf-one : (links : List Link) (P : FieldId → Type 0) (i : ℕ) (l : Link) → slice_get links i ≡ Some l → P l.field → (a : CellId) → (a ≡ l.parent) ↔ LinkOf links P i a
+pub LinkOf-one : (links : List Link) (P : FieldId → Type 0) (i : ℕ) (l : Link) → slice_get links i ≡ Some l → P l.field →
+    (a : CellId) → (a ≡ l.parent) ↔ LinkOf links P i a
 LinkOf-one links P i l at passes a = (
   λ is. record { link = l; at = at; passes = passes; is = is },
   λ h. h.is ∙ ap (λ (x : Link). x.parent) (same_Some h.link l (sym h.at ∙ at)),
 )
 
-pub LinkOf-not : (links : List Link) (P : FieldId → Type 0) (i : ℕ) (l : Link) → slice_get links i ≡ Some l → (P l.field → ⊥) → (a : CellId) → LinkOf links P i a → ⊥
+pub LinkOf-not : (links : List Link) (P : FieldId → Type 0) (i : ℕ) (l : Link) → slice_get links i ≡ Some l → (P l.field → ⊥) →
+    (a : CellId) → LinkOf links P i a → ⊥
 LinkOf-not links P i l at fails a h = fails (subst (λ (x : Link). P x.field) (same_Some h.link l (sym h.at ∙ at)) h.passes)
+
+-- a list of parents after the link at a place: longer by the link's where its field passes, and the same where it doesn't
+module _ (links : List Link) (P : FieldId → Type 0) (i : ℕ) (l : Link) (at : slice_get links i ≡ Some l) (old new : List CellId) where
+  pub parent-added : new ≡ old ++ l.parent ∷ [] → P l.field → Gathers old new (LinkOf links P i)
+  parent-added is passes = subst (λ cells. Gathers old cells (LinkOf links P i)) (sym is)
+      (Gathers-alike old (old ++ l.parent ∷ []) (λ x. x ≡ l.parent) (LinkOf links P i)
+      (Gathers-push old l.parent) (LinkOf-one links P i l at passes))
+
+  pub parent-left : new ≡ old → (P l.field → ⊥) → Gathers old new (LinkOf links P i)
+  parent-left is fails = subst (λ cells. Gathers old cells (LinkOf links P i)) (sym is)
+      (Gathers-none old (LinkOf links P i) (LinkOf-not links P i l at fails))
 
 -- what is read past the end of a list of links
 abbrev pub no_link : Link

@@ -70,12 +70,15 @@ module _ (types : List TypeEntry) (vars : List VarEntry) (s : StoreMap)
   Back-one_tree : (v w : VarId) (r q : CellId) → Names types vars s (place.Var v) r → Names types vars s (place.Var w) q → {c : CellId} →
       Back s (IsParent types s) r c → Back s (IsParent types s) q c → v ≡ w
   Back-one_tree v w r q by_v by_w (here h) (here k) = var_same v w (once _ _ _ h by_v by_w)
-  Back-one_tree v w r q by_v by_w (here h) (step_to b c two step) = absurd (apart v b step.field (once _ _ _ h by_v (Names-Leads types vars s step.field b c step.leads)))
-  Back-one_tree v w r q by_v by_w (step_to a c one step) (here h) = absurd (apart w a step.field (once _ _ _ h by_w (Names-Leads types vars s step.field a c step.leads)))
+  Back-one_tree v w r q by_v by_w (here h) (step_to b c two step) =
+      absurd (apart v b step.field (once _ _ _ h by_v (Names-Leads types vars s step.field b c step.leads)))
+  Back-one_tree v w r q by_v by_w (step_to a c one step) (here h) =
+      absurd (apart w a step.field (once _ _ _ h by_w (Names-Leads types vars s step.field a c step.leads)))
   Back-one_tree v w r q by_v by_w (step_to a c one step) (step_to b d two other) =
       Back-one_tree v w r q by_v by_w one
       (subst (λ x. Back s (IsParent types s) q x)
-      (sym (field_same a b step.field other.field (once _ _ _ step.leads.live (Names-Leads types vars s step.field a _ step.leads) (Names-Leads types vars s other.field b _ other.leads))))
+      (sym (field_same a b step.field other.field
+      (once _ _ _ step.leads.live (Names-Leads types vars s step.field a _ step.leads) (Names-Leads types vars s other.field b _ other.leads))))
       two)
 
   IsInTree-back : (v : VarId) (c : CellId) (h : IsInTree types vars s v c) → Back s (IsParent types s) h.root c
@@ -93,7 +96,8 @@ module _ (types : List TypeEntry) (vars : List VarEntry) (s : StoreMap)
         root = r;
         named = by_v;
         path = subst (λ x. Chain s (IsParent types s) r x)
-            (field_same d a other.field step.field (once _ _ _ step.leads.live (Names-Leads types vars s other.field d _ other.leads) (Names-Leads types vars s step.field a _ step.leads)))
+            (field_same d a other.field step.field (once _ _ _ step.leads.live (Names-Leads types vars s other.field d _ other.leads)
+            (Names-Leads types vars s step.field a _ step.leads)))
             (Chain-Back (λ c e h. (IsParent-live types s c e h).1) back);
       }
 

@@ -1,6 +1,6 @@
 -- What a route is taken apart into: places, and ways between them. (Thompson, CACM 1968, "Regular expression search
 -- algorithm".)
-use Rattle.std.specs.Prelude.{◌≡◌, ◌↔◌, ◌<◌, ◌≤◌, ◌+◌, ◌++◌, ℕ, List, map, sum_by, Contains}
+use Rattle.std.specs.Prelude.{◌≡◌, ◌↔◌, ◌<◌, ◌≤◌, ◌+◌, ◌++◌, ◌∷◌, ℕ, List, map, sum_by, Contains}
 use Rattle.store_core.specs.declared.ids.CellId.{CellId}
 use Rattle.store_core.specs.declared.kind.Route.{Route}
 use Rattle.store_core.specs.declared.kind.Route.TheVariants as route
@@ -15,6 +15,7 @@ use Rattle.routing_expr.specs.declared.machine.Step.TheVariants as step
 use Rattle.routing_expr.specs.declared.machine.Edge.{Edge}
 use Rattle.routing_expr.specs.declared.machine.Part.{Part}
 use Rattle.routing_expr.specs.declared.machine.Plan.{Plan}
+use Rattle.routing_expr.specs.Gathering.{Gathers}
 use Rattle.routing_expr.specs.Walks.{Fields, Stays, Walk}
 
 -- what a way takes: a live cell to itself, or the walks of a route
@@ -27,6 +28,9 @@ pub record Arc : Type 0 where
   pub from : ℕ
   pub label : Label
   pub to : ℕ
+
+abbrev pub arc : ℕ → Label → ℕ → Arc
+arc from label to = record { from = from; label = label; to = to }
 
 -- ---- what is kept
 
@@ -99,3 +103,13 @@ pub record IsPlan (whole : Route) (arcs : List Arc) (places : ℕ) : Type 0 wher
   pub means : Means whole arcs
   pub two : 2 ≤ places
   pub below : (arc : Arc) → Contains arcs arc → (arc.from < places) × (arc.to < places)
+
+-- ---- what a step of taking apart does
+
+-- the second plan has this way more, and no other
+abbrev pub Adds : Arc → Plan → Plan → Type 0
+Adds new plan more = Gathers (arcs_of plan) (arcs_of more) (λ added. added ≡ new)
+
+-- whatever route the first plan with this way more is for, the second plan is for that route
+pub record StandsFor (part : Arc) (plan apart : Plan) : Type 0 where
+  pub still : (whole : Route) → IsPlan whole (part ∷ arcs_of plan) plan.places → IsPlan whole (arcs_of apart) apart.places

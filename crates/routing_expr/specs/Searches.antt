@@ -1,5 +1,5 @@
 -- What a search is asked for, and the index that it uses.
-use Rattle.std.specs.Prelude.{◌↔◌, List, Option, Some, None, Contains}
+use Rattle.std.specs.Prelude.{◌↔◌, ℕ, List, Option, Some, None, Contains}
 use Rattle.store_core.specs.declared.ids.TypeId.{TypeId}
 use Rattle.store_core.specs.declared.ids.CellId.{CellId}
 use Rattle.store_core.specs.CellLists.{AreRising}
@@ -9,7 +9,7 @@ use Rattle.routing_expr.specs.declared.followed.Followed.{Followed}
 use Rattle.routing_expr.specs.declared.followed.Followed.TheVariants as followed
 use Rattle.routing_expr.specs.declared.links.Link.{Link}
 use Rattle.routing_expr.specs.declared.search.Search.{Search}
-use Rattle.routing_expr.specs.Walks.{Fields, DataAlone, DataAndPointers, Leads, IsOfType}
+use Rattle.routing_expr.specs.Walks.{Fields, DataAlone, DataAndPointers, Leads, LeadsByName, IsOfType}
 use Rattle.routing_expr.specs.Gathering.{HasAll}
 
 -- the fields that are followed
@@ -34,3 +34,7 @@ IsIndexed search = HasAll search.links.links.items (IsLink search.types.now sear
 abbrev pub IsWanted : StoreMap → Option TypeId → CellId → Type 0
 IsWanted s None c = Unit {0}
 IsWanted s (Some target) c = IsOfType s target c
+
+-- some followed field of this name leads from a to b
+abbrev pub LeadsIn : Search → List ℕ → CellId → CellId → Type 0
+LeadsIn search name a b = LeadsByName search.types.now search.store.now (fields_in search.followed) name a b

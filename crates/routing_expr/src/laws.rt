@@ -16,17 +16,20 @@ pub fn walks_go_by_cases()
 
 /// A walk joins live cells.
 pub fn walks_join_live_cells()
-    ensures { (types : List TypeEntry) (s : StoreMap) (fields : Fields) (along : Route) (a b : CellId) → Walk types s fields along a b → IsLive s a × IsLive s b }
+    ensures { (types : List TypeEntry) (s : StoreMap) (fields : Fields) (along : Route) (a b : CellId) →
+        Walk types s fields along a b → IsLive s a × IsLive s b }
 {}
 
 /// Walks are the same in stores with the same cells, whatever the variables, the logic sets and the next numbers are.
 pub fn walks_see_cells_alone()
-    ensures { (types : List TypeEntry) (s t : StoreMap) (fields : Fields) (along : Route) (a b : CellId) → s.cells ≡ t.cells → Walk types s fields along a b ↔ Walk types t fields along a b }
+    ensures { (types : List TypeEntry) (s t : StoreMap) (fields : Fields) (along : Route) (a b : CellId) →
+        s.cells ≡ t.cells → Walk types s fields along a b ↔ Walk types t fields along a b }
 {}
 
 /// On a backbone both ends of a walk over data fields are in the tree of the same data variable, and of no other.
 pub fn data_walks_stay_in_one_tree()
-    ensures { (types : List TypeEntry) (vars : List VarEntry) (s : StoreMap) (along : Route) (a b : CellId) → IsBackbone types vars s → Walk types s DataAlone along a b → AreInOneTree types vars s a b }
+    ensures { (types : List TypeEntry) (vars : List VarEntry) (s : StoreMap) (along : Route) (a b : CellId) →
+        IsBackbone types vars s → Walk types s DataAlone along a b → AreInOneTree types vars s a b }
 {}
 
 /// A one-to-one renaming of cells renames the pairs of a walk and the destinations, and keeps a store well-formed or not.

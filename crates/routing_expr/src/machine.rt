@@ -1,12 +1,12 @@
 //! A route as a machine: places with edges between them, each edge a single step. (Thompson, CACM 1968, "Regular expression
 //! search algorithm".)
 
-ghost use Rattle.std.specs.Prelude.{◌≡◌, ◌+◌, ◌≤◌, ◌∷◌, IfOk, OnOk, map, Contains};
+ghost use Rattle.std.specs.Prelude.{◌≡◌, ◌+◌, ◌≤◌, IfOk, OnOk, map, Contains};
 ghost use Rattle.std.specs.List.Sorted.{IsNonDecreasingBy};
 ghost use Rattle.store_core.specs.declared.kind.Route.{Route};
 ghost use Rattle.store_core.specs.declared.kind.Route.TheVariants as route;
-ghost use Rattle.routing_expr.specs.Gathering.{Gathers, HasAll};
-ghost use Rattle.routing_expr.specs.Machines.{live, along, label_of, arc_of, arcs_of, part_count, parts_left, Means, IsPlan};
+ghost use Rattle.routing_expr.specs.Gathering.{HasAll};
+ghost use Rattle.routing_expr.specs.Machines.{along, arc, label_of, arc_of, arcs_of, part_count, parts_left, Adds, StandsFor, Means, IsPlan};
 
 use std::alloc::{AllocError, Global};
 use store_core::{Route, TypeId, VariantId};
@@ -106,7 +106,7 @@ impl<'a> Plan<'a> {
     }
 
     fn add_step(&mut self, from: usize, step: Step<'a>, to: usize) -> Result<(), AllocError>
-        ensures arcs { OnOk result (Gathers (arcs_of self.old) (arcs_of self.new) (λ arc. arc ≡ record { from = from; label = label_of step.entry; to = to })) }
+        ensures arcs { OnOk result (Adds (arc from (label_of step.entry) to) self.old self.new) }
         ensures places { OnOk result (self.new.places ≡ self.old.places) }
         ensures left { OnOk result (parts_left self.new ≡ parts_left self.old) }
     {
@@ -115,7 +115,7 @@ impl<'a> Plan<'a> {
     }
 
     fn add_part(&mut self, from: usize, route: &'a Route, to: usize) -> Result<(), AllocError>
-        ensures arcs { OnOk result (Gathers (arcs_of self.old) (arcs_of self.new) (λ arc. arc ≡ record { from = from; label = along route.now; to = to })) }
+        ensures arcs { OnOk result (Adds (arc from (along route.now) to) self.old self.new) }
         ensures places { OnOk result (self.new.places ≡ self.old.places) }
         ensures left { OnOk result (parts_left self.new ≡ parts_left self.old + (part_count route.now + 1)) }
     {
@@ -124,7 +124,7 @@ impl<'a> Plan<'a> {
     }
 
     fn add_single(&mut self, from: usize, step: Step<'a>, to: usize) -> Result<(), AllocError>
-        ensures plan { (whole : Route) → IsPlan whole (record { from = from; label = label_of step.entry; to = to } ∷ arcs_of self.old) self.old.places → OnOk result (IsPlan whole (arcs_of self.new) self.new.places) }
+        ensures plan { OnOk result (StandsFor (arc from (label_of step.entry) to) self.old self.new) }
         ensures left { OnOk result (parts_left self.new ≡ parts_left self.old) }
     {
         self.add_step(from, step, to)
@@ -137,7 +137,7 @@ impl<'a> Plan<'a> {
         second: &'a Route,
         to: usize,
     ) -> Result<(), AllocError>
-        ensures plan { (whole : Route) → IsPlan whole (record { from = from; label = along (route.Then first.now second.now); to = to } ∷ arcs_of self.old) self.old.places → OnOk result (IsPlan whole (arcs_of self.new) self.new.places) }
+        ensures plan { OnOk result (StandsFor (arc from (along (route.Then first.now second.now)) to) self.old self.new) }
         ensures left { OnOk result (parts_left self.new ≡ parts_left self.old + (part_count first.now + part_count second.now + 2)) }
     {
         let between = self.new_place()?;
@@ -152,7 +152,7 @@ impl<'a> Plan<'a> {
         other: &'a Route,
         to: usize,
     ) -> Result<(), AllocError>
-        ensures plan { (whole : Route) → IsPlan whole (record { from = from; label = along (route.Or one.now other.now); to = to } ∷ arcs_of self.old) self.old.places → OnOk result (IsPlan whole (arcs_of self.new) self.new.places) }
+        ensures plan { OnOk result (StandsFor (arc from (along (route.Or one.now other.now)) to) self.old self.new) }
         ensures left { OnOk result (parts_left self.new ≡ parts_left self.old + (part_count one.now + part_count other.now + 2)) }
     {
         self.add_part(from, one, to)?;
@@ -160,7 +160,7 @@ impl<'a> Plan<'a> {
     }
 
     fn add_rounds(&mut self, from: usize, round: &'a Route, to: usize) -> Result<(), AllocError>
-        ensures plan { (whole : Route) → IsPlan whole (record { from = from; label = along (route.Star round.now); to = to } ∷ arcs_of self.old) self.old.places → OnOk result (IsPlan whole (arcs_of self.new) self.new.places) }
+        ensures plan { OnOk result (StandsFor (arc from (along (route.Star round.now)) to) self.old self.new) }
         ensures left { OnOk result (parts_left self.new ≡ parts_left self.old + (part_count round.now + 1)) }
     {
         let turn = self.new_place()?;
@@ -171,7 +171,7 @@ impl<'a> Plan<'a> {
 
     /// Puts in place of a part what it is made of.
     fn take_apart(&mut self, from: usize, route: &'a Route, to: usize) -> Result<(), AllocError>
-        ensures plan { (whole : Route) → IsPlan whole (record { from = from; label = along route.now; to = to } ∷ arcs_of self.old) self.old.places → OnOk result (IsPlan whole (arcs_of self.new) self.new.places) }
+        ensures plan { OnOk result (StandsFor (arc from (along route.now) to) self.old self.new) }
         ensures left { OnOk result (parts_left self.new ≤ parts_left self.old + part_count route.now) }
     {
         match route {

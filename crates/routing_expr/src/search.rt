@@ -8,8 +8,7 @@ ghost use Rattle.routing_expr.specs.Walks.{Walk};
 ghost use Rattle.routing_expr.specs.Destinations.{EndsWalk};
 ghost use Rattle.routing_expr.specs.Gathering.{HasAll, Grows};
 ghost use Rattle.routing_expr.specs.Searches.{Lists, IsIndexed, IsWanted, fields_in};
-ghost use Rattle.routing_expr.specs.Machines.{label_of, arc_of, Takes, Path};
-ghost use Rattle.routing_expr.specs.Spots.{Follows, IsAtEnd};
+ghost use Rattle.routing_expr.specs.Spots.{EdgeLeads, FollowsIn, IsReached, IsAtEnd};
 
 use crate::followed::Followed;
 use crate::links::Links;
@@ -67,7 +66,7 @@ impl<'a> Search<'a> {
         from: CellId,
     ) -> Result<(), AllocError>
         requires { IsIndexed self.now }
-        ensures { OnOk result (Grows spots.old.keys spots.new.keys (λ spot. (spot.place ≡ edge.now.to) × Takes self.now.types.now self.now.store.now (fields_in self.now.followed) (label_of edge.now.step) from spot.cell)) }
+        ensures { OnOk result (Grows spots.old.keys spots.new.keys (EdgeLeads self.now edge.now from)) }
     {
         let cells = self.next(edge.step, from)?;
         for cell in &cells {
@@ -87,7 +86,7 @@ impl<'a> Search<'a> {
         spot: Spot,
     ) -> Result<(), AllocError>
         requires { IsIndexed self.now }
-        ensures { OnOk result (Grows spots.old.keys spots.new.keys (Follows self.now.types.now self.now.store.now (fields_in self.now.followed) (map arc_of machine.now.edges.items) spot)) }
+        ensures { OnOk result (Grows spots.old.keys spots.new.keys (FollowsIn self.now machine.now spot)) }
     {
         for edge in machine.from(spot.place) {
             self.go_along(spots, edge, spot.cell)?;
@@ -98,7 +97,7 @@ impl<'a> Search<'a> {
     /// The spots that a machine reaches, each once: those that were found are gone on from in the order of their finding.
     fn reach(&self, machine: &Machine, from: CellId) -> Result<IndexSet<Spot>, AllocError>
         requires { IsIndexed self.now }
-        ensures { IfOk result (λ spots. HasAll spots.keys (λ spot. Path self.now.types.now self.now.store.now (fields_in self.now.followed) (map arc_of machine.now.edges.items) START from spot.place spot.cell)) }
+        ensures { IfOk result (λ spots. HasAll spots.keys (IsReached self.now machine.now from)) }
     {
         let mut spots = IndexSet::new(self.alloc);
         spots.insert(Spot {

@@ -4,10 +4,11 @@ ghost use Rattle.std.specs.Prelude.{◌≡◌, ◌↔◌, Some, IfOk, IsTrue, Is
 ghost use Rattle.store_core.specs.declared.ids.CellId.{CellId};
 ghost use Rattle.store_core.specs.declared.ids.FieldId.{FieldId};
 ghost use Rattle.store_core.specs.Tables.{field_at};
-ghost use Rattle.routing_expr.specs.Walks.{DataAlone, IsNamed, LeadsByName, IsParent, IsFollowed, IsRoot, IsLeaf, IsOfType, IsOfVariant, HasTruth};
+ghost use Rattle.routing_expr.specs.Walks.{DataAlone, IsNamed, IsParent, IsFollowed, IsRoot, IsLeaf, IsOfType, IsOfVariant, HasTruth};
 ghost use Rattle.routing_expr.specs.Gathering.{HasAll};
-ghost use Rattle.routing_expr.specs.Searches.{fields_in, IsIndexed};
-ghost use Rattle.routing_expr.specs.Machines.{label_of, label_of_test, Takes};
+ghost use Rattle.routing_expr.specs.Searches.{IsIndexed, LeadsIn};
+ghost use Rattle.routing_expr.specs.Machines.{label_of, label_of_test};
+ghost use Rattle.routing_expr.specs.Spots.{TakesIn};
 
 use crate::followed::Followed;
 use crate::indexing::child_at;
@@ -38,7 +39,7 @@ fn is_named(types: &TypeTable, field: FieldId, name: &[u8]) -> bool
 impl Search<'_> {
     /// The cell to which the field of this name leads.
     fn child(&self, name: &[u8], from: CellId) -> Option<CellId>
-        ensures { (d : CellId) → (result ≡ Some d) ↔ LeadsByName self.now.types.now self.now.store.now (fields_in self.now.followed) name.now from d }
+        ensures { (d : CellId) → (result ≡ Some d) ↔ LeadsIn self.now name.now from d }
     {
         let ty = self.store.type_of(from)?;
         let field = field_named(self.types, ty, name)?;
@@ -54,7 +55,7 @@ impl Search<'_> {
     /// The cells of which a field of this name leads to the cell.
     fn parents(&self, name: &[u8], from: CellId) -> Result<Vec<CellId>, AllocError>
         requires { IsIndexed self.now }
-        ensures { IfOk result (λ cells. HasAll cells.items (λ a. LeadsByName self.now.types.now self.now.store.now (fields_in self.now.followed) name.now a from)) }
+        ensures { IfOk result (λ cells. HasAll cells.items (λ a. LeadsIn self.now name.now a from)) }
     {
         let mut parents = Vec::new(self.alloc);
         for link in self.links.to(from) {
@@ -144,7 +145,7 @@ impl Search<'_> {
 
     fn passes(&self, test: Test, cell: CellId) -> bool
         requires { IsIndexed self.now }
-        ensures { IsTrue result ↔ Takes self.now.types.now self.now.store.now (fields_in self.now.followed) (label_of_test test.entry) cell cell }
+        ensures { IsTrue result ↔ TakesIn self.now (label_of_test test.entry) cell cell }
     {
         match test {
             Test::Live => self.store.type_of(cell).is_some(),
@@ -170,7 +171,7 @@ impl Search<'_> {
     /// The cells to which a step leads.
     pub(crate) fn next(&self, step: Step, from: CellId) -> Result<Vec<CellId>, AllocError>
         requires { IsIndexed self.now }
-        ensures { IfOk result (λ cells. HasAll cells.items (Takes self.now.types.now self.now.store.now (fields_in self.now.followed) (label_of step.entry) from)) }
+        ensures { IfOk result (λ cells. HasAll cells.items (TakesIn self.now (label_of step.entry) from)) }
     {
         match step {
             Step::Down(name) => self.just(self.child(name, from)),

@@ -15,7 +15,8 @@ use routing_expr::{WfFault, well_formed};
 use std::alloc::Global;
 use std::process::Abort;
 use std::test::Fail;
-use store_core::{TypeTable, VarKind, VarTable, read_store, read_stores_fit};
+use store_core::{TypeTable, VarKind, VarTable};
+use store_text::{read_store, read_stores_fit};
 use trees::{TREE_VARS, TREES};
 
 /// The lines of a store between the first and the last, and its first fault.

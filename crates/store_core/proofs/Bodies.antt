@@ -46,10 +46,12 @@ IsBodyOf-value es types ty body is table at = let found = keyed es ty.0 at in Is
     keyed (e ∷ es) (suc i) at = keyed es i at
 
 -- a known type's fields and variants are those of its body
-pub fields_of-body : (types : List TypeEntry) (ty : TypeId) (body : TypeBody) → IsBodyOf types ty body → fields_of types ty ≡ map field_entry body.fields.entries
+pub fields_of-body : (types : List TypeEntry) (ty : TypeId) (body : TypeBody) → IsBodyOf types ty body →
+    fields_of types ty ≡ map field_entry body.fields.entries
 fields_of-body types ty body is = ap (λ o. option_map_or (λ t. t.fields) o []) is.at
 
-pub variants_of-body : (types : List TypeEntry) (ty : TypeId) (body : TypeBody) → IsBodyOf types ty body → variants_of types ty ≡ map (λ v. v.0.items) body.variants.entries
+pub variants_of-body : (types : List TypeEntry) (ty : TypeId) (body : TypeBody) → IsBodyOf types ty body →
+    variants_of types ty ≡ map (λ v. v.0.items) body.variants.entries
 variants_of-body types ty body is = ap (λ o. option_map_or (λ t. t.variants) o []) is.at
 
 -- a new name goes last
@@ -58,26 +60,32 @@ pub insert_entry-absent : {B : Type 0} (k : Vec ℕ Global) (v : B) (es : List (
 insert_entry-absent k v [] none = refl
 insert_entry-absent k v (e ∷ es) none =
     let parts = position_none-cons (λ x. bytes_eq k.items x.items) e.0 (keys_of es) none in
-    ap (λ b. cond b ((e.0, v) ∷ es) (e ∷ insert_entry (λ x y. bytes_eq x.items y.items) es k v)) parts.0 ∙ ap (λ rest. e ∷ rest) (insert_entry-absent k v es parts.1)
+    ap (λ b. cond b ((e.0, v) ∷ es) (e ∷ insert_entry (λ x y. bytes_eq x.items y.items) es k v)) parts.0 ∙
+    ap (λ rest. e ∷ rest) (insert_entry-absent k v es parts.1)
 
 -- and so it does in what is shown of each entry
-pub map-insert_entry : {B E : Type 0} (entry : Vec ℕ Global × B → E) (k : Vec ℕ Global) (v : B) (es : List (Vec ℕ Global × B)) → position (λ x. bytes_eq k.items x.items) (keys_of es) ≡ None
+pub map-insert_entry : {B E : Type 0} (entry : Vec ℕ Global × B → E) (k : Vec ℕ Global) (v : B) (es : List (Vec ℕ Global × B)) →
+    position (λ x. bytes_eq k.items x.items) (keys_of es) ≡ None
     → map entry (insert_entry (λ x y. bytes_eq x.items y.items) es k v) ≡ map entry es ++ entry (k, v) ∷ []
 map-insert_entry entry k v es none = ap (map entry) (insert_entry-absent k v es none) ∙ map_push entry es (k, v)
 
-pub entries_of-insert : (es : List (Vec ℕ Global × TypeBody)) (k : Vec ℕ Global) (body : TypeBody) (name : List ℕ) → k.items ≡ name → body.variants.entries ≡ [] → body.fields.entries ≡ []
+pub entries_of-insert : (es : List (Vec ℕ Global × TypeBody)) (k : Vec ℕ Global) (body : TypeBody) (name : List ℕ) →
+    k.items ≡ name → body.variants.entries ≡ [] → body.fields.entries ≡ []
     → place_of name (type_names (entries_of es)) ≡ None → entries_of (insert_entry (λ x y. bytes_eq x.items y.items) es k body) ≡ add_type (entries_of es) name
 entries_of-insert es k body name named variants fields new =
-    ap entries_of (insert_entry-absent k body es (position-keys k.items type_entry (λ t. t.name) (λ e. refl) es ∙ ap (λ n. place_of n (type_names (entries_of es))) named ∙ new))
+    ap entries_of (insert_entry-absent k body es
+    (position-keys k.items type_entry (λ t. t.name) (λ e. refl) es ∙ ap (λ n. place_of n (type_names (entries_of es))) named ∙ new))
     ∙ map_push type_entry es (k, body)
     ∙ (λ i. entries_of es ++ record { name = named i; variants = map (λ v. v.0.items) (variants i); fields = map field_entry (fields i) } ∷ [])
 
 -- a body written over the one at a place is a type changed
-pub entries_of-set : (es : List (Vec ℕ Global × TypeBody)) (ty : TypeId) (body after : TypeBody) (change : TypeEntry → TypeEntry) → slice_get (values_of es) ty.0 ≡ Some body
+pub entries_of-set : (es : List (Vec ℕ Global × TypeBody)) (ty : TypeId) (body after : TypeBody) (change : TypeEntry → TypeEntry) →
+    slice_get (values_of es) ty.0 ≡ Some body
     → ((k : List ℕ) → body_entry k after ≡ change (body_entry k body)) → entries_of (set_value_at es ty.0 after) ≡ with_type (entries_of es) ty change
 entries_of-set es ty body after change at same = by es ty.0 at
   where
-    under : (t : TypeEntry) (o : Option TypeEntry) (f : TypeEntry → List TypeEntry) (d : List TypeEntry) → t ∷ option_map_or f o d ≡ option_map_or (λ u. t ∷ f u) o (t ∷ d)
+    under : (t : TypeEntry) (o : Option TypeEntry) (f : TypeEntry → List TypeEntry) (d : List TypeEntry) →
+        t ∷ option_map_or f o d ≡ option_map_or (λ u. t ∷ f u) o (t ∷ d)
     under t None f d = refl
     under t (Some u) f d = refl
 
@@ -85,7 +93,8 @@ entries_of-set es ty body after change at same = by es ty.0 at
         → entries_of (set_value_at es i after) ≡ option_map_or (λ t. set (entries_of es) i (change t)) (slice_get (entries_of es) i) (entries_of es)
     by [] i at = absurd (cc)
     by (e ∷ es) zero at = let is : e.1 ≡ body = cc in λ j. (same e.0.items ∙ ap (λ b. change (body_entry e.0.items b)) (sym is)) j ∷ entries_of es
-    by (e ∷ es) (suc i) at = ap (λ rest. type_entry e ∷ rest) (by es i at) ∙ under (type_entry e) (slice_get (entries_of es) i) (λ t. set (entries_of es) i (change t)) (entries_of es)
+    by (e ∷ es) (suc i) at = ap (λ rest. type_entry e ∷ rest) (by es i at) ∙ under (type_entry e) (slice_get (entries_of es) i)
+        (λ t. set (entries_of es) i (change t)) (entries_of es)
 
 -- and one that shows the same fields and variants changes nothing
 pub entries_of-same : (es : List (Vec ℕ Global × TypeBody)) (i : ℕ) (body after : TypeBody) → slice_get (values_of es) i ≡ Some body

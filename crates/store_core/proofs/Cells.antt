@@ -22,24 +22,27 @@ use Rattle.store_core.specs.StoreBodies.{cell_entry, cells_of, AreInOrder, store
 use Rattle.store_core.proofs.Bodies.{AllByRecursion-at}
 use Rattle.store_core.proofs.Adding.{at_known}
 
-less_cmp : (a b : ℕ) → a < b → nat_cmp a b ≡ Less
+pub less_cmp : (a b : ℕ) → a < b → nat_cmp a b ≡ Less
 less_cmp a b h = sym (nat_cmp_is a b Less h)
 
-same_cmp : (a b : ℕ) → a ≡ b → nat_cmp a b ≡ Equal
+pub same_cmp : (a b : ℕ) → a ≡ b → nat_cmp a b ≡ Equal
 same_cmp a b h = sym (nat_cmp_is a b Equal h)
 
-more_cmp : (a b : ℕ) → b < a → nat_cmp a b ≡ Greater
+pub more_cmp : (a b : ℕ) → b < a → nat_cmp a b ≡ Greater
 more_cmp a b h = sym (nat_cmp_is a b Greater h)
 
 -- the order of the numbers by places
-order_at : (bodies : List CellBody) → AreInOrder bodies → (i j : ℕ) (d : CellBody) → i < j → j < length bodies → (get_or bodies i d).number < (get_or bodies j d).number
+order_at : (bodies : List CellBody) → AreInOrder bodies → (i j : ℕ) (d : CellBody) → i < j → j < length bodies →
+    (get_or bodies i d).number < (get_or bodies j d).number
 order_at [] order i j d lt within = absurd (omega arith)
 order_at (b ∷ bodies) order i zero d lt within = absurd (omega arith)
-order_at (b ∷ bodies) order zero (suc j) d lt within = AllByRecursion-at (λ e. b.number < e.number) bodies j (get_or bodies j d) order.0 (slice_get-get_or bodies j d (omega arith))
+order_at (b ∷ bodies) order zero (suc j) d lt within = AllByRecursion-at (λ e. b.number < e.number) bodies j
+    (get_or bodies j d) order.0 (slice_get-get_or bodies j d (omega arith))
 order_at (b ∷ bodies) order (suc i) (suc j) d lt within = order_at bodies order.1 i j d (omega arith) (omega arith)
 
 -- a number that no cell has is not found
-find_none : (bodies : List CellBody) (q : ℕ) → ((i : ℕ) (d : CellBody) → i < length bodies → (get_or bodies i d).number ≢ q) → find nat_cmp q (cells_of bodies) ≡ None
+find_none : (bodies : List CellBody) (q : ℕ) → ((i : ℕ) (d : CellBody) → i < length bodies → (get_or bodies i d).number ≢ q) →
+    find nat_cmp q (cells_of bodies) ≡ None
 find_none [] q apart = refl
 find_none (b ∷ bodies) q apart =
     ap (λ t. cond t (Some (cell_entry b).1) (find nat_cmp q (cells_of bodies))) (unequal q b.number (λ e. apart 0 b (omega arith) (sym e)))
@@ -49,18 +52,22 @@ find_none (b ∷ bodies) q apart =
     unequal x y ne = grind (arith, nat_tests)
 
 -- the cell at a place is found under its number
-find_at : (bodies : List CellBody) → AreInOrder bodies → (i : ℕ) (b : CellBody) → slice_get bodies i ≡ Some b → find nat_cmp b.number (cells_of bodies) ≡ Some (cell_entry b).1
+find_at : (bodies : List CellBody) → AreInOrder bodies → (i : ℕ) (b : CellBody) → slice_get bodies i ≡ Some b →
+    find nat_cmp b.number (cells_of bodies) ≡ Some (cell_entry b).1
 find_at [] order i b at = absurd (cc)
 find_at (a ∷ bodies) order zero b at =
     let is : a ≡ b = cc in
-    ap (λ t. cond t (Some (cell_entry a).1) (find nat_cmp b.number (cells_of bodies))) (ap is_eq (same_cmp b.number a.number (ap (λ (e : CellBody). e.number) (sym is)))) ∙ ap (λ (e : CellBody). Some (cell_entry e).1) is
+    ap (λ t. cond t (Some (cell_entry a).1) (find nat_cmp b.number (cells_of bodies)))
+    (ap is_eq (same_cmp b.number a.number (ap (λ (e : CellBody). e.number) (sym is)))) ∙ ap (λ (e : CellBody). Some (cell_entry e).1) is
 find_at (a ∷ bodies) order (suc i) b at =
-    ap (λ t. cond t (Some (cell_entry a).1) (find nat_cmp b.number (cells_of bodies))) (ap is_eq (more_cmp b.number a.number (AllByRecursion-at (λ e. a.number < e.number) bodies i b order.0 at)))
+    ap (λ t. cond t (Some (cell_entry a).1) (find nat_cmp b.number (cells_of bodies)))
+    (ap is_eq (more_cmp b.number a.number (AllByRecursion-at (λ e. a.number < e.number) bodies i b order.0 at)))
     ∙ find_at bodies order.1 i b at
 
 below_cells : (n : ℕ) (bodies : List CellBody) → AllByRecursion (λ d. n < d.number) bodies → T (below_all nat_cmp n (cells_of bodies))
 below_cells n [] below = tt
-below_cells n (b ∷ bodies) below = subst (λ r. T (is_lt r && below_all nat_cmp n (cells_of bodies))) (sym (less_cmp n b.number below.0)) (below_cells n bodies below.1)
+below_cells n (b ∷ bodies) below = subst (λ r. T (is_lt r && below_all nat_cmp n (cells_of bodies)))
+    (sym (less_cmp n b.number below.0)) (below_cells n bodies below.1)
 
 -- rising numbers are in the order of the map's keys
 pub sorted_cells : (bodies : List CellBody) → AreInOrder bodies → T (is_sorted nat_cmp (cells_of bodies))
@@ -84,7 +91,8 @@ pub record Placed (s : StoreMap) (c : CellId) (o : Option ℕ) : Type 0 where
 module _ (bodies : List CellBody) (order : AreInOrder bodies) (vars : List Value) (next : ℕ) (c : CellId) where
   comparisons_rise : IsNonDecreasingBy (λ (b : CellBody). ordering_index (nat_cmp b.number c.0)) bodies
   comparisons_rise i j d le within =
-      let rises : (get_or bodies i d).number ≤ (get_or bodies j d).number = grind (arith, order_at bodies order i j d, λ (same : i ≡ j). ap (λ k. (get_or bodies k d).number) same) in
+      let rises : (get_or bodies i d).number ≤ (get_or bodies j d).number =
+      grind (arith, order_at bodies order i j d, λ (same : i ≡ j). ap (λ k. (get_or bodies k d).number) same) in
       grind (arith, nat_tests)
 
   get_is : get (from_sorted {R = nat_cmp} (cells_of bodies)) c.0 ≡ find nat_cmp c.0 (cells_of bodies)
@@ -93,18 +101,22 @@ module _ (bodies : List CellBody) (order : AreInOrder bodies) (vars : List Value
   pub placed_at : (i : ℕ) (b : CellBody) → slice_get bodies i ≡ Some b → b.number ≡ c.0 → Placed (store_of bodies vars next) c (Some i)
   unfolding get_is
   placed_at i b at is =
-      let there : cell_of (store_of bodies vars next) c ≡ Some (cell_entry b).1 = get_is ∙ ap (λ n. find nat_cmp n (cells_of bodies)) (sym is) ∙ find_at bodies order i b at in
+      let there : cell_of (store_of bodies vars next) c ≡ Some (cell_entry b).1 = get_is ∙
+      ap (λ n. find nat_cmp n (cells_of bodies)) (sym is) ∙ find_at bodies order i b at in
       record {
         missing = tt;
         found = ap (λ es. slice_get es i) (entries_of-cells bodies order) ∙ slice_get-map cell_entry bodies i ∙ ap (option_map cell_entry) at
             ∙ ap (λ n. Some (n, (cell_entry b).1)) is ∙ sym (ap (option_map (λ cell. (c.0, cell))) there);
-        within = subst (λ es. i < length es) (sym (entries_of-cells bodies order)) (subst (λ n. i < n) (sym (length-map bodies cell_entry)) (slice_get_within bodies i b at));
+        within = subst (λ es. i < length es) (sym (entries_of-cells bodies order))
+            (subst (λ n. i < n) (sym (length-map bodies cell_entry)) (slice_get_within bodies i b at));
       }
 
-  pub placed : (r : Result ℕ ℕ) → IsSearchInRange r (length bodies) → IsBinarySearchResult (λ (b : CellBody). nat_cmp b.number c.0) bodies r → Placed (store_of bodies vars next) c (result_ok r)
+  pub placed : (r : Result ℕ ℕ) → IsSearchInRange r (length bodies) →
+      IsBinarySearchResult (λ (b : CellBody). nat_cmp b.number c.0) bodies r → Placed (store_of bodies vars next) c (result_ok r)
   placed (Ok i) range equal =
       let known = at_known bodies i range in
-      placed_at i known.0 known.1 (ranked known.0.number c.0 Equal (sym (subst (λ (b : CellBody). nat_cmp b.number c.0 ≡ Equal) (get_or_from_slice_get bodies i known.0 known.0 known.1) (equal known.0))))
+      placed_at i known.0 known.1 (ranked known.0.number c.0 Equal
+      (sym (subst (λ (b : CellBody). nat_cmp b.number c.0 ≡ Equal) (get_or_from_slice_get bodies i known.0 known.0 known.1) (equal known.0))))
   placed (Err i) range parted = record {
     missing = get_is ∙ find_none bodies c.0 apart;
     found = tt;
@@ -118,10 +130,12 @@ module _ (bodies : List CellBody) (order : AreInOrder bodies) (vars : List Value
       ]
 
 -- what the kept cells show at a place
-pub slice_get-cells : (bodies : List CellBody) (order : AreInOrder bodies) (vars : List Value) (next : ℕ) (s : StoreMap) → store_of bodies vars next ≡ s → (place : ℕ)
+pub slice_get-cells : (bodies : List CellBody) (order : AreInOrder bodies) (vars : List Value) (next : ℕ) (s : StoreMap) →
+    store_of bodies vars next ≡ s → (place : ℕ)
     → slice_get (entries s.cells) place ≡ option_map cell_entry (slice_get bodies place)
 slice_get-cells bodies order vars next s is place =
-    ap (λ (t : StoreMap). slice_get (entries t.cells) place) (sym is) ∙ ap (λ es. slice_get es place) (entries_of-cells bodies order) ∙ slice_get-map cell_entry bodies place
+    ap (λ (t : StoreMap). slice_get (entries t.cells) place) (sym is) ∙ ap (λ es. slice_get es place)
+    (entries_of-cells bodies order) ∙ slice_get-map cell_entry bodies place
 
 -- the numbers of the live cells are below the next
 pub IsAbove-cells : (bodies : List CellBody) (vars : List Value) (next : ℕ) (s : StoreMap) → store_of bodies vars next ≡ s → IsKept bodies next → IsAbove s
@@ -143,7 +157,8 @@ numbered None = refl
 numbered (Some b) = refl
 
 -- the live cell at a place by number
-pub number_at : (bodies : List CellBody) (order : AreInOrder bodies) (vars : List Value) (next : ℕ) (s : StoreMap) → store_of bodies vars next ≡ s → (place : ℕ) (o : Option CellBody)
+pub number_at : (bodies : List CellBody) (order : AreInOrder bodies) (vars : List Value) (next : ℕ) (s : StoreMap) →
+    store_of bodies vars next ≡ s → (place : ℕ) (o : Option CellBody)
     → slice_get bodies place ≡ o → option_map (λ (b : CellBody). cell_id b.number) o ≡ option_map cell_id (slice_get (keys s.cells) place)
 number_at bodies order vars next s is place o at =
     numbered o ∙ ap (λ p. option_map cell_id (option_map first p)) (sym (slice_get-cells bodies order vars next s is place ∙ ap (option_map cell_entry) at))
@@ -159,7 +174,8 @@ pub no_cells : from_sorted {R = nat_cmp} (cells_of []) ≡ empty
 no_cells = empty_of_len _ (len-entries _ ∙ ap length (entries_of-cells [] tt))
 
 -- how many cells are live
-pub count_is : (bodies : List CellBody) (order : AreInOrder bodies) (vars : List Value) (next : ℕ) (s : StoreMap) → store_of bodies vars next ≡ s → length (keys s.cells) ≡ length bodies
+pub count_is : (bodies : List CellBody) (order : AreInOrder bodies) (vars : List Value) (next : ℕ) (s : StoreMap) →
+    store_of bodies vars next ≡ s → length (keys s.cells) ≡ length bodies
 count_is bodies order vars next s is =
     ap (λ (t : StoreMap). length (keys t.cells)) (sym is) ∙ length-map (entries (from_sorted {R = nat_cmp} (cells_of bodies))) (λ e. e.0)
     ∙ ap length (entries_of-cells bodies order) ∙ length-map bodies cell_entry

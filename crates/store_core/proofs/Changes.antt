@@ -21,16 +21,7 @@ use Rattle.store_core.specs.StoreBodies.{cell_entry, cells_of, AreInOrder, store
 use Rattle.store_core.proofs.Bodies.{AllByRecursion-at}
 use Rattle.store_core.proofs.Adding.{at_known}
 use Rattle.store_core.proofs.Growing.{AllByRecursion-push, AllByRecursion-weaker}
-use Rattle.store_core.proofs.Cells.{sorted_cells, entries_of-cells}
-
-less_cmp : (a b : ℕ) → a < b → nat_cmp a b ≡ Less
-less_cmp a b h = sym (nat_cmp_is a b Less h)
-
-same_cmp : (a b : ℕ) → a ≡ b → nat_cmp a b ≡ Equal
-same_cmp a b h = sym (nat_cmp_is a b Equal h)
-
-more_cmp : (a b : ℕ) → b < a → nat_cmp a b ≡ Greater
-more_cmp a b h = sym (nat_cmp_is a b Greater h)
+use Rattle.store_core.proofs.Cells.{less_cmp, same_cmp, more_cmp, sorted_cells, entries_of-cells}
 
 -- ---- the cell at a place
 
@@ -41,7 +32,8 @@ pub record Found (bodies : List CellBody) (s : StoreMap) (c : CellId) (place : �
   pub number : body.number ≡ c.0
   pub cell : cell_of s c ≡ Some (cell_entry body).1
 
-pub found_at : (bodies : List CellBody) (order : AreInOrder bodies) (vars : List Value) (next : ℕ) (s : StoreMap) (is : store_of bodies vars next ≡ s) (c : CellId) (place : ℕ)
+pub found_at : (bodies : List CellBody) (order : AreInOrder bodies) (vars : List Value) (next : ℕ) (s : StoreMap)
+    (is : store_of bodies vars next ≡ s) (c : CellId) (place : ℕ)
     → slice_get (entries s.cells) place ≡ option_map (λ cell. (c.0, cell)) (cell_of s c) → place < length (entries s.cells) → Found bodies s c place
 found_at bodies order vars next s is c place found within =
     let es : entries s.cells ≡ cells_of bodies = ap (λ (t : StoreMap). entries t.cells) (sym is) ∙ entries_of-cells bodies order in
@@ -51,7 +43,8 @@ found_at bodies order vars next s is c place found within =
     sym (ap (option_map cell_entry) known.1) ∙ sym (slice_get-map cell_entry bodies place) ∙ ap (λ l. slice_get l place) (sym es) ∙ found in
     by known.0 known.1 (cell_of s c) refl there
   where
-    by : (b : CellBody) → slice_get bodies place ≡ Some b → (o : Option CellEntry) → cell_of s c ≡ o → Some (cell_entry b) ≡ option_map (λ cell. (c.0, cell)) o → Found bodies s c place
+    by : (b : CellBody) → slice_get bodies place ≡ Some b → (o : Option CellEntry) → cell_of s c ≡ o →
+        Some (cell_entry b) ≡ option_map (λ cell. (c.0, cell)) o → Found bodies s c place
     by b at None e there = absurd (cc)
     by b at (Some cell) e there =
         let pair : cell_entry b ≡ (c.0, cell) = cc in
@@ -61,21 +54,25 @@ pub place_within : (bodies : List CellBody) (s : StoreMap) (c : CellId) (place :
 place_within bodies s c place found = slice_get_within bodies place found.body found.at
 
 -- a field that has a value has a place among the cell's values
-pub field_within : (s : StoreMap) (c : CellId) (f : FieldId) (cell : CellEntry) (P : Value → Type 0) → cell_of s c ≡ Some cell → IsSomeAnd (option_and_then (λ e. field_of e f) (cell_of s c)) P → f.index < length cell.values
+pub field_within : (s : StoreMap) (c : CellId) (f : FieldId) (cell : CellEntry) (P : Value → Type 0) → cell_of s c ≡ Some cell →
+    IsSomeAnd (option_and_then (λ e. field_of e f) (cell_of s c)) P → f.index < length cell.values
 field_within s c f cell P is some =
     by _ (slice_get cell.values f.index) refl (subst (λ (o : Option CellEntry). IsSomeAnd (option_and_then (λ e. field_of e f) o) P) is some)
   where
-    by : (b : Bool) (o : Option (Option Value)) → slice_get cell.values f.index ≡ o → IsSomeAnd (cond b (option_and_then (λ v. v) o) None) P → f.index < length cell.values
+    by : (b : Bool) (o : Option (Option Value)) → slice_get cell.values f.index ≡ o →
+        IsSomeAnd (cond b (option_and_then (λ v. v) o) None) P → f.index < length cell.values
     by true None e some = absurd some
     by false None e some = absurd some
     by b (Some v) e some = slice_get_within cell.values f.index v e
 
 -- ---- a cell more
 
-put_last : (k : ℕ) (v : CellEntry) (bodies : List CellBody) → AllByRecursion (λ b. b.number < k) bodies → put nat_cmp k v (cells_of bodies) ≡ cells_of bodies ++ (k, v) ∷ []
+put_last : (k : ℕ) (v : CellEntry) (bodies : List CellBody) → AllByRecursion (λ b. b.number < k) bodies →
+    put nat_cmp k v (cells_of bodies) ≡ cells_of bodies ++ (k, v) ∷ []
 put_last k v [] below = refl
 put_last k v (b ∷ bodies) below =
-    ap (λ o. by_order o ((k, v) ∷ cells_of (b ∷ bodies)) ((b.number, v) ∷ cells_of bodies) (cell_entry b ∷ put nat_cmp k v (cells_of bodies))) (more_cmp k b.number below.0)
+    ap (λ o. by_order o ((k, v) ∷ cells_of (b ∷ bodies)) ((b.number, v) ∷ cells_of bodies)
+    (cell_entry b ∷ put nat_cmp k v (cells_of bodies))) (more_cmp k b.number below.0)
     ∙ ap (λ rest. cell_entry b ∷ rest) (put_last k v bodies below.1)
 
 -- a cell written over another of its number
@@ -85,11 +82,13 @@ put_over [] order i b after at same = absurd (cc)
 put_over (a ∷ bodies) order zero b after at same =
     let is : a ≡ b = cc in
     let number : a.number ≡ b.number = ap (λ (e : CellBody). e.number) is in
-    ap (λ o. by_order o ((b.number, (cell_entry after).1) ∷ cells_of (a ∷ bodies)) ((a.number, (cell_entry after).1) ∷ cells_of bodies) (cell_entry a ∷ put nat_cmp b.number (cell_entry after).1 (cells_of bodies)))
+    ap (λ o. by_order o ((b.number, (cell_entry after).1) ∷ cells_of (a ∷ bodies))
+    ((a.number, (cell_entry after).1) ∷ cells_of bodies) (cell_entry a ∷ put nat_cmp b.number (cell_entry after).1 (cells_of bodies)))
     (same_cmp b.number a.number (sym number))
     ∙ ap (λ n. (n, (cell_entry after).1) ∷ cells_of bodies) (number ∙ sym same)
 put_over (a ∷ bodies) order (suc i) b after at same =
-    ap (λ o. by_order o ((b.number, (cell_entry after).1) ∷ cells_of (a ∷ bodies)) ((a.number, (cell_entry after).1) ∷ cells_of bodies) (cell_entry a ∷ put nat_cmp b.number (cell_entry after).1 (cells_of bodies)))
+    ap (λ o. by_order o ((b.number, (cell_entry after).1) ∷ cells_of (a ∷ bodies))
+    ((a.number, (cell_entry after).1) ∷ cells_of bodies) (cell_entry a ∷ put nat_cmp b.number (cell_entry after).1 (cells_of bodies)))
     (more_cmp b.number a.number (AllByRecursion-at (λ e. a.number < e.number) bodies i b order.0 at))
     ∙ ap (λ rest. cell_entry a ∷ rest) (put_over bodies order.1 i b after at same)
 
@@ -114,22 +113,28 @@ cells-push bodies b next kept is =
 
 -- ---- a cell changed
 
-all-set : (P : ℕ → Type 0) (bodies : List CellBody) (i : ℕ) (b after : CellBody) → slice_get bodies i ≡ Some b → after.number ≡ b.number → AllByRecursion (λ d. P d.number) bodies → AllByRecursion (λ d. P d.number) (set bodies i after)
+all-set : (P : ℕ → Type 0) (bodies : List CellBody) (i : ℕ) (b after : CellBody) → slice_get bodies i ≡ Some b →
+    after.number ≡ b.number → AllByRecursion (λ d. P d.number) bodies → AllByRecursion (λ d. P d.number) (set bodies i after)
 all-set P [] i b after at same all = tt
 all-set P (a ∷ bodies) zero b after at same all = let is : a ≡ b = cc in (subst P (ap (λ (e : CellBody). e.number) is ∙ sym same) all.0, all.1)
 all-set P (a ∷ bodies) (suc i) b after at same all = (all.0, all-set P bodies i b after at same all.1)
 
-order-set : (bodies : List CellBody) (i : ℕ) (b after : CellBody) → slice_get bodies i ≡ Some b → after.number ≡ b.number → AreInOrder bodies → AreInOrder (set bodies i after)
+order-set : (bodies : List CellBody) (i : ℕ) (b after : CellBody) → slice_get bodies i ≡ Some b → after.number ≡ b.number →
+    AreInOrder bodies → AreInOrder (set bodies i after)
 order-set [] i b after at same order = tt
 order-set (a ∷ bodies) zero b after at same order =
     let is : a ≡ b = cc in
     (subst (λ n. AllByRecursion (λ (d : CellBody). n < d.number) bodies) (ap (λ (e : CellBody). e.number) is ∙ sym same) order.0, order.1)
-order-set (a ∷ bodies) (suc i) b after at same order = (all-set (λ n. a.number < n) bodies i b after at same order.0, order-set bodies i b after at same order.1)
+order-set (a ∷ bodies) (suc i) b after at same order =
+    (all-set (λ n. a.number < n) bodies i b after at same order.0, order-set bodies i b after at same order.1)
 
-pub IsKept-set : (bodies : List CellBody) (i : ℕ) (b after : CellBody) (next : ℕ) → slice_get bodies i ≡ Some b → after.number ≡ b.number → IsKept bodies next → IsKept (set bodies i after) next
-IsKept-set bodies i b after next at same kept = record { rising = order-set bodies i b after at same kept.rising; below = all-set (λ n. n < next) bodies i b after at same kept.below }
+pub IsKept-set : (bodies : List CellBody) (i : ℕ) (b after : CellBody) (next : ℕ) → slice_get bodies i ≡ Some b →
+    after.number ≡ b.number → IsKept bodies next → IsKept (set bodies i after) next
+IsKept-set bodies i b after next at same kept =
+    record { rising = order-set bodies i b after at same kept.rising; below = all-set (λ n. n < next) bodies i b after at same kept.below }
 
-pub cells-set : (bodies : List CellBody) (i : ℕ) (b after : CellBody) (k : ℕ) → slice_get bodies i ≡ Some b → after.number ≡ b.number → b.number ≡ k → AreInOrder bodies
+pub cells-set : (bodies : List CellBody) (i : ℕ) (b after : CellBody) (k : ℕ) → slice_get bodies i ≡ Some b →
+    after.number ≡ b.number → b.number ≡ k → AreInOrder bodies
     → from_sorted {R = nat_cmp} (cells_of (set bodies i after)) ≡ insert (from_sorted (cells_of bodies)) k (cell_entry after).1
 cells-set bodies i b after k at same is order =
     same_entries_map _ _ (entries_of-cells (set bodies i after) (order-set bodies i b after at same order)
@@ -176,7 +181,8 @@ find_removed (a ∷ bodies) order zero b at q =
     let number : a.number ≡ b.number = ap (λ (e : CellBody). e.number) is in
     by (eq_by_cmp nat_cmp q a.number) refl ∙ ap (λ n. cond (eq_by_cmp nat_cmp q n) None (find nat_cmp q (cells_of (a ∷ bodies)))) number
   where
-    by : (t : Bool) → eq_by_cmp nat_cmp q a.number ≡ t → find nat_cmp q (cells_of bodies) ≡ cond (eq_by_cmp nat_cmp q a.number) None (find nat_cmp q (cells_of (a ∷ bodies)))
+    by : (t : Bool) → eq_by_cmp nat_cmp q a.number ≡ t → find nat_cmp q (cells_of bodies) ≡ cond (eq_by_cmp nat_cmp q a.number) None
+        (find nat_cmp q (cells_of (a ∷ bodies)))
     by true e =
         find_above q bodies (subst (λ n. AllByRecursion (λ (d : CellBody). n < d.number) bodies) (sym (tied q a.number e)) order.0)
         ∙ sym (ap (λ t. cond t None (find nat_cmp q (cells_of (a ∷ bodies)))) e)

@@ -54,7 +54,8 @@ module _ (old new : List TypeEntry) (grows : Grows old new) where
   pub KnowsRoute-grows : (along : Route) → Keeps old new along
   KnowsRoute-grows = ind-Route (Keeps old new) (λ x y is h.
       subst IsTrue (sym (fold-roll-Route Bool (knows_node new) x))
-      (subst (λ z. IsTrue (knows_node old (map-Route Route Bool (fold-Route Bool (knows_node old)) z)) → IsTrue (knows_node new (map-Route Route Bool (fold-Route Bool (knows_node new)) z))) is (kept y)
+      (subst (λ z. IsTrue (knows_node old (map-Route Route Bool (fold-Route Bool (knows_node old)) z)) →
+      IsTrue (knows_node new (map-Route Route Bool (fold-Route Bool (knows_node new)) z))) is (kept y)
       (subst IsTrue (fold-roll-Route Bool (knows_node old) x) h)))
 
   pub KnowsKind-grows : (kind : FieldKind) → KnowsKind old kind → KnowsKind new kind
@@ -86,7 +87,8 @@ Grows-push types t = record {
   variants = λ v known. still types t v.ty.0 v.index known;
 }
   where
-    still : (types : List TypeEntry) (t : TypeEntry) (i n : ℕ) → n < option_map_or count_of_variants (slice_get types i) 0 → n < option_map_or count_of_variants (slice_get (types ++ t ∷ []) i) 0
+    still : (types : List TypeEntry) (t : TypeEntry) (i n : ℕ) → n < option_map_or count_of_variants (slice_get types i) 0 →
+        n < option_map_or count_of_variants (slice_get (types ++ t ∷ []) i) 0
     still [] t i n h = absurd (omega arith)
     still (u ∷ types) t zero n h = h
     still (u ∷ types) t (suc i) n h = still types t i n h
@@ -115,16 +117,19 @@ names_stay [] i t u at same = refl
 names_stay (w ∷ types) zero t u at same = let is : w ≡ t = cc in λ j. (same ∙ ap (λ (v : TypeEntry). v.name) (sym is)) j ∷ type_names types
 names_stay (w ∷ types) (suc i) t u at same = ap (λ names. w.name ∷ names) (names_stay types i t u at same)
 
-pub Grows-set : (types : List TypeEntry) (i : ℕ) (t u : TypeEntry) → slice_get types i ≡ Some t → count_of_variants t ≤ count_of_variants u → Grows types (set types i u)
+pub Grows-set : (types : List TypeEntry) (i : ℕ) (t u : TypeEntry) → slice_get types i ≡ Some t →
+    count_of_variants t ≤ count_of_variants u → Grows types (set types i u)
 Grows-set types i t u at more = record {
   types = omega (arith, length-set types i u);
   variants = λ v known. counts_more types i t u at more v.ty.0 v.index known;
 }
 
-pub IsTypeTable-set : (types : List TypeEntry) (i : ℕ) (t u : TypeEntry) → IsTypeTable types → slice_get types i ≡ Some t → u.name ≡ t.name → count_of_variants t ≤ count_of_variants u
+pub IsTypeTable-set : (types : List TypeEntry) (i : ℕ) (t u : TypeEntry) → IsTypeTable types → slice_get types i ≡ Some t →
+    u.name ≡ t.name → count_of_variants t ≤ count_of_variants u
     → IsTypeEntry (set types i u) u → IsTypeTable (set types i u)
 IsTypeTable-set types i t u table at same more entry = record {
   few = omega (arith, length-set types i u, table.few);
   names = subst AreDistinct (sym (names_stay types i t u at same)) table.names;
-  each = AllByRecursion-set _ types i u (AllByRecursion-weaker _ _ (IsTypeEntry-grows types (set types i u) (Grows-set types i t u at more)) types table.each) entry;
+  each = AllByRecursion-set _ types i u (AllByRecursion-weaker _ _
+      (IsTypeEntry-grows types (set types i u) (Grows-set types i t u at more)) types table.each) entry;
 }

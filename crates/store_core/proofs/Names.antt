@@ -18,7 +18,8 @@ moved : (b : Bool) (n : ℕ) → cond b (Some (1 + n)) None ≡ option_map suc (
 moved true n = ap Some (omega arith)
 moved false n = refl
 
-cons_by : (b : Bool) (n l : ℕ) → cond (nat_lt (cond (not b) (1 + n) 0) (suc l)) (Some (cond (not b) (1 + n) 0)) None ≡ cond b (Some 0) (option_map suc (cond (nat_lt n l) (Some n) None))
+cons_by : (b : Bool) (n l : ℕ) → cond (nat_lt (cond (not b) (1 + n) 0) (suc l)) (Some (cond (not b) (1 + n) 0)) None ≡ cond b
+    (Some 0) (option_map suc (cond (nat_lt n l) (Some n) None))
 cons_by true n l = ap (λ t. cond t (Some 0) None) (lt_zero l)
 cons_by false n l = ap (λ t. cond t (Some (1 + n)) None) (lt_suc n l) ∙ moved (nat_lt n l) n
 
@@ -39,7 +40,8 @@ position-same p q same (x ∷ xs) =
     position-cons p x xs ∙ (λ i. cond (same x i) (Some 0) (option_map suc (position-same p q same xs i))) ∙ sym (position-cons q x xs)
 
 -- the place of a name among the keys of a map
-pub position-keys : {B E : Type 0} (name : List ℕ) (entry : Vec ℕ Global × B → E) (name_of : E → List ℕ) → ((e : Vec ℕ Global × B) → name_of (entry e) ≡ e.0.items)
+pub position-keys : {B E : Type 0} (name : List ℕ) (entry : Vec ℕ Global × B → E) (name_of : E → List ℕ) →
+    ((e : Vec ℕ Global × B) → name_of (entry e) ≡ e.0.items)
     → (es : List (Vec ℕ Global × B)) → position (λ k. bytes_eq name k.items) (keys_of es) ≡ place_of name (map name_of (map entry es))
 position-keys {B = B} name entry name_of same es =
     position-map (λ k. bytes_eq name k.items) (λ (e : Vec ℕ Global × B). e.0) es
@@ -84,7 +86,8 @@ AreDistinct-push (first ∷ names) name distinct new =
 pub place_of-at : (names : List (List ℕ)) (i : ℕ) (name : List ℕ) → AreDistinct names → slice_get names i ≡ Some name → place_of name names ≡ Some i
 place_of-at [] i name distinct at = absurd (cc)
 place_of-at (first ∷ names) zero name distinct at =
-    position-cons (bytes_eq name) first names ∙ ap (λ b. cond b (Some 0) (option_map suc (place_of name names))) (ap (bytes_eq name) (some_same first name at) ∙ nat_list_eq_equiv.refl name)
+    position-cons (bytes_eq name) first names ∙ ap (λ b. cond b (Some 0) (option_map suc (place_of name names)))
+    (ap (bytes_eq name) (some_same first name at) ∙ nat_list_eq_equiv.refl name)
   where
     some_same : (a b : List ℕ) → Some a ≡ Some b → a ≡ b
     some_same a b e = cc
@@ -101,11 +104,14 @@ none_found f None e = refl
 none_found f (Some x) e = absurd (cc)
 
 -- the place of a name among keys that show nothing else
-pub position-names : {B : Type 0} (name : List ℕ) (es : List (Vec ℕ Global × B)) → position (λ k. bytes_eq name k.items) (keys_of es) ≡ place_of name (map (λ e. e.0.items) es)
-position-names {B = B} name es = position-map (λ k. bytes_eq name k.items) (λ (e : Vec ℕ Global × B). e.0) es ∙ sym (position-map (bytes_eq name) (λ (e : Vec ℕ Global × B). e.0.items) es)
+pub position-names : {B : Type 0} (name : List ℕ) (es : List (Vec ℕ Global × B)) → position (λ k. bytes_eq name k.items)
+    (keys_of es) ≡ place_of name (map (λ e. e.0.items) es)
+position-names {B = B} name es = position-map (λ k. bytes_eq name k.items) (λ (e : Vec ℕ Global × B). e.0) es ∙
+    sym (position-map (bytes_eq name) (λ (e : Vec ℕ Global × B). e.0.items) es)
 
 -- a name that is not among the names that the keys show is no key
-pub no_key : {B : Type 0} (name : List ℕ) (es : List (Vec ℕ Global × B)) → place_of name (map (λ e. e.0.items) es) ≡ None → position (λ k. bytes_eq name k.items) (keys_of es) ≡ None
+pub no_key : {B : Type 0} (name : List ℕ) (es : List (Vec ℕ Global × B)) → place_of name (map (λ e. e.0.items) es) ≡ None →
+    position (λ k. bytes_eq name k.items) (keys_of es) ≡ None
 no_key name es none = position-names name es ∙ none
 
 -- what holds anyway holds where there is an error

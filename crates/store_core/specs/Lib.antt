@@ -6,11 +6,3 @@ pub mod CellLists
 pub mod Stores
 pub mod StoreCodes
 pub mod StoreBodies
-pub mod StoreText
-pub mod Faults
-pub mod Lines
-pub mod Spelling
-pub mod Saying
-pub mod Reading
-pub mod DraftBodies
-pub mod Writable

@@ -1,10 +1,9 @@
 -- A store as it is kept, read as a finite map.
-use Rattle.std.specs.Prelude.{◌≡◌, ℕ, ◌<◌, List, [], ◌∷◌, map, length}
+use Rattle.std.specs.Prelude.{ℕ, ◌<◌, List, [], ◌∷◌, map}
 use Rattle.std.specs.List.{AllByRecursion}
 use Rattle.std.specs.FinMap.{from_sorted}
 use Rattle.store_core.specs.declared.store.CellBody.{CellBody}
 use Rattle.store_core.specs.declared.value.Value.{Value}
-use Rattle.store_core.specs.Tables.{TypeEntry, fields_of}
 use Rattle.store_core.specs.Stores.{StoreMap, CellEntry}
 
 -- a cell under its number
@@ -26,7 +25,3 @@ store_of bodies vars next = record { cells = from_sorted (cells_of bodies); vars
 pub record IsKept (bodies : List CellBody) (next : ℕ) : Type 0 where
   pub rising : AreInOrder bodies
   pub below : AllByRecursion (λ b. b.number < next) bodies
-
--- a cell has a place for each field of its type
-abbrev pub HasSlots : List TypeEntry → CellBody → Type 0
-HasSlots types b = length b.values ≡ length (fields_of types b.variant.ty)

@@ -16,13 +16,13 @@ use plain_data::{Items, at};
 use std::alloc::{AllocError, Global};
 use std::marker::Model;
 
-/// A live cell.
+/// A live cell, as a store is made of them.
 #[derive(Drop)]
-pub(crate) struct CellBody {
-    pub(crate) number: u32,
-    pub(crate) variant: VariantId,
+pub struct CellBody {
+    pub number: u32,
+    pub variant: VariantId,
     /// The value of each field of its type by the field's number, `None` where its variant hasn't the field.
-    pub(crate) values: Items<Option<Value>>,
+    pub values: Items<Option<Value>>,
 }
 
 /// A finite map from cell numbers to cells, with a value for each variable and a number above every cell number ever used.
@@ -104,8 +104,8 @@ fn blank_values(
 impl Store {
     ghost use Rattle.store_core.specs.StoreBodies.{cell_entry, cells_of, store_of, IsKept};
 
-    /// The store of these cells, whose numbers rise and are below the next.
-    pub(crate) fn of(cells: Vec<CellBody>, vars: Items<Value>, next: u32) -> Store
+    /// The store of these cells, whose numbers rise and are below the next. Takes no memory.
+    pub fn of(cells: Vec<CellBody>, vars: Items<Value>, next: u32) -> Store
         requires { IsKept cells.items next }
         ensures { result ≡ store_of cells.items vars next }
     {
@@ -156,15 +156,15 @@ impl Store {
         at(self.cells.as_slice(), place)
     }
 
-    /// The live cells by number.
-    pub(crate) fn bodies(&self) -> &[CellBody]
+    /// The live cells by number. Takes no memory.
+    pub fn bodies(&self) -> &[CellBody]
         ensures { cells_of result.now ≡ entries self.now.cells }
     {
         self.cells.as_slice()
     }
 
-    /// The value of each variable by its number.
-    pub(crate) fn values(&self) -> &[Value]
+    /// The value of each variable by its number. Takes no memory.
+    pub fn values(&self) -> &[Value]
         ensures { result.now ≡ self.now.vars }
     {
         self.vars.as_slice()

@@ -3,7 +3,8 @@
 ghost use Rattle.std.specs.Prelude.{◌<◌, length};
 
 use std::alloc::{AllocError, Global};
-use store_core::{StoreFault, TypeTable, VarTable, read_store, read_stores_fit, store_text};
+use store_core::{TypeTable, VarTable};
+use store_text::{StoreFault, read_store, read_stores_fit, store_text};
 
 /// The line and the kind of a fault.
 fn fault_told(alloc: Global, fault: StoreFault) -> Result<Vec<u8>, AllocError> {

@@ -8,8 +8,8 @@ use std::alloc::{AllocError, Global};
 use std::test::Fail;
 use store_core::{
     CellId, FieldId, Store, TypeId, TypeTable, Value, VarId, VarKind, VarTable, VariantId,
-    read_store,
 };
+use store_text::read_store;
 use stores::{Held, LIST_VARS, LISTS, OTHERS, OVER_FOUR, Printed, PrintedCell};
 
 fn held(value: Option<&Value>) -> Option<Held> {

@@ -1,6 +1,8 @@
 -- On formulas that are kept as nodes.
-use Rattle.std.proofs.Common.{◌≡◌, ℕ, zero, suc, ◌<◌, max, Bool, true, false, cond, eqb, ◌&&◌, inl, inr, List, [], ◌∷◌, ◌++◌, length, take, map, slice_get, unwrap_or, option_map, Option, Some, None, IsSome, is_some, All, refl, sym, ap, ap₂, subst, ◌∙◌, arith, eqb-true, eq-eqb, length-append}
-use Rattle.std.proofs.lemmas.Bool.{false≢true}
+use Rattle.std.proofs.Common.{◌≡◌, ℕ, zero, suc, ◌<◌, max, Bool, true, false, cond, eqb, ◌&&◌, inl, inr, List, [], ◌∷◌, ◌++◌}
+use Rattle.std.proofs.Common.{length, take, map, slice_get, unwrap_or, option_map, Option, Some, None, IsSome, is_some, All, refl}
+use Rattle.std.proofs.Common.{sym, ap, ap₂, subst, ◌∙◌, arith, eqb-true, eq-eqb, length-append}
+use Rattle.std.proofs.lemmas.Bool.{and_from, and_parts, false≢true}
 use Rattle.std.proofs.lemmas.Option.{slice_get_within}
 use Rattle.std.proofs.lemmas.List.Elements.{All-nil, All-cons, All-head, All-tail, All-weaker}
 use Rattle.std.specs.HashMap.{HashMap, get}
@@ -21,39 +23,30 @@ use Rattle.ws2s_core.specs.Postfix.{parts_of, taken, applied}
 abbrev same_node : Node → Node → Bool
 same_node = (node_eq.ghosts).eq
 
-and-true : (b c : Bool) → b && c ≡ true → (b ≡ true) × (c ≡ true)
-and-true true true both = (refl, refl)
-and-true true false both = absurd (false≢true both)
-and-true false c both = absurd (false≢true both)
-
 same_track : (x y : Track) → eqb x.0 y.0 ≡ true → x ≡ y
 same_track x y e = ap (λ n. record { 0 = n }) (eqb-true x.0 y.0 e)
 
 -- the derived test says whether two nodes are the same
 pub same_node-true : (x y : Node) → same_node x y ≡ true → x ≡ y
-same_node-true (Node.Sub x y) (Node.Sub x' y') e = let h = and-true _ _ e in ap₂ Node.Sub (same_track x x' h.0) (same_track y y' h.1)
+same_node-true (Node.Sub x y) (Node.Sub x' y') e = let h = and_parts _ _ e in ap₂ Node.Sub (same_track x x' h.0) (same_track y y' h.1)
 same_node-true (Node.Single x) (Node.Single x') e = ap Node.Single (same_track x x' e)
-same_node-true (Node.Succ0 x y) (Node.Succ0 x' y') e = let h = and-true _ _ e in ap₂ Node.Succ0 (same_track x x' h.0) (same_track y y' h.1)
-same_node-true (Node.Succ1 x y) (Node.Succ1 x' y') e = let h = and-true _ _ e in ap₂ Node.Succ1 (same_track x x' h.0) (same_track y y' h.1)
+same_node-true (Node.Succ0 x y) (Node.Succ0 x' y') e = let h = and_parts _ _ e in ap₂ Node.Succ0 (same_track x x' h.0) (same_track y y' h.1)
+same_node-true (Node.Succ1 x y) (Node.Succ1 x' y') e = let h = and_parts _ _ e in ap₂ Node.Succ1 (same_track x x' h.0) (same_track y y' h.1)
 same_node-true (Node.Root x) (Node.Root x') e = ap Node.Root (same_track x x' e)
-same_node-true (Node.And f g) (Node.And f' g') e = let h = and-true _ _ e in ap₂ Node.And (eqb-true f f' h.0) (eqb-true g g' h.1)
+same_node-true (Node.And f g) (Node.And f' g') e = let h = and_parts _ _ e in ap₂ Node.And (eqb-true f f' h.0) (eqb-true g g' h.1)
 same_node-true (Node.Not f) (Node.Not f') e = ap Node.Not (eqb-true f f' e)
-same_node-true (Node.Ex2 t f) (Node.Ex2 t' f') e = let h = and-true _ _ e in ap₂ Node.Ex2 (same_track t t' h.0) (eqb-true f f' h.1)
+same_node-true (Node.Ex2 t f) (Node.Ex2 t' f') e = let h = and_parts _ _ e in ap₂ Node.Ex2 (same_track t t' h.0) (eqb-true f f' h.1)
 same_node-true x y e = absurd (false≢true e)
 
-true-and : (b c : Bool) → b ≡ true → c ≡ true → b && c ≡ true
-true-and true c one other = other
-true-and false c one other = one
-
 pub same_node-refl : (x : Node) → same_node x x ≡ true
-same_node-refl (Node.Sub x y) = true-and _ _ (eq-eqb x.0 x.0 refl) (eq-eqb y.0 y.0 refl)
+same_node-refl (Node.Sub x y) = and_from _ _ (eq-eqb x.0 x.0 refl) (eq-eqb y.0 y.0 refl)
 same_node-refl (Node.Single x) = eq-eqb x.0 x.0 refl
-same_node-refl (Node.Succ0 x y) = true-and _ _ (eq-eqb x.0 x.0 refl) (eq-eqb y.0 y.0 refl)
-same_node-refl (Node.Succ1 x y) = true-and _ _ (eq-eqb x.0 x.0 refl) (eq-eqb y.0 y.0 refl)
+same_node-refl (Node.Succ0 x y) = and_from _ _ (eq-eqb x.0 x.0 refl) (eq-eqb y.0 y.0 refl)
+same_node-refl (Node.Succ1 x y) = and_from _ _ (eq-eqb x.0 x.0 refl) (eq-eqb y.0 y.0 refl)
 same_node-refl (Node.Root x) = eq-eqb x.0 x.0 refl
-same_node-refl (Node.And f g) = true-and _ _ (eq-eqb f f refl) (eq-eqb g g refl)
+same_node-refl (Node.And f g) = and_from _ _ (eq-eqb f f refl) (eq-eqb g g refl)
 same_node-refl (Node.Not f) = eq-eqb f f refl
-same_node-refl (Node.Ex2 t f) = true-and _ _ (eq-eqb t.0 t.0 refl) (eq-eqb f f refl)
+same_node-refl (Node.Ex2 t f) = and_from _ _ (eq-eqb t.0 t.0 refl) (eq-eqb f f refl)
 
 -- the index, after the map was reordered
 pub IsIndexed-same : (nodes : List Node) (places places' : HashMap Node ℕ (BuildHasherDefault FoldHasher)) →
@@ -78,7 +71,8 @@ IsIndexed-push nodes places places' node h room parts absent updates = record {
   ];
   found = λ k other at. elim (slice_get-push nodes node other k at) as (λ _. get same_node places' other ≡ Some k) [
     | inl old ↦ updates other ∙ keep k other old (same_node node other) refl
-    | inr new ↦ updates other ∙ ap (λ b. cond b (Some (length nodes)) (get same_node places other)) (ap (same_node node) (sym new.1) ∙ same_node-refl node) ∙ ap Some (sym new.0)
+    | inr new ↦ updates other ∙ ap (λ b. cond b (Some (length nodes)) (get same_node places other))
+        (ap (same_node node) (sym new.1) ∙ same_node-refl node) ∙ ap Some (sym new.0)
   ];
   sound = λ k other at. back k other (same_node node other) refl (sym (updates other) ∙ at);
 }
@@ -219,7 +213,9 @@ pub applied-placed : (symbol : Symbol) (nodes : List Node) (parts rest : List �
 applied-placed symbol nodes parts rest node place taking at below =
     ap (option_map (λ found. roll-Formula found.0 ∷ found.1)) (taken-map symbol (formula_at (formulas_of nodes)) parts
     ∙ ap (option_map (λ found. (map-Formula ℕ Formula (formula_at (formulas_of nodes)) found.0, map (formula_at (formulas_of nodes)) found.1))) taking)
-    ∙ ap (λ f. Some (f ∷ stands_for nodes rest)) (sym (formula_at-is (formulas_of nodes) place (formula_of_node (formulas_of nodes) node) (formulas_of-at nodes place node at below)))
+    ∙ ap (λ f. Some (f ∷ stands_for nodes rest))
+    (sym (formula_at-is (formulas_of nodes) place (formula_of_node (formulas_of nodes) node)
+    (formulas_of-at nodes place node at below)))
 
 -- the node of a form
 node_from : Formula-F ℕ → Node

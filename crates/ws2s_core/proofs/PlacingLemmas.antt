@@ -1,5 +1,7 @@
 -- On the walk that puts a formula's nodes into a table.
-use Rattle.std.proofs.Common.{◌≡◌, ℕ, suc, ◌+◌, ◌-◌, ◌<◌, ◌≤◌, List, [], ◌∷◌, ◌++◌, length, drop, get_or, reverse, slice_get, option_and_then, Some, IsSome, All, sym, ap, subst, ◌∙◌, arith, append_assoc, append-nil, drop-cons, drop_of_length-le, length-append}
+use Rattle.std.proofs.Common.{◌≡◌, ℕ, suc, ◌+◌, ◌-◌, ◌<◌, ◌≤◌, List, [], ◌∷◌, ◌++◌, length, drop, get_or, reverse, slice_get}
+use Rattle.std.proofs.Common.{option_and_then, Some, IsSome, All, sym, ap, subst, ◌∙◌, arith, append_assoc, append-nil, drop-cons}
+use Rattle.std.proofs.Common.{drop_of_length-le, length-append}
 use Rattle.std.proofs.lemmas.List.{reverse-append, reverse-reverse, length-reverse, get_or-reverse}
 use Rattle.std.proofs.lemmas.Option.{slice_get_within}
 use Rattle.std.proofs.lemmas.List.Elements.{All-nil, All-head, All-push, All-weaker}
@@ -53,7 +55,8 @@ module _ (symbol : Symbol) (parts rest : List ℕ) (node : Node) (taking : taken
       ∙ ap (λ ps. Some (stands_for nodes ps)) (sym (ap reverse is ∙ reverse-append rest (place ∷ [])))
 
 -- where the walk begins
-pub IsPlacedTo-first : (before now : List Node) (places : HashMap Node ℕ (BuildHasherDefault FoldHasher)) (parts : List ℕ) (left : List Symbol) (formula : Formula) →
+pub IsPlacedTo-first : (before now : List Node) (places : HashMap Node ℕ (BuildHasherDefault FoldHasher))
+    (parts : List ℕ) (left : List Symbol) (formula : Formula) →
     IsIndexed now places → now ≡ before → parts ≡ [] → left ≡ postfix_of formula → IsPlacedTo before now places parts left formula
 IsPlacedTo-first before now places parts left formula index same none is = record {
   indexed = index;

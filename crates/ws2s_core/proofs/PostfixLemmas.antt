@@ -1,5 +1,6 @@
 -- On formulas in postfix order.
-use Rattle.std.proofs.Common.{◌≡◌, ℕ, ◌<◌, List, [], ◌∷◌, ◌++◌, length, drop, get_or, IsSome, Option, Some, None, option_and_then, drop-cons, rules, suc, sym, ap, ◌∙◌, append_assoc, append-nil}
+use Rattle.std.proofs.Common.{◌≡◌, ℕ, ◌<◌, List, [], ◌∷◌, ◌++◌, length, drop, get_or, IsSome, Option, Some, None, option_and_then}
+use Rattle.std.proofs.Common.{drop-cons, rules, suc, sym, ap, ◌∙◌, append_assoc, append-nil}
 use Rattle.ws2s_core.specs.declared.postfix.Symbol.{Symbol}
 use Rattle.ws2s_core.specs.declared.formula.Formula.{Formula}
 use Rattle.ws2s_core.specs.declared.formula.Formula.TheVariants.{rolls-Sub, rolls-Single, rolls-Succ0, rolls-Succ1, rolls-Root, rolls-And, rolls-Not, rolls-Ex2}
@@ -11,14 +12,21 @@ pub run_on-postfix : (f : Formula) (rest : List Symbol) (parts : List Formula) �
     run_on (postfix_of f ++ rest) parts ≡ run_on rest (f ∷ parts)
 run_on-postfix = formula-induction
     (λ f. (rest : List Symbol) (parts : List Formula) → run_on (postfix_of f ++ rest) parts ≡ run_on rest (f ∷ parts)) (record {
-      of_Sub = λ x y rest parts. ap (λ s. run_on (s ++ rest) parts) (fold-Sub (List Symbol) postfix_of_node x y) ∙ ap (λ f. run_on rest (f ∷ parts)) (rolls-Sub x y);
-      of_Single = λ x rest parts. ap (λ s. run_on (s ++ rest) parts) (fold-Single (List Symbol) postfix_of_node x) ∙ ap (λ f. run_on rest (f ∷ parts)) (rolls-Single x);
-      of_Succ0 = λ x y rest parts. ap (λ s. run_on (s ++ rest) parts) (fold-Succ0 (List Symbol) postfix_of_node x y) ∙ ap (λ f. run_on rest (f ∷ parts)) (rolls-Succ0 x y);
-      of_Succ1 = λ x y rest parts. ap (λ s. run_on (s ++ rest) parts) (fold-Succ1 (List Symbol) postfix_of_node x y) ∙ ap (λ f. run_on rest (f ∷ parts)) (rolls-Succ1 x y);
-      of_Root = λ x rest parts. ap (λ s. run_on (s ++ rest) parts) (fold-Root (List Symbol) postfix_of_node x) ∙ ap (λ f. run_on rest (f ∷ parts)) (rolls-Root x);
+      of_Sub = λ x y rest parts. ap (λ s. run_on (s ++ rest) parts) (fold-Sub (List Symbol) postfix_of_node x y)
+          ∙ ap (λ f. run_on rest (f ∷ parts)) (rolls-Sub x y);
+      of_Single = λ x rest parts. ap (λ s. run_on (s ++ rest) parts) (fold-Single (List Symbol) postfix_of_node x)
+          ∙ ap (λ f. run_on rest (f ∷ parts)) (rolls-Single x);
+      of_Succ0 = λ x y rest parts. ap (λ s. run_on (s ++ rest) parts) (fold-Succ0 (List Symbol) postfix_of_node x y)
+          ∙ ap (λ f. run_on rest (f ∷ parts)) (rolls-Succ0 x y);
+      of_Succ1 = λ x y rest parts. ap (λ s. run_on (s ++ rest) parts) (fold-Succ1 (List Symbol) postfix_of_node x y)
+          ∙ ap (λ f. run_on rest (f ∷ parts)) (rolls-Succ1 x y);
+      of_Root = λ x rest parts. ap (λ s. run_on (s ++ rest) parts) (fold-Root (List Symbol) postfix_of_node x)
+          ∙ ap (λ f. run_on rest (f ∷ parts)) (rolls-Root x);
       of_And = λ f g of_f of_g rest parts.
-          ap (λ s. run_on (s ++ rest) parts) (fold-And (List Symbol) postfix_of_node f g ∙ ap (λ s. (postfix_of f ++ s) ++ Symbol.And ∷ []) (append-nil (postfix_of g)))
-          ∙ ap (λ s. run_on s parts) (append_assoc (postfix_of f ++ postfix_of g) (Symbol.And ∷ []) rest ∙ append_assoc (postfix_of f) (postfix_of g) (Symbol.And ∷ rest))
+          ap (λ s. run_on (s ++ rest) parts) (fold-And (List Symbol) postfix_of_node f g
+          ∙ ap (λ s. (postfix_of f ++ s) ++ Symbol.And ∷ []) (append-nil (postfix_of g)))
+          ∙ ap (λ s. run_on s parts) (append_assoc (postfix_of f ++ postfix_of g) (Symbol.And ∷ []) rest
+          ∙ append_assoc (postfix_of f) (postfix_of g) (Symbol.And ∷ rest))
           ∙ of_f (postfix_of g ++ Symbol.And ∷ rest) parts
           ∙ of_g (Symbol.And ∷ rest) (f ∷ parts)
           ∙ ap (λ h. run_on rest (h ∷ parts)) (rolls-And f g);

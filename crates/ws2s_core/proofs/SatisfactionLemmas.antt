@@ -4,7 +4,9 @@ use mathlib.Core.Path.{transport}
 use Rattle.gta_theory.specs.Assignments.{Position, PositionSet, Assignment, IsFiniteSet, IsOnly, replace}
 use Rattle.ws2s_core.specs.declared.track.Track.{Track}
 use Rattle.ws2s_core.specs.declared.formula.Formula.{Formula, roll-Formula}
-use Rattle.ws2s_core.specs.declared.formula.Formula.TheVariants.{Sub, Single, Succ0, Succ1, Root, And, Not, Ex2, rolls-Sub, rolls-Single, rolls-Succ0, rolls-Succ1, rolls-Root, rolls-And, rolls-Not, rolls-Ex2}
+use Rattle.ws2s_core.specs.declared.formula.Formula.TheVariants.{Sub, Single, Succ0, Succ1, Root, And, Not, Ex2, rolls-Sub}
+use Rattle.ws2s_core.specs.declared.formula.Formula.TheVariants.{rolls-Single, rolls-Succ0, rolls-Succ1, rolls-Root, rolls-And}
+use Rattle.ws2s_core.specs.declared.formula.Formula.TheVariants.{rolls-Not, rolls-Ex2}
 use Rattle.ws2s_core.specs.declared.formula.Formula.TheOpen.{Formula-F}
 use Rattle.ws2s_core.specs.declared.formula.Formula.TheFolds.{rec-roll-Formula, map-Formula}
 use Rattle.ws2s_core.specs.Satisfaction.{IsSatisfiedNode, WSat}

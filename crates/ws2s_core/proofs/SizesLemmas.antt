@@ -1,5 +1,6 @@
 -- On the size of a formula, and the order in which its halves are counted.
-use Rattle.std.proofs.Common.{◌≡◌, ℕ, suc, ◌+◌, ◌^◌, ◌≤◌, min, max, Bool, true, false, cond, eqb, refl, sym, ap, subst, ◌∙◌, inl, inr, arith, eqb-true, pow-suc, pow_mono}
+use Rattle.std.proofs.Common.{◌≡◌, ℕ, suc, ◌+◌, ◌^◌, ◌≤◌, min, max, Bool, true, false, cond, eqb, refl, sym, ap, subst, ◌∙◌, inl}
+use Rattle.std.proofs.Common.{inr, arith, eqb-true, pow-suc, pow_mono}
 use Rattle.std.proofs.lemmas.Bool.{cases_lt}
 use Rattle.ws2s_core.specs.declared.formula.Formula.{Formula}
 use Rattle.ws2s_core.specs.declared.formula.Formula.TheVariants.{Sub, Single, Succ0, Succ1, Root, And, Not, Ex2}
@@ -17,8 +18,10 @@ power_of_order = formula-induction (λ f. 2 ^ strahler_order f ≤ node_count f)
   of_And = λ f g of_f of_g.
       both (strahler_order f) (strahler_order g) (node_count f) (node_count g) (strahler_order (And f g)) (node_count (And f g))
       of_f of_g (fold-And ℕ order_of_node f g) (fold-And ℕ count_of_node f g) (eqb (strahler_order f) (strahler_order g)) refl;
-  of_Not = λ f of_f. one (strahler_order f) (node_count f) (strahler_order (Not f)) (node_count (Not f)) of_f (fold-Not ℕ order_of_node f) (fold-Not ℕ count_of_node f);
-  of_Ex2 = λ t f of_f. one (strahler_order f) (node_count f) (strahler_order (Ex2 t f)) (node_count (Ex2 t f)) of_f (fold-Ex2 ℕ order_of_node t f) (fold-Ex2 ℕ count_of_node t f);
+  of_Not = λ f of_f. one (strahler_order f) (node_count f) (strahler_order (Not f)) (node_count (Not f)) of_f
+      (fold-Not ℕ order_of_node f) (fold-Not ℕ count_of_node f);
+  of_Ex2 = λ t f of_f. one (strahler_order f) (node_count f) (strahler_order (Ex2 t f)) (node_count (Ex2 t f)) of_f
+      (fold-Ex2 ℕ order_of_node t f) (fold-Ex2 ℕ count_of_node t f);
 })
   where
     atom : (o c : ℕ) → o ≡ 0 → c ≡ 1 → 2 ^ o ≤ c

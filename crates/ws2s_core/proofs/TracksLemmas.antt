@@ -1,5 +1,6 @@
 -- Satisfaction looks at the free tracks alone, and the numbers of bound ones don't matter.
-use Rattle.std.proofs.Common.{◌≡◌, ◌≢◌, ℕ, zero, suc, ◌+◌, ◌<◌, ◌≤◌, max, Bool, true, false, cond, eqb, ltb, ◌||◌, ◌&&◌, ◌↔◌, ◌⊎◌, inl, inr, [], ◌∷◌, ◌++◌, length, refl, sym, ap, subst, ◌∙◌, arith, eqb-true, eq-eqb, ne_eqb}
+use Rattle.std.proofs.Common.{◌≡◌, ◌≢◌, ℕ, zero, suc, ◌+◌, ◌<◌, ◌≤◌, max, Bool, true, false, cond, eqb, ltb, ◌||◌, ◌&&◌, ◌↔◌, ◌⊎◌}
+use Rattle.std.proofs.Common.{inl, inr, [], ◌∷◌, ◌++◌, length, refl, sym, ap, subst, ◌∙◌, arith, eqb-true, eq-eqb, ne_eqb}
 use Rattle.std.proofs.lemmas.Bool.{false≢true, eqb-false, ltb-true, ltb-false, lt-ltb, le-ltb}
 use Rattle.gta_theory.specs.Assignments.{Position, PositionSet, Assignment, IsFinite, Covers, IsOnly, replace, only_below}
 use Rattle.gta_theory.proofs.AssignmentsLemmas.{replace-same, replace-other}
@@ -74,7 +75,11 @@ carried = formula-induction (λ f. (a b : Assignment) → AgreeOn f a b → WSat
       let at_x : a x.0 ≡ b x.0 = agree x.0 (fold-Succ0 Bool (is_free_in_node x.0) x y ∙ first-free x.0 x.0 y.0 refl) in
       let at_y : a y.0 ≡ b y.0 = agree y.0 (fold-Succ0 Bool (is_free_in_node y.0) x y ∙ second-free y.0 x.0 y.0 refl) in
       let u = (WSat-Succ0 x y a).0 h in
-      (WSat-Succ0 x y b).1 (u.0, subst (λ (set : PositionSet). IsOnly set u.0) at_x u.1, subst (λ (set : PositionSet). IsOnly set (u.0 ++ false ∷ [])) at_y u.2);
+      (WSat-Succ0 x y b).1 (
+        u.0,
+        subst (λ (set : PositionSet). IsOnly set u.0) at_x u.1,
+        subst (λ (set : PositionSet). IsOnly set (u.0 ++ false ∷ [])) at_y u.2,
+      );
   of_Succ1 = λ x y a b agree h.
       let at_x : a x.0 ≡ b x.0 = agree x.0 (fold-Succ1 Bool (is_free_in_node x.0) x y ∙ first-free x.0 x.0 y.0 refl) in
       let at_y : a y.0 ≡ b y.0 = agree y.0 (fold-Succ1 Bool (is_free_in_node y.0) x y ∙ second-free y.0 x.0 y.0 refl) in
@@ -171,13 +176,19 @@ renamed-replaced r injective a t set = λ i u p. cond (same u (eqb u t) refl i) 
 pub WSat-renamed : (r : ℕ → ℕ) → IsInjective r → (f : Formula) (a : Assignment) →
     WSat (renamed r f) a ↔ WSat f (λ t. a (r t))
 WSat-renamed r injective = formula-induction (λ f. (a : Assignment) → WSat (renamed r f) a ↔ WSat f (λ t. a (r t))) (record {
-  of_Sub = λ x y a. through (fold-Sub Formula (renamed_node r) x y) a (joined (WSat-Sub (renamed_track r x) (renamed_track r y) a) (WSat-Sub x y (λ t. a (r t))));
+  of_Sub = λ x y a. through (fold-Sub Formula (renamed_node r) x y) a
+      (joined (WSat-Sub (renamed_track r x) (renamed_track r y) a) (WSat-Sub x y (λ t. a (r t))));
   of_Single = λ x a. through (fold-Single Formula (renamed_node r) x) a (joined (WSat-Single (renamed_track r x) a) (WSat-Single x (λ t. a (r t))));
-  of_Succ0 = λ x y a. through (fold-Succ0 Formula (renamed_node r) x y) a (joined (WSat-Succ0 (renamed_track r x) (renamed_track r y) a) (WSat-Succ0 x y (λ t. a (r t))));
-  of_Succ1 = λ x y a. through (fold-Succ1 Formula (renamed_node r) x y) a (joined (WSat-Succ1 (renamed_track r x) (renamed_track r y) a) (WSat-Succ1 x y (λ t. a (r t))));
+  of_Succ0 = λ x y a. through (fold-Succ0 Formula (renamed_node r) x y) a
+      (joined (WSat-Succ0 (renamed_track r x) (renamed_track r y) a) (WSat-Succ0 x y (λ t. a (r t))));
+  of_Succ1 = λ x y a. through (fold-Succ1 Formula (renamed_node r) x y) a
+      (joined (WSat-Succ1 (renamed_track r x) (renamed_track r y) a) (WSat-Succ1 x y (λ t. a (r t))));
   of_Root = λ x a. through (fold-Root Formula (renamed_node r) x) a (joined (WSat-Root (renamed_track r x) a) (WSat-Root x (λ t. a (r t))));
   of_And = λ f g of_f of_g a. through (fold-And Formula (renamed_node r) f g) a (
-    (λ h. (WSat-And f g (λ t. a (r t))).1 ((of_f a).0 ((WSat-And (renamed r f) (renamed r g) a).0 h).0, (of_g a).0 ((WSat-And (renamed r f) (renamed r g) a).0 h).1)),
+    (λ h. (WSat-And f g (λ t. a (r t))).1 (
+      (of_f a).0 ((WSat-And (renamed r f) (renamed r g) a).0 h).0,
+      (of_g a).0 ((WSat-And (renamed r f) (renamed r g) a).0 h).1,
+    )),
     (λ h. (WSat-And (renamed r f) (renamed r g) a).1 ((of_f a).1 ((WSat-And f g (λ t. a (r t))).0 h).0, (of_g a).1 ((WSat-And f g (λ t. a (r t))).0 h).1)),
   );
   of_Not = λ f of_f a. through (fold-Not Formula (renamed_node r) f) a (
@@ -264,4 +275,5 @@ WSat-bound t u f not_free a = (
         pick false is =
             let not_u : v ≢ u.0 = λ e. not_free (subst (λ w. IsFree w f) e free) in
             (λ i p. cond (is i) (set p) (a v p))
-            ∙ sym (ap (replace a u.0 set) (ap (λ b. cond b u.0 (cond (eqb v u.0) t.0 v)) is ∙ ap (λ b. cond b t.0 v) (ne_eqb v u.0 not_u)) ∙ replace-other a u.0 v set not_u)
+            ∙ sym (ap (replace a u.0 set) (ap (λ b. cond b u.0 (cond (eqb v u.0) t.0 v)) is
+            ∙ ap (λ b. cond b t.0 v) (ne_eqb v u.0 not_u)) ∙ replace-other a u.0 v set not_u)

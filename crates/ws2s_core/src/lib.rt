@@ -21,8 +21,6 @@ mod node;
 mod node_table;
 mod postfix;
 mod size;
-#[cfg(test)]
-mod tests;
 mod track;
 
 pub use formula::Formula;

@@ -7,7 +7,7 @@ use Rattle.plain_data.specs.Stacks.{rest}
 use Rattle.ws2s_parse.specs.declared.grammar.act.SourceAct.{SourceAct}
 use Rattle.pale_text.specs.declared.token.Token.{Token}
 use Rattle.ws2s_parse.specs.MakingParts.{Parts}
-use Rattle.pale_text.specs.Making.{first_of}
+use Rattle.pale_text.specs.Tokens.{first_of}
 use Rattle.ws2s_parse.specs.Making.{after, run}
 
 module _ (events : List (Event SourceAct)) (place : ℕ) (d : Event SourceAct) (within : place < length events) where

@@ -3,8 +3,9 @@ use Rattle.std.specs.Prelude.{List, [], ◌∷◌, ◌++◌, true, false, Option
 use Rattle.ll1_reader.specs.declared.symbol.Event.{Event}
 use Rattle.ll1_reader.specs.declared.symbol.Event.TheVariants as event
 use Rattle.plain_data.specs.Stacks.{top, rest}
-use Rattle.pale_text.specs.Making.{first_of}
-use Rattle.pale_text.specs.MakingParts.{nowhere, place_of}
+use Rattle.pale_text.specs.Tokens.{first_of}
+use Rattle.pale_text.specs.Places.{nowhere}
+use Rattle.pale_text.specs.Tokens.{place_of}
 use Rattle.pale_text.specs.declared.token.Token.{Token}
 use Rattle.ws2s_syntax.specs.declared.declaration.Class.{Class}
 use Rattle.ws2s_syntax.specs.declared.declaration.Class.TheVariants as class

@@ -1,6 +1,7 @@
 -- What is made of a WS2S text while it is read, and is not yet part of something larger.
 use Rattle.std.specs.Prelude.{List, [], Option, None, Some}
-use Rattle.pale_text.specs.MakingParts.{nowhere, name_bytes}
+use Rattle.pale_text.specs.Places.{nowhere}
+use Rattle.pale_text.specs.Tokens.{name_bytes}
 use Rattle.pale_text.specs.declared.token.Token.{Token}
 use Rattle.ws2s_parse.specs.declared.build.binding.Binding.{Binding}
 use Rattle.ws2s_syntax.specs.declared.source.SourceFormula.{SourceFormula}

@@ -9,10 +9,16 @@ use Rattle.ws2s_syntax.specs.declared.formula.TextFormula.TheVariants as formula
 use Rattle.ws2s_syntax.specs.declared.source.SourceName.{SourceName}
 use Rattle.ws2s_syntax.specs.declared.source.SourceTerm.{SourceTerm}
 use Rattle.ws2s_syntax.specs.declared.source.SourceFormula.{SourceFormula, roll-SourceFormula}
-use Rattle.ws2s_syntax.specs.declared.source.SourceFormula.TheVariants.{Truth, Empty, Same, Differ, In, NotIn, Sub, Use, Not, Implies, Chain, Quantified, rolls-Truth, rolls-Empty, rolls-Same, rolls-Differ, rolls-In, rolls-NotIn, rolls-Sub, rolls-Use, rolls-Not, rolls-Implies, rolls-Chain, rolls-Quantified}
+use Rattle.ws2s_syntax.specs.declared.source.SourceFormula.TheVariants.{Truth, Empty, Same, Differ, In, NotIn, Sub, Use, Not}
+use Rattle.ws2s_syntax.specs.declared.source.SourceFormula.TheVariants.{Implies, Chain, Quantified, rolls-Truth, rolls-Empty}
+use Rattle.ws2s_syntax.specs.declared.source.SourceFormula.TheVariants.{rolls-Same, rolls-Differ, rolls-In, rolls-NotIn}
+use Rattle.ws2s_syntax.specs.declared.source.SourceFormula.TheVariants.{rolls-Sub, rolls-Use, rolls-Not, rolls-Implies}
+use Rattle.ws2s_syntax.specs.declared.source.SourceFormula.TheVariants.{rolls-Chain, rolls-Quantified}
 use Rattle.ws2s_syntax.specs.declared.source.SourceFormula.TheOpen.{SourceFormula-F}
 use Rattle.ws2s_syntax.specs.declared.source.SourceFormula.TheFolds.{map-SourceFormula, fold-roll-SourceFormula}
-use Rattle.ws2s_read.specs.Resolving.{Found, ◌>>=◌, IsStop, Names, Resolving, resolved_empty, resolved_same, resolved_in, resolved_sub, resolved_use, each_resolved, resolved_quantified, resolved_node, resolved_formula}
+use Rattle.ws2s_read.specs.Resolving.{Found, ◌>>=◌, IsStop, Names, Resolving, resolved_empty, resolved_same, resolved_in}
+use Rattle.ws2s_read.specs.Resolving.{resolved_sub, resolved_use, each_resolved, resolved_quantified, resolved_node}
+use Rattle.ws2s_read.specs.Resolving.{resolved_formula}
 use Rattle.ws2s_read.proofs.ResolvingLemmas.{found-then, stop-then, stop-after}
 
 at_form : (outer : ℕ) (f : SourceFormula) (x : SourceFormula-F SourceFormula) (names : Names) → f ≡ roll-SourceFormula x →

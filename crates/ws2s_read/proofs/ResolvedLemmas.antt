@@ -1,5 +1,7 @@
 -- What is found in a source tree is checked.
-use Rattle.std.proofs.Common.{◌≡◌, ℕ, ◌+◌, ◌-◌, Bool, true, false, cond, IsTrue, ◌&&◌, List, [], ◌∷◌, ◌++◌, length, map, fold, Option, Some, None, slice_get, Ok, refl, sym, ap, ◌∙◌, subst, arith, append_assoc, append-nil, length-append, ◌==◌}
+use Rattle.std.proofs.Common.{◌≡◌, ℕ, ◌+◌, ◌-◌, Bool, true, false, cond, IsTrue, ◌&&◌, List, [], ◌∷◌, ◌++◌, length, map, fold}
+use Rattle.std.proofs.Common.{Option, Some, None, slice_get, Ok, refl, sym, ap, ◌∙◌, subst, arith, append_assoc, append-nil}
+use Rattle.std.proofs.Common.{length-append, ◌==◌}
 use Rattle.std.proofs.lemmas.Bool.{eqb-true}
 use Rattle.std.proofs.lemmas.List.{map-append, length-map}
 use Rattle.std.proofs.lemmas.List.Folds.{list_all-append}
@@ -26,7 +28,9 @@ use Rattle.ws2s_syntax.specs.declared.source.SourceName.{SourceName}
 use Rattle.ws2s_syntax.specs.declared.source.SourceBase.{SourceBase}
 use Rattle.ws2s_syntax.specs.declared.source.SourceTerm.{SourceTerm}
 use Rattle.ws2s_syntax.specs.declared.source.SourceFormula.{SourceFormula, roll-SourceFormula}
-use Rattle.ws2s_syntax.specs.declared.source.SourceFormula.TheVariants.{rolls-Truth, rolls-Empty, rolls-Same, rolls-Differ, rolls-In, rolls-NotIn, rolls-Sub, rolls-Use, rolls-Not, rolls-Implies, rolls-Chain, rolls-Quantified}
+use Rattle.ws2s_syntax.specs.declared.source.SourceFormula.TheVariants.{rolls-Truth, rolls-Empty, rolls-Same, rolls-Differ}
+use Rattle.ws2s_syntax.specs.declared.source.SourceFormula.TheVariants.{rolls-In, rolls-NotIn, rolls-Sub, rolls-Use, rolls-Not}
+use Rattle.ws2s_syntax.specs.declared.source.SourceFormula.TheVariants.{rolls-Implies, rolls-Chain, rolls-Quantified}
 use Rattle.ws2s_syntax.specs.declared.source.SourceFormula.TheOpen.{SourceFormula-F}
 use Rattle.ws2s_syntax.specs.declared.source.SourceFormula.TheFolds.{map-SourceFormula, ind-SourceFormula}
 use Rattle.ws2s_syntax.specs.declared.source.SourceParameter.{SourceParameter}
@@ -36,11 +40,21 @@ use Rattle.ws2s_read.specs.declared.names.Meaning.{Meaning}
 use Rattle.ws2s_read.specs.declared.names.Meaning.TheVariants as stands_for
 use Rattle.ws2s_read.specs.declared.items.Stage.{Stage}
 use Rattle.ws2s_syntax.specs.Sentences.{Sentence, negated, joined, each_quantified, sentence_of}
-use Rattle.ws2s_syntax.specs.Checked.{Text, text_of, Scope, class_of, is_position_class, is_set_class, is_set, is_term, is_argument, are_arguments, are_arguments_of, is_atom, class_bound, is_sentence, are_predicates, class_of_free, is_checked}
-use Rattle.ws2s_read.specs.Resolving.{Found, ◌>>=◌, refused, Names, meaning_of, known_as, known, declared, first_place, as_variable, resolved_variable, as_set, resolved_set, from_variable, resolved_named, resolved_from, resolved_side, as_position_side, as_set_side, resolved_position, resolved_set_side, as_argument, resolved_argument, resolved_empty, resolved_in, resolved_sub, as_same, resolved_same, resolved_arguments, as_use, resolved_use, bound, all_bound, each_resolved, resolved_formula, with_variable, with_variables, parameters_bound, classes_of, resolved_body, stands_for_set, with_predicate, with_formula, with_item, with_items, nothing, resolved}
+use Rattle.ws2s_syntax.specs.Checked.{Text, text_of, Scope, class_of, is_position_class, is_set_class, is_set, is_term}
+use Rattle.ws2s_syntax.specs.Checked.{is_argument, are_arguments, are_arguments_of, is_atom, class_bound, is_sentence}
+use Rattle.ws2s_syntax.specs.Checked.{are_predicates, class_of_free, is_checked}
+use Rattle.ws2s_read.specs.Resolving.{Found, ◌>>=◌, refused, Names, meaning_of, known_as, known, declared, first_place}
+use Rattle.ws2s_read.specs.Resolving.{as_variable, resolved_variable, as_set, resolved_set, from_variable, resolved_named}
+use Rattle.ws2s_read.specs.Resolving.{resolved_from, resolved_side, as_position_side, as_set_side, resolved_position}
+use Rattle.ws2s_read.specs.Resolving.{resolved_set_side, as_argument, resolved_argument, resolved_empty, resolved_in}
+use Rattle.ws2s_read.specs.Resolving.{resolved_sub, as_same, resolved_same, resolved_arguments, as_use, resolved_use, bound}
+use Rattle.ws2s_read.specs.Resolving.{all_bound, each_resolved, resolved_formula, with_variable, with_variables}
+use Rattle.ws2s_read.specs.Resolving.{parameters_bound, classes_of, resolved_body, stands_for_set, with_predicate, with_formula}
+use Rattle.ws2s_read.specs.Resolving.{with_item, with_items, nothing, resolved}
 use Rattle.ws2s_syntax.proofs.SentencesLemmas.{sentence-Atom, sentence-Not, sentence-Implies, sentence-Chain, sentence-Quantified}
 use Rattle.ws2s_read.proofs.ResolvingLemmas.{then-Ok, declared-Ok}
-use Rattle.ws2s_read.proofs.FormsLemmas.{stated, denied, at-Truth, at-Empty, at-Same, at-Differ, at-In, at-NotIn, at-Sub, at-Use, at-Not, at-Implies, at-Chain, at-Quantified}
+use Rattle.ws2s_read.proofs.FormsLemmas.{stated, denied, at-Truth, at-Empty, at-Same, at-Differ, at-In, at-NotIn, at-Sub, at-Use}
+use Rattle.ws2s_read.proofs.FormsLemmas.{at-Not, at-Implies, at-Chain, at-Quantified}
 
 abbrev scope_of : List Class → List Class → Scope
 scope_of free local = record { free = free; local = local }
@@ -326,7 +340,8 @@ module _ (free : List Class) (signatures : List (List Class)) where
       quantified_checked outer q xs s (local ++ class_bound q ∷ []) step.0 inside
       (bound_place outer (class_bound q) x local names step.0 at step.1) step.2 fine
 
-  chain_checked : (outer : ℕ) (c : Connective) (local : List Class) (names : Names) (others : List ((g : SourceFormula) × IsCheckedBy outer (resolved_formula outer g)))
+  chain_checked : (outer : ℕ) (c : Connective) (local : List Class) (names : Names)
+      (others : List ((g : SourceFormula) × IsCheckedBy outer (resolved_formula outer g)))
       (s : Sentence) (fs : List TextFormula) → IsPlace outer local names → IsTrue (is_sentence signatures (scope_of free local) s) →
       each_resolved names (map (resolved_formula outer) (map (λ e. e.0) others)) ≡ Ok fs →
       IsTrue (is_sentence signatures (scope_of free local) (fold (joined c) s (map sentence_of fs)))
@@ -349,19 +364,25 @@ module _ (free : List Class) (signatures : List (List Class)) where
       let same : formula.Atom (Atom.Truth b) ≡ f = cc (sym (at-Truth outer _ b names (rolls-Truth b)) ∙ e) in
       subst (IsFine local) same (subst (λ s. IsTrue (is_sentence signatures (scope_of free local) s)) (sym (sentence-Atom (Atom.Truth b))) refl)
   made_checked outer (SourceFormula-F.Empty x) local names f at e =
-      stated_checked local (resolved_empty names x) f (λ a found. empty_checked local names x a at.fit found) (sym (at-Empty outer _ x names (rolls-Empty x)) ∙ e)
+      stated_checked local (resolved_empty names x) f (λ a found. empty_checked local names x a at.fit found)
+      (sym (at-Empty outer _ x names (rolls-Empty x)) ∙ e)
   made_checked outer (SourceFormula-F.Same t u) local names f at e =
-      stated_checked local (resolved_same names t u) f (λ a found. same_checked local names t u a at.fit found) (sym (at-Same outer _ t u names (rolls-Same t u)) ∙ e)
+      stated_checked local (resolved_same names t u) f (λ a found. same_checked local names t u a at.fit found)
+      (sym (at-Same outer _ t u names (rolls-Same t u)) ∙ e)
   made_checked outer (SourceFormula-F.Differ t u) local names f at e =
-      denied_checked local (resolved_same names t u) f (λ a found. same_checked local names t u a at.fit found) (sym (at-Differ outer _ t u names (rolls-Differ t u)) ∙ e)
+      denied_checked local (resolved_same names t u) f (λ a found. same_checked local names t u a at.fit found)
+      (sym (at-Differ outer _ t u names (rolls-Differ t u)) ∙ e)
   made_checked outer (SourceFormula-F.In t x) local names f at e =
       stated_checked local (resolved_in names t x) f (λ a found. in_checked local names t x a at.fit found) (sym (at-In outer _ t x names (rolls-In t x)) ∙ e)
   made_checked outer (SourceFormula-F.NotIn t x) local names f at e =
-      denied_checked local (resolved_in names t x) f (λ a found. in_checked local names t x a at.fit found) (sym (at-NotIn outer _ t x names (rolls-NotIn t x)) ∙ e)
+      denied_checked local (resolved_in names t x) f (λ a found. in_checked local names t x a at.fit found)
+      (sym (at-NotIn outer _ t x names (rolls-NotIn t x)) ∙ e)
   made_checked outer (SourceFormula-F.Sub t x) local names f at e =
-      stated_checked local (resolved_sub names t x) f (λ a found. sub_checked local names t x a at.fit found) (sym (at-Sub outer _ t x names (rolls-Sub t x)) ∙ e)
+      stated_checked local (resolved_sub names t x) f (λ a found. sub_checked local names t x a at.fit found)
+      (sym (at-Sub outer _ t x names (rolls-Sub t x)) ∙ e)
   made_checked outer (SourceFormula-F.Use p terms) local names f at e =
-      stated_checked local (resolved_use names p terms) f (λ a found. use_checked local names p terms a at.fit found) (sym (at-Use outer _ p terms names (rolls-Use p terms)) ∙ e)
+      stated_checked local (resolved_use names p terms) f (λ a found. use_checked local names p terms a at.fit found)
+      (sym (at-Use outer _ p terms names (rolls-Use p terms)) ∙ e)
   made_checked outer (SourceFormula-F.Not g) local names f at e =
       let step = then-Ok (resolved_formula outer g.0 names) (λ inner. Ok (formula.Not inner)) f (sym (at-Not outer _ g.0 names (rolls-Not g.0)) ∙ e) in
       let same : formula.Not step.0 ≡ f = cc (step.2) in
@@ -377,7 +398,9 @@ module _ (free : List Class) (signatures : List (List Class)) where
       (both _ _ (g.1 local names one.0 at one.1) (h.1 local names two.0 at two.1)))
   made_checked outer (SourceFormula-F.Chain c g others) local names f at e =
       let list = map (λ (o : (k : SourceFormula) × IsCheckedBy outer (resolved_formula outer k)). o.0) others in
-      let one = then-Ok (resolved_formula outer g.0 names) (λ first. each_resolved names (map (resolved_formula outer) list) >>= λ rest. Ok (formula.Chain c first rest)) f
+      let one =
+      then-Ok (resolved_formula outer g.0 names)
+      (λ first. each_resolved names (map (resolved_formula outer) list) >>= λ rest. Ok (formula.Chain c first rest)) f
       (sym (at-Chain outer _ c g.0 list names (rolls-Chain c g.0 list)) ∙ e) in
       let two = then-Ok (each_resolved names (map (resolved_formula outer) list)) (λ rest. Ok (formula.Chain c one.0 rest)) f one.2 in
       let same : formula.Chain c one.0 two.0 ≡ f = cc (two.2) in
@@ -424,7 +447,9 @@ record IsSound (stage : Stage) : Type 0 where
       AllFit (map class_of_free stage.free ++ more) [] (map (λ p. p.params) stage.predicates ++ others) stage.names
   pub predicates : (more : List Class) → IsTrue (are_predicates (map class_of_free stage.free ++ more) [] stage.predicates)
   pub formulas : (more : List Class) (others : List (List Class)) →
-      IsTrue (list_all (λ f. is_sentence (map (λ p. p.params) stage.predicates ++ others) (scope_of (map class_of_free stage.free ++ more) []) (sentence_of f)) stage.formulas)
+      IsTrue (list_all
+      (λ f. is_sentence (map (λ p. p.params) stage.predicates ++ others) (scope_of (map class_of_free stage.free ++ more) []) (sentence_of f))
+      stage.formulas)
 
 are_predicates-push : (free : List Class) (before : List (List Class)) (ps : List Predicate) (p : Predicate) →
     are_predicates free before (ps ++ p ∷ [])
@@ -455,7 +480,8 @@ variable_sound c x stage after sound e =
     let grown = declared-Ok stage.names x (stands_for.Variable (Free (length stage.free)) c) step.0 step.1 in
     let same : record stage { names = step.0; free = stage.free ++ made ∷ [] } ≡ after = cc (step.2) in
     let longer : (more : List Class) → map class_of_free (stage.free ++ made ∷ []) ++ more ≡ map class_of_free stage.free ++ (c ∷ more) =
-    λ more. ap (λ list. list ++ more) (map-append class_of_free stage.free (made ∷ [])) ∙ append_assoc (map class_of_free stage.free) (class_of_free made ∷ []) more
+    λ more. ap (λ list. list ++ more) (map-append class_of_free stage.free (made ∷ []))
+    ∙ append_assoc (map class_of_free stage.free) (class_of_free made ∷ []) more
     ∙ ap (λ d. map class_of_free stage.free ++ (d ∷ more)) (its_class c) in
     subst IsSound same (record {
       names = λ more others.
@@ -499,7 +525,8 @@ predicate_sound x ps body stage after sound e =
     let grown = declared-Ok stage.names x m one.0 one.1 in
     let same : record stage { names = one.0; predicates = stage.predicates ++ made ∷ [] } ≡ after = cc (two.2) in
     let before = map (λ (p : Predicate). p.params) stage.predicates in
-    let longer : (others : List (List Class)) → map (λ (p : Predicate). p.params) (stage.predicates ++ made ∷ []) ++ others ≡ before ++ (classes_of ps ∷ others) =
+    let longer : (others : List (List Class)) → map (λ (p : Predicate). p.params) (stage.predicates ++ made ∷ []) ++ others
+    ≡ before ++ (classes_of ps ∷ others) =
     λ others. ap (λ list. list ++ others) (map-append (λ (p : Predicate). p.params) stage.predicates (made ∷ []))
     ∙ append_assoc before (classes_of ps ∷ []) others in
     subst IsSound same (record {
@@ -534,7 +561,9 @@ formula_sound f stage after sound e =
       names = sound.names;
       predicates = sound.predicates;
       formulas = λ more others.
-          let fine : TextFormula → Bool = λ made. is_sentence (map (λ (p : Predicate). p.params) stage.predicates ++ others) (scope_of (map class_of_free stage.free ++ more) []) (sentence_of made) in
+          let fine : TextFormula → Bool =
+          λ made. is_sentence (map (λ (p : Predicate). p.params) stage.predicates ++ others)
+          (scope_of (map class_of_free stage.free ++ more) []) (sentence_of made) in
           list_all-append fine stage.formulas (step.0 ∷ [])
           ∙ both (list_all fine stage.formulas) _ (sound.formulas more others)
           (both (fine step.0) true

@@ -1,5 +1,6 @@
 -- Steps of the search for names.
-use Rattle.std.proofs.Common.{◌≡◌, ℕ, ◌-◌, Bool, true, false, cond, List, [], ◌∷◌, ◌++◌, length, take, Option, Some, None, is_some, Result, Ok, Err, IfErr, refl, sym, ap, ◌∙◌, subst, append_assoc, append-nil}
+use Rattle.std.proofs.Common.{◌≡◌, ℕ, ◌-◌, Bool, true, false, cond, List, [], ◌∷◌, ◌++◌, length, take, Option, Some, None}
+use Rattle.std.proofs.Common.{is_some, Result, Ok, Err, IfErr, refl, sym, ap, ◌∙◌, subst, append_assoc, append-nil}
 use Rattle.std.specs.Result.{IsErrAnd}
 use Rattle.std.proofs.lemmas.List.{take-map}
 use Rattle.indexmap.specs.IndexMap.{insert_entry}
@@ -23,7 +24,8 @@ use Rattle.ws2s_read.specs.declared.names.Meaning.{Meaning}
 use Rattle.ws2s_read.specs.declared.names.Meaning.TheVariants as stands_for
 use Rattle.ws2s_read.specs.declared.items.Stage.{Stage}
 use Rattle.ws2s_read.specs.NameTables.{entry_of, names_of}
-use Rattle.ws2s_read.specs.Resolving.{Found, ◌>>=◌, IsStop, Names, meaning_of, refused, known_as, known, declared, bound, all_bound, parameters_bound, classes_of, resolved_body, with_predicate}
+use Rattle.ws2s_read.specs.Resolving.{Found, ◌>>=◌, IsStop, Names, meaning_of, refused, known_as, known, declared, bound}
+use Rattle.ws2s_read.specs.Resolving.{all_bound, parameters_bound, classes_of, resolved_body, with_predicate}
 
 -- what is found is looked into
 pub found-then : {A B : Type 0} (r : Found A) (next : A → Found B) (a : A) (end : Found B) → r ≡ Ok a → next a ≡ end → (r >>= next) ≡ end
@@ -164,7 +166,8 @@ parameters_bound-front outer (p ∷ ps) names inside e =
     let rest = parameters_bound-front outer ps first.0 inside first.2 in
     let grown = declared-Ok names p.name (stands_for.Variable (variable.Local (length names - outer)) p.class) first.0 first.1 in (
       (p.name.bytes, stands_for.Variable (variable.Local (length names - outer)) p.class) ∷ rest.0,
-      rest.1 ∙ ap (λ n. n ++ rest.0) grown ∙ append_assoc names ((p.name.bytes, stands_for.Variable (variable.Local (length names - outer)) p.class) ∷ []) rest.0,
+      rest.1 ∙ ap (λ n. n ++ rest.0) grown
+          ∙ append_assoc names ((p.name.bytes, stands_for.Variable (variable.Local (length names - outer)) p.class) ∷ []) rest.0,
     )
 
 -- so they can be taken off again

@@ -120,7 +120,8 @@ read-misnamed source other_source refusal (Err stop.NoMemory) same fault is stop
 -- ---- the one refusal
 
 -- the grammar's fault is that of the tokens that were read
-parse-why : (bytes : List ℕ) (list : TokenList) (refusal : Refusal) → IsLexed bytes list → (is : IsUnparsed bytes refusal) → IsParseStop list (stop.Refused refusal)
+parse-why : (bytes : List ℕ) (list : TokenList) (refusal : Refusal) → IsLexed bytes list → (is : IsUnparsed bytes refusal) →
+    IsParseStop list (stop.Refused refusal)
 parse-why bytes list refusal lexed is =
     subst (λ l. IsParseStop l (stop.Refused refusal)) (tokens_are_one bytes is.list list is.lexed lexed) is.why
 

@@ -1,5 +1,6 @@
 -- What one step of the machine does.
-use Rattle.std.proofs.Common.{◌≡◌, ℕ, ◌+◌, ◌≤◌, cond, List, [], ◌∷◌, ◌++◌, length, map, reverse, take, drop, Some, None, OnOk, slice_get, refl, sym, ap, ap₂, ◌∙◌, arith, append-nil}
+use Rattle.std.proofs.Common.{◌≡◌, ℕ, ◌+◌, ◌≤◌, cond, List, [], ◌∷◌, ◌++◌, length, map, reverse, take, drop, Some, None, OnOk}
+use Rattle.std.proofs.Common.{slice_get, refl, sym, ap, ap₂, ◌∙◌, arith, append-nil}
 use Rattle.std.specs.List.{sum}
 use Rattle.std.proofs.lemmas.Bool.{le-leb}
 use Rattle.std.proofs.lemmas.List.{reverse-append}
@@ -19,7 +20,8 @@ use Rattle.ws2s_reduce.specs.declared.task.Place.{Place}
 use Rattle.ws2s_reduce.specs.declared.task.Task.{Task}
 use Rattle.ws2s_reduce.specs.declared.machine.Machine.{Machine}
 use Rattle.ws2s_reduce.specs.Reducing.{true_at, reduced, used}
-use Rattle.ws2s_reduce.specs.Building.{reductions_to, Step, to_build, to_forget, to_apply, step_of, steps_of, finished, tracks_from, chain_steps, formula_work, works_to, steps_work}
+use Rattle.ws2s_reduce.specs.Building.{reductions_to, Step, to_build, to_forget, to_apply, step_of, steps_of, finished}
+use Rattle.ws2s_reduce.specs.Building.{tracks_from, chain_steps, formula_work, works_to, steps_work}
 use Rattle.ws2s_reduce.specs.Machines.{IsPassed, IsBuilt}
 use Rattle.ws2s_reduce.proofs.StepsLemmas.{work-Chain, work-Quantified, same-Chain, same-Quantified}
 use Rattle.ws2s_reduce.proofs.PassingLemmas.{reductions_to-at, reductions_to-past, works_to-at}
@@ -69,17 +71,20 @@ drop_all (x ∷ xs) = drop_all xs
 pub IsBuilt-use : (predicates : List Predicate) (rank k next after kept : ℕ) (frame : List ℕ) (args : List Argument) (before mid now : Machine) →
     kept ≡ length before.tracks.items → IsPassed frame args next before after mid →
     finished predicates (steps_of now.tasks.items) now.tracks.items (reverse now.parts.items)
-    ≡ finished predicates (steps_of mid.tasks.items) (take kept mid.tracks.items) (reductions_to predicates rank k after (drop kept mid.tracks.items) ∷ reverse mid.parts.items) →
+    ≡ finished predicates (steps_of mid.tasks.items) (take kept mid.tracks.items)
+    (reductions_to predicates rank k after (drop kept mid.tracks.items) ∷ reverse mid.parts.items) →
     steps_work predicates (steps_of now.tasks.items) ≤ works_to predicates rank k + 1 + steps_work predicates (steps_of mid.tasks.items) →
     IsBuilt predicates (used (reductions_to predicates rank k) next frame args []) (works_to predicates rank k + length args + 3) before now
 IsBuilt-use predicates rank k next after kept frame args before mid now is_kept passed entered work = record {
   same =
       entered
       ∙ passed.same predicates kept (reductions_to predicates rank k) [] (omega (arith, is_kept))
-      ∙ ap₂ (λ xs ys. finished predicates (steps_of before.tasks.items) xs (used (reductions_to predicates rank k) next frame (args ++ []) ys ∷ reverse before.parts.items))
+      ∙ ap₂ (λ xs ys. finished predicates (steps_of before.tasks.items) xs
+      (used (reductions_to predicates rank k) next frame (args ++ []) ys ∷ reverse before.parts.items))
       (ap (λ n. take n before.tracks.items) is_kept ∙ take_all before.tracks.items)
       (ap (λ n. drop n before.tracks.items) is_kept ∙ drop_all before.tracks.items)
-      ∙ ap (λ all. finished predicates (steps_of before.tasks.items) before.tracks.items (used (reductions_to predicates rank k) next frame all [] ∷ reverse before.parts.items))
+      ∙ ap (λ all. finished predicates (steps_of before.tasks.items) before.tracks.items
+      (used (reductions_to predicates rank k) next frame all [] ∷ reverse before.parts.items))
       (append-nil args);
   less = let h = passed.work predicates in omega (arith, h, work);
 }
@@ -94,7 +99,8 @@ IsMade predicates place before now f =
 module _ (predicates : List Predicate) (place : Place) (before now : Machine) (inside : place.start ≤ length before.tracks.items) where
   module _ (parts : now.parts.items ≡ before.parts.items) where
     from_steps : (steps : List Step) (tracks : List ℕ) → steps_of now.tasks.items ≡ steps → now.tracks.items ≡ tracks →
-        finished predicates (steps_of now.tasks.items) now.tracks.items (reverse now.parts.items) ≡ finished predicates steps tracks (reverse before.parts.items)
+        finished predicates (steps_of now.tasks.items) now.tracks.items (reverse now.parts.items)
+        ≡ finished predicates steps tracks (reverse before.parts.items)
     from_steps steps tracks is_steps is_tracks =
         ap (λ all. finished predicates all now.tracks.items (reverse now.parts.items)) is_steps
         ∙ ap (λ all. finished predicates steps all (reverse now.parts.items)) is_tracks
@@ -102,7 +108,8 @@ module _ (predicates : List Predicate) (place : Place) (before now : Machine) (i
 
     chain_work : (c : Connective) (others : List declared_formula.TextFormula) (steps : List Step) →
         steps_work predicates (chain_steps c place others ++ steps)
-        ≡ sum (map (formula_work (works_to predicates place.rank)) others) + length (map (formula_work (works_to predicates place.rank)) others) + steps_work predicates steps
+        ≡ sum (map (formula_work (works_to predicates place.rank)) others) + length
+        (map (formula_work (works_to predicates place.rank)) others) + steps_work predicates steps
     chain_work c [] steps = omega arith
     chain_work c (f ∷ others) steps =
         let unfolded : steps_work predicates (chain_steps c place (f ∷ others) ++ steps)
@@ -115,7 +122,9 @@ module _ (predicates : List Predicate) (place : Place) (before now : Machine) (i
         steps_of now.tasks.items ≡ to_build f place ∷ (chain_steps c place others ++ steps_of before.tasks.items) → now.tracks.items ≡ before.tracks.items →
         IsMade predicates place before now (Chain c f others)
     Built-Chain c f others steps tracks = record {
-      same = from_steps _ before.tracks.items steps tracks ∙ same-Chain predicates place (steps_of before.tasks.items) before.tracks.items inside c f others (reverse before.parts.items);
+      same = from_steps _ before.tracks.items steps tracks
+          ∙ same-Chain predicates place (steps_of before.tasks.items) before.tracks.items inside c f others
+          (reverse before.parts.items);
       less =
           let e = ap (steps_work predicates) steps in
           let h = chain_work c others (steps_of before.tasks.items) in

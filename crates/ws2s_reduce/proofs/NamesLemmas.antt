@@ -1,5 +1,6 @@
 -- Names, terms and their tracks.
-use Rattle.std.proofs.Common.{◌≡◌, ◌≢◌, ℕ, suc, ◌+◌, ◌<◌, true, false, IsTrue, ◌↔◌, inl, inr, List, [], ◌∷◌, ◌++◌, length, fold, reverse, Option, Some, None, slice_get, unwrap_or, refl, sym, ap, ◌∙◌, subst, arith, length-append}
+use Rattle.std.proofs.Common.{◌≡◌, ◌≢◌, ℕ, suc, ◌+◌, ◌<◌, true, false, IsTrue, ◌↔◌, inl, inr, List, [], ◌∷◌, ◌++◌, length, fold}
+use Rattle.std.proofs.Common.{reverse, Option, Some, None, slice_get, unwrap_or, refl, sym, ap, ◌∙◌, subst, arith, length-append}
 use Rattle.std.proofs.lemmas.Bool.{false≢true}
 use Rattle.std.proofs.lemmas.List.{reverse-reverse, reverse-append}
 use Rattle.std.proofs.lemmas.List.Sums.{fold-append}

@@ -1,5 +1,7 @@
 -- Reductions have the sizes that are counted.
-use Rattle.std.proofs.Common.{◌≡◌, ℕ, zero, suc, ◌+◌, ◌*◌, ◌<◌, min, Bool, true, false, cond, eqb, List, [], ◌∷◌, ◌++◌, length, map, take, get_or, Option, Some, None, slice_get, unwrap_or, refl, sym, ap, ◌∙◌, subst, arith, eqb-true, zero-add, zero-le, ◌≢◌, add_assoc, add-one}
+use Rattle.std.proofs.Common.{◌≡◌, ℕ, zero, suc, ◌+◌, ◌*◌, ◌<◌, min, Bool, true, false, cond, eqb, List, [], ◌∷◌, ◌++◌, length}
+use Rattle.std.proofs.Common.{map, take, get_or, Option, Some, None, slice_get, unwrap_or, refl, sym, ap, ◌∙◌, subst, arith}
+use Rattle.std.proofs.Common.{eqb-true, zero-add, zero-le, ◌≢◌, add_assoc, add-one}
 use Rattle.std.specs.List.{sum_by}
 use Rattle.std.proofs.Math.Nat.{mul-suc}
 use Rattle.std.proofs.Math.Seq.{take-suc}
@@ -22,13 +24,20 @@ use Rattle.ws2s_syntax.specs.declared.formula.Connective.{Connective}
 use Rattle.ws2s_syntax.specs.declared.formula.Quantifier.{Quantifier}
 use Rattle.ws2s_syntax.specs.declared.declaration.Predicate.{Predicate}
 use Rattle.ws2s_syntax.specs.Sentences.{Sentence, said, negated, implied, joined, quantified, sentence_of}
-use Rattle.ws2s_reduce.specs.Reducing.{track, false_at, true_at, imp, ex1, empty_at, equal, track_of, succ_of, is_base_at, is_stepped_at, is_at, plain_name, Reductions, no_reductions, passed_term, used, atom_at, reduced, with_reduction, reductions_from}
+use Rattle.ws2s_reduce.specs.Reducing.{track, false_at, true_at, imp, ex1, empty_at, equal, track_of, succ_of, is_base_at}
+use Rattle.ws2s_reduce.specs.Reducing.{is_stepped_at, is_at, plain_name, Reductions, no_reductions, passed_term, used, atom_at}
+use Rattle.ws2s_reduce.specs.Reducing.{reduced, with_reduction, reductions_from}
 use Rattle.ws2s_reduce.specs.Sizes.{base_size, term_size, passed_term_size, argument_size, PredicateSizes, atom_size, sentence_size, sizes_in, AreSizes}
 use Rattle.ws2s_reduce.proofs.CountsLemmas.{count-Sub, count-Single, count-Succ0, count-Succ1, count-Root, count-And, count-Not, count-Ex2}
 
 count-false : (next : ℕ) → node_count (false_at next) ≡ 5
 count-false next =
-    simp (count-Ex2 (track next) (And (Single (track next)) (Not (Single (track next)))), count-And (Single (track next)) (Not (Single (track next))), count-Not (Single (track next)), count-Single (track next)) refl
+    simp (
+      count-Ex2 (track next) (And (Single (track next)) (Not (Single (track next)))),
+      count-And (Single (track next)) (Not (Single (track next))),
+      count-Not (Single (track next)),
+      count-Single (track next),
+    ) refl
 
 pub count-true : (next : ℕ) → node_count (true_at next) ≡ 6
 count-true next = count-Not (false_at next) ∙ ap (λ n. n + 1) (count-false next)
@@ -49,7 +58,12 @@ count-equal x y =
 count-base : (tracks : List ℕ) (base : Base) (a : ℕ) → node_count (is_base_at tracks base a) ≡ base_size base
 count-base tracks Base.Root a = count-Root (track a)
 count-base tracks (Base.Variable x) a =
-    omega (arith, count-And (Single (track a)) (Sub (track a) (track (track_of tracks x))), count-Single (track a), count-Sub (track a) (track (track_of tracks x)))
+    omega (
+      arith,
+      count-And (Single (track a)) (Sub (track a) (track (track_of tracks x))),
+      count-Single (track a),
+      count-Sub (track a) (track (track_of tracks x)),
+    )
 
 count-succ : (step : Successor) (x y : ℕ) → node_count (succ_of step x y) ≡ 1
 count-succ Zero x y = count-Succ0 (track x) (track y)

@@ -1,5 +1,7 @@
 -- Predicates' uses: what their reductions are, and the arguments that are passed.
-use Rattle.std.proofs.Common.{◌≡◌, ℕ, zero, suc, ◌+◌, ◌<◌, Bool, true, false, cond, eqb, List, [], ◌∷◌, ◌++◌, length, map, reverse, take, drop, Some, None, option_map, slice_get, refl, sym, ap, ap₂, ◌∙◌, arith, append_assoc, add-one, zero-add, length-append, eq-eqb, ne_eqb, eqb-true}
+use Rattle.std.proofs.Common.{◌≡◌, ℕ, zero, suc, ◌+◌, ◌<◌, Bool, true, false, cond, eqb, List, [], ◌∷◌, ◌++◌, length, map}
+use Rattle.std.proofs.Common.{reverse, take, drop, Some, None, option_map, slice_get, refl, sym, ap, ap₂, ◌∙◌, arith}
+use Rattle.std.proofs.Common.{append_assoc, add-one, zero-add, length-append, eq-eqb, ne_eqb, eqb-true}
 use Rattle.std.proofs.lemmas.Bool.{eqb-false}
 use Rattle.std.proofs.lemmas.List.{take-append-le, drop-append-le, take-take, take-map}
 use Rattle.std.proofs.lemmas.Option.{slice_get_within, slice_get-map}
@@ -11,7 +13,8 @@ use Rattle.ws2s_syntax.specs.declared.declaration.Predicate.{Predicate}
 use Rattle.ws2s_syntax.specs.Sentences.{Sentence, sentence_of}
 use Rattle.ws2s_reduce.specs.declared.task.Op.{Op}
 use Rattle.ws2s_reduce.specs.declared.machine.Machine.{Machine}
-use Rattle.ws2s_reduce.specs.Reducing.{track, true_at, is_at, plain_name, passed_term, Reductions, no_reductions, with_reduction, reductions_from, reduced, used}
+use Rattle.ws2s_reduce.specs.Reducing.{track, true_at, is_at, plain_name, passed_term, Reductions, no_reductions, with_reduction}
+use Rattle.ws2s_reduce.specs.Reducing.{reductions_from, reduced, used}
 use Rattle.ws2s_reduce.specs.Building.{reductions_to, to_apply, steps_of, finished, formula_work, body_work, works_to, steps_work}
 use Rattle.ws2s_reduce.specs.Machines.{IsPassed}
 
@@ -113,7 +116,8 @@ IsPassed-more frame args arg next mid after before between now first second = re
   same = λ predicates kept body rest inside.
       second.same predicates kept body rest (omega (arith, inside, first.longer))
       ∙ first.same predicates kept body (arg ∷ rest) inside
-      ∙ ap (λ all. finished predicates (steps_of before.tasks.items) (take kept before.tracks.items) (used body next frame all (drop kept before.tracks.items) ∷ reverse before.parts.items))
+      ∙ ap (λ all. finished predicates (steps_of before.tasks.items) (take kept before.tracks.items)
+      (used body next frame all (drop kept before.tracks.items) ∷ reverse before.parts.items))
       (sym (append_assoc args (arg ∷ []) rest));
   longer = omega (arith, first.longer, second.longer);
   work = λ predicates.
@@ -125,14 +129,18 @@ IsPassed-more frame args arg next mid after before between now first second = re
 
 -- a name is put in
 pub IsPassed-put : (frame : List ℕ) (arg : Argument) (next t : ℕ) (before now : Machine) →
-    ((body : ℕ → List ℕ → Formula) (rest : List Argument) (given : List ℕ) → used body next frame (arg ∷ rest) given ≡ used body next frame rest (given ++ t ∷ [])) →
+    ((body : ℕ → List ℕ → Formula) (rest : List Argument) (given : List ℕ) → used body next frame (arg ∷ rest) given
+    ≡ used body next frame rest (given ++ t ∷ [])) →
     now.tasks.items ≡ before.tasks.items → now.parts.items ≡ before.parts.items → now.tracks.items ≡ before.tracks.items ++ t ∷ [] →
     IsPassed frame (arg ∷ []) next before next now
 IsPassed-put frame arg next t before now puts tasks parts tracks = record {
   same = λ predicates kept body rest inside.
-      ap (λ steps. finished predicates (steps_of steps) (take kept now.tracks.items) (used body next frame rest (drop kept now.tracks.items) ∷ reverse now.parts.items)) tasks
-      ∙ ap (λ all. finished predicates (steps_of before.tasks.items) (take kept now.tracks.items) (used body next frame rest (drop kept now.tracks.items) ∷ reverse all)) parts
-      ∙ ap (λ all. finished predicates (steps_of before.tasks.items) (take kept all) (used body next frame rest (drop kept all) ∷ reverse before.parts.items)) tracks
+      ap (λ steps. finished predicates (steps_of steps) (take kept now.tracks.items)
+      (used body next frame rest (drop kept now.tracks.items) ∷ reverse now.parts.items)) tasks
+      ∙ ap (λ all. finished predicates (steps_of before.tasks.items) (take kept now.tracks.items)
+      (used body next frame rest (drop kept now.tracks.items) ∷ reverse all)) parts
+      ∙ ap (λ all. finished predicates (steps_of before.tasks.items) (take kept all)
+      (used body next frame rest (drop kept all) ∷ reverse before.parts.items)) tracks
       ∙ ap₂ (λ xs ys. finished predicates (steps_of before.tasks.items) xs (used body next frame rest ys ∷ reverse before.parts.items))
       (take-append-le kept before.tracks.items (t ∷ []) inside) (drop-append-le kept before.tracks.items (t ∷ []) inside)
       ∙ ap (λ f. finished predicates (steps_of before.tasks.items) (take kept before.tracks.items) (f ∷ reverse before.parts.items))
@@ -149,10 +157,15 @@ pub IsPassed-bound : (frame : List ℕ) (t : Term) (next : ℕ) (before now : Ma
     IsPassed frame (Argument.Position t ∷ []) next before (next + 1) now
 IsPassed-bound frame t next before now not_plain tasks parts tracks = record {
   same = λ predicates kept body rest inside.
-      ap (λ steps. finished predicates steps (take kept now.tracks.items) (used body (next + 1) frame rest (drop kept now.tracks.items) ∷ reverse now.parts.items)) tasks
-      ∙ ap (λ all. finished predicates (to_apply (Op.Bind next) ∷ steps_of before.tasks.items) (take kept now.tracks.items) (used body (next + 1) frame rest (drop kept now.tracks.items) ∷ all)) parts
-      ∙ ap (λ all. finished predicates (to_apply (Op.Bind next) ∷ steps_of before.tasks.items) (take kept all) (used body (next + 1) frame rest (drop kept all) ∷ is_at (next + 1) frame t next ∷ reverse before.parts.items)) tracks
-      ∙ ap₂ (λ xs ys. finished predicates (to_apply (Op.Bind next) ∷ steps_of before.tasks.items) xs (used body (next + 1) frame rest ys ∷ is_at (next + 1) frame t next ∷ reverse before.parts.items))
+      ap (λ steps. finished predicates steps (take kept now.tracks.items)
+      (used body (next + 1) frame rest (drop kept now.tracks.items) ∷ reverse now.parts.items)) tasks
+      ∙ ap (λ all. finished predicates (to_apply (Op.Bind next) ∷ steps_of before.tasks.items)
+      (take kept now.tracks.items) (used body (next + 1) frame rest (drop kept now.tracks.items) ∷ all)) parts
+      ∙ ap (λ all. finished predicates (to_apply (Op.Bind next) ∷ steps_of before.tasks.items) (take kept all)
+      (used body (next + 1) frame rest (drop kept all) ∷ is_at
+      (next + 1) frame t next ∷ reverse before.parts.items)) tracks
+      ∙ ap₂ (λ xs ys. finished predicates (to_apply (Op.Bind next) ∷ steps_of before.tasks.items) xs
+      (used body (next + 1) frame rest ys ∷ is_at (next + 1) frame t next ∷ reverse before.parts.items))
       (take-append-le kept before.tracks.items (next ∷ []) inside) (drop-append-le kept before.tracks.items (next ∷ []) inside)
       ∙ ap (λ f. finished predicates (steps_of before.tasks.items) (take kept before.tracks.items) (f ∷ reverse before.parts.items))
       (ap (λ n. Ex2 (track next) (And (is_at n frame t next) (used body n frame rest (drop kept before.tracks.items ++ next ∷ [])))) (add-one next)

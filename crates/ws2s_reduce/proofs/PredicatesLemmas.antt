@@ -1,5 +1,7 @@
 -- The reductions of a text's predicates mean what the predicates mean.
-use Rattle.std.proofs.Common.{◌≡◌, ◌≢◌, ℕ, suc, ◌<◌, Bool, true, false, cond, eqb, IsTrue, ◌↔◌, inl, inr, List, [], ◌∷◌, ◌++◌, length, map, Some, slice_get, refl, sym, ap, ◌∙◌, subst, arith, append_assoc, append-nil, eq-eqb, ne_eqb, length-append}
+use Rattle.std.proofs.Common.{◌≡◌, ◌≢◌, ℕ, suc, ◌<◌, Bool, true, false, cond, eqb, IsTrue, ◌↔◌, inl, inr, List, [], ◌∷◌, ◌++◌}
+use Rattle.std.proofs.Common.{length, map, Some, slice_get, refl, sym, ap, ◌∙◌, subst, arith, append_assoc, append-nil, eq-eqb}
+use Rattle.std.proofs.Common.{ne_eqb, length-append}
 use Rattle.std.proofs.Math.Numerals.{add-one}
 use Rattle.std.proofs.lemmas.Bool.{true≢false, and_parts}
 use Rattle.std.proofs.lemmas.Option.{slice_get_within}
@@ -56,7 +58,9 @@ module _ (free : List Class) (values : List Value) where
                 (λ _. knows.means predicate own old a next given local fits)
             | inr last ↦
                 at_bit (eqb predicate n) predicate own a next given local
-                (λ _. new a next given local (subst (λ classes. Fits (record { free = free; local = classes }) a next given (record { free = values; local = local })) (sym last.1) fits))
+                (λ _. new a next given local (subst
+                (λ classes. Fits (record { free = free; local = classes }) a next given
+                (record { free = values; local = local })) (sym last.1) fits))
                 (λ is. absurd (true≢false (sym (eq-eqb predicate n (last.0 ∙ sym is_n)) ∙ is)))
           ]
 

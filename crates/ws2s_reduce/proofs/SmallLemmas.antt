@@ -1,5 +1,6 @@
 -- Whether the formulas of a text's reduction are small.
-use Rattle.std.proofs.Common.{◌≡◌, ℕ, suc, ◌+◌, ◌*◌, ◌<◌, ◌≤◌, min, Bool, true, false, not, cond, ◌↔◌, List, [], ◌∷◌, ◌++◌, length, map, fold, count_by, refl, sym, ap, ◌∙◌, arith, zero-add}
+use Rattle.std.proofs.Common.{◌≡◌, ℕ, suc, ◌+◌, ◌*◌, ◌<◌, ◌≤◌, min, Bool, true, false, not, cond, ◌↔◌, List, [], ◌∷◌, ◌++◌}
+use Rattle.std.proofs.Common.{length, map, fold, count_by, refl, sym, ap, ◌∙◌, arith, zero-add}
 use Rattle.std.proofs.Math.Numerals.{one-add}
 use Rattle.std.proofs.lemmas.List.Recursion.{is_count_by}
 use Rattle.ws2s_core.specs.declared.formula.Formula.{Formula}

@@ -1,5 +1,6 @@
 -- What becomes of the steps of each form.
-use Rattle.std.proofs.Common.{◌≡◌, ℕ, zero, suc, ◌+◌, ◌<◌, ◌≤◌, true, cond, leb, List, [], ◌∷◌, ◌++◌, length, map, fold, drop, get_or, None, refl, sym, ap, ap₂, ◌∙◌, arith, append_assoc, append-nil, length-append, drop-cons}
+use Rattle.std.proofs.Common.{◌≡◌, ℕ, zero, suc, ◌+◌, ◌<◌, ◌≤◌, true, cond, leb, List, [], ◌∷◌, ◌++◌, length, map, fold, drop}
+use Rattle.std.proofs.Common.{get_or, None, refl, sym, ap, ap₂, ◌∙◌, arith, append_assoc, append-nil, length-append, drop-cons}
 use Rattle.std.specs.List.{sum}
 use Rattle.std.proofs.Math.Seq.{take-append_seam}
 use Rattle.std.proofs.lemmas.List.{drop-append-le}
@@ -9,7 +10,8 @@ use Rattle.ws2s_syntax.specs.declared.formula.Atom as declared_atom
 use Rattle.ws2s_syntax.specs.declared.formula.Connective.{Connective}
 use Rattle.ws2s_syntax.specs.declared.formula.Quantifier.{Quantifier}
 use Rattle.ws2s_syntax.specs.declared.formula.TextFormula as declared_formula
-use Rattle.ws2s_syntax.specs.declared.formula.TextFormula.TheVariants.{Atom, Not as Negated, Implies, Chain, Quantified, rolls-Atom, rolls-Not, rolls-Implies, rolls-Chain, rolls-Quantified}
+use Rattle.ws2s_syntax.specs.declared.formula.TextFormula.TheVariants.{Atom, Not as Negated, Implies, Chain, Quantified}
+use Rattle.ws2s_syntax.specs.declared.formula.TextFormula.TheVariants.{rolls-Atom, rolls-Not, rolls-Implies, rolls-Chain, rolls-Quantified}
 use Rattle.ws2s_syntax.specs.declared.formula.TextFormula.TheOpen.{TextFormula-F}
 use Rattle.ws2s_syntax.specs.declared.formula.TextFormula.TheFolds.{map-TextFormula, fold-roll-TextFormula}
 use Rattle.ws2s_syntax.specs.declared.declaration.Predicate.{Predicate}
@@ -18,7 +20,8 @@ use Rattle.ws2s_syntax.proofs.SentencesLemmas.{sentence-Not, sentence-Implies, s
 use Rattle.ws2s_reduce.specs.declared.task.Op.{Op}
 use Rattle.ws2s_reduce.specs.declared.task.Place.{Place}
 use Rattle.ws2s_reduce.specs.Reducing.{Reductions, reduced}
-use Rattle.ws2s_reduce.specs.Building.{joined_of, quantified_at, wrapped, tracks_from, reductions_to, Step, to_build, to_forget, to_apply, finished, chain_steps, atom_work, node_work, formula_work}
+use Rattle.ws2s_reduce.specs.Building.{joined_of, quantified_at, wrapped, tracks_from, reductions_to, Step, to_build, to_forget}
+use Rattle.ws2s_reduce.specs.Building.{to_apply, finished, chain_steps, atom_work, node_work, formula_work}
 
 -- how many steps each form takes
 module _ (known : ℕ → ℕ) where
@@ -54,7 +57,8 @@ reduced-chain : (reductions : Reductions) (next : ℕ) (tracks : List ℕ) (c : 
     ≡ reduced reductions next tracks (fold (joined c) s (map sentence_of others))
 reduced-chain reductions next tracks c [] s = refl
 reduced-chain reductions next tracks c (f ∷ others) s =
-    ap (λ g. fold (joined_of c) g (map (λ f. reduced reductions next tracks (sentence_of f)) others)) (sym (reduced-joined reductions next tracks c s (sentence_of f)))
+    ap (λ g. fold (joined_of c) g (map (λ f. reduced reductions next tracks (sentence_of f)) others))
+    (sym (reduced-joined reductions next tracks c s (sentence_of f)))
     ∙ reduced-chain reductions next tracks c others (joined c s (sentence_of f))
 
 reduced-one : (reductions : Reductions) (next : ℕ) (tracks : List ℕ) (q : Quantifier) (s : Sentence) →
@@ -91,7 +95,9 @@ module _ (predicates : List Predicate) (place : Place) (steps : List Step) (trac
       finished predicates (to_build f place ∷ to_apply Op.Negate ∷ steps) tracks parts ≡ finished predicates steps tracks (here (Negated f) ∷ parts)
   same-Not f parts =
       taken f (to_apply Op.Negate ∷ steps) parts
-      ∙ ap (λ s. finished predicates steps tracks (reduced (reductions_to predicates place.rank) place.next (drop place.start tracks) s ∷ parts)) (sym (sentence-Not f))
+      ∙ ap (λ s. finished predicates steps tracks
+      (reduced (reductions_to predicates place.rank) place.next (drop place.start tracks) s ∷ parts))
+      (sym (sentence-Not f))
 
   pub same-Implies : (f g : declared_formula.TextFormula) (parts : List Formula) →
       finished predicates (to_build f place ∷ to_build g place ∷ to_apply Op.Imply ∷ steps) tracks parts
@@ -99,10 +105,13 @@ module _ (predicates : List Predicate) (place : Place) (steps : List Step) (trac
   same-Implies f g parts =
       taken f (to_build g place ∷ to_apply Op.Imply ∷ steps) parts
       ∙ taken g (to_apply Op.Imply ∷ steps) (here f ∷ parts)
-      ∙ ap (λ s. finished predicates steps tracks (reduced (reductions_to predicates place.rank) place.next (drop place.start tracks) s ∷ parts)) (sym (sentence-Implies f g))
+      ∙ ap (λ s. finished predicates steps tracks
+      (reduced (reductions_to predicates place.rank) place.next (drop place.start tracks) s ∷ parts))
+      (sym (sentence-Implies f g))
 
   same-others : (c : Connective) (others : List declared_formula.TextFormula) (f : Formula) (parts : List Formula) →
-      finished predicates (chain_steps c place others ++ steps) tracks (f ∷ parts) ≡ finished predicates steps tracks (fold (joined_of c) f (map here others) ∷ parts)
+      finished predicates (chain_steps c place others ++ steps) tracks (f ∷ parts)
+      ≡ finished predicates steps tracks (fold (joined_of c) f (map here others) ∷ parts)
   same-others c [] f parts = refl
   same-others c (g ∷ others) f parts =
       taken g (to_apply (Op.Join c) ∷ (chain_steps c place others ++ steps)) (f ∷ parts)
@@ -121,11 +130,14 @@ module _ (predicates : List Predicate) (place : Place) (steps : List Step) (trac
 
   pub same-Quantified : (q : Quantifier) (names : ℕ) (f : declared_formula.TextFormula) (parts : List Formula) →
       finished predicates
-      (to_build f (record { rank = place.rank; start = place.start; next = place.next + names }) ∷ to_forget (length tracks) ∷ to_apply (Op.Wrap q place.next names) ∷ steps)
+      (to_build f (record { rank = place.rank; start = place.start; next = place.next + names }) ∷ to_forget
+      (length tracks) ∷ to_apply (Op.Wrap q place.next names) ∷ steps)
       (tracks ++ tracks_from place.next names) parts
       ≡ finished predicates steps tracks (here (Quantified q names f) ∷ parts)
   same-Quantified q names f parts =
-      ap (λ b. cond b (finished predicates (to_forget (length tracks) ∷ to_apply (Op.Wrap q place.next names) ∷ steps) (tracks ++ tracks_from place.next names) (made ∷ parts)) None) fits
+      ap (λ b. cond b (finished predicates
+      (to_forget (length tracks) ∷ to_apply (Op.Wrap q place.next names) ∷ steps) (tracks
+      ++ tracks_from place.next names) (made ∷ parts)) None) fits
       ∙ ap (λ ts. finished predicates steps ts (wrapped q place.next names made ∷ parts)) (take-append_seam tracks (tracks_from place.next names))
       ∙ ap (λ f. finished predicates steps tracks (f ∷ parts)) (
       ap (λ ts. wrapped q place.next names (reduced (reductions_to predicates place.rank) (place.next + names) ts (sentence_of f)))
@@ -145,7 +157,8 @@ module _ (predicates : List Predicate) (place : Place) (steps : List Step) (trac
           fit e = omega (arith, e, inside)
 
 -- one part of a chain less is left
-pub chain-next : (c : Connective) (place : Place) (others : List declared_formula.TextFormula) (left : ℕ) (d : declared_formula.TextFormula) (steps : List Step) →
+pub chain-next : (c : Connective) (place : Place) (others : List declared_formula.TextFormula) (left : ℕ)
+    (d : declared_formula.TextFormula) (steps : List Step) →
     left < length others →
     to_build (get_or others left d) place ∷ to_apply (Op.Join c) ∷ (chain_steps c place (drop (suc left) others) ++ steps)
     ≡ chain_steps c place (drop left others) ++ steps

@@ -1,5 +1,6 @@
 -- The reduction of a text means the text.
-use Rattle.std.proofs.Common.{◌≡◌, ℕ, zero, suc, ◌+◌, ◌<◌, IsTrue, ◌↔◌, List, [], ◌∷◌, ◌++◌, length, map, Some, slice_get, All, refl, sym, ap, ap₂, ◌∙◌, subst, arith, zero-add}
+use Rattle.std.proofs.Common.{◌≡◌, ℕ, zero, suc, ◌+◌, ◌<◌, IsTrue, ◌↔◌, List, [], ◌∷◌, ◌++◌, length, map, Some, slice_get, All}
+use Rattle.std.proofs.Common.{refl, sym, ap, ap₂, ◌∙◌, subst, arith, zero-add}
 use Rattle.std.specs.List.{list_all}
 use Rattle.std.proofs.lemmas.Bool.{and_parts}
 use Rattle.std.proofs.lemmas.List.{length-map}
@@ -98,7 +99,9 @@ given_once a (c ∷ classes) n (v ∷ values) (w ∷ others) h k =
     ap₂ (λ x xs. x ∷ xs) (value_once a n c v w h.0 k.0) (given_once a classes (suc n) values others h.1 k.1)
 
 module _ (text : Text) (a : Assignment) (checked : IsChecked text) where
-  parts : IsTrue (are_predicates (free_classes text) [] text.predicates) × IsTrue (list_all (λ f. is_sentence (signatures_of text) (record { free = free_classes text; local = [] }) (sentence_of f)) text.formulas)
+  parts : IsTrue (are_predicates (free_classes text) [] text.predicates)
+      × IsTrue (list_all (λ f. is_sentence (signatures_of text) (record { free = free_classes text; local = [] })
+      (sentence_of f)) text.formulas)
   parts = and_parts _ _ checked.names
 
   -- each formula of the text holds where the variables stand for these values

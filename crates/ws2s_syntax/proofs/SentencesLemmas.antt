@@ -4,7 +4,8 @@ use Rattle.ws2s_syntax.specs.declared.formula.Atom as declared_atom
 use Rattle.ws2s_syntax.specs.declared.formula.Connective.{Connective}
 use Rattle.ws2s_syntax.specs.declared.formula.Quantifier.{Quantifier}
 use Rattle.ws2s_syntax.specs.declared.formula.TextFormula.{TextFormula, roll-TextFormula}
-use Rattle.ws2s_syntax.specs.declared.formula.TextFormula.TheVariants.{Atom, Not, Implies, Chain, Quantified, rolls-Atom, rolls-Not, rolls-Implies, rolls-Chain, rolls-Quantified}
+use Rattle.ws2s_syntax.specs.declared.formula.TextFormula.TheVariants.{Atom, Not, Implies, Chain, Quantified, rolls-Atom}
+use Rattle.ws2s_syntax.specs.declared.formula.TextFormula.TheVariants.{rolls-Not, rolls-Implies, rolls-Chain, rolls-Quantified}
 use Rattle.ws2s_syntax.specs.declared.formula.TextFormula.TheOpen.{TextFormula-F}
 use Rattle.ws2s_syntax.specs.declared.formula.TextFormula.TheFolds.{map-TextFormula, fold-roll-TextFormula}
 use Rattle.ws2s_syntax.specs.Sentences.{Sentence, said, negated, implied, joined, each_quantified, sentence_of_node, sentence_of}

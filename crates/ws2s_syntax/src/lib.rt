@@ -9,8 +9,6 @@ mod declaration;
 mod formula;
 mod name;
 mod source;
-#[cfg(test)]
-mod tests;
 mod text;
 
 pub use declaration::{ByteList, Class, ClassList, Free, FreeList, Predicate, PredicateList};

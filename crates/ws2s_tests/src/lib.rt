@@ -9,3 +9,5 @@ mod sources;
 mod texts_read;
 #[cfg(test)]
 mod towers;
+#[cfg(test)]
+mod trees;

@@ -59,7 +59,7 @@ impl Shelf {
     {
         match n.named() {
             Named::Leaf(_) => None,
-            Named::Inner(place) => Some(self.nodes[place as usize].track),
+            Named::Inner(index) => Some(self.nodes[index as usize].track),
         }
     }
 
@@ -74,7 +74,7 @@ impl Shelf {
     {
         match n.named() {
             Named::Leaf(_) => n,
-            Named::Inner(place) => self.nodes[place as usize].low,
+            Named::Inner(index) => self.nodes[index as usize].low,
         }
     }
 
@@ -89,7 +89,7 @@ impl Shelf {
     {
         match n.named() {
             Named::Leaf(_) => n,
-            Named::Inner(place) => self.nodes[place as usize].high,
+            Named::Inner(index) => self.nodes[index as usize].high,
         }
     }
 }
@@ -105,8 +105,8 @@ fn state_in(nodes: &[Node], n: NodeRef, label: &[u32]) -> u32
     loop {
         match at.named() {
             Named::Leaf(state) => return state,
-            Named::Inner(place) => {
-                let node = nodes[place as usize];
+            Named::Inner(index) => {
+                let node = nodes[index as usize];
                 at = if label.contains(&node.track) {
                     node.high
                 } else {

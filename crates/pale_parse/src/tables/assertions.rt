@@ -4,7 +4,8 @@ use super::symbols::{
     COLON, COMMA, DOT, EQUALS, LEFT_PAREN, MARK_PLACE, NAME, PUSH_NAME, ProgramSymbol, RIGHT_PAREN,
 };
 use ll1_reader::Symbol;
-use pale_text::{Act, AtomAct, ConnectiveAct, Mark, ProgramKind, ProgramPart, WordAct};
+use pale_syntax::{Act, AtomAct, ConnectiveAct, ProgramKind, ProgramPart, WordAct};
+use pale_text::Mark;
 
 pub(super) static IFF_OF_IMPLICATIONS: [ProgramSymbol; 2] = [
     Symbol::Once(ProgramPart::Implication),

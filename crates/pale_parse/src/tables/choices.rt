@@ -4,7 +4,7 @@ ghost use Rattle.std.specs.Prelude.{◌≡◌};
 ghost use Rattle.pale_parse.specs.Tables.{choices_of};
 
 use super::choice::ProgramChoice;
-use pale_text::ProgramPart;
+use pale_syntax::ProgramPart;
 
 /// The rows of a part.
 #[tactic(auto, unfolding(crate::specs::Tables::choices_of))]

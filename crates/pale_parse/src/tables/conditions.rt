@@ -2,7 +2,8 @@
 
 use super::symbols::{COLON, DOT, MARK_PLACE, NAME, PUSH_NAME, ProgramSymbol, RIGHT_PAREN};
 use ll1_reader::Symbol;
-use pale_text::{Act, ConditionAct, Mark, ProgramKind, ProgramPart, WordAct};
+use pale_syntax::{Act, ConditionAct, ProgramKind, ProgramPart, WordAct};
+use pale_text::Mark;
 
 pub(super) static CONDITION_OF_CONJUNCTIONS: [ProgramSymbol; 2] = [
     Symbol::Once(ProgramPart::Conjunction),

@@ -3,7 +3,8 @@
 ghost use Rattle.std.specs.Prelude.{◌≡◌};
 ghost use Rattle.pale_parse.specs.Hints.{number_of, mark_number};
 
-use pale_text::{Mark, ProgramKind};
+use pale_syntax::ProgramKind;
+use pale_text::Mark;
 
 /// The number of a mark.
 #[tactic(auto, unfolding(crate::specs::Hints::mark_number))]

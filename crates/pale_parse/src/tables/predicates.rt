@@ -5,7 +5,8 @@ use super::symbols::{
     SEMICOLON,
 };
 use ll1_reader::Symbol;
-use pale_text::{Act, ConnectiveAct, Mark, PredicateAct, ProgramKind, ProgramPart};
+use pale_syntax::{Act, ConnectiveAct, PredicateAct, ProgramKind, ProgramPart};
+use pale_text::Mark;
 
 pub(super) static PREDICATE_DECLARED: [ProgramSymbol; 10] = [
     Symbol::Read(ProgramKind::Pred),

@@ -5,7 +5,8 @@ use super::symbols::{
     SEMICOLON,
 };
 use ll1_reader::Symbol;
-use pale_text::{Act, Mark, ProcedureAct, ProgramKind, ProgramPart, StatementAct};
+use pale_syntax::{Act, ProcedureAct, ProgramKind, ProgramPart, StatementAct};
+use pale_text::Mark;
 
 pub(super) static PROCEDURE_DECLARED: [ProgramSymbol; 19] = [
     Symbol::Read(ProgramKind::Proc),

@@ -2,7 +2,8 @@
 
 use super::symbols::{COLON, DOT, NAME, PUSH_NAME, ProgramSymbol, RIGHT_PAREN};
 use ll1_reader::Symbol;
-use pale_text::{Act, Mark, ProgramKind, ProgramPart, RouteAct};
+use pale_syntax::{Act, ProgramKind, ProgramPart, RouteAct};
+use pale_text::Mark;
 
 pub(super) static ROUTE_OF_SEQUENCES: [ProgramSymbol; 2] = [
     Symbol::Once(ProgramPart::Sequence),

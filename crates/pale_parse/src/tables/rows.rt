@@ -8,7 +8,7 @@ use super::symbols::ProgramSymbol;
 use super::{assertions, conditions, predicates, procedures, routes, statements, types};
 
 /// The symbols of a row.
-#[tactic(auto, unfolding(crate::specs::Tables::row_of, pale_text::specs::ProgramGrammar::rows_of))]
+#[tactic(auto, unfolding(crate::specs::Tables::row_of, pale_syntax::specs::ProgramGrammar::rows_of))]
 pub(crate) fn row_of(choice: ProgramChoice) -> &'static [ProgramSymbol]
     ensures { result.now ≡ row_of choice }
 {

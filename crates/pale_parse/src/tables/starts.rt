@@ -4,7 +4,8 @@ ghost use Rattle.std.specs.Prelude.{◌≡◌};
 ghost use Rattle.pale_parse.specs.Hints.{starts_of};
 
 use super::choice::ProgramChoice;
-use pale_text::{Mark, ProgramKind};
+use pale_syntax::ProgramKind;
+use pale_text::Mark;
 
 /// The kinds of the tokens with which a row may begin.
 #[tactic(auto, unfolding(crate::specs::Hints::starts_of))]

@@ -5,7 +5,8 @@ use super::symbols::{
     RIGHT_PAREN, SEMICOLON,
 };
 use ll1_reader::Symbol;
-use pale_text::{Act, CallAct, Mark, ProgramKind, ProgramPart, StatementAct, WordAct};
+use pale_syntax::{Act, CallAct, ProgramKind, ProgramPart, StatementAct, WordAct};
+use pale_text::Mark;
 
 pub(super) static BLOCK_OF_STATEMENTS: [ProgramSymbol; 4] = [
     Symbol::Open(ProgramKind::Mark(Mark::LeftBrace)),

@@ -1,7 +1,8 @@
 //! Symbols that stand in many rows.
 
 use ll1_reader::Symbol;
-use pale_text::{Act, Mark, ProgramKind, ProgramPart, WordAct};
+use pale_syntax::{Act, ProgramKind, ProgramPart, WordAct};
+use pale_text::Mark;
 
 /// A symbol of the grammar of programs.
 pub(crate) type ProgramSymbol = Symbol<ProgramPart, Act, ProgramKind>;

@@ -2,7 +2,8 @@
 
 use super::symbols::{COLON, EQUALS, NAME, PUSH_NAME, ProgramSymbol, RIGHT_BRACE, SEMICOLON};
 use ll1_reader::Symbol;
-use pale_text::{Act, Mark, ProgramKind, ProgramPart, TypeAct};
+use pale_syntax::{Act, ProgramKind, ProgramPart, TypeAct};
+use pale_text::Mark;
 
 pub(super) static A_TYPE_DECLARATION: [ProgramSymbol; 1] = [Symbol::Once(ProgramPart::Type)];
 

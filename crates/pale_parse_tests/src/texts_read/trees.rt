@@ -1,7 +1,7 @@
 //! The trees of texts, by their outlines.
 
 use super::read_program;
-use pale_text::{Assertion, Declaration, Route};
+use pale_syntax::{Assertion, Declaration, Route};
 use std::alloc::{AllocError, Global};
 use std::fmt::Write;
 use std::test::Fail;

@@ -5,8 +5,7 @@ ghost use Rattle.ws2s_parse.specs.MakingParts.{nothing};
 ghost use Rattle.ws2s_parse.specs.Building.{parts_of};
 
 use super::binding::Binding;
-use plain_data::Stack;
-use plain_data::Items;
+use plain_data::{Items, Stack};
 use std::alloc::Global;
 use ws2s_syntax::{SourceFormula, SourceItem, SourceName, SourceParameter, SourceTerm};
 

@@ -7,8 +7,7 @@ ghost use Rattle.ws2s_parse.specs.Making.{termless, formulaless, bindingless};
 
 use super::binding::Binding;
 use super::tokens::{nameless, nowhere};
-use plain_data::Stack;
-use plain_data::Items;
+use plain_data::{Items, Stack};
 use std::alloc::Global;
 use ws2s_syntax::{Quantifier, SourceBase, SourceFormula, SourceName, SourceTerm};
 

@@ -3,8 +3,9 @@
 ghost use Rattle.std.specs.Prelude.{◌≡◌, IfOk};
 ghost use Rattle.std.specs.Option.{option_copied};
 ghost use Rattle.plain_data.specs.Stacks.{rest};
-ghost use Rattle.pale_text.specs.Making.{first_of};
-ghost use Rattle.pale_text.specs.MakingParts.{place_of, nowhere};
+ghost use Rattle.pale_text.specs.Tokens.{first_of};
+ghost use Rattle.pale_text.specs.Tokens.{place_of};
+ghost use Rattle.pale_text.specs.Places.{nowhere};
 ghost use Rattle.ws2s_parse.specs.MakingParts.{name_of, nameless};
 
 use pale_text::{Pos, Token, TokenKind};

@@ -31,5 +31,7 @@ loop-table-preserved c =
     let index = c.loop-table.table-index in
     subst (λ (rs : List NodeRef). MarksList rs c.args.marks.now.items c.mark_list.new.marks.items)
     (sym (ap all_roots (take_more tables index (table_at [] 0) c.loop-table-test.true) ∙ all_roots-push (take index tables) (table_at tables index)))
-    (MarksList-append (all_roots (take index tables)) (table_at tables index).roots c.args.marks.now.items c.loop-table.marks.items c.mark_list.new.marks.items c.loop-table.invariant
+    (MarksList-append (all_roots (take index tables))
+    (table_at tables index).roots c.args.marks.now.items c.loop-table.marks.items c.mark_list.new.marks.items
+    c.loop-table.invariant
     (subst (λ (rs : List NodeRef). MarksList rs c.loop-table.marks.items c.mark_list.new.marks.items) (roots-are d) c.mark_list.ensures))

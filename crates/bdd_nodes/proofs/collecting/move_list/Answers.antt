@@ -2,7 +2,7 @@ use Rattle.std.proofs.Common.{◌<◌, List, length, get_or, set, ◌∙◌, ap,
 use Rattle.std.proofs.lemmas.List.Edits.{map_over_more}
 use Rattle.bdd_nodes.specs.declared.node_ref.NodeRef.{NodeRef}
 use Rattle.bdd_nodes.specs.Collecting.{linked}
-use Rattle.bdd_nodes.proofs.PlacesLemmas.{get_or-self}
+use Rattle.bdd_nodes.proofs.ElementsLemmas.{get_or-self}
 use Rattle.bdd_nodes.proofs.collecting.move_list.Goals as goal
 
 pub loop-index-preserved : goal.loop-index-preserved

@@ -2,7 +2,7 @@ use Rattle.std.proofs.Common.{◌≡◌}
 use Rattle.bdd_nodes.specs.Collecting.{MovesBelow, marked_below}
 use Rattle.bdd_nodes.proofs.collecting.move_nodes.Given as goal
 
-abbrev pub invariant-loop-place : goal.invariant-loop-place
-invariant-loop-place l =
-    (l.kept ≡ marked_below l.initial.marks.items l.place)
-    × MovesBelow l.initial.nodes l.initial.marks.items l.nodes l.marks.items l.place
+abbrev pub invariant-loop-index : goal.invariant-loop-index
+invariant-loop-index l =
+    (l.kept ≡ marked_below l.initial.marks.items l.index)
+    × MovesBelow l.initial.nodes l.initial.marks.items l.nodes l.marks.items l.index

@@ -7,7 +7,7 @@ use Rattle.bdd_nodes.specs.Nodes.{node_of}
 use Rattle.bdd_nodes.specs.Roots.{table_at}
 use Rattle.bdd_nodes.specs.Collecting.{linked_table, IsLinked}
 use Rattle.bdd_nodes.proofs.MarksLemmas.{All-table}
-use Rattle.bdd_nodes.proofs.PlacesLemmas.{get_or-map_over, get_or-any}
+use Rattle.bdd_nodes.proofs.ElementsLemmas.{get_or-map_over, get_or-any}
 use Rattle.bdd_nodes.proofs.collecting.move_tables.Goals as goal
 
 pub move_list-requires : goal.move_list-requires
@@ -31,4 +31,5 @@ loop-at-preserved c =
     ap (set c.loop-at.tables c.loop-at.at)
     (ap (with_roots (get_or c.loop-at.tables c.loop-at.at x)) c.move_list.ensures
     ∙ ap (linked_table c.args.links.now) (sym c.index-tables-at.is))
-    ∙ map_over_more (linked_table c.args.links.now) c.args.tables.now c.loop-at.tables c.loop-at.at x c.loop-at-test.true c.loop-at.invariant c.index-tables-at.is
+    ∙ map_over_more (linked_table c.args.links.now) c.args.tables.now c.loop-at.tables c.loop-at.at x
+    c.loop-at-test.true c.loop-at.invariant c.index-tables-at.is

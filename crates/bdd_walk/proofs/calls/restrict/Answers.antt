@@ -1,7 +1,7 @@
 use Rattle.std.proofs.Common.{refl, ◌∙◌}
 use Rattle.bdd_nodes.specs.Shelf.{state_of}
 use Rattle.bdd_nodes.proofs.SplitLemmas.{is_valid-IsValid, small_state}
-use Rattle.bdd_walk.specs.Asked.{with_track}
+use Rattle.labels.specs.Labels.{with_track}
 use Rattle.bdd_walk.specs.Rules.{first_state}
 use Rattle.bdd_walk.proofs.AddsLemmas.{AddsParts-new}
 use Rattle.bdd_walk.proofs.UnderLemmas.{AddsUnder-stands}

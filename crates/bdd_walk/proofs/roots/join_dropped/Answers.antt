@@ -1,5 +1,5 @@
 use Rattle.std.proofs.Common.{sym, subst}
-use Rattle.bdd_nodes.specs.Nodes.{Label}
+use Rattle.labels.specs.Labels.{Label}
 use Rattle.bdd_walk.specs.Stands.{Asking}
 use Rattle.bdd_walk.specs.Under.{Exceeds}
 use Rattle.bdd_walk.proofs.CallLemmas.{twice-asked}

@@ -16,11 +16,17 @@ smaller left below turn stack less is none = omega arith
 
 pub loop-turn-init : goal.loop-turn-init
 loop-turn-init g c =
-    let call : Call = record { shelf = c.args.shelf.now; answers = g.L.LeafRule.answers c.args.rule.now; whole = g.W.Walk.asked c.args.walk.now c.args.shelf.now c.args.start } in
+    let call : Call = record {
+      shelf = c.args.shelf.now;
+      answers = g.L.LeafRule.answers c.args.rule.now;
+      whole = g.W.Walk.asked c.args.walk.now c.args.shelf.now c.args.start;
+    } in
     let asked = g.W.Walk.asked c.args.walk.now c.args.shelf.now in
     let is_in = g.W.Walk.is_in c.args.walk.now c.args.shelf.now in
     record {
-      works = subst (λ (stack : List (Frame g.row.W-Key.Denot)). Works g.W.Key.PartialEq.eq asked is_in call c.args.shelf.now (g.L.LeafRule.answers c.args.rule.now) c.new-memo.result stack (Visit c.args.start))
+      works = subst (λ (stack : List (Frame g.row.W-Key.Denot)).
+          Works g.W.Key.PartialEq.eq asked is_in call c.args.shelf.now
+          (g.L.LeafRule.answers c.args.rule.now) c.new-memo.result stack (Visit c.args.start))
           (sym c.new-stack.ensures.items)
           (works-start g.W.Key.PartialEq.eq asked is_in call c.new-memo.result c.args.start refl c.requires.is_in c.count.ensures.shelf
           (λ other. ap (λ (entries : List (g.row.W-Key.Denot × NodeRef)). lookup (g.W.Key.PartialEq.eq other) entries) c.new-memo.ensures.empty));
@@ -29,59 +35,123 @@ loop-turn-init g c =
 
 pub visit-requires-clause-may_ask : goal.visit-requires-clause-may_ask
 visit-requires-clause-may_ask g c =
-    let call : Call = record { shelf = c.args.shelf.now; answers = g.L.LeafRule.answers c.args.rule.now; whole = g.W.Walk.asked c.args.walk.now c.args.shelf.now c.args.start } in
-    let works = subst (λ (turn : Turn g.row.W-Key.Denot). Works g.W.Key.PartialEq.eq (g.W.Walk.asked c.args.walk.now call.shelf) (g.W.Walk.is_in c.args.walk.now call.shelf) call c.loop-turn.shelf (g.L.LeafRule.answers c.loop-turn.rule) c.loop-turn.memo c.loop-turn.stack.items turn) c.in-Visit.is c.loop-turn.invariant.works in
-    whole-asked (g.L.LeafRule.may_ask c.loop-turn.rule) call.whole (g.W.Walk.asked c.args.walk.now call.shelf c.in-Visit.key) (g.W.Walk.asked c.args.walk.now c.loop-turn.shelf c.in-Visit.key)
+    let call : Call = record {
+      shelf = c.args.shelf.now;
+      answers = g.L.LeafRule.answers c.args.rule.now;
+      whole = g.W.Walk.asked c.args.walk.now c.args.shelf.now c.args.start;
+    } in
+    let works = subst (λ (turn : Turn g.row.W-Key.Denot).
+    Works g.W.Key.PartialEq.eq (g.W.Walk.asked c.args.walk.now call.shelf)
+    (g.W.Walk.is_in c.args.walk.now call.shelf) call c.loop-turn.shelf
+    (g.L.LeafRule.answers c.loop-turn.rule) c.loop-turn.memo c.loop-turn.stack.items turn) c.in-Visit.is
+    c.loop-turn.invariant.works in
+    whole-asked (g.L.LeafRule.may_ask c.loop-turn.rule) call.whole
+    (g.W.Walk.asked c.args.walk.now call.shelf c.in-Visit.key)
+    (g.W.Walk.asked c.args.walk.now c.loop-turn.shelf c.in-Visit.key)
     works.underway.0.part
     (g.met.W.Walk.asks_still c.args.walk.now call.shelf c.loop-turn.shelf c.in-Visit.key works.progress.keeps works.underway.0.inside)
     (λ label. c.loop-turn.invariant.may_ask (call.whole label) (c.requires.may_ask label))
 
 pub returns-in_err-turn-in-Visit-clause-progress : goal.returns-in_err-turn-in-Visit-clause-progress
 returns-in_err-turn-in-Visit-clause-progress g c =
-    let call : Call = record { shelf = c.args.shelf.now; answers = g.L.LeafRule.answers c.args.rule.now; whole = g.W.Walk.asked c.args.walk.now c.args.shelf.now c.args.start } in
-    let works = subst (λ (turn : Turn g.row.W-Key.Denot). Works g.W.Key.PartialEq.eq (g.W.Walk.asked c.args.walk.now call.shelf) (g.W.Walk.is_in c.args.walk.now call.shelf) call c.loop-turn.shelf (g.L.LeafRule.answers c.loop-turn.rule) c.loop-turn.memo c.loop-turn.stack.items turn) c.in-Visit.is c.loop-turn.invariant.works in
+    let call : Call = record {
+      shelf = c.args.shelf.now;
+      answers = g.L.LeafRule.answers c.args.rule.now;
+      whole = g.W.Walk.asked c.args.walk.now c.args.shelf.now c.args.start;
+    } in
+    let works = subst (λ (turn : Turn g.row.W-Key.Denot).
+    Works g.W.Key.PartialEq.eq (g.W.Walk.asked c.args.walk.now call.shelf)
+    (g.W.Walk.is_in c.args.walk.now call.shelf) call c.loop-turn.shelf
+    (g.L.LeafRule.answers c.loop-turn.rule) c.loop-turn.memo c.loop-turn.stack.items turn) c.in-Visit.is
+    c.loop-turn.invariant.works in
     c.visit.ensures.progress call works
 
 pub returns-in-None-clause-stands : goal.returns-in-None-clause-stands
 returns-in-None-clause-stands g c =
-    let call : Call = record { shelf = c.args.shelf.now; answers = g.L.LeafRule.answers c.args.rule.now; whole = g.W.Walk.asked c.args.walk.now c.args.shelf.now c.args.start } in
-    let works = subst (λ (turn : Turn g.row.W-Key.Denot). Works g.W.Key.PartialEq.eq (g.W.Walk.asked c.args.walk.now call.shelf) (g.W.Walk.is_in c.args.walk.now call.shelf) call c.loop-turn.shelf (g.L.LeafRule.answers c.loop-turn.rule) c.loop-turn.memo c.loop-turn.stack.items turn) c.in-Done.is c.loop-turn.invariant.works in
+    let call : Call = record {
+      shelf = c.args.shelf.now;
+      answers = g.L.LeafRule.answers c.args.rule.now;
+      whole = g.W.Walk.asked c.args.walk.now c.args.shelf.now c.args.start;
+    } in
+    let works = subst (λ (turn : Turn g.row.W-Key.Denot).
+    Works g.W.Key.PartialEq.eq (g.W.Walk.asked c.args.walk.now call.shelf)
+    (g.W.Walk.is_in c.args.walk.now call.shelf) call c.loop-turn.shelf
+    (g.L.LeafRule.answers c.loop-turn.rule) c.loop-turn.memo c.loop-turn.stack.items turn) c.in-Done.is
+    c.loop-turn.invariant.works in
     let popped : c.pop.new.self.items ≡ [] = c.in-None.ensures.rest ∙ ap (λ (n : ℕ). take (n - 1) c.loop-turn.stack.items) c.in-None.ensures.cases.0 in
     let empty : c.loop-turn.stack.items ≡ [] = c.in-None.ensures.items ∙ ap (λ (stack : List (Frame g.row.W-Key.Denot)). stack ++ []) popped in
     stands-whole _ _ _ call c.loop-turn.shelf _ c.loop-turn.memo c.loop-turn.stack.items c.in-Done.made (ap length empty) works
 
 pub resume-requires : goal.resume-requires
 resume-requires g c =
-    let call : Call = record { shelf = c.args.shelf.now; answers = g.L.LeafRule.answers c.args.rule.now; whole = g.W.Walk.asked c.args.walk.now c.args.shelf.now c.args.start } in
+    let call : Call = record {
+      shelf = c.args.shelf.now;
+      answers = g.L.LeafRule.answers c.args.rule.now;
+      whole = g.W.Walk.asked c.args.walk.now c.args.shelf.now c.args.start;
+    } in
     let asked = g.W.Walk.asked c.args.walk.now call.shelf in
     let is_in = g.W.Walk.is_in c.args.walk.now call.shelf in
-    let works = subst (λ (turn : Turn g.row.W-Key.Denot). Works g.W.Key.PartialEq.eq asked is_in call c.loop-turn.shelf (g.L.LeafRule.answers c.loop-turn.rule) c.loop-turn.memo c.loop-turn.stack.items turn) c.in-Done.is c.loop-turn.invariant.works in
-    let top = subst (λ (stack : List (Frame g.row.W-Key.Denot)). Works g.W.Key.PartialEq.eq asked is_in call c.loop-turn.shelf (g.L.LeafRule.answers c.loop-turn.rule) c.loop-turn.memo stack (Done c.in-Done.made)) c.in-Some.ensures.items works in
+    let works = subst (λ (turn : Turn g.row.W-Key.Denot).
+    Works g.W.Key.PartialEq.eq asked is_in call c.loop-turn.shelf
+    (g.L.LeafRule.answers c.loop-turn.rule) c.loop-turn.memo c.loop-turn.stack.items turn) c.in-Done.is
+    c.loop-turn.invariant.works in
+    let top = subst (λ (stack : List (Frame g.row.W-Key.Denot)).
+    Works g.W.Key.PartialEq.eq asked is_in call c.loop-turn.shelf
+    (g.L.LeafRule.answers c.loop-turn.rule) c.loop-turn.memo stack (Done c.in-Done.made))
+    c.in-Some.ensures.items works in
     FitsFrame-works _ _ _ call c.loop-turn.shelf _ c.loop-turn.memo c.pop.new.self.items c.in-Done.made c.in-Some.frame top
 
 pub returns-in_err-turn-in-Some-clause-progress : goal.returns-in_err-turn-in-Some-clause-progress
 returns-in_err-turn-in-Some-clause-progress g c =
-    let call : Call = record { shelf = c.args.shelf.now; answers = g.L.LeafRule.answers c.args.rule.now; whole = g.W.Walk.asked c.args.walk.now c.args.shelf.now c.args.start } in
+    let call : Call = record {
+      shelf = c.args.shelf.now;
+      answers = g.L.LeafRule.answers c.args.rule.now;
+      whole = g.W.Walk.asked c.args.walk.now c.args.shelf.now c.args.start;
+    } in
     let asked = g.W.Walk.asked c.args.walk.now call.shelf in
     let is_in = g.W.Walk.is_in c.args.walk.now call.shelf in
-    let works = subst (λ (turn : Turn g.row.W-Key.Denot). Works g.W.Key.PartialEq.eq asked is_in call c.loop-turn.shelf (g.L.LeafRule.answers c.loop-turn.rule) c.loop-turn.memo c.loop-turn.stack.items turn) c.in-Done.is c.loop-turn.invariant.works in
-    let top = subst (λ (stack : List (Frame g.row.W-Key.Denot)). Works g.W.Key.PartialEq.eq asked is_in call c.loop-turn.shelf (g.L.LeafRule.answers c.loop-turn.rule) c.loop-turn.memo stack (Done c.in-Done.made)) c.in-Some.ensures.items works in
+    let works = subst (λ (turn : Turn g.row.W-Key.Denot).
+    Works g.W.Key.PartialEq.eq asked is_in call c.loop-turn.shelf
+    (g.L.LeafRule.answers c.loop-turn.rule) c.loop-turn.memo c.loop-turn.stack.items turn) c.in-Done.is
+    c.loop-turn.invariant.works in
+    let top = subst (λ (stack : List (Frame g.row.W-Key.Denot)).
+    Works g.W.Key.PartialEq.eq asked is_in call c.loop-turn.shelf
+    (g.L.LeafRule.answers c.loop-turn.rule) c.loop-turn.memo stack (Done c.in-Done.made))
+    c.in-Some.ensures.items works in
     c.resume.ensures.progress asked is_in call (g.L.LeafRule.answers c.loop-turn.rule) (g.met.W.Walk.respects c.args.walk.now call.shelf) top
 
 pub returns-in_err-turn-in-Some-clause-limit : goal.returns-in_err-turn-in-Some-clause-limit
 returns-in_err-turn-in-Some-clause-limit g c = λ stopped.
-    let call : Call = record { shelf = c.args.shelf.now; answers = g.L.LeafRule.answers c.args.rule.now; whole = g.W.Walk.asked c.args.walk.now c.args.shelf.now c.args.start } in
+    let call : Call = record {
+      shelf = c.args.shelf.now;
+      answers = g.L.LeafRule.answers c.args.rule.now;
+      whole = g.W.Walk.asked c.args.walk.now c.args.shelf.now c.args.start;
+    } in
     let asked = g.W.Walk.asked c.args.walk.now call.shelf in
     let is_in = g.W.Walk.is_in c.args.walk.now call.shelf in
-    let works = subst (λ (turn : Turn g.row.W-Key.Denot). Works g.W.Key.PartialEq.eq asked is_in call c.loop-turn.shelf (g.L.LeafRule.answers c.loop-turn.rule) c.loop-turn.memo c.loop-turn.stack.items turn) c.in-Done.is c.loop-turn.invariant.works in
-    let top = subst (λ (stack : List (Frame g.row.W-Key.Denot)). Works g.W.Key.PartialEq.eq asked is_in call c.loop-turn.shelf (g.L.LeafRule.answers c.loop-turn.rule) c.loop-turn.memo stack (Done c.in-Done.made)) c.in-Some.ensures.items works in
+    let works = subst (λ (turn : Turn g.row.W-Key.Denot).
+    Works g.W.Key.PartialEq.eq asked is_in call c.loop-turn.shelf
+    (g.L.LeafRule.answers c.loop-turn.rule) c.loop-turn.memo c.loop-turn.stack.items turn) c.in-Done.is
+    c.loop-turn.invariant.works in
+    let top = subst (λ (stack : List (Frame g.row.W-Key.Denot)).
+    Works g.W.Key.PartialEq.eq asked is_in call c.loop-turn.shelf
+    (g.L.LeafRule.answers c.loop-turn.rule) c.loop-turn.memo stack (Done c.in-Done.made))
+    c.in-Some.ensures.items works in
     c.resume.ensures.limit asked is_in call (g.L.LeafRule.answers c.loop-turn.rule) (g.met.W.Walk.respects c.args.walk.now call.shelf) top
     (let why = rw stopped at c.from_residual-in_err-turn-in-Some.ensures in c.in_err-turn-in-Some.was ∙ (let is = why.1 in cc))
 
 pub loop-turn-preserved-in_ok-turn-in-Visit : goal.loop-turn-preserved-in_ok-turn-in-Visit
 loop-turn-preserved-in_ok-turn-in-Visit g c =
-    let call : Call = record { shelf = c.args.shelf.now; answers = g.L.LeafRule.answers c.args.rule.now; whole = g.W.Walk.asked c.args.walk.now c.args.shelf.now c.args.start } in
-    let works = subst (λ (turn : Turn g.row.W-Key.Denot). Works g.W.Key.PartialEq.eq (g.W.Walk.asked c.args.walk.now call.shelf) (g.W.Walk.is_in c.args.walk.now call.shelf) call c.loop-turn.shelf (g.L.LeafRule.answers c.loop-turn.rule) c.loop-turn.memo c.loop-turn.stack.items turn) c.in-Visit.is c.loop-turn.invariant.works in
+    let call : Call = record {
+      shelf = c.args.shelf.now;
+      answers = g.L.LeafRule.answers c.args.rule.now;
+      whole = g.W.Walk.asked c.args.walk.now c.args.shelf.now c.args.start;
+    } in
+    let works = subst (λ (turn : Turn g.row.W-Key.Denot).
+    Works g.W.Key.PartialEq.eq (g.W.Walk.asked c.args.walk.now call.shelf)
+    (g.W.Walk.is_in c.args.walk.now call.shelf) call c.loop-turn.shelf
+    (g.L.LeafRule.answers c.loop-turn.rule) c.loop-turn.memo c.loop-turn.stack.items turn) c.in-Visit.is
+    c.loop-turn.invariant.works in
     record {
       works = c.in_ok-turn-in-Visit.ensures.works call works;
       may_ask = λ states may. c.visit.ensures.may_ask_still states (c.loop-turn.invariant.may_ask states may);
@@ -90,19 +160,31 @@ loop-turn-preserved-in_ok-turn-in-Visit g c =
 pub loop-turn-smaller : goal.loop-turn-smaller
 loop-turn-smaller g c =
     let weight = g.W.Walk.weight c.args.walk.now in
-    smaller _ (stack_cost weight c.pop.new.self.items + frame_cost weight c.in-Some.frame) (turn_cost weight c.loop-turn.turn) (stack_cost weight c.loop-turn.stack.items)
+    smaller _ (stack_cost weight c.pop.new.self.items + frame_cost weight c.in-Some.frame)
+    (turn_cost weight c.loop-turn.turn) (stack_cost weight c.loop-turn.stack.items)
     (c.in_ok-turn-in-Some.ensures.cost weight)
     (ap (stack_cost weight) c.in-Some.ensures.items ∙ stack_cost-push weight c.in-Some.frame c.pop.new.self.items)
     (ap (turn_cost weight) c.in-Done.is)
 
 pub loop-turn-preserved : goal.loop-turn-preserved
 loop-turn-preserved g c =
-    let call : Call = record { shelf = c.args.shelf.now; answers = g.L.LeafRule.answers c.args.rule.now; whole = g.W.Walk.asked c.args.walk.now c.args.shelf.now c.args.start } in
+    let call : Call = record {
+      shelf = c.args.shelf.now;
+      answers = g.L.LeafRule.answers c.args.rule.now;
+      whole = g.W.Walk.asked c.args.walk.now c.args.shelf.now c.args.start;
+    } in
     let asked = g.W.Walk.asked c.args.walk.now call.shelf in
     let is_in = g.W.Walk.is_in c.args.walk.now call.shelf in
-    let works = subst (λ (turn : Turn g.row.W-Key.Denot). Works g.W.Key.PartialEq.eq asked is_in call c.loop-turn.shelf (g.L.LeafRule.answers c.loop-turn.rule) c.loop-turn.memo c.loop-turn.stack.items turn) c.in-Done.is c.loop-turn.invariant.works in
-    let top = subst (λ (stack : List (Frame g.row.W-Key.Denot)). Works g.W.Key.PartialEq.eq asked is_in call c.loop-turn.shelf (g.L.LeafRule.answers c.loop-turn.rule) c.loop-turn.memo stack (Done c.in-Done.made)) c.in-Some.ensures.items works in
+    let works = subst (λ (turn : Turn g.row.W-Key.Denot).
+    Works g.W.Key.PartialEq.eq asked is_in call c.loop-turn.shelf
+    (g.L.LeafRule.answers c.loop-turn.rule) c.loop-turn.memo c.loop-turn.stack.items turn) c.in-Done.is
+    c.loop-turn.invariant.works in
+    let top = subst (λ (stack : List (Frame g.row.W-Key.Denot)).
+    Works g.W.Key.PartialEq.eq asked is_in call c.loop-turn.shelf
+    (g.L.LeafRule.answers c.loop-turn.rule) c.loop-turn.memo stack (Done c.in-Done.made))
+    c.in-Some.ensures.items works in
     record {
-      works = c.in_ok-turn-in-Some.ensures.works asked is_in call (g.L.LeafRule.answers c.loop-turn.rule) (g.met.W.Walk.respects c.args.walk.now call.shelf) top;
+      works = c.in_ok-turn-in-Some.ensures.works asked is_in call (g.L.LeafRule.answers c.loop-turn.rule)
+          (g.met.W.Walk.respects c.args.walk.now call.shelf) top;
       may_ask = c.loop-turn.invariant.may_ask;
     }

@@ -5,16 +5,18 @@ use Rattle.bdd_walk.specs.declared.walk.Turn.TheVariants.{Visit}
 use Rattle.bdd_walk.specs.Steps.{IsStep}
 use Rattle.bdd_walk.specs.Waits.{visit_cost, stack_cost}
 use Rattle.bdd_walk.specs.Progress.{Works}
-use Rattle.bdd_walk.proofs.StandsLemmas.{Keeps-itself}
 use Rattle.bdd_walk.proofs.CostLemmas.{visit-done, visit-skip, visit-low}
 use Rattle.bdd_walk.proofs.TurnLemmas.{works-found, progress-leaf, works-leaf, works-skip, works-low}
+use Rattle.bdd_nodes.proofs.CallerLemmas.{Keeps-refl}
 use Rattle.bdd_walk.proofs.walk.visit.Goals as goal
 
 pub leaf-requires : goal.leaf-requires
 leaf-requires g c =
     let shelf = c.args.shelf.now in
     let walk = c.args.walk.now in
-    let step = subst (IsStep (g.W.Walk.asked walk shelf) (g.W.Walk.is_in walk shelf) (g.W.Walk.weight walk) c.args.key) c.in-Leaf.is (c.in_ok-states.ensures shelf c.requires.shelf (Keeps-itself shelf) c.requires.is_in) in
+    let step = subst (IsStep (g.W.Walk.asked walk shelf) (g.W.Walk.is_in walk shelf)
+    (g.W.Walk.weight walk) c.args.key) c.in-Leaf.is
+    (c.in_ok-states.ensures shelf c.requires.shelf (Keeps-refl shelf) c.requires.is_in) in
     subst (g.L.LeafRule.may_ask c.args.rule.now) (step (λ u. false)) (c.requires.may_ask (λ u. false))
 
 pub returns-in-Some-clause-works : goal.returns-in-Some-clause-works
@@ -27,26 +29,37 @@ returns-in-Some-clause-cost g c = visit-done (g.W.Walk.weight c.args.walk.now) c
 pub returns-in_err-leaf-in-Leaf-clause-progress : goal.returns-in_err-leaf-in-Leaf-clause-progress
 returns-in_err-leaf-in-Leaf-clause-progress g c = λ call works.
     let walk = c.args.walk.now in
-    let step = subst (IsStep (g.W.Walk.asked walk call.shelf) (g.W.Walk.is_in walk call.shelf) (g.W.Walk.weight walk) c.args.key) c.in-Leaf.is (c.in_ok-states.ensures call.shelf works.progress.before works.progress.keeps works.underway.0.inside) in
+    let step = subst (IsStep (g.W.Walk.asked walk call.shelf) (g.W.Walk.is_in walk call.shelf)
+    (g.W.Walk.weight walk) c.args.key) c.in-Leaf.is
+    (c.in_ok-states.ensures call.shelf works.progress.before works.progress.keeps works.underway.0.inside) in
     progress-leaf _ _ _ call c.args.shelf.now _ c.args.memo.now _ c.args.key works _ c.in-Leaf.states c.leaf.ensures.kept c.leaf.ensures.only step
 
 pub returns-in_err-insert-in-Leaf-clause-progress : goal.returns-in_err-insert-in-Leaf-clause-progress
 returns-in_err-insert-in-Leaf-clause-progress g c = λ call works.
     let walk = c.args.walk.now in
-    let step = subst (IsStep (g.W.Walk.asked walk call.shelf) (g.W.Walk.is_in walk call.shelf) (g.W.Walk.weight walk) c.args.key) c.in-Leaf.is (c.in_ok-states.ensures call.shelf works.progress.before works.progress.keeps works.underway.0.inside) in
+    let step = subst (IsStep (g.W.Walk.asked walk call.shelf) (g.W.Walk.is_in walk call.shelf)
+    (g.W.Walk.weight walk) c.args.key) c.in-Leaf.is
+    (c.in_ok-states.ensures call.shelf works.progress.before works.progress.keeps works.underway.0.inside) in
     progress-leaf _ _ _ call c.args.shelf.now _ c.args.memo.now _ c.args.key works _ c.in-Leaf.states c.leaf.ensures.kept c.leaf.ensures.only step
 
 pub returns-in_ok-insert-in-Leaf-clause-progress : goal.returns-in_ok-insert-in-Leaf-clause-progress
 returns-in_ok-insert-in-Leaf-clause-progress g c = λ call works.
     let walk = c.args.walk.now in
-    let step = subst (IsStep (g.W.Walk.asked walk call.shelf) (g.W.Walk.is_in walk call.shelf) (g.W.Walk.weight walk) c.args.key) c.in-Leaf.is (c.in_ok-states.ensures call.shelf works.progress.before works.progress.keeps works.underway.0.inside) in
+    let step = subst (IsStep (g.W.Walk.asked walk call.shelf) (g.W.Walk.is_in walk call.shelf)
+    (g.W.Walk.weight walk) c.args.key) c.in-Leaf.is
+    (c.in_ok-states.ensures call.shelf works.progress.before works.progress.keeps works.underway.0.inside) in
     progress-leaf _ _ _ call c.args.shelf.now _ c.args.memo.now _ c.args.key works _ c.in-Leaf.states c.leaf.ensures.kept c.leaf.ensures.only step
 
 pub returns-in_ok-insert-in-Leaf-clause-works : goal.returns-in_ok-insert-in-Leaf-clause-works
 returns-in_ok-insert-in-Leaf-clause-works g c = λ call works.
     let walk = c.args.walk.now in
-    let step = subst (IsStep (g.W.Walk.asked walk call.shelf) (g.W.Walk.is_in walk call.shelf) (g.W.Walk.weight walk) c.args.key) c.in-Leaf.is (c.in_ok-states.ensures call.shelf works.progress.before works.progress.keeps works.underway.0.inside) in
-    works-leaf _ _ _ call c.args.shelf.now _ c.args.memo.now _ c.args.key works _ c.in-Leaf.states c.leaf.ensures.kept c.leaf.ensures.only step c.insert.new.self c.leaf-made.result c.in_ok-leaf-in-Leaf.field-0 (g.met.W.Walk.respects walk call.shelf) c.leaf-made.ensures c.in_ok-leaf-in-Leaf.ensures.answered c.in_ok-insert-in-Leaf.ensures.updates
+    let step = subst (IsStep (g.W.Walk.asked walk call.shelf) (g.W.Walk.is_in walk call.shelf)
+    (g.W.Walk.weight walk) c.args.key) c.in-Leaf.is
+    (c.in_ok-states.ensures call.shelf works.progress.before works.progress.keeps works.underway.0.inside) in
+    works-leaf _ _ _ call c.args.shelf.now _ c.args.memo.now _ c.args.key works _ c.in-Leaf.states
+    c.leaf.ensures.kept c.leaf.ensures.only step c.insert.new.self c.leaf-made.result
+    c.in_ok-leaf-in-Leaf.field-0 (g.met.W.Walk.respects walk call.shelf) c.leaf-made.ensures
+    c.in_ok-leaf-in-Leaf.ensures.answered c.in_ok-insert-in-Leaf.ensures.updates
 
 pub returns-in_ok-insert-in-Leaf-clause-cost : goal.returns-in_ok-insert-in-Leaf-clause-cost
 returns-in_ok-insert-in-Leaf-clause-cost g c = visit-done (g.W.Walk.weight c.args.walk.now) c.args.stack.now.items c.args.key
@@ -54,8 +67,12 @@ returns-in_ok-insert-in-Leaf-clause-cost g c = visit-done (g.W.Walk.weight c.arg
 pub returns-in_ok-push-in-Skip-clause-works : goal.returns-in_ok-push-in-Skip-clause-works
 returns-in_ok-push-in-Skip-clause-works g c = λ call works.
     let walk = c.args.walk.now in
-    let step = subst (IsStep (g.W.Walk.asked walk call.shelf) (g.W.Walk.is_in walk call.shelf) (g.W.Walk.weight walk) c.args.key) c.in-Skip.is (c.in_ok-states.ensures call.shelf works.progress.before works.progress.keeps works.underway.0.inside) in
-    subst (λ (stack : List (Frame g.row.W-Key.Denot)). Works g.W.Key.PartialEq.eq (g.W.Walk.asked walk call.shelf) (g.W.Walk.is_in walk call.shelf) call c.args.shelf.now (g.L.LeafRule.answers c.args.rule.now) c.args.memo.now stack (Visit c.in-Skip.next))
+    let step = subst (IsStep (g.W.Walk.asked walk call.shelf) (g.W.Walk.is_in walk call.shelf)
+    (g.W.Walk.weight walk) c.args.key) c.in-Skip.is
+    (c.in_ok-states.ensures call.shelf works.progress.before works.progress.keeps works.underway.0.inside) in
+    subst (λ (stack : List (Frame g.row.W-Key.Denot)). Works g.W.Key.PartialEq.eq (g.W.Walk.asked walk call.shelf)
+    (g.W.Walk.is_in walk call.shelf) call c.args.shelf.now
+    (g.L.LeafRule.answers c.args.rule.now) c.args.memo.now stack (Visit c.in-Skip.next))
     (sym c.in_ok-push-in-Skip.ensures.items)
     (works-skip _ _ _ call c.args.shelf.now _ c.args.memo.now _ c.args.key works (g.W.Walk.weight walk) c.in-Skip.next step)
 
@@ -63,16 +80,24 @@ pub returns-in_ok-push-in-Skip-clause-cost : goal.returns-in_ok-push-in-Skip-cla
 returns-in_ok-push-in-Skip-clause-cost g c =
     let walk = c.args.walk.now in
     let shelf = c.args.shelf.now in
-    let step = subst (IsStep (g.W.Walk.asked walk shelf) (g.W.Walk.is_in walk shelf) (g.W.Walk.weight walk) c.args.key) c.in-Skip.is (c.in_ok-states.ensures shelf c.requires.shelf (Keeps-itself shelf) c.requires.is_in) in
-    subst (λ (stack : List (Frame g.row.W-Key.Denot)). visit_cost (g.W.Walk.weight walk) c.in-Skip.next + stack_cost (g.W.Walk.weight walk) stack < visit_cost (g.W.Walk.weight walk) c.args.key + stack_cost (g.W.Walk.weight walk) c.args.stack.now.items)
+    let step = subst (IsStep (g.W.Walk.asked walk shelf) (g.W.Walk.is_in walk shelf)
+    (g.W.Walk.weight walk) c.args.key) c.in-Skip.is
+    (c.in_ok-states.ensures shelf c.requires.shelf (Keeps-refl shelf) c.requires.is_in) in
+    subst (λ (stack : List (Frame g.row.W-Key.Denot)). visit_cost (g.W.Walk.weight walk) c.in-Skip.next + stack_cost
+    (g.W.Walk.weight walk) stack < visit_cost (g.W.Walk.weight walk) c.args.key + stack_cost
+    (g.W.Walk.weight walk) c.args.stack.now.items)
     (sym c.in_ok-push-in-Skip.ensures.items)
     (visit-skip (g.W.Walk.weight walk) c.args.stack.now.items c.args.key c.in-Skip.next step.goes.falls)
 
 pub returns-in_ok-push-in-Split-clause-works : goal.returns-in_ok-push-in-Split-clause-works
 returns-in_ok-push-in-Split-clause-works g c = λ call works.
     let walk = c.args.walk.now in
-    let step = subst (IsStep (g.W.Walk.asked walk call.shelf) (g.W.Walk.is_in walk call.shelf) (g.W.Walk.weight walk) c.args.key) c.in-Split.is (c.in_ok-states.ensures call.shelf works.progress.before works.progress.keeps works.underway.0.inside) in
-    subst (λ (stack : List (Frame g.row.W-Key.Denot)). Works g.W.Key.PartialEq.eq (g.W.Walk.asked walk call.shelf) (g.W.Walk.is_in walk call.shelf) call c.args.shelf.now (g.L.LeafRule.answers c.args.rule.now) c.args.memo.now stack (Visit c.in-Split.low))
+    let step = subst (IsStep (g.W.Walk.asked walk call.shelf) (g.W.Walk.is_in walk call.shelf)
+    (g.W.Walk.weight walk) c.args.key) c.in-Split.is
+    (c.in_ok-states.ensures call.shelf works.progress.before works.progress.keeps works.underway.0.inside) in
+    subst (λ (stack : List (Frame g.row.W-Key.Denot)). Works g.W.Key.PartialEq.eq (g.W.Walk.asked walk call.shelf)
+    (g.W.Walk.is_in walk call.shelf) call c.args.shelf.now
+    (g.L.LeafRule.answers c.args.rule.now) c.args.memo.now stack (Visit c.in-Split.low))
     (sym c.in_ok-push-in-Split.ensures.items)
     (works-low _ _ _ call c.args.shelf.now _ c.args.memo.now _ c.args.key works (g.W.Walk.weight walk) c.in-Split.track c.in-Split.low c.in-Split.high step)
 
@@ -80,7 +105,12 @@ pub returns-in_ok-push-in-Split-clause-cost : goal.returns-in_ok-push-in-Split-c
 returns-in_ok-push-in-Split-clause-cost g c =
     let walk = c.args.walk.now in
     let shelf = c.args.shelf.now in
-    let step = subst (IsStep (g.W.Walk.asked walk shelf) (g.W.Walk.is_in walk shelf) (g.W.Walk.weight walk) c.args.key) c.in-Split.is (c.in_ok-states.ensures shelf c.requires.shelf (Keeps-itself shelf) c.requires.is_in) in
-    subst (λ (stack : List (Frame g.row.W-Key.Denot)). visit_cost (g.W.Walk.weight walk) c.in-Split.low + stack_cost (g.W.Walk.weight walk) stack < visit_cost (g.W.Walk.weight walk) c.args.key + stack_cost (g.W.Walk.weight walk) c.args.stack.now.items)
+    let step = subst (IsStep (g.W.Walk.asked walk shelf) (g.W.Walk.is_in walk shelf)
+    (g.W.Walk.weight walk) c.args.key) c.in-Split.is
+    (c.in_ok-states.ensures shelf c.requires.shelf (Keeps-refl shelf) c.requires.is_in) in
+    subst (λ (stack : List (Frame g.row.W-Key.Denot)). visit_cost (g.W.Walk.weight walk) c.in-Split.low + stack_cost
+    (g.W.Walk.weight walk) stack < visit_cost (g.W.Walk.weight walk) c.args.key + stack_cost
+    (g.W.Walk.weight walk) c.args.stack.now.items)
     (sym c.in_ok-push-in-Split.ensures.items)
-    (visit-low (g.W.Walk.weight walk) c.args.stack.now.items c.args.key c.in-Split.track c.in-Split.low c.in-Split.high step.low_goes.falls step.high_goes.falls)
+    (visit-low (g.W.Walk.weight walk) c.args.stack.now.items c.args.key c.in-Split.track c.in-Split.low
+    c.in-Split.high step.low_goes.falls step.high_goes.falls)

@@ -17,13 +17,15 @@ loop-frame-smaller g c =
 pub loop-frame-preserved : goal.loop-frame-preserved
 loop-frame-preserved g c =
     let top = popped g.G.Grammar.rules g.G.Grammar.hints c.loop-frame.work.frames.items c.pop.new.self.items c.in-Some.frame c.in-Some.ensures.items in
-    exposing_more g.G.Grammar.rules g.G.Grammar.hints c.args.next c.in-Some.frame.rest.now c.in-Some.frame.depth c.args.work.now c.loop-frame.work _ c.make_move.new.work c.loop-frame.invariant top refl
+    exposing_more g.G.Grammar.rules g.G.Grammar.hints c.args.next c.in-Some.frame.rest.now c.in-Some.frame.depth
+    c.args.work.now c.loop-frame.work _ c.make_move.new.work c.loop-frame.invariant top refl
     (rw c.in-Moved.is at c.in_ok-make_move.ensures)
 
 pub returns-in-Ready : goal.returns-in-Ready
 returns-in-Ready g c =
     let top = popped g.G.Grammar.rules g.G.Grammar.hints c.loop-frame.work.frames.items c.pop.new.self.items c.in-Some.frame c.in-Some.ensures.items in
-    exposed_by g.G.Grammar.rules g.G.Grammar.hints c.args.next c.in-Some.frame.rest.now c.in-Some.frame.depth c.args.work.now c.loop-frame.work _ c.make_move.new.work c.loop-frame.invariant top refl
+    exposed_by g.G.Grammar.rules g.G.Grammar.hints c.args.next c.in-Some.frame.rest.now c.in-Some.frame.depth c.args.work.now
+    c.loop-frame.work _ c.make_move.new.work c.loop-frame.invariant top refl
     (rw c.in-Ready.is at c.in_ok-make_move.ensures)
 
 pub returns-in-Stuck : goal.returns-in-Stuck

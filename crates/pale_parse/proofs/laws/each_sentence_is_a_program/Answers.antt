@@ -1,7 +1,7 @@
 use Rattle.std.proofs.Common.{map, refl}
 use Rattle.ll1_reader.specs.Answers.{event_of}
-use Rattle.pale_text.specs.Making.{program_of}
-use Rattle.pale_text.specs.ProgramWords.{kinds_in}
+use Rattle.pale_syntax.specs.Making.{program_of}
+use Rattle.pale_syntax.specs.ProgramWords.{kinds_in}
 use Rattle.pale_parse.proofs.laws.each_sentence_is_a_program.Goals as goal
 
 pub returns : goal.returns

@@ -1,5 +1,5 @@
 use Rattle.std.proofs.Common.{◌≡◌, take}
-use Rattle.pale_text.specs.ProgramWords.{kinds_in}
+use Rattle.pale_syntax.specs.ProgramWords.{kinds_in}
 use Rattle.pale_parse.proofs.parser.kinds_in.Given as goal
 
 -- the kinds of the tokens so far

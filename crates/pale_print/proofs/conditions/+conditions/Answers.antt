@@ -22,5 +22,6 @@ pub push_condition-returns-in_ok-push_operands-in-Or : goal.push_condition-retur
 push_condition-returns-in_ok-push_operands-in-Or t c =
     on_ok c.close_group-in-Or.result
     (λ last after. last after ∙ c.in_ok-push_operands-in-Or.ensures _ ∙ c.in_ok-push_condition-in-Or.ensures _ ∙ c.in_ok-open_group-in-Or.ensures _
-    ∙ ap (λ tokens. c.args.text.now.items ++ spelled (tokens c.args.asked after)) (sym (at-Or _ _ _ _ _ c.in-Or.is c.get-in-Or.ensures c.as_slice-in-Or.ensures)))
+    ∙ ap (λ tokens. c.args.text.now.items ++ spelled (tokens c.args.asked after))
+    (sym (at-Or _ _ _ _ _ c.in-Or.is c.get-in-Or.ensures c.as_slice-in-Or.ensures)))
     c.close_group-in-Or.ensures

@@ -15,12 +15,14 @@ pub push_route-returns-in_ok-push_operands-in-Or : goal.push_route-returns-in_ok
 push_route-returns-in_ok-push_operands-in-Or t c =
     on_ok c.close_group-in-Or.result
     (λ last after. last after ∙ c.in_ok-push_operands-in-Or.ensures _ ∙ c.in_ok-push_route-in-Or.ensures _ ∙ c.in_ok-open_group-in-Or.ensures _
-    ∙ ap (λ tokens. c.args.text.now.items ++ spelled (tokens c.args.asked after)) (sym (at-Or _ _ _ _ _ c.in-Or.is c.get-in-Or.ensures c.as_slice-in-Or.ensures)))
+    ∙ ap (λ tokens. c.args.text.now.items ++ spelled (tokens c.args.asked after))
+    (sym (at-Or _ _ _ _ _ c.in-Or.is c.get-in-Or.ensures c.as_slice-in-Or.ensures)))
     c.close_group-in-Or.ensures
 
 pub push_route-returns-in_ok-push_stars-in-Star : goal.push_route-returns-in_ok-push_stars-in-Star
 push_route-returns-in_ok-push_stars-in-Star t c =
     on_ok c.close_group-in-Star.result
     (λ last after. last after ∙ c.in_ok-push_stars-in-Star.ensures _ ∙ c.in_ok-push_route-in-Star.ensures _ ∙ c.in_ok-open_group-in-Star.ensures _
-    ∙ ap (λ tokens. c.args.text.now.items ++ spelled (tokens c.args.asked after)) (sym (at-Star _ _ _ _ _ c.in-Star.is c.get-in-Star.ensures c.as_slice-in-Star.ensures)))
+    ∙ ap (λ tokens. c.args.text.now.items ++ spelled (tokens c.args.asked after))
+    (sym (at-Star _ _ _ _ _ c.in-Star.is c.get-in-Star.ensures c.as_slice-in-Star.ensures)))
     c.close_group-in-Star.ensures

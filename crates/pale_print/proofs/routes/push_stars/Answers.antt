@@ -1,6 +1,6 @@
 use Rattle.std.proofs.Common.{◌++◌, ◌∙◌, arith, sym}
 use Rattle.std.proofs.lemmas.List.{at_drop_more}
-use Rattle.pale_text.specs.MakingParts.{nowhere}
+use Rattle.pale_text.specs.Places.{nowhere}
 use Rattle.pale_print.specs.RouteTokens.{stars}
 use Rattle.pale_print.specs.Spelling.{spelled}
 use Rattle.pale_print.proofs.routes.push_stars.Goals as goal

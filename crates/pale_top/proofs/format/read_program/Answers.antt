@@ -3,7 +3,7 @@ use Rattle.std.specs.Prelude.{IfErr}
 use Rattle.std.proofs.lemmas.Result.{IfOk-weaker, err_from_is_err_and}
 use Rattle.pale_text.specs.declared.refusal.TextStop.TheVariants.{Refused}
 use Rattle.pale_text.specs.Lexing.{IsLexStop}
-use Rattle.pale_text.specs.ProgramReading.{IsParseStop}
+use Rattle.pale_syntax.specs.ProgramReading.{IsParseStop}
 use Rattle.pale_top.specs.Formatting.{program, stray, unparsed}
 use Rattle.pale_top.proofs.format.read_program.Goals as goal
 

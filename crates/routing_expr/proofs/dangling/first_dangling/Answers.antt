@@ -12,4 +12,5 @@ there s p h = elim h [ inl named ↦ IsSome-and (value_at s p) _ named | inr hel
 
 pub returns-then-dangles-clause-some : goal.returns-then-dangles-clause-some
 returns-then-dangles-clause-some c =
-    first_place c.args.store.now c.args.places.now (IsDangling c.args.store.now) (there c.args.store.now) c.requires c.loop-place.place-index _ (omega arith) c.loop-place.invariant (c.dangles.ensures.0 c.if-dangles.true)
+    first_place c.args.store.now c.args.places.now (IsDangling c.args.store.now)
+    (there c.args.store.now) c.requires c.loop-place.place-index _ (omega arith) c.loop-place.invariant (c.dangles.ensures.0 c.if-dangles.true)

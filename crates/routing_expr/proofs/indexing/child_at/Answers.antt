@@ -27,7 +27,8 @@ returns c d = (
   λ e. record {
     kind = c.if-not-is_followed.ensures.0 refl;
     value = (c.in_ok-child.ensures d).0 e;
-    live = subst (λ x. IsLive c.args.store.now x) (same_Some c.in_ok-child.child d e) (live-mapped (cell_of c.args.store.now c.in_ok-child.child) (λ (cell : CellEntry). cell.variant.ty) _ c.in_ok-type_of.ensures);
+    live = subst (λ x. IsLive c.args.store.now x) (same_Some c.in_ok-child.child d e)
+        (live-mapped (cell_of c.args.store.now c.in_ok-child.child) (λ (cell : CellEntry). cell.variant.ty) _ c.in_ok-type_of.ensures);
   },
   λ h. (c.in_ok-child.ensures d).1 h.value,
 )

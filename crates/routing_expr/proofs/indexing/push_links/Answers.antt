@@ -16,8 +16,10 @@ loop-index-preserved c =
       | in-Some-child_at+in_ok-push w ↦
           let new = link w.in-Some-child_at.child c.args.parent c.in-Some.ty c.loop-index.index in
           subst (λ l. Gathers c.loop-index.links.items l (At c.loop-index.index)) (sym (ap (λ v. v.items) w.links-is ∙ w.in_ok-push.ensures.items))
-          (Gathers-alike c.loop-index.links.items (c.loop-index.links.items ++ new ∷ []) (λ x. x ≡ new) (At c.loop-index.index) (Gathers-push c.loop-index.links.items new)
-          (LinkAt-child c.args.types.now c.args.store.now c.args.followed c.args.parent c.in-Some.ty c.loop-index.index w.in-Some-child_at.child w.in-Some-child_at.ensures))
+          (Gathers-alike c.loop-index.links.items (c.loop-index.links.items ++ new ∷ []) (λ x. x ≡ new) (At c.loop-index.index)
+          (Gathers-push c.loop-index.links.items new)
+          (LinkAt-child c.args.types.now c.args.store.now c.args.followed c.args.parent c.in-Some.ty c.loop-index.index
+          w.in-Some-child_at.child w.in-Some-child_at.ensures))
       | in_default-child_at w ↦
           subst (λ l. Gathers c.loop-index.links.items l (At c.loop-index.index)) (sym (ap (λ v. v.items) w.links-is))
           (Gathers-none c.loop-index.links.items (At c.loop-index.index)

@@ -12,8 +12,10 @@ loop-cell-init c = reach_init c.args.types.now c.args.vars.now c.args.store.now 
 
 pub loop-cell-preserved : goal.loop-cell-preserved
 loop-cell-preserved c =
-    reach_step c.args.types.now c.args.vars.now c.args.store.now c.loop-cell.reach _ _ c.in-Some.cell refl c.in-Some.ensures.items c.in_ok-add_children.ensures c.loop-cell.invariant
+    reach_step c.args.types.now c.args.vars.now c.args.store.now c.loop-cell.reach _ _ c.in-Some.cell refl c.in-Some.ensures.items
+    c.in_ok-add_children.ensures c.loop-cell.invariant
 
 pub returns-clause-leaked : goal.returns-clause-leaked
 returns-clause-leaked c =
-    reach_done c.args.types.now c.args.vars.now c.args.store.now c.loop-cell.reach c.loop-cell.invariant (no_length _ (omega (arith, c.in_default.ensures.cases.0)))
+    reach_done c.args.types.now c.args.vars.now c.args.store.now c.loop-cell.reach c.loop-cell.invariant
+    (no_length _ (omega (arith, c.in_default.ensures.cases.0)))

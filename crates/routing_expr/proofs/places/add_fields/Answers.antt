@@ -10,7 +10,9 @@ add_field-requires-clause-before c = λ p m.
 pub loop-index-preserved : goal.loop-index-preserved
 loop-index-preserved c =
     listing_alike _ _ _
-    (λ p. let old = c.loop-index.invariant.members p in let step = fields_step c.args.store.now c.args.cell c.in-Some.ty c.loop-index.index (λ q. Contains c.args.places.now.items q) (sym c.in-Some.ensures) p in (
+    (λ p. let old = c.loop-index.invariant.members p in
+    let step = fields_step c.args.store.now c.args.cell c.in-Some.ty c.loop-index.index (λ q. Contains c.args.places.now.items q)
+    (sym c.in-Some.ensures) p in (
       λ h. step.0 (elim h [ inl m ↦ inl (old.0 m) | inr new ↦ inr new ]),
       λ h. elim (step.1 h) [ inl m ↦ inl (old.1 m) | inr new ↦ inr new ],
     ))
@@ -18,4 +20,5 @@ loop-index-preserved c =
 
 pub returns : goal.returns
 returns c =
-    listing_alike _ _ _ (fields_all c.args.types.now c.args.store.now c.args.cell c.in-Some.ty c.loop-index.index (λ p. Contains c.args.places.now.items p) (c.requires.fits c.args.cell) (sym c.in-Some.ensures) (omega arith)) c.loop-index.invariant
+    listing_alike _ _ _ (fields_all c.args.types.now c.args.store.now c.args.cell c.in-Some.ty c.loop-index.index
+    (λ p. Contains c.args.places.now.items p) (c.requires.fits c.args.cell) (sym c.in-Some.ensures) (omega arith)) c.loop-index.invariant

@@ -22,7 +22,8 @@ loop-place-init c = listing_alike _ _ _ (vars_all c.args.store.now c.args.vars.n
 
 pub unreachable-requires : goal.unreachable-requires
 unreachable-requires c =
-    no_key _ _ (sym c.cell_at.ensures ∙ c.in_default.is) (slice_get-get_or (keys c.args.store.now.cells) c.loop-place.place 0 (omega (arith, c.cells-place-end.ensures)))
+    no_key _ _ (sym c.cell_at.ensures ∙ c.in_default.is)
+    (slice_get-get_or (keys c.args.store.now.cells) c.loop-place.place 0 (omega (arith, c.cells-place-end.ensures)))
 
 pub add_fields-requires-clause-before : goal.add_fields-requires-clause-before
 add_fields-requires-clause-before c = λ p m.
@@ -31,7 +32,8 @@ add_fields-requires-clause-before c = λ p m.
 pub loop-place-preserved : goal.loop-place-preserved
 loop-place-preserved c =
     listing_alike _ _ _
-    (λ p. let old = c.loop-place.invariant.members p in let step = cells_step c.args.store.now c.loop-place.place c.in-Some.cell (key_is _ _ (sym c.in-Some.ensures)) p in (
+    (λ p. let old = c.loop-place.invariant.members p in let step = cells_step c.args.store.now c.loop-place.place c.in-Some.cell
+    (key_is _ _ (sym c.in-Some.ensures)) p in (
       λ h. step.0 (elim h [ inl m ↦ inl (old.0 m) | inr new ↦ inr new ]),
       λ h. elim (step.1 h) [ inl m ↦ inl (old.1 m) | inr new ↦ inr new ],
     ))

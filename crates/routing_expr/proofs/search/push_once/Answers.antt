@@ -14,7 +14,8 @@ less a b le apart = omega (arith, le, apart)
 pub push-requires-2 : goal.push-requires-2
 push-requires-2 c =
     below-last c.args.list.now c.in-Some.last c.args.cell.0 c.requires.rising (sym c.in-Some.ensures)
-    (less c.in-Some.last c.args.cell (AllByRecursion-at (λ d. d.0 ≤ c.args.cell.0) c.args.list.now (length c.args.list.now - 1) c.in-Some.last c.requires.last (sym c.in-Some.ensures)) c.if-last-cell.false)
+    (less c.in-Some.last c.args.cell (AllByRecursion-at (λ d. d.0 ≤ c.args.cell.0) c.args.list.now
+    (length c.args.list.now - 1) c.in-Some.last c.requires.last (sym c.in-Some.ensures)) c.if-last-cell.false)
 
 pub returns-in_default : goal.returns-in_default
 returns-in_default c = OnOk-pushed c.push.result c.args.list.now c.push.new.self c.args.cell c.push.ensures.ok c.requires.rising
@@ -28,4 +29,5 @@ returns-then-last-cell c =
 pub returns : goal.returns
 returns c = OnOk-pushed c.push-2.result c.args.list.now c.push-2.new.self c.args.cell c.push-2.ensures.ok c.requires.rising
     (below-last c.args.list.now c.in-Some.last c.args.cell.0 c.requires.rising (sym c.in-Some.ensures)
-    (less c.in-Some.last c.args.cell (AllByRecursion-at (λ d. d.0 ≤ c.args.cell.0) c.args.list.now (length c.args.list.now - 1) c.in-Some.last c.requires.last (sym c.in-Some.ensures)) c.if-last-cell.false))
+    (less c.in-Some.last c.args.cell (AllByRecursion-at (λ d. d.0 ≤ c.args.cell.0) c.args.list.now
+    (length c.args.list.now - 1) c.in-Some.last c.requires.last (sym c.in-Some.ensures)) c.if-last-cell.false))

@@ -15,8 +15,10 @@ loop-place-preserved c =
       twice = λ d. let step = twice_step c.args.types.now c.args.vars.now c.args.store.now places _ _ at d in
           let now = c.in_ok-add_place.ensures.twice d in
           let was = c.loop-place.invariant.twice d in
-          let once = c.loop-place.invariant.once d in
-          (λ h. step.0 (elim (now.0 h) [ inl o ↦ inl (was.0 o) | inr n ↦ inr (n.0, once.0 n.1) ]), λ h. now.1 (elim (step.1 h) [ inl o ↦ inl (was.1 o) | inr n ↦ inr (n.0, once.1 n.1) ]));
+          let once = c.loop-place.invariant.once d in (
+            λ h. step.0 (elim (now.0 h) [ inl o ↦ inl (was.0 o) | inr n ↦ inr (n.0, once.0 n.1) ]),
+            λ h. now.1 (elim (step.1 h) [ inl o ↦ inl (was.1 o) | inr n ↦ inr (n.0, once.1 n.1) ]),
+          );
     }
 
 pub returns : goal.returns

@@ -13,4 +13,5 @@ returns-then-branch-clause-some c =
     (λ k d less wrong. not_wrong types s _ (c.loop-place.invariant k d less) wrong) (OnTrue_at c.if-branch.true c.in_ok-is_wrong_place.ensures.wrong)
 
 pub returns-clause-none : goal.returns-clause-none
-returns-clause-none c = all_right c.args.search.now.types.now c.args.search.now.store.now c.args.places.now c.requires.places (λ k d within. c.loop-place.invariant k d (omega arith))
+returns-clause-none c = all_right c.args.search.now.types.now c.args.search.now.store.now c.args.places.now c.requires.places
+    (λ k d within. c.loop-place.invariant k d (omega arith))

@@ -28,4 +28,5 @@ pub returns-clause-value : goal.returns-clause-value
 returns-clause-value c =
     formulas_of-last c.args.table.now.nodes.items c.loop-symbol.table.nodes.items c.loop-symbol.table.places c.loop-symbol.parts.items
     c.as_slice-symbol-items.result.now c.loop-symbol.symbol-index c.args.formula.now c.loop-symbol.invariant.placed
-    c.pop.new.self.items c.unwrap-place.result c.loop-symbol-test.false (c.pop.ensures.items ∙ ap (λ o. c.pop.new.self.items ++ option_to_list o) c.unwrap-place.ensures)
+    c.pop.new.self.items c.unwrap-place.result c.loop-symbol-test.false (c.pop.ensures.items
+    ∙ ap (λ o. c.pop.new.self.items ++ option_to_list o) c.unwrap-place.ensures)

@@ -1,7 +1,10 @@
 use Rattle.std.proofs.Common.{◌≡◌, Ok, IfOk, IfErr, sym, ap, ◌∙◌, subst}
 use Rattle.ws2s_read.specs.Resolving.{IsStop, resolved_use}
 use Rattle.ws2s_read.proofs.ResolvingLemmas.{stop_returned, all_bound-front, front-again}
-use Rattle.ws2s_read.proofs.FormsLemmas.{at-Truth, stop-Empty, found-Empty, stop-Same, found-Same, stop-Differ, found-Differ, stop-In, found-In, stop-NotIn, found-NotIn, stop-Sub, found-Sub, stop-Use, found-Use, stop-Not, found-Not, stop-Implies, stop-Implies_right, found-Implies, stop-Chain, stop-Chain_others, found-Chain, same-Quantified}
+use Rattle.ws2s_read.proofs.FormsLemmas.{at-Truth, stop-Empty, found-Empty, stop-Same, found-Same, stop-Differ, found-Differ}
+use Rattle.ws2s_read.proofs.FormsLemmas.{stop-In, found-In, stop-NotIn, found-NotIn, stop-Sub, found-Sub, stop-Use, found-Use}
+use Rattle.ws2s_read.proofs.FormsLemmas.{stop-Not, found-Not, stop-Implies, stop-Implies_right, found-Implies, stop-Chain}
+use Rattle.ws2s_read.proofs.FormsLemmas.{stop-Chain_others, found-Chain, same-Quantified}
 use Rattle.ws2s_read.proofs.formulas.+resolving.Goals as goal
 
 pub resolve_formula-returns-in_err-resolve_empty-in-Empty-clause-stop : goal.resolve_formula-returns-in_err-resolve_empty-in-Empty-clause-stop
@@ -44,7 +47,8 @@ pub resolve_formula-returns-in_err-atom-in-Use-clause-stop : goal.resolve_formul
 resolve_formula-returns-in_err-atom-in-Use-clause-stop t c =
     let e = c.in_err-atom-in-Use.field-0.0 in
     stop_returned _ c.from_residual-in_err-atom-in-Use.result e c.from_residual-in_err-atom-in-Use.ensures.1
-    (stop-Use c.args.outer c.args.formula.now _ _ c.args.names.now e c.in-Use.is (subst (λ terms. IsStop (resolved_use c.args.names.now c.in-Use.name terms) e) c.as_slice.ensures c.in_err-atom-in-Use.ensures.stop))
+    (stop-Use c.args.outer c.args.formula.now _ _ c.args.names.now e c.in-Use.is
+    (subst (λ terms. IsStop (resolved_use c.args.names.now c.in-Use.name terms) e) c.as_slice.ensures c.in_err-atom-in-Use.ensures.stop))
 
 pub resolve_formula-returns-in_err-formula-in-Not-clause-stop : goal.resolve_formula-returns-in_err-formula-in-Not-clause-stop
 resolve_formula-returns-in_err-formula-in-Not-clause-stop t c =
@@ -105,15 +109,18 @@ resolve_formula-returns-in_ok-atom-in-Use-clause-formula t c =
 
 pub resolve_formula-returns-in_ok-negated-in-Differ-clause-formula : goal.resolve_formula-returns-in_ok-negated-in-Differ-clause-formula
 resolve_formula-returns-in_ok-negated-in-Differ-clause-formula t c =
-    found-Differ c.args.outer c.args.formula.now _ _ c.args.names.now _ c.in-Differ.is c.in_ok-atom-in-Differ.ensures.atom ∙ ap Ok (sym c.in_ok-negated-in-Differ.ensures)
+    found-Differ c.args.outer c.args.formula.now _ _ c.args.names.now _ c.in-Differ.is c.in_ok-atom-in-Differ.ensures.atom
+    ∙ ap Ok (sym c.in_ok-negated-in-Differ.ensures)
 
 pub resolve_formula-returns-in_ok-negated-in-NotIn-clause-formula : goal.resolve_formula-returns-in_ok-negated-in-NotIn-clause-formula
 resolve_formula-returns-in_ok-negated-in-NotIn-clause-formula t c =
-    found-NotIn c.args.outer c.args.formula.now _ _ c.args.names.now _ c.in-NotIn.is c.in_ok-atom-in-NotIn.ensures.atom ∙ ap Ok (sym c.in_ok-negated-in-NotIn.ensures)
+    found-NotIn c.args.outer c.args.formula.now _ _ c.args.names.now _ c.in-NotIn.is c.in_ok-atom-in-NotIn.ensures.atom
+    ∙ ap Ok (sym c.in_ok-negated-in-NotIn.ensures)
 
 pub resolve_formula-returns-in_ok-new-in-Not-clause-formula : goal.resolve_formula-returns-in_ok-new-in-Not-clause-formula
 resolve_formula-returns-in_ok-new-in-Not-clause-formula t c =
-    found-Not c.args.outer c.args.formula.now _ _ c.args.names.now _ _ c.in-Not.is c.get.ensures c.in_ok-formula-in-Not.ensures.formula c.in_ok-new-in-Not.ensures
+    found-Not c.args.outer c.args.formula.now _ _ c.args.names.now _ _ c.in-Not.is c.get.ensures
+    c.in_ok-formula-in-Not.ensures.formula c.in_ok-new-in-Not.ensures
 
 pub resolve_formula-returns-in_ok-new-in-Implies-2-clause-formula : goal.resolve_formula-returns-in_ok-new-in-Implies-2-clause-formula
 resolve_formula-returns-in_ok-new-in-Implies-2-clause-formula t c =
@@ -129,12 +136,14 @@ resolve_formula-returns-in_ok-new-in-Chain-clause-formula t c =
 pub resolve_formula-returns-in-Quantified-clause-formula : goal.resolve_formula-returns-in-Quantified-clause-formula
 resolve_formula-returns-in-Quantified-clause-formula t c =
     subst (λ r. IfOk c.resolve_quantified.result (λ found. r ≡ Ok found))
-    (same-Quantified c.args.outer c.args.formula.now _ _ _ _ _ c.args.names.now c.in-Quantified.is c.as_slice-names_bound.ensures c.get-in-Quantified.ensures) c.resolve_quantified.ensures.formula
+    (same-Quantified c.args.outer c.args.formula.now _ _ _ _ _ c.args.names.now c.in-Quantified.is
+    c.as_slice-names_bound.ensures c.get-in-Quantified.ensures) c.resolve_quantified.ensures.formula
 
 pub resolve_formula-returns-in-Quantified-clause-stop : goal.resolve_formula-returns-in-Quantified-clause-stop
 resolve_formula-returns-in-Quantified-clause-stop t c =
     subst (λ r. IfErr c.resolve_quantified.result (IsStop r))
-    (same-Quantified c.args.outer c.args.formula.now _ _ _ _ _ c.args.names.now c.in-Quantified.is c.as_slice-names_bound.ensures c.get-in-Quantified.ensures) c.resolve_quantified.ensures.stop
+    (same-Quantified c.args.outer c.args.formula.now _ _ _ _ _ c.args.names.now c.in-Quantified.is
+    c.as_slice-names_bound.ensures c.get-in-Quantified.ensures) c.resolve_quantified.ensures.stop
 
 pub resolve_quantified-returns-clause-names_stay : goal.resolve_quantified-returns-clause-names_stay
 resolve_quantified-returns-clause-names_stay t c =

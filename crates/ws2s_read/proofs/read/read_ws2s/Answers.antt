@@ -1,4 +1,6 @@
-use Rattle.ws2s_read.proofs.TextLemmas.{passed-stop, passed-complete, passed-refused, lex-stop, lexed-stop, refused-lexing, refused-parsing, refused-names, parse-stop, parsed-as, read-text, read-stop, read-only, read-complete}
+use Rattle.ws2s_read.proofs.TextLemmas.{passed-stop, passed-complete, passed-refused, lex-stop, lexed-stop, refused-lexing}
+use Rattle.ws2s_read.proofs.TextLemmas.{refused-parsing, refused-names, parse-stop, parsed-as, read-text, read-stop, read-only}
+use Rattle.ws2s_read.proofs.TextLemmas.{read-complete}
 use Rattle.ws2s_read.proofs.read.read_ws2s.Goals as goal
 
 -- no tokens
@@ -37,7 +39,8 @@ pub returns-in_err-source-clause-refused : goal.returns-in_err-source-clause-ref
 returns-in_err-source-clause-refused c = λ refusal is.
     let e = c.in_err-source.field-0.0 in
     passed-refused c.from_residual-in_err-source.result e _ refusal c.from_residual-in_err-source.ensures.1
-    (refused-parsing c.args.text.now c.in_ok-list.list refusal e c.in_ok-list.ensures.tokens c.in_err-source.ensures.complete c.in_err-source.ensures.refused is)
+    (refused-parsing c.args.text.now c.in_ok-list.list refusal e c.in_ok-list.ensures.tokens c.in_err-source.ensures.complete
+    c.in_err-source.ensures.refused is)
 
 -- names
 pub returns-clause-text : goal.returns-clause-text

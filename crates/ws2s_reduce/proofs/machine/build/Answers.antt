@@ -20,7 +20,8 @@ pub returns-in-Quantified : goal.returns-in-Quantified
 returns-in-Quantified c = on_ok_two c.push_quantified.result (λ steps tracks.
     let now : Machine = record { tasks = c.push_quantified.new.tasks; tracks = c.push_quantified.new.tracks; parts = c.args.machine.now.parts } in
     subst (IsMade c.args.predicates.now c.args.place c.args.machine.now now) (sym c.in-Quantified.is)
-    (Built-Quantified c.args.predicates.now c.args.place c.args.machine.now now c.requires refl c.in-Quantified.quantifier c.in-Quantified.names c.in-Quantified.inner
+    (Built-Quantified c.args.predicates.now c.args.place c.args.machine.now now c.requires refl
+    c.in-Quantified.quantifier c.in-Quantified.names c.in-Quantified.inner
     (steps ∙ ap (λ f. to_build f (record { rank = c.args.place.rank; start = c.args.place.start; next = c.args.place.next + c.in-Quantified.names })
     ∷ to_forget (length c.args.machine.now.tracks.items) ∷ to_apply (Op.Wrap c.in-Quantified.quantifier c.args.place.next c.in-Quantified.names)
     ∷ steps_of c.args.machine.now.tasks.items) c.get-in-Quantified.ensures)

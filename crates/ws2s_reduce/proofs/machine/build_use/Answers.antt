@@ -12,7 +12,8 @@ returns c = on_ok_two c.enter.result (λ same work.
     (works_to c.args.predicates.now c.args.place.rank c.args.predicate + length c.args.arguments.now + 3) c.args.machine.now c.enter.new.machine)
     (c.as_slice.ensures.value ∙ c.in_ok-frame.ensures ∙ ap (drop c.args.place.start) c.as_slice-tracks.ensures.value)
     (IsBuilt-use c.args.predicates.now c.args.place.rank c.args.predicate c.args.place.next c.in_ok-next.next c.len-kept.result c.as_slice.result.now
-    c.args.arguments.now c.args.machine.now c.pass_arguments.new.machine c.enter.new.machine (c.len-kept.ensures ∙ c.args.machine.now.tracks.ok.0) c.in_ok-next.ensures
+    c.args.arguments.now c.args.machine.now c.pass_arguments.new.machine c.enter.new.machine (c.len-kept.ensures
+    ∙ c.args.machine.now.tracks.ok.0) c.in_ok-next.ensures
     (same c.args.predicates.now c.args.place.rank c.visible.ensures)
     (work c.args.predicates.now c.args.place.rank c.visible.ensures)))
     c.enter.ensures.same c.enter.ensures.work

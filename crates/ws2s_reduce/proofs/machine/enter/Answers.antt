@@ -30,6 +30,7 @@ returns-in_ok-push-in-None-clause-same c = λ predicates rank found.
     ap (λ all. finished predicates all c.args.machine.now.tracks.items (reverse c.push-in-None.new.self.items))
     (ap steps_of c.in_ok-push.ensures.items ∙ steps_of-push c.args.machine.now.tasks.items (Task.Forget c.args.place.start))
     ∙ ap (λ all. finished predicates (to_forget c.args.place.start ∷ steps_of c.args.machine.now.tasks.items) c.args.machine.now.tracks.items all)
-    (ap reverse c.in_ok-push-in-None.ensures.items ∙ reverse-append c.args.machine.now.parts.items _ ∙ ap (λ f. f ∷ reverse c.args.machine.now.parts.items) c.in_ok-made-in-None.ensures)
+    (ap reverse c.in_ok-push-in-None.ensures.items ∙ reverse-append c.args.machine.now.parts.items _
+    ∙ ap (λ f. f ∷ reverse c.args.machine.now.parts.items) c.in_ok-made-in-None.ensures)
     ∙ enter-None predicates rank c.args.place (steps_of c.args.machine.now.tasks.items) c.args.machine.now.tracks.items
     (reverse c.args.machine.now.parts.items) (sym found ∙ ap option_copied c.in-None.is)

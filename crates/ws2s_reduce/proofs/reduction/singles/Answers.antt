@@ -10,7 +10,8 @@ loop-variable-preserved c = record {
   made =
       c.in_ok-push_single.ensures
       ∙ ap₂ (λ all t. all ++ singles_from t (class_of_free c.variable-item.result ∷ [])) c.loop-variable.invariant.made c.loop-variable.invariant.place
-      ∙ ap (λ v. singles_from 0 (map class_of_free (take c.loop-variable.variable-index c.args.free.now)) ++ singles_from c.loop-variable.variable-index (class_of_free v ∷ []))
+      ∙ ap (λ v. singles_from 0 (map class_of_free (take c.loop-variable.variable-index c.args.free.now))
+      ++ singles_from c.loop-variable.variable-index (class_of_free v ∷ []))
       c.variable-item.is
       ∙ singles_from-next c.args.free.now c.loop-variable.variable-index c.variable-item.result c.loop-variable-test.true;
 }

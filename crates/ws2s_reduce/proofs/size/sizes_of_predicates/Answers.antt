@@ -19,7 +19,8 @@ loop-predicate-preserved c =
       as_many = ap length items ∙ length-append c.loop-predicate.sizes.items (c.size_of_formula-size.result ∷ [])
           ∙ ap (λ n. n + 1) c.loop-predicate.invariant.as_many;
       sizes = subst
-          (λ sizes. AreSizes sizes (reductions_from no_reductions 0 (map (λ p. sentence_of p.body) (take (c.loop-predicate.predicate-index + 1) c.args.predicates.now))))
+          (λ sizes. AreSizes sizes (reductions_from no_reductions 0
+          (map (λ p. sentence_of p.body) (take (c.loop-predicate.predicate-index + 1) c.args.predicates.now))))
           (sym items)
           (AreSizes-next c.loop-predicate.sizes.items c.args.predicates.now c.loop-predicate.predicate-index c.size_of_formula-size.result d
           c.loop-predicate-test.true c.loop-predicate.invariant.as_many c.loop-predicate.invariant.sizes

@@ -4,7 +4,7 @@ use Rattle.std.proofs.lemmas.List.{length-map}
 use Rattle.bdd_nodes.specs.declared.roots.RootTable.{RootTable}
 use Rattle.bdd_nodes.specs.Roots.{AreNumbered}
 use Rattle.bdd_nodes.specs.Collecting.{linked_table}
-use Rattle.bdd_nodes.proofs.PlacesLemmas.{take-written}
+use Rattle.bdd_nodes.proofs.ElementsLemmas.{take-written}
 use Rattle.bdd_nodes.proofs.RootsLemmas.{AreNumbered-map}
 use Rattle.bdd_nodes.proofs.roots.RootSet.move_all.Goals as goal
 

@@ -20,7 +20,8 @@ number c = c.in_ok-id.ensures.id ∙ ap (λ (s : Contents). s.roots.added) c.sel
 abbrev contents : List Node → ℕ → Registered → Contents
 contents nodes limit roots = record { nodes = nodes; limit = limit; roots = roots }
 
-view-is : (c : In_ok-id) → contents c.self.inside.nodes.items c.self.inside.limit c.add.new.self ≡ with_table c.args.self.now (is_shelf c) (table c) (number c) c.requires
+view-is : (c : In_ok-id) → contents c.self.inside.nodes.items c.self.inside.limit c.add.new.self
+    ≡ with_table c.args.self.now (is_shelf c) (table c) (number c) c.requires
 view-is c =
     ap (contents c.self.inside.nodes.items c.self.inside.limit) c.in_ok-id.ensures.added
     ∙ ap (λ (s : Contents). contents s.nodes s.limit (record { tables = s.roots.tables ++ table c ∷ []; added = s.roots.added + 1 })) c.self.view_is

@@ -8,7 +8,7 @@ use Rattle.bdd_nodes.specs.Shelf.{Contents, IsShelf, count_of}
 use Rattle.bdd_nodes.specs.Changes.{MovesRoots, CountsHeld}
 use Rattle.bdd_nodes.specs.Collecting.{all_roots, marked_below, linked_table, IsLinked, MarksSides, MovesBelow}
 use Rattle.bdd_nodes.specs.Index.{IsIndexed}
-use Rattle.bdd_nodes.proofs.PlacesLemmas.{take-written}
+use Rattle.bdd_nodes.proofs.ElementsLemmas.{take-written}
 use Rattle.bdd_nodes.proofs.CollectedLemmas.{All-rank, All-linked, collected, IsShelf-collected, MovesRoots-collected, CountsHeld-collected}
 use Rattle.bdd_nodes.proofs.shelf.Shelf.collect.Goals as goal
 use Rattle.bdd_nodes.proofs.shelf.Shelf.collect.Goals.{After-rebuild}
@@ -22,12 +22,14 @@ registered tables added = record { tables = tables; added = added }
 pub mark-requires : goal.mark-requires
 mark-requires c =
     All-rank (opened-of c.self.inside.nodes.items c.self.inside.limit c.self.inside.roots) c.self.invariant.shelf (vec_len c.clear.new.numbers)
-    (let w = c.self.invariant.shelf.within in let l = c.self.invariant.chain_len in let e = c.clear.ensures.len in let v = c.self.inside.index.chain.ok.0 in omega arith)
+    (let w = c.self.invariant.shelf.within in let l = c.self.invariant.chain_len in let e = c.clear.ensures.len in
+    let v = c.self.inside.index.chain.ok.0 in omega arith)
 
 sides-of : (ns nodes : List Node) (first marks : List ℕ) → ns ≡ nodes → MarksSides ns first marks 0 → MarksSides nodes first marks 0
 sides-of ns nodes first marks same sides = subst (λ (ms : List Node). MarksSides ms first marks 0) same sides
 
-moves-of : (ns nodes : List Node) (marks : List ℕ) (now : List Node) (links : List ℕ) → ns ≡ nodes → MovesBelow ns marks now links (length ns) → MovesBelow nodes marks now links (length nodes)
+moves-of : (ns nodes : List Node) (marks : List ℕ) (now : List Node) (links : List ℕ) → ns ≡ nodes →
+    MovesBelow ns marks now links (length ns) → MovesBelow nodes marks now links (length nodes)
 moves-of ns nodes marks now links same moves = subst (λ (ms : List Node). MovesBelow ms marks now links (length ms)) same moves
 
 pub move_all-requires : goal.move_all-requires
@@ -38,7 +40,8 @@ move_all-requires c =
     let f = c.mark.ensures.len in let m = c.mark_sides.ensures.len in omega arith) in
     subst (λ (ls : List ℕ). All (λ r. IsLinked ls (node_of r)) (all_roots c.self.inside.roots.tables)) (sym c.deref-2.ensures.value)
     (All-linked (opened-of c.self.inside.nodes.items c.self.inside.limit c.self.inside.roots) c.self.invariant.shelf
-    c.clear.new.numbers.items c.mark.new.marks.items c.mark_sides.new.marks.items c.clear.ensures.zero c.mark.ensures (sides-of _ _ _ _ c.deref.ensures.value c.mark_sides.ensures)
+    c.clear.new.numbers.items c.mark.new.marks.items c.mark_sides.new.marks.items c.clear.ensures.zero
+    c.mark.ensures (sides-of _ _ _ _ c.deref.ensures.value c.mark_sides.ensures)
     c.move_nodes-count.new.nodes c.move_nodes-count.new.marks.items (moves-of _ _ _ _ _ c.deref_mut.ensures.value c.move_nodes-count.ensures.moved) fits)
 
 same_registered : (r : Registered) (tables : List RootTable) (added : ℕ) → r.tables ≡ tables → r.added ≡ added → r ≡ registered tables added
@@ -61,29 +64,37 @@ moves : (c : After-rebuild) → MovesBelow c.self.inside.nodes.items (marks c) c
 moves c = moves-of _ _ _ _ _ c.deref_mut.ensures.value c.move_nodes-count.ensures.moved
 
 abbrev left : (c : After-rebuild) → Contents
-left c = collected (opened c) c.self.invariant.shelf c.clear.new.numbers.items c.mark.new.marks.items (marks c) c.clear.ensures.zero c.mark.ensures (sides c) c.move_nodes-count.new.nodes (links c) (moves c)
+left c = collected (opened c) c.self.invariant.shelf c.clear.new.numbers.items c.mark.new.marks.items
+    (marks c) c.clear.ensures.zero c.mark.ensures (sides c) c.move_nodes-count.new.nodes (links c) (moves c)
 
 items-left : (c : After-rebuild) → c.truncate.new.self.items ≡ take (marked_below (marks c) (length c.self.inside.nodes.items)) c.move_nodes-count.new.nodes
 items-left c =
     c.truncate.ensures.items
-    ∙ ap (take c.move_nodes-count.result) (take-written c.move_nodes-count.new.nodes c.self.inside.nodes.items c.self.inside.nodes.len c.self.inside.nodes.ok.0 (moves c).len)
-    ∙ ap (λ (n : ℕ). take n c.move_nodes-count.new.nodes) (c.move_nodes-count.ensures.count ∙ ap (λ (ns : List Node). marked_below (marks c) (length ns)) c.deref_mut.ensures.value)
+    ∙ ap (take c.move_nodes-count.result)
+    (take-written c.move_nodes-count.new.nodes c.self.inside.nodes.items c.self.inside.nodes.len
+    c.self.inside.nodes.ok.0 (moves c).len)
+    ∙ ap (λ (n : ℕ). take n c.move_nodes-count.new.nodes) (c.move_nodes-count.ensures.count
+    ∙ ap (λ (ns : List Node). marked_below (marks c) (length ns)) c.deref_mut.ensures.value)
 
 -- the new view is the collected shelf
 view-is : (c : After-rebuild) → opened-of c.truncate.new.self.items c.self.inside.limit c.move_all.new.self ≡ left c
 view-is c =
     ap (λ (ns : List Node). opened-of ns c.self.inside.limit c.move_all.new.self) (items-left c)
     ∙ ap (opened-of (take (marked_below (marks c) (length c.self.inside.nodes.items)) c.move_nodes-count.new.nodes) c.self.inside.limit)
-    (same_registered c.move_all.new.self _ _ (c.move_all.ensures.tables ∙ ap (λ (ls : List ℕ). map (linked_table ls) c.self.inside.roots.tables) c.deref-2.ensures.value) c.move_all.ensures.added)
+    (same_registered c.move_all.new.self _ _ (c.move_all.ensures.tables
+    ∙ ap (λ (ls : List ℕ). map (linked_table ls) c.self.inside.roots.tables) c.deref-2.ensures.value)
+    c.move_all.ensures.added)
 
 shelf : (c : After-rebuild) → IsShelf (opened-of c.truncate.new.self.items c.self.inside.limit c.move_all.new.self)
 shelf c = subst IsShelf (sym (view-is c))
-    (IsShelf-collected (opened c) c.self.invariant.shelf c.clear.new.numbers.items c.mark.new.marks.items (marks c) c.clear.ensures.zero c.mark.ensures (sides c) c.move_nodes-count.new.nodes (links c) (moves c))
+    (IsShelf-collected (opened c) c.self.invariant.shelf c.clear.new.numbers.items c.mark.new.marks.items
+    (marks c) c.clear.ensures.zero c.mark.ensures (sides c) c.move_nodes-count.new.nodes (links c) (moves c))
 
 pub invariant_of-self : goal.invariant_of-self
 invariant_of-self c = record {
   shelf = shelf c;
-  indexed = subst (λ (ns : List Node). IsIndexed ns c.rebuild.new.self.buckets.items c.rebuild.new.self.chain.items (length ns)) c.deref-3.ensures.value c.rebuild.ensures.indexed;
+  indexed = subst (λ (ns : List Node). IsIndexed ns c.rebuild.new.self.buckets.items c.rebuild.new.self.chain.items
+      (length ns)) c.deref-3.ensures.value c.rebuild.ensures.indexed;
   chain_len =
       (let r = c.rebuild.ensures.chain_len in let a = c.rebuild.new.self.chain.ok.0 in let b = c.move_nodes-count.new.marks.ok.0 in
       let m = (moves c).links_len in let s = c.mark_sides.ensures.len in let f = c.mark.ensures.len in let z = c.clear.new.numbers.ok.0 in
@@ -98,13 +109,15 @@ pub returns-clause-roots : goal.returns-clause-roots
 returns-clause-roots c =
     subst (λ (s : Contents). MovesRoots s (opened-of c.truncate.new.self.items c.self.inside.limit c.move_all.new.self)) c.self.view_is
     (subst (MovesRoots (opened c)) (sym (view-is c))
-    (MovesRoots-collected (opened c) c.self.invariant.shelf c.clear.new.numbers.items c.mark.new.marks.items (marks c) c.clear.ensures.zero c.mark.ensures (sides c) c.move_nodes-count.new.nodes (links c) (moves c)))
+    (MovesRoots-collected (opened c) c.self.invariant.shelf c.clear.new.numbers.items c.mark.new.marks.items
+    (marks c) c.clear.ensures.zero c.mark.ensures (sides c) c.move_nodes-count.new.nodes (links c) (moves c)))
 
 pub returns-clause-count : goal.returns-clause-count
 returns-clause-count c =
     subst (λ (s : Contents). CountsHeld s (length c.truncate.new.self.items)) c.self.view_is
     (subst (λ (s : Contents). CountsHeld (opened c) (count_of s)) (sym (view-is c))
-    (CountsHeld-collected (opened c) c.self.invariant.shelf c.clear.new.numbers.items c.mark.new.marks.items (marks c) c.clear.ensures.zero c.mark.ensures (sides c) c.move_nodes-count.new.nodes (links c) (moves c)))
+    (CountsHeld-collected (opened c) c.self.invariant.shelf c.clear.new.numbers.items c.mark.new.marks.items
+    (marks c) c.clear.ensures.zero c.mark.ensures (sides c) c.move_nodes-count.new.nodes (links c) (moves c)))
 
 pub returns-clause-shelf : goal.returns-clause-shelf
 returns-clause-shelf c = shelf c

@@ -3,13 +3,15 @@ use Rattle.std.proofs.lemmas.List.{length-set}
 use Rattle.bdd_nodes.specs.declared.node.Node.{Node}
 use Rattle.bdd_nodes.specs.declared.node_ref.Named.TheVariants.{Inner}
 use Rattle.bdd_nodes.specs.Roots.{Registered}
-use Rattle.bdd_nodes.specs.Nodes.{Label, node_at, node_of}
+use Rattle.labels.specs.Labels.{Label}
+use Rattle.bdd_nodes.specs.Nodes.{node_at, node_of}
 use Rattle.bdd_nodes.specs.Hash.{bucket_of}
 use Rattle.bdd_nodes.specs.Shelf.{Contents, IsShelf, Has, choice_of, state_of, count_of, limit_of}
 use Rattle.bdd_nodes.specs.Changes.{Keeps, AddsOnly, is_valid}
 use Rattle.bdd_nodes.proofs.GrowLemmas.{grown}
 use Rattle.bdd_nodes.proofs.IndexLemmas.{IsIndexed-grown}
-use Rattle.bdd_nodes.proofs.MakeLemmas.{count-valid, AddsOnly-valid, valid-place, states-place, Has-place, Has-absent, with_node, IsShelf-with_node, Keeps-with_node, states-made, AddsOnly-made, count-made}
+use Rattle.bdd_nodes.proofs.MakeLemmas.{count-valid, AddsOnly-valid, valid-index, states-index, Has-index, Has-absent, with_node}
+use Rattle.bdd_nodes.proofs.MakeLemmas.{IsShelf-with_node, Keeps-with_node, states-made, AddsOnly-made, count-made}
 use Rattle.bdd_nodes.proofs.shelf.Shelf.make.Goals as goal
 use Rattle.bdd_nodes.proofs.shelf.Shelf.make.Goals.{After-inner, After-inner-2}
 
@@ -29,27 +31,27 @@ nodes-opened c = c.deref.ensures.value ∙ ap (λ (s : Contents). s.nodes) c.sel
 abbrev wanted : (c : After-inner) → Node
 wanted c = record { track = c.args.track; low = c.args.low; high = c.args.high }
 
-found : (c : After-inner) → node_at c.args.self.now.nodes c.in-Some.place ≡ wanted c
-found c = ap (λ (ns : List Node). node_at ns c.in-Some.place) (sym (nodes-opened c)) ∙ c.in-Some.ensures.found
+found : (c : After-inner) → node_at c.args.self.now.nodes c.in-Some.index ≡ wanted c
+found c = ap (λ (ns : List Node). node_at ns c.in-Some.index) (sym (nodes-opened c)) ∙ c.in-Some.ensures.found
 
-within : (c : After-inner) → c.in-Some.place < length c.args.self.now.nodes
-within c = subst (λ (ns : List Node). c.in-Some.place < length ns) (nodes-opened c) c.in-Some.ensures.within
+within : (c : After-inner) → c.in-Some.index < length c.args.self.now.nodes
+within c = subst (λ (ns : List Node). c.in-Some.index < length ns) (nodes-opened c) c.in-Some.ensures.within
 
 pub returns-in-Some-clause-value : goal.returns-in-Some-clause-value
 returns-in-Some-clause-value c =
-    states-place c.args.self.now (is_shelf c) c.inner.result c.in-Some.place c.inner.ensures (within c) (wanted c) (found c)
+    states-index c.args.self.now (is_shelf c) c.inner.result c.in-Some.index c.inner.ensures (within c) (wanted c) (found c)
 
 pub returns-in-Some-clause-only : goal.returns-in-Some-clause-only
 returns-in-Some-clause-only c = AddsOnly-valid _ _
 
 pub returns-in-Some-clause-count : goal.returns-in-Some-clause-count
 returns-in-Some-clause-count c =
-    count-valid _ _ (valid-place c.args.self.now (is_shelf c) c.inner.result c.in-Some.place c.inner.ensures (within c))
+    count-valid _ _ (valid-index c.args.self.now (is_shelf c) c.inner.result c.in-Some.index c.inner.ensures (within c))
 
 pub returns-in-Some-clause-full : goal.returns-in-Some-clause-full
 returns-in-Some-clause-full c =
     let has : Has c.args.self.now (choice_of c.args.self.now c.args.track c.args.low c.args.high) =
-    Has-place c.args.self.now (is_shelf c) c.inner.result c.in-Some.place c.inner.ensures (within c) (wanted c) (found c) in
+    Has-index c.args.self.now (is_shelf c) c.inner.result c.in-Some.index c.inner.ensures (within c) (wanted c) (found c) in
     (λ e. absurd (let no : ◌≡◌ {A = Bool} false true → ⊥ = λ f. cc in no e), λ full. absurd (full.absent has))
 
 pub returns-then-is_full-clause-full : goal.returns-then-is_full-clause-full
@@ -64,7 +66,9 @@ returns-then-is_full-clause-full c =
         full = omega arith;
         absent = Has-absent c.args.self.now (subst IsShelf c.self.view_is c.self.invariant.shelf)
             (record { track = c.args.track; low = c.args.low; high = c.args.high }) c.requires.low c.requires.high differ
-            (subst (λ (ns : List Node). (i : ℕ) → i < length ns → node_at ns i ≢ record { track = c.args.track; low = c.args.low; high = c.args.high }) opened c.in_default.ensures.absent);
+            (subst (λ (ns : List Node). (i : ℕ) → i < length ns →
+            node_at ns i ≢ record { track = c.args.track; low = c.args.low; high = c.args.high }) opened
+            c.in_default.ensures.absent);
       },
       λ full. refl,
     )
@@ -80,16 +84,17 @@ differ : (c : After-inner-2) → c.args.low ≢ c.args.high
 differ c = search rules
 
 absent : (c : After-inner-2) → (i : ℕ) → i < length c.args.self.now.nodes → node_at c.args.self.now.nodes i ≢ node c
-absent c = subst (λ (ns : List Node). (i : ℕ) → i < length ns → node_at ns i ≢ node c) (c.deref.ensures.value ∙ ap (λ (s : Contents). s.nodes) c.self.view_is) c.in_default.ensures.absent
+absent c = subst (λ (ns : List Node). (i : ℕ) → i < length ns → node_at ns i ≢ node c) (c.deref.ensures.value
+    ∙ ap (λ (s : Contents). s.nodes) c.self.view_is) c.in_default.ensures.absent
 
-at_end : (c : After-inner-2) → c.len-place.result ≡ length c.args.self.now.nodes
-at_end c = c.len-place.ensures ∙ c.self.inside.nodes.ok.0 ∙ ap (λ (s : Contents). length s.nodes) c.self.view_is
+at_end : (c : After-inner-2) → c.len-index.result ≡ length c.args.self.now.nodes
+at_end c = c.len-index.ensures ∙ c.self.inside.nodes.ok.0 ∙ ap (λ (s : Contents). length s.nodes) c.self.view_is
 
 room : (c : After-inner-2) → count_of c.args.self.now < limit_of c.args.self.now
 room c =
     let within = (shelf-opened c).within in
     let limit : c.self.inside.limit ≡ c.args.self.now.limit = ap (λ (s : Contents). s.limit) c.self.view_is in
-    let place = at_end c in
+    let index = at_end c in
     omega arith
 
 named : (c : After-inner-2) → node_of c.inner-2.result ≡ Inner (length c.args.self.now.nodes)
@@ -99,7 +104,13 @@ abbrev contents : List Node → ℕ → Registered → Contents
 contents nodes limit roots = record { nodes = nodes; limit = limit; roots = roots }
 
 -- the new view is the shelf with the node
-grown-view : (c : After-inner-2) → ◌≡◌ {A = Contents} (record { nodes = c.push_within.new.nodes.items; limit = c.self.inside.limit; roots = c.self.inside.roots }) (with_node c.args.self.now (shelf-opened c) (node c) c.requires.low c.requires.high (differ c) (absent c))
+grown-view : (c : After-inner-2) →
+    ◌≡◌ {A = Contents} (record {
+      nodes = c.push_within.new.nodes.items;
+      limit = c.self.inside.limit;
+      roots = c.self.inside.roots;
+    })
+    (with_node c.args.self.now (shelf-opened c) (node c) c.requires.low c.requires.high (differ c) (absent c))
 grown-view c =
     ap (λ (ns : List Node). contents ns c.self.inside.limit c.self.inside.roots) c.push_within.ensures.items
     ∙ ap (λ (s : Contents). contents (grown s.nodes (node c)) s.limit s.roots) c.self.view_is
@@ -108,14 +119,18 @@ pub invariant_of-self : goal.invariant_of-self
 invariant_of-self c =
     let stored = c.self.invariant in
     let items : c.push_within.new.nodes.items ≡ grown c.self.inside.nodes.items (node c) = c.push_within.ensures.items in
-    let place : c.len-place.result ≡ length c.self.inside.nodes.items = c.len-place.ensures ∙ c.self.inside.nodes.ok.0 in
+    let index : c.len-index.result ≡ length c.self.inside.nodes.items = c.len-index.ensures ∙ c.self.inside.nodes.ok.0 in
     let limit : c.self.inside.limit ≡ c.args.self.now.limit = ap (λ (s : Contents). s.limit) c.self.view_is in
     let at = at_end c in
     let space = room c in
     record {
-      shelf = subst IsShelf (sym (grown-view c)) (IsShelf-with_node c.args.self.now (shelf-opened c) (node c) c.requires.low c.requires.high (differ c) (absent c) space);
+      shelf = subst IsShelf (sym (grown-view c))
+          (IsShelf-with_node c.args.self.now (shelf-opened c) (node c) c.requires.low c.requires.high (differ c)
+          (absent c) space);
       indexed = rw (items, c.put.ensures.bucket, c.put.ensures.before)
-          (IsIndexed-grown c.self.inside.nodes.items (node c) c.self.inside.index.buckets.items c.self.inside.index.chain.items c.bucket-bucket.result c.len-place.result place stored.indexed
+          (IsIndexed-grown c.self.inside.nodes.items
+          (node c) c.self.inside.index.buckets.items c.self.inside.index.chain.items c.bucket-bucket.result
+          c.len-index.result index stored.indexed
           (c.bucket-bucket.ensures.value ∙ ap (bucket_of (node c)) (sym stored.buckets_len))
           (let b = c.bucket-bucket.ensures.within in let l = stored.buckets_len in omega arith)
           (let l = stored.chain_len in omega arith));
@@ -126,7 +141,8 @@ invariant_of-self c =
 
 pub returns-clause-value : goal.returns-clause-value
 returns-clause-value c =
-    subst (λ (s : Contents). (label : Label) → state_of s c.inner-2.result label ≡ choice_of c.args.self.now c.args.track c.args.low c.args.high label) (sym (grown-view c))
+    subst (λ (s : Contents). (label : Label) → state_of s c.inner-2.result label
+    ≡ choice_of c.args.self.now c.args.track c.args.low c.args.high label) (sym (grown-view c))
     (states-made c.args.self.now (shelf-opened c) (node c) c.requires.low c.requires.high (differ c) (absent c) c.inner-2.result (named c))
 
 pub returns-clause-kept : goal.returns-clause-kept
@@ -141,7 +157,9 @@ returns-clause-only c =
 
 pub returns-clause-count : goal.returns-clause-count
 returns-clause-count c =
-    subst (λ (s : Contents). count_of s ≡ (if is_valid c.args.self.now c.inner-2.result then count_of c.args.self.now else count_of c.args.self.now + 1)) (sym (grown-view c))
+    subst (λ (s : Contents). count_of s
+    ≡ (if is_valid c.args.self.now c.inner-2.result then count_of c.args.self.now
+    else count_of c.args.self.now + 1)) (sym (grown-view c))
     (count-made c.args.self.now (shelf-opened c) (node c) c.requires.low c.requires.high (differ c) (absent c) c.inner-2.result (named c))
 
 pub returns-clause-shelf : goal.returns-clause-shelf

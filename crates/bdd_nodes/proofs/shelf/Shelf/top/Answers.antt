@@ -10,9 +10,9 @@ pub returns-in-Inner-clause-splits : goal.returns-in-Inner-clause-splits
 returns-in-Inner-clause-splits c =
     let shelf = c.args.self.now in
     let named = sym c.in-Inner.ensures in
-    let within : c.in-Inner.place < length shelf.nodes = subst (IsNamedIn shelf.nodes) named c.requires in
-    let read : c.index.result.now ≡ node_at shelf.nodes c.in-Inner.place =
-    get_or_read c.self.inside.nodes.items _ _ (subst (λ (s : Contents). c.in-Inner.place < length s.nodes) (sym c.self.view_is) within) c.index.ensures _
-    ∙ ap (λ (s : Contents). node_at s.nodes c.in-Inner.place) c.self.view_is in
+    let within : c.in-Inner.index < length shelf.nodes = subst (IsNamedIn shelf.nodes) named c.requires in
+    let read : c.index.result.now ≡ node_at shelf.nodes c.in-Inner.index =
+    get_or_read c.self.inside.nodes.items _ _ (subst (λ (s : Contents). c.in-Inner.index < length s.nodes) (sym c.self.view_is) within) c.index.ensures _
+    ∙ ap (λ (s : Contents). node_at s.nodes c.in-Inner.index) c.self.view_is in
     subst (λ (n : Node). Splits shelf c.args.n n.track) (sym read)
-    (Splits-inner shelf (subst IsShelf c.self.view_is c.self.invariant.shelf) c.args.n c.in-Inner.place named within)
+    (Splits-inner shelf (subst IsShelf c.self.view_is c.self.invariant.shelf) c.args.n c.in-Inner.index named within)

@@ -18,13 +18,15 @@ returns-in-Leaf-clause-small c = small-leaf c.loop-state.at c.in-Leaf.state (sym
 pub loop-state-preserved-then-contains : goal.loop-state-preserved-then-contains
 loop-state-preserved-then-contains c =
     let named = sym c.in-Inner.ensures in
-    let step = step-high c.args.nodes.now c.requires.canonical c.loop-state.at c.in-Inner.place named (subst (IsNamedIn c.args.nodes.now) named c.loop-state.invariant.0)
-    (label_of c.args.label.now) (node_at c.args.nodes.now c.in-Inner.place) refl (sym c.contains.ensures.value ∙ c.if-contains.true) in
+    let step = step-high c.args.nodes.now c.requires.canonical c.loop-state.at c.in-Inner.index named
+    (subst (IsNamedIn c.args.nodes.now) named c.loop-state.invariant.0)
+    (label_of c.args.label.now) (node_at c.args.nodes.now c.in-Inner.index) refl (sym c.contains.ensures.value ∙ c.if-contains.true) in
     (step.0, step.1 ∙ c.loop-state.invariant.1)
 
 pub loop-state-preserved : goal.loop-state-preserved
 loop-state-preserved c =
     let named = sym c.in-Inner.ensures in
-    let step = step-low c.args.nodes.now c.requires.canonical c.loop-state.at c.in-Inner.place named (subst (IsNamedIn c.args.nodes.now) named c.loop-state.invariant.0)
-    (label_of c.args.label.now) (node_at c.args.nodes.now c.in-Inner.place) refl (sym c.contains.ensures.value ∙ c.if-contains.false) in
+    let step = step-low c.args.nodes.now c.requires.canonical c.loop-state.at c.in-Inner.index named
+    (subst (IsNamedIn c.args.nodes.now) named c.loop-state.invariant.0)
+    (label_of c.args.label.now) (node_at c.args.nodes.now c.in-Inner.index) refl (sym c.contains.ensures.value ∙ c.if-contains.false) in
     (step.0, step.1 ∙ c.loop-state.invariant.1)

@@ -1,6 +1,6 @@
 use Rattle.std.proofs.Common.{◌≡◌, List, Vec, Global, false, true, map, sym, ◌∙◌, ap, subst}
 use Rattle.bdd_nodes.specs.declared.node_ref.NodeRef.{NodeRef}
-use Rattle.bdd_nodes.specs.Nodes.{Label}
+use Rattle.labels.specs.Labels.{Label}
 use Rattle.bdd_nodes.specs.Shelf.{Contents}
 use Rattle.bdd_walk.specs.Asked.{leaves_of}
 use Rattle.bdd_walk.specs.Sides.{side_at, AskFirst}
@@ -10,7 +10,8 @@ use Rattle.bdd_walk.proofs.many_roots.ManyRootsWalk.step.Goals as goal
 pub returns-in_default : goal.returns-in_default
 returns-in_default c = λ before is_shelf keeps inside.
     asked_by-leaves before c.args.self.now.dropped c.args.self.now.half c.args.roots.now.items c.in_ok-states_of.field-0
-    (subst (λ (rs : List NodeRef). (other : Contents) (label : Label) → leaves_of other rs label ≡ c.in_ok-states_of.field-0) c.as_slice-roots.ensures.value c.in_ok-states_of.ensures)
+    (subst (λ (rs : List NodeRef). (other : Contents) (label : Label) → leaves_of other rs label
+    ≡ c.in_ok-states_of.field-0) c.as_slice-roots.ensures.value c.in_ok-states_of.ensures)
 
 pub returns-then-drops : goal.returns-then-drops
 returns-then-drops c = λ before is_shelf keeps inside.
@@ -24,7 +25,8 @@ returns-then-drops c = λ before is_shelf keeps inside.
 pub returns : goal.returns
 returns c = λ before is_shelf keeps inside.
     let now = c.args.shelf.now in
-    IsSplit-many (λ (v : Vec NodeRef Global). v.items) c.args.self.now.dropped c.args.self.now.half before now is_shelf keeps c.args.roots.now inside c.in-Some.track
+    IsSplit-many (λ (v : Vec NodeRef Global). v.items) c.args.self.now.dropped c.args.self.now.half before now
+    is_shelf keeps c.args.roots.now inside c.in-Some.track
     (subst (AskFirst now c.in-Some.track) c.as_slice-roots.ensures.value c.in-Some.ensures)
     c.in_ok-low.low c.in_ok-high.high (sym c.drops.ensures ∙ c.if-drops.false)
     (c.in_ok-low.ensures ∙ ap (map (side_at now c.in-Some.track false)) c.as_slice-roots.ensures.value)

@@ -14,7 +14,13 @@ returns c = λ before is_shelf keeps inside.
     let r = c.args.root.now in
     let top = sym c.in-Some.ensures.value in
     elim c.match-bit_of.branch [
-      | in-Some-true w ↦ subst (StepsOne fixed before r) (sym w.result-is) (StepsOne-skip fixed before now is_shelf keeps r inside c.in-Some.track top true c.side_of-high.result (sym w.in-Some-true.ensures ∙ ap Some w.in-Some-true.field-0-test) c.side_of-high.ensures)
-      | in-Some-false w ↦ subst (StepsOne fixed before r) (sym w.result-is) (StepsOne-skip fixed before now is_shelf keeps r inside c.in-Some.track top false c.side_of-low.result (sym w.in-Some-false.ensures ∙ ap Some w.in-Some-false.field-0-test) c.side_of-low.ensures)
-      | in-None w ↦ subst (StepsOne fixed before r) (sym w.result-is) (StepsOne-split fixed before now is_shelf keeps r inside c.in-Some.track top c.side_of-low.result c.side_of-high.result (sym w.in-None.ensures) c.side_of-low.ensures c.side_of-high.ensures)
+      | in-Some-true w ↦ subst (StepsOne fixed before r) (sym w.result-is)
+          (StepsOne-skip fixed before now is_shelf keeps r inside c.in-Some.track top true c.side_of-high.result
+          (sym w.in-Some-true.ensures ∙ ap Some w.in-Some-true.field-0-test) c.side_of-high.ensures)
+      | in-Some-false w ↦ subst (StepsOne fixed before r) (sym w.result-is)
+          (StepsOne-skip fixed before now is_shelf keeps r inside c.in-Some.track top false c.side_of-low.result
+          (sym w.in-Some-false.ensures ∙ ap Some w.in-Some-false.field-0-test) c.side_of-low.ensures)
+      | in-None w ↦ subst (StepsOne fixed before r) (sym w.result-is)
+          (StepsOne-split fixed before now is_shelf keeps r inside c.in-Some.track top c.side_of-low.result
+          c.side_of-high.result (sym w.in-None.ensures) c.side_of-low.ensures c.side_of-high.ensures)
     ]

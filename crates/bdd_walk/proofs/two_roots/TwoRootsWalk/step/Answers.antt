@@ -16,7 +16,8 @@ returns c = λ before is_shelf keeps inside.
     let now = c.args.shelf.now in
     let pair = c.args.pair.now in
     let first : Some c.in-Some.track ≡ earlier_of (top_of now pair.left) (top_of now pair.right) =
-    c.in-Some.ensures ∙ ap (λ (top : Option ℕ). earlier_of top c.top-2.result) c.top.ensures.value ∙ ap (λ (top : Option ℕ). earlier_of (top_of now pair.left) top) c.top-2.ensures.value in
+    c.in-Some.ensures ∙ ap (λ (top : Option ℕ). earlier_of top c.top-2.result) c.top.ensures.value
+    ∙ ap (λ (top : Option ℕ). earlier_of (top_of now pair.left) top) c.top-2.ensures.value in
     IsSplit-refs (λ (p : RefPair). p.left ∷ p.right ∷ []) before now is_shelf keeps c.in-Some.track pair c.sides_of.result c.sides_of-2.result inside
     (subst (IsFirstOf now (pair.left ∷ pair.right ∷ [])) (sym first) (IsFirstOf-two now pair.left pair.right))
     c.sides_of.ensures c.sides_of-2.ensures

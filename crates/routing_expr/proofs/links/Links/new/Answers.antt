@@ -20,12 +20,16 @@ loop-place-preserved c =
     (CellAt-parent c.args.types.now c.args.store.now c.args.followed c.loop-place.place c.in-Some.parent c.in-Some.ensures))
 
 pub invariant_of-result : goal.invariant_of-result
-invariant_of-result c = record { rising = IsNonDecreasingBy-from_sort_by_key (λ (x : Link). x.child.0) _ c.in_ok-sort_by_key.ensures.sorted (λ a r q k. search rules) }
+invariant_of-result c = record {
+  rising = IsNonDecreasingBy-from_sort_by_key
+      (λ (x : Link). x.child.0) _ c.in_ok-sort_by_key.ensures.sorted (λ a r q k. search rules);
+}
 
 pub returns : goal.returns
 returns c =
     let At = CellAt c.args.types.now c.args.store.now c.args.followed in
-    HasAll-sorted (IsLink c.args.types.now c.args.store.now (fields_in c.args.followed)) c.loop-place.links.items c.sort_by_key.new.self.items c.in_ok-sort_by_key.ensures.permutation
+    HasAll-sorted (IsLink c.args.types.now c.args.store.now (fields_in c.args.followed)) c.loop-place.links.items
+    c.sort_by_key.new.self.items c.in_ok-sort_by_key.ensures.permutation
     (HasAll-alike c.loop-place.links.items (Before At c.loop-place.place) (IsLink c.args.types.now c.args.store.now (fields_in c.args.followed))
     (HasAll-gathered c.loop-place.links.items (Before At c.loop-place.place) c.loop-place.invariant)
     (CellAt-all c.args.types.now c.args.store.now c.args.followed c.loop-place.place (omega (arith, c.loop-place-test.false, c.cells-place-end.ensures))))

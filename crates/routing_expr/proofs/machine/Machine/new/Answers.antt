@@ -11,13 +11,19 @@ nothing_left (x ∷ xs) ys all front = all ∙ ap (λ l. l ++ []) front
 
 pub loop-part-preserved : goal.loop-part-preserved
 loop-part-preserved c =
-    c.in_ok-take_apart.ensures.plan c.args.route.now
-    (IsPlan-popped c.args.route.now c.loop-part.plan.edges.items c.loop-part.plan.parts.items c.pop.new.self.items c.in-Some.part c.loop-part.plan.places c.in-Some.ensures.items c.loop-part.invariant)
+    c.in_ok-take_apart.ensures.plan.still c.args.route.now
+    (IsPlan-popped c.args.route.now c.loop-part.plan.edges.items c.loop-part.plan.parts.items c.pop.new.self.items c.in-Some.part
+    c.loop-part.plan.places c.in-Some.ensures.items c.loop-part.invariant)
 
 pub invariant_of-result : goal.invariant_of-result
-invariant_of-result c = record { rising = IsNonDecreasingBy-from_sort_by_key (λ (e : Edge). e.from) _ c.in_ok-sort_by_key.ensures.sorted (λ a r q k. search rules) }
+invariant_of-result c = record {
+  rising = IsNonDecreasingBy-from_sort_by_key
+      (λ (e : Edge). e.from) _ c.in_ok-sort_by_key.ensures.sorted (λ a r q k. search rules);
+}
 
 pub returns : goal.returns
 returns c =
     Means-sorted c.args.route.now c.loop-part.plan.edges.items c.sort_by_key.new.self.items c.loop-part.plan.parts.items c.loop-part.plan.places
-    (nothing_left c.loop-part.plan.parts.items c.pop.new.self.items c.in_default.ensures.items (c.in_default.ensures.rest ∙ ap (λ n. take (n - 1) c.loop-part.plan.parts.items) c.in_default.ensures.cases.0)) c.in_ok-sort_by_key.ensures.permutation c.loop-part.invariant
+    (nothing_left c.loop-part.plan.parts.items c.pop.new.self.items c.in_default.ensures.items
+    (c.in_default.ensures.rest ∙ ap (λ n. take (n - 1) c.loop-part.plan.parts.items) c.in_default.ensures.cases.0))
+    c.in_ok-sort_by_key.ensures.permutation c.loop-part.invariant

@@ -1,10 +1,10 @@
-use Rattle.std.proofs.Common.{◌≡◌, ◌++◌, ◌∷◌, [], sym, ap, ◌∙◌, subst, refl, get_or}
+use Rattle.std.proofs.Common.{[], ap, ◌∙◌, refl, get_or}
 use Rattle.std.proofs.lemmas.Bool.{false≢true}
 use Rattle.std.proofs.lemmas.Option.{slice_get-get_or}
-use Rattle.routing_expr.specs.Gathering.{Gathers, Before}
+use Rattle.routing_expr.specs.Gathering.{Before}
 use Rattle.routing_expr.specs.Searches.{fields_in}
-use Rattle.routing_expr.proofs.GatheringLemmas.{Gathers-none, Gathers-next, Gathers-push, Gathers-alike, HasAll-gathered, HasAll-alike}
-use Rattle.routing_expr.proofs.StepLemmas.{LinkOf, LinkOf-one, LinkOf-not, LinkOf-parents, IsData, no_link}
+use Rattle.routing_expr.proofs.GatheringLemmas.{Gathers-next, HasAll-gathered, HasAll-alike}
+use Rattle.routing_expr.proofs.StepLemmas.{LinkOf, parent-added, parent-left, LinkOf-parents, IsData, no_link}
 use Rattle.routing_expr.proofs.search.Search.all_parents.Goals as goal
 use Rattle.routing_expr.proofs.search.Search.all_parents.Goals.{then-is_data+in_ok-push, else-is_data}
 
@@ -12,18 +12,16 @@ pub loop-link-preserved : goal.loop-link-preserved
 loop-link-preserved c =
     let links = c.to-link-items.result.now in
     let P = IsData c.args.self.now.types.now in
-    let At = LinkOf links P in
-    let link = get_or links c.loop-link.link-index no_link in
-    let at = slice_get-get_or links c.loop-link.link-index no_link c.loop-link-test.true in
-    Gathers-next At c.loop-link.link-index [] c.loop-link.parents.items c.if-is_data.parents.items c.loop-link.invariant
+    let i = c.loop-link.link-index in
+    let parents = c.loop-link.parents.items in
+    let link = get_or links i no_link in
+    let at = slice_get-get_or links i no_link c.loop-link-test.true in
+    Gathers-next (LinkOf links P) i [] parents c.if-is_data.parents.items c.loop-link.invariant
     (elim c.if-is_data.branch [
-      | then-is_data+in_ok-push w ↦
-          subst (λ l. Gathers c.loop-link.parents.items l (At c.loop-link.link-index)) (sym (ap (λ v. v.items) w.parents-is ∙ w.in_ok-push.ensures.items))
-          (Gathers-alike c.loop-link.parents.items (c.loop-link.parents.items ++ link.parent ∷ []) (λ x. x ≡ link.parent) (At c.loop-link.link-index) (Gathers-push c.loop-link.parents.items link.parent)
-          (LinkOf-one links P c.loop-link.link-index link at (w.if-is_data.ensures.0 refl)))
-      | else-is_data w ↦
-          subst (λ l. Gathers c.loop-link.parents.items l (At c.loop-link.link-index)) (sym (ap (λ v. v.items) w.parents-is))
-          (Gathers-none c.loop-link.parents.items (At c.loop-link.link-index) (LinkOf-not links P c.loop-link.link-index link at (λ p. false≢true (w.if-is_data.ensures.1 p))))
+      | then-is_data+in_ok-push w ↦ parent-added links P i link at parents c.if-is_data.parents.items
+          (ap (λ v. v.items) w.parents-is ∙ w.in_ok-push.ensures.items) (w.if-is_data.ensures.0 refl)
+      | else-is_data w ↦ parent-left links P i link at parents c.if-is_data.parents.items
+          (ap (λ v. v.items) w.parents-is) (λ p. false≢true (w.if-is_data.ensures.1 p))
     ])
 
 pub returns : goal.returns

@@ -21,7 +21,8 @@ loop-spot-preserved c =
     (elim c.if-is_at_end.branch [
       | then-is_at_end+in_ok-push w ↦
           subst (λ l. Gathers c.loop-spot.cells.items l (At i)) (sym (ap (λ v. v.items) w.cells-is ∙ w.in_ok-push.ensures.items))
-          (Gathers-alike c.loop-spot.cells.items (c.loop-spot.cells.items ++ here.cell ∷ []) (λ x. x ≡ here.cell) (At i) (Gathers-push c.loop-spot.cells.items here.cell)
+          (Gathers-alike c.loop-spot.cells.items (c.loop-spot.cells.items ++ here.cell ∷ []) (λ x. x ≡ here.cell) (At i)
+          (Gathers-push c.loop-spot.cells.items here.cell)
           (SpotCell-one spots P i here at (w.if-is_at_end.ensures.0 refl)))
       | else-is_at_end w ↦
           subst (λ l. Gathers c.loop-spot.cells.items l (At i)) (sym (ap (λ v. v.items) w.cells-is))
@@ -34,7 +35,8 @@ returns c =
     let s = c.args.self.now.store.now in
     let n = c.loop-spot.spot-index in
     let all = HasAll-gathered c.loop-spot.cells.items (Before (SpotCell spots (IsAtEnd s c.args.target)) n)
-    (subst (λ l. Gathers [] c.loop-spot.cells.items (Before (SpotCell l (IsAtEnd s c.args.target)) n)) c.as_slice-spot-items.ensures.keys c.loop-spot.invariant) in
+    (subst (λ l. Gathers [] c.loop-spot.cells.items (Before (SpotCell l (IsAtEnd s c.args.target)) n))
+    c.as_slice-spot-items.ensures.keys c.loop-spot.invariant) in
     let enough = subst (λ l. length l ≤ n) c.as_slice-spot-items.ensures.keys c.loop-spot-test.false in
     IfOk-by c.list_of.result c.list_of.ensures (λ list lists. Lists-alike _ _ list (λ d.
     let one = all d in

@@ -5,7 +5,8 @@ use Rattle.routing_expr.proofs.SpotLemmas.{EdgeSpot, EdgeSpot-one, EdgeSpot-all}
 use Rattle.routing_expr.proofs.search.Search.go_on.Goals as goal
 
 pub loop-edge-init : goal.loop-edge-init
-loop-edge-init c = Grows-start (EdgeSpot c.args.self.now.types.now c.args.self.now.store.now (fields_in c.args.self.now.followed) c.from-edge-items.result.now c.args.spot.cell) c.args.spots.now.keys
+loop-edge-init c = Grows-start (EdgeSpot c.args.self.now.types.now c.args.self.now.store.now
+    (fields_in c.args.self.now.followed) c.from-edge-items.result.now c.args.spot.cell) c.args.spots.now.keys
 
 pub loop-edge-preserved : goal.loop-edge-preserved
 loop-edge-preserved c =
@@ -24,4 +25,5 @@ returns c =
     let s = c.args.self.now.store.now in
     let fields = fields_in c.args.self.now.followed in
     Grows-alike c.args.spots.now.keys c.loop-edge.spots.keys _ _ c.loop-edge.invariant
-    (EdgeSpot-all types s fields c.args.machine.now.edges.items c.from-edge-items.result.now c.args.spot c.loop-edge.edge-index c.loop-edge-test.false c.from-edge-items.ensures)
+    (EdgeSpot-all types s fields c.args.machine.now.edges.items c.from-edge-items.result.now c.args.spot c.loop-edge.edge-index
+    c.loop-edge-test.false c.from-edge-items.ensures)

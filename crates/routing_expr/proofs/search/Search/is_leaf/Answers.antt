@@ -11,7 +11,11 @@ some_child None e f = false≢true e
 some_child (Some d) e f = f d refl
 
 pub returns-then-is_some : goal.returns-then-is_some
-returns-then-is_some c = (λ e. absurd (false≢true e), λ leaf. absurd (some_child c.child_at.result (sym c.if-is_some.ensures) (λ d is. leaf.alone d (record { field = record { ty = c.in-Some.ty; index = c.loop-index.index }; leads = (c.child_at.ensures d).0 is }))))
+returns-then-is_some c = (
+  λ e. absurd (false≢true e),
+  λ leaf. absurd (some_child c.child_at.result (sym c.if-is_some.ensures)
+      (λ d is. leaf.alone d (record { field = record { ty = c.in-Some.ty; index = c.loop-index.index }; leads = (c.child_at.ensures d).0 is }))),
+)
 
 pub returns : goal.returns
 returns c = (

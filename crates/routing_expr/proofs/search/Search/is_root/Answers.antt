@@ -15,9 +15,15 @@ returns-then-is_data c = (
       let links = c.to-link-items.result.now in
       let link = get_or links c.loop-link.link-index no_link in
       absurd (root.alone link.parent
-      (LinkOf-parent c.args.self.now.types.now c.args.self.now.store.now (fields_in c.args.self.now.followed) c.args.self.now.links.links.items links c.args.cell
+      (LinkOf-parent c.args.self.now.types.now c.args.self.now.store.now
+      (fields_in c.args.self.now.followed) c.args.self.now.links.links.items links c.args.cell
       c.requires c.to-link-items.ensures c.loop-link.link-index link.parent
-      (record { link = link; at = slice_get-get_or links c.loop-link.link-index no_link c.loop-link-test.true; passes = c.if-is_data.ensures.0 refl; is = refl }))),
+      (record {
+        link = link;
+        at = slice_get-get_or links c.loop-link.link-index no_link c.loop-link-test.true;
+        passes = c.if-is_data.ensures.0 refl;
+        is = refl;
+      }))),
 )
 
 pub loop-link-preserved : goal.loop-link-preserved
@@ -38,9 +44,11 @@ alive (Some x) f e = refl
 pub returns : goal.returns
 returns c = (
   λ _. record {
-    live = alive (cell_of c.args.self.now.store.now c.args.cell) (λ (cell : CellEntry). cell.variant.ty) (ap is_some (sym c.type_of.ensures) ∙ c.if-is_none.ensures);
+    live = alive (cell_of c.args.self.now.store.now c.args.cell) (λ (cell : CellEntry). cell.variant.ty)
+        (ap is_some (sym c.type_of.ensures) ∙ c.if-is_none.ensures);
     alone = λ a h. c.loop-link.invariant a
-        ((LinkOf-parents c.args.self.now.types.now c.args.self.now.store.now (fields_in c.args.self.now.followed) c.args.self.now.links.links.items c.to-link-items.result.now c.args.cell
+        ((LinkOf-parents c.args.self.now.types.now c.args.self.now.store.now
+        (fields_in c.args.self.now.followed) c.args.self.now.links.links.items c.to-link-items.result.now c.args.cell
         c.requires c.to-link-items.ensures c.loop-link.link-index c.loop-link-test.false a).1 h);
   },
   λ _. refl,

@@ -16,7 +16,8 @@ returns-in-Up c =
     let s = c.args.self.now.store.now in
     let fields = fields_in c.args.self.now.followed in
     subst (λ step. IfOk c.parents.result (λ cells. HasAll cells.items (Takes types s fields (label_of step) c.args.from))) (sym c.in-Up.is)
-    (IfOk-by c.parents.result c.parents.ensures (λ cells all. HasAll-alike cells.items _ _ all (λ a. let w = Walk-Up types s fields c.in-Up.name.now c.args.from a in (w.1, w.0))))
+    (IfOk-by c.parents.result c.parents.ensures
+    (λ cells all. HasAll-alike cells.items _ _ all (λ a. let w = Walk-Up types s fields c.in-Up.name.now c.args.from a in (w.1, w.0))))
 
 pub returns-in-UpAny : goal.returns-in-UpAny
 returns-in-UpAny c =
@@ -24,7 +25,8 @@ returns-in-UpAny c =
     let s = c.args.self.now.store.now in
     let fields = fields_in c.args.self.now.followed in
     subst (λ step. IfOk c.all_parents.result (λ cells. HasAll cells.items (Takes types s fields (label_of step) c.args.from))) (sym c.in-UpAny.is)
-    (IfOk-by c.all_parents.result c.all_parents.ensures (λ cells all. HasAll-alike cells.items _ _ all (λ a. let w = Walk-UpAny types s fields c.args.from a in (w.1, w.0))))
+    (IfOk-by c.all_parents.result c.all_parents.ensures
+    (λ cells all. HasAll-alike cells.items _ _ all (λ a. let w = Walk-UpAny types s fields c.args.from a in (w.1, w.0))))
 
 pub returns-in-Down : goal.returns-in-Down
 returns-in-Down c =

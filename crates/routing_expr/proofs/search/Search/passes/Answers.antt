@@ -28,7 +28,8 @@ returns-in-IsType c =
     let s = c.args.self.now.store.now in
     let fields = fields_in c.args.self.now.followed in
     subst (λ t. IsTrue c.is_of_type.result ↔ Takes types s fields (label_of_test t) c.args.cell c.args.cell) (sym c.in-IsType.is)
-    (stays-by (IsOfType s c.in-IsType.ty) c.args.cell c.is_of_type.result (Walk-IsType types s fields c.in-IsType.ty c.args.cell c.args.cell) c.is_of_type.ensures)
+    (stays-by (IsOfType s c.in-IsType.ty) c.args.cell c.is_of_type.result
+    (Walk-IsType types s fields c.in-IsType.ty c.args.cell c.args.cell) c.is_of_type.ensures)
 
 pub returns-in-IsVariant : goal.returns-in-IsVariant
 returns-in-IsVariant c =
@@ -36,7 +37,8 @@ returns-in-IsVariant c =
     let s = c.args.self.now.store.now in
     let fields = fields_in c.args.self.now.followed in
     subst (λ t. IsTrue c.is_of_variant.result ↔ Takes types s fields (label_of_test t) c.args.cell c.args.cell) (sym c.in-IsVariant.is)
-    (stays-by (IsOfVariant s c.in-IsVariant.v) c.args.cell c.is_of_variant.result (Walk-IsVariant types s fields c.in-IsVariant.v c.args.cell c.args.cell) c.is_of_variant.ensures)
+    (stays-by (IsOfVariant s c.in-IsVariant.v) c.args.cell c.is_of_variant.result
+    (Walk-IsVariant types s fields c.in-IsVariant.v c.args.cell c.args.cell) c.is_of_variant.ensures)
 
 pub returns-in-IsBool : goal.returns-in-IsBool
 returns-in-IsBool c =
@@ -45,4 +47,5 @@ returns-in-IsBool c =
     let fields = fields_in c.args.self.now.followed in
     let name = c.in-IsBool.name.now in
     subst (λ t. IsTrue c.has_truth.result ↔ Takes types s fields (label_of_test t) c.args.cell c.args.cell) (sym c.in-IsBool.is)
-    (stays-by (HasTruth types s name c.in-IsBool.truth) c.args.cell c.has_truth.result (Walk-IsBool types s fields name c.in-IsBool.truth c.args.cell c.args.cell) c.has_truth.ensures)
+    (stays-by (HasTruth types s name c.in-IsBool.truth) c.args.cell c.has_truth.result
+    (Walk-IsBool types s fields name c.in-IsBool.truth c.args.cell c.args.cell) c.has_truth.ensures)

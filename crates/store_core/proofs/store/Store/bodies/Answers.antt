@@ -7,4 +7,5 @@ use Rattle.store_core.proofs.store.Store.bodies.Goals as goal
 
 pub returns : goal.returns
 returns c =
-    ap cells_of c.as_slice.ensures.value ∙ sym (entries_of-cells c.self.inside.cells.items c.self.invariant.rising) ∙ ap (λ (s : StoreMap). entries s.cells) c.self.view_is
+    ap cells_of c.as_slice.ensures.value ∙ sym (entries_of-cells c.self.inside.cells.items c.self.invariant.rising) ∙
+    ap (λ (s : StoreMap). entries s.cells) c.self.view_is

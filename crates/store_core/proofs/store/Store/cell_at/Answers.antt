@@ -10,5 +10,6 @@ returns-in_err-cell c =
 
 pub returns : goal.returns
 returns c =
-    number_at c.self.inside.cells.items c.self.invariant.rising c.self.inside.vars c.self.inside.next c.args.self.now c.self.view_is c.args.place (Some c.in_ok-cell.cell.now)
+    number_at c.self.inside.cells.items c.self.invariant.rising c.self.inside.vars c.self.inside.next c.args.self.now
+    c.self.view_is c.args.place (Some c.in_ok-cell.cell.now)
     (sym (c.in_ok-cell.ensures ∙ ap (λ l. slice_get l c.args.place) c.as_slice.ensures.value))

@@ -9,8 +9,11 @@ use Rattle.store_core.proofs.Bodies.{entries_of-set, entries_of-same, IsBodyOf-v
 use Rattle.store_core.proofs.types.TypeTable.add_field.Goals as goal
 
 -- a write of the same entries changes nothing
-unchanged : (c : goal.After-from_residual-in_err-insert) → entries_of (set_value_at c.self.inside.types.entries c.type_of-ty.result.0 (record { variants = c.in-Some.body.now.variants; fields = c.insert.new.self })) ≡ entries_of c.self.inside.types.entries
-unchanged c = entries_of-same c.self.inside.types.entries c.type_of-ty.result.0 c.in-Some.body.now _ (sym c.in-Some.ensures.value) refl c.in_err-insert.ensures.err
+unchanged : (c : goal.After-from_residual-in_err-insert) →
+    entries_of (set_value_at c.self.inside.types.entries c.type_of-ty.result.0
+    (record { variants = c.in-Some.body.now.variants; fields = c.insert.new.self })) ≡ entries_of c.self.inside.types.entries
+unchanged c = entries_of-same c.self.inside.types.entries c.type_of-ty.result.0 c.in-Some.body.now _
+    (sym c.in-Some.ensures.value) refl c.in_err-insert.ensures.err
 
 pub invariant_of-self : goal.invariant_of-self
 invariant_of-self c = subst IsTypeTable (sym (unchanged c)) c.self.invariant
@@ -19,7 +22,8 @@ pub returns-in_err-insert-clause-err : goal.returns-in_err-insert-clause-err
 returns-in_err-insert-clause-err c = always_OnErr _ (unchanged c ∙ c.self.view_is)
 
 body_of : (c : goal.Joined-branch-3) → IsBodyOf c.args.self.now c.type_of-ty.result c.in-Some.body.now
-body_of c = IsBodyOf-value c.self.inside.types.entries c.args.self.now c.type_of-ty.result c.in-Some.body.now c.self.view_is c.self.invariant (sym c.in-Some.ensures.value)
+body_of c = IsBodyOf-value c.self.inside.types.entries c.args.self.now c.type_of-ty.result c.in-Some.body.now c.self.view_is
+    c.self.invariant (sym c.in-Some.ensures.value)
 
 -- the fields of the owner's type are those of its body
 fields_are : (c : goal.Joined-branch-3) → fields_of c.args.self.now (owner_type c.args.owner) ≡ map field_entry c.in-Some.body.now.fields.entries
@@ -40,11 +44,13 @@ added c =
     ∙ ap (λ fields. place_of c.args.name.now (field_names fields)) (sym (fields_are c)) ∙ c.requires.new)
     ∙ (λ i. map field_entry es ++ record { name = named i; only = c.variant_of-only.ensures i; kind = c.args.kind } ∷ [])
 
-changed : (c : goal.Joined-branch-3) → entries_of (set_value_at c.self.inside.types.entries c.type_of-ty.result.0 (record { variants = c.in-Some.body.now.variants; fields = c.insert.new.self }))
+changed : (c : goal.Joined-branch-3) → entries_of
+    (set_value_at c.self.inside.types.entries c.type_of-ty.result.0 (record { variants = c.in-Some.body.now.variants; fields = c.insert.new.self }))
     ≡ add_field (entries_of c.self.inside.types.entries) c.args.owner c.args.name.now c.args.kind
 unfolding new_field
 changed c =
-    entries_of-set c.self.inside.types.entries c.type_of-ty.result c.in-Some.body.now _ (λ t. record t { fields = t.fields ++ new_field c ∷ [] }) (sym c.in-Some.ensures.value)
+    entries_of-set c.self.inside.types.entries c.type_of-ty.result c.in-Some.body.now _
+    (λ t. record t { fields = t.fields ++ new_field c ∷ [] }) (sym c.in-Some.ensures.value)
     (λ k i. record { name = k; variants = map (λ v. v.0.items) c.in-Some.body.now.variants.entries; fields = added c i })
     ∙ ap (λ ty. with_type (entries_of c.self.inside.types.entries) ty (λ t. record t { fields = t.fields ++ new_field c ∷ [] })) c.type_of-ty.ensures
 
@@ -59,7 +65,10 @@ invariant_of-self-2 c =
 
 pub returns-clause-value : goal.returns-clause-value
 returns-clause-value c =
-    λ i. record { ty = c.type_of-ty.ensures i; index = (c.len-index.ensures.len ∙ sym (ap length (fields_are c) ∙ length-map c.in-Some.body.now.fields.entries field_entry)) i }
+    λ i. record {
+      ty = c.type_of-ty.ensures i;
+      index = (c.len-index.ensures.len ∙ sym (ap length (fields_are c) ∙ length-map c.in-Some.body.now.fields.entries field_entry)) i;
+    }
 
 pub returns-clause-added : goal.returns-clause-added
 returns-clause-added c = changed c ∙ ap (λ t. add_field t c.args.owner c.args.name.now c.args.kind) c.self.view_is

@@ -11,11 +11,13 @@ returns-in-Some c =
     ap (option_map (λ i. record { ty = c.args.ty; index = i }))
     (c.in-Some.ensures.index
     ∙ position-keys c.args.name.now field_entry (λ f. f.name) (λ e. refl) c.in_ok-body.body.now.fields.entries
-    ∙ sym (ap (λ fields. place_of c.args.name.now (field_names fields)) (fields_of-body c.args.self.now c.args.ty c.in_ok-body.body.now c.in_ok-body.ensures.found)))
+    ∙ sym (ap (λ fields. place_of c.args.name.now (field_names fields))
+    (fields_of-body c.args.self.now c.args.ty c.in_ok-body.body.now c.in_ok-body.ensures.found)))
 
 pub returns-in-None : goal.returns-in-None
 returns-in-None c =
     ap (option_map (λ i. record { ty = c.args.ty; index = i }))
     (c.in-None.ensures.index
     ∙ position-keys c.args.name.now field_entry (λ f. f.name) (λ e. refl) c.in_ok-body.body.now.fields.entries
-    ∙ sym (ap (λ fields. place_of c.args.name.now (field_names fields)) (fields_of-body c.args.self.now c.args.ty c.in_ok-body.body.now c.in_ok-body.ensures.found)))
+    ∙ sym (ap (λ fields. place_of c.args.name.now (field_names fields))
+    (fields_of-body c.args.self.now c.args.ty c.in_ok-body.body.now c.in_ok-body.ensures.found)))

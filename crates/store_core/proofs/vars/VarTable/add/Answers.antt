@@ -15,7 +15,8 @@ grown c =
     let es = c.self.inside.vars.entries in
     ap vars_of c.in_ok-insert.ensures.entries
     ∙ map-insert_entry var_entry c.in_ok-key.key c.args.kind es
-    (position-keys c.in_ok-key.key.items var_entry (λ v. v.name) (λ e. refl) es ∙ ap (λ n. place_of n (var_names (vars_of es))) c.in_ok-key.ensures.items ∙ new c)
+    (position-keys c.in_ok-key.key.items var_entry (λ v. v.name) (λ e. refl) es ∙
+    ap (λ n. place_of n (var_names (vars_of es))) c.in_ok-key.ensures.items ∙ new c)
     ∙ ap (λ n. vars_of es ++ record { name = n; kind = c.args.kind } ∷ []) c.in_ok-key.ensures.items
 
 pub invariant_of-self-2 : goal.invariant_of-self-2
@@ -23,7 +24,8 @@ invariant_of-self-2 c =
     let vars = vars_of c.self.inside.vars.entries in
     subst IsVarTable (sym (grown c)) (record {
       few = omega (arith, length_push vars (record { name = c.args.name.now; kind = c.args.kind }), ap length c.self.view_is, c.requires.room);
-      names = subst AreDistinct (sym (map_push (λ v. v.name) vars (record { name = c.args.name.now; kind = c.args.kind }))) (AreDistinct-push (var_names vars) c.args.name.now c.self.invariant.names (new c));
+      names = subst AreDistinct (sym (map_push (λ v. v.name) vars (record { name = c.args.name.now; kind = c.args.kind })))
+          (AreDistinct-push (var_names vars) c.args.name.now c.self.invariant.names (new c));
     })
 
 pub returns-clause-added : goal.returns-clause-added

@@ -1,0 +1,45 @@
+//! Each call of a list, a stack and a box once.
+use plain_data::{Boxed, Items, Stack, at};
+use std::test::Fail;
+
+#[test]
+fn a_list_is_changed_at_its_end_and_in_place(rt: HostRuntime) -> Result<(), Fail> {
+    let alloc = rt.alloc();
+    let mut items = Items::from_slice(alloc, &[1, 2])?;
+    items.push(3)?;
+    items.append(Items::from_vec([4, 5].to_vec(alloc)?))?;
+    assert_eq!(rt; items.as_slice(), [1, 2, 3, 4, 5].as_slice());
+    assert_eq!(rt; items.pop(), Some(5));
+    assert_eq!(rt; items.len(), 4);
+    assert_eq!(rt; items.get(3), Some(&4));
+    assert_eq!(rt; items.get(4), None);
+    items.set(0, 9);
+    assert_eq!(rt; items.remove(1), 2);
+    assert_eq!(rt; at(items.as_slice(), 0), Some(&9));
+    assert_eq!(rt; items.into_vec().as_slice(), [9, 3, 4].as_slice());
+    assert!(rt; Items::<u8>::new(alloc).is_empty());
+    Ok(())
+}
+
+#[test]
+fn a_box_exchanges_its_value(rt: HostRuntime) -> Result<(), Fail> {
+    let mut one = Boxed::new(rt.alloc(), 1)?;
+    assert_eq!(rt; one.replace(2), 1);
+    assert_eq!(rt; *one.get(), 2);
+    assert_eq!(rt; one.into_inner(), 2);
+    Ok(())
+}
+
+#[test]
+fn what_is_put_on_last_is_taken_off_first(rt: HostRuntime) -> Result<(), Fail> {
+    let mut stack = Stack::new(rt.alloc());
+    stack.push(1)?;
+    stack.push(2)?;
+    stack.push(3)?;
+    assert_eq!(rt; stack.pop(), Some(3));
+    assert_eq!(rt; stack.take_or(7), 2);
+    assert_eq!(rt; stack.take_or(7), 1);
+    assert_eq!(rt; stack.take_or(7), 7);
+    assert_eq!(rt; stack.pop(), None);
+    Ok(())
+}

@@ -1,0 +1,97 @@
+//! What is made of connectives, quantifiers, and brackets.
+
+ghost use Rattle.std.specs.Prelude.{◌≡◌, OnOk};
+ghost use Rattle.pale_syntax.specs.MakingAssertions.{after_connective, begun};
+ghost use Rattle.pale_build.specs.Building.{parts_of, near_of};
+
+use crate::chains::{both, either, equivalent};
+use crate::near::{Near, nameless, place_of};
+use crate::parts::Parts;
+use crate::takes::{take_assertion, take_name, take_place, take_quantifier};
+use pale_syntax::{Assertion, Bracketed, ConnectiveAct, Quantifier, QuantifierKind};
+use pale_text::Pos;
+use plain_data::{Boxed, Items};
+use std::alloc::{AllocError, Global};
+
+/// A quantifier with nothing behind its keyword so far.
+fn begun(alloc: Global, kind: QuantifierKind, place: Pos) -> Quantifier
+    ensures { result ≡ begun kind place }
+{
+    Quantifier {
+        kind,
+        place,
+        of_sets: false,
+        names: Items::new(alloc),
+        ty: nameless(alloc),
+    }
+}
+
+impl Parts {
+    pub fn perform_connective(&mut self, act: ConnectiveAct, near: Near) -> Result<(), AllocError>
+        ensures { OnOk result (parts_of self.new ≡ after_connective act (near_of near.entry) (parts_of self.old)) }
+    {
+        match act {
+            ConnectiveAct::JoinIff => {
+                let other = take_assertion(&mut self.assertions);
+                let one = take_assertion(&mut self.assertions);
+                self.assertions.push(equivalent(self.alloc, one, other)?)
+            }
+            ConnectiveAct::MakeImp => {
+                let other = take_assertion(&mut self.assertions);
+                let one = take_assertion(&mut self.assertions);
+                let one = Boxed::new(self.alloc, one)?;
+                let other = Boxed::new(self.alloc, other)?;
+                let place = take_place(&mut self.places);
+                self.assertions.push(Assertion::Imp(one, place, other))
+            }
+            ConnectiveAct::JoinOr => {
+                let other = take_assertion(&mut self.assertions);
+                let one = take_assertion(&mut self.assertions);
+                self.assertions.push(either(self.alloc, one, other)?)
+            }
+            ConnectiveAct::JoinAnd => {
+                let other = take_assertion(&mut self.assertions);
+                let one = take_assertion(&mut self.assertions);
+                self.assertions.push(both(self.alloc, one, other)?)
+            }
+            ConnectiveAct::MakeNot => {
+                let inner = take_assertion(&mut self.assertions);
+                let inner = Boxed::new(self.alloc, inner)?;
+                let place = take_place(&mut self.places);
+                self.assertions.push(Assertion::Not(place, inner))
+            }
+            ConnectiveAct::BeginEx => {
+                let quantifier = begun(self.alloc, QuantifierKind::Ex, place_of(near.last));
+                self.quantifiers.push(quantifier)
+            }
+            ConnectiveAct::BeginAll => {
+                let quantifier = begun(self.alloc, QuantifierKind::All, place_of(near.last));
+                self.quantifiers.push(quantifier)
+            }
+            ConnectiveAct::BindsSets => {
+                let mut quantifier = take_quantifier(self.alloc, &mut self.quantifiers);
+                quantifier.of_sets = true;
+                self.quantifiers.push(quantifier)
+            }
+            ConnectiveAct::AddBound => {
+                let mut quantifier = take_quantifier(self.alloc, &mut self.quantifiers);
+                let name = take_name(self.alloc, &mut self.names);
+                quantifier.names.push(name)?;
+                self.quantifiers.push(quantifier)
+            }
+            ConnectiveAct::MakeQuantified => {
+                let mut quantifier = take_quantifier(self.alloc, &mut self.quantifiers);
+                quantifier.ty = take_name(self.alloc, &mut self.names);
+                let inner = take_assertion(&mut self.assertions);
+                let inner = Boxed::new(self.alloc, inner)?;
+                self.assertions
+                    .push(Assertion::Quantified(quantifier, inner))
+            }
+            ConnectiveAct::Bracket => {
+                let assertion = take_assertion(&mut self.assertions);
+                let place = take_place(&mut self.places);
+                self.brackets.push(Bracketed { place, assertion })
+            }
+        }
+    }
+}

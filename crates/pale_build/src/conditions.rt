@@ -1,0 +1,82 @@
+//! What is made of the conditions of code.
+
+ghost use Rattle.std.specs.Prelude.{◌≡◌, OnOk};
+ghost use Rattle.pale_syntax.specs.MakingConditions.{after_condition, term_alone};
+ghost use Rattle.pale_build.specs.Building.{parts_of, near_of};
+
+use crate::chains::{both_conditions, either_condition};
+use crate::near::{Near, nowhere, place_of};
+use crate::parts::Parts;
+use crate::takes::{take_condition, take_name, take_place, take_term};
+use pale_syntax::{Condition, ConditionAct, Term};
+use plain_data::Boxed;
+use std::alloc::AllocError;
+
+/// The term whose truth the condition is.
+fn term_alone(one: Condition) -> Term
+    ensures { result ≡ term_alone one }
+{
+    match one {
+        Condition::Truth(term) => term,
+        _ => Term::Null(nowhere()),
+    }
+}
+
+impl Parts {
+    pub fn perform_condition(&mut self, act: ConditionAct, near: Near) -> Result<(), AllocError>
+        ensures { OnOk result (parts_of self.new ≡ after_condition act (near_of near.entry) (parts_of self.old)) }
+    {
+        match act {
+            ConditionAct::TrueCondition => {
+                self.conditions.push(Condition::True(place_of(near.last)))
+            }
+            ConditionAct::FalseCondition => {
+                self.conditions.push(Condition::False(place_of(near.last)))
+            }
+            ConditionAct::TermAlone => {
+                let term = take_term(&mut self.terms);
+                self.conditions.push(Condition::Truth(term))
+            }
+            ConditionAct::TakeTermBack => {
+                let condition = take_condition(&mut self.conditions);
+                self.terms.push(term_alone(condition))
+            }
+            ConditionAct::SameAs => {
+                let right = take_term(&mut self.terms);
+                let left = take_term(&mut self.terms);
+                let place = take_place(&mut self.places);
+                self.conditions.push(Condition::Same(left, place, right))
+            }
+            ConditionAct::NotSameAs => {
+                let right = take_term(&mut self.terms);
+                let left = take_term(&mut self.terms);
+                let place = take_place(&mut self.places);
+                self.conditions.push(Condition::Differ(left, place, right))
+            }
+            ConditionAct::OfVariant => {
+                let term = take_term(&mut self.terms);
+                let place = take_place(&mut self.places);
+                let variant = take_name(self.alloc, &mut self.names);
+                self.conditions.push(Condition::Is(term, place, variant))
+            }
+            ConditionAct::NotCondition => {
+                let place = take_place(&mut self.places);
+                let inner = take_condition(&mut self.conditions);
+                let inner = Boxed::new(self.alloc, inner)?;
+                self.conditions.push(Condition::Not(place, inner))
+            }
+            ConditionAct::JoinAndAlso => {
+                let other = take_condition(&mut self.conditions);
+                let one = take_condition(&mut self.conditions);
+                self.conditions
+                    .push(both_conditions(self.alloc, one, other)?)
+            }
+            ConditionAct::JoinOrElse => {
+                let other = take_condition(&mut self.conditions);
+                let one = take_condition(&mut self.conditions);
+                self.conditions
+                    .push(either_condition(self.alloc, one, other)?)
+            }
+        }
+    }
+}

@@ -1,0 +1,11 @@
+pub mod Making
+pub mod MakingAssertions
+pub mod MakingConditions
+pub mod MakingDeclarations
+pub mod MakingParts
+pub mod MakingRoutes
+pub mod MakingStatements
+pub mod MakingWords
+pub mod ProgramGrammar
+pub mod ProgramReading
+pub mod ProgramWords

@@ -1,0 +1,163 @@
+//! Whole calls, each ending in each of its ways, and with reads and writes that fail.
+
+use crate::calls::words_of;
+use pale_io::{MemSink, MemSource};
+use pale_top::{Status, pale_main};
+use std::alloc::{AllocError, Global};
+use std::test::Fail;
+
+const NEG: &str = "proc neg(bool a) returns (bool b)
+logic bool v
+pre [a <=> v]
+post [b <=> ~v]
+{
+  b = !a;
+}
+";
+
+const NEG_REPORT: &str = "triple 1 neg line 1 valid
+triples 1 valid 1 invalid 0 limit 0
+";
+
+const WRONG: &str = "proc neg(bool a) returns (bool b)
+logic bool v
+pre [a <=> v]
+post [b]
+{
+  b = !a;
+}
+";
+
+const WRONG_REPORT: &str = "triple 1 neg line 1 invalid post line 7
+store
+var a true
+var b false
+var v true
+end
+triples 1 valid 0 invalid 1 limit 0
+";
+
+const NEG_SPELLING: &str =
+    "proc neg ( bool a ) returns ( bool b ) logic bool v pre [ a <=> v ] post [ b <=> ~ v ] {
+b = ! a ;
+}
+";
+
+const USAGE: &str = "usage: pale MODE [--limit N] [--seed N]\n";
+
+/// A call that ended: its status, what it wrote, and how often its source and its sink failed.
+#[derive(Drop)]
+struct Ended {
+    status: Status,
+    written: Vec<u8>,
+    read_faults: u64,
+    write_faults: u64,
+}
+
+/// Calls the program with these words on this text, where the reads and the writes with these numbers fail.
+fn call(
+    alloc: Global,
+    line: &str,
+    text: &[u8],
+    reads: &[u64],
+    writes: &[u64],
+) -> Result<Ended, AllocError> {
+    let words = words_of(alloc, line)?;
+    let mut source = MemSource::new(
+        Vec::from_slice(alloc, text)?,
+        Vec::from_slice(alloc, reads)?,
+    );
+    let mut sink = MemSink::new(alloc, Vec::from_slice(alloc, writes)?);
+    let status = pale_main(alloc, &words, &mut source, &mut sink);
+    Ok(Ended {
+        status,
+        written: Vec::from_slice(alloc, sink.written())?,
+        read_faults: source.faults(),
+        write_faults: sink.faults(),
+    })
+}
+
+#[test]
+fn texts_and_words_have_their_reports(rt: HostRuntime) -> Result<(), Fail> {
+    let rows = [
+        ("pale check", "", 0, "triples 0 valid 0 invalid 0 limit 0\n"),
+        ("pale check", NEG, 0, NEG_REPORT),
+        ("pale check --limit 1 --seed 9", NEG, 0, NEG_REPORT),
+        ("pale check", WRONG, 1, WRONG_REPORT),
+        ("pale", NEG, 2, USAGE),
+        ("pale check extra", NEG, 2, USAGE),
+        ("pale --help", NEG, 2, USAGE),
+        ("pale check", "proc p() {", 3, "refused 1:1 not-yet\n"),
+        ("pale format", NEG, 0, NEG_SPELLING),
+        ("pale format --limit 1 --seed 9", NEG, 0, NEG_SPELLING),
+        ("pale format", "proc p() {", 3, "refused 1:11 syntax\n"),
+        ("pale format", "proc p() { % }", 3, "refused 1:12 char\n"),
+        ("pale format extra", NEG, 2, USAGE),
+    ];
+    for (line, text, number, report) in rows {
+        let ended = call(rt.alloc(), line, text.as_bytes(), &[], &[])?;
+        assert_eq!(rt; ended.status.number(), number, "{line}");
+        assert_eq!(rt; ended.written.as_slice(), report.as_bytes(), "{line}");
+    }
+    Ok(())
+}
+
+#[test]
+fn one_byte_more_is_too_long(rt: HostRuntime) -> Result<(), Fail> {
+    let rows = [
+        (1_048_576, 0, "triples 0 valid 0 invalid 0 limit 0\n"),
+        (1_048_577, 3, "refused too-long\n"),
+    ];
+    for (count, number, report) in rows {
+        let spaces = vec![in rt.alloc(); b' '; count]?;
+        let ended = call(rt.alloc(), "pale check", &spaces, &[], &[])?;
+        assert_eq!(rt; ended.status.number(), number);
+        assert_eq!(rt; ended.written.as_slice(), report.as_bytes());
+    }
+    Ok(())
+}
+
+#[test]
+fn a_failed_read_leaves_nothing_written(rt: HostRuntime) -> Result<(), Fail> {
+    for (line, output) in [("pale check", NEG_REPORT), ("pale format", NEG_SPELLING)] {
+        for read in 1..4 {
+            let ended = call(rt.alloc(), line, NEG.as_bytes(), &[read], &[])?;
+            let (status, report) = if ended.read_faults > 0 {
+                (Status::ReadFault, "")
+            } else {
+                (Status::Good, output)
+            };
+            assert_eq!(rt; ended.status, status, "{line}");
+            assert_eq!(rt; ended.written.as_slice(), report.as_bytes(), "{line}");
+        }
+    }
+    Ok(())
+}
+
+#[test]
+fn a_failed_write_leaves_a_front(rt: HostRuntime) -> Result<(), Fail> {
+    let rows = [
+        ("pale check", WRONG, WRONG_REPORT, Status::Bad),
+        ("pale format", NEG, NEG_SPELLING, Status::Good),
+        (
+            "pale format",
+            "proc p() {",
+            "refused 1:11 syntax\n",
+            Status::Text,
+        ),
+    ];
+    for (line, text, output, good) in rows {
+        for write in 1..4 {
+            let ended = call(rt.alloc(), line, text.as_bytes(), &[], &[write])?;
+            let status = if ended.write_faults > 0 {
+                Status::WriteFault
+            } else {
+                good
+            };
+            assert_eq!(rt; ended.status, status, "{line}");
+            assert!(rt; output.as_bytes().starts_with(&ended.written), "{line}");
+            assert!(rt; write > 1 || ended.written.is_empty(), "{line}");
+        }
+    }
+    Ok(())
+}

@@ -1,0 +1,76 @@
+//! The words of a call, with what they ask for.
+
+use crate::calls::words_of;
+use pale_top::{Mode, Settings, WordsStop, read_words};
+use std::test::Fail;
+
+fn given(mode: Mode, limit: u32, seed: u32) -> Result<Settings, WordsStop> {
+    Ok(Settings { mode, limit, seed })
+}
+
+#[test]
+fn words_give_their_settings_or_are_refused(rt: HostRuntime) -> Result<(), Fail> {
+    let refused = Err(WordsStop::Refused);
+    let rows = [
+        ("", refused),
+        ("pale", refused),
+        ("pale check", given(Mode::Check, 2_000_000, 0)),
+        ("--help check", given(Mode::Check, 2_000_000, 0)),
+        ("pale check extra", refused),
+        ("pale check check", refused),
+        ("pale CHECK", refused),
+        ("pale --help", refused),
+        ("pale -h", refused),
+        ("pale help", refused),
+        ("pale check --help", refused),
+        ("pale check --limit", refused),
+        ("pale check --limit 0", refused),
+        ("pale check --limit 1", given(Mode::Check, 1, 0)),
+        (
+            "pale check --limit 16000000",
+            given(Mode::Check, 16_000_000, 0),
+        ),
+        ("pale check --limit 16000001", refused),
+        ("pale check --limit x", refused),
+        ("pale check --limit +5", given(Mode::Check, 5, 0)),
+        ("pale check --limit 5 --limit 6", refused),
+        ("pale check --limit=7", given(Mode::Check, 7, 0)),
+        ("pale check --lim 7", refused),
+        (
+            "pale check --seed 1000000",
+            given(Mode::Check, 2_000_000, 1_000_000),
+        ),
+        ("pale check --seed 1000001", refused),
+        ("pale --seed 3 --limit 9 check", given(Mode::Check, 9, 3)),
+        ("pale --limit 9 -- check", given(Mode::Check, 9, 0)),
+        ("pale --limit 9", refused),
+    ];
+    for (line, wanted) in rows {
+        let words = words_of(rt.alloc(), line)?;
+        assert_eq!(rt; read_words(rt.alloc(), &words), wanted, "{line}");
+    }
+    Ok(())
+}
+
+#[test]
+fn words_ask_for_format_as_for_check(rt: HostRuntime) -> Result<(), Fail> {
+    let refused = Err(WordsStop::Refused);
+    let rows = [
+        ("pale format", given(Mode::Format, 2_000_000, 0)),
+        ("pale format --limit 5 --seed 9", given(Mode::Format, 5, 9)),
+        ("pale --seed 3 -- format", given(Mode::Format, 2_000_000, 3)),
+        ("pale format extra", refused),
+        ("pale format check", refused),
+        ("pale check format", refused),
+        ("pale FORMAT", refused),
+        ("pale form", refused),
+        ("pale formats", refused),
+        ("pale format --limit 0", refused),
+        ("pale replay", refused),
+    ];
+    for (line, wanted) in rows {
+        let words = words_of(rt.alloc(), line)?;
+        assert_eq!(rt; read_words(rt.alloc(), &words), wanted, "{line}");
+    }
+    Ok(())
+}

@@ -1,5 +1,0 @@
-use Rattle.store_core.proofs.ReadFits as lemma
-use Rattle.store_core.proofs.laws.read_stores_fit.Goals as goal
-
-pub returns : goal.returns
-returns c = lemma.read_stores_fit

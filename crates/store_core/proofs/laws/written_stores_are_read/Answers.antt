@@ -1,5 +1,0 @@
-use Rattle.store_core.proofs.RoundTrip as lemma
-use Rattle.store_core.proofs.laws.written_stores_are_read.Goals as goal
-
-pub returns : goal.returns
-returns c = lemma.written_stores_are_read

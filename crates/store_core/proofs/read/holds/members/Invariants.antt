@@ -1,6 +1,0 @@
-use Rattle.std.proofs.Common.{◌≡◌, [], drop}
-use Rattle.store_core.specs.Saying.{members_after}
-use Rattle.store_core.proofs.read.holds.members.Given as goal
-
-abbrev pub invariant-loop-number : goal.invariant-loop-number
-invariant-loop-number l = members_after l.set.keys (drop l.number-index l.numbers) ≡ members_after [] l.numbers

@@ -1,6 +1,0 @@
-use Rattle.std.proofs.Common.{◌≡◌, ◌++◌, take, map}
-use Rattle.store_core.specs.Saying.{mention}
-use Rattle.store_core.proofs.read.holds.note_cells.Given as goal
-
-abbrev pub invariant-loop-cell : goal.invariant-loop-cell
-invariant-loop-cell l = l.mentions ≡ l.fn.mentions ++ map (mention l.line l.target) (take l.cell-index l.cells)

@@ -1,0 +1,15 @@
+pub mod Writing
+pub mod Fitting
+pub mod ReadFits
+pub mod ReadNext
+pub mod Words
+pub mod Spelled
+pub mod SpelledLines
+pub mod ToldValues
+pub mod ToldCells
+pub mod RoundTrip
+pub mod LineLemmas
+pub mod SpellingLemmas
+pub mod SayingLemmas
+pub mod DraftLemmas
+pub mod ReadingLemmas
