@@ -6,9 +6,9 @@ use Rattle.gta_theory.specs.Automata.{Automaton, Has}
 use Rattle.gta_theory.specs.Minimal.{AreTwins, AreAlike}
 
 -- each number below m has a partner below n, and no two have the same
-record IsMatched (m n : ℕ) (R : ℕ → ℕ → Type 0) : Type 0 where
-  partner : (i : ℕ) → i < m → (j : ℕ) × (j < n) × R i j
-  once : (i k j : ℕ) → R i j → R k j → i ≡ k
+pub record IsMatched (m n : ℕ) (R : ℕ → ℕ → Type 0) : Type 0 where
+  pub partner : (i : ℕ) → i < m → (j : ℕ) × (j < n) × R i j
+  pub once : (i k j : ℕ) → R i j → R k j → i ≡ k
 
 -- the relation without one partner, whose place the last one takes
 Without : (ℕ → ℕ → Type 0) → ℕ → ℕ → ℕ → ℕ → Type 0
@@ -36,7 +36,7 @@ IsMatched-less m n R h gone inside is_gone = record { partner = λ i below. pick
     once i k j (inr x) (inr y) = h.once i k n x.1 y.1
 
 -- so there are no more of the first than of the second
-matched-le : (n m : ℕ) (R : ℕ → ℕ → Type 0) → IsMatched m n R → m ≤ n
+pub matched-le : (n m : ℕ) (R : ℕ → ℕ → Type 0) → IsMatched m n R → m ≤ n
 matched-le n zero R h = omega arith
 matched-le zero (suc m) R h = let p = h.partner 0 (omega arith) in absurd (omega (arith, p.1))
 matched-le (suc n) (suc m) R h =

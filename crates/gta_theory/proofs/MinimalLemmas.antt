@@ -181,7 +181,7 @@ module _ {Q R : Type 0} (g : Spaces) (guide : IsGuide g) (A : Automaton Q) (of_A
       (sym (twin-context s p q one t.hole t.depth t.assignment t.covers t.is_there)
       ∙ twin-context s p r other t.hole t.depth t.assignment t.covers t.is_there)
 
-twins-turned : {Q R : Type 0} (g : Spaces) (A : Automaton Q) (B : Automaton R) (s : ℕ) (p : Q) (q : R) →
+pub twins-turned : {Q R : Type 0} (g : Spaces) (A : Automaton Q) (B : Automaton R) (s : ℕ) (p : Q) (q : R) →
     AreTwins g A B s p q → AreTwins g B A s q p
 twins-turned g A B s p q t = record {
   assignment = t.assignment;

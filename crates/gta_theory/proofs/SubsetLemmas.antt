@@ -1,6 +1,5 @@
 -- On the subset automaton: it is stable, and accepts exactly where some finite set for the dropped track is accepted.
-use Rattle.std.proofs.Common.{◌≡◌, ℕ, zero, suc, ◌≤◌, max, Bool, true, false, cond, eqb, ◌↔◌, [], ◌∷◌, refl, sym, ap, subst, ◌∙◌, arith, eqb-true}
-use Rattle.std.proofs.lemmas.Bool.{eqb-false}
+use Rattle.std.proofs.Common.{◌≡◌, ℕ, zero, suc, ◌≤◌, max, Bool, true, false, cond, eqb, ◌↔◌, [], ◌∷◌, refl, ap, subst, ◌∙◌, arith, eqb-true}
 use mathlib.Core.Path.{fun_ext}
 use Rattle.labels.specs.Labels.{Label, empty_label, with_track, HasAtMost}
 use Rattle.gta_theory.specs.Assignments.{PositionSet, Assignment, IsWithin, IsFiniteSet, Covers, half, root_label, empty_assignment, replace, no_positions}
@@ -13,12 +12,12 @@ use Rattle.gta_theory.proofs.AssignmentsLemmas.{joined_set, IsWithin-joined_set,
 use Rattle.gta_theory.proofs.AutomataLemmas.{value-same, Accepts-at, IsClosed-reached}
 
 -- some set for the dropped track, to a depth of at least n, gives the state
-record Chosen {Q : Type 0} (g : Spaces) (A : Automaton Q) (t s n : ℕ) (a : Assignment) (q : Q) : Type 0 where
-  depth : ℕ
-  set : PositionSet
-  deep : n ≤ depth
-  within : IsWithin depth set
-  gives : value g A s depth (replace a t set) ≡ q
+pub record Chosen {Q : Type 0} (g : Spaces) (A : Automaton Q) (t s n : ℕ) (a : Assignment) (q : Q) : Type 0 where
+  pub depth : ℕ
+  pub set : PositionSet
+  pub deep : n ≤ depth
+  pub within : IsWithin depth set
+  pub gives : value g A s depth (replace a t set) ≡ q
 
 module _ {Q : Type 0} (g : Spaces) (guide : IsGuide g) (A : Automaton Q) (stable : IsStable g A) (t : ℕ) where
   -- two chosen sets below a root with the track as the bit says
@@ -159,7 +158,7 @@ module _ {Q R : Type 0} (g : Spaces) (guide : IsGuide g) (A : Automaton Q) (stab
       (record { assignment = a; depth = n; covers = covers; is_value = refl })
 
   -- the members of the value are the values of A for some set
-  chosen-member : (n s : ℕ) (a : Assignment) (q : Q) → IsSpace g s → Covers n a →
+  pub chosen-member : (n s : ℕ) (a : Assignment) (q : Q) → IsSpace g s → Covers n a →
       member s (value g B s n a) q → Chosen g A t s n a q
   chosen-member zero s a q there covers m = chosen-settled g guide A stable t s q ((subset.initial s q there).0 m) a covers
   chosen-member (suc n) s a q there covers m =
@@ -173,7 +172,7 @@ module _ {Q R : Type 0} (g : Spaces) (guide : IsGuide g) (A : Automaton Q) (stab
       (chosen-member n (left g s) (half false a) h.left in_left in_l h.in_left)
       (chosen-member n (right g s) (half true a) h.right in_right in_r h.in_right)
 
-  member-chosen : (n s m : ℕ) (a : Assignment) (set : PositionSet) → IsSpace g s → Covers n a → n ≤ m →
+  pub member-chosen : (n s m : ℕ) (a : Assignment) (set : PositionSet) → IsSpace g s → Covers n a → n ≤ m →
       member s (value g B s n a) (value g A s m (replace a t set))
   member-chosen zero s m a set there covers deep =
       (subset.initial s _ there).1 (settled-chosen g guide A stable t m s a set there covers)

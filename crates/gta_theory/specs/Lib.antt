@@ -1,6 +1,10 @@
 pub mod Assignments
 pub mod Automata
 pub mod Constructions
+pub mod Generated
 pub mod Guides
 pub mod Listed
 pub mod Minimal
+pub mod Numbered
+pub mod Sizes
+pub mod Weights
