@@ -13,7 +13,7 @@ use Rattle.pale_place_laws.specs.ConditionWords.{condition_node, condition_words
 use Rattle.pale_place_laws.proofs.Meaning.{FromTo}
 use Rattle.pale_place_laws.proofs.ListLemmas.{behind_last, each_last}
 
-words_at : (x : Condition-F Condition) → condition_words (roll-Condition x) ≡ condition_node (map-Condition Condition Words condition_words x)
+pub words_at : (x : Condition-F Condition) → condition_words (roll-Condition x) ≡ condition_node (map-Condition Condition Words condition_words x)
 unfolding condition_words
 words_at x = fold-roll-Condition Words condition_node x
 

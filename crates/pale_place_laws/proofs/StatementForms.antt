@@ -10,7 +10,7 @@ use Rattle.pale_place_laws.specs.StatementWords.{statement_node, statement_words
 use Rattle.pale_place_laws.proofs.Meaning.{FromTo}
 use Rattle.pale_place_laws.proofs.Framework.{AreMade, no_more, one_more}
 
-words_at : (x : Statement-F Statement) → statement_words (roll-Statement x) ≡ statement_node (map-Statement Statement Words statement_words x)
+pub words_at : (x : Statement-F Statement) → statement_words (roll-Statement x) ≡ statement_node (map-Statement Statement Words statement_words x)
 unfolding statement_words
 words_at x = fold-roll-Statement Words statement_node x
 
