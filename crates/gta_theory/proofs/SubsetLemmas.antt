@@ -1,6 +1,5 @@
 -- On the subset automaton: it is stable, and accepts exactly where some finite set for the dropped track is accepted.
-use Rattle.std.proofs.Common.{◌≡◌, ℕ, zero, suc, ◌≤◌, max, Bool, true, false, cond, eqb, ◌↔◌, [], ◌∷◌, refl, sym, ap, subst, ◌∙◌, arith, eqb-true}
-use Rattle.std.proofs.lemmas.Bool.{eqb-false}
+use Rattle.std.proofs.Common.{◌≡◌, ℕ, zero, suc, ◌≤◌, max, Bool, true, false, cond, eqb, ◌↔◌, [], ◌∷◌, refl, ap, subst, ◌∙◌, arith, eqb-true}
 use mathlib.Core.Path.{fun_ext}
 use Rattle.labels.specs.Labels.{Label, empty_label, with_track, HasAtMost}
 use Rattle.gta_theory.specs.Assignments.{PositionSet, Assignment, IsWithin, IsFiniteSet, Covers, half, root_label, empty_assignment, replace, no_positions}
