@@ -1,5 +1,5 @@
 -- The functions under a function are those of the references that are reached.
-use Rattle.std.proofs.Common.{◌≡◌, ◌⊎◌, ℕ, suc, zero, ◌^◌, ◌<◌, ◌≤◌, Bool, true, false, List, eqb, ltb, max, if◌then◌else◌, None}
+use Rattle.std.proofs.Common.{◌≡◌, ◌⊎◌, ℕ, suc, zero, ◌<◌, ◌≤◌, Bool, true, false, List, eqb, ltb, max, if◌then◌else◌, None}
 use Rattle.std.proofs.Common.{sym, ◌∙◌, ap, refl, subst, inl, inr, arith}
 use Rattle.std.proofs.lemmas.Bool.{cases_lt}
 use Rattle.std.proofs.lemmas.Bool.Decides.{nat_tests}
@@ -12,9 +12,8 @@ use Rattle.labels.proofs.LabelsLemmas.{with_below-under, with_below-from}
 use Rattle.bdd_nodes.specs.Nodes.{node_of, rank, node_at, state_named, IsNamedIn, AsksNoneBelow}
 use Rattle.bdd_nodes.specs.Shelf.{Contents, IsShelf, IsValid, state_of, low_named, high_named, roots_of, tables_added}
 use Rattle.bdd_nodes.specs.Changes.{Reaches, itself, by_low, by_high, ReachesFunction}
-use Rattle.bdd_nodes.proofs.NodesLemmas.{state_named-leaf, state_named-inner}
+use Rattle.bdd_nodes.proofs.NodesLemmas.{state_named-inner}
 use Rattle.bdd_nodes.proofs.CanonicalLemmas.{IsNamedIn-rank, state_named-unasked}
-use Rattle.bdd_nodes.proofs.ReadLemmas.{small-leaf}
 use Rattle.bdd_nodes.proofs.RootsLemmas.{roots_under-none}
 
 AsksNoneBelow-zero : (nodes : List Node) (named : Named) → AsksNoneBelow nodes 0 named

@@ -6,7 +6,6 @@ use Rattle.bdd_nodes.specs.declared.node_ref.NodeRef.{NodeRef}
 use Rattle.labels.specs.Labels.{Label, Function, with_track, with_below, IsUnder}
 use Rattle.bdd_nodes.specs.Shelf.{Contents, IsShelf, IsLeaf, IsSideFor, AsksFrom, state_of, choice_of}
 use Rattle.bdd_nodes.specs.Changes.{Keeps}
-use Rattle.bdd_nodes.proofs.CallerLemmas.{Keeps-refl}
 use Rattle.bdd_walk.specs.Answers.{Answers, KeepsAnswers, Completes}
 use Rattle.bdd_walk.specs.Stands.{Asking, Stands, AsksSame, AsksByFrom, IsPart}
 use Rattle.bdd_walk.specs.Steps.{IsSplitBy}

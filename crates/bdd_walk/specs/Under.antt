@@ -1,5 +1,5 @@
 -- The functions under a function, which are those of the nodes under its node; and what doesn't fit into a shelf.
-use Rattle.std.specs.Prelude.{◌≡◌, ◌≢◌, ◌+◌, ◌<◌, ℕ, List, length, All, AllPairs, nat_lt, if◌then◌else◌, ◌⊎◌}
+use Rattle.std.specs.Prelude.{◌≡◌, ◌≢◌, ◌+◌, ◌<◌, List, length, All, AllPairs, ◌⊎◌}
 use Rattle.bdd_nodes.specs.declared.node_ref.NodeRef.{NodeRef}
 use Rattle.labels.specs.Labels.{Label, Function, IsUnder}
 use Rattle.bdd_nodes.specs.Shelf.{Contents, Has, IsValid, state_of, count_of, limit_of}
