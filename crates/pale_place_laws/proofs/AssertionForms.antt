@@ -1,5 +1,5 @@
 -- The words of assertions by their forms, and of chains.
-use Rattle.std.proofs.Common.{◌≡◌, List, [], ◌∷◌, ◌++◌, map, refl, sym, ap, ◌∙◌, subst}
+use Rattle.std.proofs.Common.{◌≡◌, List, [], ◌∷◌, ◌++◌, map, sym, ap, ◌∙◌, subst}
 use Rattle.pale_text.specs.declared.token.Mark.TheVariants as mark
 use Rattle.pale_text.specs.declared.token.Token.{Token}
 use Rattle.pale_syntax.specs.declared.tree.assertion.Assertion.{Assertion, roll-Assertion, out-roll-Assertion}
@@ -8,10 +8,10 @@ use Rattle.pale_syntax.specs.declared.tree.assertion.Assertion.TheOpen.{Assertio
 use Rattle.pale_syntax.specs.declared.tree.assertion.Assertion.TheFolds.{fold-roll-Assertion, ind-Assertion, map-Assertion}
 use denote.Hole.Carrier.{roll}
 use Rattle.pale_syntax.specs.MakingAssertions.{and_by, both, either, equivalent, iff_by, or_by}
-use Rattle.pale_place_laws.specs.Words.{Word, Words, ◌>>◌, sign, sign_at, each, each_behind}
+use Rattle.pale_place_laws.specs.Words.{Word, Words, ◌>>◌, sign, each_behind}
 use Rattle.pale_place_laws.specs.AssertionWords.{assertion_node, assertion_words}
 use Rattle.pale_place_laws.proofs.Meaning.{FromTo}
-use Rattle.pale_place_laws.proofs.ListLemmas.{behind_last, each_last}
+use Rattle.pale_place_laws.proofs.ListLemmas.{behind_last}
 
 words_at : (x : Assertion-F Assertion) → assertion_words (roll-Assertion x) ≡ assertion_node (map-Assertion Assertion Words assertion_words x)
 unfolding assertion_words

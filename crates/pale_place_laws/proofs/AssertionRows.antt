@@ -8,24 +8,23 @@ use Rattle.pale_text.specs.declared.token.Mark.TheVariants as mark
 use Rattle.pale_text.specs.declared.token.Token.{Token}
 use Rattle.pale_text.specs.Tokens.{place_of}
 use Rattle.pale_syntax.specs.declared.tree.names.Name.{Name}
-use Rattle.pale_syntax.specs.declared.tree.assertion.Assertion.{Assertion, roll-Assertion}
+use Rattle.pale_syntax.specs.declared.tree.assertion.Assertion.{roll-Assertion}
 use Rattle.pale_syntax.specs.declared.tree.assertion.Assertion.TheVariants as assertion
 use Rattle.pale_syntax.specs.declared.tree.assertion.Assertion.TheOpen.{Assertion-F}
-use Rattle.pale_syntax.specs.declared.tree.assertion.Bracketed.{Bracketed}
 use Rattle.pale_syntax.specs.declared.tree.assertion.Quantifier.{Quantifier}
 use Rattle.pale_syntax.specs.declared.tree.assertion.QuantifierKind.{QuantifierKind}
 use Rattle.pale_syntax.specs.declared.tree.assertion.QuantifierKind.TheVariants as quantifier
 use denote.Hole.Carrier.{roll}
 use Rattle.plain_data.specs.Stacks.{top, rest}
 use Rattle.ll1_reader.specs.declared.symbol.Symbol.TheVariants.{Read, Once, Many}
-use Rattle.pale_syntax.specs.MakingParts.{Parts, name_of, nameless}
+use Rattle.pale_syntax.specs.MakingParts.{Parts, name_of}
 use Rattle.pale_syntax.specs.MakingAssertions.{both, either, equivalent, begun, of_sets, over, quantifierless}
 use Rattle.pale_syntax.specs.ProgramGrammar.{ProgramSymbol, rows_of, reads, push_name, connective}
 use Rattle.pale_place_laws.specs.Words.{AreWords, ◌>>◌, sign, name_words}
 use Rattle.pale_place_laws.specs.AssertionWords.{quantifier_word, set_word, assertion_words}
 use Rattle.pale_place_laws.proofs.TokenLemmas.{marked, plain}
 use Rattle.pale_place_laws.proofs.Meaning.{FromTo, NoneUsed, Quantified}
-use Rattle.pale_place_laws.proofs.Framework.{IsSoundRow, AreSoundRows, no_row, or_row, nth, Goal, Fits, Done}
+use Rattle.pale_place_laws.proofs.Framework.{IsSoundRow, AreSoundRows, no_row, or_row, nth, Goal, Fits}
 use Rattle.pale_place_laws.proofs.ListLemmas.{all_words, behind_words, grown, joined_all, folded, folded_words, top_and_rest}
 use Rattle.pale_place_laws.proofs.AssertionForms.{assertion_made, both_words, either_words, equivalent_words}
 

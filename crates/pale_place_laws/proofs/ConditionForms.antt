@@ -1,5 +1,5 @@
 -- The words of conditions by their forms, and of chains.
-use Rattle.std.proofs.Common.{◌≡◌, List, [], ◌∷◌, ◌++◌, map, refl, sym, ap, ◌∙◌, subst}
+use Rattle.std.proofs.Common.{◌≡◌, List, [], ◌∷◌, ◌++◌, map, sym, ap, ◌∙◌, subst}
 use Rattle.pale_text.specs.declared.token.Mark.TheVariants as mark
 use Rattle.pale_text.specs.declared.token.Token.{Token}
 use Rattle.pale_syntax.specs.declared.tree.condition.Condition.{Condition, roll-Condition, out-roll-Condition}
@@ -8,10 +8,10 @@ use Rattle.pale_syntax.specs.declared.tree.condition.Condition.TheOpen.{Conditio
 use Rattle.pale_syntax.specs.declared.tree.condition.Condition.TheFolds.{fold-roll-Condition, ind-Condition, map-Condition}
 use denote.Hole.Carrier.{roll}
 use Rattle.pale_syntax.specs.MakingConditions.{and_by, both_conditions, either_condition, or_by}
-use Rattle.pale_place_laws.specs.Words.{Word, Words, ◌>>◌, sign, sign_at, each, each_behind}
+use Rattle.pale_place_laws.specs.Words.{Word, Words, ◌>>◌, sign, each_behind}
 use Rattle.pale_place_laws.specs.ConditionWords.{condition_node, condition_words}
 use Rattle.pale_place_laws.proofs.Meaning.{FromTo}
-use Rattle.pale_place_laws.proofs.ListLemmas.{behind_last, each_last}
+use Rattle.pale_place_laws.proofs.ListLemmas.{behind_last}
 
 pub words_at : (x : Condition-F Condition) → condition_words (roll-Condition x) ≡ condition_node (map-Condition Condition Words condition_words x)
 unfolding condition_words

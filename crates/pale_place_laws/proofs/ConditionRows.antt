@@ -1,16 +1,15 @@
 -- Conditions of code: what their rows make, and of which words.
-use Rattle.std.proofs.Common.{◌≡◌, List, ◌∷◌, Some, refl, sym, subst}
+use Rattle.std.proofs.Common.{◌∷◌, Some, refl, sym, subst}
 use Rattle.pale_syntax.specs.declared.grammar.part.ProgramPart.TheVariants as part
 use Rattle.pale_text.specs.declared.place.Pos.{Pos}
 use Rattle.pale_text.specs.declared.token.Mark.TheVariants as mark
-use Rattle.pale_text.specs.declared.token.Token.{Token}
 use Rattle.pale_text.specs.Tokens.{place_of}
 use Rattle.pale_syntax.specs.declared.tree.names.Name.{Name}
-use Rattle.pale_syntax.specs.declared.tree.condition.Condition.{Condition, out-Condition, roll-Condition}
+use Rattle.pale_syntax.specs.declared.tree.condition.Condition.{out-Condition, roll-Condition}
 use Rattle.pale_syntax.specs.declared.tree.condition.Condition.TheVariants as condition
 use Rattle.pale_syntax.specs.declared.tree.condition.Condition.TheOpen.{Condition-F}
 use denote.Hole.Carrier.{roll, out}
-use Rattle.pale_syntax.specs.MakingParts.{Parts, name_of}
+use Rattle.pale_syntax.specs.MakingParts.{name_of}
 use Rattle.pale_syntax.specs.MakingConditions.{both_conditions, either_condition}
 use Rattle.pale_syntax.specs.ProgramGrammar.{rows_of}
 use Rattle.pale_place_laws.specs.Words.{AreWords, ◌>>◌, sign}

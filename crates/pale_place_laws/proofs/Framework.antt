@@ -1,5 +1,5 @@
 -- A reading makes what its rows make, where each row makes what its part means, from what each part in the row means.
-use Rattle.std.proofs.Common.{◌≡◌, ◌⊎◌, inl, inr, ℕ, zero, suc, List, [], ◌∷◌, Option, Some, map, refl, sym, subst}
+use Rattle.std.proofs.Common.{◌≡◌, inl, inr, ℕ, zero, suc, List, [], ◌∷◌, Option, Some, map, refl, sym, subst}
 use Rattle.ll1_reader.specs.declared.symbol.Symbol.TheVariants.{Read, Open, Once, Maybe, Many, Act as Does}
 use Rattle.ll1_reader.specs.Grammars.{IsOneOf}
 use Rattle.ll1_reader.specs.Readings.{Stack, Bottom, Row, Step, Reads, over, row_over, read, opened, acted, once, taken, left_out, again, ended}

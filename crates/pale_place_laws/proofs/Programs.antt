@@ -1,5 +1,5 @@
 -- Programs: what their readings make, and of which words.
-use Rattle.std.proofs.Common.{◌≡◌, List, [], ◌∷◌, ◌++◌, Option, None, Some, map, refl, sym, ap, ◌∙◌, subst, append_assoc, append-nil}
+use Rattle.std.proofs.Common.{◌≡◌, List, [], ◌∷◌, ◌++◌, None, map, refl, sym, ap, ◌∙◌, subst, append_assoc, append-nil}
 use Rattle.ll1_reader.specs.Answers.{event_of}
 use Rattle.ll1_reader.specs.Readings.{Step}
 use Rattle.pale_syntax.specs.declared.grammar.act.Act.{Act}
@@ -170,8 +170,10 @@ pub well_made : (tokens : List Token) (steps : List (Step Act)) (tree : Program)
 unfolding program_grammar program_words
 well_made tokens steps tree program =
     let h =
-    held sound keeps (WordsSoFar tokens) program.reading tokens refl None nothing
-    (((refl, refl), (refl, refl), ((refl, refl, refl, refl, refl), refl, refl, refl, refl, refl)), λ xs behind others made after e.
-    subst (λ (ds : List Declaration). AreWords tokens (each declaration_words ds after)) (sym (all_put xs nothing))
-    ((all_words part.Declaration declaration_words (λ x s t is. is) made).along after e)) in
+    held sound keeps (WordsSoFar tokens) program.reading tokens refl None nothing (
+      ((refl, refl), (refl, refl), ((refl, refl, refl, refl, refl), refl, refl, refl, refl, refl)),
+      λ xs behind others made after e.
+          subst (λ (ds : List Declaration). AreWords tokens (each declaration_words ds after)) (sym (all_put xs nothing))
+          ((all_words part.Declaration declaration_words (λ x s t is. is) made).along after e),
+    ) in
     record { operands = h.0; words = subst (λ (p : Program). AreWords tokens (program_words p)) (sym program.made) (h.1 [] no_words) }

@@ -1,16 +1,14 @@
 -- Routes: what their rows make, and of which words.
-use Rattle.std.proofs.Common.{◌≡◌, true, false, List, ◌∷◌, Some, refl, sym, subst}
+use Rattle.std.proofs.Common.{true, false, ◌∷◌, Some, refl, sym, subst}
 use Rattle.pale_syntax.specs.declared.grammar.part.ProgramPart.TheVariants as part
-use Rattle.pale_text.specs.declared.place.Pos.{Pos}
 use Rattle.pale_text.specs.declared.token.Mark.TheVariants as mark
-use Rattle.pale_text.specs.declared.token.Token.{Token}
 use Rattle.pale_text.specs.Tokens.{place_of}
 use Rattle.pale_syntax.specs.declared.tree.names.Name.{Name}
-use Rattle.pale_syntax.specs.declared.tree.route.Route.{Route, out-Route, roll-Route}
+use Rattle.pale_syntax.specs.declared.tree.route.Route.{out-Route, roll-Route}
 use Rattle.pale_syntax.specs.declared.tree.route.Route.TheVariants as route
 use Rattle.pale_syntax.specs.declared.tree.route.Route.TheOpen.{Route-F}
 use denote.Hole.Carrier.{roll, out}
-use Rattle.pale_syntax.specs.MakingParts.{Parts, name_of}
+use Rattle.pale_syntax.specs.MakingParts.{name_of}
 use Rattle.pale_syntax.specs.MakingRoutes.{joined_then, joined_or, starred}
 use Rattle.pale_syntax.specs.ProgramGrammar.{rows_of}
 use Rattle.pale_place_laws.specs.Words.{AreWords, ◌>>◌, sign, sign_at}
