@@ -18,14 +18,16 @@ unfolding assertion_words
 words_at x = fold-roll-Assertion Words assertion_node x
 
 -- a form of the words that it has
-pub assertion_made : (x : Assertion-F Assertion) {start end : List Token} → FromTo (assertion_node (map-Assertion Assertion Words assertion_words x)) start end →
+pub assertion_made : (x : Assertion-F Assertion) {start end : List Token} →
+    FromTo (assertion_node (map-Assertion Assertion Words assertion_words x)) start end →
     FromTo (assertion_words (roll-Assertion x)) start end
 assertion_made x {start} {end} made = subst (λ (w : Words). FromTo w start end) (sym (words_at x)) made
 
 -- ---- both
 
 and_at : (first : Assertion) (others : List Assertion) (after : List Word) →
-    assertion_words (assertion.And first others) after ≡ assertion_words first (each_behind mark.Ampersand (λ (one : Words). one) (map assertion_words others) after)
+    assertion_words (assertion.And first others) after
+    ≡ assertion_words first (each_behind mark.Ampersand (λ (one : Words). one) (map assertion_words others) after)
 unfolding roll-Assertion roll
 and_at first others after = ap (λ (w : Words). w after) (words_at (Assertion-F.And first others))
 
@@ -48,7 +50,8 @@ both_words = ind-Assertion (λ one. (other : Assertion) (after : List Word) →
 -- ---- either
 
 or_at : (first : Assertion) (others : List Assertion) (after : List Word) →
-    assertion_words (assertion.Or first others) after ≡ assertion_words first (each_behind mark.Bar (λ (one : Words). one) (map assertion_words others) after)
+    assertion_words (assertion.Or first others) after
+    ≡ assertion_words first (each_behind mark.Bar (λ (one : Words). one) (map assertion_words others) after)
 unfolding roll-Assertion roll
 or_at first others after = ap (λ (w : Words). w after) (words_at (Assertion-F.Or first others))
 
@@ -71,7 +74,8 @@ either_words = ind-Assertion (λ one. (other : Assertion) (after : List Word) �
 -- ---- equivalent assertions
 
 iff_at : (first : Assertion) (others : List Assertion) (after : List Word) →
-    assertion_words (assertion.Iff first others) after ≡ assertion_words first (each_behind mark.Equivalent (λ (one : Words). one) (map assertion_words others) after)
+    assertion_words (assertion.Iff first others) after
+    ≡ assertion_words first (each_behind mark.Equivalent (λ (one : Words). one) (map assertion_words others) after)
 unfolding roll-Assertion roll
 iff_at first others after = ap (λ (w : Words). w after) (words_at (Assertion-F.Iff first others))
 

@@ -18,14 +18,16 @@ unfolding condition_words
 words_at x = fold-roll-Condition Words condition_node x
 
 -- a form of the words that it has
-pub condition_made : (x : Condition-F Condition) {start end : List Token} → FromTo (condition_node (map-Condition Condition Words condition_words x)) start end →
+pub condition_made : (x : Condition-F Condition) {start end : List Token} →
+    FromTo (condition_node (map-Condition Condition Words condition_words x)) start end →
     FromTo (condition_words (roll-Condition x)) start end
 condition_made x {start} {end} made = subst (λ (w : Words). FromTo w start end) (sym (words_at x)) made
 
 -- ---- both
 
 and_at : (first : Condition) (others : List Condition) (after : List Word) →
-    condition_words (condition.And first others) after ≡ condition_words first (each_behind mark.AndAlso (λ (one : Words). one) (map condition_words others) after)
+    condition_words (condition.And first others) after
+    ≡ condition_words first (each_behind mark.AndAlso (λ (one : Words). one) (map condition_words others) after)
 unfolding roll-Condition roll
 and_at first others after = ap (λ (w : Words). w after) (words_at (Condition-F.And first others))
 
@@ -48,7 +50,8 @@ both_conditions_words = ind-Condition (λ one. (other : Condition) (after : List
 -- ---- either
 
 or_at : (first : Condition) (others : List Condition) (after : List Word) →
-    condition_words (condition.Or first others) after ≡ condition_words first (each_behind mark.OrElse (λ (one : Words). one) (map condition_words others) after)
+    condition_words (condition.Or first others) after
+    ≡ condition_words first (each_behind mark.OrElse (λ (one : Words). one) (map condition_words others) after)
 unfolding roll-Condition roll
 or_at first others after = ap (λ (w : Words). w after) (words_at (Condition-F.Or first others))
 

@@ -211,7 +211,8 @@ abbrev ending_row : List ProgramSymbol
 ending_row = reads mark.Semicolon ∷ call calls.MakeCall ∷ []
 
 -- behind what is given to a call
-call_fits : (last : Option Token) (start here : List Token) (parts : Parts) (goal : Goal) (place : Pos) (x : Name) (results : Option Results) (given : Given) →
+call_fits : (last : Option Token) (start here : List Token) (parts : Parts) (goal : Goal) (place : Pos) (x : Name)
+    (results : Option Results) (given : Given) →
     NoCall parts × HasOne parts.blocks →
     FromTo (λ after. word_at (codes "call") place >> called_words x results >> given_words given.given given.logics given.keep >> after) start here →
     Done part.Statement start (record parts { call_results = []; given = []; arguments = []; keep = None }) goal →

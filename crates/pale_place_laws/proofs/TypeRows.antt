@@ -142,7 +142,8 @@ type_row = record {
                   λ vs behind end variants.
                       let others = behind_words part.Variant mark.Bar variant_words (λ v s t is. is) variants in
                       subst (λ q. Fits ending_type behind end q goal)
-                      (sym (grown part.Variant (λ l. record parts { names = x ∷ parts.names; common = fs; fields = []; variants = l }) (λ l v. refl) vs [])) (
+                      (sym (grown part.Variant (λ l. record parts { names = x ∷ parts.names; common = fs; fields = []; variants = l })
+                      (λ l v. refl) vs [])) (
                         tt,
                         done (record { name = x; fields = fs; variants = vs }) behind end (record {
                           along = λ after e.
