@@ -20,7 +20,7 @@ use Rattle.ll1_reader.specs.declared.symbol.Symbol.TheVariants.{Read, Once, Many
 use Rattle.pale_syntax.specs.MakingParts.{Parts, name_of}
 use Rattle.pale_syntax.specs.MakingAssertions.{both, either, equivalent, begun, of_sets, over, quantifierless}
 use Rattle.pale_syntax.specs.ProgramGrammar.{ProgramSymbol, rows_of, reads, push_name, connective}
-use Rattle.pale_place_laws.specs.Words.{AreWords, ◌>>◌, sign, name_words}
+use Rattle.pale_place_laws.specs.Words.{name_words}
 use Rattle.pale_place_laws.specs.AssertionWords.{quantifier_word, set_word, assertion_words}
 use Rattle.pale_place_laws.proofs.TokenLemmas.{marked, plain}
 use Rattle.pale_place_laws.proofs.Meaning.{FromTo, NoneUsed, Quantified}
@@ -41,8 +41,8 @@ and_chain_row = record {
           subst (λ q. goal behind end q)
           (sym (folded part.NextNegation both (λ a. record parts { assertions = a ∷ parts.assertions }) (λ a x. refl) more a))
           (done (joined_all both a more) behind end
-              (chain_words part.NextNegation both assertion_words (signed mark.Ampersand assertion_words) both_words
-              (λ x s t is. is) a more tokens middle end first others)),
+          (chain_words part.NextNegation both assertion_words (signed mark.Ampersand assertion_words) both_words
+          (λ x s t is. is) a more tokens middle end first others)),
     ),
   );
 }
@@ -75,8 +75,8 @@ or_chain_row = record {
           subst (λ q. goal behind end q)
           (sym (folded part.NextAndChain either (λ a. record parts { assertions = a ∷ parts.assertions }) (λ a x. refl) more a))
           (done (joined_all either a more) behind end
-              (chain_words part.NextAndChain either assertion_words (signed mark.Bar assertion_words) either_words
-              (λ x s t is. is) a more tokens middle end first others)),
+          (chain_words part.NextAndChain either assertion_words (signed mark.Bar assertion_words) either_words
+          (λ x s t is. is) a more tokens middle end first others)),
     ),
   );
 }
@@ -109,8 +109,8 @@ iff_row = record {
           subst (λ q. goal behind end q)
           (sym (folded part.NextImplication equivalent (λ a. record parts { assertions = a ∷ parts.assertions }) (λ a x. refl) more a))
           (done (joined_all equivalent a more) behind end
-              (chain_words part.NextImplication equivalent assertion_words (signed mark.Equivalent assertion_words) equivalent_words
-              (λ x s t is. is) a more tokens middle end first others)),
+          (chain_words part.NextImplication equivalent assertion_words (signed mark.Equivalent assertion_words) equivalent_words
+          (λ x s t is. is) a more tokens middle end first others)),
     ),
   );
 }

@@ -12,7 +12,6 @@ use denote.Hole.Carrier.{roll, out}
 use Rattle.pale_syntax.specs.MakingParts.{name_of}
 use Rattle.pale_syntax.specs.MakingConditions.{both_conditions, either_condition}
 use Rattle.pale_syntax.specs.ProgramGrammar.{rows_of}
-use Rattle.pale_place_laws.specs.Words.{AreWords, ◌>>◌, sign}
 use Rattle.pale_place_laws.specs.ConditionWords.{condition_words}
 use Rattle.pale_place_laws.proofs.TokenLemmas.{marked, plain, skipped}
 use Rattle.pale_place_laws.proofs.Framework.{IsSoundRow, AreSoundRows, no_row, or_row, nth}
@@ -32,8 +31,8 @@ condition_row = record {
           subst (λ q. goal behind end q)
           (sym (folded part.NextConjunction either_condition (λ c. record parts { conditions = c ∷ parts.conditions }) (λ c x. refl) cs c))
           (done (joined_all either_condition c cs) behind end
-              (chain_words part.NextConjunction either_condition condition_words (signed mark.OrElse condition_words) either_condition_words
-              (λ x s t is. is) c cs tokens middle end first others)),
+          (chain_words part.NextConjunction either_condition condition_words (signed mark.OrElse condition_words) either_condition_words
+          (λ x s t is. is) c cs tokens middle end first others)),
     ),
   );
 }
@@ -66,8 +65,8 @@ conjunction_row = record {
           subst (λ q. goal behind end q)
           (sym (folded part.NextLiteral both_conditions (λ c. record parts { conditions = c ∷ parts.conditions }) (λ c x. refl) cs c))
           (done (joined_all both_conditions c cs) behind end
-              (chain_words part.NextLiteral both_conditions condition_words (signed mark.AndAlso condition_words) both_conditions_words
-              (λ x s t is. is) c cs tokens middle end first others)),
+          (chain_words part.NextLiteral both_conditions condition_words (signed mark.AndAlso condition_words) both_conditions_words
+          (λ x s t is. is) c cs tokens middle end first others)),
     ),
   );
 }

@@ -11,7 +11,7 @@ use denote.Hole.Carrier.{roll, out}
 use Rattle.pale_syntax.specs.MakingParts.{name_of}
 use Rattle.pale_syntax.specs.MakingRoutes.{joined_then, joined_or, starred}
 use Rattle.pale_syntax.specs.ProgramGrammar.{rows_of}
-use Rattle.pale_place_laws.specs.Words.{AreWords, ◌>>◌, sign, sign_at}
+use Rattle.pale_place_laws.specs.Words.{sign_at}
 use Rattle.pale_place_laws.specs.RouteWords.{route_words}
 use Rattle.pale_place_laws.proofs.TokenLemmas.{marked, plain, skipped}
 use Rattle.pale_place_laws.proofs.Framework.{IsSoundRow, AreSoundRows, no_row, or_row, nth}
@@ -31,8 +31,8 @@ route_row = record {
           subst (λ q. goal behind end q)
           (sym (folded part.NextAlternative joined_or (λ r. record parts { routes = r ∷ parts.routes }) (λ r x. refl) rs r))
           (done (joined_all joined_or r rs) behind end
-              (chain_words part.NextAlternative joined_or route_words (signed mark.Plus route_words) joined_or_words
-              (λ x s t is. is) r rs tokens middle end first others)),
+          (chain_words part.NextAlternative joined_or route_words (signed mark.Plus route_words) joined_or_words
+          (λ x s t is. is) r rs tokens middle end first others)),
     ),
   );
 }
@@ -65,8 +65,8 @@ sequence_row = record {
           subst (λ q. goal behind end q)
           (sym (folded part.NextRepeated joined_then (λ r. record parts { routes = r ∷ parts.routes }) (λ r x. refl) rs r))
           (done (joined_all joined_then r rs) behind end
-              (chain_words part.NextRepeated joined_then route_words (signed mark.Dot route_words) joined_then_words
-              (λ x s t is. is) r rs tokens middle end first others)),
+          (chain_words part.NextRepeated joined_then route_words (signed mark.Dot route_words) joined_then_words
+          (λ x s t is. is) r rs tokens middle end first others)),
     ),
   );
 }
@@ -99,8 +99,8 @@ repeated_row = record {
           subst (λ q. goal behind end q)
           (sym (folded part.Star starred (λ r. record parts { routes = r ∷ parts.routes }) (λ r x. refl) places r))
           (done (joined_all starred r places) behind end
-              (chain_words part.Star starred route_words (sign_at mark.Star) starred_words
-              (λ x s t is. is) r places tokens middle end first others)),
+          (chain_words part.Star starred route_words (sign_at mark.Star) starred_words
+          (λ x s t is. is) r places tokens middle end first others)),
     ),
   );
 }
