@@ -1,5 +1,5 @@
 -- The words of assertions by their forms, and of chains.
-use Rattle.std.proofs.Common.{◌≡◌, List, [], ◌∷◌, ◌++◌, map, refl, sym, ap, ◌∙◌, subst}
+use Rattle.std.proofs.Common.{◌≡◌, List, [], ◌∷◌, ◌++◌, map, sym, ap, ◌∙◌, subst}
 use Rattle.pale_text.specs.declared.token.Mark.TheVariants as mark
 use Rattle.pale_text.specs.declared.token.Token.{Token}
 use Rattle.pale_syntax.specs.declared.tree.assertion.Assertion.{Assertion, roll-Assertion, out-roll-Assertion}
@@ -8,24 +8,26 @@ use Rattle.pale_syntax.specs.declared.tree.assertion.Assertion.TheOpen.{Assertio
 use Rattle.pale_syntax.specs.declared.tree.assertion.Assertion.TheFolds.{fold-roll-Assertion, ind-Assertion, map-Assertion}
 use denote.Hole.Carrier.{roll}
 use Rattle.pale_syntax.specs.MakingAssertions.{and_by, both, either, equivalent, iff_by, or_by}
-use Rattle.pale_place_laws.specs.Words.{Word, Words, ◌>>◌, sign, sign_at, each, each_behind}
+use Rattle.pale_place_laws.specs.Words.{Word, Words, ◌>>◌, sign, each_behind}
 use Rattle.pale_place_laws.specs.AssertionWords.{assertion_node, assertion_words}
 use Rattle.pale_place_laws.proofs.Meaning.{FromTo}
-use Rattle.pale_place_laws.proofs.ListLemmas.{behind_last, each_last}
+use Rattle.pale_place_laws.proofs.ListLemmas.{behind_last}
 
 words_at : (x : Assertion-F Assertion) → assertion_words (roll-Assertion x) ≡ assertion_node (map-Assertion Assertion Words assertion_words x)
 unfolding assertion_words
 words_at x = fold-roll-Assertion Words assertion_node x
 
 -- a form of the words that it has
-pub assertion_made : (x : Assertion-F Assertion) {start end : List Token} → FromTo (assertion_node (map-Assertion Assertion Words assertion_words x)) start end →
+pub assertion_made : (x : Assertion-F Assertion) {start end : List Token} →
+    FromTo (assertion_node (map-Assertion Assertion Words assertion_words x)) start end →
     FromTo (assertion_words (roll-Assertion x)) start end
 assertion_made x {start} {end} made = subst (λ (w : Words). FromTo w start end) (sym (words_at x)) made
 
 -- ---- both
 
 and_at : (first : Assertion) (others : List Assertion) (after : List Word) →
-    assertion_words (assertion.And first others) after ≡ assertion_words first (each_behind mark.Ampersand (λ (one : Words). one) (map assertion_words others) after)
+    assertion_words (assertion.And first others) after
+    ≡ assertion_words first (each_behind mark.Ampersand (λ (one : Words). one) (map assertion_words others) after)
 unfolding roll-Assertion roll
 and_at first others after = ap (λ (w : Words). w after) (words_at (Assertion-F.And first others))
 
@@ -48,7 +50,8 @@ both_words = ind-Assertion (λ one. (other : Assertion) (after : List Word) →
 -- ---- either
 
 or_at : (first : Assertion) (others : List Assertion) (after : List Word) →
-    assertion_words (assertion.Or first others) after ≡ assertion_words first (each_behind mark.Bar (λ (one : Words). one) (map assertion_words others) after)
+    assertion_words (assertion.Or first others) after
+    ≡ assertion_words first (each_behind mark.Bar (λ (one : Words). one) (map assertion_words others) after)
 unfolding roll-Assertion roll
 or_at first others after = ap (λ (w : Words). w after) (words_at (Assertion-F.Or first others))
 
@@ -71,7 +74,8 @@ either_words = ind-Assertion (λ one. (other : Assertion) (after : List Word) �
 -- ---- equivalent assertions
 
 iff_at : (first : Assertion) (others : List Assertion) (after : List Word) →
-    assertion_words (assertion.Iff first others) after ≡ assertion_words first (each_behind mark.Equivalent (λ (one : Words). one) (map assertion_words others) after)
+    assertion_words (assertion.Iff first others) after
+    ≡ assertion_words first (each_behind mark.Equivalent (λ (one : Words). one) (map assertion_words others) after)
 unfolding roll-Assertion roll
 iff_at first others after = ap (λ (w : Words). w after) (words_at (Assertion-F.Iff first others))
 

@@ -8,25 +8,24 @@ use Rattle.pale_text.specs.declared.token.Mark.TheVariants as mark
 use Rattle.pale_text.specs.declared.token.Token.{Token}
 use Rattle.pale_text.specs.Tokens.{place_of}
 use Rattle.pale_syntax.specs.declared.tree.names.Name.{Name}
-use Rattle.pale_syntax.specs.declared.tree.assertion.Assertion.{Assertion, roll-Assertion}
+use Rattle.pale_syntax.specs.declared.tree.assertion.Assertion.{roll-Assertion}
 use Rattle.pale_syntax.specs.declared.tree.assertion.Assertion.TheVariants as assertion
 use Rattle.pale_syntax.specs.declared.tree.assertion.Assertion.TheOpen.{Assertion-F}
-use Rattle.pale_syntax.specs.declared.tree.assertion.Bracketed.{Bracketed}
 use Rattle.pale_syntax.specs.declared.tree.assertion.Quantifier.{Quantifier}
 use Rattle.pale_syntax.specs.declared.tree.assertion.QuantifierKind.{QuantifierKind}
 use Rattle.pale_syntax.specs.declared.tree.assertion.QuantifierKind.TheVariants as quantifier
 use denote.Hole.Carrier.{roll}
 use Rattle.plain_data.specs.Stacks.{top, rest}
 use Rattle.ll1_reader.specs.declared.symbol.Symbol.TheVariants.{Read, Once, Many}
-use Rattle.pale_syntax.specs.MakingParts.{Parts, name_of, nameless}
+use Rattle.pale_syntax.specs.MakingParts.{Parts, name_of}
 use Rattle.pale_syntax.specs.MakingAssertions.{both, either, equivalent, begun, of_sets, over, quantifierless}
 use Rattle.pale_syntax.specs.ProgramGrammar.{ProgramSymbol, rows_of, reads, push_name, connective}
-use Rattle.pale_place_laws.specs.Words.{AreWords, ◌>>◌, sign, name_words}
+use Rattle.pale_place_laws.specs.Words.{name_words}
 use Rattle.pale_place_laws.specs.AssertionWords.{quantifier_word, set_word, assertion_words}
 use Rattle.pale_place_laws.proofs.TokenLemmas.{marked, plain}
 use Rattle.pale_place_laws.proofs.Meaning.{FromTo, NoneUsed, Quantified}
-use Rattle.pale_place_laws.proofs.Framework.{IsSoundRow, AreSoundRows, no_row, or_row, nth, Goal, Fits, Done}
-use Rattle.pale_place_laws.proofs.ListLemmas.{all_words, behind_words, grown, joined_all, folded, folded_words, top_and_rest}
+use Rattle.pale_place_laws.proofs.Framework.{IsSoundRow, AreSoundRows, no_row, or_row, nth, Goal, Fits}
+use Rattle.pale_place_laws.proofs.ListLemmas.{behind_words, grown, joined_all, folded, top_and_rest, signed, chain_words}
 use Rattle.pale_place_laws.proofs.AssertionForms.{assertion_made, both_words, either_words, equivalent_words}
 
 -- ---- chains
@@ -41,13 +40,9 @@ and_chain_row = record {
       λ more behind end others.
           subst (λ q. goal behind end q)
           (sym (folded part.NextNegation both (λ a. record parts { assertions = a ∷ parts.assertions }) (λ a x. refl) more a))
-          (done (joined_all both a more) behind end (record {
-            along = λ after e.
-                subst (λ words. AreWords tokens words)
-                (sym (folded_words both assertion_words (λ x after. sign mark.Ampersand >> assertion_words x >> after) both_words more a after))
-                (first.along _
-                ((all_words part.NextNegation (λ x after. sign mark.Ampersand >> assertion_words x >> after) (λ x s t is. is) others).along after e));
-          })),
+          (done (joined_all both a more) behind end
+          (chain_words part.NextNegation both assertion_words (signed mark.Ampersand assertion_words) both_words
+          (λ x s t is. is) a more tokens middle end first others)),
     ),
   );
 }
@@ -79,13 +74,9 @@ or_chain_row = record {
       λ more behind end others.
           subst (λ q. goal behind end q)
           (sym (folded part.NextAndChain either (λ a. record parts { assertions = a ∷ parts.assertions }) (λ a x. refl) more a))
-          (done (joined_all either a more) behind end (record {
-            along = λ after e.
-                subst (λ words. AreWords tokens words)
-                (sym (folded_words either assertion_words (λ x after. sign mark.Bar >> assertion_words x >> after) either_words more a after))
-                (first.along _
-                ((all_words part.NextAndChain (λ x after. sign mark.Bar >> assertion_words x >> after) (λ x s t is. is) others).along after e));
-          })),
+          (done (joined_all either a more) behind end
+          (chain_words part.NextAndChain either assertion_words (signed mark.Bar assertion_words) either_words
+          (λ x s t is. is) a more tokens middle end first others)),
     ),
   );
 }
@@ -117,13 +108,9 @@ iff_row = record {
       λ more behind end others.
           subst (λ q. goal behind end q)
           (sym (folded part.NextImplication equivalent (λ a. record parts { assertions = a ∷ parts.assertions }) (λ a x. refl) more a))
-          (done (joined_all equivalent a more) behind end (record {
-            along = λ after e.
-                subst (λ words. AreWords tokens words)
-                (sym (folded_words equivalent assertion_words (λ x after. sign mark.Equivalent >> assertion_words x >> after) equivalent_words more a after))
-                (first.along _
-                ((all_words part.NextImplication (λ x after. sign mark.Equivalent >> assertion_words x >> after) (λ x s t is. is) others).along after e));
-          })),
+          (done (joined_all equivalent a more) behind end
+          (chain_words part.NextImplication equivalent assertion_words (signed mark.Equivalent assertion_words) equivalent_words
+          (λ x s t is. is) a more tokens middle end first others)),
     ),
   );
 }
@@ -277,7 +264,8 @@ abbrev with_names : Quantifier → List Name → Quantifier
 with_names q names = record q { names = names }
 
 -- behind the word `set`, or where there is none, a quantifier's names, type and body are read
-bound_fits : (last : Option Token) (start here : List Token) (parts : Parts) (below : List Quantifier) (goal : Goal) (sets : Bool) (turn : Quantifier → Quantifier) →
+bound_fits : (last : Option Token) (start here : List Token) (parts : Parts) (below : List Quantifier) (goal : Goal)
+    (sets : Bool) (turn : Quantifier → Quantifier) →
     ((kind : QuantifierKind) (place : Pos) → turn (begun kind place) ≡ record (begun kind place) { of_sets = sets }) →
     NoneUsed parts → FromTo (set_word sets) start here → (q : Quantifier) →
     ((x : Quantified) (behind : Option Token) (end : List Token) →

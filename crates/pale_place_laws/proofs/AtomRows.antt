@@ -13,13 +13,12 @@ use Rattle.pale_syntax.specs.declared.tree.assertion.Assertion.TheVariants as as
 use Rattle.pale_syntax.specs.declared.tree.assertion.Assertion.TheOpen.{Assertion-F}
 use denote.Hole.Carrier.{roll, out}
 use Rattle.plain_data.specs.Stacks.{top, rest}
-use Rattle.ll1_reader.specs.declared.symbol.Symbol.TheVariants.{Once, Many, Maybe}
+use Rattle.ll1_reader.specs.declared.symbol.Symbol.TheVariants.{Maybe}
 use Rattle.pale_syntax.specs.MakingParts.{Parts, name_of}
 use Rattle.pale_syntax.specs.MakingWords.{path_at}
 use Rattle.pale_syntax.specs.MakingAssertions.{assertionless, path_alone}
 use Rattle.pale_syntax.specs.ProgramGrammar.{rows_of}
-use Rattle.pale_place_laws.specs.Words.{AreWords, ◌>>◌, each_behind, name_words, path_words}
-use Rattle.pale_place_laws.specs.AssertionWords.{assertion_words}
+use Rattle.pale_place_laws.specs.Words.{◌>>◌, each_behind, name_words, path_words}
 use Rattle.pale_place_laws.specs.Operands.{IsNameAlone, IsPathAlone, HasNameAlone, HasPathAlone}
 use Rattle.pale_place_laws.proofs.TokenLemmas.{marked, plain, skipped}
 use Rattle.pale_place_laws.proofs.Meaning.{FromTo}
@@ -264,7 +263,7 @@ longer_row = record {
               let all = behind_words part.PathAloneStep mark.Dot name_words (λ x s t is. is) steps in
               let longer : Path → Path = λ p. record { base = p.base; fields = (p.fields ++ f ∷ []) ++ fs } in
               let words : (p : Path) → p.fields ≡ [] → (first : List Token) → FromTo (path_words p) first tokens →
-                  FromTo (path_words (longer p)) first middle = λ p empty first words.
+              FromTo (path_words (longer p)) first middle = λ p empty first words.
               subst (λ l. FromTo (λ after. name_words p.base >> each_behind mark.Dot name_words ((l ++ f ∷ []) ++ fs) >> after) first middle) (sym empty)
               (record { along = λ after e. (name_alone p empty first tokens words).along _ (step.along _ (all.along after e)) }) in
               subst (λ q. Fits (Maybe part.NameRelation ∷ []) c middle q goal)

@@ -1,6 +1,5 @@
 -- Values, arguments and calls: what their rows make, and of which words.
-use Rattle.std.proofs.Common.{◌≡◌, true, false, List, [], ◌∷◌, ◌++◌, Option, None, Some, refl, sym, ap, ◌∙◌, subst}
-use Rattle.std.specs.Prelude.{codes}
+use Rattle.std.proofs.Common.{true, false, List, [], ◌∷◌, ◌++◌, Option, None, Some, refl, sym, ap, ◌∙◌, subst}
 use Rattle.ll1_reader.specs.declared.symbol.Symbol.TheVariants.{Read, Once, Maybe}
 use Rattle.pale_syntax.specs.declared.grammar.kind.ProgramKind.TheVariants as kind
 use Rattle.pale_syntax.specs.declared.grammar.part.ProgramPart.TheVariants as part
@@ -18,7 +17,7 @@ use Rattle.pale_syntax.specs.ProgramGrammar.{ProgramSymbol, rows_of, reads, push
 use Rattle.pale_place_laws.specs.Words.{◌>>◌, separated, name_words}
 use Rattle.pale_place_laws.specs.StatementWords.{argument_words, logic_argument_words}
 use Rattle.pale_place_laws.proofs.TokenLemmas.{marked, plain, skipped}
-use Rattle.pale_place_laws.proofs.Meaning.{FromTo, Given, Results, Called, NoneUsed}
+use Rattle.pale_place_laws.proofs.Meaning.{FromTo, NoneUsed}
 use Rattle.pale_place_laws.proofs.Framework.{IsSoundRow, AreSoundRows, no_row, or_row, nth, Goal, Fits, Done}
 use Rattle.pale_place_laws.proofs.ListLemmas.{behind_words, grown, settled}
 
@@ -205,17 +204,17 @@ results_row = record {
           (sym (grown part.NextResult (λ l. record parts { call_results = l; names = rest parts.names }) (λ l x. refl) more
           (parts.call_results ++ top nameless parts.names ∷ [])))
           (λ equals c took one d took_name. (
-          tt,
-          λ opening f took_open. (
-            before.0,
-            λ given behind end words.
-                done (record { results = Some (record { more = more; callee = name_of (Some one) }); given = given }) behind end (λ x first name.
-                record {
-                  along = λ after e.
-                      name.along _ (all.along _ (plain took (marked took_name (skipped took_open tt (words.along after e)))));
-                }),
-          ),
-        )),
+            tt,
+            λ opening f took_open. (
+              before.0,
+              λ given behind end words.
+                  done (record { results = Some (record { more = more; callee = name_of (Some one) }); given = given }) behind end (λ x first name.
+                  record {
+                    along = λ after e.
+                        name.along _ (all.along _ (plain took (marked took_name (skipped took_open tt (words.along after e)))));
+                  }),
+            ),
+          )),
     ),
   );
 }

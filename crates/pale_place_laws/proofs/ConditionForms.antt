@@ -1,5 +1,5 @@
 -- The words of conditions by their forms, and of chains.
-use Rattle.std.proofs.Common.{◌≡◌, List, [], ◌∷◌, ◌++◌, map, refl, sym, ap, ◌∙◌, subst}
+use Rattle.std.proofs.Common.{◌≡◌, List, [], ◌∷◌, ◌++◌, map, sym, ap, ◌∙◌, subst}
 use Rattle.pale_text.specs.declared.token.Mark.TheVariants as mark
 use Rattle.pale_text.specs.declared.token.Token.{Token}
 use Rattle.pale_syntax.specs.declared.tree.condition.Condition.{Condition, roll-Condition, out-roll-Condition}
@@ -8,24 +8,26 @@ use Rattle.pale_syntax.specs.declared.tree.condition.Condition.TheOpen.{Conditio
 use Rattle.pale_syntax.specs.declared.tree.condition.Condition.TheFolds.{fold-roll-Condition, ind-Condition, map-Condition}
 use denote.Hole.Carrier.{roll}
 use Rattle.pale_syntax.specs.MakingConditions.{and_by, both_conditions, either_condition, or_by}
-use Rattle.pale_place_laws.specs.Words.{Word, Words, ◌>>◌, sign, sign_at, each, each_behind}
+use Rattle.pale_place_laws.specs.Words.{Word, Words, ◌>>◌, sign, each_behind}
 use Rattle.pale_place_laws.specs.ConditionWords.{condition_node, condition_words}
 use Rattle.pale_place_laws.proofs.Meaning.{FromTo}
-use Rattle.pale_place_laws.proofs.ListLemmas.{behind_last, each_last}
+use Rattle.pale_place_laws.proofs.ListLemmas.{behind_last}
 
 pub words_at : (x : Condition-F Condition) → condition_words (roll-Condition x) ≡ condition_node (map-Condition Condition Words condition_words x)
 unfolding condition_words
 words_at x = fold-roll-Condition Words condition_node x
 
 -- a form of the words that it has
-pub condition_made : (x : Condition-F Condition) {start end : List Token} → FromTo (condition_node (map-Condition Condition Words condition_words x)) start end →
+pub condition_made : (x : Condition-F Condition) {start end : List Token} →
+    FromTo (condition_node (map-Condition Condition Words condition_words x)) start end →
     FromTo (condition_words (roll-Condition x)) start end
 condition_made x {start} {end} made = subst (λ (w : Words). FromTo w start end) (sym (words_at x)) made
 
 -- ---- both
 
 and_at : (first : Condition) (others : List Condition) (after : List Word) →
-    condition_words (condition.And first others) after ≡ condition_words first (each_behind mark.AndAlso (λ (one : Words). one) (map condition_words others) after)
+    condition_words (condition.And first others) after
+    ≡ condition_words first (each_behind mark.AndAlso (λ (one : Words). one) (map condition_words others) after)
 unfolding roll-Condition roll
 and_at first others after = ap (λ (w : Words). w after) (words_at (Condition-F.And first others))
 
@@ -48,7 +50,8 @@ both_conditions_words = ind-Condition (λ one. (other : Condition) (after : List
 -- ---- either
 
 or_at : (first : Condition) (others : List Condition) (after : List Word) →
-    condition_words (condition.Or first others) after ≡ condition_words first (each_behind mark.OrElse (λ (one : Words). one) (map condition_words others) after)
+    condition_words (condition.Or first others) after
+    ≡ condition_words first (each_behind mark.OrElse (λ (one : Words). one) (map condition_words others) after)
 unfolding roll-Condition roll
 or_at first others after = ap (λ (w : Words). w after) (words_at (Condition-F.Or first others))
 

@@ -1,23 +1,21 @@
 -- Conditions of code: what their rows make, and of which words.
-use Rattle.std.proofs.Common.{◌≡◌, List, ◌∷◌, Some, refl, sym, subst}
+use Rattle.std.proofs.Common.{◌∷◌, Some, refl, sym, subst}
 use Rattle.pale_syntax.specs.declared.grammar.part.ProgramPart.TheVariants as part
 use Rattle.pale_text.specs.declared.place.Pos.{Pos}
 use Rattle.pale_text.specs.declared.token.Mark.TheVariants as mark
-use Rattle.pale_text.specs.declared.token.Token.{Token}
 use Rattle.pale_text.specs.Tokens.{place_of}
 use Rattle.pale_syntax.specs.declared.tree.names.Name.{Name}
-use Rattle.pale_syntax.specs.declared.tree.condition.Condition.{Condition, out-Condition, roll-Condition}
+use Rattle.pale_syntax.specs.declared.tree.condition.Condition.{out-Condition, roll-Condition}
 use Rattle.pale_syntax.specs.declared.tree.condition.Condition.TheVariants as condition
 use Rattle.pale_syntax.specs.declared.tree.condition.Condition.TheOpen.{Condition-F}
 use denote.Hole.Carrier.{roll, out}
-use Rattle.pale_syntax.specs.MakingParts.{Parts, name_of}
+use Rattle.pale_syntax.specs.MakingParts.{name_of}
 use Rattle.pale_syntax.specs.MakingConditions.{both_conditions, either_condition}
 use Rattle.pale_syntax.specs.ProgramGrammar.{rows_of}
-use Rattle.pale_place_laws.specs.Words.{AreWords, ◌>>◌, sign}
 use Rattle.pale_place_laws.specs.ConditionWords.{condition_words}
 use Rattle.pale_place_laws.proofs.TokenLemmas.{marked, plain, skipped}
 use Rattle.pale_place_laws.proofs.Framework.{IsSoundRow, AreSoundRows, no_row, or_row, nth}
-use Rattle.pale_place_laws.proofs.ListLemmas.{all_words, joined_all, folded, folded_words}
+use Rattle.pale_place_laws.proofs.ListLemmas.{signed, chain_words, joined_all, folded}
 use Rattle.pale_place_laws.proofs.ConditionForms.{condition_made, both_conditions_words, either_condition_words}
 
 -- ---- chains
@@ -32,13 +30,9 @@ condition_row = record {
       λ cs behind end others.
           subst (λ q. goal behind end q)
           (sym (folded part.NextConjunction either_condition (λ c. record parts { conditions = c ∷ parts.conditions }) (λ c x. refl) cs c))
-          (done (joined_all either_condition c cs) behind end (record {
-            along = λ after e.
-                subst (λ words. AreWords tokens words)
-                (sym (folded_words either_condition condition_words (λ x after. sign mark.OrElse >> condition_words x >> after) either_condition_words cs c after))
-                (first.along _
-                ((all_words part.NextConjunction (λ x after. sign mark.OrElse >> condition_words x >> after) (λ x s t is. is) others).along after e));
-          })),
+          (done (joined_all either_condition c cs) behind end
+          (chain_words part.NextConjunction either_condition condition_words (signed mark.OrElse condition_words) either_condition_words
+          (λ x s t is. is) c cs tokens middle end first others)),
     ),
   );
 }
@@ -70,13 +64,9 @@ conjunction_row = record {
       λ cs behind end others.
           subst (λ q. goal behind end q)
           (sym (folded part.NextLiteral both_conditions (λ c. record parts { conditions = c ∷ parts.conditions }) (λ c x. refl) cs c))
-          (done (joined_all both_conditions c cs) behind end (record {
-            along = λ after e.
-                subst (λ words. AreWords tokens words)
-                (sym (folded_words both_conditions condition_words (λ x after. sign mark.AndAlso >> condition_words x >> after) both_conditions_words cs c after))
-                (first.along _
-                ((all_words part.NextLiteral (λ x after. sign mark.AndAlso >> condition_words x >> after) (λ x s t is. is) others).along after e));
-          })),
+          (done (joined_all both_conditions c cs) behind end
+          (chain_words part.NextLiteral both_conditions condition_words (signed mark.AndAlso condition_words) both_conditions_words
+          (λ x s t is. is) c cs tokens middle end first others)),
     ),
   );
 }

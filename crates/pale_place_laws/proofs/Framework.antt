@@ -1,5 +1,5 @@
 -- A reading makes what its rows make, where each row makes what its part means, from what each part in the row means.
-use Rattle.std.proofs.Common.{◌≡◌, ◌⊎◌, inl, inr, ℕ, zero, suc, List, [], ◌∷◌, Option, Some, map, refl, sym, subst}
+use Rattle.std.proofs.Common.{◌≡◌, inl, inr, ℕ, zero, suc, List, [], ◌∷◌, Option, Some, map, refl, sym, subst}
 use Rattle.ll1_reader.specs.declared.symbol.Symbol.TheVariants.{Read, Open, Once, Maybe, Many, Act as Does}
 use Rattle.ll1_reader.specs.Grammars.{IsOneOf}
 use Rattle.ll1_reader.specs.Readings.{Stack, Bottom, Row, Step, Reads, over, row_over, read, opened, acted, once, taken, left_out, again, ended}
@@ -62,7 +62,8 @@ pub data AreSoundRows (n : ProgramPart) : List (List ProgramSymbol) → Type 1 w
   no_row : AreSoundRows n []
   or_row : {row : List ProgramSymbol} {rows : List (List ProgramSymbol)} → IsSoundRow n row → AreSoundRows n rows → AreSoundRows n (row ∷ rows)
 
-one_of_sound : {n : ProgramPart} {rows : List (List ProgramSymbol)} → AreSoundRows n rows → (row : List ProgramSymbol) → IsOneOf row rows → IsSoundRow n row
+one_of_sound : {n : ProgramPart} {rows : List (List ProgramSymbol)} → AreSoundRows n rows → (row : List ProgramSymbol) →
+    IsOneOf row rows → IsSoundRow n row
 one_of_sound no_row row i = absurd i
 one_of_sound (or_row here others) row (inl is) = record {
   along = λ last tokens parts goal before done.
@@ -86,7 +87,8 @@ module _ (sound : (n : ProgramPart) → AreSoundRows n (rows_of n)) (keeps : (n 
   Holds Bottom last tokens parts = Final tokens parts
   Holds (Row symbols d below) last tokens parts = Fits symbols last tokens parts (λ l t p. Holds below l t p)
 
-  pub held : {MayEnd : ProgramPart → List ProgramKind → Type 0} {stack : Stack ProgramPart Act ProgramKind} {ks : List ProgramKind} {steps : List (Step Act)} →
+  pub held : {MayEnd : ProgramPart → List ProgramKind → Type 0} {stack : Stack ProgramPart Act ProgramKind} {ks : List ProgramKind}
+      {steps : List (Step Act)} →
       Reads program_rows MayEnd stack ks steps → (tokens : List Token) → kinds_in tokens ≡ ks → (last : Option Token) (parts : Parts) →
       Holds stack last tokens parts →
       EachHasOperands (map event_of steps) last tokens parts × Final [] (run (map event_of steps) last tokens parts)

@@ -6,7 +6,7 @@ use Rattle.pale_text.specs.declared.token.Token.{Token}
 use Rattle.pale_syntax.specs.declared.grammar.part.ProgramPart.{ProgramPart}
 use Rattle.pale_syntax.specs.MakingParts.{Parts}
 use Rattle.pale_syntax.specs.ProgramGrammar.{ProgramSymbol}
-use Rattle.pale_place_laws.specs.Words.{Word, Words, ◌>>◌, sign, each, each_behind}
+use Rattle.pale_place_laws.specs.Words.{AreWords, Word, Words, ◌>>◌, sign, each, each_behind}
 use Rattle.pale_place_laws.specs.Operands.{HasOne}
 use Rattle.pale_place_laws.proofs.Meaning.{Thing, IsMade, FromTo, put}
 use Rattle.pale_place_laws.proofs.Framework.{AreMade, no_more, one_more, puts, Goal, Fits, Done}
@@ -61,12 +61,29 @@ pub folded : (n : ProgramPart) {R : Type 0} (join : R → Thing n → R) (at : R
 folded n join at step [] r = refl
 folded n join at step (x ∷ xs) r = ap (λ p. puts n xs p) (step r x) ∙ folded n join at step xs (join r x)
 
-pub folded_words : {R X : Type 0} (join : R → X → R) (words_of : R → Words) (more_of : X → Words) →
+folded_words : {R X : Type 0} (join : R → X → R) (words_of : R → Words) (more_of : X → Words) →
     ((r : R) (x : X) (after : List Word) → words_of (join r x) after ≡ words_of r (more_of x >> after)) →
     (xs : List X) (r : R) (after : List Word) → words_of (joined_all join r xs) after ≡ words_of r (each more_of xs after)
 folded_words join words_of more_of step [] r after = refl
 folded_words join words_of more_of step (x ∷ xs) r after =
     folded_words join words_of more_of step xs (join r x) after ∙ step r x (each more_of xs after)
+
+-- a mark before the words of something
+abbrev pub signed : {X : Type 0} → Mark → (X → Words) → X → Words
+signed mark words_of x after = sign mark >> words_of x >> after
+
+-- the words of a chain, from those of its first operand and of each that follows
+pub chain_words : (n : ProgramPart) {R : Type 0} (join : R → Thing n → R) (words_of : R → Words) (more_of : Thing n → Words) →
+    ((r : R) (x : Thing n) (after : List Word) → words_of (join r x) after ≡ words_of r (more_of x >> after)) →
+    ((x : Thing n) (start end : List Token) → IsMade n x start end → FromTo (more_of x) start end) →
+    (r : R) (xs : List (Thing n)) (start middle end : List Token) → FromTo (words_of r) start middle → AreMade n xs middle end →
+    FromTo (words_of (joined_all join r xs)) start end
+chain_words n join words_of more_of step is r xs start middle end first others =
+    record {
+      along = λ after e.
+          subst (λ words. AreWords start words) (sym (folded_words join words_of more_of step xs r after))
+          (first.along (each more_of xs after) ((all_words n more_of is others).along after e));
+    }
 
 -- ---- the parts before
 

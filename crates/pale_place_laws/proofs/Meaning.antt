@@ -40,10 +40,10 @@ use Rattle.pale_syntax.specs.MakingRoutes.{routeless, tested_type, joined_then, 
 use Rattle.pale_syntax.specs.MakingConditions.{conditionless, term_alone, both_conditions, either_condition}
 use Rattle.pale_syntax.specs.MakingAssertions.{assertionless, path_alone, both, either, equivalent, quantifierless, begun, of_sets, binding}
 use Rattle.pale_syntax.specs.MakingStatements.{valueless, narrowed, with_statement}
-use Rattle.pale_place_laws.specs.Words.{AreWords, Word, Words, ◌>>◌, sign, sign_at, word_of, each, separated, name_words, path_words, term_words}
+use Rattle.pale_place_laws.specs.Words.{AreWords, Word, Words, ◌>>◌, sign, sign_at, word_of, separated, name_words, path_words, term_words}
 use Rattle.pale_place_laws.specs.RouteWords.{route_words}
 use Rattle.pale_place_laws.specs.ConditionWords.{condition_words}
-use Rattle.pale_place_laws.specs.AssertionWords.{quantifier_word, set_word, assertion_words, bracketed_words}
+use Rattle.pale_place_laws.specs.AssertionWords.{quantifier_word, assertion_words, bracketed_words}
 use Rattle.pale_place_laws.specs.StatementWords.{value_words, value_place, argument_words, logic_argument_words, given_words}
 use Rattle.pale_place_laws.specs.StatementWords.{block_words, statement_words}
 use Rattle.pale_place_laws.specs.DeclarationWords.{field_words, variant_words, type_words, predicate_parameter_words, predicate_words}

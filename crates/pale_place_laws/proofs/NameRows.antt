@@ -1,13 +1,12 @@
 -- Names, paths and terms: what their rows make, and of which words.
-use Rattle.std.proofs.Common.{◌≡◌, List, [], ◌∷◌, Some, refl, sym, subst}
+use Rattle.std.proofs.Common.{[], ◌∷◌, Some, refl, sym, subst}
 use Rattle.pale_syntax.specs.declared.grammar.part.ProgramPart.TheVariants as part
-use Rattle.pale_text.specs.declared.place.Pos.{Pos}
 use Rattle.pale_text.specs.declared.token.Mark.TheVariants as mark
 use Rattle.pale_text.specs.Tokens.{place_of}
 use Rattle.pale_syntax.specs.declared.tree.names.Name.{Name}
 use Rattle.pale_syntax.specs.declared.tree.names.Path.{Path}
 use Rattle.pale_syntax.specs.declared.tree.names.Term.TheVariants as term
-use Rattle.pale_syntax.specs.MakingParts.{Parts, name_of}
+use Rattle.pale_syntax.specs.MakingParts.{name_of}
 use Rattle.pale_syntax.specs.ProgramGrammar.{rows_of}
 use Rattle.pale_place_laws.specs.Words.{name_words}
 use Rattle.pale_place_laws.proofs.TokenLemmas.{marked, plain}

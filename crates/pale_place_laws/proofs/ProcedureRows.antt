@@ -1,7 +1,7 @@
 -- Procedures and declarations: what their rows make, and of which words.
-use Rattle.std.proofs.Common.{◌≡◌, List, [], ◌∷◌, ◌++◌, Option, None, Some, map, refl, sym, ap, ◌∙◌, subst}
+use Rattle.std.proofs.Common.{◌≡◌, List, [], ◌∷◌, Option, None, Some, refl, sym, ap, ◌∙◌, subst}
 use Rattle.std.specs.Prelude.{codes}
-use Rattle.ll1_reader.specs.declared.symbol.Symbol.TheVariants.{Read, Once, Maybe, Many}
+use Rattle.ll1_reader.specs.declared.symbol.Symbol.TheVariants.{Maybe, Many}
 use Rattle.pale_syntax.specs.declared.grammar.act.ProcedureAct.TheVariants as procedures
 use Rattle.pale_syntax.specs.declared.grammar.act.StatementAct.TheVariants as statements
 use Rattle.pale_syntax.specs.declared.grammar.part.ProgramPart.TheVariants as part
@@ -19,11 +19,11 @@ use Rattle.pale_syntax.specs.declared.tree.declaration.Parameter.{Parameter}
 use Rattle.pale_syntax.specs.declared.tree.declaration.Parameter.TheVariants as parameter
 use Rattle.pale_syntax.specs.MakingParts.{Parts, name_of}
 use Rattle.pale_syntax.specs.ProgramGrammar.{ProgramSymbol, rows_of, reads, opens, mark_place, procedure, statement}
-use Rattle.pale_place_laws.specs.Words.{Words, ◌>>◌, word_of, word_at, sign, sign_at, each, separated, name_words}
+use Rattle.pale_place_laws.specs.Words.{Words, ◌>>◌, word_of, word_at, separated, name_words}
 use Rattle.pale_place_laws.specs.StatementWords.{clause_words, statement_words}
 use Rattle.pale_place_laws.specs.DeclarationWords.{parameter_words, results_words, logic_parameter_words, logics_words, local_words}
 use Rattle.pale_place_laws.proofs.TokenLemmas.{marked, plain, skipped}
-use Rattle.pale_place_laws.proofs.Meaning.{FromTo, NoCall, BeforeProcedure, put_procedure}
+use Rattle.pale_place_laws.proofs.Meaning.{FromTo, NoCall, BeforeProcedure}
 use Rattle.pale_place_laws.proofs.Framework.{IsSoundRow, AreSoundRows, no_row, or_row, nth, Goal, Fits, Done}
 use Rattle.pale_place_laws.proofs.ListLemmas.{all_words, behind_words, grown, settled}
 
@@ -286,24 +286,24 @@ body_fits last start here parts goal h none words done = λ opening a took_open.
           λ ss c middle more.
               let body = all_words part.Statement statement_words (λ x s t is. is) more in
               subst (λ q. Fits closing_row c middle q goal) (sym (grown part.Statement (λ l. at ls l) (λ l s. refl) ss [])) (λ close end took_close. (
-              tt,
-              (
-                (tt, tt, tt),
-                done (record {
-                  place = h.place;
-                  name = h.name;
-                  parameters = h.parameters;
-                  results = h.results;
-                  logics = h.logics;
-                  pre = h.pre;
-                  post = h.post;
-                  locals = ls;
-                  body = ss;
-                  end = place_of (Some close);
-                }) (Some close) end
-                    (record { along = λ after e. words.along _ (plain took_open (locals.along _ (body.along _ (marked took_close e)))) }),
-              ),
-            )),
+                tt,
+                (
+                  (tt, tt, tt),
+                  done (record {
+                    place = h.place;
+                    name = h.name;
+                    parameters = h.parameters;
+                    results = h.results;
+                    logics = h.logics;
+                    pre = h.pre;
+                    post = h.post;
+                    locals = ls;
+                    body = ss;
+                    end = place_of (Some close);
+                  }) (Some close) end
+                      (record { along = λ after e. words.along _ (plain took_open (locals.along _ (body.along _ (marked took_close e)))) }),
+                ),
+              )),
         ),
   ),
 )

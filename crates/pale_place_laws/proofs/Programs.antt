@@ -1,5 +1,5 @@
 -- Programs: what their readings make, and of which words.
-use Rattle.std.proofs.Common.{◌≡◌, List, [], ◌∷◌, ◌++◌, Option, None, Some, map, refl, sym, ap, ◌∙◌, subst, append_assoc, append-nil}
+use Rattle.std.proofs.Common.{◌≡◌, List, [], ◌∷◌, ◌++◌, None, map, refl, sym, subst}
 use Rattle.ll1_reader.specs.Answers.{event_of}
 use Rattle.ll1_reader.specs.Readings.{Step}
 use Rattle.pale_syntax.specs.declared.grammar.act.Act.{Act}
@@ -11,15 +11,16 @@ use Rattle.pale_syntax.specs.declared.tree.declaration.Declaration.{Declaration}
 use Rattle.pale_syntax.specs.declared.tree.declaration.Declaration.TheVariants as declaration
 use Rattle.pale_syntax.specs.declared.tree.declaration.Program.{Program}
 use denote.Hole.Carrier.{roll, out}
+use Rattle.pale_syntax.specs.Making.{run}
 use Rattle.pale_syntax.specs.MakingParts.{Parts, nothing}
 use Rattle.pale_syntax.specs.ProgramGrammar.{rows_of, program_grammar}
 use Rattle.pale_syntax.specs.ProgramReading.{IsProgram}
 use Rattle.pale_place_laws.specs.Words.{Word, AreWords, no_words, each}
 use Rattle.pale_place_laws.specs.DeclarationWords.{declaration_words, program_words}
-use Rattle.pale_place_laws.specs.Operands.{EachHasOperands}
+use Rattle.pale_place_laws.specs.Operands.{EachHasOperands, only}
 use Rattle.pale_place_laws.proofs.Meaning.{put_declaration, BeforeDeclaration}
-use Rattle.pale_place_laws.proofs.Framework.{AreSoundRows, IsKept, puts, held}
-use Rattle.pale_place_laws.proofs.ListLemmas.{all_words}
+use Rattle.pale_place_laws.proofs.Framework.{AreSoundRows, IsKept, held}
+use Rattle.pale_place_laws.proofs.ListLemmas.{all_words, grown}
 use Rattle.pale_place_laws.proofs.NameRows.{path_sound, path_step_sound, term_sound}
 use Rattle.pale_place_laws.proofs.RouteRows.{route_sound, next_alternative_sound, sequence_sound, next_repeated_sound, repeated_sound}
 use Rattle.pale_place_laws.proofs.RouteRows.{star_sound, step_sound, up_name_sound, variant_test_sound}
@@ -146,32 +147,35 @@ keeps _ = record { enters = λ parts b. absurd b; kept = λ x parts b. absurd b 
 
 -- ---- programs
 
-put_last : (x : Declaration) (parts : Parts) → (put_declaration x parts).declarations ≡ parts.declarations ++ x ∷ []
-put_last (declaration.«Type» x) parts = refl
-put_last (declaration.Predicate x) parts = refl
-put_last (declaration.Procedure x) parts = refl
+put_last : (declarations : List Declaration) (x : Declaration) →
+    put_declaration x (record nothing { declarations = declarations }) ≡ record nothing { declarations = declarations ++ x ∷ [] }
+put_last declarations (declaration.«Type» x) = refl
+put_last declarations (declaration.Predicate x) = refl
+put_last declarations (declaration.Procedure x) = refl
 
-all_put : (xs : List Declaration) (parts : Parts) → (puts part.Declaration xs parts).declarations ≡ parts.declarations ++ xs
-all_put [] parts = sym (append-nil parts.declarations)
-all_put (x ∷ xs) parts =
-    all_put xs (put_declaration x parts) ∙
-    (ap (λ (l : List Declaration). l ++ xs) (put_last x parts) ∙ append_assoc parts.declarations (x ∷ []) xs)
-
--- the tokens up to these are the words of what is made so far
-abbrev WordsSoFar : List Token → List Token → Parts → Type 0
-WordsSoFar start tokens parts = (after : List Word) → AreWords tokens after → AreWords start (each declaration_words parts.declarations after)
+-- the tokens up to these are the words of the declarations so far, and nothing else is made of them
+record SoFar (start tokens : List Token) (parts : Parts) : Type 0 where
+  words : (after : List Word) → AreWords tokens after → AreWords start (each declaration_words parts.declarations after)
+  alone : parts ≡ record nothing { declarations = parts.declarations }
 
 -- what holds of a program that is read
 pub record IsWellMade (tokens : List Token) (steps : List (Step Act)) (tree : Program) : Type 0 where
   pub operands : EachHasOperands (map event_of steps) None tokens nothing
   pub words : AreWords tokens (program_words tree)
+  pub alone : run (map event_of steps) None tokens nothing ≡ only tree
 
 pub well_made : (tokens : List Token) (steps : List (Step Act)) (tree : Program) → IsProgram tokens steps tree → IsWellMade tokens steps tree
 unfolding program_grammar program_words
 well_made tokens steps tree program =
-    let h =
-    held sound keeps (WordsSoFar tokens) program.reading tokens refl None nothing
-    (((refl, refl), (refl, refl), ((refl, refl, refl, refl, refl), refl, refl, refl, refl, refl)), λ xs behind others made after e.
-    subst (λ (ds : List Declaration). AreWords tokens (each declaration_words ds after)) (sym (all_put xs nothing))
-    ((all_words part.Declaration declaration_words (λ x s t is. is) made).along after e)) in
-    record { operands = h.0; words = subst (λ (p : Program). AreWords tokens (program_words p)) (sym program.made) (h.1 [] no_words) }
+    let h = held sound keeps (SoFar tokens) program.reading tokens refl None nothing (
+      ((refl, refl), (refl, refl), ((refl, refl, refl, refl, refl), refl, refl, refl, refl, refl)),
+      λ xs behind others made.
+          subst (λ (p : Parts). SoFar tokens others p)
+          (sym (grown part.Declaration (λ l. record nothing { declarations = l }) put_last xs []))
+          (record { words = (all_words part.Declaration declaration_words (λ x s t is. is) made).along; alone = refl }),
+    ) in
+    record {
+      operands = h.0;
+      words = subst (λ (p : Program). AreWords tokens (program_words p)) (sym program.made) (h.1.words [] no_words);
+      alone = subst (λ (p : Program). run (map event_of steps) None tokens nothing ≡ only p) (sym program.made) h.1.alone;
+    }

@@ -1,23 +1,21 @@
 -- Routes: what their rows make, and of which words.
-use Rattle.std.proofs.Common.{◌≡◌, true, false, List, ◌∷◌, Some, refl, sym, subst}
+use Rattle.std.proofs.Common.{true, false, ◌∷◌, Some, refl, sym, subst}
 use Rattle.pale_syntax.specs.declared.grammar.part.ProgramPart.TheVariants as part
-use Rattle.pale_text.specs.declared.place.Pos.{Pos}
 use Rattle.pale_text.specs.declared.token.Mark.TheVariants as mark
-use Rattle.pale_text.specs.declared.token.Token.{Token}
 use Rattle.pale_text.specs.Tokens.{place_of}
 use Rattle.pale_syntax.specs.declared.tree.names.Name.{Name}
-use Rattle.pale_syntax.specs.declared.tree.route.Route.{Route, out-Route, roll-Route}
+use Rattle.pale_syntax.specs.declared.tree.route.Route.{out-Route, roll-Route}
 use Rattle.pale_syntax.specs.declared.tree.route.Route.TheVariants as route
 use Rattle.pale_syntax.specs.declared.tree.route.Route.TheOpen.{Route-F}
 use denote.Hole.Carrier.{roll, out}
-use Rattle.pale_syntax.specs.MakingParts.{Parts, name_of}
+use Rattle.pale_syntax.specs.MakingParts.{name_of}
 use Rattle.pale_syntax.specs.MakingRoutes.{joined_then, joined_or, starred}
 use Rattle.pale_syntax.specs.ProgramGrammar.{rows_of}
-use Rattle.pale_place_laws.specs.Words.{AreWords, ◌>>◌, sign, sign_at}
+use Rattle.pale_place_laws.specs.Words.{sign_at}
 use Rattle.pale_place_laws.specs.RouteWords.{route_words}
 use Rattle.pale_place_laws.proofs.TokenLemmas.{marked, plain, skipped}
 use Rattle.pale_place_laws.proofs.Framework.{IsSoundRow, AreSoundRows, no_row, or_row, nth}
-use Rattle.pale_place_laws.proofs.ListLemmas.{all_words, joined_all, folded, folded_words}
+use Rattle.pale_place_laws.proofs.ListLemmas.{signed, chain_words, joined_all, folded}
 use Rattle.pale_place_laws.proofs.RouteForms.{route_made, joined_then_words, joined_or_words, starred_words}
 
 -- ---- chains
@@ -32,12 +30,9 @@ route_row = record {
       λ rs behind end others.
           subst (λ q. goal behind end q)
           (sym (folded part.NextAlternative joined_or (λ r. record parts { routes = r ∷ parts.routes }) (λ r x. refl) rs r))
-          (done (joined_all joined_or r rs) behind end (record {
-            along = λ after e.
-                subst (λ words. AreWords tokens words)
-                (sym (folded_words joined_or route_words (λ x after. sign mark.Plus >> route_words x >> after) joined_or_words rs r after))
-                (first.along _ ((all_words part.NextAlternative (λ x after. sign mark.Plus >> route_words x >> after) (λ x s t is. is) others).along after e));
-          })),
+          (done (joined_all joined_or r rs) behind end
+          (chain_words part.NextAlternative joined_or route_words (signed mark.Plus route_words) joined_or_words
+          (λ x s t is. is) r rs tokens middle end first others)),
     ),
   );
 }
@@ -69,12 +64,9 @@ sequence_row = record {
       λ rs behind end others.
           subst (λ q. goal behind end q)
           (sym (folded part.NextRepeated joined_then (λ r. record parts { routes = r ∷ parts.routes }) (λ r x. refl) rs r))
-          (done (joined_all joined_then r rs) behind end (record {
-            along = λ after e.
-                subst (λ words. AreWords tokens words)
-                (sym (folded_words joined_then route_words (λ x after. sign mark.Dot >> route_words x >> after) joined_then_words rs r after))
-                (first.along _ ((all_words part.NextRepeated (λ x after. sign mark.Dot >> route_words x >> after) (λ x s t is. is) others).along after e));
-          })),
+          (done (joined_all joined_then r rs) behind end
+          (chain_words part.NextRepeated joined_then route_words (signed mark.Dot route_words) joined_then_words
+          (λ x s t is. is) r rs tokens middle end first others)),
     ),
   );
 }
@@ -106,12 +98,9 @@ repeated_row = record {
       λ places behind end others.
           subst (λ q. goal behind end q)
           (sym (folded part.Star starred (λ r. record parts { routes = r ∷ parts.routes }) (λ r x. refl) places r))
-          (done (joined_all starred r places) behind end (record {
-            along = λ after e.
-                subst (λ words. AreWords tokens words)
-                (sym (folded_words starred route_words (sign_at mark.Star) starred_words places r after))
-                (first.along _ ((all_words part.Star (sign_at mark.Star) (λ x s t is. is) others).along after e));
-          })),
+          (done (joined_all starred r places) behind end
+          (chain_words part.Star starred route_words (sign_at mark.Star) starred_words
+          (λ x s t is. is) r places tokens middle end first others)),
     ),
   );
 }

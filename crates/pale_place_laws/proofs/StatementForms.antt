@@ -1,11 +1,11 @@
 -- The words of statements by their forms.
-use Rattle.std.proofs.Common.{◌≡◌, List, [], ◌∷◌, map, sym, subst}
+use Rattle.std.proofs.Common.{◌≡◌, List, map, sym, subst}
 use Rattle.pale_text.specs.declared.token.Token.{Token}
 use Rattle.pale_syntax.specs.declared.grammar.part.ProgramPart.TheVariants as part
 use Rattle.pale_syntax.specs.declared.tree.statement.Statement.{Statement, roll-Statement}
 use Rattle.pale_syntax.specs.declared.tree.statement.Statement.TheOpen.{Statement-F}
 use Rattle.pale_syntax.specs.declared.tree.statement.Statement.TheFolds.{fold-roll-Statement, map-Statement}
-use Rattle.pale_place_laws.specs.Words.{Word, Words, each}
+use Rattle.pale_place_laws.specs.Words.{Words, each}
 use Rattle.pale_place_laws.specs.StatementWords.{statement_node, statement_words}
 use Rattle.pale_place_laws.proofs.Meaning.{FromTo}
 use Rattle.pale_place_laws.proofs.Framework.{AreMade, no_more, one_more}

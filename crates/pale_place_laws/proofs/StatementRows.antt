@@ -1,7 +1,6 @@
 -- Blocks and statements: what their rows make, and of which words.
-use Rattle.std.proofs.Common.{◌≡◌, List, [], ◌∷◌, ◌++◌, Option, None, Some, map, refl, sym, ap, ◌∙◌, subst}
+use Rattle.std.proofs.Common.{◌≡◌, List, [], ◌∷◌, Option, None, Some, refl, sym, ap, ◌∙◌, subst}
 use Rattle.std.specs.Prelude.{codes}
-use Rattle.ll1_reader.specs.declared.symbol.Symbol.TheVariants.{Read, Once}
 use Rattle.pale_syntax.specs.declared.grammar.act.CallAct.TheVariants as calls
 use Rattle.pale_syntax.specs.declared.grammar.part.ProgramPart.TheVariants as part
 use Rattle.pale_text.specs.declared.place.Pos.{Pos}
@@ -9,20 +8,18 @@ use Rattle.pale_text.specs.declared.token.Mark.TheVariants as mark
 use Rattle.pale_text.specs.declared.token.Token.{Token}
 use Rattle.pale_text.specs.Tokens.{place_of}
 use Rattle.pale_syntax.specs.declared.tree.names.Name.{Name}
-use Rattle.pale_syntax.specs.declared.tree.assertion.Bracketed.{Bracketed}
-use Rattle.pale_syntax.specs.declared.tree.statement.Argument.{Argument}
 use Rattle.pale_syntax.specs.declared.tree.statement.Call.{Call}
-use Rattle.pale_syntax.specs.declared.tree.statement.Statement.{Statement, roll-Statement}
+use Rattle.pale_syntax.specs.declared.tree.statement.Statement.{roll-Statement}
 use Rattle.pale_syntax.specs.declared.tree.statement.Statement.TheVariants as statement
 use Rattle.pale_syntax.specs.declared.tree.statement.Statement.TheOpen.{Statement-F}
 use denote.Hole.Carrier.{roll}
 use Rattle.pale_syntax.specs.MakingParts.{Parts, name_of}
 use Rattle.pale_syntax.specs.ProgramGrammar.{ProgramSymbol, rows_of, reads, call}
-use Rattle.pale_place_laws.specs.Words.{◌>>◌, name_words, sign, word_at}
+use Rattle.pale_place_laws.specs.Words.{◌>>◌, word_at}
 use Rattle.pale_place_laws.specs.StatementWords.{given_words, value_place}
 use Rattle.pale_place_laws.specs.Operands.{HasOne}
 use Rattle.pale_place_laws.proofs.TokenLemmas.{noted, marked, plain, skipped}
-use Rattle.pale_place_laws.proofs.Meaning.{FromTo, Given, Results, Called, called_words, NoCall, put_given, put_results}
+use Rattle.pale_place_laws.proofs.Meaning.{FromTo, Given, Results, called_words, NoCall, put_given, put_results}
 use Rattle.pale_place_laws.proofs.Framework.{IsSoundRow, AreSoundRows, no_row, or_row, nth, Goal, Fits, Done}
 use Rattle.pale_place_laws.proofs.ListLemmas.{grown, settled}
 use Rattle.pale_place_laws.proofs.StatementForms.{statement_made, statements_words}
@@ -214,7 +211,8 @@ abbrev ending_row : List ProgramSymbol
 ending_row = reads mark.Semicolon ∷ call calls.MakeCall ∷ []
 
 -- behind what is given to a call
-call_fits : (last : Option Token) (start here : List Token) (parts : Parts) (goal : Goal) (place : Pos) (x : Name) (results : Option Results) (given : Given) →
+call_fits : (last : Option Token) (start here : List Token) (parts : Parts) (goal : Goal) (place : Pos) (x : Name)
+    (results : Option Results) (given : Given) →
     NoCall parts × HasOne parts.blocks →
     FromTo (λ after. word_at (codes "call") place >> called_words x results >> given_words given.given given.logics given.keep >> after) start here →
     Done part.Statement start (record parts { call_results = []; given = []; arguments = []; keep = None }) goal →

@@ -55,12 +55,79 @@ AreSpelled [] = Unit {0}
 AreSpelled (first ∷ words) = ((one : TokenKind) → token_of first.1 one ≡ token.Name first.0) × AreSpelled words
 
 spelled : AreSpelled reserved
-spelled =
-    (λ one. refl, (λ one. refl, (λ one. refl, (λ one. refl, (λ one. refl, (λ one. refl, 
-    (λ one. refl, (λ one. refl, (λ one. refl, (λ one. refl, (λ one. refl, (λ one. refl, 
-    (λ one. refl, (λ one. refl, (λ one. refl, (λ one. refl, (λ one. refl, (λ one. refl, 
-    (λ one. refl, (λ one. refl, (λ one. refl, (λ one. refl, (λ one. refl, (λ one. refl, 
-    (λ one. refl, (λ one. refl, (λ one. refl, (λ one. refl, (λ one. refl, tt)))))))))))))))))))))))))))))
+spelled = (
+  λ one. refl,
+  (
+    λ one. refl,
+    (
+      λ one. refl,
+      (
+        λ one. refl,
+        (
+          λ one. refl,
+          (
+            λ one. refl,
+            (
+              λ one. refl,
+              (
+                λ one. refl,
+                (
+                  λ one. refl,
+                  (
+                    λ one. refl,
+                    (
+                      λ one. refl,
+                      (
+                        λ one. refl,
+                        (
+                          λ one. refl,
+                          (
+                            λ one. refl,
+                            (
+                              λ one. refl,
+                              (
+                                λ one. refl,
+                                (
+                                  λ one. refl,
+                                  (
+                                    λ one. refl,
+                                    (
+                                      λ one. refl,
+                                      (
+                                        λ one. refl,
+                                        (
+                                          λ one. refl,
+                                          (
+                                            λ one. refl,
+                                            (
+                                              λ one. refl,
+                                              (
+                                                λ one. refl,
+                                                (λ one. refl, (λ one. refl, (λ one. refl, (λ one. refl, (λ one. refl, tt))))),
+                                              ),
+                                            ),
+                                          ),
+                                        ),
+                                      ),
+                                    ),
+                                  ),
+                                ),
+                              ),
+                            ),
+                          ),
+                        ),
+                      ),
+                    ),
+                  ),
+                ),
+              ),
+            ),
+          ),
+        ),
+      ),
+    ),
+  ),
+)
 
 is_among : (words : List (List ℕ × ProgramKind)) → AreSpelled words → (bytes : List ℕ) →
     token_of (kind_among words bytes) (token.Name bytes) ≡ token.Name bytes

@@ -1,22 +1,18 @@
 -- Types and predicates: what their rows make, and of which words.
-use Rattle.std.proofs.Common.{◌≡◌, List, [], ◌∷◌, ◌++◌, Option, None, Some, refl, sym, ap, ◌∙◌, subst}
-use Rattle.ll1_reader.specs.declared.symbol.Symbol.TheVariants.{Read, Once, Many}
+use Rattle.std.proofs.Common.{List, [], ◌∷◌, Option, Some, refl, sym, ap, ◌∙◌, subst}
+use Rattle.ll1_reader.specs.declared.symbol.Symbol.TheVariants.{Once, Many}
 use Rattle.pale_syntax.specs.declared.grammar.act.TypeAct.TheVariants as types
 use Rattle.pale_syntax.specs.declared.grammar.act.PredicateAct.TheVariants as predicates
 use Rattle.pale_syntax.specs.declared.grammar.part.ProgramPart.TheVariants as part
 use Rattle.pale_text.specs.declared.token.Mark.TheVariants as mark
 use Rattle.pale_text.specs.declared.token.Token.{Token}
 use Rattle.pale_syntax.specs.declared.tree.names.Name.{Name}
-use Rattle.pale_syntax.specs.declared.tree.declaration.FieldDeclaration.{FieldDeclaration}
 use Rattle.pale_syntax.specs.declared.tree.declaration.FieldForm.TheVariants as form
-use Rattle.pale_syntax.specs.declared.tree.declaration.PredicateDeclaration.{PredicateDeclaration}
 use Rattle.pale_syntax.specs.declared.tree.declaration.PredicateParameter.{PredicateParameter}
 use Rattle.pale_syntax.specs.declared.tree.declaration.PredicateParameter.TheVariants as parameter
-use Rattle.pale_syntax.specs.declared.tree.declaration.TypeDeclaration.{TypeDeclaration}
-use Rattle.pale_syntax.specs.declared.tree.declaration.VariantDeclaration.{VariantDeclaration}
 use Rattle.pale_syntax.specs.MakingParts.{Parts, name_of}
 use Rattle.pale_syntax.specs.ProgramGrammar.{ProgramSymbol, rows_of, reads, type as making, predicate as judging}
-use Rattle.pale_place_laws.specs.Words.{◌>>◌, word_of, sign, name_words, separated}
+use Rattle.pale_place_laws.specs.Words.{◌>>◌, word_of, name_words, separated}
 use Rattle.std.specs.Prelude.{codes}
 use Rattle.pale_place_laws.specs.DeclarationWords.{field_words, variant_words, predicate_parameter_words}
 use Rattle.pale_place_laws.proofs.TokenLemmas.{marked, plain, skipped}
@@ -105,11 +101,11 @@ variant_row = record {
               subst (λ q. Fits ending_variant d middle q goal)
               (sym (grown part.Field (λ l. record parts { names = x ∷ parts.names; fields = l }) (λ l f. refl) fs []))
               (λ close end took_close. (
-              tt,
-              done (record { name = x; fields = fs }) (Some close) end (record {
-                along = λ after e. plain took_bar (marked took_name (plain took_open (all.along _ (plain took_close e))));
-              }),
-            )),
+                tt,
+                done (record { name = x; fields = fs }) (Some close) end (record {
+                  along = λ after e. plain took_bar (marked took_name (plain took_open (all.along _ (plain took_close e))));
+                }),
+              )),
         ),
       )) done;
 }
@@ -139,25 +135,24 @@ type_row = record {
               let x : Name = name_of (Some name) in
               let all = all_words part.Field field_words (λ f s t is. is) fields in
               subst (λ q. Fits behind_fields f middle q goal)
-              (sym (grown part.Field (λ l. record parts { names = x ∷ parts.names; fields = l; variants = [] }) (λ l f. refl) fs []))
-              (
-              tt,
-              λ close g took_close. (
-                refl,
-                λ vs behind end variants.
-                    let others = behind_words part.Variant mark.Bar variant_words (λ v s t is. is) variants in
-                    subst (λ q. Fits ending_type behind end q goal)
-                    (sym (grown part.Variant (λ l. record parts { names = x ∷ parts.names; common = fs; fields = []; variants = l }) (λ l v. refl) vs []))
-                    (
-                    tt,
-                    done (record { name = x; fields = fs; variants = vs }) behind end (record {
-                      along = λ after e.
-                          plain took (marked took_name (plain took_equals (plain took_open (all.along _ (plain took_close
-                          (others.along after e))))));
-                    }),
-                  ),
+              (sym (grown part.Field (λ l. record parts { names = x ∷ parts.names; fields = l; variants = [] }) (λ l f. refl) fs [])) (
+                tt,
+                λ close g took_close. (
+                  refl,
+                  λ vs behind end variants.
+                      let others = behind_words part.Variant mark.Bar variant_words (λ v s t is. is) variants in
+                      subst (λ q. Fits ending_type behind end q goal)
+                      (sym (grown part.Variant (λ l. record parts { names = x ∷ parts.names; common = fs; fields = []; variants = l })
+                      (λ l v. refl) vs [])) (
+                        tt,
+                        done (record { name = x; fields = fs; variants = vs }) behind end (record {
+                          along = λ after e.
+                              plain took (marked took_name (plain took_equals (plain took_open (all.along _ (plain took_close
+                              (others.along after e))))));
+                        }),
+                      ),
+                ),
               ),
-            ),
         ),
       )) done;
 }

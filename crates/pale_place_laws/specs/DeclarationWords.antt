@@ -91,9 +91,9 @@ local_words p after = parameter_words p >> sign mark.Semicolon >> after
 -- `proc p .. returns .. logic .. pre [ a ] post [ b ] { .. }`
 abbrev pub procedure_words : Procedure → Words
 procedure_words p after =
-    word_at (codes "proc") p.place >> name_words p.name >> separated mark.Comma parameter_words p.parameters >> results_words p.results >> logics_words p.logics >>
-    clause_words (codes "pre") p.pre >> clause_words (codes "post") p.post >> sign mark.LeftBrace >> each local_words p.locals >>
-    each statement_words p.body >> sign_at mark.RightBrace p.end >> after
+    word_at (codes "proc") p.place >> name_words p.name >> separated mark.Comma parameter_words p.parameters >> results_words p.results >>
+    logics_words p.logics >> clause_words (codes "pre") p.pre >> clause_words (codes "post") p.post >> sign mark.LeftBrace >>
+    each local_words p.locals >> each statement_words p.body >> sign_at mark.RightBrace p.end >> after
 
 -- ---- programs
 

@@ -3,7 +3,7 @@
 --     proc p() {
 --       x = (y == null);
 --     }
-use Rattle.std.specs.Prelude.{ℕ, List, [], ◌∷◌, Option, None, Some, codes}
+use Rattle.std.specs.Prelude.{ℕ, List, [], ◌∷◌, None, Some, codes}
 use Rattle.pale_text.specs.declared.place.Pos.{Pos}
 use Rattle.pale_text.specs.declared.token.Mark.TheVariants as mark
 use Rattle.pale_text.specs.declared.token.TokenKind.TheVariants as kind
@@ -16,7 +16,6 @@ use Rattle.pale_syntax.specs.declared.tree.names.Path.{Path}
 use Rattle.pale_syntax.specs.declared.tree.names.Term.TheVariants as term
 use Rattle.pale_syntax.specs.declared.tree.statement.Statement.{Statement}
 use Rattle.pale_syntax.specs.declared.tree.statement.Statement.TheVariants as statement
-use Rattle.pale_syntax.specs.declared.tree.statement.Value.{Value}
 use Rattle.pale_syntax.specs.declared.tree.statement.Value.TheVariants as value
 use Rattle.pale_place_laws.specs.Words.{Word}
 

@@ -32,12 +32,13 @@ use Rattle.pale_syntax.specs.declared.tree.assertion.Assertion.{Assertion, out-A
 use Rattle.pale_syntax.specs.declared.tree.assertion.Assertion.TheOpen.{Assertion-F}
 use Rattle.pale_syntax.specs.declared.tree.condition.Condition.{Condition, out-Condition}
 use Rattle.pale_syntax.specs.declared.tree.condition.Condition.TheOpen.{Condition-F}
+use Rattle.pale_syntax.specs.declared.tree.declaration.Program.{Program}
 use Rattle.pale_syntax.specs.declared.tree.route.Route.{Route, out-Route}
 use Rattle.pale_syntax.specs.declared.tree.route.Route.TheOpen.{Route-F}
 use Rattle.pale_syntax.specs.declared.tree.statement.Value.{Value}
 use Rattle.pale_syntax.specs.declared.tree.statement.Value.TheVariants as value
 use Rattle.pale_syntax.specs.Making.{after}
-use Rattle.pale_syntax.specs.MakingParts.{Parts}
+use Rattle.pale_syntax.specs.MakingParts.{Parts, nothing}
 
 -- the stack is not empty
 abbrev pub HasOne : {T : Type 0} → List T → Type 0
@@ -229,3 +230,7 @@ EachHasOperands [] last left parts = Unit {0}
 EachHasOperands (event.Token ∷ events) last left parts = EachHasOperands events (first_of left) (rest left) parts
 EachHasOperands (event.Act act ∷ events) last left parts =
     HasOperands act parts × EachHasOperands events last left (after act (record { last = last; next = first_of left }) parts)
+
+-- the parts of which nothing is left but the declarations of a program
+abbrev pub only : Program → Parts
+only tree = record nothing { declarations = tree.declarations }

@@ -13,7 +13,7 @@ use Rattle.pale_syntax.specs.declared.tree.statement.Statement.TheOpen.{Statemen
 use Rattle.pale_syntax.specs.declared.tree.statement.Statement.TheFolds.{fold-Statement}
 use Rattle.pale_syntax.specs.declared.tree.statement.Value.{Value}
 use Rattle.pale_syntax.specs.declared.tree.statement.Value.TheVariants as value
-use Rattle.pale_place_laws.specs.Words.{Words, ◌>>◌, sign, sign_at, word_of, word_at, each, separated, name_words, path_words}
+use Rattle.pale_place_laws.specs.Words.{Words, ◌>>◌, sign, word_of, word_at, each, separated, name_words, path_words}
 use Rattle.pale_place_laws.specs.ConditionWords.{condition_words}
 use Rattle.pale_place_laws.specs.AssertionWords.{bracketed_words}
 

@@ -6,11 +6,12 @@ ghost use Rattle.ll1_reader.specs.Readings.{Step};
 ghost use Rattle.pale_syntax.specs.declared.grammar.act.Act.{Act};
 ghost use Rattle.pale_text.specs.declared.token.Token.{Token};
 ghost use Rattle.pale_syntax.specs.declared.tree.declaration.Program.{Program};
+ghost use Rattle.pale_syntax.specs.Making.{run};
 ghost use Rattle.pale_syntax.specs.MakingParts.{nothing};
 ghost use Rattle.pale_syntax.specs.ProgramReading.{IsProgram};
 ghost use Rattle.pale_place_laws.specs.DeclarationWords.{program_words};
 ghost use Rattle.pale_place_laws.specs.Example.{example, example_words};
-ghost use Rattle.pale_place_laws.specs.Operands.{EachHasOperands};
+ghost use Rattle.pale_place_laws.specs.Operands.{EachHasOperands, only};
 ghost use Rattle.pale_place_laws.specs.Words.{AreWords};
 
 /// The tokens of a program, but for parentheses, are the words of its tree, one by one and in order. So each place in the
@@ -30,4 +31,11 @@ pub fn words_of_an_example()
 pub fn acts_have_their_operands()
     ensures { (tokens : List Token) (steps : List (Step Act)) (tree : Program) → IsProgram tokens steps tree →
         EachHasOperands (map event_of steps) None tokens nothing }
+{}
+
+/// At the end of the reading of a program nothing lies on the stacks or in the lists of what is made but the program's
+/// declarations.
+pub fn nothing_is_left_over()
+    ensures { (tokens : List Token) (steps : List (Step Act)) (tree : Program) → IsProgram tokens steps tree →
+        run (map event_of steps) None tokens nothing ≡ only tree }
 {}
