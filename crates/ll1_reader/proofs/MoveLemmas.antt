@@ -47,7 +47,8 @@ module _ {N P A K : Type 0} (rules : Rules N P A K) (hints : Hints N P K) (sound
   next_is [] next js e b = absurd b
   next_is (k ∷ ks) next js e b = subst (λ (o : Option K). is_next rules hints js o ≡ true) e b
 
-  same_choice : (n : N) (p q : P) (ks : List K) (next : Option K) → first_of ks ≡ next → IsOneOf p (rules.choices n) → IsOneOf q (rules.choices n) →
+  same_choice : (n : N) (p q : P) (ks : List K) (next : Option K) → first_of ks ≡ next →
+      IsOneOf p (rules.choices n) → IsOneOf q (rules.choices n) →
       is_next rules hints (hints.starts p) next ≡ true → BeginsAmong rules hints sound (hints.starts q) ks → q ≡ p
   same_choice n p q [] next e i j h b = absurd b
   same_choice n p q (k ∷ ks) next e i j h b =
@@ -58,7 +59,10 @@ module _ {N P A K : Type 0} (rules : Rules N P A K) (hints : Hints N P K) (sound
       is_next rules hints (starts_of rules hints n) next ≡ false → BeginsAmong rules hints sound (hints.starts q) ks → ⊥
   no_choice n q [] next e j h b = b
   no_choice n q (k ∷ ks) next e j h b =
-      cc (among_all rules hints sound k (rules.choices n) q j b, subst (λ (o : Option K). is_next rules hints (starts_of rules hints n) o ≡ false) (sym e) h)
+      cc (
+        among_all rules hints sound k (rules.choices n) q j b,
+        subst (λ (o : Option K). is_next rules hints (starts_of rules hints n) o ≡ false) (sym e) h,
+      )
 
   -- the nonterminal is begun, so it isn't ended there
   not_ended : (n : N) (p : P) (ks : List K) (next : Option K) → first_of ks ≡ next → IsOneOf p (rules.choices n) →

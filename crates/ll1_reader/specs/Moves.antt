@@ -21,13 +21,16 @@ module _ {N P A K : Type 0} (rules : Rules N P A K) (hints : Hints N P K) where
 pub data IsMove {N P A K : Type 0} (rules : Rules N P A K) (hints : Hints N P K) (next : Option K) : Stack N A K → Stack N A K → List (Step A) → Type 0 where
   row_end : (d : ℕ) (below : Stack N A K) → IsMove rules hints next (Row [] d below) below []
   act : (a : A) (row : List (Symbol N A K)) (d : ℕ) (below : Stack N A K) → IsMove rules hints next (Row (Act a ∷ row) d below) (Row row d below) (Did a ∷ [])
-  enter : (n : N) (p : P) (row : List (Symbol N A K)) (d : ℕ) (below : Stack N A K) → IsOneOf p (rules.choices n) → is_next rules hints (hints.starts p) next ≡ true →
+  enter : (n : N) (p : P) (row : List (Symbol N A K)) (d : ℕ) (below : Stack N A K) → IsOneOf p (rules.choices n) →
+      is_next rules hints (hints.starts p) next ≡ true →
       IsMove rules hints next (Row (Once n ∷ row) d below) (Row (rules.row p) d (Row row d below)) []
-  take_it : (n : N) (p : P) (row : List (Symbol N A K)) (d : ℕ) (below : Stack N A K) → IsOneOf p (rules.choices n) → is_next rules hints (hints.starts p) next ≡ true →
+  take_it : (n : N) (p : P) (row : List (Symbol N A K)) (d : ℕ) (below : Stack N A K) → IsOneOf p (rules.choices n) →
+      is_next rules hints (hints.starts p) next ≡ true →
       IsMove rules hints next (Row (Maybe n ∷ row) d below) (Row (rules.row p) d (Row row d below)) []
   leave_it : (n : N) (row : List (Symbol N A K)) (d : ℕ) (below : Stack N A K) → is_next rules hints (starts_of rules hints n) next ≡ false →
       IsMove rules hints next (Row (Maybe n ∷ row) d below) (Row row d below) []
-  go_on : (n : N) (p : P) (row : List (Symbol N A K)) (d : ℕ) (below : Stack N A K) → IsOneOf p (rules.choices n) → is_next rules hints (hints.starts p) next ≡ true →
+  go_on : (n : N) (p : P) (row : List (Symbol N A K)) (d : ℕ) (below : Stack N A K) → IsOneOf p (rules.choices n) →
+      is_next rules hints (hints.starts p) next ≡ true →
       IsMove rules hints next (Row (Many n ∷ row) d below) (Row (rules.row p) d (Row (Many n ∷ row) d below)) []
   stop : (n : N) (row : List (Symbol N A K)) (d : ℕ) (below : Stack N A K) → is_next rules hints (starts_of rules hints n) next ≡ false →
       IsMove rules hints next (Row (Many n ∷ row) d below) (Row row d below) []
@@ -35,12 +38,14 @@ pub data IsMove {N P A K : Type 0} (rules : Rules N P A K) (hints : Hints N P K)
 -- such moves, one after the other
 pub data AreMoves {N P A K : Type 0} (rules : Rules N P A K) (hints : Hints N P K) (next : Option K) : Stack N A K → Stack N A K → List (Step A) → Type 0 where
   stay : (s : Stack N A K) → AreMoves rules hints next s s []
-  move : (s t u : Stack N A K) (done more : List (Step A)) → IsMove rules hints next s t done → AreMoves rules hints next t u more → AreMoves rules hints next s u (done ++ more)
+  move : (s t u : Stack N A K) (done more : List (Step A)) → IsMove rules hints next s t done →
+      AreMoves rules hints next t u more → AreMoves rules hints next s u (done ++ more)
 
 -- the next token is the one that stands on top; it is read, and opens no level above the limit
 pub data IsTake {N A K : Type 0} (limit : ℕ) (k : K) : Stack N A K → Stack N A K → Step A → Type 0 where
   take_read : (row : List (Symbol N A K)) (d : ℕ) (below : Stack N A K) → IsTake limit k (Row (Read k ∷ row) d below) (Row row d below) (Took d)
-  take_open : (row : List (Symbol N A K)) (d : ℕ) (below : Stack N A K) → d < limit → IsTake limit k (Row (Open k ∷ row) d below) (Row row (suc d) below) (Took (suc d))
+  take_open : (row : List (Symbol N A K)) (d : ℕ) (below : Stack N A K) → d < limit →
+      IsTake limit k (Row (Open k ∷ row) d below) (Row row (suc d) below) (Took (suc d))
 
 -- the next token is the one that stands on top, and opens a level above the limit
 abbrev pub IsTooDeep : {N A K : Type 0} → ℕ → K → Stack N A K → Type 0

@@ -1,23 +1,23 @@
--- When the next token alone tells how a reading goes on: a test that computes.
+-- When a grammar is LL(1), so that the next token alone tells how a reading goes on: a test that computes.
 use Rattle.std.specs.Prelude.{◌≡◌, ℕ, ◌+◌, ◌==◌, ◌&&◌, ◌||◌, if◌then◌else◌, not, Bool, true, false, nat_lt, List, [], ◌∷◌, map, Option, None, Some, slice_get}
 use Rattle.std.specs.List.{flat_map}
 use Rattle.ll1_reader.specs.declared.symbol.Symbol.{Symbol}
 use Rattle.ll1_reader.specs.declared.symbol.Symbol.TheVariants.{Read, Open, Once, Maybe, Many, Act}
 use Rattle.ll1_reader.specs.Grammars.{Rows, Rules}
 
--- what is known of a grammar's rows; `is_predictable` says when all of it is right
+-- An LL(1) table by choices: their FIRST sets, and what shows that these are right. `is_predictable` is the test.
 pub record Hints (N P K : Type 0) : Type 0 where
   -- each kind, and each nonterminal, has a number of its own
   pub number : K → ℕ
   pub label : N → ℕ
-  -- the kinds of the tokens with which a choice may begin
+  -- the FIRST set of a choice: the kinds of the tokens with which it may begin
   pub starts : P → List K
   -- the kinds of the tokens with which what a nonterminal stands for could go on where it may end, each with the
-  -- nonterminal that would begin there
+  -- nonterminal that would begin there: none of them may follow it, or FIRST and FOLLOW would be in conflict
   pub tails : N → List (K × N)
   -- the same for a whole text
   pub text_tail : List (K × N)
-  -- at least so many moves lie before the first token
+  -- at most so many moves lie before the first token, so no choice is left recursive
   pub cost : N → ℕ
   -- the place, among its choices, of one that comes to an end, and the kind of the token with which that begins
   pub sample : N → ℕ
@@ -40,7 +40,7 @@ module _ {N P A K : Type 0} (rules : Rules N P A K) (hints : Hints N P K) where
   none_among [] js = true
   none_among (k ∷ ks) js = not (among k js) && none_among ks js
 
-  -- the kinds of the tokens with which a nonterminal may begin
+  -- the FIRST set of a nonterminal: the kinds of the tokens with which it may begin
   abbrev pub starts_of : N → List K
   starts_of n = flat_map hints.starts (rules.choices n)
 
@@ -70,7 +70,7 @@ module _ {N P A K : Type 0} (rules : Rules N P A K) (hints : Hints N P K) where
   all_begin [] row = true
   all_begin (k ∷ ks) row = may_begin k row && all_begin ks row
 
-  -- no two of these choices may begin with the same token
+  -- no two of these choices may begin with the same token: their FIRST sets are disjoint
   abbrev pub are_apart : List P → Bool
   are_apart [] = true
   are_apart (p ∷ ps) = none_among (hints.starts p) (flat_map hints.starts ps) && are_apart ps
@@ -85,7 +85,7 @@ module _ {N P A K : Type 0} (rules : Rules N P A K) (hints : Hints N P K) where
   moves (Maybe n ∷ row) = moves row + (hints.cost n + 1)
   moves (Many n ∷ row) = moves row + (hints.cost n + 1)
 
-  -- ---- what follows where something may end
+  -- ---- what follows where something may end: no conflict of FIRST and FOLLOW
 
   abbrev pub is_pair : K → N → List (K × N) → Bool
   is_pair k n [] = false
@@ -163,7 +163,8 @@ module _ {N P A K : Type 0} (rules : Rules N P A K) (hints : Hints N P K) where
   are_fine_rows n [] = true
   are_fine_rows n (p ∷ ps) = is_fine_row n p && are_fine_rows n ps
 
-  -- the next token tells which choice of the nonterminal is meant, and none of its rows goes round without a token
+  -- The LL(1) test: the next token tells which choice of the nonterminal is meant, and none of its rows goes round without
+  -- a token.
   abbrev pub is_predictable : N → Bool
   is_predictable n =
       are_fine_rows n (rules.choices n) && are_apart (rules.choices n)

@@ -6,14 +6,14 @@ ghost use Rattle.ll1_reader.specs.Predicting.{Hints, IsSound, AreNamed};
 
 use crate::symbol::Symbol;
 
-/// A grammar whose next row the next token tells. `grammar` is the grammar itself; the rest gives its rows names and is
-/// worked out from it, and the laws say that it is right.
+/// An LL(1) grammar: the next token tells the next row. `grammar` is the grammar itself; the rest gives its rows names, and
+/// is its table, worked out from it, and the laws say that it is right.
 pub trait Grammar {
     /// What stands for texts.
     type Nonterminal: Copy + 'static;
     /// One of the things that a nonterminal may stand for.
     type Choice: Copy + 'static;
-    /// What is to be made of what was read.
+    /// Semantic actions: what is to be made of what was read.
     type Act: Copy + 'static;
     /// The kinds of tokens that the grammar tells apart.
     type Kind: Copy + 'static;
@@ -24,7 +24,7 @@ pub trait Grammar {
     /// Its rows, by the names of choices.
     ghost rules: { Rules Self.Nonterminal Self.Choice Self.Act Self.Kind };
 
-    /// What is known of the rows.
+    /// The table of the rows.
     ghost hints: { Hints Self.Nonterminal Self.Choice Self.Kind };
 
     /// The choices of a nonterminal.
@@ -39,7 +39,7 @@ pub trait Grammar {
     fn text() -> &'static [Symbol<Self::Nonterminal, Self::Act, Self::Kind>]
         ensures { result.now ≡ rules.text };
 
-    /// The kinds of the tokens with which a choice may begin.
+    /// The FIRST set of a choice: the kinds of the tokens with which it may begin.
     fn starts(choice: Self::Choice) -> &'static [Self::Kind]
         ensures { result.now ≡ hints.starts choice };
 
@@ -50,6 +50,6 @@ pub trait Grammar {
     /// The named rows are the grammar's.
     ghost named: { AreNamed grammar rules };
 
-    /// The next token tells how a reading goes on.
+    /// The grammar is LL(1).
     ghost sound: { IsSound rules hints };
 }

@@ -1,4 +1,4 @@
-//! A predictive reader for any grammar whose next row the next token tells.
+//! A predictive reader, driven by a table, for any LL(1) grammar: the next token tells the next row.
 #![tactic(auto)]
 
 mod grammar;

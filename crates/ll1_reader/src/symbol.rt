@@ -13,7 +13,7 @@ pub enum Symbol<N, A, K> {
     Maybe(N),
     /// What the nonterminal stands for, any number of times.
     Many(N),
-    /// No token: what is to be made of what was read so far.
+    /// No token but a semantic action: what is to be made of what was read so far.
     Act(A),
 }
 

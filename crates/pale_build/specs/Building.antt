@@ -1,7 +1,5 @@
 -- What a builder holds.
 use Rattle.pale_syntax.specs.MakingParts as making
-use Rattle.std.specs.Option.{option_copied}
-use Rattle.pale_build.specs.declared.near.Near.{Near}
 use Rattle.pale_build.specs.declared.parts.Parts.{Parts}
 
 abbrev pub parts_of : Parts → making.Parts
@@ -36,7 +34,3 @@ parts_of parts =
       variants = parts.variants;
       declarations = parts.declarations;
     }
-
--- the tokens about the place that is read
-abbrev pub near_of : Near → making.Near
-near_of near = record { last = option_copied near.last; next = option_copied near.next }

@@ -2,14 +2,15 @@
 
 ghost use Rattle.std.specs.Prelude.{◌≡◌, OnOk};
 ghost use Rattle.pale_syntax.specs.MakingAssertions.{after_connective, begun};
-ghost use Rattle.pale_build.specs.Building.{parts_of, near_of};
+ghost use Rattle.pale_build.specs.Building.{parts_of};
+ghost use Rattle.pale_text.specs.Near.{near_of};
 
 use crate::chains::{both, either, equivalent};
-use crate::near::{Near, nameless, place_of};
+use crate::names::nameless;
 use crate::parts::Parts;
 use crate::takes::{take_assertion, take_name, take_place, take_quantifier};
 use pale_syntax::{Assertion, Bracketed, ConnectiveAct, Quantifier, QuantifierKind};
-use pale_text::Pos;
+use pale_text::{Near, Pos, place_of};
 use plain_data::{Boxed, Items};
 use std::alloc::{AllocError, Global};
 

@@ -2,14 +2,15 @@
 
 ghost use Rattle.std.specs.Prelude.{◌≡◌, OnOk};
 ghost use Rattle.pale_syntax.specs.MakingAssertions.{after_atom, path_alone};
-ghost use Rattle.pale_build.specs.Building.{parts_of, near_of};
+ghost use Rattle.pale_build.specs.Building.{parts_of};
+ghost use Rattle.pale_text.specs.Near.{near_of};
 
-use crate::near::Near;
 use crate::parts::Parts;
 use crate::takes::{
     pathless, take_assertion, take_name, take_path, take_place, take_route, take_term,
 };
 use pale_syntax::{Assertion, AtomAct, Path, Term};
+use pale_text::Near;
 use plain_data::Items;
 use std::alloc::{AllocError, Global};
 use std::mem;

@@ -2,13 +2,14 @@
 
 ghost use Rattle.std.specs.Prelude.{◌≡◌, OnOk};
 ghost use Rattle.pale_syntax.specs.MakingStatements.{after_call, call_of, without_call};
-ghost use Rattle.pale_build.specs.Building.{parts_of, near_of};
+ghost use Rattle.pale_build.specs.Building.{parts_of};
+ghost use Rattle.pale_text.specs.Near.{near_of};
 
-use crate::near::{Near, place_of};
 use crate::parts::Parts;
 use crate::statements::add_statement;
 use crate::takes::{take_bracketed, take_name, take_place};
 use pale_syntax::{Argument, Call, CallAct, Statement};
+use pale_text::{Near, place_of};
 use plain_data::Items;
 use std::alloc::AllocError;
 use std::mem;

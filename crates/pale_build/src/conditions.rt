@@ -2,13 +2,14 @@
 
 ghost use Rattle.std.specs.Prelude.{◌≡◌, OnOk};
 ghost use Rattle.pale_syntax.specs.MakingConditions.{after_condition, term_alone};
-ghost use Rattle.pale_build.specs.Building.{parts_of, near_of};
+ghost use Rattle.pale_build.specs.Building.{parts_of};
+ghost use Rattle.pale_text.specs.Near.{near_of};
 
 use crate::chains::{both_conditions, either_condition};
-use crate::near::{Near, nowhere, place_of};
 use crate::parts::Parts;
 use crate::takes::{take_condition, take_name, take_place, take_term};
 use pale_syntax::{Condition, ConditionAct, Term};
+use pale_text::{Near, nowhere, place_of};
 use plain_data::Boxed;
 use std::alloc::AllocError;
 

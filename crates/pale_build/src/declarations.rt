@@ -2,15 +2,16 @@
 
 ghost use Rattle.std.specs.Prelude.{◌≡◌, OnOk};
 ghost use Rattle.pale_syntax.specs.MakingDeclarations.{after_type, after_predicate};
-ghost use Rattle.pale_build.specs.Building.{parts_of, near_of};
+ghost use Rattle.pale_build.specs.Building.{parts_of};
+ghost use Rattle.pale_text.specs.Near.{near_of};
 
-use crate::near::Near;
 use crate::parts::Parts;
 use crate::takes::{take_bracketed, take_name, take_route};
 use pale_syntax::{
     Declaration, FieldDeclaration, FieldForm, PredicateAct, PredicateDeclaration,
     PredicateParameter, TypeAct, TypeDeclaration, VariantDeclaration,
 };
+use pale_text::Near;
 use plain_data::Items;
 use std::alloc::AllocError;
 use std::mem;

@@ -1,18 +1,17 @@
 //! The tree that the acts of a reading make.
 //!
 //! The reader of `ll1_reader` tells in which order a text's tokens are taken and which acts of the grammar of programs stand
-//! between them; `build` performs these acts one after the other. What each of them makes stands in `specs/Making.antt` of
-//! `pale_syntax`. `parse` of `pale_parse` calls it, and knows nothing of how a tree is made.
+//! between them; `Parts` holds what is made so far, and does one act after the other. What each of them makes stands in
+//! `specs/Making.antt` of `pale_syntax`. `pale_parse` calls it, and knows nothing of how a tree is made.
 #![tactic(auto)]
 
 mod assertions;
 mod atoms;
-mod builder;
 mod calls;
 mod chains;
 mod conditions;
 mod declarations;
-mod near;
+mod names;
 mod parts;
 mod perform;
 mod procedures;
@@ -21,4 +20,4 @@ mod statements;
 mod takes;
 mod words;
 
-pub use builder::build;
+pub use parts::{Parts, nothing};

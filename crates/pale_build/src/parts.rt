@@ -1,13 +1,14 @@
 //! What is made so far.
 
 ghost use Rattle.std.specs.Prelude.{◌≡◌};
+ghost use Rattle.pale_syntax.specs.Making.{program_in};
 ghost use Rattle.pale_syntax.specs.MakingParts.{nothing};
 ghost use Rattle.pale_build.specs.Building.{parts_of};
 
 use pale_syntax::{
     Argument, Assertion, Block, Bracketed, Condition, Declaration, FieldDeclaration,
-    LogicParameter, Name, Parameter, Path, PredicateParameter, Quantifier, Route, Statement, Term,
-    Value, VariantDeclaration,
+    LogicParameter, Name, Parameter, Path, PredicateParameter, Program, Quantifier, Route,
+    Statement, Term, Value, VariantDeclaration,
 };
 use pale_text::Pos;
 use plain_data::{Items, Stack};
@@ -82,5 +83,16 @@ pub fn nothing(alloc: Global) -> Parts
         common: Items::new(alloc),
         variants: Items::new(alloc),
         declarations: Items::new(alloc),
+    }
+}
+
+impl Parts {
+    /// The program of all declarations that are whole. Takes no memory.
+    pub fn into_program(self) -> Program
+        ensures { result ≡ program_in (parts_of self) }
+    {
+        Program {
+            declarations: self.declarations,
+        }
     }
 }

@@ -2,11 +2,12 @@
 
 ghost use Rattle.std.specs.Prelude.{◌≡◌, OnOk};
 ghost use Rattle.pale_syntax.specs.Making.{after};
-ghost use Rattle.pale_build.specs.Building.{parts_of, near_of};
+ghost use Rattle.pale_build.specs.Building.{parts_of};
+ghost use Rattle.pale_text.specs.Near.{near_of};
 
-use crate::near::Near;
 use crate::parts::Parts;
 use pale_syntax::Act;
+use pale_text::Near;
 use std::alloc::AllocError;
 
 impl Parts {

@@ -2,12 +2,13 @@
 
 ghost use Rattle.std.specs.Prelude.{◌≡◌, OnOk};
 ghost use Rattle.pale_syntax.specs.MakingDeclarations.{after_procedure, procedure_of, without_procedure};
-ghost use Rattle.pale_build.specs.Building.{parts_of, near_of};
+ghost use Rattle.pale_build.specs.Building.{parts_of};
+ghost use Rattle.pale_text.specs.Near.{near_of};
 
-use crate::near::Near;
 use crate::parts::Parts;
 use crate::takes::{take_block, take_bracketed, take_name, take_place};
 use pale_syntax::{Declaration, LogicParameter, Parameter, Procedure, ProcedureAct};
+use pale_text::Near;
 use plain_data::Items;
 use std::alloc::AllocError;
 use std::mem;

@@ -2,13 +2,15 @@
 
 ghost use Rattle.std.specs.Prelude.{◌≡◌, OnOk};
 ghost use Rattle.pale_syntax.specs.MakingRoutes.{after_route, tested_type};
-ghost use Rattle.pale_build.specs.Building.{parts_of, near_of};
+ghost use Rattle.pale_build.specs.Building.{parts_of};
+ghost use Rattle.pale_text.specs.Near.{near_of};
 
 use crate::chains::{joined_or, joined_then, starred};
-use crate::near::{Near, nameless, place_of};
+use crate::names::nameless;
 use crate::parts::Parts;
 use crate::takes::{take_name, take_route};
 use pale_syntax::{Name, Route, RouteAct};
+use pale_text::{Near, place_of};
 use std::alloc::{AllocError, Global};
 
 /// The type for which the route is a test.

@@ -2,15 +2,16 @@
 
 ghost use Rattle.std.specs.Prelude.{◌≡◌, OnOk};
 ghost use Rattle.pale_syntax.specs.MakingStatements.{after_statement, with_statement, narrowed};
-ghost use Rattle.pale_build.specs.Building.{parts_of, near_of};
+ghost use Rattle.pale_build.specs.Building.{parts_of};
+ghost use Rattle.pale_text.specs.Near.{near_of};
 
-use crate::near::Near;
 use crate::parts::Parts;
 use crate::takes::{
     take_block, take_bracketed, take_condition, take_else, take_name, take_path, take_place,
     take_value,
 };
 use pale_syntax::{Block, Name, Statement, StatementAct, Value};
+use pale_text::Near;
 use plain_data::{Items, Stack};
 use std::alloc::{AllocError, Global};
 

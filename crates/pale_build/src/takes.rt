@@ -10,12 +10,12 @@ ghost use Rattle.pale_syntax.specs.MakingConditions.{conditionless};
 ghost use Rattle.pale_syntax.specs.MakingAssertions.{assertionless, quantifierless};
 ghost use Rattle.pale_syntax.specs.MakingStatements.{bracketless, valueless};
 
-use crate::near::{nameless, nowhere};
+use crate::names::nameless;
 use pale_syntax::{
     Assertion, Block, Bracketed, Condition, Name, Path, Quantifier, QuantifierKind, Route, Term,
     Value,
 };
-use pale_text::Pos;
+use pale_text::{Pos, nowhere};
 use plain_data::{Items, Stack};
 use std::alloc::Global;
 

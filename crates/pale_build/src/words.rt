@@ -2,12 +2,14 @@
 
 ghost use Rattle.std.specs.Prelude.{◌≡◌, OnOk};
 ghost use Rattle.pale_syntax.specs.MakingWords.{after_word};
-ghost use Rattle.pale_build.specs.Building.{parts_of, near_of};
+ghost use Rattle.pale_build.specs.Building.{parts_of};
+ghost use Rattle.pale_text.specs.Near.{near_of};
 
-use crate::near::{Near, name_of, place_of};
+use crate::names::name_of;
 use crate::parts::Parts;
 use crate::takes::{take_name, take_path};
 use pale_syntax::{Path, Term, WordAct};
+use pale_text::{Near, place_of};
 use plain_data::Items;
 use std::alloc::AllocError;
 

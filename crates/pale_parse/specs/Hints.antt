@@ -1,9 +1,9 @@
--- What is known of the rows of the grammar of programs. ll1_reader's `is_predictable` says what is meant by each of
--- these, and is tried on each part.
+-- The LL(1) table of the grammar of programs. ll1_reader's `is_predictable` says what is meant by each of these, and is
+-- tried on each part.
 use Rattle.std.specs.Prelude.{ℕ, List, [], ◌∷◌, ◌++◌}
 use Rattle.ll1_reader.specs.Predicting.{Hints}
-use Rattle.pale_text.specs.declared.token.Mark.{Mark}
 use Rattle.pale_text.specs.declared.token.Mark.TheVariants as mark
+unfoldable pub use Rattle.pale_text.specs.Marks.{mark_number}
 use Rattle.pale_syntax.specs.declared.grammar.kind.ProgramKind.{ProgramKind}
 use Rattle.pale_syntax.specs.declared.grammar.kind.ProgramKind.TheVariants as kind
 use Rattle.pale_syntax.specs.declared.grammar.part.ProgramPart.{ProgramPart}
@@ -11,71 +11,39 @@ use Rattle.pale_syntax.specs.declared.grammar.part.ProgramPart.TheVariants as pa
 use Rattle.pale_parse.specs.declared.tables.choice.ProgramChoice.{ProgramChoice}
 use Rattle.pale_parse.specs.declared.tables.choice.ProgramChoice.TheVariants as row
 
--- a number for each kind
-unfoldable pub mark_number : Mark → ℕ
-mark_number mark.Equivalent = 31
-mark_number mark.SameAs = 32
-mark_number mark.Implies = 33
-mark_number mark.NotSame = 34
-mark_number mark.NotEqual = 35
-mark_number mark.AndAlso = 36
-mark_number mark.OrElse = 37
-mark_number mark.Equals = 38
-mark_number mark.Bang = 39
-mark_number mark.Tilde = 40
-mark_number mark.Ampersand = 41
-mark_number mark.Bar = 42
-mark_number mark.Less = 43
-mark_number mark.Greater = 44
-mark_number mark.LeftParen = 45
-mark_number mark.RightParen = 46
-mark_number mark.LeftBracket = 47
-mark_number mark.RightBracket = 48
-mark_number mark.LeftBrace = 49
-mark_number mark.RightBrace = 50
-mark_number mark.Colon = 51
-mark_number mark.Semicolon = 52
-mark_number mark.Comma = 53
-mark_number mark.Dot = 54
-mark_number mark.Star = 55
-mark_number mark.Plus = 56
-mark_number mark.Caret = 57
-mark_number mark.Dollar = 58
-mark_number mark.At = 59
-mark_number mark.Question = 60
-
+-- a number for each kind: those of the marks come first
 unfoldable pub number_of : ProgramKind → ℕ
-number_of kind.Name = 0
-number_of kind.Number = 1
-number_of kind.Type = 2
-number_of kind.Bool = 3
-number_of kind.Data = 4
-number_of kind.Pointer = 5
-number_of kind.Pred = 6
-number_of kind.Set = 7
-number_of kind.Proc = 8
-number_of kind.Returns = 9
-number_of kind.Logic = 10
-number_of kind.Pre = 11
-number_of kind.Post = 12
-number_of kind.Skip = 13
-number_of kind.If = 14
-number_of kind.Else = 15
-number_of kind.While = 16
-number_of kind.Split = 17
-number_of kind.Assert = 18
-number_of kind.Free = 19
-number_of kind.New = 20
-number_of kind.Null = 21
-number_of kind.True = 22
-number_of kind.False = 23
-number_of kind.Call = 24
-number_of kind.Keep = 25
-number_of kind.Ex = 26
-number_of kind.All = 27
-number_of kind.In = 28
-number_of kind.Sub = 29
-number_of kind.Root = 30
+number_of kind.Name = 30
+number_of kind.Number = 31
+number_of kind.Type = 32
+number_of kind.Bool = 33
+number_of kind.Data = 34
+number_of kind.Pointer = 35
+number_of kind.Pred = 36
+number_of kind.Set = 37
+number_of kind.Proc = 38
+number_of kind.Returns = 39
+number_of kind.Logic = 40
+number_of kind.Pre = 41
+number_of kind.Post = 42
+number_of kind.Skip = 43
+number_of kind.If = 44
+number_of kind.Else = 45
+number_of kind.While = 46
+number_of kind.Split = 47
+number_of kind.Assert = 48
+number_of kind.Free = 49
+number_of kind.New = 50
+number_of kind.Null = 51
+number_of kind.True = 52
+number_of kind.False = 53
+number_of kind.Call = 54
+number_of kind.Keep = 55
+number_of kind.Ex = 56
+number_of kind.All = 57
+number_of kind.In = 58
+number_of kind.Sub = 59
+number_of kind.Root = 60
 number_of (kind.Mark sign) = mark_number sign
 
 -- a number for each part
@@ -151,7 +119,7 @@ label_of part.PathAloneStep = 67
 label_of part.NameRelation = 68
 label_of part.Relation = 69
 
--- the kinds with which each row may begin
+-- the FIRST set of each row
 unfoldable pub starts_of : ProgramChoice → List ProgramKind
 starts_of row.ATypeDeclaration = kind.Type ∷ []
 starts_of row.APredicateDeclaration = kind.Pred ∷ []

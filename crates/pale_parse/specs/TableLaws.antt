@@ -1,31 +1,27 @@
 -- The tables are the grammar's, and the next token tells how a reading goes on. Each part is tried by computing.
-use Rattle.std.specs.Prelude.{◌≡◌, List, [], ◌∷◌, map, true, Option, Some, None, refl, slice_get}
+use Rattle.std.specs.Prelude.{◌≡◌, List, [], ◌∷◌, ◌++◌, map, true, Option, Some, None, refl, slice_get}
 use Rattle.std.proofs.Common.{ap, sym, ◌∙◌}
 use Rattle.ll1_reader.specs.Grammars.{Rows}
 use Rattle.ll1_reader.specs.Predicting.{is_predictable, all_end_well, IsSound, AreNamed}
-use Rattle.pale_text.specs.declared.token.Mark.{Mark}
-use Rattle.pale_text.specs.declared.token.Mark.TheVariants as mark
+use Rattle.pale_text.specs.Marks.{all_marks, mark_number}
+use Rattle.pale_text.proofs.MarkNumbers.{mark_back}
 use Rattle.pale_syntax.specs.declared.grammar.kind.ProgramKind.{ProgramKind}
 use Rattle.pale_syntax.specs.declared.grammar.kind.ProgramKind.TheVariants as kind
 use Rattle.pale_syntax.specs.declared.grammar.part.ProgramPart.{ProgramPart}
 use Rattle.pale_syntax.specs.declared.grammar.part.ProgramPart.TheVariants as part
 use Rattle.pale_syntax.specs.ProgramGrammar.{rows_of, program_grammar}
 use Rattle.pale_parse.specs.Tables.{choices_of, row_of, program_rules}
-use Rattle.pale_parse.specs.Hints.{number_of, mark_number, label_of, starts_of, tails_of, cost_of, sample_of, begin_of, size_of, program_hints}
+use Rattle.pale_parse.specs.Hints.{number_of, label_of, starts_of, tails_of, cost_of, sample_of, begin_of, size_of, program_hints}
 
 -- ---- numbers are one for each kind and part, since they are its place in these lists
 
+words : List ProgramKind
+words = kind.Name ∷ kind.Number ∷ kind.Type ∷ kind.Bool ∷ kind.Data ∷ kind.Pointer ∷ kind.Pred ∷ kind.Set ∷ kind.Proc ∷ kind.Returns ∷
+    kind.Logic ∷ kind.Pre ∷ kind.Post ∷ kind.Skip ∷ kind.If ∷ kind.Else ∷ kind.While ∷ kind.Split ∷ kind.Assert ∷ kind.Free ∷
+    kind.New ∷ kind.Null ∷ kind.True ∷ kind.False ∷ kind.Call ∷ kind.Keep ∷ kind.Ex ∷ kind.All ∷ kind.In ∷ kind.Sub ∷ kind.Root ∷ []
+
 all_kinds : List ProgramKind
-all_kinds = kind.Name ∷ kind.Number ∷ kind.Type ∷ kind.Bool ∷ kind.Data ∷ kind.Pointer ∷ kind.Pred ∷ kind.Set ∷ kind.Proc ∷
-    kind.Returns ∷ kind.Logic ∷ kind.Pre ∷ kind.Post ∷ kind.Skip ∷ kind.If ∷ kind.Else ∷ kind.While ∷ kind.Split ∷ kind.Assert ∷
-    kind.Free ∷ kind.New ∷ kind.Null ∷ kind.True ∷ kind.False ∷ kind.Call ∷ kind.Keep ∷ kind.Ex ∷ kind.All ∷ kind.In ∷ kind.Sub ∷
-    kind.Root ∷ kind.Mark mark.Equivalent ∷ kind.Mark mark.SameAs ∷ kind.Mark mark.Implies ∷ kind.Mark mark.NotSame ∷
-    kind.Mark mark.NotEqual ∷ kind.Mark mark.AndAlso ∷ kind.Mark mark.OrElse ∷ kind.Mark mark.Equals ∷ kind.Mark mark.Bang ∷
-    kind.Mark mark.Tilde ∷ kind.Mark mark.Ampersand ∷ kind.Mark mark.Bar ∷ kind.Mark mark.Less ∷ kind.Mark mark.Greater ∷
-    kind.Mark mark.LeftParen ∷ kind.Mark mark.RightParen ∷ kind.Mark mark.LeftBracket ∷ kind.Mark mark.RightBracket ∷
-    kind.Mark mark.LeftBrace ∷ kind.Mark mark.RightBrace ∷ kind.Mark mark.Colon ∷ kind.Mark mark.Semicolon ∷ kind.Mark mark.Comma ∷
-    kind.Mark mark.Dot ∷ kind.Mark mark.Star ∷ kind.Mark mark.Plus ∷ kind.Mark mark.Caret ∷ kind.Mark mark.Dollar ∷ kind.Mark mark.At ∷
-    kind.Mark mark.Question ∷ []
+all_kinds = map (λ sign. kind.Mark sign) all_marks ++ words
 
 all_parts : List ProgramPart
 all_parts = part.Declaration ∷ part.Type ∷ part.Variant ∷ part.Field ∷ part.Route ∷ part.NextAlternative ∷ part.Sequence ∷
@@ -39,41 +35,8 @@ all_parts = part.Declaration ∷ part.Type ∷ part.Variant ∷ part.Field ∷ p
     part.AndChain ∷ part.NextNegation ∷ part.Negation ∷ part.Quantified ∷ part.SetWord ∷ part.NextBound ∷ part.Primary ∷ part.NameRest ∷
     part.UsedPaths ∷ part.NextUsedPath ∷ part.PathAloneStep ∷ part.NameRelation ∷ part.Relation ∷ []
 
-mark_back : (sign : Mark) → slice_get all_kinds (number_of (kind.Mark sign)) ≡ Some (kind.Mark sign)
-unfolding all_kinds number_of mark_number
-mark_back mark.Equivalent = refl
-mark_back mark.SameAs = refl
-mark_back mark.Implies = refl
-mark_back mark.NotSame = refl
-mark_back mark.NotEqual = refl
-mark_back mark.AndAlso = refl
-mark_back mark.OrElse = refl
-mark_back mark.Equals = refl
-mark_back mark.Bang = refl
-mark_back mark.Tilde = refl
-mark_back mark.Ampersand = refl
-mark_back mark.Bar = refl
-mark_back mark.Less = refl
-mark_back mark.Greater = refl
-mark_back mark.LeftParen = refl
-mark_back mark.RightParen = refl
-mark_back mark.LeftBracket = refl
-mark_back mark.RightBracket = refl
-mark_back mark.LeftBrace = refl
-mark_back mark.RightBrace = refl
-mark_back mark.Colon = refl
-mark_back mark.Semicolon = refl
-mark_back mark.Comma = refl
-mark_back mark.Dot = refl
-mark_back mark.Star = refl
-mark_back mark.Plus = refl
-mark_back mark.Caret = refl
-mark_back mark.Dollar = refl
-mark_back mark.At = refl
-mark_back mark.Question = refl
-
 kind_back : (one : ProgramKind) → slice_get all_kinds (number_of one) ≡ Some one
-unfolding all_kinds number_of mark_number
+unfolding words all_kinds number_of all_marks
 kind_back kind.Name = refl
 kind_back kind.Number = refl
 kind_back kind.Type = refl
@@ -105,7 +68,7 @@ kind_back kind.All = refl
 kind_back kind.In = refl
 kind_back kind.Sub = refl
 kind_back kind.Root = refl
-kind_back (kind.Mark sign) = mark_back sign
+kind_back (kind.Mark sign) = mark_back (λ sign. kind.Mark sign) words sign
 
 part_back : (one : ProgramPart) → slice_get all_parts (label_of one) ≡ Some one
 unfolding all_parts label_of

@@ -1,14 +1,21 @@
-//! The grammar of programs, as the reader of grammars takes it.
+//! The language of programs, as the reader of texts takes it.
 
 ghost use Rattle.std.specs.Prelude.{◌≡◌};
+ghost use Rattle.pale_build.specs.Building.{parts_of};
+ghost use Rattle.pale_syntax.specs.Making.{after, program_in};
+ghost use Rattle.pale_syntax.specs.MakingParts.{Parts as MadeParts, nothing};
 ghost use Rattle.pale_syntax.specs.ProgramGrammar.{program_grammar};
+ghost use Rattle.pale_syntax.specs.ProgramWords.{kind_of};
 ghost use Rattle.pale_parse.specs.Tables.{program_rules};
 ghost use Rattle.pale_parse.specs.Hints.{program_hints};
 ghost use Rattle.pale_parse.specs.TableLaws.{program_named, program_sound};
 
 use crate::tables::{ProgramChoice, ProgramSymbol, choices_of, number_of, row_of, starts_of};
 use ll1_reader::{Grammar, Symbol};
-use pale_syntax::{Act, ProgramKind, ProgramPart};
+use pale_build::{Parts, nothing};
+use pale_syntax::{Act, Program, ProgramKind, ProgramPart};
+use pale_text::{Language, Near, TokenKind};
+use std::alloc::{AllocError, Global};
 
 /// The grammar of programs.
 pub(crate) struct ProgramGrammar;
@@ -59,4 +66,38 @@ impl Grammar for ProgramGrammar {
     ghost named = { program_named };
 
     ghost sound = { program_sound };
+}
+
+impl Language for ProgramGrammar {
+    type Parts = Parts;
+
+    type Tree = Program;
+
+    ghost Made = { MadeParts };
+
+    ghost made_of = { parts_of };
+
+    ghost nothing = { nothing };
+
+    ghost after = { after };
+
+    ghost tree_of = { program_in };
+
+    ghost kind_of = { kind_of };
+
+    fn kind(token: &TokenKind) -> ProgramKind {
+        ProgramKind::of(token)
+    }
+
+    fn begin(alloc: Global) -> Parts {
+        nothing(alloc)
+    }
+
+    fn perform(parts: &mut Parts, act: Act, near: Near) -> Result<(), AllocError> {
+        parts.perform(act, near)
+    }
+
+    fn finish(parts: Parts) -> Program {
+        parts.into_program()
+    }
 }

@@ -9,7 +9,7 @@ ghost use Rattle.pale_syntax.specs.ProgramWords.{kinds_in};
 ghost use Rattle.pale_syntax.specs.ProgramReading.{program_rows, IsProgram};
 
 use crate::grammar::ProgramGrammar;
-use ll1_reader::{each_sentence_has_a_reading_that_counts, one_reading_counts};
+use pale_text::{each_sentence_has_a_tree, one_tree};
 
 /// Tokens are at most one program, and are read in one way.
 pub fn one_program()
@@ -18,7 +18,7 @@ pub fn one_program()
     ensures tree { (tokens : List Token) (one other : List (Step Act)) (tree another : Program) →
         IsProgram tokens one tree → IsProgram tokens other another → tree ≡ another }
 {
-    one_reading_counts::<ProgramGrammar>();
+    one_tree::<ProgramGrammar>();
 }
 
 /// No text is lost because one reading counts alone: what has any reading by the rows of the grammar is a program.
@@ -26,5 +26,5 @@ pub fn each_sentence_is_a_program()
     ensures { (tokens : List Token) (steps : List (Step Act)) → IsAnyReading program_rows (kinds_in tokens) steps →
         (counted : List (Step Act)) × (tree : Program) × IsProgram tokens counted tree }
 {
-    each_sentence_has_a_reading_that_counts::<ProgramGrammar>();
+    each_sentence_has_a_tree::<ProgramGrammar>();
 }

@@ -6,19 +6,13 @@ ghost use Rattle.pale_syntax.specs.declared.grammar.act.Act.{Act as ProgramAct};
 ghost use Rattle.pale_syntax.specs.declared.tree.declaration.Program.{Program as ProgramTree};
 ghost use Rattle.pale_text.specs.declared.refusal.Refusal.{Refusal as RefusedThere};
 ghost use Rattle.pale_text.specs.declared.refusal.TextStop.TheVariants.{NoMemory, Refused};
-ghost use Rattle.pale_syntax.specs.ProgramWords.{kinds_in};
 ghost use Rattle.pale_syntax.specs.ProgramReading.{IsProgram, IsShallow, IsParsedAs, IsParseStop};
 ghost use Rattle.pale_text.specs.TextStops.{IsRefusedUnless};
 
 use crate::grammar::ProgramGrammar;
-use pale_build::build;
-use pale_syntax::{Program, ProgramKind};
-use pale_text::{TextStop, Token, TokenList, read_tokens};
-use plain_data::Items;
-use std::alloc::{AllocError, Global};
-
-/// How many levels a program may open at once.
-const MAX_LEVELS: u32 = 200;
+use pale_syntax::Program;
+use pale_text::{TextStop, TokenList};
+use std::alloc::Global;
 
 /// The program that these tokens are.
 ///
@@ -30,24 +24,13 @@ pub fn parse(alloc: Global, list: &TokenList) -> Result<Program, TextStop>
     ensures program { IfOk result (IsParsedAs list.now.tokens) }
     ensures stop { IfErr result (IsParseStop list.now) }
     // The tokens are no other program.
-    ensures only { (steps : List (Step ProgramAct)) (tree : ProgramTree) → IsProgram list.now.tokens steps tree → IfOk result (λ read. read ≡ tree) }
+    ensures only { (steps : List (Step ProgramAct)) (tree : ProgramTree) → IsProgram list.now.tokens steps tree →
+        IfOk result (λ read. read ≡ tree) }
     // A program with so few levels is read, unless memory runs out.
-    ensures complete { (steps : List (Step ProgramAct)) (tree : ProgramTree) → IsProgram list.now.tokens steps tree → IsShallow steps → IsOkUnless result NoMemory }
+    ensures complete { (steps : List (Step ProgramAct)) (tree : ProgramTree) → IsProgram list.now.tokens steps tree →
+        IsShallow steps → IsOkUnless result NoMemory }
     // The one refusal of the tokens is the answer, unless memory runs out.
     ensures refused { (refusal : RefusedThere) → IsParseStop list.now (Refused refusal) → IsRefusedUnless result refusal NoMemory }
 {
-    let kinds = kinds_in(alloc, list.tokens.as_slice())?;
-    let events = read_tokens::<ProgramGrammar>(alloc, list, kinds.as_slice(), MAX_LEVELS)?;
-    Ok(build(alloc, list.tokens.as_slice(), events.as_slice())?)
-}
-
-/// The kinds of the tokens.
-fn kinds_in(alloc: Global, tokens: &[Token]) -> Result<Items<ProgramKind>, AllocError>
-    ensures { IfOk result (λ kinds. kinds ≡ kinds_in tokens.now) }
-{
-    let mut kinds = Items::new(alloc);
-    for token in tokens {
-        kinds.push(ProgramKind::of(&token.kind))?;
-    }
-    Ok(kinds)
+    pale_text::parse::<ProgramGrammar>(alloc, list)
 }

@@ -1,3 +1,4 @@
+pub mod FreeNames
 pub mod Making
 pub mod MakingAssertions
 pub mod MakingConditions

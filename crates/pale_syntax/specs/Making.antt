@@ -1,12 +1,10 @@
 -- The tree of a text by what happens in its reading: what each act makes of the parts made before it.
-use Rattle.std.specs.Prelude.{List, [], ◌∷◌, Option, None, Some}
-use Rattle.plain_data.specs.Stacks.{rest}
+use Rattle.std.specs.Prelude.{List, Option}
 use Rattle.ll1_reader.specs.declared.symbol.Event.{Event}
-use Rattle.ll1_reader.specs.declared.symbol.Event.TheVariants as event
 use Rattle.pale_syntax.specs.declared.grammar.act.Act.{Act}
 use Rattle.pale_syntax.specs.declared.grammar.act.Act.TheVariants as made
 use Rattle.pale_text.specs.declared.token.Token.{Token}
-use Rattle.pale_text.specs.Tokens.{first_of}
+use Rattle.pale_text.specs.Making as text
 use Rattle.pale_syntax.specs.declared.tree.declaration.Program.{Program}
 use Rattle.pale_syntax.specs.MakingParts.{Parts, Near, nothing}
 use Rattle.pale_syntax.specs.MakingWords.{after_word}
@@ -31,11 +29,12 @@ after (made.Procedure act) near parts = after_procedure act near parts
 
 -- the parts after these events, where `last` was read last and the tokens `left` are still to be read
 abbrev pub run : List (Event Act) → Option Token → List Token → Parts → Parts
-run [] last left parts = parts
-run (event.Token ∷ events) last left parts = run events (first_of left) (rest left) parts
-run (event.Act act ∷ events) last left parts =
-    run events last left (after act (record { last = last; next = first_of left }) parts)
+run = text.run after
+
+-- the program of all declarations that are whole
+abbrev pub program_in : Parts → Program
+program_in parts = record { declarations = parts.declarations }
 
 -- the program that a text is by its tokens and what happens in their reading
 abbrev pub program_of : List Token → List (Event Act) → Program
-program_of tokens events = record { declarations = (run events None tokens nothing).declarations }
+program_of = text.tree_by after nothing program_in

@@ -1,9 +1,10 @@
 -- What is made of a program's text while it is read, and is not yet part of something larger.
-use Rattle.std.specs.Prelude.{List, [], Option, None, Some}
+use Rattle.std.specs.Prelude.{List, [], Option, None}
 use Rattle.pale_text.specs.declared.place.Pos.{Pos}
 use Rattle.pale_text.specs.declared.token.Token.{Token}
 use Rattle.pale_text.specs.Places.{nowhere}
-use Rattle.pale_text.specs.Tokens.{name_bytes}
+use Rattle.pale_text.specs.Tokens.{name_bytes_of, place_of}
+pub use Rattle.pale_text.specs.Near.{Near}
 use Rattle.pale_syntax.specs.declared.tree.names.Name.{Name}
 use Rattle.pale_syntax.specs.declared.tree.names.Path.{Path}
 use Rattle.pale_syntax.specs.declared.tree.names.Term.{Term}
@@ -95,16 +96,10 @@ nothing =
       declarations = [];
     }
 
--- the token read last, and the one that comes next
-pub record Near : Type 0 where
-  pub last : Option Token
-  pub next : Option Token
-
 -- stands where no name is known
 abbrev pub nameless : Name
 nameless = record { bytes = []; place = nowhere }
 
 -- the token as a name
 abbrev pub name_of : Option Token → Name
-name_of None = nameless
-name_of (Some token) = record { bytes = name_bytes token.kind; place = token.span.start }
+name_of token = record { bytes = name_bytes_of token; place = place_of token }

@@ -1,7 +1,10 @@
+pub mod KindLemmas
 pub mod LexLemmas
 pub mod ListLemmas
 pub mod MarkLemmas
+pub mod MarkNumbers
 pub mod PieceLemmas
 pub mod ReadingLemmas
+pub mod RunLemmas
 pub mod SpelledLemmas
 pub mod StopLemmas

@@ -11,28 +11,16 @@ use Rattle.pale_text.specs.declared.refusal.TextStop.{TextStop}
 use Rattle.pale_text.specs.declared.refusal.TextStop.TheVariants as stop
 use Rattle.pale_text.specs.declared.place.Pos.{Pos}
 use Rattle.pale_text.specs.declared.token.TokenList.{TokenList}
+use Rattle.pale_text.specs.Refusals.{refused_at}
 use Rattle.pale_text.specs.TextStops.{place_at, IsRefused}
-
-abbrev refusal_of : ℕ → ℕ → RefusalKind → Refusal
-refusal_of line column why = record { line = line; column = column; kind = why }
-
--- the refusal of the token with this number
-abbrev refusal_at : TokenList → ℕ → RefusalKind → Refusal
-refusal_at list number why = refusal_of (place_at list number).line (place_at list number).column why
-
-same_refusal : (refusal : Refusal) (line column : ℕ) (why : RefusalKind) → line ≡ refusal.line → column ≡ refusal.column →
-    refusal.kind ≡ why → refusal_of line column why ≡ refusal
-same_refusal refusal line column why a b k =
-    ap (λ x. refusal_of x column why) a ∙ ap (λ x. refusal_of refusal.line x why) b ∙ ap (λ x. refusal_of refusal.line refusal.column x) (sym k)
 
 told : (list : TokenList) (one other : ℕ) (why : RefusalKind) (refusal : Refusal) (answer : TextStop) → one ≡ other →
     place_at list other ≡ record { line = refusal.line; column = refusal.column } → refusal.kind ≡ why →
-    answer ≡ stop.Refused (refusal_at list one why) → answer ≡ stop.Refused refusal
+    answer ≡ stop.Refused (refused_at (place_at list one) why) → answer ≡ stop.Refused refusal
 told list one other why refusal answer same place is said =
-    let there : place_at list one ≡ record { line = refusal.line; column = refusal.column } = ap (place_at list) same ∙ place in
-    let line : (place_at list one).line ≡ refusal.line = ap (λ (p : Pos). p.line) there in
-    let column : (place_at list one).column ≡ refusal.column = ap (λ (p : Pos). p.column) there in
-    said ∙ ap (λ r. stop.Refused r) (same_refusal refusal (place_at list one).line (place_at list one).column why line column is)
+    let here : Pos = record { line = refusal.line; column = refusal.column } in
+    let there : place_at list one ≡ here = ap (place_at list) same ∙ place in
+    said ∙ ap stop.Refused (ap (λ p. refused_at p why) there ∙ ap (refused_at here) (sym is))
 
 module _ {N P A K : Type 0} (rules : Rules N P A K) (limit : ℕ) (kinds : List K) (list : TokenList) (refusal : Refusal)
     (r : IsRefused rules limit kinds list refusal) where
@@ -42,7 +30,7 @@ module _ {N P A K : Type 0} (rules : Rules N P A K) (limit : ℕ) (kinds : List 
   pub told_wrong : (number : ℕ) (got : ReadStop) (is : got ≡ reads.Wrong number) (answer : TextStop) →
       ((place : ℕ) → IsWrongAt rules limit kinds place → (got ≡ reads.Wrong place) ⊎ (got ≡ reads.NoMemory)) →
       ((place : ℕ) → IsDeepAt rules limit kinds place → (got ≡ reads.Deep place) ⊎ (got ≡ reads.NoMemory)) →
-      answer ≡ stop.Refused (refusal_at list number kind.Syntax) → (answer ≡ stop.Refused refusal) ⊎ (answer ≡ stop.NoMemory)
+      answer ≡ stop.Refused (refused_at (place_at list number) kind.Syntax) → (answer ≡ stop.Refused refusal) ⊎ (answer ≡ stop.NoMemory)
   told_wrong number got is answer wrong deep said =
       elim r.fault [
         | inl f ↦
@@ -54,7 +42,7 @@ module _ {N P A K : Type 0} (rules : Rules N P A K) (limit : ℕ) (kinds : List 
   pub told_deep : (number : ℕ) (got : ReadStop) (is : got ≡ reads.Deep number) (answer : TextStop) →
       ((place : ℕ) → IsWrongAt rules limit kinds place → (got ≡ reads.Wrong place) ⊎ (got ≡ reads.NoMemory)) →
       ((place : ℕ) → IsDeepAt rules limit kinds place → (got ≡ reads.Deep place) ⊎ (got ≡ reads.NoMemory)) →
-      answer ≡ stop.Refused (refusal_at list number kind.Deep) → (answer ≡ stop.Refused refusal) ⊎ (answer ≡ stop.NoMemory)
+      answer ≡ stop.Refused (refused_at (place_at list number) kind.Deep) → (answer ≡ stop.Refused refusal) ⊎ (answer ≡ stop.NoMemory)
   told_deep number got is answer wrong deep said =
       elim r.fault [
         | inl f ↦ elim (wrong r.number f.1) [ inl e ↦ absurd (cc (e, is)) | inr e ↦ absurd (cc (e, is)) ]

@@ -1,5 +1,10 @@
 pub mod Fronts
+pub mod Kinds
 pub mod Lexing
+pub mod Making
+pub mod Marks
+pub mod Near
+pub mod Parsing
 pub mod Places
 pub mod Refusals
 pub mod Spelled

@@ -1,7 +1,13 @@
--- The words in which refusals are printed.
+-- Refusals at a place, and the words in which they are printed.
 use Rattle.std.specs.Prelude.{ℕ, List, codes}
+use Rattle.pale_text.specs.declared.place.Pos.{Pos}
+use Rattle.pale_text.specs.declared.refusal.Refusal.{Refusal}
 use Rattle.pale_text.specs.declared.refusal.RefusalKind.{RefusalKind}
 use Rattle.pale_text.specs.declared.refusal.RefusalKind.TheVariants as kind
+
+-- the refusal of what stands at this place
+abbrev pub refused_at : Pos → RefusalKind → Refusal
+refused_at place kind = record { line = place.line; column = place.column; kind = kind }
 
 -- the word that is printed for a kind of refusal
 abbrev pub word_of : RefusalKind → List ℕ

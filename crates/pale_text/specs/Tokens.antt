@@ -21,3 +21,8 @@ abbrev pub name_bytes : TokenKind → List ℕ
 name_bytes (kind.Name bytes) = bytes
 name_bytes (kind.Number _) = []
 name_bytes (kind.Mark _) = []
+
+-- the bytes of a name, and none of another token, or where there is none
+abbrev pub name_bytes_of : Option Token → List ℕ
+name_bytes_of None = []
+name_bytes_of (Some token) = name_bytes token.kind

@@ -4,7 +4,7 @@ ghost use Rattle.std.specs.Prelude.{◌≡◌, ◌<◌, length, IfOk, IfErr};
 ghost use Rattle.pale_text.specs.Lexing.{IsLexed, IsLexStop};
 
 use crate::front::{Front, read_front};
-use crate::place::{Pos, Span, first_place, place_past};
+use crate::place::{Span, first_place, place_past};
 use crate::refusal::{Refusal, RefusalKind, TextStop};
 use crate::token::{Token, TokenList};
 use plain_data::Items;
@@ -34,22 +34,11 @@ pub fn lex(alloc: Global, text: &[u8]) -> Result<TokenList, TextStop>
                 tokens.push(Token { span, kind })?;
                 length
             }
-            Front::Stray => return Err(TextStop::Refused(char_at(place))),
+            Front::Stray => return Err(TextStop::Refused(Refusal::at(place, RefusalKind::Char))),
         };
         let (taken, rest) = left.split_at(count);
         place = place_past(place, taken);
         left = rest;
     }
     Ok(TokenList { tokens, end: place })
-}
-
-/// The refusal of a byte at this place that begins no token.
-fn char_at(place: Pos) -> Refusal
-    ensures { result ≡ record { line = place.line; column = place.column; kind = RefusalKind.Char } }
-{
-    Refusal {
-        line: place.line,
-        column: place.column,
-        kind: RefusalKind::Char,
-    }
 }

@@ -6,6 +6,7 @@ ghost use Rattle.ll1_reader.specs.Readings.{Step, IsReading};
 ghost use Rattle.ll1_reader.specs.Answers.{AreLow, levels, IsParsed};
 ghost use Rattle.pale_text.specs.declared.refusal.Refusal.{Refusal as RefusedThere};
 ghost use Rattle.pale_text.specs.declared.refusal.TextStop.TheVariants.{NoMemory, Refused};
+ghost use Rattle.pale_text.specs.Refusals.{refused_at};
 ghost use Rattle.pale_text.specs.TextStops.{place_at, IsRefused, IsRefusedUnless, IsTextStop};
 
 use crate::place::Pos;
@@ -21,7 +22,7 @@ use std::alloc::Global;
 /// `Refused` is `syntax` at the first token that no sentence has after those before it, or at the text's end where the
 /// tokens are no sentence yet; or `deep` at the first token that opens a level above the limit. The one that stands first
 /// is named. `NoMemory` says nothing of the tokens. Takes no stack for a text's length or depth.
-pub fn read_tokens<G: Grammar>(
+pub(crate) fn read_tokens<G: Grammar>(
     alloc: Global,
     list: &TokenList,
     kinds: &[G::Kind],
@@ -43,14 +44,9 @@ pub fn read_tokens<G: Grammar>(
 
 /// The refusal of the token with this number, or of the text's end behind the last one.
 fn refused(list: &TokenList, number: usize, kind: RefusalKind) -> TextStop
-    ensures { result ≡ Refused (record { line = (place_at list.now number).line; column = (place_at list.now number).column; kind = kind }) }
+    ensures { result ≡ Refused (refused_at (place_at list.now number) kind) }
 {
-    let place = place_at(list, number);
-    TextStop::Refused(Refusal {
-        line: place.line,
-        column: place.column,
-        kind,
-    })
+    TextStop::Refused(Refusal::at(place_at(list, number), kind))
 }
 
 /// The place of the token with this number. Behind the last one is the text's end.

@@ -1,8 +1,9 @@
 //! Why a text is refused, and where.
 
 ghost use Rattle.std.specs.Prelude.{◌≡◌};
-ghost use Rattle.pale_text.specs.Refusals.{word_of};
+ghost use Rattle.pale_text.specs.Refusals.{refused_at, word_of};
 
+use crate::place::Pos;
 use std::alloc::{AllocError, AllocFailed};
 use thiserror::Error;
 
@@ -75,6 +76,19 @@ pub struct Refusal {
     pub line: u32,
     pub column: u32,
     pub kind: RefusalKind,
+}
+
+impl Refusal {
+    /// The refusal of what stands at this place. Takes no memory.
+    pub fn at(place: Pos, kind: RefusalKind) -> Refusal
+        ensures { result ≡ refused_at place kind }
+    {
+        Refusal {
+            line: place.line,
+            column: place.column,
+            kind,
+        }
+    }
 }
 
 /// Why a call that reads a text gives nothing.

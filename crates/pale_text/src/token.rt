@@ -1,6 +1,7 @@
 //! What a text consists of.
 
 ghost use Rattle.std.specs.Prelude.{◌≡◌};
+ghost use Rattle.pale_text.specs.Marks.{mark_number};
 ghost use Rattle.pale_text.specs.Spelling.{bytes_of};
 
 use crate::place::{Pos, Span};
@@ -110,6 +111,45 @@ impl Mark {
             Mark::Dollar => b"$",
             Mark::At => b"@",
             Mark::Question => b"?",
+        }
+    }
+
+    /// Its number, by which grammars tell marks apart. Takes no memory.
+    #[tactic(auto, unfolding(crate::specs::Marks::mark_number))]
+    pub fn number(&self) -> u32
+        ensures { result ≡ mark_number self.now }
+    {
+        match self {
+            Mark::Equivalent => 0,
+            Mark::SameAs => 1,
+            Mark::Implies => 2,
+            Mark::NotSame => 3,
+            Mark::NotEqual => 4,
+            Mark::AndAlso => 5,
+            Mark::OrElse => 6,
+            Mark::Equals => 7,
+            Mark::Bang => 8,
+            Mark::Tilde => 9,
+            Mark::Ampersand => 10,
+            Mark::Bar => 11,
+            Mark::Less => 12,
+            Mark::Greater => 13,
+            Mark::LeftParen => 14,
+            Mark::RightParen => 15,
+            Mark::LeftBracket => 16,
+            Mark::RightBracket => 17,
+            Mark::LeftBrace => 18,
+            Mark::RightBrace => 19,
+            Mark::Colon => 20,
+            Mark::Semicolon => 21,
+            Mark::Comma => 22,
+            Mark::Dot => 23,
+            Mark::Star => 24,
+            Mark::Plus => 25,
+            Mark::Caret => 26,
+            Mark::Dollar => 27,
+            Mark::At => 28,
+            Mark::Question => 29,
         }
     }
 }

@@ -47,8 +47,8 @@ none_refused : (list : TokenList) (tree : Program) (r : Refusal) → IsParsedAs 
 none_refused list tree r parsed stop =
     let kinds = kinds_in list.tokens in
     elim stop.fault [
-      | inl f ↦ not_wrong program_rows max_levels kinds stop.number parsed.steps parsed.program.reading f.1
-      | inr f ↦ not_deep program_rows max_levels kinds stop.number parsed.steps parsed.program.reading parsed.shallow f.1
+      | inl f ↦ not_wrong program_rows max_levels kinds stop.number parsed.steps parsed.sentence.reading f.1
+      | inr f ↦ not_deep program_rows max_levels kinds stop.number parsed.steps parsed.sentence.reading parsed.shallow f.1
     ]
 
 -- ---- outputs
@@ -78,7 +78,7 @@ module _ (laws : Laws) where
       → spelling tree ≡ spelling another
   one_program text list found tree another lexed again one other =
       let here = subst (λ (l : TokenList). IsParsedAs l.tokens another) (laws.tokens text found list again lexed) other in
-      ap spelling (laws.tree list.tokens one.steps here.steps tree another one.program here.program)
+      ap spelling (laws.tree list.tokens one.steps here.steps tree another one.sentence here.sentence)
 
   parsed_or_refused : (text : List ℕ) (list found : TokenList) (tree : Program) (r : Refusal) → IsLexed text list → IsLexed text found → IsParsedAs list.tokens tree
       → IsParseStop found (Refused r) → ⊥

@@ -1,9 +1,9 @@
--- What is known of the rows of the grammar of WS2S text. ll1_reader's `is_predictable` says what is meant by each of
--- these, and is tried on each part.
+-- The LL(1) table of the grammar of WS2S text. ll1_reader's `is_predictable` says what is meant by each of these, and is
+-- tried on each part.
 use Rattle.std.specs.Prelude.{ℕ, List, [], ◌∷◌}
 use Rattle.ll1_reader.specs.Predicting.{Hints}
-use Rattle.pale_text.specs.declared.token.Mark.{Mark}
 use Rattle.pale_text.specs.declared.token.Mark.TheVariants as mark
+use Rattle.pale_text.specs.Marks.{mark_number}
 use Rattle.ws2s_parse.specs.declared.grammar.kind.SourceKind.{SourceKind}
 use Rattle.ws2s_parse.specs.declared.grammar.kind.SourceKind.TheVariants as kind
 use Rattle.ws2s_parse.specs.declared.grammar.part.SourcePart.{SourcePart}
@@ -11,59 +11,27 @@ use Rattle.ws2s_parse.specs.declared.grammar.part.SourcePart.TheVariants as part
 use Rattle.ws2s_parse.specs.declared.tables.choice.SourceChoice.{SourceChoice}
 use Rattle.ws2s_parse.specs.declared.tables.choice.SourceChoice.TheVariants as row
 
--- a number for each kind
-unfoldable pub mark_number : Mark → ℕ
-mark_number mark.Equivalent = 19
-mark_number mark.SameAs = 20
-mark_number mark.Implies = 21
-mark_number mark.NotSame = 22
-mark_number mark.NotEqual = 23
-mark_number mark.AndAlso = 24
-mark_number mark.OrElse = 25
-mark_number mark.Equals = 26
-mark_number mark.Bang = 27
-mark_number mark.Tilde = 28
-mark_number mark.Ampersand = 29
-mark_number mark.Bar = 30
-mark_number mark.Less = 31
-mark_number mark.Greater = 32
-mark_number mark.LeftParen = 33
-mark_number mark.RightParen = 34
-mark_number mark.LeftBracket = 35
-mark_number mark.RightBracket = 36
-mark_number mark.LeftBrace = 37
-mark_number mark.RightBrace = 38
-mark_number mark.Colon = 39
-mark_number mark.Semicolon = 40
-mark_number mark.Comma = 41
-mark_number mark.Dot = 42
-mark_number mark.Star = 43
-mark_number mark.Plus = 44
-mark_number mark.Caret = 45
-mark_number mark.Dollar = 46
-mark_number mark.At = 47
-mark_number mark.Question = 48
-
+-- a number for each kind: those of the marks come first
 unfoldable pub number_of : SourceKind → ℕ
-number_of kind.Name = 0
-number_of kind.Number = 1
-number_of kind.Zero = 2
-number_of kind.One = 3
-number_of kind.Ws2s = 4
-number_of kind.Var1 = 5
-number_of kind.Var2 = 6
-number_of kind.Pred = 7
-number_of kind.Ex1 = 8
-number_of kind.All1 = 9
-number_of kind.Ex2 = 10
-number_of kind.All2 = 11
-number_of kind.In = 12
-number_of kind.NotIn = 13
-number_of kind.Sub = 14
-number_of kind.Empty = 15
-number_of kind.Root = 16
-number_of kind.True = 17
-number_of kind.False = 18
+number_of kind.Name = 30
+number_of kind.Number = 31
+number_of kind.Zero = 32
+number_of kind.One = 33
+number_of kind.Ws2s = 34
+number_of kind.Var1 = 35
+number_of kind.Var2 = 36
+number_of kind.Pred = 37
+number_of kind.Ex1 = 38
+number_of kind.All1 = 39
+number_of kind.Ex2 = 40
+number_of kind.All2 = 41
+number_of kind.In = 42
+number_of kind.NotIn = 43
+number_of kind.Sub = 44
+number_of kind.Empty = 45
+number_of kind.Root = 46
+number_of kind.True = 47
+number_of kind.False = 48
 number_of (kind.Mark sign) = mark_number sign
 
 -- a number for each part
@@ -94,7 +62,7 @@ label_of part.Successor = 22
 label_of part.Child = 23
 label_of part.Relation = 24
 
--- the kinds with which each row may begin
+-- the FIRST set of each row
 unfoldable pub starts_of : SourceChoice → List SourceKind
 starts_of row.PositionsDeclared = kind.Var1 ∷ []
 starts_of row.SetsDeclared = kind.Var2 ∷ []

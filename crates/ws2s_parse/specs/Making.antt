@@ -1,9 +1,9 @@
 -- The source tree of a WS2S text by what happens in its reading: what each act makes of the parts made before it.
-use Rattle.std.specs.Prelude.{List, [], ◌∷◌, ◌++◌, true, false, Option, None}
+use Rattle.std.specs.Prelude.{List, [], ◌∷◌, ◌++◌, true, false, Option}
 use Rattle.ll1_reader.specs.declared.symbol.Event.{Event}
-use Rattle.ll1_reader.specs.declared.symbol.Event.TheVariants as event
 use Rattle.plain_data.specs.Stacks.{top, rest}
-use Rattle.pale_text.specs.Tokens.{first_of}
+use Rattle.pale_text.specs.Making as text
+use Rattle.pale_text.specs.Near.{Near}
 use Rattle.pale_text.specs.Places.{nowhere}
 use Rattle.pale_text.specs.Tokens.{place_of}
 use Rattle.pale_text.specs.declared.token.Token.{Token}
@@ -174,19 +174,17 @@ after_connective MakeQuantified last parts =
 
 -- ---- all acts
 
--- the parts after an act, where `last` is the token read last
-abbrev pub after : SourceAct → Option Token → Parts → Parts
-after (made.Item act) last parts = after_item act last parts
-after (made.Term act) last parts = after_term act last parts
-after (made.Atom act) last parts = after_atom act last parts
-after (made.Connective act) last parts = after_connective act last parts
+-- the parts after an act
+abbrev pub after : SourceAct → Near → Parts → Parts
+after (made.Item act) near parts = after_item act near.last parts
+after (made.Term act) near parts = after_term act near.last parts
+after (made.Atom act) near parts = after_atom act near.last parts
+after (made.Connective act) near parts = after_connective act near.last parts
 
--- the parts after these events, where `last` was read last and the tokens `left` are still to be read
-abbrev pub run : List (Event SourceAct) → Option Token → List Token → Parts → Parts
-run [] last left parts = parts
-run (event.Token ∷ events) last left parts = run events (first_of left) (rest left) parts
-run (event.Act act ∷ events) last left parts = run events last left (after act last parts)
+-- the source tree of all items that are whole
+abbrev pub source_in : Parts → Source
+source_in parts = record { items = parts.items }
 
 -- the source tree of a text by its tokens and what happens in their reading
 abbrev pub source_of : List Token → List (Event SourceAct) → Source
-source_of tokens events = record { items = (run events None tokens nothing).items }
+source_of = text.tree_by after nothing source_in

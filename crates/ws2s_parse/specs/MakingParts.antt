@@ -1,7 +1,7 @@
 -- What is made of a WS2S text while it is read, and is not yet part of something larger.
-use Rattle.std.specs.Prelude.{List, [], Option, None, Some}
+use Rattle.std.specs.Prelude.{List, [], Option}
 use Rattle.pale_text.specs.Places.{nowhere}
-use Rattle.pale_text.specs.Tokens.{name_bytes}
+use Rattle.pale_text.specs.Tokens.{name_bytes_of, place_of}
 use Rattle.pale_text.specs.declared.token.Token.{Token}
 use Rattle.ws2s_parse.specs.declared.build.binding.Binding.{Binding}
 use Rattle.ws2s_syntax.specs.declared.source.SourceFormula.{SourceFormula}
@@ -36,5 +36,4 @@ nameless = record { bytes = []; place = nowhere }
 
 -- the token as a name
 abbrev pub name_of : Option Token → SourceName
-name_of None = nameless
-name_of (Some token) = record { bytes = name_bytes token.kind; place = token.span.start }
+name_of token = record { bytes = name_bytes_of token; place = place_of token }

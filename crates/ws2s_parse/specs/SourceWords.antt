@@ -1,9 +1,9 @@
 -- The kinds of the tokens of WS2S text, and its reserved words.
-use Rattle.std.specs.Prelude.{ℕ, List, [], ◌∷◌, map, codes, if◌then◌else◌}
-use Rattle.std.specs.Str.{bytes_eq}
+use Rattle.std.specs.Prelude.{ℕ, List, [], ◌∷◌, codes}
 use Rattle.pale_text.specs.declared.token.Token.{Token}
 use Rattle.pale_text.specs.declared.token.TokenKind.{TokenKind}
 use Rattle.pale_text.specs.declared.token.TokenKind.TheVariants as token
+use Rattle.pale_text.specs.Kinds.{kind_among, kinds_by}
 use Rattle.ws2s_parse.specs.declared.grammar.kind.SourceKind.{SourceKind}
 use Rattle.ws2s_parse.specs.declared.grammar.kind.SourceKind.TheVariants as kind
 
@@ -19,11 +19,6 @@ reserved =
 abbrev pub numbers : List (List ℕ × SourceKind)
 numbers = (codes "0", kind.Zero) ∷ (codes "1", kind.One) ∷ []
 
--- the kind beside this word, and the other kind where there is none
-abbrev pub kind_among : List (List ℕ × SourceKind) → SourceKind → List ℕ → SourceKind
-kind_among [] other wanted = other
-kind_among (word ∷ words) other wanted = if bytes_eq word.0 wanted then word.1 else kind_among words other wanted
-
 unfoldable pub name_kind : List ℕ → SourceKind
 name_kind name = kind_among reserved kind.Name name
 
@@ -36,4 +31,4 @@ kind_of (token.Number digits) = number_kind digits
 kind_of (token.Mark mark) = kind.Mark mark
 
 abbrev pub kinds_in : List Token → List SourceKind
-kinds_in tokens = map (λ one. kind_of one.kind) tokens
+kinds_in = kinds_by kind_of

@@ -1,29 +1,25 @@
 -- The tables are the grammar's, and the next token tells how a reading goes on. Each part is tried by computing.
-use Rattle.std.specs.Prelude.{◌≡◌, List, [], ◌∷◌, map, true, Some, None, refl, slice_get}
+use Rattle.std.specs.Prelude.{◌≡◌, List, [], ◌∷◌, ◌++◌, map, true, Some, None, refl, slice_get}
 use Rattle.std.proofs.Common.{ap, sym, ◌∙◌}
 use Rattle.ll1_reader.specs.Predicting.{is_predictable, all_end_well, IsSound, AreNamed}
-use Rattle.pale_text.specs.declared.token.Mark.{Mark}
-use Rattle.pale_text.specs.declared.token.Mark.TheVariants as mark
+use Rattle.pale_text.specs.Marks.{all_marks, mark_number}
+use Rattle.pale_text.proofs.MarkNumbers.{mark_back}
 use Rattle.ws2s_parse.specs.declared.grammar.kind.SourceKind.{SourceKind}
 use Rattle.ws2s_parse.specs.declared.grammar.kind.SourceKind.TheVariants as kind
 use Rattle.ws2s_parse.specs.declared.grammar.part.SourcePart.{SourcePart}
 use Rattle.ws2s_parse.specs.declared.grammar.part.SourcePart.TheVariants as part
 use Rattle.ws2s_parse.specs.SourceGrammar.{rows_of, source_grammar}
 use Rattle.ws2s_parse.specs.Tables.{choices_of, row_of, source_rules}
-use Rattle.ws2s_parse.specs.Hints.{number_of, mark_number, label_of, starts_of, tails_of, cost_of, sample_of, begin_of, size_of, source_hints}
+use Rattle.ws2s_parse.specs.Hints.{number_of, label_of, starts_of, tails_of, cost_of, sample_of, begin_of, size_of, source_hints}
 
 -- ---- numbers are one for each kind and part, since they are its place in these lists
 
+words : List SourceKind
+words = kind.Name ∷ kind.Number ∷ kind.Zero ∷ kind.One ∷ kind.Ws2s ∷ kind.Var1 ∷ kind.Var2 ∷ kind.Pred ∷ kind.Ex1 ∷ kind.All1 ∷
+    kind.Ex2 ∷ kind.All2 ∷ kind.In ∷ kind.NotIn ∷ kind.Sub ∷ kind.Empty ∷ kind.Root ∷ kind.True ∷ kind.False ∷ []
+
 all_kinds : List SourceKind
-all_kinds = kind.Name ∷ kind.Number ∷ kind.Zero ∷ kind.One ∷ kind.Ws2s ∷ kind.Var1 ∷ kind.Var2 ∷ kind.Pred ∷ kind.Ex1 ∷ kind.All1 ∷
-    kind.Ex2 ∷ kind.All2 ∷ kind.In ∷ kind.NotIn ∷ kind.Sub ∷ kind.Empty ∷ kind.Root ∷ kind.True ∷ kind.False ∷
-    kind.Mark mark.Equivalent ∷ kind.Mark mark.SameAs ∷ kind.Mark mark.Implies ∷ kind.Mark mark.NotSame ∷ kind.Mark mark.NotEqual ∷
-    kind.Mark mark.AndAlso ∷ kind.Mark mark.OrElse ∷ kind.Mark mark.Equals ∷ kind.Mark mark.Bang ∷ kind.Mark mark.Tilde ∷
-    kind.Mark mark.Ampersand ∷ kind.Mark mark.Bar ∷ kind.Mark mark.Less ∷ kind.Mark mark.Greater ∷ kind.Mark mark.LeftParen ∷
-    kind.Mark mark.RightParen ∷ kind.Mark mark.LeftBracket ∷ kind.Mark mark.RightBracket ∷ kind.Mark mark.LeftBrace ∷
-    kind.Mark mark.RightBrace ∷ kind.Mark mark.Colon ∷ kind.Mark mark.Semicolon ∷ kind.Mark mark.Comma ∷ kind.Mark mark.Dot ∷
-    kind.Mark mark.Star ∷ kind.Mark mark.Plus ∷ kind.Mark mark.Caret ∷ kind.Mark mark.Dollar ∷ kind.Mark mark.At ∷
-    kind.Mark mark.Question ∷ []
+all_kinds = map (λ sign. kind.Mark sign) all_marks ++ words
 
 all_parts : List SourcePart
 all_parts = part.Item ∷ part.Variables ∷ part.NextVariable ∷ part.Parameters ∷ part.NextParameter ∷ part.Parameter ∷ part.Formula ∷
@@ -31,41 +27,8 @@ all_parts = part.Item ∷ part.Variables ∷ part.NextVariable ∷ part.Paramete
     part.Negation ∷ part.Bound ∷ part.NextBound ∷ part.Primary ∷ part.NameRest ∷ part.Arguments ∷ part.NextArgument ∷ part.Term ∷
     part.Successor ∷ part.Child ∷ part.Relation ∷ []
 
-mark_back : (sign : Mark) → slice_get all_kinds (number_of (kind.Mark sign)) ≡ Some (kind.Mark sign)
-unfolding all_kinds number_of mark_number
-mark_back mark.Equivalent = refl
-mark_back mark.SameAs = refl
-mark_back mark.Implies = refl
-mark_back mark.NotSame = refl
-mark_back mark.NotEqual = refl
-mark_back mark.AndAlso = refl
-mark_back mark.OrElse = refl
-mark_back mark.Equals = refl
-mark_back mark.Bang = refl
-mark_back mark.Tilde = refl
-mark_back mark.Ampersand = refl
-mark_back mark.Bar = refl
-mark_back mark.Less = refl
-mark_back mark.Greater = refl
-mark_back mark.LeftParen = refl
-mark_back mark.RightParen = refl
-mark_back mark.LeftBracket = refl
-mark_back mark.RightBracket = refl
-mark_back mark.LeftBrace = refl
-mark_back mark.RightBrace = refl
-mark_back mark.Colon = refl
-mark_back mark.Semicolon = refl
-mark_back mark.Comma = refl
-mark_back mark.Dot = refl
-mark_back mark.Star = refl
-mark_back mark.Plus = refl
-mark_back mark.Caret = refl
-mark_back mark.Dollar = refl
-mark_back mark.At = refl
-mark_back mark.Question = refl
-
 kind_back : (one : SourceKind) → slice_get all_kinds (number_of one) ≡ Some one
-unfolding all_kinds number_of mark_number
+unfolding words all_kinds number_of all_marks
 kind_back kind.Name = refl
 kind_back kind.Number = refl
 kind_back kind.Zero = refl
@@ -85,7 +48,7 @@ kind_back kind.Empty = refl
 kind_back kind.Root = refl
 kind_back kind.True = refl
 kind_back kind.False = refl
-kind_back (kind.Mark sign) = mark_back sign
+kind_back (kind.Mark sign) = mark_back (λ sign. kind.Mark sign) words sign
 
 part_back : (one : SourcePart) → slice_get all_parts (label_of one) ≡ Some one
 unfolding all_parts label_of

@@ -2,12 +2,12 @@
 
 mod atoms;
 mod binding;
-mod builder;
 mod connectives;
 mod items;
+mod names;
 mod parts;
+mod perform;
 mod takes;
 mod terms;
-mod tokens;
 
-pub(crate) use builder::build;
+pub(crate) use parts::{Parts, nothing};

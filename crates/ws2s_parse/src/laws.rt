@@ -9,7 +9,7 @@ ghost use Rattle.ws2s_parse.specs.SourceWords.{kinds_in};
 ghost use Rattle.ws2s_parse.specs.SourceReading.{source_rows, IsSource};
 
 use crate::source_grammar::SourceGrammar;
-use ll1_reader::{each_sentence_has_a_reading_that_counts, one_reading_counts};
+use pale_text::{each_sentence_has_a_tree, one_tree};
 
 /// Tokens are at most one text, and are read in one way.
 pub fn one_source()
@@ -18,7 +18,7 @@ pub fn one_source()
     ensures tree { (tokens : List Token) (one other : List (Step SourceAct)) (tree another : Source) →
         IsSource tokens one tree → IsSource tokens other another → tree ≡ another }
 {
-    one_reading_counts::<SourceGrammar>();
+    one_tree::<SourceGrammar>();
 }
 
 /// No text is lost because one reading counts alone: what has any reading by the rows of the grammar has a source tree.
@@ -26,5 +26,5 @@ pub fn each_sentence_is_a_source()
     ensures { (tokens : List Token) (steps : List (Step SourceAct)) → IsAnyReading source_rows (kinds_in tokens) steps →
         (counted : List (Step SourceAct)) × (tree : Source) × IsSource tokens counted tree }
 {
-    each_sentence_has_a_reading_that_counts::<SourceGrammar>();
+    each_sentence_has_a_tree::<SourceGrammar>();
 }

@@ -7,19 +7,12 @@ ghost use Rattle.pale_text.specs.declared.refusal.TextStop.TheVariants.{NoMemory
 ghost use Rattle.pale_text.specs.TextStops.{IsRefusedUnless};
 ghost use Rattle.ws2s_syntax.specs.declared.source.Source.{Source as SourceTree};
 ghost use Rattle.ws2s_parse.specs.declared.grammar.act.SourceAct.{SourceAct};
-ghost use Rattle.ws2s_parse.specs.SourceWords.{kinds_in};
 ghost use Rattle.ws2s_parse.specs.SourceReading.{IsSource, IsShallow, IsParsedAs, IsParseStop};
 
-use crate::build::build;
-use crate::grammar::SourceKind;
 use crate::source_grammar::SourceGrammar;
-use pale_text::{TextStop, Token, TokenList, read_tokens};
-use plain_data::Items;
-use std::alloc::{AllocError, Global};
+use pale_text::{TextStop, TokenList, parse};
+use std::alloc::Global;
 use ws2s_syntax::Source;
-
-/// How many levels a text may open at once.
-const MAX_LEVELS: u32 = 200;
 
 /// The source tree of the WS2S text that these tokens are.
 ///
@@ -33,24 +26,13 @@ pub fn parse_source(alloc: Global, list: &TokenList) -> Result<Source, TextStop>
     ensures source { IfOk result (IsParsedAs list.now.tokens) }
     ensures stop { IfErr result (IsParseStop list.now) }
     // The tokens have no other tree.
-    ensures only { (steps : List (Step SourceAct)) (tree : SourceTree) → IsSource list.now.tokens steps tree → IfOk result (λ read. read ≡ tree) }
+    ensures only { (steps : List (Step SourceAct)) (tree : SourceTree) → IsSource list.now.tokens steps tree →
+        IfOk result (λ read. read ≡ tree) }
     // A text with so few levels is read, unless memory runs out.
-    ensures complete { (steps : List (Step SourceAct)) (tree : SourceTree) → IsSource list.now.tokens steps tree → IsShallow steps → IsOkUnless result NoMemory }
+    ensures complete { (steps : List (Step SourceAct)) (tree : SourceTree) → IsSource list.now.tokens steps tree →
+        IsShallow steps → IsOkUnless result NoMemory }
     // The one refusal of the tokens is the answer, unless memory runs out.
     ensures refused { (refusal : RefusedThere) → IsParseStop list.now (Refused refusal) → IsRefusedUnless result refusal NoMemory }
 {
-    let kinds = kinds_in(alloc, list.tokens.as_slice())?;
-    let events = read_tokens::<SourceGrammar>(alloc, list, kinds.as_slice(), MAX_LEVELS)?;
-    Ok(build(alloc, list.tokens.as_slice(), events.as_slice())?)
-}
-
-/// The kinds of the tokens.
-fn kinds_in(alloc: Global, tokens: &[Token]) -> Result<Items<SourceKind>, AllocError>
-    ensures { IfOk result (λ kinds. kinds ≡ kinds_in tokens.now) }
-{
-    let mut kinds = Items::new(alloc);
-    for token in tokens {
-        kinds.push(SourceKind::of(&token.kind))?;
-    }
-    Ok(kinds)
+    parse::<SourceGrammar>(alloc, list)
 }

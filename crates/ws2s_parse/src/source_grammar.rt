@@ -1,15 +1,22 @@
-//! The grammar of WS2S text, as the reader of grammars takes it.
+//! The language of WS2S text, as the reader of texts takes it.
 
 ghost use Rattle.std.specs.Prelude.{◌≡◌};
+ghost use Rattle.ws2s_parse.specs.Building.{parts_of};
+ghost use Rattle.ws2s_parse.specs.Making.{after, source_in};
+ghost use Rattle.ws2s_parse.specs.MakingParts.{Parts as MadeParts, nothing};
 ghost use Rattle.ws2s_parse.specs.SourceGrammar.{source_grammar};
+ghost use Rattle.ws2s_parse.specs.SourceWords.{kind_of};
 ghost use Rattle.ws2s_parse.specs.Tables.{source_rules};
 ghost use Rattle.ws2s_parse.specs.Hints.{source_hints};
 ghost use Rattle.ws2s_parse.specs.TableLaws.{source_named, source_sound};
 
+use crate::build::{Parts, nothing};
 use crate::grammar::{SourceAct, SourceKind, SourcePart};
 use crate::tables::{SourceChoice, SourceSymbol, choices_of, number_of, row_of, starts_of};
 use ll1_reader::{Grammar, Symbol};
-use pale_text::Mark;
+use pale_text::{Language, Mark, Near, TokenKind};
+use std::alloc::{AllocError, Global};
+use ws2s_syntax::Source;
 
 /// The grammar of WS2S text.
 pub(crate) struct SourceGrammar;
@@ -64,4 +71,38 @@ impl Grammar for SourceGrammar {
     ghost named = { source_named };
 
     ghost sound = { source_sound };
+}
+
+impl Language for SourceGrammar {
+    type Parts = Parts;
+
+    type Tree = Source;
+
+    ghost Made = { MadeParts };
+
+    ghost made_of = { parts_of };
+
+    ghost nothing = { nothing };
+
+    ghost after = { after };
+
+    ghost tree_of = { source_in };
+
+    ghost kind_of = { kind_of };
+
+    fn kind(token: &TokenKind) -> SourceKind {
+        SourceKind::of(token)
+    }
+
+    fn begin(alloc: Global) -> Parts {
+        nothing(alloc)
+    }
+
+    fn perform(parts: &mut Parts, act: SourceAct, near: Near) -> Result<(), AllocError> {
+        parts.perform(act, near)
+    }
+
+    fn finish(parts: Parts) -> Source {
+        Source { items: parts.items }
+    }
 }

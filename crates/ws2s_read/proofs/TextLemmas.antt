@@ -134,7 +134,7 @@ refused-parsing bytes list refusal e lexed complete refused (stray is) = absurd 
 refused-parsing bytes list refusal e lexed complete refused (unparsed is) = refused refusal (parse-why bytes list refusal lexed is)
 refused-parsing bytes list refusal e lexed complete refused (misnamed is) =
     let parsed = parsed-as bytes list is.list is.source lexed is.lexed is.parsed in
-    inr (complete parsed.steps is.source parsed.source parsed.shallow)
+    inr (complete parsed.steps is.source parsed.sentence parsed.shallow)
 
 -- bytes whose tokens have a source tree are refused by its names alone
 pub refused-names : (bytes : List ℕ) (list : TokenList) (source : Source) (refusal : Refusal) (r : Result Text TextStop) → IsLexed bytes list →
@@ -145,4 +145,4 @@ refused-names bytes list source refusal r lexed only refused text stopped (stray
 refused-names bytes list source refusal r lexed only refused text stopped (unparsed is) = absurd (refused refusal (parse-why bytes list refusal lexed is))
 refused-names bytes list source refusal r lexed only refused text stopped (misnamed is) =
     let parsed = parsed-as bytes list is.list is.source lexed is.lexed is.parsed in
-    read-misnamed source is.source refusal r (only parsed.steps is.source parsed.source) is.fault text stopped
+    read-misnamed source is.source refusal r (only parsed.steps is.source parsed.sentence) is.fault text stopped

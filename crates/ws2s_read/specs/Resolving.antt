@@ -9,6 +9,7 @@ use Rattle.pale_text.specs.declared.refusal.RefusalKind.{RefusalKind}
 use Rattle.pale_text.specs.declared.refusal.RefusalKind.TheVariants as why
 use Rattle.pale_text.specs.declared.refusal.TextStop.{TextStop}
 use Rattle.pale_text.specs.declared.refusal.TextStop.TheVariants as stop
+use Rattle.pale_text.specs.Refusals.{refused_at}
 use Rattle.ws2s_syntax.specs.declared.name.Name.{Name}
 use Rattle.ws2s_syntax.specs.declared.name.Name.TheVariants as name
 use Rattle.ws2s_syntax.specs.declared.name.Successor.{Successor}
@@ -51,11 +52,8 @@ abbrev pub ◌>>=◌ : {A B : Type 0} → Found A → (A → Found B) → Found 
 Ok a >>= next = next a
 Err refusal >>= next = Err refusal
 
-abbrev pub refusal_at : Pos → RefusalKind → Refusal
-refusal_at place kind = record { line = place.line; column = place.column; kind = kind }
-
 abbrev pub refused : {T : Type 0} → Pos → RefusalKind → Found T
-refused place kind = Err (refusal_at place kind)
+refused place kind = Err (refused_at place kind)
 
 -- what a stop says of what is to be found: a refusal is the one of the first fault, and want of memory says nothing
 abbrev pub IsStop : {T : Type 0} → Found T → TextStop → Type 0

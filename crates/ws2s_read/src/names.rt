@@ -3,7 +3,8 @@
 ghost use Rattle.std.specs.Prelude.{◌≡◌, [], take, length, None, IfOk, IfErr, OnOk};
 ghost use Rattle.ws2s_read.specs.declared.names.Meaning.{Meaning as StandsFor};
 ghost use Rattle.pale_text.specs.declared.refusal.TextStop.TheVariants.{NoMemory, Refused};
-ghost use Rattle.ws2s_read.specs.Resolving.{refusal_at, meaning_of, known, declared, IsStop};
+ghost use Rattle.pale_text.specs.Refusals.{refused_at};
+ghost use Rattle.ws2s_read.specs.Resolving.{meaning_of, known, declared, IsStop};
 
 use indexmap::IndexMap;
 use pale_text::{Pos, Refusal, RefusalKind, TextStop};
@@ -104,13 +105,9 @@ impl Names {
 
 /// The refusal of a name or a term at this place.
 pub fn refused(place: Pos, kind: RefusalKind) -> TextStop
-    ensures { result ≡ Refused (refusal_at place kind) }
+    ensures { result ≡ Refused (refused_at place kind) }
 {
-    TextStop::Refused(Refusal {
-        line: place.line,
-        column: place.column,
-        kind,
-    })
+    TextStop::Refused(Refusal::at(place, kind))
 }
 
 /// A number that is kept in 32 bits. A text with more names than those isn't held in memory.

@@ -1,4 +1,4 @@
-//! The tokens with which each row may begin.
+//! The FIRST sets: the tokens with which each row may begin.
 
 ghost use Rattle.std.specs.Prelude.{◌≡◌};
 ghost use Rattle.pale_parse.specs.Hints.{starts_of};
@@ -7,7 +7,7 @@ use super::choice::ProgramChoice;
 use pale_syntax::ProgramKind;
 use pale_text::Mark;
 
-/// The kinds of the tokens with which a row may begin.
+/// The FIRST set of a row.
 #[tactic(auto, unfolding(crate::specs::Hints::starts_of))]
 pub(crate) fn starts_of(choice: ProgramChoice) -> &'static [ProgramKind]
     ensures { result.now ≡ starts_of choice }

@@ -1,11 +1,9 @@
 //! What the grammar of programs tells tokens apart by.
 
-ghost use Rattle.std.specs.Prelude.{◌≡◌, map};
-ghost use Rattle.std.specs.List.{find};
-ghost use Rattle.std.specs.Str.{bytes_eq};
-ghost use Rattle.pale_syntax.specs.ProgramWords.{kind_among, name_kind, kind_of};
+ghost use Rattle.std.specs.Prelude.{◌≡◌};
+ghost use Rattle.pale_syntax.specs.ProgramWords.{name_kind, kind_of};
 
-use pale_text::{Mark, TokenKind};
+use pale_text::{Mark, TokenKind, kind_among};
 
 /// The kind of a token of program text, as its grammar tells kinds apart.
 #[derive(Clone, Copy)]
@@ -108,29 +106,12 @@ const RESERVED: [(&[u8], ProgramKind); 29] = [
     (b"root", ProgramKind::Root),
 ];
 
-/// The first of these words that is the name.
-fn entry_of<'w>(words: &[(&'w [u8], ProgramKind)], name: &[u8]) -> Option<(&'w [u8], ProgramKind)>
-    ensures { result ≡ find (λ word. bytes_eq word.0.now name.now) words.now }
-{
-    words.iter().copied().find(|word| word.0 == name)
-}
-
-/// The kind that stands beside a word, and that of names where the word is not among these.
-fn kind_among(words: &[(&[u8], ProgramKind)], name: &[u8]) -> ProgramKind
-    ensures { result ≡ kind_among (map (λ word. (word.0.now, word.1)) words.now) name.now }
-{
-    match entry_of(words, name) {
-        Some((_, kind)) => kind,
-        None => ProgramKind::Name,
-    }
-}
-
 /// The kind of a name: its own where it is reserved.
 #[tactic(auto, unfolding(crate::specs::ProgramWords::name_kind))]
 fn name_kind(name: &[u8]) -> ProgramKind
     ensures { result ≡ name_kind name.now }
 {
-    kind_among(&RESERVED, name)
+    kind_among(&RESERVED, ProgramKind::Name, name)
 }
 
 impl ProgramKind {

@@ -5,9 +5,9 @@ ghost use Rattle.std.specs.Option.{option_copied};
 ghost use Rattle.ws2s_parse.specs.Making.{after_atom};
 ghost use Rattle.ws2s_parse.specs.Building.{parts_of};
 
+use super::names::name_of;
 use super::parts::Parts;
 use super::takes::{take_name, take_term};
-use super::tokens::name_of;
 use crate::grammar::AtomAct;
 use pale_text::Token;
 use plain_data::Items;

@@ -6,9 +6,9 @@ ghost use Rattle.ws2s_parse.specs.Making.{after_connective, both, either, equiva
 ghost use Rattle.ws2s_parse.specs.Building.{parts_of};
 
 use super::binding::Binding;
+use super::names::name_of;
 use super::parts::Parts;
 use super::takes::{take_binding, take_formula};
-use super::tokens::name_of;
 use crate::grammar::ConnectiveAct;
 use pale_text::Token;
 use plain_data::{Boxed, Items};

@@ -6,7 +6,8 @@ ghost use Rattle.ws2s_parse.specs.MakingParts.{nameless};
 ghost use Rattle.ws2s_parse.specs.Making.{termless, formulaless, bindingless};
 
 use super::binding::Binding;
-use super::tokens::{nameless, nowhere};
+use super::names::nameless;
+use pale_text::nowhere;
 use plain_data::{Items, Stack};
 use std::alloc::Global;
 use ws2s_syntax::{Quantifier, SourceBase, SourceFormula, SourceName, SourceTerm};

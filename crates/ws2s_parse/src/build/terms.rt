@@ -5,11 +5,11 @@ ghost use Rattle.std.specs.Option.{option_copied};
 ghost use Rattle.ws2s_parse.specs.Making.{after_term};
 ghost use Rattle.ws2s_parse.specs.Building.{parts_of};
 
+use super::names::name_of;
 use super::parts::Parts;
 use super::takes::{take_name, take_term};
-use super::tokens::{name_of, place_of};
 use crate::grammar::TermAct;
-use pale_text::Token;
+use pale_text::{Token, place_of};
 use plain_data::Items;
 use std::alloc::AllocError;
 use ws2s_syntax::{SourceBase, SourceTerm, Successor};

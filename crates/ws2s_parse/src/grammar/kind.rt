@@ -1,11 +1,9 @@
 //! What the grammar of WS2S text tells tokens apart by.
 
-ghost use Rattle.std.specs.Prelude.{◌≡◌, map};
-ghost use Rattle.std.specs.List.{find};
-ghost use Rattle.std.specs.Str.{bytes_eq};
-ghost use Rattle.ws2s_parse.specs.SourceWords.{kind_among, name_kind, number_kind, kind_of};
+ghost use Rattle.std.specs.Prelude.{◌≡◌};
+ghost use Rattle.ws2s_parse.specs.SourceWords.{name_kind, number_kind, kind_of};
 
-use pale_text::{Mark, TokenKind};
+use pale_text::{Mark, TokenKind, kind_among};
 
 /// The kind of a token of WS2S text, as its grammar tells kinds apart.
 #[derive(Clone, Copy)]
@@ -72,23 +70,6 @@ const RESERVED: [(&[u8], SourceKind); 15] = [
 
 /// The numbers that texts have, each with its kind.
 const NUMBERS: [(&[u8], SourceKind); 2] = [(b"0", SourceKind::Zero), (b"1", SourceKind::One)];
-
-/// The first of these words that is the one wanted.
-fn entry_of<'w>(words: &[(&'w [u8], SourceKind)], wanted: &[u8]) -> Option<(&'w [u8], SourceKind)>
-    ensures { result ≡ find (λ word. bytes_eq word.0.now wanted.now) words.now }
-{
-    words.iter().copied().find(|word| word.0 == wanted)
-}
-
-/// The kind that stands beside a word, and the other kind where the word is not among these.
-fn kind_among(words: &[(&[u8], SourceKind)], other: SourceKind, wanted: &[u8]) -> SourceKind
-    ensures { result ≡ kind_among (map (λ word. (word.0.now, word.1)) words.now) other wanted.now }
-{
-    match entry_of(words, wanted) {
-        Some((_, kind)) => kind,
-        None => other,
-    }
-}
 
 /// The kind of a name: its own where it is reserved.
 #[tactic(auto, unfolding(crate::specs::SourceWords::name_kind))]

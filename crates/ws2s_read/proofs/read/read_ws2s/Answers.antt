@@ -33,7 +33,7 @@ returns-in_err-source-clause-complete c = λ other reads.
     let e = c.in_err-source.field-0.0 in
     let parsed = parsed-as c.args.text.now c.in_ok-list.list reads.list reads.source c.in_ok-list.ensures.tokens reads.lexed reads.parsed in
     passed-complete c.from_residual-in_err-source.result e _ c.from_residual-in_err-source.ensures.1
-    (c.in_err-source.ensures.complete parsed.steps reads.source parsed.source parsed.shallow)
+    (c.in_err-source.ensures.complete parsed.steps reads.source parsed.sentence parsed.shallow)
 
 pub returns-in_err-source-clause-refused : goal.returns-in_err-source-clause-refused
 returns-in_err-source-clause-refused c = λ refusal is.
@@ -56,14 +56,14 @@ returns-clause-stop c =
 pub returns-clause-only : goal.returns-clause-only
 returns-clause-only c = λ other reads.
     let parsed = parsed-as c.args.text.now c.in_ok-list.list reads.list reads.source c.in_ok-list.ensures.tokens reads.lexed reads.parsed in
-    read-only c.in_ok-source.source reads.source other c.resolve.result (c.in_ok-source.ensures.only parsed.steps reads.source parsed.source)
+    read-only c.in_ok-source.source reads.source other c.resolve.result (c.in_ok-source.ensures.only parsed.steps reads.source parsed.sentence)
     reads.found c.resolve.ensures.text
 
 pub returns-clause-complete : goal.returns-clause-complete
 returns-clause-complete c = λ other reads.
     let parsed = parsed-as c.args.text.now c.in_ok-list.list reads.list reads.source c.in_ok-list.ensures.tokens reads.lexed reads.parsed in
     read-complete c.in_ok-source.source reads.source other c.resolve.result
-    (c.in_ok-source.ensures.only parsed.steps reads.source parsed.source) reads.found c.resolve.ensures.stop
+    (c.in_ok-source.ensures.only parsed.steps reads.source parsed.sentence) reads.found c.resolve.ensures.stop
 
 pub returns-clause-refused : goal.returns-clause-refused
 returns-clause-refused c = λ refusal is.
