@@ -13,8 +13,6 @@ mod names;
 mod place;
 mod procedure;
 mod steps;
-#[cfg(test)]
-mod tests;
 
 use crate::program::{BoolProc, BoolProgram, BoolStop};
 use crate::read::procedure::read_procedure;

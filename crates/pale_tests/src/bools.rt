@@ -1,5 +1,6 @@
-use super::*;
-use crate::program::{BoolExpr, BoolStmt};
+//! A procedure of bools, read part by part.
+
+use bool_path::{BoolExpr, BoolStmt, read_bools};
 use std::test::Fail;
 
 const NEGATION: &[u8] = b"proc neg(bool a) returns (bool b)\n\
