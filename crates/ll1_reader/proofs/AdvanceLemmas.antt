@@ -12,46 +12,46 @@ use Rattle.ll1_reader.specs.declared.work.Work.{Work}
 use Rattle.ll1_reader.specs.declared.work.Frame.{Frame}
 use Rattle.ll1_reader.proofs.FrameLemmas.{pile-last}
 use Rattle.ll1_reader.specs.Grammars.{Rules}
-use Rattle.ll1_reader.specs.Predicting.{Hints}
+use Rattle.ll1_reader.specs.Predicting.{Table}
 use Rattle.ll1_reader.specs.Readings.{Stack, Bottom, Row, Step}
 use Rattle.ll1_reader.specs.Answers.{event_of}
 use Rattle.ll1_reader.specs.Moves.{IsMove, AreMoves, stay, move, IsTake, IsTooDeep, IsStuck, IsReady}
 use Rattle.ll1_reader.specs.Frames.{pile, stack_of}
 use Rattle.ll1_reader.specs.Advancing.{MovesOnce, StaysReady, Takes, TakesToken, Exposed, Sticks, IsFed, IsFinished}
 
-module _ {N P A K : Type 0} (rules : Rules N P A K) (hints : Hints N P K) where
+module _ {N P A K : Type 0} (rules : Rules N P A K) (table : Table N P K) where
   pub moves_by : (next : Option K) (row row' : List (Symbol N A K)) (d : ℕ) (t : Stack N A K) (done : List (Step A)) (old new : Work N A K) →
-      row ≡ row' → IsMove rules hints next (Row row' d (stack_of old)) t done → stack_of new ≡ t → new.events ≡ old.events ++ map event_of done →
-      MovesOnce rules hints next (Row row d (stack_of old)) old new
+      row ≡ row' → IsMove rules table next (Row row' d (stack_of old)) t done → stack_of new ≡ t → new.events ≡ old.events ++ map event_of done →
+      MovesOnce rules table next (Row row d (stack_of old)) old new
   moves_by next row row' d t done old new same m to events = record {
     done = done;
     moved =
-        subst (λ x. IsMove rules hints next (Row x d (stack_of old)) (stack_of new) done) (sym same)
-        (subst (λ x. IsMove rules hints next (Row row' d (stack_of old)) x done) (sym to) m);
+        subst (λ x. IsMove rules table next (Row x d (stack_of old)) (stack_of new) done) (sym same)
+        (subst (λ x. IsMove rules table next (Row row' d (stack_of old)) x done) (sym to) m);
     happened = events;
   }
 
   -- a move that puts one row on another
   pub moves_by_two : (next : Option K) (row row' rest r r' : List (Symbol N A K)) (d : ℕ) (old mid new : Work N A K) →
-      row ≡ row' → IsMove rules hints next (Row row' d (stack_of old)) (Row r' d (Row rest d (stack_of old))) [] →
+      row ≡ row' → IsMove rules table next (Row row' d (stack_of old)) (Row r' d (Row rest d (stack_of old))) [] →
       stack_of mid ≡ Row rest d (stack_of old) → stack_of new ≡ Row r d (stack_of mid) → r ≡ r' → mid.events ≡ old.events → new.events ≡ mid.events →
-      MovesOnce rules hints next (Row row d (stack_of old)) old new
-  moves_by_two next row row' rest r r' d old mid new same m first second choice one two =
-      let to : stack_of new ≡ Row r' d (Row rest d (stack_of old)) = second ∙ ap (λ x. Row x d (stack_of mid)) choice ∙ ap (λ x. Row r' d x) first in
+      MovesOnce rules table next (Row row d (stack_of old)) old new
+  moves_by_two next row row' rest r r' d old mid new same m first second production one two =
+      let to : stack_of new ≡ Row r' d (Row rest d (stack_of old)) = second ∙ ap (λ x. Row x d (stack_of mid)) production ∙ ap (λ x. Row r' d x) first in
       moves_by next row row' d (Row r' d (Row rest d (stack_of old))) [] old new same m to (two ∙ one ∙ sym (append-nil old.events))
 
   -- a move that does nothing but put a row on
   pub moves_by_one : (next : Option K) (row row' r : List (Symbol N A K)) (d : ℕ) (old new : Work N A K) →
-      row ≡ row' → IsMove rules hints next (Row row' d (stack_of old)) (Row r d (stack_of old)) [] →
+      row ≡ row' → IsMove rules table next (Row row' d (stack_of old)) (Row r d (stack_of old)) [] →
       stack_of new ≡ Row r d (stack_of old) → new.events ≡ old.events →
-      MovesOnce rules hints next (Row row d (stack_of old)) old new
+      MovesOnce rules table next (Row row d (stack_of old)) old new
   moves_by_one next row row' r d old new same m to one =
       moves_by next row row' d (Row r d (stack_of old)) [] old new same m to (one ∙ sym (append-nil old.events))
 
   -- a token that was read
   pub takes_by : (limit : ℕ) (k : K) (row row' : List (Symbol N A K)) (d : ℕ) (t : Stack N A K) (step : Step A) (old new : Work N A K) →
       row ≡ row' → IsTake limit k (Row row' d (stack_of old)) t step → stack_of new ≡ t → new.events ≡ old.events ++ event_of step ∷ [] →
-      Takes rules hints limit k (Row row d (stack_of old)) old new
+      Takes rules table limit k (Row row d (stack_of old)) old new
   takes_by limit k row row' d t step old new same m to events = record {
     step = step;
     taken =
@@ -61,19 +61,19 @@ module _ {N P A K : Type 0} (rules : Rules N P A K) (hints : Hints N P K) where
   }
 
   -- moves after moves
-  pub moves_then : {next : Option K} {s t : Stack N A K} {a : List (Step A)} → AreMoves rules hints next s t a →
-      (u : Stack N A K) (b : List (Step A)) → AreMoves rules hints next t u b → AreMoves rules hints next s u (a ++ b)
+  pub moves_then : {next : Option K} {s t : Stack N A K} {a : List (Step A)} → AreMoves rules table next s t a →
+      (u : Stack N A K) (b : List (Step A)) → AreMoves rules table next t u b → AreMoves rules table next s u (a ++ b)
   moves_then (stay s) u b n = n
   moves_then {next = next} (move s t v done more m ms) u b n =
-      subst (λ (x : List (Step A)). AreMoves rules hints next s u x) (sym (append_assoc done more b)) (move s t u done (more ++ b) m (moves_then ms u b n))
+      subst (λ (x : List (Step A)). AreMoves rules table next s u x) (sym (append_assoc done more b)) (move s t u done (more ++ b) m (moves_then ms u b n))
 
-  pub one_move : (next : Option K) (s t : Stack N A K) (a : List (Step A)) → IsMove rules hints next s t a → AreMoves rules hints next s t a
-  one_move next s t a m = subst (λ (x : List (Step A)). AreMoves rules hints next s t x) (append-nil a) (move s t t a [] m (stay t))
+  pub one_move : (next : Option K) (s t : Stack N A K) (a : List (Step A)) → IsMove rules table next s t a → AreMoves rules table next s t a
+  one_move next s t a m = subst (λ (x : List (Step A)). AreMoves rules table next s t x) (append-nil a) (move s t t a [] m (stay t))
 
   -- what is told of a reader that goes on between two tokens
   pub record Exposing (next : Option K) (first now : Work N A K) : Type 0 where
     pub done : List (Step A)
-    pub moved : AreMoves rules hints next (stack_of first) (stack_of now) done
+    pub moved : AreMoves rules table next (stack_of first) (stack_of now) done
     pub happened : now.events ≡ first.events ++ map event_of done
 
   pub exposing_first : (next : Option K) (w : Work N A K) → Exposing next w w
@@ -87,12 +87,12 @@ module _ {N P A K : Type 0} (rules : Rules N P A K) (hints : Hints N P K) where
   -- after one more move
   pub exposing_more : (next : Option K) (row : List (Symbol N A K)) (d : ℕ) (first now old new : Work N A K) →
       Exposing next first now → stack_of now ≡ Row row d (stack_of old) → old.events ≡ now.events →
-      MovesOnce rules hints next (Row row d (stack_of old)) old new → Exposing next first new
+      MovesOnce rules table next (Row row d (stack_of old)) old new → Exposing next first new
   exposing_more next row d first now old new e top same m = record {
     done = e.done ++ m.done;
     moved =
         moves_then e.moved (stack_of new) m.done
-        (one_move next (stack_of now) (stack_of new) m.done (subst (λ x. IsMove rules hints next x (stack_of new) m.done) (sym top) m.moved));
+        (one_move next (stack_of now) (stack_of new) m.done (subst (λ x. IsMove rules table next x (stack_of new) m.done) (sym top) m.moved));
     happened = m.happened ∙ ap (λ x. x ++ map event_of m.done) (same ∙ e.happened) ∙ append_assoc first.events (map event_of e.done) (map event_of m.done)
         ∙ ap (λ x. first.events ++ x) (sym (map-append event_of e.done m.done));
   }
@@ -100,10 +100,10 @@ module _ {N P A K : Type 0} (rules : Rules N P A K) (hints : Hints N P K) where
   -- where a token was found on top
   pub exposed_by : (next : Option K) (row : List (Symbol N A K)) (d : ℕ) (first now old new : Work N A K) →
       Exposing next first now → stack_of now ≡ Row row d (stack_of old) → old.events ≡ now.events →
-      StaysReady rules hints (Row row d (stack_of old)) old new → Exposed rules hints next first new
+      StaysReady rules table (Row row d (stack_of old)) old new → Exposed rules table next first new
   exposed_by next row d first now old new e top same r = record {
     done = e.done;
-    moved = subst (λ x. AreMoves rules hints next (stack_of first) x e.done) (top ∙ sym r.same) e.moved;
+    moved = subst (λ x. AreMoves rules table next (stack_of first) x e.done) (top ∙ sym r.same) e.moved;
     ready = subst IsReady (sym r.same) r.ready;
     happened = r.happened ∙ same ∙ e.happened;
   }
@@ -111,15 +111,15 @@ module _ {N P A K : Type 0} (rules : Rules N P A K) (hints : Hints N P K) where
   -- where nothing begins with what comes next
   pub sticks_by : (next : Option K) (row : List (Symbol N A K)) (d : ℕ) (first now old : Work N A K) → Exposing next first now →
       stack_of now ≡ Row row d (stack_of old) →
-      IsStuck rules hints next (Row row d (stack_of old)) → Sticks rules hints next (stack_of first)
+      IsStuck rules table next (Row row d (stack_of old)) → Sticks rules table next (stack_of first)
   sticks_by next row d first now old e top s =
-      record { there = stack_of now; done = e.done; moved = e.moved; stuck = subst (IsStuck rules hints next) (sym top) s }
+      record { there = stack_of now; done = e.done; moved = e.moved; stuck = subst (IsStuck rules table next) (sym top) s }
 
   -- a token that was fed: moves, and then the token
   pub fed_by : {E : Type 0} (limit : ℕ) (k : K) (row : List (Symbol N A K)) (d : ℕ) (first mid old new : Work N A K) (r : Result Fed E) →
-      Exposed rules hints (Some k) first mid →
+      Exposed rules table (Some k) first mid →
       stack_of mid ≡ Row row d (stack_of old) → old.events ≡ mid.events →
-      IfOk r (TakesToken rules hints limit k row d old new) → IfOk r (IsFed rules hints limit k first new)
+      IfOk r (TakesToken rules table limit k row d old new) → IfOk r (IsFed rules table limit k first new)
   fed_by limit k row d first mid old new (Err e) x top same t = tt
   fed_by limit k row d first mid old new (Ok fed.Read) x top same t = record {
     there = stack_of mid;
@@ -131,7 +131,7 @@ module _ {N P A K : Type 0} (rules : Rules N P A K) (hints : Hints N P K) where
         ∙ ap (λ y. first.events ++ y) (sym (map-append event_of x.done (t.step ∷ [])));
   }
   fed_by limit k row d first mid old new (Ok fed.Wrong) x top same t =
-      record { there = stack_of mid; done = x.done; moved = x.moved; stuck = subst (IsStuck rules hints (Some k)) (sym top) t }
+      record { there = stack_of mid; done = x.done; moved = x.moved; stuck = subst (IsStuck rules table (Some k)) (sym top) t }
   fed_by limit k row d first mid old new (Ok fed.Deep) x top same t =
       record { there = stack_of mid; done = x.done; moved = x.moved; deep = subst (IsTooDeep limit k) (sym top) t }
 
@@ -141,7 +141,7 @@ module _ {N P A K : Type 0} (rules : Rules N P A K) (hints : Hints N P K) where
   pile-row [] row d below e = cc
   pile-row (frame ∷ frames) row d below e = pile-row frames frame.rest.now frame.depth (Row row d below) e
 
-  stuck_at_end : (s : Stack N A K) → IsReady s → (s ≡ Bottom → ⊥) → IsStuck rules hints None s
+  stuck_at_end : (s : Stack N A K) → IsReady s → (s ≡ Bottom → ⊥) → IsStuck rules table None s
   stuck_at_end Bottom r f = absurd (f refl)
   stuck_at_end (Row [] d below) r f = r
   stuck_at_end (Row (Read k ∷ row) d below) r f = λ e. cc e
@@ -156,13 +156,13 @@ module _ {N P A K : Type 0} (rules : Rules N P A K) (hints : Hints N P K) where
   nil_or_not (frame ∷ frames) h e = pile-row frames frame.rest.now frame.depth Bottom e
 
   -- where the tokens end: whether a frame is left
-  pub finished_by : (first now : Work N A K) (b : Bool) → Exposed rules hints None first now →
-      b ≡ (length now.frames.items == 0) → IsFinished rules hints first now b
+  pub finished_by : (first now : Work N A K) (b : Bool) → Exposed rules table None first now →
+      b ≡ (length now.frames.items == 0) → IsFinished rules table first now b
   finished_by first now true x e =
       let none : now.frames.items ≡ [] = nil_from_length now.frames.items (eqb-true _ _ (sym e)) in
       record {
         done = x.done;
-        moved = subst (λ y. AreMoves rules hints None (stack_of first) y x.done)
+        moved = subst (λ y. AreMoves rules table None (stack_of first) y x.done)
             (ap (λ y. pile y Bottom) none) x.moved;
         happened = x.happened;
       }

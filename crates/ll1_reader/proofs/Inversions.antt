@@ -29,19 +29,19 @@ module _ {N P A K : Type 0} (rules : Rules N P A K) (M : N → List K → Type 0
 
   pub un_once : {n : N} {row : List (Symbol N A K)} {d : ℕ} {below : Stack N A K} {ks : List K} {steps : List (Step A)} →
       Reads rules M (Row (Once n ∷ row) d below) ks steps →
-      (p : P) × IsOneOf p (rules.choices n) × Reads rules M (Row (rules.row p) d (Row row d below)) ks steps
+      (p : P) × IsOneOf p (rules.productions n) × Reads rules M (Row (rules.row p) d (Row row d below)) ks steps
   un_once (once n p row d below ks steps i r) = (p, i, r)
 
   pub un_maybe : {n : N} {row : List (Symbol N A K)} {d : ℕ} {below : Stack N A K} {ks : List K} {steps : List (Step A)} →
       Reads rules M (Row (Maybe n ∷ row) d below) ks steps →
-      ((p : P) × IsOneOf p (rules.choices n) × Reads rules M (Row (rules.row p) d (Row row d below)) ks steps)
+      ((p : P) × IsOneOf p (rules.productions n) × Reads rules M (Row (rules.row p) d (Row row d below)) ks steps)
       ⊎ (M n ks × Reads rules M (Row row d below) ks steps)
   un_maybe (taken n p row d below ks steps i r) = inl (p, i, r)
   un_maybe (left_out n row d below ks steps m r) = inr (m, r)
 
   pub un_many : {n : N} {row : List (Symbol N A K)} {d : ℕ} {below : Stack N A K} {ks : List K} {steps : List (Step A)} →
       Reads rules M (Row (Many n ∷ row) d below) ks steps →
-      ((p : P) × IsOneOf p (rules.choices n) × Reads rules M (Row (rules.row p) d (Row (Many n ∷ row) d below)) ks steps)
+      ((p : P) × IsOneOf p (rules.productions n) × Reads rules M (Row (rules.row p) d (Row (Many n ∷ row) d below)) ks steps)
       ⊎ (M n ks × Reads rules M (Row row d below) ks steps)
   un_many (again n p row d below ks steps i r) = inl (p, i, r)
   un_many (ended n row d below ks steps m r) = inr (m, r)

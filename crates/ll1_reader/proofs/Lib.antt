@@ -1,5 +1,5 @@
 pub mod AdvanceLemmas
-pub mod ChoiceLemmas
+pub mod ProductionLemmas
 pub mod CompleteLemmas
 pub mod Ends
 pub mod Firsts

@@ -17,7 +17,7 @@ use Rattle.ll1_reader.proofs.CompleteLemmas.{not_wrong, not_deep}
 module _ {N P Q A K : Type 0} (one : Rules N P A K) (other : Rules N Q A K) where
   -- each row of the one is a row of the other
   abbrev pub Has : Type 0
-  Has = (n : N) (p : P) → IsOneOf p (one.choices n) → (q : Q) × IsOneOf q (other.choices n) × (other.row q ≡ one.row p)
+  Has = (n : N) (p : P) → IsOneOf p (one.productions n) → (q : Q) × IsOneOf q (other.productions n) × (other.row q ≡ one.row p)
 
   -- a reading by the one is a reading by the other, where as much may end
   pub carried : (M : N → List K → Type 0) (M' : N → List K → Type 0) → Has → ((n : N) (ks : List K) → M n ks → M' n ks) →
@@ -66,10 +66,10 @@ module _ {N P A K : Type 0} (grammar : Rows N A K) (rules : Rules N P A K) (name
   map_of_one (q ∷ ps) p (inr i) = inr (map_of_one ps p i)
 
   to_rows : Has rules (rules_of grammar)
-  to_rows n p i = (rules.row p, subst (λ (l : List (List (Symbol N A K))). IsOneOf (rules.row p) l) (named.rows n) (map_of_one (rules.choices n) p i), refl)
+  to_rows n p i = (rules.row p, subst (λ (l : List (List (Symbol N A K))). IsOneOf (rules.row p) l) (named.rows n) (map_of_one (rules.productions n) p i), refl)
 
   to_names : Has (rules_of grammar) rules
-  to_names n row i = one_of_map (rules.choices n) row (subst (λ (l : List (List (Symbol N A K))). IsOneOf row l) (sym (named.rows n)) i)
+  to_names n row i = one_of_map (rules.productions n) row (subst (λ (l : List (List (Symbol N A K))). IsOneOf row l) (sym (named.rows n)) i)
 
   pub reading_to_rows : (tokens : List K) (steps : List (Step A)) → IsReading rules tokens steps → IsReading (rules_of grammar) tokens steps
   reading_to_rows tokens steps r =

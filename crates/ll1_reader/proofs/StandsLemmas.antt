@@ -7,7 +7,7 @@ use Rattle.ll1_reader.specs.declared.symbol.Symbol.{Symbol}
 use Rattle.ll1_reader.specs.declared.symbol.Symbol.TheVariants.{Read, Open, Once, Maybe, Many, Act}
 use Rattle.ll1_reader.specs.declared.work.Work.{Work}
 use Rattle.ll1_reader.specs.Grammars.{Rules}
-use Rattle.ll1_reader.specs.Predicting.{Hints, IsSound}
+use Rattle.ll1_reader.specs.Predicting.{Table, IsLl1}
 use Rattle.ll1_reader.specs.Readings.{Stack, Bottom, Row, Step, Took, Did, Reads, over, read, opened, IsNotBegun, IsAnyReading, IsReading}
 use Rattle.ll1_reader.specs.Answers.{levels, event_of, AreLow, IsParsed, NoneGoesOn, IsWrongAt, IsDeepAt}
 use Rattle.ll1_reader.specs.Moves.{IsMove, row_end, act, enter, take_it, leave_it, go_on, stop, AreMoves, stay, move, IsTake, take_read, take_open, IsTooDeep}
@@ -49,25 +49,25 @@ get_front xs y ys n e = subst (λ m. slice_get (xs ++ y ∷ ys) m ≡ Some y) e 
     by [] = refl
     by (z ∷ zs) = by zs
 
-module _ {N P A K : Type 0} (rules : Rules N P A K) (hints : Hints N P K) (limit : ℕ) where
+module _ {N P A K : Type 0} (rules : Rules N P A K) (table : Table N P K) (limit : ℕ) where
   -- these tokens are read, and this is what is left and what happened
   pub record Stands (before : List K) (w : Work N A K) : Type 0 where
     pub steps : List (Step A)
     pub low : AreLow limit (levels steps)
     pub count : length (levels steps) ≡ length before
     pub happened : w.events ≡ map event_of steps
-    pub safe : IsSafe rules hints (stack_of w)
-    pub shallow : IsShallow rules hints limit (stack_of w)
+    pub safe : IsSafe rules table (stack_of w)
+    pub shallow : IsShallow rules table limit (stack_of w)
     pub back : (ks : List K) (more : List (Step A)) → Reads rules (IsNotBegun rules) (stack_of w) ks more → IsReading rules (before ++ ks) (steps ++ more)
     pub on : (ks : List K) (more : List (Step A)) → IsReading rules (before ++ ks) more →
         (rest : List (Step A)) × (more ≡ steps ++ rest) × Reads rules (IsNotBegun rules) (stack_of w) ks rest
 
-module _ {N P A K : Type 0} (rules : Rules N P A K) (hints : Hints N P K) (sound : IsSound rules hints) (limit : ℕ) where
+module _ {N P A K : Type 0} (rules : Rules N P A K) (table : Table N P K) (sound : IsLl1 rules table) (limit : ℕ) where
   abbrev Counts : N → List K → Type 0
   Counts = IsNotBegun rules
 
   -- between two tokens no level is noted
-  move_levels : {next : Option K} {s t : Stack N A K} {done : List (Step A)} → IsMove rules hints next s t done → levels done ≡ []
+  move_levels : {next : Option K} {s t : Stack N A K} {done : List (Step A)} → IsMove rules table next s t done → levels done ≡ []
   move_levels (row_end d below) = refl
   move_levels (act a row d below) = refl
   move_levels (enter n p row d below i h) = refl
@@ -76,7 +76,7 @@ module _ {N P A K : Type 0} (rules : Rules N P A K) (hints : Hints N P K) (sound
   move_levels (go_on n p row d below i h) = refl
   move_levels (stop n row d below h) = refl
 
-  moves_levels : {next : Option K} {s t : Stack N A K} {done : List (Step A)} → AreMoves rules hints next s t done → levels done ≡ []
+  moves_levels : {next : Option K} {s t : Stack N A K} {done : List (Step A)} → AreMoves rules table next s t done → levels done ≡ []
   moves_levels (stay s) = refl
   moves_levels (move s t u done more m ms) = levels-append done more ∙ ap (λ l. l ++ levels more) (move_levels m) ∙ moves_levels ms
 
@@ -98,15 +98,15 @@ module _ {N P A K : Type 0} (rules : Rules N P A K) (hints : Hints N P K) (sound
       let same : ks ≡ u.0 = cc (u.2) in
       (u.1, u.3, subst (λ (x : List K). Reads rules Counts (Row row (suc d) below) x u.1) (sym same) u.4)
 
-  take_safe : {k : K} {s t : Stack N A K} {step : Step A} → IsTake limit k s t step → IsSafe rules hints s → IsSafe rules hints t
+  take_safe : {k : K} {s t : Stack N A K} {step : Step A} → IsTake limit k s t step → IsSafe rules table s → IsSafe rules table t
   take_safe (take_read row d below) w = (w.0.1, w.1)
   take_safe (take_open row d below h) w = (w.0.1, w.1)
 
-  take_shallow : {k : K} {s t : Stack N A K} {step : Step A} → IsTake limit k s t step → IsShallow rules hints limit s → IsShallow rules hints limit t
+  take_shallow : {k : K} {s t : Stack N A K} {step : Step A} → IsTake limit k s t step → IsShallow rules table limit s → IsShallow rules table limit t
   take_shallow (take_read row d below) w = w
   take_shallow (take_open row d below h) w = (h, w.1)
 
-  take_low : {k : K} {s t : Stack N A K} {step : Step A} → IsTake limit k s t step → IsShallow rules hints limit s → AreLow limit (levels (step ∷ []))
+  take_low : {k : K} {s t : Stack N A K} {step : Step A} → IsTake limit k s t step → IsShallow rules table limit s → AreLow limit (levels (step ∷ []))
   take_low (take_read row d below) w = (w.0, tt)
   take_low (take_open row d below h) w = (h, tt)
 
@@ -115,11 +115,11 @@ module _ {N P A K : Type 0} (rules : Rules N P A K) (hints : Hints N P K) (sound
   take_one (take_open row d below h) = refl
 
   -- a token that was fed is read
-  pub stands_fed : (before : List K) (k : K) (old new : Work N A K) → Stands rules hints limit before old →
-      Feeds rules hints limit k old new → Stands rules hints limit (before ++ k ∷ []) new
+  pub stands_fed : (before : List K) (k : K) (old new : Work N A K) → Stands rules table limit before old →
+      Feeds rules table limit k old new → Stands rules table limit (before ++ k ∷ []) new
   stands_fed before k old new s f =
-      let lead = moves_lead rules hints sound f.moved in
-      let shallow = moves_shallow rules hints sound limit f.moved s.shallow in
+      let lead = moves_lead rules table sound f.moved in
+      let shallow = moves_shallow rules table sound limit f.moved s.shallow in
       let noted : levels (s.steps ++ (f.done ++ f.step ∷ [])) ≡ levels s.steps ++ levels (f.step ∷ []) =
       levels-append s.steps (f.done ++ f.step ∷ [])
       ∙ ap (λ l. levels s.steps ++ l) (levels-append f.done (f.step ∷ []) ∙ ap (λ l. l ++ levels (f.step ∷ [])) (moves_levels f.moved)) in
@@ -130,7 +130,7 @@ module _ {N P A K : Type 0} (rules : Rules N P A K) (hints : Hints N P K) (sound
             ap length noted ∙ length-append (levels s.steps) (levels (f.step ∷ []))
             ∙ omega (arith, s.count, take_one f.taken, length-append before (k ∷ []));
         happened = f.happened ∙ ap (λ x. x ++ map event_of (f.done ++ f.step ∷ [])) s.happened ∙ sym (map-append event_of s.steps (f.done ++ f.step ∷ []));
-        safe = take_safe f.taken (moves_safe rules hints sound f.moved s.safe);
+        safe = take_safe f.taken (moves_safe rules table sound f.moved s.safe);
         shallow = take_shallow f.taken shallow;
         back = λ ks more r.
             let there = s.back (k ∷ ks) (f.done ++ f.step ∷ more) (lead.back (k ∷ ks) (f.step ∷ more) refl (take_back f.taken ks more r)) in
@@ -153,26 +153,26 @@ module _ {N P A K : Type 0} (rules : Rules N P A K) (hints : Hints N P K) (sound
   -- ---- the answers
 
   -- what is read so far begins a sentence
-  goes_on : (before : List K) (w : Work N A K) → Stands rules hints limit before w → Ends rules hints sound Counts (not_begun rules hints sound) (stack_of w)
-  goes_on before w s = can_end rules hints sound Counts (not_begun rules hints sound) (stack_of w) s.safe
+  goes_on : (before : List K) (w : Work N A K) → Stands rules table limit before w → Ends rules table sound Counts (not_begun rules table sound) (stack_of w)
+  goes_on before w s = can_end rules table sound Counts (not_begun rules table sound) (stack_of w) s.safe
 
   -- any sentence that goes on so has a reading that counts, and goes on from what is left
-  any_on : (before : List K) (w : Work N A K) → Stands rules hints limit before w →
-      IsSafe rules hints (Row rules.text 0 Bottom) → (ks : List K) (steps : List (Step A)) → IsAnyReading rules (before ++ ks) steps →
+  any_on : (before : List K) (w : Work N A K) → Stands rules table limit before w →
+      IsSafe rules table (Row rules.text 0 Bottom) → (ks : List K) (steps : List (Step A)) → IsAnyReading rules (before ++ ks) steps →
       (rest : List (Step A)) × Reads rules Counts (stack_of w) ks rest
   any_on before w s t ks steps r =
-      let counted = any_counts rules hints sound (Row rules.text 0 Bottom) (before ++ ks) steps t r in
+      let counted = any_counts rules table sound (Row rules.text 0 Bottom) (before ++ ks) steps t r in
       let on = s.on ks counted.0 counted.1 in
       (on.0, on.2)
 
   pub stands_wrong : (tokens : List K) (place : ℕ) (before after : List K) (k : K) (w : Work N A K) → place ≤ length tokens →
       length before ≡ place → take place tokens ≡ before → drop place tokens ≡ k ∷ after →
-      IsSafe rules hints (Row rules.text 0 Bottom) → Stands rules hints limit before w →
-      Sticks rules hints (Some k) (stack_of w) → IsWrongAt rules limit tokens place
+      IsSafe rules table (Row rules.text 0 Bottom) → Stands rules table limit before w →
+      Sticks rules table (Some k) (stack_of w) → IsWrongAt rules limit tokens place
   stands_wrong tokens place before after k w inside n front back t s x =
       let e = goes_on before w s in
       let all = s.back e.tokens e.steps e.reads in
-      let lead = moves_lead rules hints sound x.moved in
+      let lead = moves_lead rules table sound x.moved in
       record {
         inside = inside;
         after = e.tokens;
@@ -186,16 +186,16 @@ module _ {N P A K : Type 0} (rules : Rules N P A K) (hints : Hints N P K) (sound
             (λ rest steps r.
             let on = any_on before w s t (k ∷ rest) steps (subst (λ (l : List K). IsAnyReading rules (l ++ k ∷ rest) steps) front r) in
             let there = lead.on (k ∷ rest) on.0 refl on.1 in
-            stuck_reads_nothing rules hints sound (Some k) x.there x.stuck (k ∷ rest) there.0 refl there.2);
+            stuck_reads_nothing rules table sound (Some k) x.there x.stuck (k ∷ rest) there.0 refl there.2);
       }
 
   pub stands_short : (tokens : List K) (w : Work N A K) → take (length tokens) tokens ≡ tokens → drop (length tokens) tokens ≡ [] →
-      IsSafe rules hints (Row rules.text 0 Bottom) → Stands rules hints limit tokens w →
-      Sticks rules hints None (stack_of w) → IsWrongAt rules limit tokens (length tokens)
+      IsSafe rules table (Row rules.text 0 Bottom) → Stands rules table limit tokens w →
+      Sticks rules table None (stack_of w) → IsWrongAt rules limit tokens (length tokens)
   stands_short tokens w front back t s x =
       let e = goes_on tokens w s in
       let all = s.back e.tokens e.steps e.reads in
-      let lead = moves_lead rules hints sound x.moved in
+      let lead = moves_lead rules table sound x.moved in
       record {
         inside = omega arith;
         after = e.tokens;
@@ -209,7 +209,7 @@ module _ {N P A K : Type 0} (rules : Rules N P A K) (hints : Hints N P K) (sound
             (λ steps r.
             let on = any_on tokens w s t [] steps (subst (λ (l : List K). IsAnyReading rules l steps) (front ∙ sym (append-nil tokens)) r) in
             let there = lead.on [] on.0 refl on.1 in
-            stuck_reads_nothing rules hints sound None x.there x.stuck [] there.0 refl there.2);
+            stuck_reads_nothing rules table sound None x.there x.stuck [] there.0 refl there.2);
       }
 
   -- a token that opens a level stands on top, and so many levels are open there
@@ -233,15 +233,15 @@ module _ {N P A K : Type 0} (rules : Rules N P A K) (hints : Hints N P K) (sound
 
   pub stands_deep : (tokens : List K) (place : ℕ) (before : List K) (k : K) (w : Work N A K) → length before ≡ place →
       take place tokens ≡ before → slice_get tokens place ≡ Some k →
-      Stands rules hints limit before w → Overflows rules hints limit k (stack_of w) → IsDeepAt rules limit tokens place
+      Stands rules table limit before w → Overflows rules table limit k (stack_of w) → IsDeepAt rules limit tokens place
   stands_deep tokens place before k w n front here s x =
-      let lead = moves_lead rules hints sound x.moved in
-      let safe = moves_safe rules hints sound x.moved s.safe in
-      let shallow = moves_shallow rules hints sound limit x.moved s.shallow in
+      let lead = moves_lead rules table sound x.moved in
+      let safe = moves_safe rules table sound x.moved s.safe in
+      let shallow = moves_shallow rules table sound limit x.moved s.shallow in
       let d = deep_top k x.there x.deep in
-      let open_safe = subst (IsSafe rules hints) d.is safe in
-      let low = subst (IsShallow rules hints limit) d.is shallow in
-      let e = can_end rules hints sound Counts (not_begun rules hints sound) (Row d.row (suc d.depth) d.below) (open_safe.0.1, open_safe.1) in
+      let open_safe = subst (IsSafe rules table) d.is safe in
+      let low = subst (IsShallow rules table limit) d.is shallow in
+      let e = can_end rules table sound Counts (not_begun rules table sound) (Row d.row (suc d.depth) d.below) (open_safe.0.1, open_safe.1) in
       let there = opened k d.row d.depth d.below e.tokens e.steps e.reads in
       let at_there = subst (λ (y : Stack N A K). Reads rules Counts y (k ∷ e.tokens) (Took (suc d.depth) ∷ e.steps)) (sym d.is) there in
       let whole = s.back (k ∷ e.tokens) (x.done ++ Took (suc d.depth) ∷ e.steps) (lead.back (k ∷ e.tokens) (Took (suc d.depth) ∷ e.steps) refl at_there) in
@@ -268,10 +268,10 @@ module _ {N P A K : Type 0} (rules : Rules N P A K) (hints : Hints N P K) (sound
             };
       }
 
-  pub stands_finished : (tokens : List K) (old new : Work N A K) → Stands rules hints limit tokens old →
-      Finishes rules hints old new → IsParsed rules limit tokens new.events
+  pub stands_finished : (tokens : List K) (old new : Work N A K) → Stands rules table limit tokens old →
+      Finishes rules table old new → IsParsed rules limit tokens new.events
   stands_finished tokens old new s f =
-      let lead = moves_lead rules hints sound f.moved in
+      let lead = moves_lead rules table sound f.moved in
       let end = lead.back [] [] refl over in
       let whole = s.back [] (f.done ++ []) end in
       record {
@@ -292,18 +292,18 @@ module _ {N P A K : Type 0} (rules : Rules N P A K) (hints : Hints N P K) (sound
 
   -- nothing is read yet
   pub stands_first : (w : Work N A K) → stack_of w ≡ Row rules.text 0 Bottom → w.events ≡ [] →
-      IsSafe rules hints (Row rules.text 0 Bottom) → Stands rules hints limit [] w
+      IsSafe rules table (Row rules.text 0 Bottom) → Stands rules table limit [] w
   stands_first w top none t = record {
     steps = [];
     low = tt;
     count = refl;
     happened = none;
-    safe = subst (IsSafe rules hints) (sym top) t;
-    shallow = subst (IsShallow rules hints limit) (sym top) (omega arith, tt);
+    safe = subst (IsSafe rules table) (sym top) t;
+    shallow = subst (IsShallow rules table limit) (sym top) (omega arith, tt);
     back = λ ks more r. subst (λ (y : Stack N A K). Reads rules Counts y ks more) top r;
     on = λ ks more r. (more, refl, subst (λ (y : Stack N A K). Reads rules Counts y ks more) (sym top) r);
   }
 
   -- a whole text ends well, with nothing behind it
-  pub text_safe : IsSafe rules hints (Row rules.text 0 Bottom)
-  text_safe = (text_ends_well rules hints sound, tt)
+  pub text_safe : IsSafe rules table (Row rules.text 0 Bottom)
+  text_safe = (text_ends_well rules table sound, tt)

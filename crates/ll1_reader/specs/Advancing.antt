@@ -7,17 +7,17 @@ use Rattle.ll1_reader.specs.declared.step.Advance.TheVariants as advance
 use Rattle.ll1_reader.specs.declared.step.Fed.{Fed}
 use Rattle.ll1_reader.specs.declared.step.Fed.TheVariants as fed
 use Rattle.ll1_reader.specs.Grammars.{Rules}
-use Rattle.ll1_reader.specs.Predicting.{Hints}
+use Rattle.ll1_reader.specs.Predicting.{Table}
 use Rattle.ll1_reader.specs.Readings.{Stack, Bottom, Row, Step}
 use Rattle.ll1_reader.specs.Answers.{event_of}
 use Rattle.ll1_reader.specs.Moves.{IsMove, AreMoves, IsTake, IsTooDeep, IsStuck, IsReady}
 use Rattle.ll1_reader.specs.Frames.{stack_of}
 
-module _ {N P A K : Type 0} (rules : Rules N P A K) (hints : Hints N P K) where
+module _ {N P A K : Type 0} (rules : Rules N P A K) (table : Table N P K) where
   -- one move was made from the stack to the new one, and what it did is at the end of the events
   pub record MovesOnce (next : Option K) (s : Stack N A K) (old new : Work N A K) : Type 0 where
     pub done : List (Step A)
-    pub moved : IsMove rules hints next s (stack_of new) done
+    pub moved : IsMove rules table next s (stack_of new) done
     pub happened : new.events ≡ old.events ++ map event_of done
 
   -- nothing was done: a token stands on top
@@ -30,7 +30,7 @@ module _ {N P A K : Type 0} (rules : Rules N P A K) (hints : Hints N P K) where
   abbrev pub Advances : Option K → List (Symbol N A K) → ℕ → Work N A K → Work N A K → Advance → Type 0
   Advances next row depth old new advance.Moved = MovesOnce next (Row row depth (stack_of old)) old new
   Advances next row depth old new advance.Ready = StaysReady (Row row depth (stack_of old)) old new
-  Advances next row depth old new advance.Stuck = IsStuck rules hints next (Row row depth (stack_of old))
+  Advances next row depth old new advance.Stuck = IsStuck rules table next (Row row depth (stack_of old))
 
   -- the token on top was read
   pub record Takes (limit : ℕ) (k : K) (s : Stack N A K) (old new : Work N A K) : Type 0 where
@@ -41,13 +41,13 @@ module _ {N P A K : Type 0} (rules : Rules N P A K) (hints : Hints N P K) where
   -- what became of the token where this row stands on top
   abbrev pub TakesToken : ℕ → K → List (Symbol N A K) → ℕ → Work N A K → Work N A K → Fed → Type 0
   TakesToken limit k row depth old new fed.Read = Takes limit k (Row row depth (stack_of old)) old new
-  TakesToken limit k row depth old new fed.Wrong = IsStuck rules hints (Some k) (Row row depth (stack_of old))
+  TakesToken limit k row depth old new fed.Wrong = IsStuck rules table (Some k) (Row row depth (stack_of old))
   TakesToken limit k row depth old new fed.Deep = IsTooDeep limit k (Row row depth (stack_of old))
 
   -- moves lead to a stack on which a token stands on top, or nothing is left
   pub record Exposed (next : Option K) (old new : Work N A K) : Type 0 where
     pub done : List (Step A)
-    pub moved : AreMoves rules hints next (stack_of old) (stack_of new) done
+    pub moved : AreMoves rules table next (stack_of old) (stack_of new) done
     pub ready : IsReady (stack_of new)
     pub happened : new.events ≡ old.events ++ map event_of done
 
@@ -55,8 +55,8 @@ module _ {N P A K : Type 0} (rules : Rules N P A K) (hints : Hints N P K) where
   pub record Sticks (next : Option K) (s : Stack N A K) : Type 0 where
     pub there : Stack N A K
     pub done : List (Step A)
-    pub moved : AreMoves rules hints next s there done
-    pub stuck : IsStuck rules hints next there
+    pub moved : AreMoves rules table next s there done
+    pub stuck : IsStuck rules table next there
 
   abbrev pub Exposes : Option K → Work N A K → Work N A K → Bool → Type 0
   Exposes next old new true = Exposed next old new
@@ -67,7 +67,7 @@ module _ {N P A K : Type 0} (rules : Rules N P A K) (hints : Hints N P K) where
     pub there : Stack N A K
     pub done : List (Step A)
     pub step : Step A
-    pub moved : AreMoves rules hints (Some k) (stack_of old) there done
+    pub moved : AreMoves rules table (Some k) (stack_of old) there done
     pub taken : IsTake limit k there (stack_of new) step
     pub happened : new.events ≡ old.events ++ map event_of (done ++ step ∷ [])
 
@@ -75,7 +75,7 @@ module _ {N P A K : Type 0} (rules : Rules N P A K) (hints : Hints N P K) where
   pub record Overflows (limit : ℕ) (k : K) (s : Stack N A K) : Type 0 where
     pub there : Stack N A K
     pub done : List (Step A)
-    pub moved : AreMoves rules hints (Some k) s there done
+    pub moved : AreMoves rules table (Some k) s there done
     pub deep : IsTooDeep limit k there
 
   abbrev pub IsFed : ℕ → K → Work N A K → Work N A K → Fed → Type 0
@@ -86,7 +86,7 @@ module _ {N P A K : Type 0} (rules : Rules N P A K) (hints : Hints N P K) where
   -- nothing is left where the tokens end
   pub record Finishes (old new : Work N A K) : Type 0 where
     pub done : List (Step A)
-    pub moved : AreMoves rules hints None (stack_of old) Bottom done
+    pub moved : AreMoves rules table None (stack_of old) Bottom done
     pub happened : new.events ≡ old.events ++ map event_of done
 
   abbrev pub IsFinished : Work N A K → Work N A K → Bool → Type 0

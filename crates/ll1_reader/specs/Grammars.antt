@@ -8,9 +8,9 @@ pub record Rows (N A K : Type 0) : Type 0 where
   pub rows : N → List (List (Symbol N A K))
   pub text : List (Symbol N A K)
 
--- a grammar whose rows have names: a nonterminal stands for any one of its choices, and a choice for its row
+-- a grammar whose rows have names: a nonterminal stands for any one of its productions, and a production for its row
 pub record Rules (N P A K : Type 0) : Type 0 where
-  pub choices : N → List P
+  pub productions : N → List P
   pub row : P → List (Symbol N A K)
   pub text : List (Symbol N A K)
 
@@ -21,4 +21,4 @@ IsOneOf x (y ∷ ys) = (x ≡ y) ⊎ IsOneOf x ys
 
 -- a grammar's rows, each its own name
 abbrev pub rules_of : {N A K : Type 0} → Rows N A K → Rules N (List (Symbol N A K)) A K
-rules_of grammar = record { choices = grammar.rows; row = λ row. row; text = grammar.text }
+rules_of grammar = record { productions = grammar.rows; row = λ row. row; text = grammar.text }

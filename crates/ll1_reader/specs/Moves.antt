@@ -3,43 +3,43 @@ use Rattle.std.specs.Prelude.{◌≡◌, ℕ, suc, ◌<◌, ◌≤◌, Bool, tru
 use Rattle.ll1_reader.specs.declared.symbol.Symbol.{Symbol}
 use Rattle.ll1_reader.specs.declared.symbol.Symbol.TheVariants.{Read, Open, Once, Maybe, Many, Act}
 use Rattle.ll1_reader.specs.Grammars.{Rules, IsOneOf}
-use Rattle.ll1_reader.specs.Predicting.{Hints, among, starts_of}
+use Rattle.ll1_reader.specs.Predicting.{Table, among, first_set}
 use Rattle.ll1_reader.specs.Readings.{Stack, Bottom, Row, Step, Took, Did}
 
 -- the first of these tokens, where there is one
-abbrev pub first_of : {K : Type 0} → List K → Option K
-first_of [] = None
-first_of (k ∷ _) = Some k
+abbrev pub lookahead : {K : Type 0} → List K → Option K
+lookahead [] = None
+lookahead (k ∷ _) = Some k
 
-module _ {N P A K : Type 0} (rules : Rules N P A K) (hints : Hints N P K) where
+module _ {N P A K : Type 0} (rules : Rules N P A K) (table : Table N P K) where
   -- the next token is of one of these kinds
   abbrev pub is_next : List K → Option K → Bool
   is_next ks None = false
-  is_next ks (Some k) = among rules hints k ks
+  is_next ks (Some k) = among rules table k ks
 
 -- one move from what is still to be read to what is then still to be read, without a token, and what is done by it
-pub data IsMove {N P A K : Type 0} (rules : Rules N P A K) (hints : Hints N P K) (next : Option K) : Stack N A K → Stack N A K → List (Step A) → Type 0 where
-  row_end : (d : ℕ) (below : Stack N A K) → IsMove rules hints next (Row [] d below) below []
-  act : (a : A) (row : List (Symbol N A K)) (d : ℕ) (below : Stack N A K) → IsMove rules hints next (Row (Act a ∷ row) d below) (Row row d below) (Did a ∷ [])
-  enter : (n : N) (p : P) (row : List (Symbol N A K)) (d : ℕ) (below : Stack N A K) → IsOneOf p (rules.choices n) →
-      is_next rules hints (hints.starts p) next ≡ true →
-      IsMove rules hints next (Row (Once n ∷ row) d below) (Row (rules.row p) d (Row row d below)) []
-  take_it : (n : N) (p : P) (row : List (Symbol N A K)) (d : ℕ) (below : Stack N A K) → IsOneOf p (rules.choices n) →
-      is_next rules hints (hints.starts p) next ≡ true →
-      IsMove rules hints next (Row (Maybe n ∷ row) d below) (Row (rules.row p) d (Row row d below)) []
-  leave_it : (n : N) (row : List (Symbol N A K)) (d : ℕ) (below : Stack N A K) → is_next rules hints (starts_of rules hints n) next ≡ false →
-      IsMove rules hints next (Row (Maybe n ∷ row) d below) (Row row d below) []
-  go_on : (n : N) (p : P) (row : List (Symbol N A K)) (d : ℕ) (below : Stack N A K) → IsOneOf p (rules.choices n) →
-      is_next rules hints (hints.starts p) next ≡ true →
-      IsMove rules hints next (Row (Many n ∷ row) d below) (Row (rules.row p) d (Row (Many n ∷ row) d below)) []
-  stop : (n : N) (row : List (Symbol N A K)) (d : ℕ) (below : Stack N A K) → is_next rules hints (starts_of rules hints n) next ≡ false →
-      IsMove rules hints next (Row (Many n ∷ row) d below) (Row row d below) []
+pub data IsMove {N P A K : Type 0} (rules : Rules N P A K) (table : Table N P K) (next : Option K) : Stack N A K → Stack N A K → List (Step A) → Type 0 where
+  row_end : (d : ℕ) (below : Stack N A K) → IsMove rules table next (Row [] d below) below []
+  act : (a : A) (row : List (Symbol N A K)) (d : ℕ) (below : Stack N A K) → IsMove rules table next (Row (Act a ∷ row) d below) (Row row d below) (Did a ∷ [])
+  enter : (n : N) (p : P) (row : List (Symbol N A K)) (d : ℕ) (below : Stack N A K) → IsOneOf p (rules.productions n) →
+      is_next rules table (table.first p) next ≡ true →
+      IsMove rules table next (Row (Once n ∷ row) d below) (Row (rules.row p) d (Row row d below)) []
+  take_it : (n : N) (p : P) (row : List (Symbol N A K)) (d : ℕ) (below : Stack N A K) → IsOneOf p (rules.productions n) →
+      is_next rules table (table.first p) next ≡ true →
+      IsMove rules table next (Row (Maybe n ∷ row) d below) (Row (rules.row p) d (Row row d below)) []
+  leave_it : (n : N) (row : List (Symbol N A K)) (d : ℕ) (below : Stack N A K) → is_next rules table (first_set rules table n) next ≡ false →
+      IsMove rules table next (Row (Maybe n ∷ row) d below) (Row row d below) []
+  go_on : (n : N) (p : P) (row : List (Symbol N A K)) (d : ℕ) (below : Stack N A K) → IsOneOf p (rules.productions n) →
+      is_next rules table (table.first p) next ≡ true →
+      IsMove rules table next (Row (Many n ∷ row) d below) (Row (rules.row p) d (Row (Many n ∷ row) d below)) []
+  stop : (n : N) (row : List (Symbol N A K)) (d : ℕ) (below : Stack N A K) → is_next rules table (first_set rules table n) next ≡ false →
+      IsMove rules table next (Row (Many n ∷ row) d below) (Row row d below) []
 
 -- such moves, one after the other
-pub data AreMoves {N P A K : Type 0} (rules : Rules N P A K) (hints : Hints N P K) (next : Option K) : Stack N A K → Stack N A K → List (Step A) → Type 0 where
-  stay : (s : Stack N A K) → AreMoves rules hints next s s []
-  move : (s t u : Stack N A K) (done more : List (Step A)) → IsMove rules hints next s t done →
-      AreMoves rules hints next t u more → AreMoves rules hints next s u (done ++ more)
+pub data AreMoves {N P A K : Type 0} (rules : Rules N P A K) (table : Table N P K) (next : Option K) : Stack N A K → Stack N A K → List (Step A) → Type 0 where
+  stay : (s : Stack N A K) → AreMoves rules table next s s []
+  move : (s t u : Stack N A K) (done more : List (Step A)) → IsMove rules table next s t done →
+      AreMoves rules table next t u more → AreMoves rules table next s u (done ++ more)
 
 -- the next token is the one that stands on top; it is read, and opens no level above the limit
 pub data IsTake {N A K : Type 0} (limit : ℕ) (k : K) : Stack N A K → Stack N A K → Step A → Type 0 where
@@ -59,15 +59,15 @@ IsTooDeep limit k (Row (Many _ ∷ row) d below) = ⊥
 IsTooDeep limit k (Row (Act _ ∷ row) d below) = ⊥
 
 -- what is still to be read doesn't begin with what comes next
-abbrev pub IsStuck : {N P A K : Type 0} (rules : Rules N P A K) (hints : Hints N P K) → Option K → Stack N A K → Type 0
-IsStuck rules hints next Bottom = next ≡ None → ⊥
-IsStuck rules hints next (Row [] d below) = ⊥
-IsStuck rules hints next (Row (Read j ∷ row) d below) = next ≡ Some j → ⊥
-IsStuck rules hints next (Row (Open j ∷ row) d below) = next ≡ Some j → ⊥
-IsStuck rules hints next (Row (Once n ∷ row) d below) = is_next rules hints (starts_of rules hints n) next ≡ false
-IsStuck rules hints next (Row (Maybe _ ∷ row) d below) = ⊥
-IsStuck rules hints next (Row (Many _ ∷ row) d below) = ⊥
-IsStuck rules hints next (Row (Act _ ∷ row) d below) = ⊥
+abbrev pub IsStuck : {N P A K : Type 0} (rules : Rules N P A K) (table : Table N P K) → Option K → Stack N A K → Type 0
+IsStuck rules table next Bottom = next ≡ None → ⊥
+IsStuck rules table next (Row [] d below) = ⊥
+IsStuck rules table next (Row (Read j ∷ row) d below) = next ≡ Some j → ⊥
+IsStuck rules table next (Row (Open j ∷ row) d below) = next ≡ Some j → ⊥
+IsStuck rules table next (Row (Once n ∷ row) d below) = is_next rules table (first_set rules table n) next ≡ false
+IsStuck rules table next (Row (Maybe _ ∷ row) d below) = ⊥
+IsStuck rules table next (Row (Many _ ∷ row) d below) = ⊥
+IsStuck rules table next (Row (Act _ ∷ row) d below) = ⊥
 
 -- a token stands on top, or nothing is left
 abbrev pub IsReady : {N A K : Type 0} → Stack N A K → Type 0

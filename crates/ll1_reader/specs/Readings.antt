@@ -27,15 +27,15 @@ pub data Reads {N P A K : Type 0} (rules : Rules N P A K) (MayEnd : N → List K
   acted : (a : A) (row : List (Symbol N A K)) (d : ℕ) (below : Stack N A K) (ks : List K) (steps : List (Step A)) →
       Reads rules MayEnd (Row row d below) ks steps → Reads rules MayEnd (Row (Act a ∷ row) d below) ks (Did a ∷ steps)
   once : (n : N) (p : P) (row : List (Symbol N A K)) (d : ℕ) (below : Stack N A K) (ks : List K) (steps : List (Step A)) →
-      IsOneOf p (rules.choices n) → Reads rules MayEnd (Row (rules.row p) d (Row row d below)) ks steps →
+      IsOneOf p (rules.productions n) → Reads rules MayEnd (Row (rules.row p) d (Row row d below)) ks steps →
       Reads rules MayEnd (Row (Once n ∷ row) d below) ks steps
   taken : (n : N) (p : P) (row : List (Symbol N A K)) (d : ℕ) (below : Stack N A K) (ks : List K) (steps : List (Step A)) →
-      IsOneOf p (rules.choices n) → Reads rules MayEnd (Row (rules.row p) d (Row row d below)) ks steps →
+      IsOneOf p (rules.productions n) → Reads rules MayEnd (Row (rules.row p) d (Row row d below)) ks steps →
       Reads rules MayEnd (Row (Maybe n ∷ row) d below) ks steps
   left_out : (n : N) (row : List (Symbol N A K)) (d : ℕ) (below : Stack N A K) (ks : List K) (steps : List (Step A)) →
       MayEnd n ks → Reads rules MayEnd (Row row d below) ks steps → Reads rules MayEnd (Row (Maybe n ∷ row) d below) ks steps
   again : (n : N) (p : P) (row : List (Symbol N A K)) (d : ℕ) (below : Stack N A K) (ks : List K) (steps : List (Step A)) →
-      IsOneOf p (rules.choices n) → Reads rules MayEnd (Row (rules.row p) d (Row (Many n ∷ row) d below)) ks steps →
+      IsOneOf p (rules.productions n) → Reads rules MayEnd (Row (rules.row p) d (Row (Many n ∷ row) d below)) ks steps →
       Reads rules MayEnd (Row (Many n ∷ row) d below) ks steps
   ended : (n : N) (row : List (Symbol N A K)) (d : ℕ) (below : Stack N A K) (ks : List K) (steps : List (Step A)) →
       MayEnd n ks → Reads rules MayEnd (Row row d below) ks steps → Reads rules MayEnd (Row (Many n ∷ row) d below) ks steps

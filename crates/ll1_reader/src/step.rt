@@ -41,7 +41,7 @@ fn make_move<'a, G: Grammar>(
     depth: u32,
     next: Option<G::Kind>,
 ) -> Result<Advance, AllocError>
-    ensures { IfOk result (Advances G.rules G.hints next row.now depth work.old work.new) }
+    ensures { IfOk result (Advances G.rules G.table next row.now depth work.old work.new) }
 {
     let Some((symbol, rest)) = row.split_first() else {
         return Ok(Advance::Moved);
@@ -57,27 +57,27 @@ fn make_move<'a, G: Grammar>(
             Ok(Advance::Moved)
         }
         Symbol::Once(nonterminal) => {
-            let Some(choice) = choose::<G>(nonterminal, next) else {
+            let Some(production) = choose::<G>(nonterminal, next) else {
                 return Ok(Advance::Stuck);
             };
             push_row(work, rest, depth)?;
-            push_row(work, G::row(choice), depth)?;
+            push_row(work, G::row(production), depth)?;
             Ok(Advance::Moved)
         }
         Symbol::Maybe(nonterminal) => {
             push_row(work, rest, depth)?;
-            if let Some(choice) = choose::<G>(nonterminal, next) {
-                push_row(work, G::row(choice), depth)?;
+            if let Some(production) = choose::<G>(nonterminal, next) {
+                push_row(work, G::row(production), depth)?;
             }
             Ok(Advance::Moved)
         }
         Symbol::Many(nonterminal) => {
-            let Some(choice) = choose::<G>(nonterminal, next) else {
+            let Some(production) = choose::<G>(nonterminal, next) else {
                 push_row(work, rest, depth)?;
                 return Ok(Advance::Moved);
             };
             push_row(work, row, depth)?;
-            push_row(work, G::row(choice), depth)?;
+            push_row(work, G::row(production), depth)?;
             Ok(Advance::Moved)
         }
     }
@@ -89,7 +89,7 @@ fn expose<'a, G: Grammar>(
     work: &mut Work<'a, G::Nonterminal, G::Act, G::Kind>,
     next: Option<G::Kind>,
 ) -> Result<bool, AllocError>
-    ensures { IfOk result (Exposes G.rules G.hints next work.old work.new) }
+    ensures { IfOk result (Exposes G.rules G.table next work.old work.new) }
 {
     while let Some(frame) = work.frames.pop() {
         match make_move::<G>(work, frame.rest, frame.depth, next)? {
@@ -110,7 +110,7 @@ fn take_token<'a, G: Grammar>(
     limit: u32,
 ) -> Result<Fed, AllocError>
     requires { IsReady (Row row.now depth (stack_of work.old)) }
-    ensures { IfOk result (TakesToken G.rules G.hints limit kind row.now depth work.old work.new) }
+    ensures { IfOk result (TakesToken G.rules G.table limit kind row.now depth work.old work.new) }
 {
     let Some((symbol, rest)) = row.split_first() else {
         unreachable!()
@@ -145,7 +145,7 @@ pub(crate) fn feed<'a, G: Grammar>(
     kind: G::Kind,
     limit: u32,
 ) -> Result<Fed, AllocError>
-    ensures { IfOk result (IsFed G.rules G.hints limit kind work.old work.new) }
+    ensures { IfOk result (IsFed G.rules G.table limit kind work.old work.new) }
 {
     if !expose::<G>(work, Some(kind))? {
         return Ok(Fed::Wrong);
@@ -160,7 +160,7 @@ pub(crate) fn feed<'a, G: Grammar>(
 pub(crate) fn finish<'a, G: Grammar>(
     work: &mut Work<'a, G::Nonterminal, G::Act, G::Kind>,
 ) -> Result<bool, AllocError>
-    ensures { IfOk result (IsFinished G.rules G.hints work.old work.new) }
+    ensures { IfOk result (IsFinished G.rules G.table work.old work.new) }
 {
     Ok(expose::<G>(work, None)? && work.frames.is_empty())
 }

@@ -6,12 +6,13 @@ ghost use Rattle.pale_build.specs.Building.{parts_of};
 ghost use Rattle.pale_text.specs.Near.{near_of};
 
 use crate::chains::{both, either, equivalent};
+use crate::forms::{binding, implies, not_assertion, quantified};
 use crate::names::nameless;
 use crate::parts::Parts;
 use crate::takes::{take_assertion, take_name, take_place, take_quantifier};
-use pale_syntax::{Assertion, Bracketed, ConnectiveAct, Quantifier, QuantifierKind};
+use pale_syntax::{Bracketed, ConnectiveAct, Quantifier, QuantifierKind};
 use pale_text::{Near, Pos, place_of};
-use plain_data::{Boxed, Items};
+use plain_data::Items;
 use std::alloc::{AllocError, Global};
 
 /// A quantifier with nothing behind its keyword so far.
@@ -40,10 +41,9 @@ impl Parts {
             ConnectiveAct::MakeImp => {
                 let other = take_assertion(&mut self.assertions);
                 let one = take_assertion(&mut self.assertions);
-                let one = Boxed::new(self.alloc, one)?;
-                let other = Boxed::new(self.alloc, other)?;
                 let place = take_place(&mut self.places);
-                self.assertions.push(Assertion::Imp(one, place, other))
+                self.assertions
+                    .push(implies(self.alloc, one, place, other)?)
             }
             ConnectiveAct::JoinOr => {
                 let other = take_assertion(&mut self.assertions);
@@ -57,9 +57,9 @@ impl Parts {
             }
             ConnectiveAct::MakeNot => {
                 let inner = take_assertion(&mut self.assertions);
-                let inner = Boxed::new(self.alloc, inner)?;
                 let place = take_place(&mut self.places);
-                self.assertions.push(Assertion::Not(place, inner))
+                self.assertions
+                    .push(not_assertion(self.alloc, place, inner)?)
             }
             ConnectiveAct::BeginEx => {
                 let quantifier = begun(self.alloc, QuantifierKind::Ex, place_of(near.last));
@@ -75,18 +75,16 @@ impl Parts {
                 self.quantifiers.push(quantifier)
             }
             ConnectiveAct::AddBound => {
-                let mut quantifier = take_quantifier(self.alloc, &mut self.quantifiers);
+                let quantifier = take_quantifier(self.alloc, &mut self.quantifiers);
                 let name = take_name(self.alloc, &mut self.names);
-                quantifier.names.push(name)?;
-                self.quantifiers.push(quantifier)
+                self.quantifiers.push(binding(quantifier, name)?)
             }
             ConnectiveAct::MakeQuantified => {
-                let mut quantifier = take_quantifier(self.alloc, &mut self.quantifiers);
-                quantifier.ty = take_name(self.alloc, &mut self.names);
+                let quantifier = take_quantifier(self.alloc, &mut self.quantifiers);
+                let ty = take_name(self.alloc, &mut self.names);
                 let inner = take_assertion(&mut self.assertions);
-                let inner = Boxed::new(self.alloc, inner)?;
                 self.assertions
-                    .push(Assertion::Quantified(quantifier, inner))
+                    .push(quantified(self.alloc, quantifier, ty, inner)?)
             }
             ConnectiveAct::Bracket => {
                 let assertion = take_assertion(&mut self.assertions);

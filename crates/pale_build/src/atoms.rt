@@ -5,6 +5,7 @@ ghost use Rattle.pale_syntax.specs.MakingAssertions.{after_atom, path_alone};
 ghost use Rattle.pale_build.specs.Building.{parts_of};
 ghost use Rattle.pale_text.specs.Near.{near_of};
 
+use crate::forms::extended;
 use crate::parts::Parts;
 use crate::takes::{
     pathless, take_assertion, take_name, take_path, take_place, take_route, take_term,
@@ -38,9 +39,10 @@ impl Parts {
             }
             AtomAct::ExtendPathAlone => {
                 let alone = take_assertion(&mut self.assertions);
-                let mut path = path_alone(self.alloc, alone);
-                path.fields.push(take_name(self.alloc, &mut self.names))?;
-                self.assertions.push(Assertion::Truth(path))
+                let path = path_alone(self.alloc, alone);
+                let field = take_name(self.alloc, &mut self.names);
+                self.assertions
+                    .push(Assertion::Truth(extended(path, field)?))
             }
             AtomAct::TakePathBack => {
                 let alone = take_assertion(&mut self.assertions);

@@ -6,11 +6,11 @@ ghost use Rattle.pale_build.specs.Building.{parts_of};
 ghost use Rattle.pale_text.specs.Near.{near_of};
 
 use crate::chains::{both_conditions, either_condition};
+use crate::forms::not_condition;
 use crate::parts::Parts;
 use crate::takes::{take_condition, take_name, take_place, take_term};
 use pale_syntax::{Condition, ConditionAct, Term};
 use pale_text::{Near, nowhere, place_of};
-use plain_data::Boxed;
 use std::alloc::AllocError;
 
 /// The term whose truth the condition is.
@@ -63,8 +63,8 @@ impl Parts {
             ConditionAct::NotCondition => {
                 let place = take_place(&mut self.places);
                 let inner = take_condition(&mut self.conditions);
-                let inner = Boxed::new(self.alloc, inner)?;
-                self.conditions.push(Condition::Not(place, inner))
+                self.conditions
+                    .push(not_condition(self.alloc, place, inner)?)
             }
             ConditionAct::JoinAndAlso => {
                 let other = take_condition(&mut self.conditions);

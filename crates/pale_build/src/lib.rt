@@ -11,6 +11,7 @@ mod calls;
 mod chains;
 mod conditions;
 mod declarations;
+mod forms;
 mod names;
 mod parts;
 mod perform;

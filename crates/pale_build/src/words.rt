@@ -5,6 +5,7 @@ ghost use Rattle.pale_syntax.specs.MakingWords.{after_word};
 ghost use Rattle.pale_build.specs.Building.{parts_of};
 ghost use Rattle.pale_text.specs.Near.{near_of};
 
+use crate::forms::extended;
 use crate::names::name_of;
 use crate::parts::Parts;
 use crate::takes::{take_name, take_path};
@@ -27,9 +28,9 @@ impl Parts {
                 self.paths.push(Path { base, fields })
             }
             WordAct::ExtendPath => {
-                let mut path = take_path(self.alloc, &mut self.paths);
-                path.fields.push(take_name(self.alloc, &mut self.names))?;
-                self.paths.push(path)
+                let path = take_path(self.alloc, &mut self.paths);
+                let field = take_name(self.alloc, &mut self.names);
+                self.paths.push(extended(path, field)?)
             }
             WordAct::PushNull => self.terms.push(Term::Null(place_of(near.last))),
             WordAct::PathTerm => {

@@ -1,3 +1,3 @@
-pub mod Hints
+pub mod ParseTable
 pub mod TableLaws
-pub mod Tables
+pub mod Productions

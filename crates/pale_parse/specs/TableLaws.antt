@@ -2,7 +2,7 @@
 use Rattle.std.specs.Prelude.{◌≡◌, List, [], ◌∷◌, ◌++◌, map, true, Option, Some, None, refl, slice_get}
 use Rattle.std.proofs.Common.{ap, sym, ◌∙◌}
 use Rattle.ll1_reader.specs.Grammars.{Rows}
-use Rattle.ll1_reader.specs.Predicting.{is_predictable, all_end_well, IsSound, AreNamed}
+use Rattle.ll1_reader.specs.Predicting.{is_ll1, all_end_well, IsLl1, AreNamed}
 use Rattle.pale_text.specs.Marks.{all_marks, mark_number}
 use Rattle.pale_text.proofs.MarkNumbers.{mark_back}
 use Rattle.pale_syntax.specs.declared.grammar.kind.ProgramKind.{ProgramKind}
@@ -10,8 +10,8 @@ use Rattle.pale_syntax.specs.declared.grammar.kind.ProgramKind.TheVariants as ki
 use Rattle.pale_syntax.specs.declared.grammar.part.ProgramPart.{ProgramPart}
 use Rattle.pale_syntax.specs.declared.grammar.part.ProgramPart.TheVariants as part
 use Rattle.pale_syntax.specs.ProgramGrammar.{rows_of, program_grammar}
-use Rattle.pale_parse.specs.Tables.{choices_of, row_of, program_rules}
-use Rattle.pale_parse.specs.Hints.{number_of, label_of, starts_of, tails_of, cost_of, sample_of, begin_of, size_of, program_hints}
+use Rattle.pale_parse.specs.Productions.{productions_of, row_of, program_rules}
+use Rattle.pale_parse.specs.ParseTable.{number_of, label_of, first_set, tails_of, cost_of, sample_of, begin_of, size_of, program_table}
 
 -- ---- numbers are one for each kind and part, since they are its place in these lists
 
@@ -154,8 +154,8 @@ labels_differ m n same = some_injective m n (sym (part_back m) ∙ ap (slice_get
 
 -- ---- each part
 
-predictable : (n : ProgramPart) → is_predictable program_rules program_hints n ≡ true
-unfolding program_rules program_hints choices_of row_of rows_of number_of mark_number label_of starts_of tails_of cost_of sample_of begin_of size_of
+predictable : (n : ProgramPart) → is_ll1 program_rules program_table n ≡ true
+unfolding program_rules program_table productions_of row_of rows_of number_of mark_number label_of first_set tails_of cost_of sample_of begin_of size_of
 predictable part.Declaration = refl
 predictable part.Type = refl
 predictable part.Variant = refl
@@ -227,18 +227,18 @@ predictable part.PathAloneStep = refl
 predictable part.NameRelation = refl
 predictable part.Relation = refl
 
-text_ends : all_end_well program_rules program_hints (program_hints.text_tail) (program_rules.text) ≡ true
-unfolding program_rules program_hints choices_of row_of rows_of number_of mark_number label_of starts_of tails_of
+text_ends : all_end_well program_rules program_table (program_table.text_tail) (program_rules.text) ≡ true
+unfolding program_rules program_table productions_of row_of rows_of number_of mark_number label_of first_set tails_of
 text_ends = refl
 
-pub program_sound : IsSound program_rules program_hints
-unfolding program_rules program_hints
+pub program_sound : IsLl1 program_rules program_table
+unfolding program_rules program_table
 program_sound = record { kinds_differ = kinds_differ; labels_differ = labels_differ; predictable = predictable; text = text_ends }
 
 -- ---- the named rows are the grammar's
 
-rows_named : (n : ProgramPart) → map row_of (choices_of n) ≡ rows_of n
-unfolding choices_of row_of rows_of
+rows_named : (n : ProgramPart) → map row_of (productions_of n) ≡ rows_of n
+unfolding productions_of row_of rows_of
 rows_named part.Declaration = refl
 rows_named part.Type = refl
 rows_named part.Variant = refl

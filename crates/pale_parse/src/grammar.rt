@@ -6,11 +6,13 @@ ghost use Rattle.pale_syntax.specs.Making.{after, program_in};
 ghost use Rattle.pale_syntax.specs.MakingParts.{Parts as MadeParts, nothing};
 ghost use Rattle.pale_syntax.specs.ProgramGrammar.{program_grammar};
 ghost use Rattle.pale_syntax.specs.ProgramWords.{kind_of};
-ghost use Rattle.pale_parse.specs.Tables.{program_rules};
-ghost use Rattle.pale_parse.specs.Hints.{program_hints};
+ghost use Rattle.pale_parse.specs.Productions.{program_rules};
+ghost use Rattle.pale_parse.specs.ParseTable.{program_table};
 ghost use Rattle.pale_parse.specs.TableLaws.{program_named, program_sound};
 
-use crate::tables::{ProgramChoice, ProgramSymbol, choices_of, number_of, row_of, starts_of};
+use crate::tables::{
+    ProgramProduction, ProgramSymbol, first_set, number_of, productions_of, row_of,
+};
 use ll1_reader::{Grammar, Symbol};
 use pale_build::{Parts, nothing};
 use pale_syntax::{Act, Program, ProgramKind, ProgramPart};
@@ -26,7 +28,7 @@ static TEXT: [ProgramSymbol; 1] = [Symbol::Many(ProgramPart::Declaration)];
 impl Grammar for ProgramGrammar {
     type Nonterminal = ProgramPart;
 
-    type Choice = ProgramChoice;
+    type Production = ProgramProduction;
 
     type Act = Act;
 
@@ -36,29 +38,29 @@ impl Grammar for ProgramGrammar {
 
     ghost rules = { program_rules };
 
-    ghost hints = { program_hints };
+    ghost table = { program_table };
 
-    #[tactic(auto, unfolding(crate::specs::Tables::program_rules))]
-    fn choices(part: ProgramPart) -> &'static [ProgramChoice] {
-        choices_of(part)
+    #[tactic(auto, unfolding(crate::specs::Productions::program_rules))]
+    fn productions(part: ProgramPart) -> &'static [ProgramProduction] {
+        productions_of(part)
     }
 
-    #[tactic(auto, unfolding(crate::specs::Tables::program_rules))]
-    fn row(choice: ProgramChoice) -> &'static [ProgramSymbol] {
-        row_of(choice)
+    #[tactic(auto, unfolding(crate::specs::Productions::program_rules))]
+    fn row(production: ProgramProduction) -> &'static [ProgramSymbol] {
+        row_of(production)
     }
 
-    #[tactic(auto, unfolding(crate::specs::Tables::program_rules))]
+    #[tactic(auto, unfolding(crate::specs::Productions::program_rules))]
     fn text() -> &'static [ProgramSymbol] {
         &TEXT
     }
 
-    #[tactic(auto, unfolding(crate::specs::Hints::program_hints))]
-    fn starts(choice: ProgramChoice) -> &'static [ProgramKind] {
-        starts_of(choice)
+    #[tactic(auto, unfolding(crate::specs::ParseTable::program_table))]
+    fn first(production: ProgramProduction) -> &'static [ProgramKind] {
+        first_set(production)
     }
 
-    #[tactic(auto, unfolding(crate::specs::Hints::program_hints))]
+    #[tactic(auto, unfolding(crate::specs::ParseTable::program_table))]
     fn number(kind: ProgramKind) -> u32 {
         number_of(kind)
     }

@@ -22,8 +22,8 @@ use Rattle.pale_syntax.specs.MakingParts.{Parts}
 use Rattle.pale_syntax.specs.MakingWords.{extended}
 use Rattle.pale_syntax.specs.MakingAssertions.{path_alone}
 use Rattle.pale_syntax.specs.ProgramGrammar.{ProgramSymbol, program_grammar, rows_of, reads, push_name, mark_place, atom as makes, word as says}
-use Rattle.pale_parse.specs.Tables.{program_rules, choices_of}
-use Rattle.pale_parse.specs.Hints.{program_hints, number_of, mark_number, starts_of}
+use Rattle.pale_parse.specs.Productions.{program_rules, productions_of}
+use Rattle.pale_parse.specs.ParseTable.{program_table, number_of, mark_number, first_set}
 use Rattle.pale_print.specs.Placeless.{nowhere, placeless_name, placeless_path, placeless_term, placeless_route}
 use Rattle.pale_print.specs.Tokens.{each_behind, separated, name_tokens, path_tokens, term_tokens}
 use Rattle.pale_print.specs.RouteTokens.{route_tokens}
@@ -160,27 +160,27 @@ relation_read {aim} {d} {tokens} {after} {parts} {a} (term.Path p) free low stop
         (relation [] _ (row_ends (row_ends (row_ends next))))))))))))))))))
 
 pub at_equals : (after : List TokenKind) → Stops part.PathAloneStep (token.Mark mark.Equals ∷ after)
-unfolding program_rules program_hints choices_of starts_of number_of mark_number
+unfolding program_rules program_table productions_of first_set number_of mark_number
 at_equals after = at_mark refl
 
 pub at_not_equal : (after : List TokenKind) → Stops part.PathAloneStep (token.Mark mark.NotEqual ∷ after)
-unfolding program_rules program_hints choices_of starts_of number_of mark_number
+unfolding program_rules program_table productions_of first_set number_of mark_number
 at_not_equal after = at_mark refl
 
 pub at_less : (after : List TokenKind) → Stops part.PathAloneStep (token.Mark mark.Less ∷ after)
-unfolding program_rules program_hints choices_of starts_of number_of mark_number
+unfolding program_rules program_table productions_of first_set number_of mark_number
 at_less after = at_mark refl
 
 pub at_colon : (after : List TokenKind) → Stops part.PathAloneStep (token.Mark mark.Colon ∷ after)
-unfolding program_rules program_hints choices_of starts_of number_of mark_number
+unfolding program_rules program_table productions_of first_set number_of mark_number
 at_colon after = at_mark refl
 
 pub at_in : (after : List TokenKind) → Stops part.PathAloneStep (token.Name (codes "in") ∷ after)
-unfolding program_rules program_hints choices_of starts_of number_of mark_number
+unfolding program_rules program_table productions_of first_set number_of mark_number
 at_in after = at_word is_in refl
 
 pub at_sub : (after : List TokenKind) → Stops part.PathAloneStep (token.Name (codes "sub") ∷ after)
-unfolding program_rules program_hints choices_of starts_of number_of mark_number
+unfolding program_rules program_table productions_of first_set number_of mark_number
 at_sub after = at_word is_sub refl
 
 pub same_read : {aim : Aim} {d : ℕ} {after : List TokenKind} {t : Term} {parts : Parts} (u : Term) → IsFreeTerm u → d ≤ aim.top → StopsAt operand after →
@@ -232,19 +232,19 @@ is_read variant free low = λ row below next.
 -- ---- uses of predicates
 
 path_at_comma : (after : List TokenKind) → Stops part.PathStep (token.Mark mark.Comma ∷ after)
-unfolding program_rules program_hints choices_of starts_of number_of mark_number
+unfolding program_rules program_table productions_of first_set number_of mark_number
 path_at_comma after = at_mark refl
 
 path_at_paren : (after : List TokenKind) → Stops part.PathStep (token.Mark mark.RightParen ∷ after)
-unfolding program_rules program_hints choices_of starts_of number_of mark_number
+unfolding program_rules program_table productions_of first_set number_of mark_number
 path_at_paren after = at_mark refl
 
 next_at_paren : (after : List TokenKind) → Stops part.NextUsedPath (token.Mark mark.RightParen ∷ after)
-unfolding program_rules program_hints choices_of starts_of number_of mark_number
+unfolding program_rules program_table productions_of first_set number_of mark_number
 next_at_paren after = at_mark refl
 
 paths_at_paren : (after : List TokenKind) → Stops part.UsedPaths (token.Mark mark.RightParen ∷ after)
-unfolding program_rules program_hints choices_of starts_of number_of mark_number
+unfolding program_rules program_table productions_of first_set number_of mark_number
 paths_at_paren after = at_mark refl
 
 -- behind one of the arguments

@@ -19,8 +19,8 @@ use Rattle.pale_syntax.specs.declared.tree.statement.Statement.TheVariants as st
 use Rattle.pale_syntax.specs.declared.tree.statement.Statement.{Statement}
 use Rattle.pale_syntax.specs.MakingParts.{Parts}
 use Rattle.pale_syntax.specs.ProgramGrammar.{ProgramSymbol, program_grammar, rows_of, reads, push_name, mark_place, call as makes}
-use Rattle.pale_parse.specs.Tables.{program_rules, choices_of}
-use Rattle.pale_parse.specs.Hints.{program_hints, number_of, mark_number, starts_of}
+use Rattle.pale_parse.specs.Productions.{program_rules, productions_of}
+use Rattle.pale_parse.specs.ParseTable.{program_table, number_of, mark_number, first_set}
 use Rattle.pale_print.specs.Placeless.{nowhere, placeless_name, placeless_bracketed, placeless_argument, placeless_call}
 use Rattle.pale_print.specs.Tokens.{each_behind, separated, name_tokens}
 use Rattle.pale_print.specs.StatementTokens.{argument_tokens, logic_argument_tokens, clause_tokens, call_result_tokens, call_tokens}
@@ -66,31 +66,31 @@ more_arguments {aim} {row} {d} {below} {after} parts done (a ∷ arguments) free
     (sym (append_assoc done (placeless_argument a ∷ []) (map placeless_argument arguments))) next)))))
 
 next_at_paren : (after : List TokenKind) → Stops part.NextArgument (token.Mark mark.RightParen ∷ after)
-unfolding program_rules program_hints choices_of starts_of number_of mark_number
+unfolding program_rules program_table productions_of first_set number_of mark_number
 next_at_paren after = at_mark refl
 
 next_at_semicolon : (after : List TokenKind) → Stops part.NextArgument (token.Mark mark.Semicolon ∷ after)
-unfolding program_rules program_hints choices_of starts_of number_of mark_number
+unfolding program_rules program_table productions_of first_set number_of mark_number
 next_at_semicolon after = at_mark refl
 
 argued_at_paren : (after : List TokenKind) → Stops part.Argued (token.Mark mark.RightParen ∷ after)
-unfolding program_rules program_hints choices_of starts_of number_of mark_number
+unfolding program_rules program_table productions_of first_set number_of mark_number
 argued_at_paren after = at_mark refl
 
 argued_at_semicolon : (after : List TokenKind) → Stops part.Argued (token.Mark mark.Semicolon ∷ after)
-unfolding program_rules program_hints choices_of starts_of number_of mark_number
+unfolding program_rules program_table productions_of first_set number_of mark_number
 argued_at_semicolon after = at_mark refl
 
 logics_at_paren : (after : List TokenKind) → Stops part.LogicArguments (token.Mark mark.RightParen ∷ after)
-unfolding program_rules program_hints choices_of starts_of number_of mark_number
+unfolding program_rules program_table productions_of first_set number_of mark_number
 logics_at_paren after = at_mark refl
 
 keep_at_semicolon : (after : List TokenKind) → Stops part.Keep (token.Mark mark.Semicolon ∷ after)
-unfolding program_rules program_hints choices_of starts_of number_of mark_number
+unfolding program_rules program_table productions_of first_set number_of mark_number
 keep_at_semicolon after = at_mark refl
 
 result_at_equals : (after : List TokenKind) → Stops part.NextResult (token.Mark mark.Equals ∷ after)
-unfolding program_rules program_hints choices_of starts_of number_of mark_number
+unfolding program_rules program_table productions_of first_set number_of mark_number
 result_at_equals after = at_mark refl
 
 next_at_logics : (logics : List Argument) (after : List TokenKind) → Stops part.NextArgument (logic_argument_tokens logics (token.Mark mark.RightParen ∷ after))

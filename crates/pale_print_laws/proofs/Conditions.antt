@@ -22,8 +22,8 @@ use Rattle.pale_syntax.specs.declared.tree.condition.Condition.TheFolds.{fold-ro
 use Rattle.pale_syntax.specs.MakingParts.{Parts}
 use Rattle.pale_syntax.specs.MakingConditions.{term_alone, both_conditions, either_condition}
 use Rattle.pale_syntax.specs.ProgramGrammar.{ProgramSymbol, program_grammar, rows_of, reads, opens, push_name, mark_place, condition as makes}
-use Rattle.pale_parse.specs.Tables.{program_rules, choices_of}
-use Rattle.pale_parse.specs.Hints.{program_hints, number_of, mark_number, starts_of}
+use Rattle.pale_parse.specs.Productions.{program_rules, productions_of}
+use Rattle.pale_parse.specs.ParseTable.{program_table, number_of, mark_number, first_set}
 use Rattle.pale_print.specs.Placeless.{nowhere, placeless_name, placeless_term, placeless_condition_node, placeless_condition}
 use Rattle.pale_print.specs.Tokens.{each_behind, name_tokens, term_tokens}
 use Rattle.pale_print.specs.RouteTokens.{Placed, grouped, chained}
@@ -69,31 +69,31 @@ lowest_stops conjunction s = (s.1, s.2)
 lowest_stops literal s = s
 
 pub at_right_paren : (after : List TokenKind) → StopsAt whole (token.Mark mark.RightParen ∷ after)
-unfolding program_rules program_hints choices_of starts_of number_of mark_number
+unfolding program_rules program_table productions_of first_set number_of mark_number
 at_right_paren after = (at_mark refl, at_mark refl, at_mark refl, at_mark refl)
 
 pub at_semicolon : (after : List TokenKind) → StopsAt whole (token.Mark mark.Semicolon ∷ after)
-unfolding program_rules program_hints choices_of starts_of number_of mark_number
+unfolding program_rules program_table productions_of first_set number_of mark_number
 at_semicolon after = (at_mark refl, at_mark refl, at_mark refl, at_mark refl)
 
 at_or_else : (after : List TokenKind) → StopsAt conjunction (token.Mark mark.OrElse ∷ after)
-unfolding program_rules program_hints choices_of starts_of number_of mark_number
+unfolding program_rules program_table productions_of first_set number_of mark_number
 at_or_else after = (at_mark refl, at_mark refl, at_mark refl)
 
 at_and_also : (after : List TokenKind) → StopsAt literal (token.Mark mark.AndAlso ∷ after)
-unfolding program_rules program_hints choices_of starts_of number_of mark_number
+unfolding program_rules program_table productions_of first_set number_of mark_number
 at_and_also after = (at_mark refl, at_mark refl)
 
 step_at_same : (after : List TokenKind) → Stops part.PathStep (token.Mark mark.SameAs ∷ after)
-unfolding program_rules program_hints choices_of starts_of number_of mark_number
+unfolding program_rules program_table productions_of first_set number_of mark_number
 step_at_same after = at_mark refl
 
 step_at_not_same : (after : List TokenKind) → Stops part.PathStep (token.Mark mark.NotSame ∷ after)
-unfolding program_rules program_hints choices_of starts_of number_of mark_number
+unfolding program_rules program_table productions_of first_set number_of mark_number
 step_at_not_same after = at_mark refl
 
 step_at_colon : (after : List TokenKind) → Stops part.PathStep (token.Mark mark.Colon ∷ after)
-unfolding program_rules program_hints choices_of starts_of number_of mark_number
+unfolding program_rules program_table productions_of first_set number_of mark_number
 step_at_colon after = at_mark refl
 
 before_or_else : (ts : List Placed) (after : List TokenKind) → StopsAt whole after → StopsAt conjunction (each_behind mark.OrElse (λ other. other 1) ts after)

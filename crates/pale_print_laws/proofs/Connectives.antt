@@ -27,8 +27,8 @@ use Rattle.pale_syntax.specs.declared.tree.assertion.QuantifierKind.TheVariants 
 use Rattle.pale_syntax.specs.MakingParts.{Parts, nameless}
 use Rattle.pale_syntax.specs.MakingAssertions.{both, either, equivalent}
 use Rattle.pale_syntax.specs.ProgramGrammar.{ProgramSymbol, program_grammar, rows_of, reads, opens, push_name, mark_place, atom, connective as makes}
-use Rattle.pale_parse.specs.Tables.{program_rules, choices_of}
-use Rattle.pale_parse.specs.Hints.{program_hints, number_of, mark_number, starts_of}
+use Rattle.pale_parse.specs.Productions.{program_rules, productions_of}
+use Rattle.pale_parse.specs.ParseTable.{program_table, number_of, mark_number, first_set}
 use Rattle.pale_print.specs.Placeless.{nowhere, placeless_name, placeless_assertion_node, placeless_assertion, placeless_bracketed}
 use Rattle.pale_print.specs.Tokens.{each_behind, name_tokens}
 use Rattle.pale_print.specs.AssertionTokens.{Operand, grouped, chained, implied, set_word, operands, assertion_node, assertion_tokens, bracketed_tokens}
@@ -97,27 +97,27 @@ lowest_for p true after s = operand_stops p s
 lowest_for p false after s = s
 
 at_right_paren : (after : List TokenKind) → StopsAt whole (token.Mark mark.RightParen ∷ after)
-unfolding program_rules program_hints choices_of starts_of number_of mark_number
+unfolding program_rules program_table productions_of first_set number_of mark_number
 at_right_paren after = (at_mark refl, at_mark refl, at_mark refl, at_mark refl, (at_mark refl, at_mark refl, at_mark refl, at_mark refl))
 
 at_right_bracket : (after : List TokenKind) → StopsAt whole (token.Mark mark.RightBracket ∷ after)
-unfolding program_rules program_hints choices_of starts_of number_of mark_number
+unfolding program_rules program_table productions_of first_set number_of mark_number
 at_right_bracket after = (at_mark refl, at_mark refl, at_mark refl, at_mark refl, (at_mark refl, at_mark refl, at_mark refl, at_mark refl))
 
 at_equivalent : (after : List TokenKind) → StopsAt implication (token.Mark mark.Equivalent ∷ after)
-unfolding program_rules program_hints choices_of starts_of number_of mark_number
+unfolding program_rules program_table productions_of first_set number_of mark_number
 at_equivalent after = (at_mark refl, at_mark refl, at_mark refl, (at_mark refl, at_mark refl, at_mark refl, at_mark refl))
 
 at_implies : (after : List TokenKind) → StopsAt disjunct (token.Mark mark.Implies ∷ after)
-unfolding program_rules program_hints choices_of starts_of number_of mark_number
+unfolding program_rules program_table productions_of first_set number_of mark_number
 at_implies after = (at_mark refl, at_mark refl, (at_mark refl, at_mark refl, at_mark refl, at_mark refl))
 
 at_bar : (after : List TokenKind) → StopsAt conjunct (token.Mark mark.Bar ∷ after)
-unfolding program_rules program_hints choices_of starts_of number_of mark_number
+unfolding program_rules program_table productions_of first_set number_of mark_number
 at_bar after = (at_mark refl, (at_mark refl, at_mark refl, at_mark refl, at_mark refl))
 
 at_ampersand : (after : List TokenKind) → StopsAt operand (token.Mark mark.Ampersand ∷ after)
-unfolding program_rules program_hints choices_of starts_of number_of mark_number
+unfolding program_rules program_table productions_of first_set number_of mark_number
 at_ampersand after = (at_mark refl, at_mark refl, at_mark refl, at_mark refl)
 
 -- ---- a negation at a place that asks for less
@@ -199,11 +199,11 @@ abbrev pub so_far : QuantifierKind → Bool → List Name → Quantifier
 so_far kind sets names = record { kind = kind; place = nowhere; of_sets = sets; names = names; ty = nameless }
 
 bound_at_colon : (after : List TokenKind) → Stops part.NextBound (token.Mark mark.Colon ∷ after)
-unfolding program_rules program_hints choices_of starts_of number_of mark_number
+unfolding program_rules program_table productions_of first_set number_of mark_number
 bound_at_colon after = at_mark refl
 
 set_at_name : {x : Name} (after : List TokenKind) → IsFree x → Stops part.SetWord (token.Name x.bytes ∷ after)
-unfolding program_rules program_hints choices_of starts_of number_of mark_number
+unfolding program_rules program_table productions_of first_set number_of mark_number
 set_at_name after free = at_word (is_name free) refl
 
 more_bound : {aim : Aim} {row : List ProgramSymbol} {d : ℕ} {below : ProgramStack} {after : List TokenKind} {parts : Parts}

@@ -262,7 +262,7 @@ row_ends {aim} {d} {below} {tokens} {parts} next =
 
 pub goes : {aim : Aim} {row : List ProgramSymbol} {d : ℕ} {below : ProgramStack} {tokens : List TokenKind} {parts : Parts}
     {n : ProgramPart} (p : List ProgramSymbol) →
-    IsOneOf p (program_rows.choices n) → Ends aim (Row p d (Row row d below)) tokens parts → Ends aim (Row (Once n ∷ row) d below) tokens parts
+    IsOneOf p (program_rows.productions n) → Ends aim (Row p d (Row row d below)) tokens parts → Ends aim (Row (Once n ∷ row) d below) tokens parts
 goes {aim} {row} {d} {below} {tokens} {parts} {n} p is next =
     record {
       spelled = next.spelled;
@@ -274,7 +274,7 @@ goes {aim} {row} {d} {below} {tokens} {parts} {n} p is next =
 
 pub takes : {aim : Aim} {row : List ProgramSymbol} {d : ℕ} {below : ProgramStack} {tokens : List TokenKind} {parts : Parts}
     {n : ProgramPart} (p : List ProgramSymbol) →
-    IsOneOf p (program_rows.choices n) → Ends aim (Row p d (Row row d below)) tokens parts → Ends aim (Row (Maybe n ∷ row) d below) tokens parts
+    IsOneOf p (program_rows.productions n) → Ends aim (Row p d (Row row d below)) tokens parts → Ends aim (Row (Maybe n ∷ row) d below) tokens parts
 takes {aim} {row} {d} {below} {tokens} {parts} {n} p is next =
     record {
       spelled = next.spelled;
@@ -297,7 +297,7 @@ leaves {aim} {row} {d} {below} {tokens} {parts} {n} stops next =
 
 pub goes_on : {aim : Aim} {row : List ProgramSymbol} {d : ℕ} {below : ProgramStack} {tokens : List TokenKind} {parts : Parts}
     {n : ProgramPart} (p : List ProgramSymbol) →
-    IsOneOf p (program_rows.choices n) → Ends aim (Row p d (Row (Many n ∷ row) d below)) tokens parts → Ends aim (Row (Many n ∷ row) d below) tokens parts
+    IsOneOf p (program_rows.productions n) → Ends aim (Row p d (Row (Many n ∷ row) d below)) tokens parts → Ends aim (Row (Many n ∷ row) d below) tokens parts
 goes_on {aim} {row} {d} {below} {tokens} {parts} {n} p is next =
     record {
       spelled = next.spelled;

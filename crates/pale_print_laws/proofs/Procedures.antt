@@ -24,8 +24,8 @@ use Rattle.pale_syntax.specs.declared.tree.declaration.Procedure.{Procedure}
 use Rattle.pale_syntax.specs.MakingParts.{Parts}
 use Rattle.pale_syntax.specs.ProgramGrammar.{ProgramSymbol, program_grammar, rows_of, reads, opens, push_name, mark_place}
 use Rattle.pale_syntax.specs.ProgramGrammar.{procedure as makes, statement as states}
-use Rattle.pale_parse.specs.Tables.{program_rules, choices_of}
-use Rattle.pale_parse.specs.Hints.{program_hints, number_of, mark_number, starts_of}
+use Rattle.pale_parse.specs.Productions.{program_rules, productions_of}
+use Rattle.pale_parse.specs.ParseTable.{program_table, number_of, mark_number, first_set}
 use Rattle.pale_print.specs.Placeless.{nowhere, placeless_name, placeless_bracketed, placeless_parameter, placeless_logic, placeless_procedure}
 use Rattle.pale_print.specs.Tokens.{each, each_behind, separated}
 use Rattle.pale_print.specs.StatementTokens.{clause_tokens, statement_tokens}
@@ -62,11 +62,11 @@ parameter_read parts done (parameter.Bool x) free low next =
     (word is_bool low (word_with (is_name free) low (λ n. refl) (does (λ n. refl) (row_ends next))))
 
 next_at_paren : (after : List TokenKind) → Stops part.NextParameter (token.Mark mark.RightParen ∷ after)
-unfolding program_rules program_hints choices_of starts_of number_of mark_number
+unfolding program_rules program_table productions_of first_set number_of mark_number
 next_at_paren after = at_mark refl
 
 none_at_paren : (after : List TokenKind) → Stops part.Parameters (token.Mark mark.RightParen ∷ after)
-unfolding program_rules program_hints choices_of starts_of number_of mark_number
+unfolding program_rules program_table productions_of first_set number_of mark_number
 none_at_paren after = at_mark refl
 
 more_parameters : {aim : Aim} {row : List ProgramSymbol} {d : ℕ} {below : ProgramStack} {after : List TokenKind}
@@ -113,28 +113,28 @@ abbrev pub from_logic : List LogicParameter → Option Bracketed → Option Brac
 from_logic logics pre post body = logics_tokens logics (from_pre pre post body)
 
 post_stops : (body : List TokenKind) → Stops part.Post (token.Mark mark.LeftBrace ∷ body)
-unfolding program_rules program_hints choices_of starts_of number_of mark_number
+unfolding program_rules program_table productions_of first_set number_of mark_number
 post_stops body = at_mark refl
 
 pre_stops : (post : Option Bracketed) (body : List TokenKind) → Stops part.Pre (from_post post body)
-unfolding program_rules program_hints choices_of starts_of number_of mark_number
+unfolding program_rules program_table productions_of first_set number_of mark_number
 pre_stops None body = at_mark refl
 pre_stops (Some b) body = at_word is_post refl
 
 logic_stops : (pre post : Option Bracketed) (body : List TokenKind) → Stops part.Logic (from_pre pre post body)
-unfolding program_rules program_hints choices_of starts_of number_of mark_number
+unfolding program_rules program_table productions_of first_set number_of mark_number
 logic_stops None None body = at_mark refl
 logic_stops None (Some b) body = at_word is_post refl
 logic_stops (Some b) post body = at_word is_pre refl
 
 next_logic_stops : (pre post : Option Bracketed) (body : List TokenKind) → Stops part.NextLogicParameter (from_pre pre post body)
-unfolding program_rules program_hints choices_of starts_of number_of mark_number
+unfolding program_rules program_table productions_of first_set number_of mark_number
 next_logic_stops None None body = at_mark refl
 next_logic_stops None (Some b) body = at_word is_post refl
 next_logic_stops (Some b) post body = at_word is_pre refl
 
 returns_stop : (logics : List LogicParameter) (pre post : Option Bracketed) (body : List TokenKind) → Stops part.Returns (from_logic logics pre post body)
-unfolding program_rules program_hints choices_of starts_of number_of mark_number
+unfolding program_rules program_table productions_of first_set number_of mark_number
 returns_stop [] None None body = at_mark refl
 returns_stop [] None (Some b) body = at_word is_post refl
 returns_stop [] (Some b) post body = at_word is_pre refl

@@ -7,8 +7,8 @@ use Rattle.pale_syntax.specs.declared.tree.declaration.Declaration.{Declaration}
 use Rattle.pale_syntax.specs.declared.tree.declaration.Declaration.TheVariants as declaration
 use Rattle.pale_syntax.specs.declared.tree.declaration.Program.{Program}
 use Rattle.pale_syntax.specs.ProgramGrammar.{ProgramSymbol, program_grammar, rows_of}
-use Rattle.pale_parse.specs.Tables.{program_rules, choices_of}
-use Rattle.pale_parse.specs.Hints.{program_hints, number_of, mark_number, starts_of}
+use Rattle.pale_parse.specs.Productions.{program_rules, productions_of}
+use Rattle.pale_parse.specs.ParseTable.{program_table, number_of, mark_number, first_set}
 use Rattle.pale_print.specs.Placeless.{placeless_declaration}
 use Rattle.pale_print.specs.Tokens.{each}
 use Rattle.pale_print.specs.DeclarationTokens.{declaration_tokens, program_tokens}
@@ -20,7 +20,7 @@ use Rattle.pale_print_laws.proofs.Procedures.{procedure_read}
 use Rattle.pale_print_laws.proofs.Words.{is_type, is_pred, is_proc}
 
 variant_stops : (ds : List Declaration) → Stops part.Variant (each declaration_tokens ds [])
-unfolding program_rules program_hints choices_of starts_of number_of mark_number
+unfolding program_rules program_table productions_of first_set number_of mark_number
 variant_stops [] = record { holds = tt }
 variant_stops (declaration.«Type» t ∷ ds) = at_word is_type refl
 variant_stops (declaration.Predicate p ∷ ds) = at_word is_pred refl

@@ -21,8 +21,8 @@ use Rattle.pale_syntax.specs.declared.tree.route.Route.TheFolds.{fold-roll-Route
 use Rattle.pale_syntax.specs.MakingParts.{Parts}
 use Rattle.pale_syntax.specs.MakingRoutes.{joined_then, joined_or, starred}
 use Rattle.pale_syntax.specs.ProgramGrammar.{ProgramSymbol, program_grammar, rows_of, reads, opens, push_name, route as makes}
-use Rattle.pale_parse.specs.Tables.{program_rules, choices_of}
-use Rattle.pale_parse.specs.Hints.{program_hints, number_of, mark_number, starts_of}
+use Rattle.pale_parse.specs.Productions.{program_rules, productions_of}
+use Rattle.pale_parse.specs.ParseTable.{program_table, number_of, mark_number, first_set}
 use Rattle.pale_print.specs.Placeless.{nowhere, placeless_name, placeless_route_node, placeless_route}
 use Rattle.pale_print.specs.Tokens.{each_behind}
 use Rattle.pale_print.specs.RouteTokens.{Placed, grouped, chained, stars, route_node, route_tokens}
@@ -72,27 +72,27 @@ step_stops repeated s = (s.1, s.2)
 step_stops single s = s
 
 at_right_paren : (after : List TokenKind) → StopsAt whole (token.Mark mark.RightParen ∷ after)
-unfolding program_rules program_hints choices_of starts_of number_of mark_number
+unfolding program_rules program_table productions_of first_set number_of mark_number
 at_right_paren after = (at_mark refl, at_mark refl, at_mark refl, at_mark refl, at_mark refl)
 
 pub at_right_bracket : (after : List TokenKind) → StopsAt whole (token.Mark mark.RightBracket ∷ after)
-unfolding program_rules program_hints choices_of starts_of number_of mark_number
+unfolding program_rules program_table productions_of first_set number_of mark_number
 at_right_bracket after = (at_mark refl, at_mark refl, at_mark refl, at_mark refl, at_mark refl)
 
 pub at_greater : (after : List TokenKind) → StopsAt whole (token.Mark mark.Greater ∷ after)
-unfolding program_rules program_hints choices_of starts_of number_of mark_number
+unfolding program_rules program_table productions_of first_set number_of mark_number
 at_greater after = (at_mark refl, at_mark refl, at_mark refl, at_mark refl, at_mark refl)
 
 at_plus : (after : List TokenKind) → StopsAt sequence (token.Mark mark.Plus ∷ after)
-unfolding program_rules program_hints choices_of starts_of number_of mark_number
+unfolding program_rules program_table productions_of first_set number_of mark_number
 at_plus after = (at_mark refl, at_mark refl, at_mark refl, at_mark refl)
 
 at_dot : (after : List TokenKind) → StopsAt repeated (token.Mark mark.Dot ∷ after)
-unfolding program_rules program_hints choices_of starts_of number_of mark_number
+unfolding program_rules program_table productions_of first_set number_of mark_number
 at_dot after = (at_mark refl, at_mark refl, at_mark refl)
 
 at_star : (after : List TokenKind) → StopsAt single (token.Mark mark.Star ∷ after)
-unfolding program_rules program_hints choices_of starts_of number_of mark_number
+unfolding program_rules program_table productions_of first_set number_of mark_number
 at_star after = (at_mark refl, at_mark refl)
 
 before_alternatives : (ts : List Placed) (after : List TokenKind) → StopsAt whole after → StopsAt sequence (each_behind mark.Plus (λ other. other 1) ts after)

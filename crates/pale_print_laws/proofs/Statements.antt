@@ -23,8 +23,8 @@ use Rattle.pale_syntax.specs.MakingParts.{Parts}
 use Rattle.pale_syntax.specs.ProgramGrammar.{ProgramSymbol, program_grammar, rows_of, reads, opens, push_name, mark_place}
 use Rattle.pale_syntax.specs.ProgramGrammar.{statement as makes, call as call_makes, word as says}
 use Rattle.pale_syntax.specs.ProgramReading.{program_rows}
-use Rattle.pale_parse.specs.Tables.{program_rules, choices_of}
-use Rattle.pale_parse.specs.Hints.{program_hints, number_of, mark_number, starts_of}
+use Rattle.pale_parse.specs.Productions.{program_rules, productions_of}
+use Rattle.pale_parse.specs.ParseTable.{program_table, number_of, mark_number, first_set}
 use Rattle.pale_print.specs.Placeless.{nowhere, placeless_condition, placeless_bracketed, placeless_value, placeless_statement_node, placeless_statement}
 use Rattle.pale_print.specs.Tokens.{Tokens, each}
 use Rattle.pale_print.specs.StatementTokens.{value_tokens, statement_node, statement_tokens}
@@ -43,11 +43,11 @@ use Rattle.pale_print_laws.proofs.Words.{is_name, is_skip, is_if, is_else, is_wh
 -- ---- values
 
 variant_at_semicolon : (after : List TokenKind) → Stops part.NewVariant (token.Mark mark.Semicolon ∷ after)
-unfolding program_rules program_hints choices_of starts_of number_of mark_number
+unfolding program_rules program_table productions_of first_set number_of mark_number
 variant_at_semicolon after = at_mark refl
 
 path_at_equals : (after : List TokenKind) → Stops part.PathStep (token.Mark mark.Equals ∷ after)
-unfolding program_rules program_hints choices_of starts_of number_of mark_number
+unfolding program_rules program_table productions_of first_set number_of mark_number
 path_at_equals after = at_mark refl
 
 value_read : {aim : Aim} {row : List ProgramSymbol} {d : ℕ} {below : ProgramStack} {after : List TokenKind} {parts : Parts} (room : ℕ) (v : Value) →
@@ -74,7 +74,7 @@ value_read {aim} {row} {d} {below} {after} room (value.Condition place c) is low
 -- the block on top
 abbrev pub FindsStatement : Aim → ℕ → List TokenKind → List TokenKind → Parts → List Statement → List (List Statement) → Statement → Type 0
 FindsStatement aim d tokens after parts done blocks s =
-    (p : List ProgramSymbol) × IsOneOf p (program_rows.choices part.Statement) ×
+    (p : List ProgramSymbol) × IsOneOf p (program_rows.productions part.Statement) ×
     ((below : ProgramStack) → Ends aim below after (record parts { blocks = (done ++ s ∷ []) ∷ blocks }) →
     Ends aim (Row p d below) tokens (record parts { blocks = done ∷ blocks }))
 
@@ -94,15 +94,15 @@ at_node {aim} {d} {after} parts done blocks x s rolls h =
     (sym (fold-roll-Statement Tokens statement_node x)) h))
 
 else_at_brace : (after : List TokenKind) → Stops part.Else (token.Mark mark.RightBrace ∷ after)
-unfolding program_rules program_hints choices_of starts_of number_of mark_number
+unfolding program_rules program_table productions_of first_set number_of mark_number
 else_at_brace after = at_mark refl
 
 statement_at_brace : (after : List TokenKind) → Stops part.Statement (token.Mark mark.RightBrace ∷ after)
-unfolding program_rules program_hints choices_of starts_of number_of mark_number
+unfolding program_rules program_table productions_of first_set number_of mark_number
 statement_at_brace after = at_mark refl
 
 local_at_brace : (after : List TokenKind) → Stops part.Local (token.Mark mark.RightBrace ∷ after)
-unfolding program_rules program_hints choices_of starts_of number_of mark_number
+unfolding program_rules program_table productions_of first_set number_of mark_number
 local_at_brace after = at_mark refl
 
 -- no `else` and no local stands where a statement begins
@@ -118,7 +118,7 @@ begins_as x s after rolls h =
     (subst (λ (t : Tokens). NoneBegins (t after)) (sym (fold-roll-Statement Tokens statement_node x)) h)
 
 statement_begins : {room : ℕ} {s : Statement} (after : List TokenKind) → IsCanonicalStatement room s → NoneBegins (statement_tokens s after)
-unfolding program_rules program_hints choices_of starts_of number_of mark_number
+unfolding program_rules program_table productions_of first_set number_of mark_number
 statement_begins after (skip room place) =
     begins_as (Statement-F.Skip place) (statement.Skip place) after (rolls-Skip place)
     (at_word is_skip refl, at_word is_skip refl)

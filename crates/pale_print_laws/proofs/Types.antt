@@ -22,8 +22,8 @@ use Rattle.pale_syntax.specs.declared.tree.declaration.TypeDeclaration.{TypeDecl
 use Rattle.pale_syntax.specs.declared.tree.declaration.VariantDeclaration.{VariantDeclaration}
 use Rattle.pale_syntax.specs.MakingParts.{Parts, nothing}
 use Rattle.pale_syntax.specs.ProgramGrammar.{ProgramSymbol, program_grammar, rows_of, reads, push_name, type as makes, predicate as tells}
-use Rattle.pale_parse.specs.Tables.{program_rules, choices_of}
-use Rattle.pale_parse.specs.Hints.{program_hints, number_of, mark_number, starts_of}
+use Rattle.pale_parse.specs.Productions.{program_rules, productions_of}
+use Rattle.pale_parse.specs.ParseTable.{program_table, number_of, mark_number, first_set}
 use Rattle.pale_print.specs.Placeless.{placeless_name, placeless_form, placeless_field, placeless_variant, placeless_type}
 use Rattle.pale_print.specs.Placeless.{placeless_predicate_parameter, placeless_predicate}
 use Rattle.pale_print.specs.Tokens.{each, each_behind, separated}
@@ -45,7 +45,7 @@ declared done = record nothing { declarations = done }
 -- ---- fields
 
 field_at_brace : (after : List TokenKind) → Stops part.Field (token.Mark mark.RightBrace ∷ after)
-unfolding program_rules program_hints choices_of starts_of number_of mark_number
+unfolding program_rules program_table productions_of first_set number_of mark_number
 field_at_brace after = at_mark refl
 
 more_fields : {aim : Aim} {row : List ProgramSymbol} {d : ℕ} {below : ProgramStack} {after : List TokenKind} (room : ℕ)
@@ -147,11 +147,11 @@ parameter_read parts done (predicate.Bool x) free low next =
     (word is_bool low (word_with (is_name free) low (λ n. refl) (does (λ n. refl) (row_ends next))))
 
 next_at_paren : (after : List TokenKind) → Stops part.NextPredicateParameter (token.Mark mark.RightParen ∷ after)
-unfolding program_rules program_hints choices_of starts_of number_of mark_number
+unfolding program_rules program_table productions_of first_set number_of mark_number
 next_at_paren after = at_mark refl
 
 none_at_paren : (after : List TokenKind) → Stops part.PredicateParameters (token.Mark mark.RightParen ∷ after)
-unfolding program_rules program_hints choices_of starts_of number_of mark_number
+unfolding program_rules program_table productions_of first_set number_of mark_number
 none_at_paren after = at_mark refl
 
 more_parameters : {aim : Aim} {row : List ProgramSymbol} {d : ℕ} {below : ProgramStack} {after : List TokenKind}

@@ -1,9 +1,9 @@
 pub mod Building
-pub mod Hints
+pub mod ParseTable
 pub mod Making
 pub mod MakingParts
 pub mod SourceGrammar
 pub mod SourceReading
 pub mod SourceWords
 pub mod TableLaws
-pub mod Tables
+pub mod Productions

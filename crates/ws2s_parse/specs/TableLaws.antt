@@ -1,7 +1,7 @@
 -- The tables are the grammar's, and the next token tells how a reading goes on. Each part is tried by computing.
 use Rattle.std.specs.Prelude.{◌≡◌, List, [], ◌∷◌, ◌++◌, map, true, Some, None, refl, slice_get}
 use Rattle.std.proofs.Common.{ap, sym, ◌∙◌}
-use Rattle.ll1_reader.specs.Predicting.{is_predictable, all_end_well, IsSound, AreNamed}
+use Rattle.ll1_reader.specs.Predicting.{is_ll1, all_end_well, IsLl1, AreNamed}
 use Rattle.pale_text.specs.Marks.{all_marks, mark_number}
 use Rattle.pale_text.proofs.MarkNumbers.{mark_back}
 use Rattle.ws2s_parse.specs.declared.grammar.kind.SourceKind.{SourceKind}
@@ -9,8 +9,8 @@ use Rattle.ws2s_parse.specs.declared.grammar.kind.SourceKind.TheVariants as kind
 use Rattle.ws2s_parse.specs.declared.grammar.part.SourcePart.{SourcePart}
 use Rattle.ws2s_parse.specs.declared.grammar.part.SourcePart.TheVariants as part
 use Rattle.ws2s_parse.specs.SourceGrammar.{rows_of, source_grammar}
-use Rattle.ws2s_parse.specs.Tables.{choices_of, row_of, source_rules}
-use Rattle.ws2s_parse.specs.Hints.{number_of, label_of, starts_of, tails_of, cost_of, sample_of, begin_of, size_of, source_hints}
+use Rattle.ws2s_parse.specs.Productions.{productions_of, row_of, source_rules}
+use Rattle.ws2s_parse.specs.ParseTable.{number_of, label_of, first_set, tails_of, cost_of, sample_of, begin_of, size_of, source_table}
 
 -- ---- numbers are one for each kind and part, since they are its place in these lists
 
@@ -89,8 +89,8 @@ labels_differ m n same = some_injective m n (sym (part_back m) ∙ ap (slice_get
 
 -- ---- each part
 
-predictable : (n : SourcePart) → is_predictable source_rules source_hints n ≡ true
-unfolding source_rules source_hints choices_of row_of rows_of number_of mark_number label_of starts_of tails_of cost_of sample_of begin_of size_of
+predictable : (n : SourcePart) → is_ll1 source_rules source_table n ≡ true
+unfolding source_rules source_table productions_of row_of rows_of number_of mark_number label_of first_set tails_of cost_of sample_of begin_of size_of
 predictable part.Item = refl
 predictable part.Variables = refl
 predictable part.NextVariable = refl
@@ -117,18 +117,18 @@ predictable part.Successor = refl
 predictable part.Child = refl
 predictable part.Relation = refl
 
-text_ends : all_end_well source_rules source_hints (source_hints.text_tail) (source_rules.text) ≡ true
-unfolding source_rules source_hints choices_of row_of rows_of number_of mark_number label_of starts_of tails_of
+text_ends : all_end_well source_rules source_table (source_table.text_tail) (source_rules.text) ≡ true
+unfolding source_rules source_table productions_of row_of rows_of number_of mark_number label_of first_set tails_of
 text_ends = refl
 
-pub source_sound : IsSound source_rules source_hints
-unfolding source_rules source_hints
+pub source_sound : IsLl1 source_rules source_table
+unfolding source_rules source_table
 source_sound = record { kinds_differ = kinds_differ; labels_differ = labels_differ; predictable = predictable; text = text_ends }
 
 -- ---- the named rows are the grammar's
 
-rows_named : (n : SourcePart) → map row_of (choices_of n) ≡ rows_of n
-unfolding choices_of row_of rows_of
+rows_named : (n : SourcePart) → map row_of (productions_of n) ≡ rows_of n
+unfolding productions_of row_of rows_of
 rows_named part.Item = refl
 rows_named part.Variables = refl
 rows_named part.NextVariable = refl

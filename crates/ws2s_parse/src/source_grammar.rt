@@ -6,13 +6,13 @@ ghost use Rattle.ws2s_parse.specs.Making.{after, source_in};
 ghost use Rattle.ws2s_parse.specs.MakingParts.{Parts as MadeParts, nothing};
 ghost use Rattle.ws2s_parse.specs.SourceGrammar.{source_grammar};
 ghost use Rattle.ws2s_parse.specs.SourceWords.{kind_of};
-ghost use Rattle.ws2s_parse.specs.Tables.{source_rules};
-ghost use Rattle.ws2s_parse.specs.Hints.{source_hints};
+ghost use Rattle.ws2s_parse.specs.Productions.{source_rules};
+ghost use Rattle.ws2s_parse.specs.ParseTable.{source_table};
 ghost use Rattle.ws2s_parse.specs.TableLaws.{source_named, source_sound};
 
 use crate::build::{Parts, nothing};
 use crate::grammar::{SourceAct, SourceKind, SourcePart};
-use crate::tables::{SourceChoice, SourceSymbol, choices_of, number_of, row_of, starts_of};
+use crate::tables::{SourceProduction, SourceSymbol, first_set, number_of, productions_of, row_of};
 use ll1_reader::{Grammar, Symbol};
 use pale_text::{Language, Mark, Near, TokenKind};
 use std::alloc::{AllocError, Global};
@@ -31,7 +31,7 @@ static TEXT: [SourceSymbol; 3] = [
 impl Grammar for SourceGrammar {
     type Nonterminal = SourcePart;
 
-    type Choice = SourceChoice;
+    type Production = SourceProduction;
 
     type Act = SourceAct;
 
@@ -41,29 +41,29 @@ impl Grammar for SourceGrammar {
 
     ghost rules = { source_rules };
 
-    ghost hints = { source_hints };
+    ghost table = { source_table };
 
-    #[tactic(auto, unfolding(crate::specs::Tables::source_rules))]
-    fn choices(part: SourcePart) -> &'static [SourceChoice] {
-        choices_of(part)
+    #[tactic(auto, unfolding(crate::specs::Productions::source_rules))]
+    fn productions(part: SourcePart) -> &'static [SourceProduction] {
+        productions_of(part)
     }
 
-    #[tactic(auto, unfolding(crate::specs::Tables::source_rules))]
-    fn row(choice: SourceChoice) -> &'static [SourceSymbol] {
-        row_of(choice)
+    #[tactic(auto, unfolding(crate::specs::Productions::source_rules))]
+    fn row(production: SourceProduction) -> &'static [SourceSymbol] {
+        row_of(production)
     }
 
-    #[tactic(auto, unfolding(crate::specs::Tables::source_rules))]
+    #[tactic(auto, unfolding(crate::specs::Productions::source_rules))]
     fn text() -> &'static [SourceSymbol] {
         &TEXT
     }
 
-    #[tactic(auto, unfolding(crate::specs::Hints::source_hints))]
-    fn starts(choice: SourceChoice) -> &'static [SourceKind] {
-        starts_of(choice)
+    #[tactic(auto, unfolding(crate::specs::ParseTable::source_table))]
+    fn first(production: SourceProduction) -> &'static [SourceKind] {
+        first_set(production)
     }
 
-    #[tactic(auto, unfolding(crate::specs::Hints::source_hints))]
+    #[tactic(auto, unfolding(crate::specs::ParseTable::source_table))]
     fn number(kind: SourceKind) -> u32 {
         number_of(kind)
     }

@@ -1,12 +1,12 @@
 //! A number for each kind of token.
 
 ghost use Rattle.std.specs.Prelude.{◌≡◌};
-ghost use Rattle.pale_parse.specs.Hints.{number_of};
+ghost use Rattle.pale_parse.specs.ParseTable.{number_of};
 
 use pale_syntax::ProgramKind;
 
 /// The number of a kind.
-#[tactic(auto, unfolding(crate::specs::Hints::number_of))]
+#[tactic(auto, unfolding(crate::specs::ParseTable::number_of))]
 pub(crate) fn number_of(kind: ProgramKind) -> u32
     ensures { result ≡ number_of kind }
 {

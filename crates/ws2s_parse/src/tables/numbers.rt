@@ -1,12 +1,12 @@
 //! A number for each kind of token.
 
 ghost use Rattle.std.specs.Prelude.{◌≡◌};
-ghost use Rattle.ws2s_parse.specs.Hints.{number_of};
+ghost use Rattle.ws2s_parse.specs.ParseTable.{number_of};
 
 use crate::grammar::SourceKind;
 
 /// The number of a kind.
-#[tactic(auto, unfolding(crate::specs::Hints::number_of))]
+#[tactic(auto, unfolding(crate::specs::ParseTable::number_of))]
 pub(crate) fn number_of(kind: SourceKind) -> u32
     ensures { result ≡ number_of kind }
 {

@@ -5,5 +5,5 @@ use Rattle.ll1_reader.proofs.predict.begins.Given as goal
 -- the kinds so far are others
 abbrev pub invariant-loop-start : goal.invariant-loop-start
 invariant-loop-start g l =
-    among g.G.Grammar.rules g.G.Grammar.hints l.kind (drop l.start-index l.start-items) ≡ among g.G.Grammar.rules
-    g.G.Grammar.hints l.kind l.start-items
+    among g.G.Grammar.rules g.G.Grammar.table l.kind (drop l.start-index l.start-items) ≡ among g.G.Grammar.rules
+    g.G.Grammar.table l.kind l.start-items

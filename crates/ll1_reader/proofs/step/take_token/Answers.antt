@@ -9,7 +9,7 @@ use Rattle.ll1_reader.proofs.step.take_token.Goals as goal
 pub returns-in_ok-push_row-in-Read : goal.returns-in_ok-push_row-in-Read
 returns-in_ok-push_row-in-Read g c =
     let same = g.met.G.Grammar.sound.kinds_differ c.in-Read.wanted c.args.kind (sym c.number.ensures ∙ c.if-number.false ∙ c.number-in-Read.ensures) in
-    takes_by g.G.Grammar.rules g.G.Grammar.hints c.args.limit c.args.kind c.args.row.now
+    takes_by g.G.Grammar.rules g.G.Grammar.table c.args.limit c.args.kind c.args.row.now
     (Read c.args.kind ∷ c.in-Some.rest.now) c.args.depth (Row c.in-Some.rest.now c.args.depth (stack_of c.args.work.now))
     (Took c.args.depth) c.args.work.now c.push_row.new.work
     (c.in-Some.ensures.cases.0 ∙ ap (λ x. x ∷ c.in-Some.rest.now) (c.in-Read.is ∙ ap (λ x. Read x) same))
@@ -21,7 +21,7 @@ returns-in_ok-push_row-in-Open g c =
     let same =
     g.met.G.Grammar.sound.kinds_differ c.in-Open.wanted c.args.kind
     (sym c.number-in-Open.ensures ∙ c.if-number-2.false ∙ c.number-in-Open-2.ensures) in
-    takes_by g.G.Grammar.rules g.G.Grammar.hints c.args.limit c.args.kind c.args.row.now
+    takes_by g.G.Grammar.rules g.G.Grammar.table c.args.limit c.args.kind c.args.row.now
     (Open c.args.kind ∷ c.in-Some.rest.now) c.args.depth
     (Row c.in-Some.rest.now (suc c.args.depth) (stack_of c.args.work.now)) (Took (suc c.args.depth)) c.args.work.now
     c.push_row-in-Open.new.work

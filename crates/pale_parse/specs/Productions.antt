@@ -7,82 +7,82 @@ use Rattle.pale_syntax.specs.declared.grammar.part.ProgramPart.{ProgramPart}
 use Rattle.pale_syntax.specs.declared.grammar.part.ProgramPart.TheVariants as part
 use Rattle.pale_syntax.specs.declared.grammar.act.Act.{Act}
 use Rattle.pale_syntax.specs.ProgramGrammar.{ProgramSymbol, rows_of}
-use Rattle.pale_parse.specs.declared.tables.choice.ProgramChoice.{ProgramChoice}
-use Rattle.pale_parse.specs.declared.tables.choice.ProgramChoice.TheVariants as row
+use Rattle.pale_parse.specs.declared.tables.production.ProgramProduction.{ProgramProduction}
+use Rattle.pale_parse.specs.declared.tables.production.ProgramProduction.TheVariants as row
 
 -- the rows of each part, in the order of the grammar
-unfoldable pub choices_of : ProgramPart → List ProgramChoice
-choices_of part.Declaration = row.ATypeDeclaration ∷ row.APredicateDeclaration ∷ row.AProcedureDeclaration ∷ []
-choices_of part.Type = row.TypeDeclared ∷ []
-choices_of part.Variant = row.VariantDeclared ∷ []
-choices_of part.Field = row.BoolFieldDeclared ∷ row.DataFieldDeclared ∷ row.PointerFieldDeclared ∷ []
-choices_of part.Route = row.RouteOfSequences ∷ []
-choices_of part.NextAlternative = row.AlternativeAfterPlus ∷ []
-choices_of part.Sequence = row.SequenceOfRepeated ∷ []
-choices_of part.NextRepeated = row.RepeatedAfterDot ∷ []
-choices_of part.Repeated = row.StepWithStars ∷ []
-choices_of part.Star = row.OneStar ∷ []
-choices_of part.Step = row.StepDown ∷ row.StepUp ∷ row.LeafTest ∷ row.RootTest ∷ row.TypeTest ∷ row.TrueTest ∷ row.FalseTest ∷
+unfoldable pub productions_of : ProgramPart → List ProgramProduction
+productions_of part.Declaration = row.ATypeDeclaration ∷ row.APredicateDeclaration ∷ row.AProcedureDeclaration ∷ []
+productions_of part.Type = row.TypeDeclared ∷ []
+productions_of part.Variant = row.VariantDeclared ∷ []
+productions_of part.Field = row.BoolFieldDeclared ∷ row.DataFieldDeclared ∷ row.PointerFieldDeclared ∷ []
+productions_of part.Route = row.RouteOfSequences ∷ []
+productions_of part.NextAlternative = row.AlternativeAfterPlus ∷ []
+productions_of part.Sequence = row.SequenceOfRepeated ∷ []
+productions_of part.NextRepeated = row.RepeatedAfterDot ∷ []
+productions_of part.Repeated = row.StepWithStars ∷ []
+productions_of part.Star = row.OneStar ∷ []
+productions_of part.Step = row.StepDown ∷ row.StepUp ∷ row.LeafTest ∷ row.RootTest ∷ row.TypeTest ∷ row.TrueTest ∷ row.FalseTest ∷
     row.RouteGroup ∷ []
-choices_of part.UpName = row.UpByName ∷ []
-choices_of part.VariantTest = row.TestedVariant ∷ []
-choices_of part.Predicate = row.PredicateDeclared ∷ []
-choices_of part.PredicateParameters = row.PredicateParametersInOrder ∷ []
-choices_of part.NextPredicateParameter = row.PredicateParameterAfterComma ∷ []
-choices_of part.PredicateParameter = row.CellDeclared ∷ row.SetDeclared ∷ row.BoolDeclared ∷ []
-choices_of part.Bracketed = row.AssertionInBrackets ∷ []
-choices_of part.Procedure = row.ProcedureDeclared ∷ []
-choices_of part.Returns = row.ResultsDeclared ∷ []
-choices_of part.Logic = row.LogicDeclared ∷ []
-choices_of part.NextLogicParameter = row.LogicParameterAfterComma ∷ []
-choices_of part.LogicParameter = row.LogicSetDeclared ∷ row.LogicBoolDeclared ∷ []
-choices_of part.Pre = row.PreDeclared ∷ []
-choices_of part.Post = row.PostDeclared ∷ []
-choices_of part.Parameters = row.ParametersInOrder ∷ []
-choices_of part.NextParameter = row.ParameterAfterComma ∷ []
-choices_of part.Parameter = row.DataDeclared ∷ row.PointerDeclared ∷ row.BoolVariableDeclared ∷ []
-choices_of part.Local = row.LocalDeclared ∷ []
-choices_of part.Block = row.BlockOfStatements ∷ []
-choices_of part.Statement = row.Skip ∷ row.If ∷ row.While ∷ row.Split ∷ row.Assert ∷ row.Free ∷ row.Call ∷ row.Assign ∷ []
-choices_of part.Else = row.ElseBlock ∷ []
-choices_of part.CallRest = row.CallWithoutResults ∷ row.CallWithResults ∷ []
-choices_of part.NextResult = row.ResultAfterComma ∷ []
-choices_of part.Arguments = row.ArgumentsOfBothKinds ∷ []
-choices_of part.Argued = row.ArgumentsInOrder ∷ []
-choices_of part.NextArgument = row.ArgumentAfterComma ∷ []
-choices_of part.LogicArguments = row.LogicArgumentsInOrder ∷ []
-choices_of part.Argument = row.ANameArgument ∷ row.ANullArgument ∷ row.ATrueArgument ∷ row.AFalseArgument ∷ []
-choices_of part.Keep = row.Kept ∷ []
-choices_of part.Value = row.NewCell ∷ row.ConditionValue ∷ []
-choices_of part.NewVariant = row.VariantOfNew ∷ []
-choices_of part.Condition = row.ConditionOfConjunctions ∷ []
-choices_of part.NextConjunction = row.ConjunctionAfterOr ∷ []
-choices_of part.Conjunction = row.ConjunctionOfLiterals ∷ []
-choices_of part.NextLiteral = row.LiteralAfterAnd ∷ []
-choices_of part.Literal = row.NotLiteral ∷ row.ConditionGroup ∷ row.TrueLiteral ∷ row.FalseLiteral ∷ row.TermLiteral ∷ []
-choices_of part.LiteralRelation = row.SameLiteral ∷ row.NotSameLiteral ∷ row.VariantLiteral ∷ []
-choices_of part.Term = row.NullTerm ∷ row.PathAsTerm ∷ []
-choices_of part.Path = row.PathOfSteps ∷ []
-choices_of part.PathStep = row.NameAfterDot ∷ []
-choices_of part.Iff = row.IffOfImplications ∷ []
-choices_of part.NextImplication = row.ImplicationAfterIff ∷ []
-choices_of part.Implication = row.ImplicationOfChain ∷ []
-choices_of part.Implied = row.ImplicationAfterArrow ∷ []
-choices_of part.OrChain = row.OrOfAndChains ∷ []
-choices_of part.NextAndChain = row.AndChainAfterBar ∷ []
-choices_of part.AndChain = row.AndOfNegations ∷ []
-choices_of part.NextNegation = row.NegationAfterAmpersand ∷ []
-choices_of part.Negation = row.NotAssertion ∷ row.ExQuantified ∷ row.AllQuantified ∷ row.PrimaryAlone ∷ []
-choices_of part.Quantified = row.BoundWithBody ∷ []
-choices_of part.SetWord = row.OverSets ∷ []
-choices_of part.NextBound = row.BoundAfterComma ∷ []
-choices_of part.Primary = row.AssertionGroup ∷ row.TruePrimary ∷ row.FalsePrimary ∷ row.NullPrimary ∷ row.NamePrimary ∷ []
-choices_of part.NameRest = row.UseOfName ∷ row.LongerPath ∷ row.RelationOfName ∷ []
-choices_of part.UsedPaths = row.UsedPathsInOrder ∷ []
-choices_of part.NextUsedPath = row.UsedPathAfterComma ∷ []
-choices_of part.PathAloneStep = row.PathAloneAfterDot ∷ []
-choices_of part.NameRelation = row.RelationOfPath ∷ []
-choices_of part.Relation = row.SameTerm ∷ row.DifferentTerm ∷ row.MemberOfSet ∷ row.SubsetOfSet ∷ row.WalkToTerm ∷ row.OfThisVariant ∷ []
+productions_of part.UpName = row.UpByName ∷ []
+productions_of part.VariantTest = row.TestedVariant ∷ []
+productions_of part.Predicate = row.PredicateDeclared ∷ []
+productions_of part.PredicateParameters = row.PredicateParametersInOrder ∷ []
+productions_of part.NextPredicateParameter = row.PredicateParameterAfterComma ∷ []
+productions_of part.PredicateParameter = row.CellDeclared ∷ row.SetDeclared ∷ row.BoolDeclared ∷ []
+productions_of part.Bracketed = row.AssertionInBrackets ∷ []
+productions_of part.Procedure = row.ProcedureDeclared ∷ []
+productions_of part.Returns = row.ResultsDeclared ∷ []
+productions_of part.Logic = row.LogicDeclared ∷ []
+productions_of part.NextLogicParameter = row.LogicParameterAfterComma ∷ []
+productions_of part.LogicParameter = row.LogicSetDeclared ∷ row.LogicBoolDeclared ∷ []
+productions_of part.Pre = row.PreDeclared ∷ []
+productions_of part.Post = row.PostDeclared ∷ []
+productions_of part.Parameters = row.ParametersInOrder ∷ []
+productions_of part.NextParameter = row.ParameterAfterComma ∷ []
+productions_of part.Parameter = row.DataDeclared ∷ row.PointerDeclared ∷ row.BoolVariableDeclared ∷ []
+productions_of part.Local = row.LocalDeclared ∷ []
+productions_of part.Block = row.BlockOfStatements ∷ []
+productions_of part.Statement = row.Skip ∷ row.If ∷ row.While ∷ row.Split ∷ row.Assert ∷ row.Free ∷ row.Call ∷ row.Assign ∷ []
+productions_of part.Else = row.ElseBlock ∷ []
+productions_of part.CallRest = row.CallWithoutResults ∷ row.CallWithResults ∷ []
+productions_of part.NextResult = row.ResultAfterComma ∷ []
+productions_of part.Arguments = row.ArgumentsOfBothKinds ∷ []
+productions_of part.Argued = row.ArgumentsInOrder ∷ []
+productions_of part.NextArgument = row.ArgumentAfterComma ∷ []
+productions_of part.LogicArguments = row.LogicArgumentsInOrder ∷ []
+productions_of part.Argument = row.ANameArgument ∷ row.ANullArgument ∷ row.ATrueArgument ∷ row.AFalseArgument ∷ []
+productions_of part.Keep = row.Kept ∷ []
+productions_of part.Value = row.NewCell ∷ row.ConditionValue ∷ []
+productions_of part.NewVariant = row.VariantOfNew ∷ []
+productions_of part.Condition = row.ConditionOfConjunctions ∷ []
+productions_of part.NextConjunction = row.ConjunctionAfterOr ∷ []
+productions_of part.Conjunction = row.ConjunctionOfLiterals ∷ []
+productions_of part.NextLiteral = row.LiteralAfterAnd ∷ []
+productions_of part.Literal = row.NotLiteral ∷ row.ConditionGroup ∷ row.TrueLiteral ∷ row.FalseLiteral ∷ row.TermLiteral ∷ []
+productions_of part.LiteralRelation = row.SameLiteral ∷ row.NotSameLiteral ∷ row.VariantLiteral ∷ []
+productions_of part.Term = row.NullTerm ∷ row.PathAsTerm ∷ []
+productions_of part.Path = row.PathOfSteps ∷ []
+productions_of part.PathStep = row.NameAfterDot ∷ []
+productions_of part.Iff = row.IffOfImplications ∷ []
+productions_of part.NextImplication = row.ImplicationAfterIff ∷ []
+productions_of part.Implication = row.ImplicationOfChain ∷ []
+productions_of part.Implied = row.ImplicationAfterArrow ∷ []
+productions_of part.OrChain = row.OrOfAndChains ∷ []
+productions_of part.NextAndChain = row.AndChainAfterBar ∷ []
+productions_of part.AndChain = row.AndOfNegations ∷ []
+productions_of part.NextNegation = row.NegationAfterAmpersand ∷ []
+productions_of part.Negation = row.NotAssertion ∷ row.ExQuantified ∷ row.AllQuantified ∷ row.PrimaryAlone ∷ []
+productions_of part.Quantified = row.BoundWithBody ∷ []
+productions_of part.SetWord = row.OverSets ∷ []
+productions_of part.NextBound = row.BoundAfterComma ∷ []
+productions_of part.Primary = row.AssertionGroup ∷ row.TruePrimary ∷ row.FalsePrimary ∷ row.NullPrimary ∷ row.NamePrimary ∷ []
+productions_of part.NameRest = row.UseOfName ∷ row.LongerPath ∷ row.RelationOfName ∷ []
+productions_of part.UsedPaths = row.UsedPathsInOrder ∷ []
+productions_of part.NextUsedPath = row.UsedPathAfterComma ∷ []
+productions_of part.PathAloneStep = row.PathAloneAfterDot ∷ []
+productions_of part.NameRelation = row.RelationOfPath ∷ []
+productions_of part.Relation = row.SameTerm ∷ row.DifferentTerm ∷ row.MemberOfSet ∷ row.SubsetOfSet ∷ row.WalkToTerm ∷ row.OfThisVariant ∷ []
 
 -- the row itself, where there is one
 abbrev pub this_row : Option (List ProgramSymbol) → List ProgramSymbol
@@ -94,7 +94,7 @@ abbrev pub nth : ℕ → ProgramPart → List ProgramSymbol
 nth place in_part = this_row (slice_get (rows_of in_part) place)
 
 -- the symbols of a row
-unfoldable pub row_of : ProgramChoice → List ProgramSymbol
+unfoldable pub row_of : ProgramProduction → List ProgramSymbol
 row_of row.ATypeDeclaration = nth 0 part.Declaration
 row_of row.APredicateDeclaration = nth 1 part.Declaration
 row_of row.AProcedureDeclaration = nth 2 part.Declaration
@@ -215,5 +215,5 @@ row_of row.SubsetOfSet = nth 3 part.Relation
 row_of row.WalkToTerm = nth 4 part.Relation
 row_of row.OfThisVariant = nth 5 part.Relation
 
-unfoldable pub program_rules : Rules ProgramPart ProgramChoice Act ProgramKind
-program_rules = record { choices = choices_of; row = row_of; text = Many part.Declaration ∷ [] }
+unfoldable pub program_rules : Rules ProgramPart ProgramProduction Act ProgramKind
+program_rules = record { productions = productions_of; row = row_of; text = Many part.Declaration ∷ [] }

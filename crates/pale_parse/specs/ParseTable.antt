@@ -1,15 +1,15 @@
--- The LL(1) table of the grammar of programs. ll1_reader's `is_predictable` says what is meant by each of these, and is
+-- The LL(1) table of the grammar of programs. ll1_reader's `is_ll1` says what is meant by each of these, and is
 -- tried on each part.
 use Rattle.std.specs.Prelude.{ℕ, List, [], ◌∷◌, ◌++◌}
-use Rattle.ll1_reader.specs.Predicting.{Hints}
+use Rattle.ll1_reader.specs.Predicting.{Table}
 use Rattle.pale_text.specs.declared.token.Mark.TheVariants as mark
 unfoldable pub use Rattle.pale_text.specs.Marks.{mark_number}
 use Rattle.pale_syntax.specs.declared.grammar.kind.ProgramKind.{ProgramKind}
 use Rattle.pale_syntax.specs.declared.grammar.kind.ProgramKind.TheVariants as kind
 use Rattle.pale_syntax.specs.declared.grammar.part.ProgramPart.{ProgramPart}
 use Rattle.pale_syntax.specs.declared.grammar.part.ProgramPart.TheVariants as part
-use Rattle.pale_parse.specs.declared.tables.choice.ProgramChoice.{ProgramChoice}
-use Rattle.pale_parse.specs.declared.tables.choice.ProgramChoice.TheVariants as row
+use Rattle.pale_parse.specs.declared.tables.production.ProgramProduction.{ProgramProduction}
+use Rattle.pale_parse.specs.declared.tables.production.ProgramProduction.TheVariants as row
 
 -- a number for each kind: those of the marks come first
 unfoldable pub number_of : ProgramKind → ℕ
@@ -120,137 +120,137 @@ label_of part.NameRelation = 68
 label_of part.Relation = 69
 
 -- the FIRST set of each row
-unfoldable pub starts_of : ProgramChoice → List ProgramKind
-starts_of row.ATypeDeclaration = kind.Type ∷ []
-starts_of row.APredicateDeclaration = kind.Pred ∷ []
-starts_of row.AProcedureDeclaration = kind.Proc ∷ []
-starts_of row.TypeDeclared = kind.Type ∷ []
-starts_of row.VariantDeclared = kind.Mark mark.Bar ∷ []
-starts_of row.BoolFieldDeclared = kind.Bool ∷ []
-starts_of row.DataFieldDeclared = kind.Data ∷ []
-starts_of row.PointerFieldDeclared = kind.Pointer ∷ []
-starts_of row.RouteOfSequences = kind.Name ∷ kind.Mark mark.Caret ∷ kind.Mark mark.Dollar ∷ kind.Root ∷ kind.Mark mark.At ∷
+unfoldable pub first_set : ProgramProduction → List ProgramKind
+first_set row.ATypeDeclaration = kind.Type ∷ []
+first_set row.APredicateDeclaration = kind.Pred ∷ []
+first_set row.AProcedureDeclaration = kind.Proc ∷ []
+first_set row.TypeDeclared = kind.Type ∷ []
+first_set row.VariantDeclared = kind.Mark mark.Bar ∷ []
+first_set row.BoolFieldDeclared = kind.Bool ∷ []
+first_set row.DataFieldDeclared = kind.Data ∷ []
+first_set row.PointerFieldDeclared = kind.Pointer ∷ []
+first_set row.RouteOfSequences = kind.Name ∷ kind.Mark mark.Caret ∷ kind.Mark mark.Dollar ∷ kind.Root ∷ kind.Mark mark.At ∷
     kind.Mark mark.Question ∷ kind.Mark mark.Bang ∷ kind.Mark mark.LeftParen ∷ []
-starts_of row.AlternativeAfterPlus = kind.Mark mark.Plus ∷ []
-starts_of row.SequenceOfRepeated = kind.Name ∷ kind.Mark mark.Caret ∷ kind.Mark mark.Dollar ∷ kind.Root ∷ kind.Mark mark.At ∷
+first_set row.AlternativeAfterPlus = kind.Mark mark.Plus ∷ []
+first_set row.SequenceOfRepeated = kind.Name ∷ kind.Mark mark.Caret ∷ kind.Mark mark.Dollar ∷ kind.Root ∷ kind.Mark mark.At ∷
     kind.Mark mark.Question ∷ kind.Mark mark.Bang ∷ kind.Mark mark.LeftParen ∷ []
-starts_of row.RepeatedAfterDot = kind.Mark mark.Dot ∷ []
-starts_of row.StepWithStars = kind.Name ∷ kind.Mark mark.Caret ∷ kind.Mark mark.Dollar ∷ kind.Root ∷ kind.Mark mark.At ∷
+first_set row.RepeatedAfterDot = kind.Mark mark.Dot ∷ []
+first_set row.StepWithStars = kind.Name ∷ kind.Mark mark.Caret ∷ kind.Mark mark.Dollar ∷ kind.Root ∷ kind.Mark mark.At ∷
     kind.Mark mark.Question ∷ kind.Mark mark.Bang ∷ kind.Mark mark.LeftParen ∷ []
-starts_of row.OneStar = kind.Mark mark.Star ∷ []
-starts_of row.StepDown = kind.Name ∷ []
-starts_of row.StepUp = kind.Mark mark.Caret ∷ []
-starts_of row.LeafTest = kind.Mark mark.Dollar ∷ []
-starts_of row.RootTest = kind.Root ∷ []
-starts_of row.TypeTest = kind.Mark mark.At ∷ []
-starts_of row.TrueTest = kind.Mark mark.Question ∷ []
-starts_of row.FalseTest = kind.Mark mark.Bang ∷ []
-starts_of row.RouteGroup = kind.Mark mark.LeftParen ∷ []
-starts_of row.UpByName = kind.Name ∷ []
-starts_of row.TestedVariant = kind.Mark mark.Colon ∷ []
-starts_of row.PredicateDeclared = kind.Pred ∷ []
-starts_of row.PredicateParametersInOrder = kind.Name ∷ kind.Set ∷ kind.Bool ∷ []
-starts_of row.PredicateParameterAfterComma = kind.Mark mark.Comma ∷ []
-starts_of row.CellDeclared = kind.Name ∷ []
-starts_of row.SetDeclared = kind.Set ∷ []
-starts_of row.BoolDeclared = kind.Bool ∷ []
-starts_of row.AssertionInBrackets = kind.Mark mark.LeftBracket ∷ []
-starts_of row.ProcedureDeclared = kind.Proc ∷ []
-starts_of row.ResultsDeclared = kind.Returns ∷ []
-starts_of row.LogicDeclared = kind.Logic ∷ []
-starts_of row.LogicParameterAfterComma = kind.Mark mark.Comma ∷ []
-starts_of row.LogicSetDeclared = kind.Set ∷ []
-starts_of row.LogicBoolDeclared = kind.Bool ∷ []
-starts_of row.PreDeclared = kind.Pre ∷ []
-starts_of row.PostDeclared = kind.Post ∷ []
-starts_of row.ParametersInOrder = kind.Data ∷ kind.Pointer ∷ kind.Bool ∷ []
-starts_of row.ParameterAfterComma = kind.Mark mark.Comma ∷ []
-starts_of row.DataDeclared = kind.Data ∷ []
-starts_of row.PointerDeclared = kind.Pointer ∷ []
-starts_of row.BoolVariableDeclared = kind.Bool ∷ []
-starts_of row.LocalDeclared = kind.Data ∷ kind.Pointer ∷ kind.Bool ∷ []
-starts_of row.BlockOfStatements = kind.Mark mark.LeftBrace ∷ []
-starts_of row.Skip = kind.Skip ∷ []
-starts_of row.If = kind.If ∷ []
-starts_of row.While = kind.While ∷ []
-starts_of row.Split = kind.Split ∷ []
-starts_of row.Assert = kind.Assert ∷ []
-starts_of row.Free = kind.Free ∷ []
-starts_of row.Call = kind.Call ∷ []
-starts_of row.Assign = kind.Name ∷ []
-starts_of row.ElseBlock = kind.Else ∷ []
-starts_of row.CallWithoutResults = kind.Mark mark.LeftParen ∷ []
-starts_of row.CallWithResults = kind.Mark mark.Comma ∷ kind.Mark mark.Equals ∷ []
-starts_of row.ResultAfterComma = kind.Mark mark.Comma ∷ []
-starts_of row.ArgumentsOfBothKinds = kind.Name ∷ kind.Null ∷ kind.True ∷ kind.False ∷ kind.Mark mark.Semicolon ∷
+first_set row.OneStar = kind.Mark mark.Star ∷ []
+first_set row.StepDown = kind.Name ∷ []
+first_set row.StepUp = kind.Mark mark.Caret ∷ []
+first_set row.LeafTest = kind.Mark mark.Dollar ∷ []
+first_set row.RootTest = kind.Root ∷ []
+first_set row.TypeTest = kind.Mark mark.At ∷ []
+first_set row.TrueTest = kind.Mark mark.Question ∷ []
+first_set row.FalseTest = kind.Mark mark.Bang ∷ []
+first_set row.RouteGroup = kind.Mark mark.LeftParen ∷ []
+first_set row.UpByName = kind.Name ∷ []
+first_set row.TestedVariant = kind.Mark mark.Colon ∷ []
+first_set row.PredicateDeclared = kind.Pred ∷ []
+first_set row.PredicateParametersInOrder = kind.Name ∷ kind.Set ∷ kind.Bool ∷ []
+first_set row.PredicateParameterAfterComma = kind.Mark mark.Comma ∷ []
+first_set row.CellDeclared = kind.Name ∷ []
+first_set row.SetDeclared = kind.Set ∷ []
+first_set row.BoolDeclared = kind.Bool ∷ []
+first_set row.AssertionInBrackets = kind.Mark mark.LeftBracket ∷ []
+first_set row.ProcedureDeclared = kind.Proc ∷ []
+first_set row.ResultsDeclared = kind.Returns ∷ []
+first_set row.LogicDeclared = kind.Logic ∷ []
+first_set row.LogicParameterAfterComma = kind.Mark mark.Comma ∷ []
+first_set row.LogicSetDeclared = kind.Set ∷ []
+first_set row.LogicBoolDeclared = kind.Bool ∷ []
+first_set row.PreDeclared = kind.Pre ∷ []
+first_set row.PostDeclared = kind.Post ∷ []
+first_set row.ParametersInOrder = kind.Data ∷ kind.Pointer ∷ kind.Bool ∷ []
+first_set row.ParameterAfterComma = kind.Mark mark.Comma ∷ []
+first_set row.DataDeclared = kind.Data ∷ []
+first_set row.PointerDeclared = kind.Pointer ∷ []
+first_set row.BoolVariableDeclared = kind.Bool ∷ []
+first_set row.LocalDeclared = kind.Data ∷ kind.Pointer ∷ kind.Bool ∷ []
+first_set row.BlockOfStatements = kind.Mark mark.LeftBrace ∷ []
+first_set row.Skip = kind.Skip ∷ []
+first_set row.If = kind.If ∷ []
+first_set row.While = kind.While ∷ []
+first_set row.Split = kind.Split ∷ []
+first_set row.Assert = kind.Assert ∷ []
+first_set row.Free = kind.Free ∷ []
+first_set row.Call = kind.Call ∷ []
+first_set row.Assign = kind.Name ∷ []
+first_set row.ElseBlock = kind.Else ∷ []
+first_set row.CallWithoutResults = kind.Mark mark.LeftParen ∷ []
+first_set row.CallWithResults = kind.Mark mark.Comma ∷ kind.Mark mark.Equals ∷ []
+first_set row.ResultAfterComma = kind.Mark mark.Comma ∷ []
+first_set row.ArgumentsOfBothKinds = kind.Name ∷ kind.Null ∷ kind.True ∷ kind.False ∷ kind.Mark mark.Semicolon ∷
     kind.Mark mark.RightParen ∷ []
-starts_of row.ArgumentsInOrder = kind.Name ∷ kind.Null ∷ kind.True ∷ kind.False ∷ []
-starts_of row.ArgumentAfterComma = kind.Mark mark.Comma ∷ []
-starts_of row.LogicArgumentsInOrder = kind.Mark mark.Semicolon ∷ []
-starts_of row.ANameArgument = kind.Name ∷ []
-starts_of row.ANullArgument = kind.Null ∷ []
-starts_of row.ATrueArgument = kind.True ∷ []
-starts_of row.AFalseArgument = kind.False ∷ []
-starts_of row.Kept = kind.Keep ∷ []
-starts_of row.NewCell = kind.New ∷ []
-starts_of row.ConditionValue = kind.Mark mark.Bang ∷ kind.Mark mark.LeftParen ∷ kind.True ∷ kind.False ∷ kind.Null ∷ kind.Name ∷ []
-starts_of row.VariantOfNew = kind.Mark mark.Colon ∷ []
-starts_of row.ConditionOfConjunctions = kind.Mark mark.Bang ∷ kind.Mark mark.LeftParen ∷ kind.True ∷ kind.False ∷ kind.Null ∷
+first_set row.ArgumentsInOrder = kind.Name ∷ kind.Null ∷ kind.True ∷ kind.False ∷ []
+first_set row.ArgumentAfterComma = kind.Mark mark.Comma ∷ []
+first_set row.LogicArgumentsInOrder = kind.Mark mark.Semicolon ∷ []
+first_set row.ANameArgument = kind.Name ∷ []
+first_set row.ANullArgument = kind.Null ∷ []
+first_set row.ATrueArgument = kind.True ∷ []
+first_set row.AFalseArgument = kind.False ∷ []
+first_set row.Kept = kind.Keep ∷ []
+first_set row.NewCell = kind.New ∷ []
+first_set row.ConditionValue = kind.Mark mark.Bang ∷ kind.Mark mark.LeftParen ∷ kind.True ∷ kind.False ∷ kind.Null ∷ kind.Name ∷ []
+first_set row.VariantOfNew = kind.Mark mark.Colon ∷ []
+first_set row.ConditionOfConjunctions = kind.Mark mark.Bang ∷ kind.Mark mark.LeftParen ∷ kind.True ∷ kind.False ∷ kind.Null ∷
     kind.Name ∷ []
-starts_of row.ConjunctionAfterOr = kind.Mark mark.OrElse ∷ []
-starts_of row.ConjunctionOfLiterals = kind.Mark mark.Bang ∷ kind.Mark mark.LeftParen ∷ kind.True ∷ kind.False ∷ kind.Null ∷ kind.Name ∷ []
-starts_of row.LiteralAfterAnd = kind.Mark mark.AndAlso ∷ []
-starts_of row.NotLiteral = kind.Mark mark.Bang ∷ []
-starts_of row.ConditionGroup = kind.Mark mark.LeftParen ∷ []
-starts_of row.TrueLiteral = kind.True ∷ []
-starts_of row.FalseLiteral = kind.False ∷ []
-starts_of row.TermLiteral = kind.Null ∷ kind.Name ∷ []
-starts_of row.SameLiteral = kind.Mark mark.SameAs ∷ []
-starts_of row.NotSameLiteral = kind.Mark mark.NotSame ∷ []
-starts_of row.VariantLiteral = kind.Mark mark.Colon ∷ []
-starts_of row.NullTerm = kind.Null ∷ []
-starts_of row.PathAsTerm = kind.Name ∷ []
-starts_of row.PathOfSteps = kind.Name ∷ []
-starts_of row.NameAfterDot = kind.Mark mark.Dot ∷ []
-starts_of row.IffOfImplications = kind.Mark mark.Tilde ∷ kind.Ex ∷ kind.All ∷ kind.Mark mark.LeftParen ∷ kind.True ∷ kind.False ∷
+first_set row.ConjunctionAfterOr = kind.Mark mark.OrElse ∷ []
+first_set row.ConjunctionOfLiterals = kind.Mark mark.Bang ∷ kind.Mark mark.LeftParen ∷ kind.True ∷ kind.False ∷ kind.Null ∷ kind.Name ∷ []
+first_set row.LiteralAfterAnd = kind.Mark mark.AndAlso ∷ []
+first_set row.NotLiteral = kind.Mark mark.Bang ∷ []
+first_set row.ConditionGroup = kind.Mark mark.LeftParen ∷ []
+first_set row.TrueLiteral = kind.True ∷ []
+first_set row.FalseLiteral = kind.False ∷ []
+first_set row.TermLiteral = kind.Null ∷ kind.Name ∷ []
+first_set row.SameLiteral = kind.Mark mark.SameAs ∷ []
+first_set row.NotSameLiteral = kind.Mark mark.NotSame ∷ []
+first_set row.VariantLiteral = kind.Mark mark.Colon ∷ []
+first_set row.NullTerm = kind.Null ∷ []
+first_set row.PathAsTerm = kind.Name ∷ []
+first_set row.PathOfSteps = kind.Name ∷ []
+first_set row.NameAfterDot = kind.Mark mark.Dot ∷ []
+first_set row.IffOfImplications = kind.Mark mark.Tilde ∷ kind.Ex ∷ kind.All ∷ kind.Mark mark.LeftParen ∷ kind.True ∷ kind.False ∷
     kind.Null ∷ kind.Name ∷ []
-starts_of row.ImplicationAfterIff = kind.Mark mark.Equivalent ∷ []
-starts_of row.ImplicationOfChain = kind.Mark mark.Tilde ∷ kind.Ex ∷ kind.All ∷ kind.Mark mark.LeftParen ∷ kind.True ∷ kind.False ∷
+first_set row.ImplicationAfterIff = kind.Mark mark.Equivalent ∷ []
+first_set row.ImplicationOfChain = kind.Mark mark.Tilde ∷ kind.Ex ∷ kind.All ∷ kind.Mark mark.LeftParen ∷ kind.True ∷ kind.False ∷
     kind.Null ∷ kind.Name ∷ []
-starts_of row.ImplicationAfterArrow = kind.Mark mark.Implies ∷ []
-starts_of row.OrOfAndChains = kind.Mark mark.Tilde ∷ kind.Ex ∷ kind.All ∷ kind.Mark mark.LeftParen ∷ kind.True ∷ kind.False ∷
+first_set row.ImplicationAfterArrow = kind.Mark mark.Implies ∷ []
+first_set row.OrOfAndChains = kind.Mark mark.Tilde ∷ kind.Ex ∷ kind.All ∷ kind.Mark mark.LeftParen ∷ kind.True ∷ kind.False ∷
     kind.Null ∷ kind.Name ∷ []
-starts_of row.AndChainAfterBar = kind.Mark mark.Bar ∷ []
-starts_of row.AndOfNegations = kind.Mark mark.Tilde ∷ kind.Ex ∷ kind.All ∷ kind.Mark mark.LeftParen ∷ kind.True ∷ kind.False ∷
+first_set row.AndChainAfterBar = kind.Mark mark.Bar ∷ []
+first_set row.AndOfNegations = kind.Mark mark.Tilde ∷ kind.Ex ∷ kind.All ∷ kind.Mark mark.LeftParen ∷ kind.True ∷ kind.False ∷
     kind.Null ∷ kind.Name ∷ []
-starts_of row.NegationAfterAmpersand = kind.Mark mark.Ampersand ∷ []
-starts_of row.NotAssertion = kind.Mark mark.Tilde ∷ []
-starts_of row.ExQuantified = kind.Ex ∷ []
-starts_of row.AllQuantified = kind.All ∷ []
-starts_of row.PrimaryAlone = kind.Mark mark.LeftParen ∷ kind.True ∷ kind.False ∷ kind.Null ∷ kind.Name ∷ []
-starts_of row.BoundWithBody = kind.Set ∷ kind.Name ∷ []
-starts_of row.OverSets = kind.Set ∷ []
-starts_of row.BoundAfterComma = kind.Mark mark.Comma ∷ []
-starts_of row.AssertionGroup = kind.Mark mark.LeftParen ∷ []
-starts_of row.TruePrimary = kind.True ∷ []
-starts_of row.FalsePrimary = kind.False ∷ []
-starts_of row.NullPrimary = kind.Null ∷ []
-starts_of row.NamePrimary = kind.Name ∷ []
-starts_of row.UseOfName = kind.Mark mark.LeftParen ∷ []
-starts_of row.LongerPath = kind.Mark mark.Dot ∷ []
-starts_of row.RelationOfName = kind.Mark mark.Equals ∷ kind.Mark mark.NotEqual ∷ kind.In ∷ kind.Sub ∷ kind.Mark mark.Less ∷
+first_set row.NegationAfterAmpersand = kind.Mark mark.Ampersand ∷ []
+first_set row.NotAssertion = kind.Mark mark.Tilde ∷ []
+first_set row.ExQuantified = kind.Ex ∷ []
+first_set row.AllQuantified = kind.All ∷ []
+first_set row.PrimaryAlone = kind.Mark mark.LeftParen ∷ kind.True ∷ kind.False ∷ kind.Null ∷ kind.Name ∷ []
+first_set row.BoundWithBody = kind.Set ∷ kind.Name ∷ []
+first_set row.OverSets = kind.Set ∷ []
+first_set row.BoundAfterComma = kind.Mark mark.Comma ∷ []
+first_set row.AssertionGroup = kind.Mark mark.LeftParen ∷ []
+first_set row.TruePrimary = kind.True ∷ []
+first_set row.FalsePrimary = kind.False ∷ []
+first_set row.NullPrimary = kind.Null ∷ []
+first_set row.NamePrimary = kind.Name ∷ []
+first_set row.UseOfName = kind.Mark mark.LeftParen ∷ []
+first_set row.LongerPath = kind.Mark mark.Dot ∷ []
+first_set row.RelationOfName = kind.Mark mark.Equals ∷ kind.Mark mark.NotEqual ∷ kind.In ∷ kind.Sub ∷ kind.Mark mark.Less ∷
     kind.Mark mark.Colon ∷ []
-starts_of row.UsedPathsInOrder = kind.Name ∷ []
-starts_of row.UsedPathAfterComma = kind.Mark mark.Comma ∷ []
-starts_of row.PathAloneAfterDot = kind.Mark mark.Dot ∷ []
-starts_of row.RelationOfPath = kind.Mark mark.Equals ∷ kind.Mark mark.NotEqual ∷ kind.In ∷ kind.Sub ∷ kind.Mark mark.Less ∷
+first_set row.UsedPathsInOrder = kind.Name ∷ []
+first_set row.UsedPathAfterComma = kind.Mark mark.Comma ∷ []
+first_set row.PathAloneAfterDot = kind.Mark mark.Dot ∷ []
+first_set row.RelationOfPath = kind.Mark mark.Equals ∷ kind.Mark mark.NotEqual ∷ kind.In ∷ kind.Sub ∷ kind.Mark mark.Less ∷
     kind.Mark mark.Colon ∷ []
-starts_of row.SameTerm = kind.Mark mark.Equals ∷ []
-starts_of row.DifferentTerm = kind.Mark mark.NotEqual ∷ []
-starts_of row.MemberOfSet = kind.In ∷ []
-starts_of row.SubsetOfSet = kind.Sub ∷ []
-starts_of row.WalkToTerm = kind.Mark mark.Less ∷ []
-starts_of row.OfThisVariant = kind.Mark mark.Colon ∷ []
+first_set row.SameTerm = kind.Mark mark.Equals ∷ []
+first_set row.DifferentTerm = kind.Mark mark.NotEqual ∷ []
+first_set row.MemberOfSet = kind.In ∷ []
+first_set row.SubsetOfSet = kind.Sub ∷ []
+first_set row.WalkToTerm = kind.Mark mark.Less ∷ []
+first_set row.OfThisVariant = kind.Mark mark.Colon ∷ []
 
 -- With which tokens, and which part there, a part could go on where it may end. First those of
 -- a path
@@ -673,11 +673,11 @@ size_of part.PathAloneStep = 1
 size_of part.NameRelation = 2
 size_of part.Relation = 1
 
-unfoldable pub program_hints : Hints ProgramPart ProgramChoice ProgramKind
-program_hints = record {
+unfoldable pub program_table : Table ProgramPart ProgramProduction ProgramKind
+program_table = record {
   number = number_of;
   label = label_of;
-  starts = starts_of;
+  first = first_set;
   tails = tails_of;
   text_tail = text_tail;
   cost = cost_of;

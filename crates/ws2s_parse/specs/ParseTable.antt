@@ -1,15 +1,15 @@
--- The LL(1) table of the grammar of WS2S text. ll1_reader's `is_predictable` says what is meant by each of these, and is
+-- The LL(1) table of the grammar of WS2S text. ll1_reader's `is_ll1` says what is meant by each of these, and is
 -- tried on each part.
 use Rattle.std.specs.Prelude.{ℕ, List, [], ◌∷◌}
-use Rattle.ll1_reader.specs.Predicting.{Hints}
+use Rattle.ll1_reader.specs.Predicting.{Table}
 use Rattle.pale_text.specs.declared.token.Mark.TheVariants as mark
 use Rattle.pale_text.specs.Marks.{mark_number}
 use Rattle.ws2s_parse.specs.declared.grammar.kind.SourceKind.{SourceKind}
 use Rattle.ws2s_parse.specs.declared.grammar.kind.SourceKind.TheVariants as kind
 use Rattle.ws2s_parse.specs.declared.grammar.part.SourcePart.{SourcePart}
 use Rattle.ws2s_parse.specs.declared.grammar.part.SourcePart.TheVariants as part
-use Rattle.ws2s_parse.specs.declared.tables.choice.SourceChoice.{SourceChoice}
-use Rattle.ws2s_parse.specs.declared.tables.choice.SourceChoice.TheVariants as row
+use Rattle.ws2s_parse.specs.declared.tables.production.SourceProduction.{SourceProduction}
+use Rattle.ws2s_parse.specs.declared.tables.production.SourceProduction.TheVariants as row
 
 -- a number for each kind: those of the marks come first
 unfoldable pub number_of : SourceKind → ℕ
@@ -63,58 +63,58 @@ label_of part.Child = 23
 label_of part.Relation = 24
 
 -- the FIRST set of each row
-unfoldable pub starts_of : SourceChoice → List SourceKind
-starts_of row.PositionsDeclared = kind.Var1 ∷ []
-starts_of row.SetsDeclared = kind.Var2 ∷ []
-starts_of row.PredicateDeclared = kind.Pred ∷ []
-starts_of row.FormulaStated = kind.Mark mark.Tilde ∷ kind.Ex1 ∷ kind.All1 ∷ kind.Ex2 ∷ kind.All2 ∷ kind.Mark mark.LeftParen ∷
+unfoldable pub first_set : SourceProduction → List SourceKind
+first_set row.PositionsDeclared = kind.Var1 ∷ []
+first_set row.SetsDeclared = kind.Var2 ∷ []
+first_set row.PredicateDeclared = kind.Pred ∷ []
+first_set row.FormulaStated = kind.Mark mark.Tilde ∷ kind.Ex1 ∷ kind.All1 ∷ kind.Ex2 ∷ kind.All2 ∷ kind.Mark mark.LeftParen ∷
     kind.True ∷ kind.False ∷ kind.Empty ∷ kind.Root ∷ kind.Name ∷ []
-starts_of row.VariablesInOrder = kind.Name ∷ []
-starts_of row.VariableAfterComma = kind.Mark mark.Comma ∷ []
-starts_of row.ParametersInOrder = kind.Var1 ∷ kind.Var2 ∷ []
-starts_of row.ParameterAfterComma = kind.Mark mark.Comma ∷ []
-starts_of row.PositionParameterDeclared = kind.Var1 ∷ []
-starts_of row.SetParameterDeclared = kind.Var2 ∷ []
-starts_of row.IffOfImplications = kind.Mark mark.Tilde ∷ kind.Ex1 ∷ kind.All1 ∷ kind.Ex2 ∷ kind.All2 ∷ kind.Mark mark.LeftParen ∷
+first_set row.VariablesInOrder = kind.Name ∷ []
+first_set row.VariableAfterComma = kind.Mark mark.Comma ∷ []
+first_set row.ParametersInOrder = kind.Var1 ∷ kind.Var2 ∷ []
+first_set row.ParameterAfterComma = kind.Mark mark.Comma ∷ []
+first_set row.PositionParameterDeclared = kind.Var1 ∷ []
+first_set row.SetParameterDeclared = kind.Var2 ∷ []
+first_set row.IffOfImplications = kind.Mark mark.Tilde ∷ kind.Ex1 ∷ kind.All1 ∷ kind.Ex2 ∷ kind.All2 ∷ kind.Mark mark.LeftParen ∷
     kind.True ∷ kind.False ∷ kind.Empty ∷ kind.Root ∷ kind.Name ∷ []
-starts_of row.ImplicationAfterIff = kind.Mark mark.Equivalent ∷ []
-starts_of row.ImplicationOfChain = kind.Mark mark.Tilde ∷ kind.Ex1 ∷ kind.All1 ∷ kind.Ex2 ∷ kind.All2 ∷ kind.Mark mark.LeftParen ∷
+first_set row.ImplicationAfterIff = kind.Mark mark.Equivalent ∷ []
+first_set row.ImplicationOfChain = kind.Mark mark.Tilde ∷ kind.Ex1 ∷ kind.All1 ∷ kind.Ex2 ∷ kind.All2 ∷ kind.Mark mark.LeftParen ∷
     kind.True ∷ kind.False ∷ kind.Empty ∷ kind.Root ∷ kind.Name ∷ []
-starts_of row.ImplicationAfterArrow = kind.Mark mark.Implies ∷ []
-starts_of row.OrOfAndChains = kind.Mark mark.Tilde ∷ kind.Ex1 ∷ kind.All1 ∷ kind.Ex2 ∷ kind.All2 ∷ kind.Mark mark.LeftParen ∷
+first_set row.ImplicationAfterArrow = kind.Mark mark.Implies ∷ []
+first_set row.OrOfAndChains = kind.Mark mark.Tilde ∷ kind.Ex1 ∷ kind.All1 ∷ kind.Ex2 ∷ kind.All2 ∷ kind.Mark mark.LeftParen ∷
     kind.True ∷ kind.False ∷ kind.Empty ∷ kind.Root ∷ kind.Name ∷ []
-starts_of row.AndChainAfterBar = kind.Mark mark.Bar ∷ []
-starts_of row.AndOfNegations = kind.Mark mark.Tilde ∷ kind.Ex1 ∷ kind.All1 ∷ kind.Ex2 ∷ kind.All2 ∷ kind.Mark mark.LeftParen ∷
+first_set row.AndChainAfterBar = kind.Mark mark.Bar ∷ []
+first_set row.AndOfNegations = kind.Mark mark.Tilde ∷ kind.Ex1 ∷ kind.All1 ∷ kind.Ex2 ∷ kind.All2 ∷ kind.Mark mark.LeftParen ∷
     kind.True ∷ kind.False ∷ kind.Empty ∷ kind.Root ∷ kind.Name ∷ []
-starts_of row.NegationAfterAmpersand = kind.Mark mark.Ampersand ∷ []
-starts_of row.NotFormula = kind.Mark mark.Tilde ∷ []
-starts_of row.Ex1Bound = kind.Ex1 ∷ []
-starts_of row.All1Bound = kind.All1 ∷ []
-starts_of row.Ex2Bound = kind.Ex2 ∷ []
-starts_of row.All2Bound = kind.All2 ∷ []
-starts_of row.PrimaryAlone = kind.Mark mark.LeftParen ∷ kind.True ∷ kind.False ∷ kind.Empty ∷ kind.Root ∷ kind.Name ∷ []
-starts_of row.BoundWithBody = kind.Name ∷ []
-starts_of row.BoundAfterComma = kind.Mark mark.Comma ∷ []
-starts_of row.FormulaGroup = kind.Mark mark.LeftParen ∷ []
-starts_of row.TruePrimary = kind.True ∷ []
-starts_of row.FalsePrimary = kind.False ∷ []
-starts_of row.EmptyPrimary = kind.Empty ∷ []
-starts_of row.RootPrimary = kind.Root ∷ []
-starts_of row.NamePrimary = kind.Name ∷ []
-starts_of row.UseOfName = kind.Mark mark.LeftParen ∷ []
-starts_of row.TermOfName = kind.Mark mark.Dot ∷ kind.Mark mark.Equals ∷ kind.Mark mark.NotEqual ∷ kind.In ∷ kind.NotIn ∷ kind.Sub ∷ []
-starts_of row.ArgumentsInOrder = kind.Root ∷ kind.Name ∷ []
-starts_of row.ArgumentAfterComma = kind.Mark mark.Comma ∷ []
-starts_of row.RootTerm = kind.Root ∷ []
-starts_of row.NameTerm = kind.Name ∷ []
-starts_of row.SuccessorAfterDot = kind.Mark mark.Dot ∷ []
-starts_of row.ZeroChild = kind.Zero ∷ []
-starts_of row.OneChild = kind.One ∷ []
-starts_of row.SameTerm = kind.Mark mark.Equals ∷ []
-starts_of row.DifferentTerm = kind.Mark mark.NotEqual ∷ []
-starts_of row.MemberOfSet = kind.In ∷ []
-starts_of row.NoMemberOfSet = kind.NotIn ∷ []
-starts_of row.WithinSet = kind.Sub ∷ []
+first_set row.NegationAfterAmpersand = kind.Mark mark.Ampersand ∷ []
+first_set row.NotFormula = kind.Mark mark.Tilde ∷ []
+first_set row.Ex1Bound = kind.Ex1 ∷ []
+first_set row.All1Bound = kind.All1 ∷ []
+first_set row.Ex2Bound = kind.Ex2 ∷ []
+first_set row.All2Bound = kind.All2 ∷ []
+first_set row.PrimaryAlone = kind.Mark mark.LeftParen ∷ kind.True ∷ kind.False ∷ kind.Empty ∷ kind.Root ∷ kind.Name ∷ []
+first_set row.BoundWithBody = kind.Name ∷ []
+first_set row.BoundAfterComma = kind.Mark mark.Comma ∷ []
+first_set row.FormulaGroup = kind.Mark mark.LeftParen ∷ []
+first_set row.TruePrimary = kind.True ∷ []
+first_set row.FalsePrimary = kind.False ∷ []
+first_set row.EmptyPrimary = kind.Empty ∷ []
+first_set row.RootPrimary = kind.Root ∷ []
+first_set row.NamePrimary = kind.Name ∷ []
+first_set row.UseOfName = kind.Mark mark.LeftParen ∷ []
+first_set row.TermOfName = kind.Mark mark.Dot ∷ kind.Mark mark.Equals ∷ kind.Mark mark.NotEqual ∷ kind.In ∷ kind.NotIn ∷ kind.Sub ∷ []
+first_set row.ArgumentsInOrder = kind.Root ∷ kind.Name ∷ []
+first_set row.ArgumentAfterComma = kind.Mark mark.Comma ∷ []
+first_set row.RootTerm = kind.Root ∷ []
+first_set row.NameTerm = kind.Name ∷ []
+first_set row.SuccessorAfterDot = kind.Mark mark.Dot ∷ []
+first_set row.ZeroChild = kind.Zero ∷ []
+first_set row.OneChild = kind.One ∷ []
+first_set row.SameTerm = kind.Mark mark.Equals ∷ []
+first_set row.DifferentTerm = kind.Mark mark.NotEqual ∷ []
+first_set row.MemberOfSet = kind.In ∷ []
+first_set row.NoMemberOfSet = kind.NotIn ∷ []
+first_set row.WithinSet = kind.Sub ∷ []
 
 -- With which tokens, and which part there, a part could go on where it may end. First those of
 -- a term
@@ -273,11 +273,11 @@ size_of part.Successor = 2
 size_of part.Child = 1
 size_of part.Relation = 1
 
-unfoldable pub source_hints : Hints SourcePart SourceChoice SourceKind
-source_hints = record {
+unfoldable pub source_table : Table SourcePart SourceProduction SourceKind
+source_table = record {
   number = number_of;
   label = label_of;
-  starts = starts_of;
+  first = first_set;
   tails = tails_of;
   text_tail = text_tail;
   cost = cost_of;

@@ -6,36 +6,36 @@ use Rattle.ws2s_parse.specs.declared.grammar.part.SourcePart.{SourcePart}
 use Rattle.ws2s_parse.specs.declared.grammar.part.SourcePart.TheVariants as part
 use Rattle.ws2s_parse.specs.declared.grammar.act.SourceAct.{SourceAct}
 use Rattle.ws2s_parse.specs.SourceGrammar.{SourceSymbol, rows_of, text_row}
-use Rattle.ws2s_parse.specs.declared.tables.choice.SourceChoice.{SourceChoice}
-use Rattle.ws2s_parse.specs.declared.tables.choice.SourceChoice.TheVariants as row
+use Rattle.ws2s_parse.specs.declared.tables.production.SourceProduction.{SourceProduction}
+use Rattle.ws2s_parse.specs.declared.tables.production.SourceProduction.TheVariants as row
 
 -- the rows of each part, in the order of the grammar
-unfoldable pub choices_of : SourcePart → List SourceChoice
-choices_of part.Item = row.PositionsDeclared ∷ row.SetsDeclared ∷ row.PredicateDeclared ∷ row.FormulaStated ∷ []
-choices_of part.Variables = row.VariablesInOrder ∷ []
-choices_of part.NextVariable = row.VariableAfterComma ∷ []
-choices_of part.Parameters = row.ParametersInOrder ∷ []
-choices_of part.NextParameter = row.ParameterAfterComma ∷ []
-choices_of part.Parameter = row.PositionParameterDeclared ∷ row.SetParameterDeclared ∷ []
-choices_of part.Formula = row.IffOfImplications ∷ []
-choices_of part.NextImplication = row.ImplicationAfterIff ∷ []
-choices_of part.Implication = row.ImplicationOfChain ∷ []
-choices_of part.Implied = row.ImplicationAfterArrow ∷ []
-choices_of part.OrChain = row.OrOfAndChains ∷ []
-choices_of part.NextAndChain = row.AndChainAfterBar ∷ []
-choices_of part.AndChain = row.AndOfNegations ∷ []
-choices_of part.NextNegation = row.NegationAfterAmpersand ∷ []
-choices_of part.Negation = row.NotFormula ∷ row.Ex1Bound ∷ row.All1Bound ∷ row.Ex2Bound ∷ row.All2Bound ∷ row.PrimaryAlone ∷ []
-choices_of part.Bound = row.BoundWithBody ∷ []
-choices_of part.NextBound = row.BoundAfterComma ∷ []
-choices_of part.Primary = row.FormulaGroup ∷ row.TruePrimary ∷ row.FalsePrimary ∷ row.EmptyPrimary ∷ row.RootPrimary ∷ row.NamePrimary ∷ []
-choices_of part.NameRest = row.UseOfName ∷ row.TermOfName ∷ []
-choices_of part.Arguments = row.ArgumentsInOrder ∷ []
-choices_of part.NextArgument = row.ArgumentAfterComma ∷ []
-choices_of part.Term = row.RootTerm ∷ row.NameTerm ∷ []
-choices_of part.Successor = row.SuccessorAfterDot ∷ []
-choices_of part.Child = row.ZeroChild ∷ row.OneChild ∷ []
-choices_of part.Relation = row.SameTerm ∷ row.DifferentTerm ∷ row.MemberOfSet ∷ row.NoMemberOfSet ∷ row.WithinSet ∷ []
+unfoldable pub productions_of : SourcePart → List SourceProduction
+productions_of part.Item = row.PositionsDeclared ∷ row.SetsDeclared ∷ row.PredicateDeclared ∷ row.FormulaStated ∷ []
+productions_of part.Variables = row.VariablesInOrder ∷ []
+productions_of part.NextVariable = row.VariableAfterComma ∷ []
+productions_of part.Parameters = row.ParametersInOrder ∷ []
+productions_of part.NextParameter = row.ParameterAfterComma ∷ []
+productions_of part.Parameter = row.PositionParameterDeclared ∷ row.SetParameterDeclared ∷ []
+productions_of part.Formula = row.IffOfImplications ∷ []
+productions_of part.NextImplication = row.ImplicationAfterIff ∷ []
+productions_of part.Implication = row.ImplicationOfChain ∷ []
+productions_of part.Implied = row.ImplicationAfterArrow ∷ []
+productions_of part.OrChain = row.OrOfAndChains ∷ []
+productions_of part.NextAndChain = row.AndChainAfterBar ∷ []
+productions_of part.AndChain = row.AndOfNegations ∷ []
+productions_of part.NextNegation = row.NegationAfterAmpersand ∷ []
+productions_of part.Negation = row.NotFormula ∷ row.Ex1Bound ∷ row.All1Bound ∷ row.Ex2Bound ∷ row.All2Bound ∷ row.PrimaryAlone ∷ []
+productions_of part.Bound = row.BoundWithBody ∷ []
+productions_of part.NextBound = row.BoundAfterComma ∷ []
+productions_of part.Primary = row.FormulaGroup ∷ row.TruePrimary ∷ row.FalsePrimary ∷ row.EmptyPrimary ∷ row.RootPrimary ∷ row.NamePrimary ∷ []
+productions_of part.NameRest = row.UseOfName ∷ row.TermOfName ∷ []
+productions_of part.Arguments = row.ArgumentsInOrder ∷ []
+productions_of part.NextArgument = row.ArgumentAfterComma ∷ []
+productions_of part.Term = row.RootTerm ∷ row.NameTerm ∷ []
+productions_of part.Successor = row.SuccessorAfterDot ∷ []
+productions_of part.Child = row.ZeroChild ∷ row.OneChild ∷ []
+productions_of part.Relation = row.SameTerm ∷ row.DifferentTerm ∷ row.MemberOfSet ∷ row.NoMemberOfSet ∷ row.WithinSet ∷ []
 
 -- the row itself, where there is one
 abbrev pub this_row : Option (List SourceSymbol) → List SourceSymbol
@@ -47,7 +47,7 @@ abbrev pub nth : ℕ → SourcePart → List SourceSymbol
 nth place in_part = this_row (slice_get (rows_of in_part) place)
 
 -- the symbols of a row
-unfoldable pub row_of : SourceChoice → List SourceSymbol
+unfoldable pub row_of : SourceProduction → List SourceSymbol
 row_of row.PositionsDeclared = nth 0 part.Item
 row_of row.SetsDeclared = nth 1 part.Item
 row_of row.PredicateDeclared = nth 2 part.Item
@@ -95,5 +95,5 @@ row_of row.MemberOfSet = nth 2 part.Relation
 row_of row.NoMemberOfSet = nth 3 part.Relation
 row_of row.WithinSet = nth 4 part.Relation
 
-unfoldable pub source_rules : Rules SourcePart SourceChoice SourceAct SourceKind
-source_rules = record { choices = choices_of; row = row_of; text = text_row }
+unfoldable pub source_rules : Rules SourcePart SourceProduction SourceAct SourceKind
+source_rules = record { productions = productions_of; row = row_of; text = text_row }

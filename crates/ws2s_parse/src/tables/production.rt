@@ -2,7 +2,7 @@
 
 /// A row of the grammar, by what it reads. Those of one part stand in the order of its rows.
 #[derive(Clone, Copy)]
-pub(crate) enum SourceChoice {
+pub(crate) enum SourceProduction {
     PositionsDeclared,
     SetsDeclared,
     PredicateDeclared,

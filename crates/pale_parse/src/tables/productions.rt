@@ -1,0 +1,166 @@
+//! The rows of each part.
+
+ghost use Rattle.std.specs.Prelude.{◌≡◌};
+ghost use Rattle.pale_parse.specs.Productions.{productions_of};
+
+use super::production::ProgramProduction;
+use pale_syntax::ProgramPart;
+
+/// The rows of a part.
+#[tactic(auto, unfolding(crate::specs::Productions::productions_of))]
+pub(crate) fn productions_of(part: ProgramPart) -> &'static [ProgramProduction]
+    ensures { result.now ≡ productions_of part }
+{
+    match part {
+        ProgramPart::Declaration => &[
+            ProgramProduction::ATypeDeclaration,
+            ProgramProduction::APredicateDeclaration,
+            ProgramProduction::AProcedureDeclaration,
+        ],
+        ProgramPart::Type => &[ProgramProduction::TypeDeclared],
+        ProgramPart::Variant => &[ProgramProduction::VariantDeclared],
+        ProgramPart::Field => &[
+            ProgramProduction::BoolFieldDeclared,
+            ProgramProduction::DataFieldDeclared,
+            ProgramProduction::PointerFieldDeclared,
+        ],
+        ProgramPart::Route => &[ProgramProduction::RouteOfSequences],
+        ProgramPart::NextAlternative => &[ProgramProduction::AlternativeAfterPlus],
+        ProgramPart::Sequence => &[ProgramProduction::SequenceOfRepeated],
+        ProgramPart::NextRepeated => &[ProgramProduction::RepeatedAfterDot],
+        ProgramPart::Repeated => &[ProgramProduction::StepWithStars],
+        ProgramPart::Star => &[ProgramProduction::OneStar],
+        ProgramPart::Step => &[
+            ProgramProduction::StepDown,
+            ProgramProduction::StepUp,
+            ProgramProduction::LeafTest,
+            ProgramProduction::RootTest,
+            ProgramProduction::TypeTest,
+            ProgramProduction::TrueTest,
+            ProgramProduction::FalseTest,
+            ProgramProduction::RouteGroup,
+        ],
+        ProgramPart::UpName => &[ProgramProduction::UpByName],
+        ProgramPart::VariantTest => &[ProgramProduction::TestedVariant],
+        ProgramPart::Predicate => &[ProgramProduction::PredicateDeclared],
+        ProgramPart::PredicateParameters => &[ProgramProduction::PredicateParametersInOrder],
+        ProgramPart::NextPredicateParameter => &[ProgramProduction::PredicateParameterAfterComma],
+        ProgramPart::PredicateParameter => &[
+            ProgramProduction::CellDeclared,
+            ProgramProduction::SetDeclared,
+            ProgramProduction::BoolDeclared,
+        ],
+        ProgramPart::Bracketed => &[ProgramProduction::AssertionInBrackets],
+        ProgramPart::Procedure => &[ProgramProduction::ProcedureDeclared],
+        ProgramPart::Returns => &[ProgramProduction::ResultsDeclared],
+        ProgramPart::Logic => &[ProgramProduction::LogicDeclared],
+        ProgramPart::NextLogicParameter => &[ProgramProduction::LogicParameterAfterComma],
+        ProgramPart::LogicParameter => &[
+            ProgramProduction::LogicSetDeclared,
+            ProgramProduction::LogicBoolDeclared,
+        ],
+        ProgramPart::Pre => &[ProgramProduction::PreDeclared],
+        ProgramPart::Post => &[ProgramProduction::PostDeclared],
+        ProgramPart::Parameters => &[ProgramProduction::ParametersInOrder],
+        ProgramPart::NextParameter => &[ProgramProduction::ParameterAfterComma],
+        ProgramPart::Parameter => &[
+            ProgramProduction::DataDeclared,
+            ProgramProduction::PointerDeclared,
+            ProgramProduction::BoolVariableDeclared,
+        ],
+        ProgramPart::Local => &[ProgramProduction::LocalDeclared],
+        ProgramPart::Block => &[ProgramProduction::BlockOfStatements],
+        ProgramPart::Statement => &[
+            ProgramProduction::Skip,
+            ProgramProduction::If,
+            ProgramProduction::While,
+            ProgramProduction::Split,
+            ProgramProduction::Assert,
+            ProgramProduction::Free,
+            ProgramProduction::Call,
+            ProgramProduction::Assign,
+        ],
+        ProgramPart::Else => &[ProgramProduction::ElseBlock],
+        ProgramPart::CallRest => &[
+            ProgramProduction::CallWithoutResults,
+            ProgramProduction::CallWithResults,
+        ],
+        ProgramPart::NextResult => &[ProgramProduction::ResultAfterComma],
+        ProgramPart::Arguments => &[ProgramProduction::ArgumentsOfBothKinds],
+        ProgramPart::Argued => &[ProgramProduction::ArgumentsInOrder],
+        ProgramPart::NextArgument => &[ProgramProduction::ArgumentAfterComma],
+        ProgramPart::LogicArguments => &[ProgramProduction::LogicArgumentsInOrder],
+        ProgramPart::Argument => &[
+            ProgramProduction::ANameArgument,
+            ProgramProduction::ANullArgument,
+            ProgramProduction::ATrueArgument,
+            ProgramProduction::AFalseArgument,
+        ],
+        ProgramPart::Keep => &[ProgramProduction::Kept],
+        ProgramPart::Value => &[
+            ProgramProduction::NewCell,
+            ProgramProduction::ConditionValue,
+        ],
+        ProgramPart::NewVariant => &[ProgramProduction::VariantOfNew],
+        ProgramPart::Condition => &[ProgramProduction::ConditionOfConjunctions],
+        ProgramPart::NextConjunction => &[ProgramProduction::ConjunctionAfterOr],
+        ProgramPart::Conjunction => &[ProgramProduction::ConjunctionOfLiterals],
+        ProgramPart::NextLiteral => &[ProgramProduction::LiteralAfterAnd],
+        ProgramPart::Literal => &[
+            ProgramProduction::NotLiteral,
+            ProgramProduction::ConditionGroup,
+            ProgramProduction::TrueLiteral,
+            ProgramProduction::FalseLiteral,
+            ProgramProduction::TermLiteral,
+        ],
+        ProgramPart::LiteralRelation => &[
+            ProgramProduction::SameLiteral,
+            ProgramProduction::NotSameLiteral,
+            ProgramProduction::VariantLiteral,
+        ],
+        ProgramPart::Term => &[ProgramProduction::NullTerm, ProgramProduction::PathAsTerm],
+        ProgramPart::Path => &[ProgramProduction::PathOfSteps],
+        ProgramPart::PathStep => &[ProgramProduction::NameAfterDot],
+        ProgramPart::Iff => &[ProgramProduction::IffOfImplications],
+        ProgramPart::NextImplication => &[ProgramProduction::ImplicationAfterIff],
+        ProgramPart::Implication => &[ProgramProduction::ImplicationOfChain],
+        ProgramPart::Implied => &[ProgramProduction::ImplicationAfterArrow],
+        ProgramPart::OrChain => &[ProgramProduction::OrOfAndChains],
+        ProgramPart::NextAndChain => &[ProgramProduction::AndChainAfterBar],
+        ProgramPart::AndChain => &[ProgramProduction::AndOfNegations],
+        ProgramPart::NextNegation => &[ProgramProduction::NegationAfterAmpersand],
+        ProgramPart::Negation => &[
+            ProgramProduction::NotAssertion,
+            ProgramProduction::ExQuantified,
+            ProgramProduction::AllQuantified,
+            ProgramProduction::PrimaryAlone,
+        ],
+        ProgramPart::Quantified => &[ProgramProduction::BoundWithBody],
+        ProgramPart::SetWord => &[ProgramProduction::OverSets],
+        ProgramPart::NextBound => &[ProgramProduction::BoundAfterComma],
+        ProgramPart::Primary => &[
+            ProgramProduction::AssertionGroup,
+            ProgramProduction::TruePrimary,
+            ProgramProduction::FalsePrimary,
+            ProgramProduction::NullPrimary,
+            ProgramProduction::NamePrimary,
+        ],
+        ProgramPart::NameRest => &[
+            ProgramProduction::UseOfName,
+            ProgramProduction::LongerPath,
+            ProgramProduction::RelationOfName,
+        ],
+        ProgramPart::UsedPaths => &[ProgramProduction::UsedPathsInOrder],
+        ProgramPart::NextUsedPath => &[ProgramProduction::UsedPathAfterComma],
+        ProgramPart::PathAloneStep => &[ProgramProduction::PathAloneAfterDot],
+        ProgramPart::NameRelation => &[ProgramProduction::RelationOfPath],
+        ProgramPart::Relation => &[
+            ProgramProduction::SameTerm,
+            ProgramProduction::DifferentTerm,
+            ProgramProduction::MemberOfSet,
+            ProgramProduction::SubsetOfSet,
+            ProgramProduction::WalkToTerm,
+            ProgramProduction::OfThisVariant,
+        ],
+    }
+}
