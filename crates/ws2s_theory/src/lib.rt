@@ -1,0 +1,15 @@
+//! The theory of core formulas of WS2S: automata of the forms of formulas, and the Peak.
+//!
+//! No code runs here. `specs/Atoms.antt` has the automata of the five atoms, and `specs/Peaks.antt` says which number the
+//! Peak of a formula is; satisfaction and "recognises" are those of `ws2s_core`, automata and Sizes those of
+//! `gta_theory`. Each function of this crate is a law: its body is empty, and its clause holds of all guides and
+//! formulas.
+#![tactic(auto)]
+
+mod atoms;
+mod forms;
+mod peaks;
+
+pub use atoms::atoms_are_recognised;
+pub use forms::{formulas_have_minimal_automata, formulas_have_sizes};
+pub use peaks::{peak_goes_by_cases, peaks_are_unique, peaks_exist};
