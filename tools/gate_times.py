@@ -38,7 +38,7 @@ def processes():
 
 
 def is_ours(folder, top):
-    return folder.startswith(str(top)) or "rt-edit" in folder or "rt-ci" in folder
+    return folder.startswith(str(top)) or "rt-edit" in folder or "rt-copy" in folder
 
 
 def watch(is_running, top):
