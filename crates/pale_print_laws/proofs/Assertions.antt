@@ -27,7 +27,7 @@ use Rattle.pale_parse.specs.ParseTable.{program_table, number_of, mark_number, f
 use Rattle.pale_print.specs.Placeless.{nowhere, placeless_name, placeless_path, placeless_term, placeless_route}
 use Rattle.pale_print.specs.Tokens.{each_behind, separated, name_tokens, path_tokens, term_tokens}
 use Rattle.pale_print.specs.RouteTokens.{route_tokens}
-use Rattle.pale_print_laws.specs.CanonicalNames.{IsFree, AreFree, AreFreePaths, IsFreeTerm}
+use Rattle.pale_syntax.specs.FreeNames.{IsFree, AreFree, AreFreePaths, IsFreeTerm}
 use Rattle.pale_print_laws.specs.CanonicalRoutes.{IsCanonicalRoute, whole as whole_route}
 use Rattle.pale_print_laws.specs.CanonicalAssertions.{AssertionPlace, whole, implication, disjunct, conjunct, operand}
 use Rattle.pale_print_laws.proofs.AssertionShapes.{path-alone}

@@ -24,7 +24,7 @@ use Rattle.pale_parse.specs.ParseTable.{program_table, number_of, mark_number, f
 use Rattle.pale_print.specs.Placeless.{nowhere, placeless_name, placeless_bracketed, placeless_argument, placeless_call}
 use Rattle.pale_print.specs.Tokens.{each_behind, separated, name_tokens}
 use Rattle.pale_print.specs.StatementTokens.{argument_tokens, logic_argument_tokens, clause_tokens, call_result_tokens, call_tokens}
-use Rattle.pale_print_laws.specs.CanonicalNames.{IsFree, AreFree}
+use Rattle.pale_syntax.specs.FreeNames.{IsFree, AreFree}
 use Rattle.pale_print_laws.specs.CanonicalStatements.{IsFreeArgument, AreFreeArguments, IsCanonicalClause, IsCanonicalCall}
 use Rattle.pale_print_laws.proofs.Framework.{ProgramStack, Stops, Aim, Ends, room_now, mark, word, word_with, does, row_ends}
 use Rattle.pale_print_laws.proofs.Framework.{goes, takes, leaves, goes_on, stops_there}

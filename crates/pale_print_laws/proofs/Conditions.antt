@@ -28,7 +28,7 @@ use Rattle.pale_print.specs.Placeless.{nowhere, placeless_name, placeless_term, 
 use Rattle.pale_print.specs.Tokens.{each_behind, name_tokens, term_tokens}
 use Rattle.pale_print.specs.RouteTokens.{Placed, grouped, chained}
 use Rattle.pale_print.specs.ConditionTokens.{condition_node, condition_tokens}
-use Rattle.pale_print_laws.specs.CanonicalNames.{IsFree, IsFreeTerm}
+use Rattle.pale_syntax.specs.FreeNames.{IsFree, IsFreeTerm}
 use Rattle.pale_print_laws.specs.CanonicalConditions.{ConditionPlace, whole, conjunction, literal, asks, IsCanonicalCondition}
 use Rattle.pale_print_laws.specs.CanonicalConditions.{truth, falsehood, term, same, differ, of_variant, not, and, or, group}
 use Rattle.pale_print_laws.specs.CanonicalConditions.{AreCanonicalConditions, last, more}

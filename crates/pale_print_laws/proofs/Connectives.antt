@@ -32,7 +32,7 @@ use Rattle.pale_parse.specs.ParseTable.{program_table, number_of, mark_number, f
 use Rattle.pale_print.specs.Placeless.{nowhere, placeless_name, placeless_assertion_node, placeless_assertion, placeless_bracketed}
 use Rattle.pale_print.specs.Tokens.{each_behind, name_tokens}
 use Rattle.pale_print.specs.AssertionTokens.{Operand, grouped, chained, implied, set_word, operands, assertion_node, assertion_tokens, bracketed_tokens}
-use Rattle.pale_print_laws.specs.CanonicalNames.{IsFree, AreFree}
+use Rattle.pale_syntax.specs.FreeNames.{IsFree, AreFree}
 use Rattle.pale_print_laws.specs.CanonicalAssertions.{AssertionPlace, whole, implication, disjunct, conjunct, operand, asks}
 use Rattle.pale_print_laws.specs.CanonicalAssertions.{IsCanonicalAssertion, truth, falsehood, path, same, differ, member, subset}
 use Rattle.pale_print_laws.specs.CanonicalAssertions.{walk, of_variant, use_of, not, and, or, imp, iff, quantified, group}

@@ -21,7 +21,7 @@ use Rattle.pale_syntax.specs.MakingParts.{Parts, name_of}
 use Rattle.pale_text.specs.Tokens.{place_of}
 use Rattle.pale_syntax.specs.MakingAssertions.{both, either, equivalent, begun, quantifierless, of_sets, binding, over}
 use Rattle.pale_syntax.specs.ProgramGrammar.{ProgramSymbol, rows_of, reads, push_name, connective}
-use Rattle.pale_print_laws.specs.CanonicalNames.{IsFree, AreFree}
+use Rattle.pale_syntax.specs.FreeNames.{IsFree, AreFree}
 use Rattle.pale_print_laws.specs.CanonicalAssertions.{whole, implication, disjunct, conjunct, operand, IsCanonicalAssertion, not, imp, quantified}
 use Rattle.pale_print_laws.proofs.NameSizes.{names_size, one_less}
 use Rattle.pale_print_laws.proofs.AssertionSizes.{assertion_size, quantified_size, set_size, size_not, size_imp, size_quantified}

@@ -15,7 +15,7 @@ use Rattle.pale_text.specs.Tokens.{place_of}
 use Rattle.pale_syntax.specs.MakingWords.{path_at, extended}
 use Rattle.pale_syntax.specs.MakingAssertions.{assertionless, path_alone}
 use Rattle.pale_syntax.specs.ProgramGrammar.{rows_of}
-use Rattle.pale_print_laws.specs.CanonicalNames.{IsFreePath, AreFreePaths}
+use Rattle.pale_syntax.specs.FreeNames.{IsFreePath, AreFreePaths}
 use Rattle.pale_print_laws.specs.CanonicalAssertions.{operand, IsCanonicalAssertion, truth, falsehood, path, same, differ}
 use Rattle.pale_print_laws.specs.CanonicalAssertions.{member, subset, walk, of_variant, use_of}
 use Rattle.pale_print_laws.proofs.NameSizes.{path_size, extended_size, one_less}

@@ -17,7 +17,7 @@ use Rattle.pale_text.specs.Tokens.{first_of}
 use Rattle.pale_syntax.specs.MakingParts.{Parts, nameless, name_of}
 use Rattle.pale_text.specs.Tokens.{place_of}
 use Rattle.pale_syntax.specs.ProgramGrammar.{ProgramSymbol, rows_of, reads, push_name}
-use Rattle.pale_print_laws.specs.CanonicalNames.{AreFree}
+use Rattle.pale_syntax.specs.FreeNames.{AreFree}
 use Rattle.pale_print_laws.specs.CanonicalStatements.{IsFreeArgument, AreFreeArguments, IsCanonicalClause}
 use Rattle.pale_print_laws.proofs.NameSizes.{one_less}
 use Rattle.pale_print_laws.proofs.ListSizes.{behind_size, separated_size, separated_last}

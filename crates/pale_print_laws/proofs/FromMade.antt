@@ -30,7 +30,7 @@ use Rattle.pale_syntax.specs.declared.tree.declaration.TypeDeclaration.{TypeDecl
 use Rattle.pale_syntax.specs.declared.tree.declaration.VariantDeclaration.{VariantDeclaration}
 use Rattle.pale_syntax.specs.MakingAssertions.{begun}
 use Rattle.pale_syntax.specs.ProgramWords.{kind_of, kinds_in}
-use Rattle.pale_print_laws.specs.CanonicalNames.{IsFree, AreFree, IsFreePath, AreFreePaths, IsFreeTerm}
+use Rattle.pale_syntax.specs.FreeNames.{IsFree, AreFree, IsFreePath, AreFreePaths, IsFreeTerm}
 use Rattle.pale_print_laws.specs.CanonicalRoutes.{asks as route_asks, RoutePlace, IsCanonicalRoute, whole as whole_route, sequence, repeated, single}
 use Rattle.pale_print_laws.specs.CanonicalConditions.{asks as condition_asks, ConditionPlace, IsCanonicalCondition}
 use Rattle.pale_print_laws.specs.CanonicalConditions.{whole as whole_condition, conjunction, literal}

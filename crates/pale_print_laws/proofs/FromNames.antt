@@ -9,7 +9,7 @@ use Rattle.pale_syntax.specs.MakingParts.{Parts, name_of}
 use Rattle.pale_text.specs.Tokens.{place_of}
 use Rattle.pale_syntax.specs.MakingWords.{path_at, extended}
 use Rattle.pale_syntax.specs.ProgramGrammar.{rows_of}
-use Rattle.pale_print_laws.specs.CanonicalNames.{IsFree, AreFree, IsFreePath}
+use Rattle.pale_syntax.specs.FreeNames.{IsFree, AreFree, IsFreePath}
 use Rattle.pale_print_laws.proofs.NameSizes.{path_size, extended_size, one_less}
 use Rattle.pale_print_laws.proofs.FromRows.{Several, no_more, one_more, puts}
 use Rattle.pale_print_laws.proofs.FromMade.{PathMade}

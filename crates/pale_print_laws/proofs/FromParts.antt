@@ -12,7 +12,7 @@ use Rattle.pale_text.specs.Tokens.{name_bytes}
 use Rattle.pale_syntax.specs.ProgramGrammar.{ProgramSymbol, rows_of}
 use Rattle.pale_syntax.specs.ProgramWords.{kind_of, name_kind}
 use Rattle.pale_text.specs.Spelling.{IsName}
-use Rattle.pale_print_laws.specs.CanonicalNames.{IsFree}
+use Rattle.pale_syntax.specs.FreeNames.{IsFree}
 use Rattle.pale_print_laws.proofs.FromRows.{IsNamed, IsOfKind, Goal, Goes, IsSoundAt}
 use Rattle.pale_print_laws.proofs.FromMeaning.{program_meaning}
 

@@ -15,7 +15,7 @@ use Rattle.pale_syntax.specs.MakingParts.{Parts, name_of}
 use Rattle.pale_text.specs.Tokens.{place_of}
 use Rattle.pale_syntax.specs.MakingStatements.{with_statement}
 use Rattle.pale_syntax.specs.ProgramGrammar.{ProgramSymbol, rows_of, reads, call as calling}
-use Rattle.pale_print_laws.specs.CanonicalNames.{IsFree, AreFree}
+use Rattle.pale_syntax.specs.FreeNames.{IsFree, AreFree}
 use Rattle.pale_print_laws.specs.CanonicalConditions.{IsCanonicalCondition, whole}
 use Rattle.pale_print_laws.specs.CanonicalAssertions.{IsCanonicalBracketed}
 use Rattle.pale_print_laws.specs.CanonicalStatements.{IsCanonicalStatement, skip, if_alone, if_else, while, split, assert, free}

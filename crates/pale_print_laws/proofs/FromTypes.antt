@@ -15,7 +15,7 @@ use Rattle.pale_syntax.specs.declared.tree.declaration.TypeDeclaration.{TypeDecl
 use Rattle.pale_syntax.specs.declared.tree.declaration.VariantDeclaration.{VariantDeclaration}
 use Rattle.pale_syntax.specs.MakingParts.{Parts, name_of}
 use Rattle.pale_syntax.specs.ProgramGrammar.{ProgramSymbol, rows_of, reads, type as making, predicate as judging}
-use Rattle.pale_print_laws.specs.CanonicalNames.{IsFree}
+use Rattle.pale_syntax.specs.FreeNames.{IsFree}
 use Rattle.pale_print_laws.specs.CanonicalDeclarations.{All, IsCanonicalField, IsCanonicalVariant, IsFreePredicateParameter}
 use Rattle.pale_print_laws.proofs.NameSizes.{one_less}
 use Rattle.pale_print_laws.proofs.ListSizes.{each_size, each_last, behind_size, behind_last, separated_size, separated_last}

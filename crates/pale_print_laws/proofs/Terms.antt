@@ -16,7 +16,7 @@ use Rattle.pale_syntax.specs.MakingParts.{Parts}
 use Rattle.pale_syntax.specs.ProgramGrammar.{ProgramSymbol, program_grammar, rows_of, reads, push_name}
 use Rattle.pale_print.specs.Placeless.{placeless_name, placeless_path, placeless_term}
 use Rattle.pale_print.specs.Tokens.{each_behind, name_tokens, path_tokens, term_tokens}
-use Rattle.pale_print_laws.specs.CanonicalNames.{AreFree, IsFreePath, IsFreeTerm}
+use Rattle.pale_syntax.specs.FreeNames.{AreFree, IsFreePath, IsFreeTerm}
 use Rattle.pale_print_laws.proofs.Framework.{ProgramStack, Stops, Aim, Ends, mark, word_with, does, row_ends, goes, goes_on, stops_there}
 use Rattle.pale_print_laws.proofs.Words.{is_name, is_null}
 

@@ -28,7 +28,7 @@ use Rattle.pale_print.specs.Placeless.{placeless_name, placeless_form, placeless
 use Rattle.pale_print.specs.Placeless.{placeless_predicate_parameter, placeless_predicate}
 use Rattle.pale_print.specs.Tokens.{each, each_behind, separated}
 use Rattle.pale_print.specs.DeclarationTokens.{field_form_tokens, field_tokens, variant_tokens, type_tokens, predicate_parameter_tokens, predicate_tokens}
-use Rattle.pale_print_laws.specs.CanonicalNames.{IsFree}
+use Rattle.pale_syntax.specs.FreeNames.{IsFree}
 use Rattle.pale_print_laws.specs.CanonicalDeclarations.{All, IsCanonicalForm, IsCanonicalField, IsCanonicalVariant}
 use Rattle.pale_print_laws.specs.CanonicalDeclarations.{IsCanonicalType, IsFreePredicateParameter, IsCanonicalPredicate}
 use Rattle.pale_print_laws.proofs.Framework.{ProgramStack, Stops, Aim, Ends, room_now, mark, word, word_with, does, row_ends}

@@ -4,7 +4,7 @@ use Rattle.std.specs.Prelude.{codes}
 use Rattle.pale_syntax.specs.declared.grammar.kind.ProgramKind.TheVariants as kind
 use Rattle.pale_syntax.specs.declared.tree.names.Name.{Name}
 use Rattle.pale_syntax.specs.ProgramWords.{name_kind}
-use Rattle.pale_print_laws.specs.CanonicalNames.{IsFree}
+use Rattle.pale_syntax.specs.FreeNames.{IsFree}
 use Rattle.pale_print_laws.proofs.Framework.{IsWord}
 
 pub is_name : {x : Name} → IsFree x → IsWord x.bytes kind.Name

@@ -14,7 +14,7 @@ use Rattle.pale_syntax.specs.declared.tree.assertion.Bracketed.{Bracketed}
 use Rattle.pale_syntax.specs.declared.tree.assertion.QuantifierKind.{QuantifierKind}
 use Rattle.pale_print.specs.Tokens.{◌>>◌, sign}
 use Rattle.pale_print.specs.AssertionTokens.{assertion_tokens}
-use Rattle.pale_print_laws.specs.CanonicalNames.{IsFree, AreFree, IsFreePath, AreFreePaths, IsFreeTerm}
+use Rattle.pale_syntax.specs.FreeNames.{IsFree, AreFree, IsFreePath, AreFreePaths, IsFreeTerm}
 use Rattle.pale_print_laws.specs.CanonicalRoutes.{IsCanonicalRoute, whole as whole_route}
 
 -- where an assertion stands, by how tightly it has to bind there

@@ -10,7 +10,7 @@ use Rattle.pale_syntax.specs.declared.tree.condition.Condition.TheVariants as co
 use Rattle.pale_syntax.specs.declared.tree.condition.Condition.TheOpen.{Condition-F}
 use Rattle.pale_print.specs.Tokens.{◌>>◌, sign}
 use Rattle.pale_print.specs.ConditionTokens.{condition_tokens}
-use Rattle.pale_print_laws.specs.CanonicalNames.{IsFree, IsFreeTerm}
+use Rattle.pale_syntax.specs.FreeNames.{IsFree, IsFreeTerm}
 
 -- where a condition stands, by how tightly it has to bind there
 pub data ConditionPlace : Type 0 where

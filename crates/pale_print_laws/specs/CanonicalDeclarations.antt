@@ -16,7 +16,7 @@ use Rattle.pale_syntax.specs.declared.tree.declaration.Procedure.{Procedure}
 use Rattle.pale_syntax.specs.declared.tree.declaration.Program.{Program}
 use Rattle.pale_syntax.specs.declared.tree.declaration.TypeDeclaration.{TypeDeclaration}
 use Rattle.pale_syntax.specs.declared.tree.declaration.VariantDeclaration.{VariantDeclaration}
-use Rattle.pale_print_laws.specs.CanonicalNames.{IsFree}
+use Rattle.pale_syntax.specs.FreeNames.{IsFree}
 use Rattle.pale_print_laws.specs.CanonicalRoutes.{IsCanonicalRoute, whole}
 use Rattle.pale_print_laws.specs.CanonicalAssertions.{IsCanonicalBracketed}
 use Rattle.pale_print_laws.specs.CanonicalStatements.{IsCanonicalClause, AreCanonicalStatements}

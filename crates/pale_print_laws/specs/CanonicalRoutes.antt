@@ -9,7 +9,7 @@ use Rattle.pale_syntax.specs.declared.tree.route.Route.TheVariants as route
 use Rattle.pale_syntax.specs.declared.tree.route.Route.TheOpen.{Route-F}
 use Rattle.pale_print.specs.Tokens.{◌>>◌, sign}
 use Rattle.pale_print.specs.RouteTokens.{route_tokens}
-use Rattle.pale_print_laws.specs.CanonicalNames.{IsFree}
+use Rattle.pale_syntax.specs.FreeNames.{IsFree}
 
 -- where a route stands, by how tightly it has to bind there
 pub data RoutePlace : Type 0 where

@@ -12,7 +12,7 @@ use Rattle.pale_syntax.specs.declared.tree.statement.Statement.{Statement}
 use Rattle.pale_syntax.specs.declared.tree.statement.Statement.TheVariants as statement
 use Rattle.pale_syntax.specs.declared.tree.statement.Value.{Value}
 use Rattle.pale_syntax.specs.declared.tree.statement.Value.TheVariants as value
-use Rattle.pale_print_laws.specs.CanonicalNames.{IsFree, AreFree, IsFreePath}
+use Rattle.pale_syntax.specs.FreeNames.{IsFree, AreFree, IsFreePath}
 use Rattle.pale_print_laws.specs.CanonicalConditions.{IsCanonicalCondition, whole}
 use Rattle.pale_print_laws.specs.CanonicalAssertions.{IsCanonicalBracketed}
 

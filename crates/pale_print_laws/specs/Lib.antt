@@ -1,7 +1,6 @@
 pub mod CanonicalAssertions
 pub mod CanonicalConditions
 pub mod CanonicalDeclarations
-pub mod CanonicalNames
 pub mod CanonicalRoutes
 pub mod CanonicalStatements
 pub mod ReadBack
