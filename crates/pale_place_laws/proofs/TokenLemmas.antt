@@ -11,7 +11,8 @@ use Rattle.pale_text.specs.declared.place.Pos.{Pos}
 use Rattle.pale_text.specs.Tokens.{first_of, name_bytes}
 use Rattle.pale_syntax.specs.declared.grammar.kind.ProgramKind.{ProgramKind}
 use Rattle.pale_syntax.specs.declared.grammar.kind.ProgramKind.TheVariants as kind
-use Rattle.pale_syntax.specs.ProgramWords.{reserved, kind_among, name_kind, kind_of}
+use Rattle.pale_text.specs.Kinds.{kind_among}
+use Rattle.pale_syntax.specs.ProgramWords.{reserved, name_kind, kind_of}
 use Rattle.pale_place_laws.specs.Words.{Word, AreWords, parenthesis, word, IsParenthesis, IsAt, unplaced, placed}
 
 -- what a token of this kind is, where a name is the name that it is
@@ -130,12 +131,12 @@ spelled = (
 )
 
 is_among : (words : List (List ℕ × ProgramKind)) → AreSpelled words → (bytes : List ℕ) →
-    token_of (kind_among words bytes) (token.Name bytes) ≡ token.Name bytes
+    token_of (kind_among words kind.Name bytes) (token.Name bytes) ≡ token.Name bytes
 is_among [] all bytes = refl
 is_among (first ∷ words) all bytes = by (bytes_eq first.0 bytes) refl (is_among words all.1 bytes)
   where
-    by : (same : Bool) → bytes_eq first.0 bytes ≡ same → token_of (kind_among words bytes) (token.Name bytes) ≡ token.Name bytes →
-        token_of (if same then first.1 else kind_among words bytes) (token.Name bytes) ≡ token.Name bytes
+    by : (same : Bool) → bytes_eq first.0 bytes ≡ same → token_of (kind_among words kind.Name bytes) (token.Name bytes) ≡ token.Name bytes →
+        token_of (if same then first.1 else kind_among words kind.Name bytes) (token.Name bytes) ≡ token.Name bytes
     by true is later = all.0 (token.Name bytes) ∙ ap (λ b. token.Name b) ((bytes_eq-Decides first.0 bytes).0 is)
     by false is later = later
 
