@@ -6,7 +6,9 @@
 
 mod ids;
 mod kind;
+mod route_copy;
 mod store;
+mod store_copy;
 mod types;
 mod value;
 mod vars;
