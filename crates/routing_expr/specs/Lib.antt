@@ -9,5 +9,6 @@ pub mod Judging
 pub mod Laws
 pub mod Gathering
 pub mod Searches
+pub mod Regions
 pub mod Machines
 pub mod Spots
