@@ -9,10 +9,14 @@ pub mod RenamedLemmas
 pub mod KeyLemmas
 pub mod PlaceLemmas
 pub mod SharedLemmas
+pub mod ReachLemmas
+pub mod RegionLemmas
 pub mod LeakLemmas
 pub mod JudgeLemmas
 pub mod FittingLemmas
 pub mod FaultLemmas
+pub mod CutLemmas
+pub mod FreshLemmas
 pub mod GatheringLemmas
 pub mod MachineLemmas
 pub mod RangeLemmas

@@ -1,6 +1,7 @@
 pub mod Walks
 pub mod Destinations
 pub mod WellFormed
+pub mod CutFaults
 pub mod Places
 pub mod Sets
 pub mod Naming

@@ -51,7 +51,7 @@ pub(crate) fn copy_cells(alloc: Global, cells: &[CellBody]) -> Result<Vec<CellBo
 }
 
 /// Equal values in the same order.
-pub(crate) fn copy_values(alloc: Global, values: &[Value]) -> Result<Items<Value>, AllocError>
+pub fn copy_values(alloc: Global, values: &[Value]) -> Result<Items<Value>, AllocError>
     ensures { IfOk result (λ copies. copies ≡ values.now) }
 {
     let mut copies = Items::new(alloc);

@@ -1,6 +1,6 @@
 use Rattle.std.proofs.Common.{arith}
-use Rattle.routing_expr.proofs.LeakLemmas.{live_all}
-use Rattle.routing_expr.proofs.leak.live_cells.Goals as goal
+use Rattle.routing_expr.proofs.ReachLemmas.{live_all}
+use Rattle.routing_expr.proofs.reach.live_cells.Goals as goal
 
 pub returns : goal.returns
 returns c = λ d.

@@ -1,6 +1,6 @@
 use Rattle.std.proofs.Common.{arith, sym}
-use Rattle.routing_expr.proofs.LeakLemmas.{reaches_alike, reaches_both, child_step, children_all}
-use Rattle.routing_expr.proofs.leak.Reach.add_children.Goals as goal
+use Rattle.routing_expr.proofs.ReachLemmas.{reaches_alike, reaches_both, child_step, children_all}
+use Rattle.routing_expr.proofs.reach.Reach.add_children.Goals as goal
 
 pub loop-index-preserved : goal.loop-index-preserved
 loop-index-preserved c =

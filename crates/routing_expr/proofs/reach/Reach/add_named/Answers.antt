@@ -1,8 +1,8 @@
 use Rattle.std.proofs.Common.{◌∙◌, ap, sym, Some}
 use Rattle.std.proofs.lemmas.Option.{same_Some, none-some}
 use Rattle.std.proofs.lemmas.Result.{on_ok_weaker}
-use Rattle.routing_expr.proofs.LeakLemmas.{reaches_none, reaches_alike}
-use Rattle.routing_expr.proofs.leak.Reach.add_named.Goals as goal
+use Rattle.routing_expr.proofs.ReachLemmas.{reaches_none, reaches_alike}
+use Rattle.routing_expr.proofs.reach.Reach.add_named.Goals as goal
 
 pub returns-in-None : goal.returns-in-None
 returns-in-None c = reaches_none _ _ (λ d h. none-some d (sym c.in-None.is ∙ (c.named_cell.ensures d).0 h))
