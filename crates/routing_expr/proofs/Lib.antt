@@ -3,6 +3,7 @@ pub mod WalkLemmas
 pub mod LiveLemmas
 pub mod TreeLemmas
 pub mod CarryLemmas
+pub mod MatchLemmas
 pub mod AloneLemmas
 pub mod RenamingLemmas
 pub mod RenamedLemmas

@@ -1,0 +1,10 @@
+pub mod DecidedLemmas
+pub mod StarLemmas
+pub mod DecidedWalks
+pub mod PathLemmas
+pub mod DecidedStores
+pub mod RegionLemmas
+pub mod PieceLemmas
+pub mod PairLemmas
+pub mod PairFaults
+pub mod FunctionalLemmas

@@ -1,0 +1,5 @@
+pub mod Deciding
+pub mod Paths
+pub mod Shown
+pub mod Pieces
+pub mod Pairing
