@@ -8,3 +8,7 @@ pub mod PieceLemmas
 pub mod PairLemmas
 pub mod PairFaults
 pub mod FunctionalLemmas
+pub mod FitsOn
+pub mod OneEachLemmas
+pub mod PieceForms
+pub mod TwinLemmas

@@ -25,7 +25,7 @@ use Rattle.routing_laws.specs.Deciding.{Decided}
 use Rattle.routing_laws.specs.Pieces.{value_on, cell_on, piece_on}
 use Rattle.routing_laws.proofs.DecidedLemmas.{decided_in, decided_there}
 use Rattle.routing_laws.proofs.DecidedWalks.{decided_same_cell}
-use Rattle.routing_laws.proofs.RegionLemmas.{number_in, in_number, store_on-IsOn, live_on, on_live, leads_on, leads_off}
+use Rattle.routing_laws.proofs.RegionLemmas.{number_in, in_number, store_on-IsOn, live_on, on_live, leads_off, chain_on}
 use Rattle.routing_laws.proofs.RegionLemmas.{value_on as field_on}
 
 module _ (cells : List CellId) (s : StoreMap) where
@@ -54,7 +54,7 @@ module _ (cells : List CellId) (s : StoreMap) where
   onto_piece : (v : VarId) (c : CellId) → Contains cells c → var_value s v ≡ Some (value.Cell (Some c)) → var_value (piece_on s cells) v ≡ Some (value.Cell (Some c))
   onto_piece v c m e = var_on v ∙ ap (option_map (value_on cells)) e ∙ ap (λ x. Some x) (cell_kept c m)
 
-  type_on : (target : TypeId) (c : CellId) → Contains cells c → IsOfType s target c → IsOfType (piece_on s cells) target c
+  pub type_on : (target : TypeId) (c : CellId) → Contains cells c → IsOfType s target c → IsOfType (piece_on s cells) target c
   type_on target c m h = subst (λ o. IsSomeAnd o (λ cell. cell.variant.ty ≡ target)) (sym (piece_on-IsOn.inside c m)) h
 
   pub type_off : (target : TypeId) (c : CellId) → IsOfType (piece_on s cells) target c → IsOfType s target c
@@ -114,15 +114,6 @@ module _ (cells : List CellId) (s : StoreMap) where
           let from = (whole f a c (record { kind = h.place; value = h.value; live = live })).1 m in
           record { place = h.place; value = field_on cells s (piece_on s cells) piece_on-IsOn a f from ∙ h.value }
 
-      chain_on : {a b : CellId} → Chain s (IsParent types s) a b → Contains cells b →
-          Contains cells a × Chain (piece_on s cells) (IsParent types (piece_on s cells)) a b
-      chain_on (stay a live) m = (m, stay a (on_live cells s (piece_on s cells) piece_on-IsOn a m live))
-      chain_on (go a b c step chain) m =
-          let rest = chain_on chain m in
-          let from = (whole step.field a b step.leads).1 rest.0 in
-          (from, go a b c (record { field = step.field; leads = leads_on cells s (piece_on s cells) piece_on-IsOn types DataAlone step.field a b from rest.0 step.leads })
-          rest.1)
-
       field_holds_on : (c : CellId) (f : FieldId) (entry : FieldEntry) (kind : FieldKind) (x : Value) → field_at types f ≡ Some entry → entry.kind ≡ kind →
           Contains cells c → field_value s c f ≡ Some x → FieldHoldsLive s kind x → FieldHoldsLive (piece_on s cells) kind x
       field_holds_on c f entry field.Bool x at is m holds h = tt
@@ -152,7 +143,7 @@ module _ (cells : List CellId) (s : StoreMap) where
         reached = λ c live.
             let here = live_on cells s (piece_on s cells) piece_on-IsOn c live in
             let tree = backbone.reached c here.1 in
-            let path = chain_on tree.1.path here.0 in
+            let path = chain_on cells s (piece_on s cells) piece_on-IsOn types whole tree.1.path here.0 in
             (tree.0, record {
               root = tree.1.root;
               named = record { place = tree.1.named.place; value = onto_piece tree.0 tree.1.root path.0 tree.1.named.value };
@@ -207,7 +198,7 @@ module _ (types : List TypeEntry) (vars : List VarEntry) (s : StoreMap) (cells r
   pub side : (c : CellId) → IsLive s c → Contains cells c ⊎ Contains rest c
   side c live = elim (decided_in decided_same_cell cells c) [ inl m ↦ inl m | inr out ↦ inr ((is.members c).1 (live, out)) ]
 
-  live_from : (o : Option CellEntry) → (o ≡ None → ⊥) → IsSome o
+  pub live_from : (o : Option CellEntry) → (o ≡ None → ⊥) → IsSome o
   live_from None h = absurd (h refl)
   live_from (Some cell) h = refl
 

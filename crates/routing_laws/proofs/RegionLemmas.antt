@@ -16,7 +16,7 @@ use Rattle.store_core.specs.declared.value.Value.TheVariants as value
 use Rattle.store_core.specs.Tables.{TypeEntry, VarEntry, FieldEntry, field_at}
 use Rattle.store_core.specs.Stores.{StoreMap, CellEntry, IsLive, cell_of, field_of, field_value}
 use Rattle.routing_expr.specs.declared.fault.Place.{Place}
-use Rattle.routing_expr.specs.Walks.{Fields, DataAlone, DataAndPointers, IsFollowed, Leads, IsParent, IsOfType, IsOfVariant, Walk}
+use Rattle.routing_expr.specs.Walks.{Fields, DataAlone, DataAndPointers, IsFollowed, Leads, IsParent, IsOfType, IsOfVariant, Chain, stay, go, Walk}
 use Rattle.routing_expr.specs.Destinations.{EndsWalk, EndsKind, Dest, IsOnlyDestination, IsPointer}
 use Rattle.routing_expr.specs.WellFormed.{Names, IsInTree}
 use Rattle.routing_expr.specs.Regions.{has_number, store_on, IsOn, IsReachedFrom, IsPart, IsOutside, IsRest, IsClosedUnderFields, IsApart}
@@ -91,6 +91,15 @@ module _ (cells : List CellId) (s t : StoreMap) (on : IsOn cells s t) where
   pub leads_on : (types : List TypeEntry) (fields : Fields) (f : FieldId) (a b : CellId) → Contains cells a → Contains cells b →
       Leads types s fields f a b → Leads types t fields f a b
   leads_on types fields f a b from to h = record { kind = h.kind; value = value_on a f from ∙ h.value; live = on_live b to h.live }
+
+  -- a path of data fields to a cell of the set, where no data field leads into it or out of it
+  pub chain_on : (types : List TypeEntry) → IsApart types s DataAlone cells → {a b : CellId} → Chain s (IsParent types s) a b → Contains cells b →
+      Contains cells a × Chain t (IsParent types t) a b
+  chain_on types whole (stay a live) m = (m, stay a (on_live a m live))
+  chain_on types whole (go a b c step chain) m =
+      let rest = chain_on types whole chain m in
+      let from = (whole step.field a b step.leads).1 rest.0 in
+      (from, go a b c (record { field = step.field; leads = leads_on types DataAlone step.field a b from rest.0 step.leads }) rest.1)
 
 -- a live cell of the set goes with itself
 pub Within : List CellId → StoreMap → CellId → CellId → Type 0

@@ -3,3 +3,5 @@ pub mod Paths
 pub mod Shown
 pub mod Pieces
 pub mod Pairing
+pub mod Refuting
+pub mod Twins

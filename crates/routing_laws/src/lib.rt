@@ -17,10 +17,14 @@ pub use decided::{
     faults_are_decided, leaks_are_shown, stores_are_decided, walks_are_decided, walks_are_finite,
     wrong_fields_are_shown,
 };
-pub use functional::ways_up_are_functional;
+pub use functional::{
+    one_variable_a_type_is_enough, two_ways_are_not_functional, ways_up_are_functional,
+};
 pub use paths::{cells_have_one_path, paths_have_no_cycle, paths_lead_to_one_cell, trees_are_paths};
 pub use pieces::{
-    pieces_have_their_cells, pieces_of_backbones_are_backbones, two_pieces_are_a_backbone,
+    pieces_have_their_cells, pieces_of_backbones_are_backbones,
+    pieces_of_well_formed_stores_are_well_formed, two_pieces_are_a_backbone,
+    two_pieces_are_well_formed,
 };
 pub use regions::{
     parts_are_apart, regions_keep_walks, stores_on_sets_have_their_cells, walks_see_their_set_alone,
