@@ -2,10 +2,8 @@ pub mod RouteLemmas
 pub mod WalkLemmas
 pub mod LiveLemmas
 pub mod TreeLemmas
-pub mod CarryLemmas
+pub mod MatchLemmas
 pub mod AloneLemmas
-pub mod RenamingLemmas
-pub mod RenamedLemmas
 pub mod KeyLemmas
 pub mod PlaceLemmas
 pub mod SharedLemmas

@@ -1,13 +1,13 @@
 -- Stores on a set of cells. A set of cells is a list of them, as the value of a logic set is: whether a cell is in it is
 -- decided by its number, and a set that is handed on stands in rising order, so that each set is one list.
-use Rattle.std.specs.Prelude.{◌==◌, ◌↔◌, ℕ, Bool, List, Contains}
+use Rattle.std.specs.Prelude.{◌≡◌, ◌==◌, ◌↔◌, ℕ, Bool, List, None, Contains}
 use Rattle.std.specs.List.{list_any}
 use Rattle.std.specs.FinMap.{retain_keys}
 use Rattle.store_core.specs.declared.ids.FieldId.{FieldId}
 use Rattle.store_core.specs.declared.ids.VarId.{VarId}
 use Rattle.store_core.specs.declared.ids.CellId.{CellId}
 use Rattle.store_core.specs.Tables.{TypeEntry, VarEntry}
-use Rattle.store_core.specs.Stores.{StoreMap, IsLive}
+use Rattle.store_core.specs.Stores.{StoreMap, IsLive, cell_of}
 use Rattle.routing_expr.specs.Walks.{Fields, Leads, IsParent}
 use Rattle.routing_expr.specs.WellFormed.{IsInTree}
 use Rattle.routing_expr.specs.Searches.{Lists}
@@ -50,3 +50,10 @@ IsClosedUnderFields types s cells = (a b : CellId) → Contains cells a → IsPa
 -- no followed field leads into the set or out of it
 abbrev pub IsApart : List TypeEntry → StoreMap → Fields → List CellId → Type 0
 IsApart types s fields cells = (f : FieldId) (a b : CellId) → Leads types s fields f a b → Contains cells a ↔ Contains cells b
+
+-- ---- stores that have the cells of the set
+
+-- of the cells of s just those in the set are live in t, and they stand there as in s
+pub record IsOn (cells : List CellId) (s t : StoreMap) : Type 0 where
+  pub inside : (c : CellId) → Contains cells c → cell_of t c ≡ cell_of s c
+  pub outside : (c : CellId) → (Contains cells c → ⊥) → cell_of t c ≡ None

@@ -1,9 +1,10 @@
 //! Routes: which cells a route joins, where a pointer field has to point, and when a store is well-formed.
 //!
 //! `specs/Walks.antt` says what a walk is, `specs/Destinations.antt` what a destination is, `specs/WellFormed.antt` when a store
-//! is a backbone, when it is well-formed and which of its faults comes first, and `specs/Laws.antt` what holds of all walks.
-//! `specs/CutFaults.antt` says which conditions
-//! of a cut a store breaks, and `specs/Regions.antt` what a store on a set of its cells is. `specs/Machines.antt` says what a route is taken apart into.
+//! is a backbone, when it is well-formed and which of its faults comes first, and `specs/Laws.antt` what holds of all walks;
+//! what more holds of them stands in `routing_laws`. `specs/CutFaults.antt` says which condition of a cut
+//! a store breaks first, `specs/Regions.antt` what a store on a set of cells is, and `specs/Machines.antt` what a route is taken
+//! apart into.
 #![tactic(auto)]
 
 mod calls;
@@ -33,8 +34,8 @@ pub use fault::{CutFault, Place, WfFault};
 pub use first_fault::well_formed;
 pub use followed::Followed;
 pub use laws::{
-    data_walks_stay_in_one_tree, renaming_cells_renames_walks, walks_go_by_cases,
-    walks_join_live_cells, walks_see_cells_alone, well_formed_stores_are_fresh,
+    data_walks_stay_in_one_tree, walks_go_by_cases, walks_join_live_cells, walks_see_cells_alone,
+    well_formed_stores_are_fresh,
 };
 pub use reach::reached;
 pub use region::{ends_on, store_on};
