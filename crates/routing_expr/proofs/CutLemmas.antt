@@ -12,7 +12,7 @@ use Rattle.routing_expr.specs.declared.fault.Place.TheVariants as place
 use Rattle.routing_expr.specs.declared.fault.CutFault.{CutFault}
 use Rattle.routing_expr.specs.declared.fault.CutFault.TheVariants as fault
 use Rattle.routing_expr.specs.WellFormed.{IsDanglingReference, IsShared, IsLeaked, IsWrongPlace, IsFirstCell, IsFirstPlace}
-use Rattle.routing_expr.specs.CutFaults.{HasDanglingReference, HasShared, HasLeaked, HasWrongField, IsFirstCutFault, IsWellFormedButSets}
+use Rattle.routing_expr.specs.CutFaults.{HasDanglingReference, HasShared, HasLeaked, HasWrongField, IsFirstCutFault, IsSound}
 use Rattle.routing_expr.specs.Reaching.{IsInSomeTree}
 use Rattle.routing_expr.specs.Judging.{IsRightField}
 use Rattle.routing_expr.proofs.FaultLemmas.{no_reference, no_shared, no_leak, no_wrong_field, backbone_from}
@@ -69,22 +69,22 @@ module _ (types : List TypeEntry) (vars : List VarEntry) (s : StoreMap) where
   first_alone fault.Field fault.Field h k = refl
 
   module _ (fits : Fits types vars s) where
-    no_cut_fault : IsWellFormedButSets types vars s → (f : CutFault) → IsFirstCutFault types vars s f → ⊥
+    no_cut_fault : IsSound types vars s → (f : CutFault) → IsFirstCutFault types vars s f → ⊥
     no_cut_fault is fault.DanglingReference h = no_reference types vars s fits is.backbone is.pointers h.place h.dangling
     no_cut_fault is fault.Shared h = no_shared types vars s fits is.backbone is.pointers h.1.cell h.1.shared
     no_cut_fault is fault.Leak h = no_leak types vars s fits is.backbone is.pointers h.2.cell h.2.leaked
     no_cut_fault is fault.Field h = no_wrong_field types vars s fits is.backbone is.pointers h.3.cell h.3.field h.3.wrong
 
     -- what the answer says, where a condition was found and where none was
-    pub none_of_found : (f : CutFault) → IsFirstCutFault types vars s f → (Some f ≡ None) ↔ IsWellFormedButSets types vars s
+    pub none_of_found : (f : CutFault) → IsFirstCutFault types vars s f → (Some f ≡ None) ↔ IsSound types vars s
     none_of_found f h = (λ e. cc, λ is. absurd (no_cut_fault is f h))
 
     pub some_of_found : (f : CutFault) → IsFirstCutFault types vars s f → (g : CutFault) → (Some f ≡ Some g) ↔ IsFirstCutFault types vars s g
     some_of_found f h g = (λ e. subst (IsFirstCutFault types vars s) (same_Some f g e) h, λ k. ap (λ (x : CutFault). Some x) (first_alone f g h k))
 
-    pub unbroken_from : ((p : Place) → IsDanglingReference s p → ⊥) → ((c : CellId) → IsShared types vars s c → ⊥) →
-        ((c : CellId) → IsLive s c → IsInSomeTree types vars s c) → ((c : CellId) (f : FieldId) → IsRightField types s c f) → IsWellFormedButSets types vars s
-    unbroken_from none unshared reached right = record { fits = fits; backbone = backbone_from types vars s fits none unshared reached; pointers = right }
+    pub sound_from : ((p : Place) → IsDanglingReference s p → ⊥) → ((c : CellId) → IsShared types vars s c → ⊥) →
+        ((c : CellId) → IsLive s c → IsInSomeTree types vars s c) → ((c : CellId) (f : FieldId) → IsRightField types s c f) → IsSound types vars s
+    sound_from none unshared reached right = record { backbone = backbone_from types vars s fits none unshared reached; pointers = right }
 
-    pub some_of_none : IsWellFormedButSets types vars s → (g : CutFault) → (None ≡ Some g) ↔ IsFirstCutFault types vars s g
+    pub some_of_none : IsSound types vars s → (g : CutFault) → (None ≡ Some g) ↔ IsFirstCutFault types vars s g
     some_of_none is g = (λ e. cc, λ k. absurd (no_cut_fault is g k))

@@ -3,7 +3,7 @@ use Rattle.std.specs.Prelude.{List, IsSomeAnd, IfSome}
 use Rattle.store_core.specs.declared.ids.FieldId.{FieldId}
 use Rattle.store_core.specs.declared.ids.CellId.{CellId}
 use Rattle.store_core.specs.Tables.{TypeEntry, VarEntry, field_at}
-use Rattle.store_core.specs.Stores.{StoreMap, Fits, field_value}
+use Rattle.store_core.specs.Stores.{StoreMap, field_value}
 use Rattle.routing_expr.specs.declared.fault.Place.{Place}
 use Rattle.routing_expr.specs.declared.fault.CutFault.{CutFault}
 use Rattle.routing_expr.specs.declared.fault.CutFault.TheVariants as fault
@@ -39,9 +39,9 @@ IsFirstCutFault types vars s fault.Leak = (HasDanglingReference s → ⊥) × (H
 IsFirstCutFault types vars s fault.Field =
     (HasDanglingReference s → ⊥) × (HasShared types vars s → ⊥) × (HasLeaked types vars s → ⊥) × HasWrongField types s
 
--- none of the four holds: the store is well-formed but for its logic sets
-pub record IsWellFormedButSets (types : List TypeEntry) (vars : List VarEntry) (s : StoreMap) : Type 0 where
-  pub fits : Fits types vars s
+-- none of the four holds: the store is a backbone, and every pointer field that a live cell has holds its only destination, or
+-- null where there is none
+pub record IsSound (types : List TypeEntry) (vars : List VarEntry) (s : StoreMap) : Type 0 where
   pub backbone : IsBackbone types vars s
   pub pointers : (c : CellId) (f : FieldId) → IsSomeAnd (field_at types f) (λ entry. IsPointer entry.kind) →
       IfSome (field_value s c f) (IsOnlyDestination types s c f)

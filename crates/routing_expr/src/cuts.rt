@@ -3,7 +3,7 @@
 ghost use Rattle.std.specs.Prelude.{◌≡◌, ◌↔◌, None, Some, IfOk};
 ghost use Rattle.store_core.specs.Stores.{Fits};
 ghost use Rattle.routing_expr.specs.declared.fault.CutFault.{CutFault};
-ghost use Rattle.routing_expr.specs.CutFaults.{IsFirstCutFault, IsWellFormedButSets};
+ghost use Rattle.routing_expr.specs.CutFaults.{IsFirstCutFault, IsSound};
 
 use crate::dangling::has_dangling_reference;
 use crate::fault::CutFault;
@@ -16,7 +16,7 @@ use crate::wrong_field::first_wrong_place;
 use std::alloc::{AllocError, Global};
 use store_core::{Store, TypeTable, VarTable};
 
-/// The first condition of a cut that a store which fits its tables breaks; `None` exactly where it breaks none, being well-formed
+/// The first condition of a cut that a store which fits its tables breaks; `None` exactly where it breaks none: it is then well-formed
 /// but for its logic sets.
 pub fn cut_fault(
     alloc: Global,
@@ -25,7 +25,7 @@ pub fn cut_fault(
     store: &Store,
 ) -> Result<Option<CutFault>, AllocError>
     requires { Fits types.now vars.now store.now }
-    ensures none { IfOk result (λ found. (found ≡ None) ↔ IsWellFormedButSets types.now vars.now store.now) }
+    ensures none { IfOk result (λ found. (found ≡ None) ↔ IsSound types.now vars.now store.now) }
     ensures some { IfOk result (λ found. (fault : CutFault) → (found ≡ Some fault) ↔ IsFirstCutFault types.now vars.now store.now fault) }
 {
     let places = list_places(alloc, types, vars, store)?;

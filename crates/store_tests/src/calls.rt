@@ -8,6 +8,7 @@ use std::test::Fail;
 use store_core::{
     CellId, FieldId, FieldKind, Owner, Store, TypeTable, Value, VarId, VarKind, VarTable, VariantId,
 };
+use store_text::store_text;
 
 const PLAIN: VariantId = VariantId { ty: NODE, index: 0 };
 

@@ -75,14 +75,14 @@ fn every_form_of_route_is_copied(rt: HostRuntime) -> Result<(), Fail> {
     let alloc = rt.alloc();
     let ty = TypeId(1);
     let truth = Route::IsBool(Items::from_slice(alloc, b"b")?, true);
-    assert!(rt; matches!(truth.copy(alloc)?, Route::IsBool(_, true)));
+    assert!(rt; matches!(&truth.copy(alloc)?, Route::IsBool(_, true)));
     let variant = Route::IsVariant(VariantId { ty, index: 2 });
-    assert!(rt; matches!(variant.copy(alloc)?, Route::IsVariant(VariantId { index: 2, .. })));
-    assert!(rt; matches!(Route::IsType(ty).copy(alloc)?, Route::IsType(TypeId(1))));
+    assert!(rt; matches!(&variant.copy(alloc)?, Route::IsVariant(VariantId { index: 2, .. })));
+    assert!(rt; matches!(&Route::IsType(ty).copy(alloc)?, Route::IsType(TypeId(1))));
     let up = Route::Up(Items::from_slice(alloc, b"next")?);
-    assert!(rt; matches!(up.copy(alloc)?, Route::Up(_)));
-    assert!(rt; matches!(Route::UpAny.copy(alloc)?, Route::UpAny));
-    assert!(rt; matches!(Route::Root.copy(alloc)?, Route::Root));
-    assert!(rt; matches!(Route::Leaf.copy(alloc)?, Route::Leaf));
+    assert!(rt; matches!(&up.copy(alloc)?, Route::Up(_)));
+    assert!(rt; matches!(&Route::UpAny.copy(alloc)?, Route::UpAny));
+    assert!(rt; matches!(&Route::Root.copy(alloc)?, Route::Root));
+    assert!(rt; matches!(&Route::Leaf.copy(alloc)?, Route::Leaf));
     Ok(())
 }
