@@ -33,7 +33,6 @@ IsFresh-well_formed types vars s is = (no_dead, IsFresh-no_dead s is.fits.above 
         (λ held. no_dangling types vars s is.fits is p (inr (subst (λ o. IsSomeAnd o (HoldsDead s)) (sym at) held)))
 
     no_dead : NamesNoDead s
-    unfolding at_place
     no_dead = record {
       fields = λ c f. IfSome-from (field_value s c f) (NamesLiveAlone s) (λ x at. at_place (place.Field c f) x at);
       vars = λ v. IfSome-from (var_value s v) (NamesLiveAlone s) (λ x at. at_place (place.Var v) x at);

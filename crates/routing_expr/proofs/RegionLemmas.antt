@@ -13,7 +13,7 @@ use Rattle.store_core.specs.declared.ids.CellId.{CellId}
 use Rattle.store_core.specs.declared.store.CellBody.{CellBody}
 use Rattle.store_core.specs.Stores.{StoreMap, CellEntry, IsAbove}
 use Rattle.store_core.specs.StoreBodies.{cell_entry, cells_of, AreInOrder, IsKept}
-use Rattle.store_core.proofs.AboveLemmas.{tied}
+use Rattle.store_core.proofs.AboveLemmas.{tied, ties, differs}
 use Rattle.store_core.proofs.Cells.{sorted_cells}
 use Rattle.routing_expr.specs.Regions.{has_number}
 use Rattle.routing_expr.specs.Sets.{Has}
@@ -45,6 +45,23 @@ one_all cells n all c = (
   λ h. (h.place, slice_get_within cells h.place c h.at, get_or_from_slice_get cells h.place c c h.at),
   λ m. record { place = m.0; below = omega (arith, m.1); at = slice_get-get_or cells m.0 c m.1 ∙ ap (λ (d : CellId). Some d) m.2 },
 )
+
+-- a number more
+pub Has-insert : (old new : BTreeSet ℕ) (cell d : CellId) →
+    contains nat_cmp new d.0 ≡ cond (eq_by_cmp nat_cmp cell.0 d.0) true (contains nat_cmp old d.0) → Has new d ↔ (Has old d ⊎ (d ≡ cell))
+Has-insert old new cell d is = elim (cases_eq cell.0 d.0) [
+  | inl same ↦ (
+    λ h. inr (ap (λ (n : ℕ). record { 0 = n }) (sym same)),
+    λ h. is ∙ ap (λ t. cond t true (contains nat_cmp old d.0)) (ties cell.0 d.0 same),
+  )
+  | inr apart ↦
+      let unchanged : contains nat_cmp new d.0 ≡ contains nat_cmp old d.0 =
+      is ∙ ap (λ t. cond t true (contains nat_cmp old d.0)) (differs cell.0 d.0 apart) in
+      (
+        λ h. inl (sym unchanged ∙ h),
+        λ h. elim h [ inl was ↦ unchanged ∙ was | inr same ↦ absurd (apart (ap (λ (e : CellId). e.0) (sym same))) ],
+      )
+]
 
 -- a number is that of one of the cells where the cell with the number is one
 has_from : (cells : List CellId) (c : CellId) (k : ℕ) → slice_get cells k ≡ Some c → has_number cells c.0 ≡ true
@@ -111,39 +128,32 @@ order_sorted (b ∷ bodies) sorted = (above b.number bodies (both_first _ _ sort
     above n [] below = tt
     above n (d ∷ bodies) below = (is_less n d.number (both_first _ _ below), above n bodies (both_second _ _ below))
 
-nothing : (t : Bool) → None ≡ cond t (None {T = CellEntry}) None
-nothing true = refl
-nothing false = refl
+nothing : (t : Bool) (o : Option CellEntry) → o ≡ cond t o o
+nothing true o = refl
+nothing false o = refl
+
+-- one cell more, which is kept or isn't
+find_step : (test : ℕ → Bool) (b : CellBody) (bodies : List CellBody) (q : ℕ) →
+    find nat_cmp q (cells_of (filter (λ d. test d.number) bodies)) ≡ cond (test q) (find nat_cmp q (cells_of bodies)) None → (t e : Bool) →
+    test b.number ≡ t → eq_by_cmp nat_cmp q b.number ≡ e →
+    find nat_cmp q (cells_of (cond t (b ∷ filter (λ d. test d.number) bodies) (filter (λ d. test d.number) bodies)))
+    ≡ cond (test q) (cond e (Some (cell_entry b).1) (find nat_cmp q (cells_of bodies))) None
+find_step test b bodies q rest true true is same =
+    ap (λ x. cond x (Some (cell_entry b).1) (find nat_cmp q (cells_of (filter (λ d. test d.number) bodies)))) same
+    ∙ sym (ap (λ x. cond x (Some (cell_entry b).1) None) (ap test (tied q b.number same) ∙ is))
+find_step test b bodies q rest true false is apart =
+    ap (λ x. cond x (Some (cell_entry b).1) (find nat_cmp q (cells_of (filter (λ d. test d.number) bodies)))) apart ∙ rest
+find_step test b bodies q rest false true is same =
+    rest ∙ ap (λ x. cond x (find nat_cmp q (cells_of bodies)) None) (ap test (tied q b.number same) ∙ is)
+    ∙ sym (ap (λ x. cond x (Some (cell_entry b).1) None) (ap test (tied q b.number same) ∙ is))
+find_step test b bodies q rest false false is apart = rest
 
 -- a number is found among the kept cells where it passes
 find_filter : (test : ℕ → Bool) (bodies : List CellBody) (q : ℕ) →
     find nat_cmp q (cells_of (filter (λ b. test b.number) bodies)) ≡ cond (test q) (find nat_cmp q (cells_of bodies)) None
-find_filter test [] q = nothing (test q)
-find_filter test (b ∷ bodies) q = by (test b.number) (eq_by_cmp nat_cmp q b.number) refl refl
-  where
-    kept : List CellBody
-    kept = filter (λ d. test d.number) bodies
-
-    rest : find nat_cmp q (cells_of kept) ≡ cond (test q) (find nat_cmp q (cells_of bodies)) None
-    unfolding kept
-    rest = find_filter test bodies q
-
-    passes : (t : Bool) → eq_by_cmp nat_cmp q b.number ≡ true → test b.number ≡ t → test q ≡ t
-    passes t same is = ap test (tied q b.number same) ∙ is
-
-    by : (t e : Bool) → test b.number ≡ t → eq_by_cmp nat_cmp q b.number ≡ e →
-        find nat_cmp q (cells_of (cond t (b ∷ filter (λ d. test d.number) bodies) (filter (λ d. test d.number) bodies)))
-        ≡ cond (test q) (cond e (Some (cell_entry b).1) (find nat_cmp q (cells_of bodies))) None
-    unfolding rest
-    by true true is same =
-        ap (λ x. cond x (Some (cell_entry b).1) (find nat_cmp q (cells_of (filter (λ d. test d.number) bodies)))) same
-        ∙ sym (ap (λ x. cond x (Some (cell_entry b).1) None) (passes true same is))
-    by true false is apart =
-        ap (λ x. cond x (Some (cell_entry b).1) (find nat_cmp q (cells_of (filter (λ d. test d.number) bodies)))) apart ∙ rest
-    by false true is same =
-        rest ∙ ap (λ x. cond x (find nat_cmp q (cells_of bodies)) None) (passes false same is)
-        ∙ sym (ap (λ x. cond x (Some (cell_entry b).1) None) (passes false same is))
-    by false false is apart = rest
+find_filter test [] q = nothing (test q) None
+find_filter test (b ∷ bodies) q =
+    find_step test b bodies q (find_filter test bodies q) (test b.number) (eq_by_cmp nat_cmp q b.number) refl refl
 
 module _ (bodies : List CellBody) (s : StoreMap) (is : cells_of bodies ≡ entries s.cells) where
   in_order : AreInOrder bodies
