@@ -1,12 +1,12 @@
-//! Asks in rounds whether a store is well-formed, and for the destinations of a route from its first cell; prints counts alone.
-//! Its words: `list` for a doubly linked list or `tree` for a tree with parent pointers, how many cells, and how many rounds of
-//! each.
+//! Asks in rounds whether a store is well-formed, for the destinations of a route from its first cell, for the cells reached from
+//! its variable, and for the ends of the route on these cells; prints counts alone. Its words: `list` for a doubly linked list or
+//! `tree` for a tree with parent pointers, how many cells, and how many rounds of each.
 #![tactic(auto)]
 
 mod rounds;
 mod shapes;
 
-use crate::rounds::run;
+use crate::rounds::{Rounds, run};
 use crate::shapes::Shape;
 use anyhow::{Context, Result, bail, ensure};
 use std::env;
@@ -30,13 +30,19 @@ fn main(rt: HostRuntime) -> Result<()> {
     let _program = words.next();
     let shape = shape(&mut words)?;
     let cells = number(&mut words, "cells")?;
-    let judged = number(&mut words, "rounds of judging")?;
-    let searched = number(&mut words, "rounds of searching")?;
+    let rounds = Rounds {
+        judging: number(&mut words, "rounds of judging")?,
+        searching: number(&mut words, "rounds of searching")?,
+        reaching: number(&mut words, "rounds of reaching")?,
+        walking: number(&mut words, "rounds of walking")?,
+    };
     ensure!(0 < cells && cells <= 1_000_000, "{cells} cells");
-    let report = run(rt.alloc(), shape, cells, judged, searched)?;
+    let report = run(rt.alloc(), shape, cells, rounds)?;
     let live = report.live;
     let found = report.found;
     let told = if report.well { "well-formed" } else { "faulty" };
-    println!(rt; "{live} cells, {told}, {found} destinations")?;
+    let reached = report.reached;
+    let ended = report.ended;
+    println!(rt; "{live} cells, {told}, {found} destinations, {reached} reached, {ended} ends")?;
     Ok(())
 }

@@ -19,7 +19,7 @@ use Rattle.routing_expr.specs.declared.fault.Place.{Place}
 use Rattle.routing_expr.specs.declared.fault.Place.TheVariants as place
 use Rattle.routing_expr.specs.Walks.{IsOfType}
 use Rattle.routing_expr.specs.Destinations.{EndsKind, IsOnlyDestination, IsPointer}
-use Rattle.routing_expr.specs.WellFormed.{NamesDead, HoldsDead, IsDangling, IsShared, IsLeaked, IsWrongField, VarHoldsLive, FieldHoldsLive, SetHoldsLive, IsWellFormed}
+use Rattle.routing_expr.specs.WellFormed.{NamesDead, HoldsDead, IsDanglingReference, IsDangling, IsShared, IsLeaked, IsWrongField, VarHoldsLive, FieldHoldsLive, SetHoldsLive, IsBackbone, IsWellFormed}
 use Rattle.routing_expr.specs.Reaching.{IsInSomeTree}
 use Rattle.routing_expr.specs.Judging.{IsRightField}
 use Rattle.routing_expr.proofs.FittingLemmas.{IfSome-from, IfSome-at, IsSomeAnd-at, var_at_value, slot_at_value}
@@ -38,7 +38,7 @@ of_type s target d = go (cell_of s d)
     go (Some cell) names live = names
 
 -- two places are one or they are apart
-place_cases : (p q : Place) → (p ≡ q) ⊎ (p ≡ q → ⊥)
+pub place_cases : (p q : Place) → (p ≡ q) ⊎ (p ≡ q → ⊥)
 place_cases (place.Var v) (place.Var w) =
     elim (cases_eq v.0 w.0) [
       | inl same ↦ inl (ap (λ (n : ℕ). place.Var (record { 0 = n })) same)
@@ -60,9 +60,10 @@ place_cases (place.Field c f) (place.Field d g) = elim (cases_eq c.0 d.0) [
 ]
 
 module _ (types : List TypeEntry) (vars : List VarEntry) (s : StoreMap) (fits : Fits types vars s) where
-  -- ---- a well-formed store has no fault
+  -- ---- a backbone with the right pointer fields has no cause at a cut
 
-  module _ (is : IsWellFormed types vars s) where
+  module _ (backbone : IsBackbone types vars s) (pointers : (c : CellId) (f : FieldId) → IsSomeAnd (field_at types f) (λ entry. IsPointer entry.kind) →
+      IfSome (field_value s c f) (IsOnlyDestination types s c f)) where
     var_lives : (kind : VarKind) (x : Value) → VarFits s kind x → VarHoldsLive s kind x → NamesDead s x → ⊥
     var_lives var.Bool (value.Bool b) fit h dead = dead
     var_lives var.Bool (value.Cell c) fit h dead = fit
@@ -82,16 +83,6 @@ module _ (types : List TypeEntry) (vars : List VarEntry) (s : StoreMap) (fits : 
     var_lives var.LogicBool (value.Cell c) fit h dead = fit
     var_lives var.LogicBool (value.Cells cells) fit h dead = dead
 
-    set_lives : (kind : VarKind) (x : Value) → VarFits s kind x → SetHoldsLive s kind x → HoldsDead s x → ⊥
-    set_lives kind (value.Bool b) fit h dead = dead
-    set_lives kind (value.Cell c) fit h dead = dead
-    set_lives var.Bool (value.Cells cells) fit h dead = fit
-    set_lives (var.Data target) (value.Cells cells) fit h dead = fit
-    set_lives (var.Pointer target) (value.Cells cells) fit h dead = fit
-    set_lives (var.LogicSet target) (value.Cells cells) fit h dead =
-        not_dead s target dead.1 (All-contains (IsOfType s target) cells dead.1 h (dead.0, dead.2, dead.3)) dead.4
-    set_lives var.LogicBool (value.Cells cells) fit h dead = fit
-
     dest_lives : (kind : FieldKind) (c d : CellId) → EndsKind types s kind c d → cell_of s d ≡ None → ⊥
     dest_lives field.Bool c d h dead = h
     dest_lives (field.Data target) c d h dead = h
@@ -105,12 +96,46 @@ module _ (types : List TypeEntry) (vars : List VarEntry) (s : StoreMap) (fits : 
     field_lives c f entry field.Bool (value.Cell (Some d)) at is_kind holds fit dead = fit
     field_lives c f entry (field.Data target) (value.Cell (Some d)) at is_kind holds fit dead =
         not_dead s target d (subst (λ k. FieldHoldsLive s k (value.Cell (Some d))) is_kind
-        (IfSome-at _ _ _ holds (IfSome-at _ _ entry at (is.backbone.data_fields c f)))) dead
+        (IfSome-at _ _ _ holds (IfSome-at _ _ entry at (backbone.data_fields c f)))) dead
     field_lives c f entry (field.Pointer target along) (value.Cell (Some d)) at is_kind holds fit dead =
         let only = IfSome-at _ (IsOnlyDestination types s c f) _ holds
-        (is.pointers c f (subst (λ o. IsSomeAnd o (λ e. IsPointer e.kind)) (sym at) (subst IsPointer (sym is_kind) tt))) in
+        (pointers c f (subst (λ o. IsSomeAnd o (λ e. IsPointer e.kind)) (sym at) (subst IsPointer (sym is_kind) tt))) in
         let dest = IsSomeAnd-at (field_at types f) _ only.0 in
         dest_lives dest.0.kind c d dest.2 dead
+
+    pub no_reference : (p : Place) → IsDanglingReference s p → ⊥
+    no_reference (place.Var v) h =
+        let x = IsSomeAnd-at (var_value s v) _ h in
+        let at = var_at_value types vars s fits v x.0 x.1 in
+        var_lives at.entry.kind x.0 at.fits (IfSome-at _ _ x.0 x.1 (IfSome-at _ _ at.entry at.at (backbone.cell_vars v))) x.2
+    no_reference (place.Field c f) h =
+        let x = IsSomeAnd-at (field_value s c f) _ h in
+        let at = slot_at_value types vars s fits c f x.0 x.1 in
+        field_lives c f at.entry at.entry.kind x.0 at.at refl x.1 at.fits x.2
+
+    pub no_shared : (c : CellId) → IsShared types vars s c → ⊥
+    no_shared c h = h.apart (backbone.named_once c h.one h.other h.live h.by_one h.by_other)
+
+    pub no_leak : (c : CellId) → IsLeaked types vars s c → ⊥
+    no_leak c h = let t = backbone.reached c h.live in h.unreached t.0 t.1
+
+    pub no_wrong_field : (c : CellId) (f : FieldId) → IsWrongField types s c f → ⊥
+    no_wrong_field c f h =
+        let wrong = IsSomeAnd-at (field_value s c f) _ h.wrong in
+        wrong.2 (IfSome-at _ (IsOnlyDestination types s c f) wrong.0 wrong.1 (pointers c f h.kind))
+
+  -- ---- a well-formed store has no fault
+
+  module _ (is : IsWellFormed types vars s) where
+    set_lives : (kind : VarKind) (x : Value) → VarFits s kind x → SetHoldsLive s kind x → HoldsDead s x → ⊥
+    set_lives kind (value.Bool b) fit h dead = dead
+    set_lives kind (value.Cell c) fit h dead = dead
+    set_lives var.Bool (value.Cells cells) fit h dead = fit
+    set_lives (var.Data target) (value.Cells cells) fit h dead = fit
+    set_lives (var.Pointer target) (value.Cells cells) fit h dead = fit
+    set_lives (var.LogicSet target) (value.Cells cells) fit h dead =
+        not_dead s target dead.1 (All-contains (IsOfType s target) cells dead.1 h (dead.0, dead.2, dead.3)) dead.4
+    set_lives var.LogicBool (value.Cells cells) fit h dead = fit
 
     no_set : (kind : FieldKind) (x : Value) → FieldFits s kind x → HoldsDead s x → ⊥
     no_set kind (value.Bool b) fit dead = dead
@@ -120,52 +145,69 @@ module _ (types : List TypeEntry) (vars : List VarEntry) (s : StoreMap) (fits : 
     no_set (field.Pointer target along) (value.Cells cells) fit dead = fit
 
     pub no_dangling : (p : Place) → IsDangling s p → ⊥
-    no_dangling (place.Var v) (inl h) =
-        let x = IsSomeAnd-at (var_value s v) _ h in
-        let at = var_at_value types vars s fits v x.0 x.1 in
-        var_lives at.entry.kind x.0 at.fits (IfSome-at _ _ x.0 x.1 (IfSome-at _ _ at.entry at.at (is.backbone.cell_vars v))) x.2
+    no_dangling p (inl h) = no_reference is.backbone is.pointers p h
     no_dangling (place.Var v) (inr h) =
         let x = IsSomeAnd-at (var_value s v) _ h in
         let at = var_at_value types vars s fits v x.0 x.1 in
         set_lives at.entry.kind x.0 at.fits (IfSome-at _ _ x.0 x.1 (IfSome-at _ _ at.entry at.at (is.sets v))) x.2
-    no_dangling (place.Field c f) (inl h) =
-        let x = IsSomeAnd-at (field_value s c f) _ h in
-        let at = slot_at_value types vars s fits c f x.0 x.1 in
-        field_lives c f at.entry at.entry.kind x.0 at.at refl x.1 at.fits x.2
     no_dangling (place.Field c f) (inr h) =
         let x = IsSomeAnd-at (field_value s c f) _ h in
         let at = slot_at_value types vars s fits c f x.0 x.1 in
         no_set at.entry.kind x.0 at.fits x.2
 
-    pub no_shared : (c : CellId) → IsShared types vars s c → ⊥
-    no_shared c h = h.apart (is.backbone.named_once c h.one h.other h.live h.by_one h.by_other)
+  -- ---- a store where no reference dangles, no cell is shared and none leaks is a backbone
 
-    pub no_leak : (c : CellId) → IsLeaked types vars s c → ⊥
-    no_leak c h = let t = is.backbone.reached c h.live in h.unreached t.0 t.1
-
-    pub no_wrong_field : (c : CellId) (f : FieldId) → IsWrongField types s c f → ⊥
-    no_wrong_field c f h =
-        let wrong = IsSomeAnd-at (field_value s c f) _ h.wrong in
-        wrong.2 (IfSome-at _ (IsOnlyDestination types s c f) wrong.0 wrong.1 (is.pointers c f h.kind))
-
-  -- ---- a store without faults is well-formed
-
-  module _ (none : (p : Place) → IsDangling s p → ⊥) where
+  module _ (none : (p : Place) → IsDanglingReference s p → ⊥) where
     of_var : (v : VarId) (kind : VarKind) (x : Value) → var_value s v ≡ Some x → VarFits s kind x → VarHoldsLive s kind x
     of_var v var.Bool x holds fit = tt
     of_var v (var.Data target) (value.Bool b) holds fit = fit
     of_var v (var.Data target) (value.Cell None) holds fit = tt
     of_var v (var.Data target) (value.Cell (Some d)) holds fit = of_type s target d fit
-        (λ dead. none (place.Var v) (inl (subst (λ o. IsSomeAnd o (NamesDead s)) (sym holds) dead)))
+        (λ dead. none (place.Var v) (subst (λ o. IsSomeAnd o (NamesDead s)) (sym holds) dead))
     of_var v (var.Data target) (value.Cells cells) holds fit = fit
     of_var v (var.Pointer target) (value.Bool b) holds fit = fit
     of_var v (var.Pointer target) (value.Cell None) holds fit = tt
     of_var v (var.Pointer target) (value.Cell (Some d)) holds fit = of_type s target d fit
-        (λ dead. none (place.Var v) (inl (subst (λ o. IsSomeAnd o (NamesDead s)) (sym holds) dead)))
+        (λ dead. none (place.Var v) (subst (λ o. IsSomeAnd o (NamesDead s)) (sym holds) dead))
     of_var v (var.Pointer target) (value.Cells cells) holds fit = fit
     of_var v (var.LogicSet target) x holds fit = tt
     of_var v var.LogicBool x holds fit = tt
 
+    of_field : (c : CellId) (f : FieldId) (kind : FieldKind) (x : Value) → field_value s c f ≡ Some x → FieldFits s kind x → FieldHoldsLive s kind x
+    of_field c f field.Bool x holds fit = tt
+    of_field c f (field.Data target) (value.Bool b) holds fit = fit
+    of_field c f (field.Data target) (value.Cell None) holds fit = tt
+    of_field c f (field.Data target) (value.Cell (Some d)) holds fit = of_type s target d fit
+        (λ dead. none (place.Field c f) (subst (λ o. IsSomeAnd o (NamesDead s)) (sym holds) dead))
+    of_field c f (field.Data target) (value.Cells cells) holds fit = fit
+    of_field c f (field.Pointer target along) x holds fit = tt
+
+    cell_vars : (v : VarId) → IfSome (var_at vars v) (λ entry. IfSome (var_value s v) (VarHoldsLive s entry.kind))
+    cell_vars v = IfSome-from (var_at vars v) _ (λ entry at. IfSome-from (var_value s v) _ (λ x holds.
+        let found = var_at_value types vars s fits v x holds in
+        let same : found.entry ≡ entry = let both : Some found.entry ≡ Some entry = sym found.at ∙ at in cc in
+        of_var v entry.kind x holds (subst (λ (e : VarEntry). VarFits s e.kind x) same found.fits)))
+
+    data_fields : (c : CellId) (f : FieldId) → IfSome (field_at types f) (λ entry. IfSome (field_value s c f) (FieldHoldsLive s entry.kind))
+    data_fields c f = IfSome-from (field_at types f) _ (λ entry at. IfSome-from (field_value s c f) _ (λ x holds.
+        let found = slot_at_value types vars s fits c f x holds in
+        let same : found.entry ≡ entry = let both : Some found.entry ≡ Some entry = sym found.at ∙ at in cc in
+        of_field c f entry.kind x holds (subst (λ (e : FieldEntry). FieldFits s e.kind x) same found.fits)))
+
+    pub backbone_from : ((c : CellId) → IsShared types vars s c → ⊥) → ((c : CellId) → IsLive s c → IsInSomeTree types vars s c) → IsBackbone types vars s
+    backbone_from unshared reached = record {
+      cell_vars = cell_vars;
+      data_fields = data_fields;
+      named_once = λ c p q live by_p by_q. elim (place_cases p q) [
+        | inl same ↦ same
+        | inr apart ↦ absurd (unshared c (record { live = live; one = p; other = q; apart = apart; by_one = by_p; by_other = by_q }))
+      ];
+      reached = λ c live. let t = reached c live in (t.var, t.in_tree);
+    }
+
+  -- ---- a store without faults is well-formed
+
+  module _ (none : (p : Place) → IsDangling s p → ⊥) where
     of_set : (v : VarId) (kind : VarKind) (x : Value) → var_value s v ≡ Some x → VarFits s kind x → SetHoldsLive s kind x
     of_set v var.Bool x holds fit = tt
     of_set v (var.Data target) x holds fit = tt
@@ -178,46 +220,17 @@ module _ (types : List TypeEntry) (vars : List VarEntry) (s : StoreMap) (fits : 
         (k, get_or cells k d, within, get_or_default cells k (get_or cells k d) d within, dead))))
     of_set v var.LogicBool x holds fit = tt
 
-    of_field : (c : CellId) (f : FieldId) (kind : FieldKind) (x : Value) → field_value s c f ≡ Some x → FieldFits s kind x → FieldHoldsLive s kind x
-    of_field c f field.Bool x holds fit = tt
-    of_field c f (field.Data target) (value.Bool b) holds fit = fit
-    of_field c f (field.Data target) (value.Cell None) holds fit = tt
-    of_field c f (field.Data target) (value.Cell (Some d)) holds fit = of_type s target d fit
-        (λ dead. none (place.Field c f) (inl (subst (λ o. IsSomeAnd o (NamesDead s)) (sym holds) dead)))
-    of_field c f (field.Data target) (value.Cells cells) holds fit = fit
-    of_field c f (field.Pointer target along) x holds fit = tt
-
-    cell_vars : (v : VarId) → IfSome (var_at vars v) (λ entry. IfSome (var_value s v) (VarHoldsLive s entry.kind))
-    cell_vars v = IfSome-from (var_at vars v) _ (λ entry at. IfSome-from (var_value s v) _ (λ x holds.
-        let found = var_at_value types vars s fits v x holds in
-        let same : found.entry ≡ entry = let both : Some found.entry ≡ Some entry = sym found.at ∙ at in cc in
-        of_var v entry.kind x holds (subst (λ (e : VarEntry). VarFits s e.kind x) same found.fits)))
-
     sets : (v : VarId) → IfSome (var_at vars v) (λ entry. IfSome (var_value s v) (SetHoldsLive s entry.kind))
     sets v = IfSome-from (var_at vars v) _ (λ entry at. IfSome-from (var_value s v) _ (λ x holds.
         let found = var_at_value types vars s fits v x holds in
         let same : found.entry ≡ entry = let both : Some found.entry ≡ Some entry = sym found.at ∙ at in cc in
         of_set v entry.kind x holds (subst (λ (e : VarEntry). VarFits s e.kind x) same found.fits)))
 
-    data_fields : (c : CellId) (f : FieldId) → IfSome (field_at types f) (λ entry. IfSome (field_value s c f) (FieldHoldsLive s entry.kind))
-    data_fields c f = IfSome-from (field_at types f) _ (λ entry at. IfSome-from (field_value s c f) _ (λ x holds.
-        let found = slot_at_value types vars s fits c f x holds in
-        let same : found.entry ≡ entry = let both : Some found.entry ≡ Some entry = sym found.at ∙ at in cc in
-        of_field c f entry.kind x holds (subst (λ (e : FieldEntry). FieldFits s e.kind x) same found.fits)))
-
     pub well_formed_from : ((c : CellId) → IsShared types vars s c → ⊥) → ((c : CellId) → IsLive s c → IsInSomeTree types vars s c) →
         ((c : CellId) (f : FieldId) → IsRightField types s c f) → IsWellFormed types vars s
     well_formed_from unshared reached right = record {
       fits = fits;
-      backbone = record {
-        cell_vars = cell_vars;
-        data_fields = data_fields;
-        named_once = λ c p q live by_p by_q. elim (place_cases p q) [
-          | inl same ↦ same
-          | inr apart ↦ absurd (unshared c (record { live = live; one = p; other = q; apart = apart; by_one = by_p; by_other = by_q }))
-        ];
-        reached = λ c live. let t = reached c live in (t.var, t.in_tree);
-      };
+      backbone = backbone_from (λ p h. none p (inl h)) unshared reached;
       pointers = right;
       sets = sets;
     }

@@ -8,15 +8,15 @@ use Rattle.std.specs.FinMap.{entries, entries_sorted, get-entries, keys, is_sort
 use Rattle.store_core.specs.declared.ids.CellId.{CellId}
 use Rattle.store_core.specs.Stores.{StoreMap, CellEntry, IsLive}
 
-both_first : (x y : Bool) → T (x && y) → T x
+pub both_first : (x y : Bool) → T (x && y) → T x
 both_first true y p = tt
 both_first false y p = p
 
-both_second : (x y : Bool) → T (x && y) → T y
+pub both_second : (x y : Bool) → T (x && y) → T y
 both_second true y p = p
 both_second false y p = absurd p
 
-is_less : (a b : ℕ) → T (is_lt (nat_cmp a b)) → a < b
+pub is_less : (a b : ℕ) → T (is_lt (nat_cmp a b)) → a < b
 is_less a b t = grind (arith, nat_tests)
 
 -- a key below all is below the one at a place

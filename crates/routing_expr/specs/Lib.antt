@@ -1,6 +1,7 @@
 pub mod Walks
 pub mod Destinations
 pub mod WellFormed
+pub mod CutFaults
 pub mod Places
 pub mod Sets
 pub mod Naming
@@ -9,5 +10,6 @@ pub mod Judging
 pub mod Laws
 pub mod Gathering
 pub mod Searches
+pub mod Regions
 pub mod Machines
 pub mod Spots

@@ -1,4 +1,4 @@
--- What a search from the data variables along the data fields has reached.
+-- What a search from data variables along the data fields has reached.
 use Rattle.std.specs.Prelude.{◌≡◌, ◌⊎◌, ◌+◌, ℕ, List, length, Contains}
 use Rattle.store_core.specs.declared.ids.VarId.{VarId}
 use Rattle.store_core.specs.declared.ids.FieldId.{FieldId}
@@ -6,14 +6,16 @@ use Rattle.store_core.specs.declared.ids.CellId.{CellId}
 use Rattle.store_core.specs.Tables.{TypeEntry, VarEntry}
 use Rattle.store_core.specs.Stores.{StoreMap, IsLive}
 use Rattle.routing_expr.specs.declared.fault.Place.TheVariants as place
-use Rattle.routing_expr.specs.declared.leak.Reach.{Reach}
+use Rattle.routing_expr.specs.declared.reach.Reach.{Reach}
 use Rattle.routing_expr.specs.Walks.{IsParent}
 use Rattle.routing_expr.specs.WellFormed.{Names, IsInTree}
+use Rattle.routing_expr.specs.Regions.{IsReachedFrom}
 use Rattle.routing_expr.specs.Sets.{Has}
 
--- a data variable names the cell
-pub record IsRootCell (types : List TypeEntry) (vars : List VarEntry) (s : StoreMap) (c : CellId) : Type 0 where
+-- one of these data variables names the cell
+pub record IsRootCell (types : List TypeEntry) (vars : List VarEntry) (s : StoreMap) (roots : List VarId) (c : CellId) : Type 0 where
   pub var : VarId
+  pub listed : Contains roots var
   pub names : Names types vars s (place.Var var) c
 
 -- a data field of the parent names the cell
@@ -25,6 +27,11 @@ pub record IsChild (types : List TypeEntry) (vars : List VarEntry) (s : StoreMap
 pub record IsInSomeTree (types : List TypeEntry) (vars : List VarEntry) (s : StoreMap) (c : CellId) : Type 0 where
   pub var : VarId
   pub in_tree : IsInTree types vars s var c
+
+-- the cell is live, and no path of data fields reaches it from these data variables
+pub record IsUnreached (types : List TypeEntry) (vars : List VarEntry) (s : StoreMap) (roots : List VarId) (c : CellId) : Type 0 where
+  pub live : IsLive s c
+  pub unreached : IsReachedFrom types vars s roots c → ⊥
 
 -- how many cells wait or are not reached
 abbrev pub size_of : Reach → ℕ
@@ -40,9 +47,9 @@ pub record Reaches (IsNamed : CellId → Type 0) (old new : Reach) : Type 0 wher
   pub size : size_of new ≡ size_of old
 
 -- the search is on its way: what is reached is in a tree, and so are its children reached, unless it waits
-pub record IsReach (types : List TypeEntry) (vars : List VarEntry) (s : StoreMap) (reach : Reach) : Type 0 where
+pub record IsReach (types : List TypeEntry) (vars : List VarEntry) (s : StoreMap) (roots : List VarId) (reach : Reach) : Type 0 where
   pub live : (c : CellId) → Has reach.left c → IsLive s c
-  pub waiting : (c : CellId) → Contains reach.waiting.items c → IsInSomeTree types vars s c
-  pub sound : (c : CellId) → IsLive s c → Has reach.left c ⊎ IsInSomeTree types vars s c
+  pub waiting : (c : CellId) → Contains reach.waiting.items c → IsReachedFrom types vars s roots c
+  pub sound : (c : CellId) → IsLive s c → Has reach.left c ⊎ IsReachedFrom types vars s roots c
   pub closed : (c : CellId) → IsLive s c → Has reach.left c ⊎ (Contains reach.waiting.items c ⊎ ((d : CellId) → IsParent types s c d → Has reach.left d → ⊥))
-  pub roots : (c : CellId) → IsRootCell types vars s c → Has reach.left c → ⊥
+  pub no_root : (c : CellId) → IsRootCell types vars s roots c → Has reach.left c → ⊥

@@ -3,7 +3,9 @@
 ghost use Rattle.std.specs.Prelude.{◌≡◌, ◌↔◌, None, IsTrue, IfNone, IfSome, Any};
 ghost use Rattle.store_core.specs.Stores.{cell_of};
 ghost use Rattle.routing_expr.specs.declared.fault.Place.{Place};
-ghost use Rattle.routing_expr.specs.WellFormed.{IsDangling, IsFirstPlace};
+ghost use Rattle.std.specs.Bool.{OnTrue, OnFalse};
+ghost use Rattle.routing_expr.specs.WellFormed.{NamesDead, IsDanglingReference, IsDangling, IsFirstPlace};
+ghost use Rattle.routing_expr.specs.CutFaults.{HasDanglingReference};
 ghost use Rattle.routing_expr.specs.Places.{ArePlaces, HasDead};
 
 use crate::fault::Place;
@@ -38,6 +40,40 @@ fn is_dangling(store: &Store, value: &Value) -> bool
         Value::Cell(Some(cell)) => is_dead(store, *cell),
         Value::Cells(cells) => holds_dead(store, cells.as_slice()),
     }
+}
+
+/// Whether a value names a dead cell. Takes no memory.
+fn names_dead(store: &Store, value: &Value) -> bool
+    ensures { IsTrue result ↔ NamesDead store.now value.now }
+{
+    match value {
+        Value::Bool(_) | Value::Cell(None) | Value::Cells(_) => false,
+        Value::Cell(Some(cell)) => is_dead(store, *cell),
+    }
+}
+
+/// Whether a place that isn't a logic set names a dead cell. Takes no memory.
+fn refers_to_dead(store: &Store, place: Place) -> bool
+    ensures { IsTrue result ↔ IsDanglingReference store.now place }
+{
+    match value_at(store, place) {
+        None => false,
+        Some(value) => names_dead(store, value),
+    }
+}
+
+/// Whether some place that isn't a logic set names a dead cell. Takes no memory.
+pub(crate) fn has_dangling_reference(store: &Store, places: &[Place]) -> bool
+    requires { ArePlaces store.now places.now }
+    ensures some { OnTrue result (HasDanglingReference store.now) }
+    ensures none { OnFalse result ((p : Place) → IsDanglingReference store.now p → ⊥) }
+{
+    for place in places {
+        if refers_to_dead(store, *place) {
+            return true;
+        }
+    }
+    false
 }
 
 /// Whether a place holds a dead cell. Takes no memory.

@@ -24,3 +24,16 @@ pub enum WfFault {
     /// nor null where there is none.
     Field(CellId, FieldId),
 }
+
+/// Which condition of a cut a store breaks: the first, in the order of the causes below.
+#[derive(Clone, Copy, Debug, PartialEq, Eq)]
+pub enum CutFault {
+    /// A variable, or a field of a live cell, names a dead cell.
+    DanglingReference,
+    /// A live cell is named twice by data variables and data fields.
+    Shared,
+    /// A live cell isn't reached from a data variable by data fields.
+    Leak,
+    /// A pointer field isn't the only destination of its cell, nor null where there is none.
+    Field,
+}

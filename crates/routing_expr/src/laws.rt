@@ -4,10 +4,10 @@ ghost use Rattle.std.specs.Prelude.{◌≡◌, ◌↔◌, List};
 ghost use Rattle.store_core.specs.declared.ids.CellId.{CellId};
 ghost use Rattle.store_core.specs.declared.kind.Route.{Route};
 ghost use Rattle.store_core.specs.Tables.{TypeEntry, VarEntry};
-ghost use Rattle.store_core.specs.Stores.{StoreMap, IsLive};
+ghost use Rattle.store_core.specs.Stores.{StoreMap, IsLive, IsFresh, NamesNoDead};
 ghost use Rattle.routing_expr.specs.Walks.{Fields, DataAlone, Walk};
-ghost use Rattle.routing_expr.specs.WellFormed.{IsBackbone};
-ghost use Rattle.routing_expr.specs.Laws.{GoesByCases, AreInOneTree, IsRenamed, GoesAlong};
+ghost use Rattle.routing_expr.specs.WellFormed.{IsBackbone, IsWellFormed};
+ghost use Rattle.routing_expr.specs.Laws.{GoesByCases, AreInOneTree};
 
 /// A walk goes by the eleven cases of its route.
 pub fn walks_go_by_cases()
@@ -32,7 +32,7 @@ pub fn data_walks_stay_in_one_tree()
         IsBackbone types vars s → Walk types s DataAlone along a b → AreInOneTree types vars s a b }
 {}
 
-/// A one-to-one renaming of cells renames the pairs of a walk and the destinations, and keeps a store well-formed or not.
-pub fn renaming_cells_renames_walks()
-    ensures { (types : List TypeEntry) (s t : StoreMap) (to from : CellId → CellId) → IsRenamed to from s t → GoesAlong types to s t }
+/// The values of a well-formed store name live cells alone, and so it is fresh.
+pub fn well_formed_stores_are_fresh()
+    ensures { (types : List TypeEntry) (vars : List VarEntry) (s : StoreMap) → IsWellFormed types vars s → NamesNoDead s × IsFresh s }
 {}

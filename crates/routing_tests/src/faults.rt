@@ -1,6 +1,9 @@
 //! Stores worked by hand, as texts, and the first fault of each.
 
-mod declared;
+ghost use Rattle.std.specs.Prelude.{IfOk};
+ghost use Rattle.store_core.specs.Stores.{Fits};
+
+pub(crate) mod declared;
 mod doubles;
 mod lists;
 mod printed;
@@ -15,12 +18,31 @@ use routing_expr::{WfFault, well_formed};
 use std::alloc::Global;
 use std::process::Abort;
 use std::test::Fail;
-use store_core::{TypeTable, VarKind, VarTable};
+use store_core::{Store, TypeTable, VarKind, VarTable};
 use store_text::{read_store, read_stores_fit};
 use trees::{TREE_VARS, TREES};
 
 /// The lines of a store between the first and the last, and its first fault.
 type Case = (&'static str, Option<WfFault>);
+
+/// The store of these lines, which fits its tables.
+pub(crate) fn store_of(
+    alloc: Global,
+    types: &TypeTable,
+    vars: &VarTable,
+    lines: &str,
+) -> Result<Store, Fail>
+    ensures { IfOk result (Fits types.now vars.now) }
+{
+    let text = format!(in alloc; "store\n{lines}end\n")?;
+    let text = text.as_bytes();
+    if text.len() > 1000 {
+        return Err("a long text".into());
+    }
+    let store = read_store(alloc, types, vars, text)?;
+    read_stores_fit();
+    Ok(store)
+}
 
 /// The first fault of the store of these lines.
 fn first_fault(
@@ -29,13 +51,7 @@ fn first_fault(
     vars: &VarTable,
     lines: &str,
 ) -> Result<Option<WfFault>, Fail> {
-    let text = format!(in alloc; "store\n{lines}end\n")?;
-    let text = text.as_bytes();
-    if text.len() > 1000 {
-        return Err("a long text".into());
-    }
-    let store = read_store(alloc, types, vars, text)?;
-    read_stores_fit();
+    let store = store_of(alloc, types, vars, lines)?;
     Ok(well_formed(alloc, types, vars, &store)?)
 }
 

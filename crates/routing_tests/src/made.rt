@@ -104,7 +104,7 @@ pub fn back(alloc: Global) -> Result<Route, AllocError>
 }
 
 /// A field of this name.
-fn down(alloc: Global, name: &[u8]) -> Result<Route, AllocError>
+pub fn down(alloc: Global, name: &[u8]) -> Result<Route, AllocError>
     ensures { IfOk result (λ along. (types : List TypeEntry) → KnowsRoute types along) }
 {
     Ok(Route::Down(Items::from_slice(alloc, name)?))

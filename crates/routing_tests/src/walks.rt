@@ -2,7 +2,7 @@
 
 mod built;
 mod cases;
-mod spelled;
+pub(crate) mod spelled;
 
 use built::{made_store, made_types};
 use cases::{BOXES, COMPOUNDS, Case, NODES, OVER_POINTERS, STEPS, TESTS};

@@ -3,10 +3,7 @@ use Rattle.std.proofs.Common.{◌≡◌, ℕ, zero, suc, ◌+◌, ◌<◌, Bool,
 use Rattle.std.specs.Option.{option_map, option_and_then}
 use Rattle.std.specs.List.{AllByRecursion, remove}
 use Rattle.std.specs.Ordering.{nat_cmp, eq_by_cmp, is_eq}
-use Rattle.std.specs.declared.cmp.Ordering.TheVariants.{Less, Equal, Greater}
-use Rattle.std.specs.Cmp.{nat_cmp_is}
 use Rattle.std.proofs.lemmas.Cmp.{nat_cmp_total}
-use Rattle.std.proofs.lemmas.Bool.Decides.{nat_tests}
 use Rattle.std.proofs.lemmas.List.{map_push, length-map}
 use Rattle.std.proofs.lemmas.Option.{slice_get-map, slice_get_within}
 use Rattle.std.specs.FinMap.Entries.{by_order}
@@ -21,6 +18,7 @@ use Rattle.store_core.specs.StoreBodies.{cell_entry, cells_of, AreInOrder, store
 use Rattle.store_core.proofs.Bodies.{AllByRecursion-at}
 use Rattle.store_core.proofs.Adding.{at_known}
 use Rattle.store_core.proofs.Growing.{AllByRecursion-push, AllByRecursion-weaker}
+use Rattle.store_core.proofs.AboveLemmas.{tied}
 use Rattle.store_core.proofs.Cells.{less_cmp, same_cmp, more_cmp, sorted_cells, entries_of-cells}
 
 -- ---- the cell at a place
@@ -164,9 +162,6 @@ find_above : (q : ℕ) (bodies : List CellBody) → AllByRecursion (λ d. q < d.
 find_above q [] above = refl
 find_above q (b ∷ bodies) above =
     ap (λ o. cond (is_eq o) (Some (cell_entry b).1) (find nat_cmp q (cells_of bodies))) (less_cmp q b.number above.0) ∙ find_above q bodies above.1
-
-tied : (q k : ℕ) → eq_by_cmp nat_cmp q k ≡ true → q ≡ k
-tied q k e = grind (arith, nat_tests)
 
 swapped : {X : Type 0} (x y : Bool) (s f : Option X) → (x ≡ true → y ≡ true → ⊥) → cond x s (cond y None f) ≡ cond y None (cond x s f)
 swapped true true s f apart = absurd (apart refl refl)

@@ -30,7 +30,7 @@ pub AllByRecursion-push : {X : Type 0} (P : X → Type 0) (xs : List X) (y : X) 
 AllByRecursion-push P [] y all last = (last, tt)
 AllByRecursion-push P (x ∷ xs) y all last = (all.0, AllByRecursion-push P xs y all.1 last)
 
-AllByRecursion-set : {X : Type 0} (P : X → Type 0) (xs : List X) (i : ℕ) (y : X) → AllByRecursion P xs → P y → AllByRecursion P (set xs i y)
+pub AllByRecursion-set : {X : Type 0} (P : X → Type 0) (xs : List X) (i : ℕ) (y : X) → AllByRecursion P xs → P y → AllByRecursion P (set xs i y)
 AllByRecursion-set P [] i y all here = tt
 AllByRecursion-set P (x ∷ xs) zero y all here = (here, all.1)
 AllByRecursion-set P (x ∷ xs) (suc i) y all here = (all.0, AllByRecursion-set P xs i y all.1 here)

@@ -6,3 +6,7 @@ pub mod Rising
 pub mod Cells
 pub mod Changes
 pub mod Steps
+pub mod PostfixLemmas
+pub mod AboveLemmas
+pub mod FittingLemmas
+pub mod FreshLemmas

@@ -1,5 +1,6 @@
 pub mod Tables
 pub mod Dropping
+pub mod Postfix
 pub mod TypeBodies
 pub mod VarBodies
 pub mod CellLists

@@ -185,3 +185,16 @@ pub record IsFresh (s : StoreMap) : Type 0 where
   pub cells : IsAbove s
   pub values : (c : CellId) → IfSome (cell_of s c) (λ cell. AllByRecursion (λ x. IfSome x (NamesBelow s.next)) cell.values)
   pub vars : AllByRecursion (NamesBelow s.next) s.vars
+
+-- ---- stores whose values name live cells
+
+-- a value names live cells alone
+abbrev pub NamesLiveAlone : StoreMap → Value → Type 0
+NamesLiveAlone s (value.Bool b) = Unit {0}
+NamesLiveAlone s (value.Cell c) = IfSome c (IsLive s)
+NamesLiveAlone s (value.Cells cells) = AllByRecursion (IsLive s) cells
+
+-- no field of a live cell, no variable and no set names a dead cell
+pub record NamesNoDead (s : StoreMap) : Type 0 where
+  pub fields : (c : CellId) (f : FieldId) → IfSome (field_value s c f) (NamesLiveAlone s)
+  pub vars : (v : VarId) → IfSome (var_value s v) (NamesLiveAlone s)

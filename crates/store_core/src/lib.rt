@@ -6,7 +6,9 @@
 
 mod ids;
 mod kind;
+mod route_copy;
 mod store;
+mod store_copy;
 mod types;
 mod value;
 mod vars;
@@ -14,6 +16,7 @@ mod vars;
 pub use ids::{CellId, FieldId, TypeId, VarId, VariantId};
 pub use kind::{ByteList, FieldKind, Owner, Route, VarKind};
 pub use store::{CellBody, Store};
+pub use store_copy::copy_values;
 pub use types::TypeTable;
 pub use value::{CellList, Class, Value};
 pub use vars::VarTable;

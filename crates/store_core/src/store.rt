@@ -9,6 +9,7 @@ ghost use Rattle.store_core.specs.Stores.{IsLive, IsAbove, cell_of, field_value,
 
 use crate::ids::{CellId, FieldId, TypeId, VarId, VariantId};
 use crate::kind::{FieldKind, VarKind};
+use crate::store_copy::{copy_cells, copy_values};
 use crate::types::TypeTable;
 use crate::value::{CellList, Value};
 use crate::vars::VarTable;
@@ -127,6 +128,17 @@ impl Store {
             cells: Vec::new(alloc),
             vars: values,
             next: 1,
+        })
+    }
+
+    /// An equal store, in memory of its own.
+    pub fn copy(&self, alloc: Global) -> Result<Store, AllocError>
+        ensures { IfOk result (λ copy. copy ≡ self.now) }
+    {
+        Ok(Store {
+            cells: copy_cells(alloc, self.cells.as_slice())?,
+            vars: copy_values(alloc, self.vars.as_slice())?,
+            next: self.next,
         })
     }
 

@@ -3,7 +3,7 @@
 use plain_data::{Boxed, Items};
 use std::alloc::{AllocError, Global};
 use std::test::Fail;
-use store_core::Route;
+use store_core::{Route, TypeId, VariantId};
 
 /// How many steps a long route has.
 const LONG: u32 = 100_000;
@@ -58,5 +58,31 @@ fn long_routes_are_dropped(rt: HostRuntime) -> Result<(), Fail> {
     assert!(rt; matches!(&left_chain(alloc, LONG)?, Route::Then(_, _)));
     assert!(rt; matches!(&right_chain(alloc, LONG)?, Route::Then(_, _)));
     assert!(rt; matches!(&nest(alloc, LONG)?, Route::Then(_, _)));
+    Ok(())
+}
+
+#[test]
+fn long_routes_are_copied(rt: HostRuntime) -> Result<(), Fail> {
+    let alloc = rt.alloc();
+    assert!(rt; matches!(&left_chain(alloc, LONG)?.copy(alloc)?, Route::Then(_, _)));
+    assert!(rt; matches!(&right_chain(alloc, LONG)?.copy(alloc)?, Route::Then(_, _)));
+    assert!(rt; matches!(&nest(alloc, LONG)?.copy(alloc)?, Route::Then(_, _)));
+    Ok(())
+}
+
+#[test]
+fn every_form_of_route_is_copied(rt: HostRuntime) -> Result<(), Fail> {
+    let alloc = rt.alloc();
+    let ty = TypeId(1);
+    let truth = Route::IsBool(Items::from_slice(alloc, b"b")?, true);
+    assert!(rt; matches!(&truth.copy(alloc)?, Route::IsBool(_, true)));
+    let variant = Route::IsVariant(VariantId { ty, index: 2 });
+    assert!(rt; matches!(&variant.copy(alloc)?, Route::IsVariant(VariantId { index: 2, .. })));
+    assert!(rt; matches!(&Route::IsType(ty).copy(alloc)?, Route::IsType(TypeId(1))));
+    let up = Route::Up(Items::from_slice(alloc, b"next")?);
+    assert!(rt; matches!(&up.copy(alloc)?, Route::Up(_)));
+    assert!(rt; matches!(&Route::UpAny.copy(alloc)?, Route::UpAny));
+    assert!(rt; matches!(&Route::Root.copy(alloc)?, Route::Root));
+    assert!(rt; matches!(&Route::Leaf.copy(alloc)?, Route::Leaf));
     Ok(())
 }

@@ -2,6 +2,7 @@ pub mod Writing
 pub mod Fitting
 pub mod ReadFits
 pub mod ReadNext
+pub mod ReadFresh
 pub mod Words
 pub mod Spelled
 pub mod SpelledLines

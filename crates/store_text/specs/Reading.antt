@@ -1,9 +1,10 @@
 -- Which store a text spells, or which line has the first fault.
-use Rattle.std.specs.Prelude.{◌≡◌, ◌≢◌, ℕ, ◌+◌, ◌==◌, not, max, Bool, false, List, [], ◌∷◌, Option, Some, None, Result, Ok, Err, if◌then◌else◌, codes}
+use Rattle.std.specs.Prelude.{IfSome, ◌≡◌, ◌≢◌, ℕ, ◌+◌, ◌==◌, not, max, Bool, false, List, [], ◌∷◌, Option, Some, None, Result, Ok, Err, if◌then◌else◌, codes}
 use Rattle.std.specs.Option.{option_map_or}
-use Rattle.std.specs.List.{find}
+use Rattle.std.specs.List.{find, AllByRecursion}
 use Rattle.std.specs.Str.{bytes_eq}
 use Rattle.std.specs.FinMap.{keys}
+use Rattle.store_core.specs.declared.ids.CellId.{CellId}
 use Rattle.store_core.specs.declared.value.Value.{Value}
 use Rattle.store_text.specs.declared.fault.StoreKind.{StoreKind}
 use Rattle.store_text.specs.declared.fault.StoreKind.TheVariants as kind
@@ -12,7 +13,7 @@ use Rattle.store_text.specs.declared.read.holds.Mention.{Mention}
 use Rattle.store_text.specs.declared.read.spelled.Line.{Line}
 use Rattle.store_text.specs.declared.read.spelled.Line.TheVariants as line
 use Rattle.store_core.specs.Tables.{TypeEntry, VarEntry}
-use Rattle.store_core.specs.Stores.{StoreMap, cell_of}
+use Rattle.store_core.specs.Stores.{StoreMap, cell_of, NamesBelow}
 use Rattle.store_text.specs.Lines.{lines_of}
 use Rattle.store_text.specs.Spelling.{line_of, all_of}
 use Rattle.store_text.specs.Saying.{Said, nothing_said, say_var, say_cell}
@@ -86,3 +87,10 @@ IsFaultOf read fault = fault.kind ≢ kind.NoMemory → read ≡ Err fault
 -- the fault is the text's first, unless memory ran out
 abbrev pub IsFault : List TypeEntry → List VarEntry → List ℕ → StoreFault → Type 0
 IsFault types vars text fault = IsFaultOf (reading types vars text) fault
+
+-- ---- what a text may name
+
+-- every value of a live cell and of a variable names cells below this number alone
+pub record NamesAllBelow (n : ℕ) (s : StoreMap) : Type 0 where
+  pub values : (c : CellId) → IfSome (cell_of s c) (λ cell. AllByRecursion (λ x. IfSome x (NamesBelow n)) cell.values)
+  pub vars : AllByRecursion (NamesBelow n) s.vars

@@ -9,6 +9,8 @@ mod read;
 mod writer;
 
 pub use fault::{StoreFault, StoreKind};
-pub use laws::{read_stores_fit, read_stores_go_on, written_stores_are_read};
+pub use laws::{
+    read_stores_are_fresh_below, read_stores_fit, read_stores_go_on, written_stores_are_read,
+};
 pub use read::read_store;
 pub use writer::store_text;

@@ -23,14 +23,14 @@ returns-in-Some-clause-none c = (
 pub returns-in-Some-2-clause-none : goal.returns-in-Some-2-clause-none
 returns-in-Some-2-clause-none c = (
   λ e. cc,
-  λ is. absurd (no_shared c.args.types.now c.args.vars.now c.args.store.now c.requires is c.in-Some-2.cell
+  λ is. absurd (no_shared c.args.types.now c.args.vars.now c.args.store.now c.requires is.backbone is.pointers c.in-Some-2.cell
       (of_some _ _ _ c.in-Some-2.is c.in_ok-cell.ensures.some).here),
 )
 
 pub returns-in-Some-3-clause-none : goal.returns-in-Some-3-clause-none
 returns-in-Some-3-clause-none c = (
   λ e. cc,
-  λ is. absurd (no_leak c.args.types.now c.args.vars.now c.args.store.now c.requires is c.in-Some-3.cell
+  λ is. absurd (no_leak c.args.types.now c.args.vars.now c.args.store.now c.requires is.backbone is.pointers c.in-Some-3.cell
       (of_some _ _ _ c.in-Some-3.is c.in_ok-cell-2.ensures.some).here),
 )
 

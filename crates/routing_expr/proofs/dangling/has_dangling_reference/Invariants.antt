@@ -1,0 +1,7 @@
+use Rattle.std.proofs.Common.{ℕ, ◌<◌, get_or}
+use Rattle.routing_expr.specs.declared.fault.Place.{Place}
+use Rattle.routing_expr.specs.WellFormed.{IsDanglingReference}
+use Rattle.routing_expr.proofs.dangling.has_dangling_reference.Given as goal
+
+abbrev pub invariant-loop-place : goal.invariant-loop-place
+invariant-loop-place l = (k : ℕ) (d : Place) → k < l.place-index → IsDanglingReference l.store (get_or l.places k d) → ⊥

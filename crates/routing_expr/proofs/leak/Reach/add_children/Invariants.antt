@@ -1,6 +1,0 @@
-use Rattle.routing_expr.proofs.LeakLemmas.{IsChildBelow}
-use Rattle.routing_expr.specs.Reaching.{Reaches}
-use Rattle.routing_expr.proofs.leak.Reach.add_children.Given as goal
-
-abbrev pub invariant-loop-index : goal.invariant-loop-index
-invariant-loop-index l = Reaches (IsChildBelow l.types l.vars l.store l.cell l.index) l.initial.self l.self

@@ -1,8 +1,0 @@
-use Rattle.routing_expr.specs.Reaching.{IsReach, size_of}
-use Rattle.routing_expr.proofs.leak.unreached.Given as goal
-
-abbrev pub invariant-loop-cell : goal.invariant-loop-cell
-invariant-loop-cell l = IsReach l.types l.vars l.store l.reach
-
-abbrev pub decreases-loop-cell : goal.decreases-loop-cell
-decreases-loop-cell l = size_of l.reach

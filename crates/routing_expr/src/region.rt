@@ -1,0 +1,73 @@
+//! The store on a set of cells, and the ends of walks on it.
+
+ghost use Rattle.std.specs.Prelude.{◌≡◌, ◌↔◌, IfOk, Contains};
+ghost use Rattle.std.specs.List.{filter};
+ghost use Rattle.std.specs.Ordering.{nat_cmp};
+ghost use Rattle.std.specs.BTreeSet.{contains};
+ghost use Rattle.store_core.specs.declared.ids.CellId.{CellId};
+ghost use Rattle.routing_expr.specs.Walks.{Walk};
+ghost use Rattle.routing_expr.specs.Searches.{Lists, fields_in};
+ghost use Rattle.routing_expr.specs.Regions as regions;
+ghost use Rattle.routing_expr.specs.Sets.{Has};
+
+use crate::calls::ends;
+use crate::followed::Followed;
+use std::alloc::{AllocError, Global};
+use std::collections::BTreeSet;
+use store_core::{CellBody, CellId, CellList, Route, Store, TypeTable, copy_values};
+
+/// The numbers of the cells.
+fn numbers_of(alloc: Global, cells: &[CellId]) -> Result<BTreeSet<u32>, AllocError>
+    ensures { IfOk result (λ numbers. (c : CellId) → Has numbers c ↔ Contains cells.now c) }
+{
+    let mut numbers = BTreeSet::new(alloc);
+    for cell in cells {
+        numbers.insert(cell.0)?;
+    }
+    Ok(numbers)
+}
+
+/// Copies of the cells of which the numbers are among these.
+fn bodies_on(
+    alloc: Global,
+    bodies: &[CellBody],
+    numbers: &BTreeSet<u32>,
+) -> Result<Vec<CellBody>, AllocError>
+    ensures { IfOk result (λ kept. kept.items ≡ filter (λ b. contains nat_cmp numbers.now b.number) bodies.now) }
+{
+    let mut kept = Vec::new(alloc);
+    for body in bodies {
+        if numbers.contains(&body.number) {
+            kept.push(body.copy(alloc)?)?;
+        }
+    }
+    Ok(kept)
+}
+
+/// The store on a set of cells, in memory of its own: the cells of the set that are live, and no others, the same variables and
+/// the same next number.
+pub fn store_on(alloc: Global, store: &Store, cells: &CellList) -> Result<Store, AllocError>
+    ensures { IfOk result (λ on. on ≡ regions.store_on store.now cells.now) }
+{
+    let numbers = numbers_of(alloc, cells.as_slice())?;
+    let kept = bodies_on(alloc, store.bodies(), &numbers)?;
+    let vars = copy_values(alloc, store.values())?;
+    Ok(Store::of(kept, vars, store.next()))
+}
+
+/// The cells to which a walk of the route leads from a cell on a set of cells, where all other cells are dead and a value that
+/// names one of them counts as null, each once, by number. A cell that is dead or outside the set has none.
+pub fn ends_on(
+    alloc: Global,
+    types: &TypeTable,
+    store: &Store,
+    cells: &CellList,
+    route: &Route,
+    followed: Followed,
+    from: CellId,
+) -> Result<CellList, AllocError>
+    ensures { IfOk result (Lists (Walk types.now (regions.store_on store.now cells.now) (fields_in followed) route.now from)) }
+{
+    let on = store_on(alloc, store, cells)?;
+    ends(alloc, types, &on, route, followed, from)
+}

@@ -1,0 +1,14 @@
+pub mod DecidedLemmas
+pub mod StarLemmas
+pub mod DecidedWalks
+pub mod PathLemmas
+pub mod DecidedStores
+pub mod RegionLemmas
+pub mod PieceLemmas
+pub mod PairLemmas
+pub mod PairFaults
+pub mod FunctionalLemmas
+pub mod FitsOn
+pub mod OneEachLemmas
+pub mod PieceForms
+pub mod TwinLemmas

@@ -1,0 +1,10 @@
+use Rattle.routing_laws.proofs.DecidedStores.{well_formed_or_fault, no_fault, sound_or_cause, no_cause}
+use Rattle.routing_laws.proofs.decided.faults_are_decided.Goals as goal
+
+pub returns : goal.returns
+returns c = record {
+  well_formed = well_formed_or_fault;
+  no_fault = λ types vars s is. no_fault types vars s is.fits is;
+  sound = sound_or_cause;
+  no_cause = no_cause;
+}

@@ -1,0 +1,32 @@
+//! What holds of all stores, routes and sets of cells, each law the contract of a function that does nothing.
+//!
+//! `specs/Deciding.antt` says what it is to be decided, `specs/Shown.antt` what shows that a store isn't well-formed,
+//! `specs/Paths.antt` what the path to a cell is, `specs/Pieces.antt` what a piece of a store is, and `specs/Pairing.antt` when
+//! two stores are the same but for the names of their cells. The store on a set of cells stands in `routing_expr`,
+//! `specs/Regions.antt`.
+#![tactic(auto)]
+
+mod decided;
+mod functional;
+mod paths;
+mod pieces;
+mod regions;
+mod renaming;
+
+pub use decided::{
+    faults_are_decided, leaks_are_shown, stores_are_decided, walks_are_decided, walks_are_finite,
+    wrong_fields_are_shown,
+};
+pub use functional::{
+    one_variable_a_type_is_enough, two_ways_are_not_functional, ways_up_are_functional,
+};
+pub use paths::{cells_have_one_path, paths_have_no_cycle, paths_lead_to_one_cell, trees_are_paths};
+pub use pieces::{
+    pieces_have_their_cells, pieces_of_backbones_are_backbones,
+    pieces_of_well_formed_stores_are_well_formed, two_pieces_are_a_backbone,
+    two_pieces_are_well_formed,
+};
+pub use regions::{
+    parts_are_apart, regions_keep_walks, stores_on_sets_have_their_cells, walks_see_their_set_alone,
+};
+pub use renaming::renaming_cells_renames_all;

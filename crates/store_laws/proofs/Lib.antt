@@ -1,0 +1,5 @@
+pub mod CellLemmas
+pub mod ChangeLemmas
+pub mod KeepingLemmas
+pub mod FitsLemmas
+pub mod FreshLemmas

@@ -1,0 +1,5 @@
+use Rattle.store_laws.proofs.FreshLemmas.{IsFresh-set_field}
+use Rattle.store_laws.proofs.freshness.setting_a_field_keeps_fresh.Goals as goal
+
+pub returns : goal.returns
+returns c = IsFresh-set_field
