@@ -18,6 +18,15 @@ use Rattle.routing_laws.proofs.DecidedLemmas.{decided_in, in_at}
 use Rattle.routing_laws.proofs.DecidedWalks.{decided_same_cell}
 use Rattle.routing_laws.proofs.RegionLemmas.{live_on}
 
+-- where the live cells are live in the other store, and the next numbers are the same
+pub above_from : (s t : StoreMap) → ((c : CellId) → IsLive t c → IsLive s c) → t.next ≡ s.next → IsAbove s → IsAbove t
+above_from s t lives same above = recursion_from_All (λ n. n < t.next) (keys t.cells) (λ i d within.
+    let c : CellId = record { 0 = get_or (keys t.cells) i d } in
+    let live = lives c (live_of_key t c i (slice_get-get_or (keys t.cells) i d within)) in
+    let k = key_of_live s c live in
+    subst (λ n. c.0 < n) (sym same)
+    (All-contains (λ n. n < s.next) (keys s.cells) c.0 (All-from_recursion (λ n. n < s.next) (keys s.cells) above) (in_at (keys s.cells) k.0 c.0 k.1)))
+
 module _ (cells : List CellId) (s t : StoreMap) (on : IsOn cells s t) where
   pub names_type_on : (target : TypeId) (c : CellId) → NamesType s target c → NamesType t target c
   names_type_on target c h = elim (decided_in decided_same_cell cells c) [
@@ -55,9 +64,4 @@ module _ (cells : List CellId) (s t : StoreMap) (on : IsOn cells s t) where
 
   -- its cells are below the next number too
   pub above_on : t.next ≡ s.next → IsAbove s → IsAbove t
-  above_on same above = recursion_from_All (λ n. n < t.next) (keys t.cells) (λ i d within.
-      let c : CellId = record { 0 = get_or (keys t.cells) i d } in
-      let live = (live_on cells s t on c (live_of_key t c i (slice_get-get_or (keys t.cells) i d within))).1 in
-      let k = key_of_live s c live in
-      subst (λ n. c.0 < n) (sym same)
-      (All-contains (λ n. n < s.next) (keys s.cells) c.0 (All-from_recursion (λ n. n < s.next) (keys s.cells) above) (in_at (keys s.cells) k.0 c.0 k.1)))
+  above_on same above = above_from s t (λ c live. (live_on cells s t on c live).1) same above

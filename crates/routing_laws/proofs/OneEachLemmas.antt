@@ -31,6 +31,7 @@ use Rattle.routing_laws.proofs.DecidedStores.{part_of}
 use Rattle.routing_laws.proofs.RegionLemmas.{store_on-IsOn, live_on, part_apart, dests_on, chain_on}
 use Rattle.routing_laws.proofs.RegionLemmas.{value_on as field_on}
 use Rattle.routing_laws.proofs.PieceLemmas.{backbone_on, value_off}
+use Rattle.routing_laws.proofs.BareLemmas.{bare, refutes_bare}
 use Rattle.routing_laws.proofs.FitsOn.{cells_fit_on, above_on}
 
 -- ---- what the variables hold: the root in the variable of its type, and null in all others
@@ -209,17 +210,9 @@ module _ (types : List TypeEntry) (others : List VarEntry) (each : IsOneEach typ
   -- what refutes a field on the store refutes it on the tree
   pub refutes_alone : (f : FieldId) (c d e : CellId) → Contains cells c → IsSomeAnd (field_value s c f) (λ x. Unit {0}) → (d ≡ e → ⊥) →
       Dest types s c f d → Dest types s c f e → (t : StoreMap) × Refutes types others t f
-  refutes_alone f c d e m has apart one other = (alone, record {
-    fits = fits_alone;
-    backbone = backbone_alone;
-    cell = c;
-    has = subst (λ o. IsSomeAnd o (λ x. Unit {0})) (sym (field_on cells s alone on c f m)) has;
-    one = d;
-    other = e;
-    apart = apart;
-    to_one = (dests_on types DataAlone cells s alone on whole c f d m).0 one;
-    to_other = (dests_on types DataAlone cells s alone on whole c f e m).0 other;
-  })
+  refutes_alone f c d e m has apart one other = (bare types alone, refutes_bare types others alone fits_alone f c d e backbone_alone
+      (subst (λ o. IsSomeAnd o (λ x. Unit {0})) (sym (field_on cells s alone on c f m)) has) apart
+      ((dests_on types DataAlone cells s alone on whole c f d m).0 one) ((dests_on types DataAlone cells s alone on whole c f e m).0 other))
 
 opened : {X : Type 0} (o : Option X) → IsSome o → (x : X) × (o ≡ Some x)
 opened None h = absurd (false≢true h)
