@@ -201,8 +201,10 @@ module _ (types : List TypeEntry) (s : StoreMap) where
   slots_fit_bare index [] [] h = tt
   slots_fit_bare index [] (x ∷ xs) h = h
   slots_fit_bare index (f ∷ fs) [] h = h
-  slots_fit_bare index (f ∷ fs) (None ∷ xs) h = (subst (λ o. SlotFits (bare types s) index f o) (sym (bare_none f.kind)) h.0,
-      slots_fit_bare index fs xs h.1)
+  slots_fit_bare index (f ∷ fs) (None ∷ xs) h = (
+    subst (λ o. SlotFits (bare types s) index f o) (sym (bare_none f.kind)) h.0,
+    slots_fit_bare index fs xs h.1,
+  )
   slots_fit_bare index (f ∷ fs) (Some x ∷ xs) h = (fitted (bare_slot f.kind (Some x)) (slot_fits_bare index f f.kind x h.0.1), slots_fit_bare index fs xs h.1)
     where
       fitted : (o : Option Value) → IsSomeAnd o (FieldFits (bare types s) f.kind) → SlotFits (bare types s) index f o
@@ -260,8 +262,11 @@ module _ (types : List TypeEntry) (vars : List VarEntry) (s : StoreMap) (fits : 
     variant = λ a c h v. subst (λ x. IsOfVariant s v a ↔ IsOfVariant (bare types s) v x) h.0 (by_variant types s (λ w. w ≡ v) a);
     truth = λ a c h f b. subst (λ x. (field_value s a f ≡ Some (value.Bool b)) ↔ (field_value (bare types s) x f ≡ Some (value.Bool b))) h.0 (truth_bare a f b);
     down = λ f a b c h leads. (b, (refl, leads.live), subst (λ x. Leads types (bare types s) DataAlone f x b) h.0 (leads_bare f a b leads));
-    up = λ f a b d h leads. (a, (refl, (Leads-live types s DataAlone f a b leads).0),
-        subst (λ x. Leads types (bare types s) DataAlone f a x) h.0 (leads_bare f a b leads));
+    up = λ f a b d h leads. (
+      a,
+      (refl, (Leads-live types s DataAlone f a b leads).0),
+      subst (λ x. Leads types (bare types s) DataAlone f a x) h.0 (leads_bare f a b leads),
+    );
     down_back = λ f a c d h leads. let k = bare_leads f c d leads in (d, (refl, k.live), subst (λ x. Leads types s DataAlone f x d) (sym h.0) k);
     up_back = λ f b c d h leads. let k = bare_leads f c d leads in
         (c, (refl, (Leads-live types s DataAlone f c d k).0), subst (λ x. Leads types s DataAlone f c x) (sym h.0) k);
@@ -314,7 +319,7 @@ module _ (types : List TypeEntry) (vars : List VarEntry) (s : StoreMap) (fits : 
   unfolding Itself
   chain_bare {a = a} {b = b} chain =
       let k = Chain-matched types DataAlone (Itself s) s (bare types s) Matches-bare (parent_down types DataAlone (Itself s) s (bare types s) Matches-bare) chain a
-          (refl, (Chain-live (IsParent-live types s) chain).0) in
+      (refl, (Chain-live (IsParent-live types s) chain).0) in
       subst (λ x. Chain (bare types s) (IsParent types (bare types s)) a x) (sym k.1.0) k.2
 
   backbone_bare : IsBackbone types vars s → IsBackbone types vars (bare types s)

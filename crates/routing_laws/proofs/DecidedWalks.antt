@@ -141,13 +141,16 @@ passing_rising P each (c ∷ cells) rising =
 -- what is decided and of live cells alone has a list
 pub listed : (s : StoreMap) (P : CellId → Type 0) → ((c : CellId) → Decided (P c)) → ((c : CellId) → P c → IsLive s c) →
     (cells : List CellId) × Lists P cells
-listed s P each live = (passing each (live_cells s), record {
-  rising = passing_rising P each (live_cells s) (live_rising s);
-  members = λ d. (
-    λ m. (in_passing P each (live_cells s) d m).1,
-    λ h. passing_in P each (live_cells s) d (live_in s d (live d h)) h,
-  );
-})
+listed s P each live = (
+  passing each (live_cells s),
+  record {
+    rising = passing_rising P each (live_cells s) (live_rising s);
+    members = λ d. (
+      λ m. (in_passing P each (live_cells s) d m).1,
+      λ h. passing_in P each (live_cells s) d (live_in s d (live d h)) h,
+    );
+  },
+)
 
 -- ---- names and values
 

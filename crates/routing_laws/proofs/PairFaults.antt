@@ -149,7 +149,7 @@ module _ (types : List TypeEntry) (R : CellId → CellId → Type 0) (s t : Stor
   var_fits_to (var.LogicSet target) (value.Cells cells) (value.Cells others) e k = (
     e.1,
     recursion_from_All (NamesType t target) others (members_to (NamesType s target) (NamesType t target) (names_type_to target) cells others e.3
-    (All-from_recursion (NamesType s target) cells k.1)),
+        (All-from_recursion (NamesType s target) cells k.1)),
   )
   var_fits_to var.Bool (value.Cell c) y e k = absurd k
   var_fits_to var.Bool (value.Cells c) y e k = absurd k
@@ -255,7 +255,7 @@ module _ (types : List TypeEntry) (R : CellId → CellId → Type 0) (s t : Stor
         let one = place_forth (turn R) t s back p (there types vars t p c by_p) in
         let other = place_forth (turn R) t s back q (there types vars t q c by_q) in
         let same = backbone.named_once a.0 one.0 other.0 (live_to (turn R) t s back c a.0 a.1 live)
-            (names_to types (turn R) t s back vars p one.0 c a.0 one.1 a.1 by_p) (names_to types (turn R) t s back vars q other.0 c a.0 other.1 a.1 by_q) in
+        (names_to types (turn R) t s back vars p one.0 c a.0 one.1 a.1 by_p) (names_to types (turn R) t s back vars q other.0 c a.0 other.1 a.1 by_q) in
         place_one (turn R) t s back p q one.0 one.1 (subst (λ x. PairsPlace (turn R) q x) (sym same) other.1);
     reached = λ c live.
         let a = h.back c live in

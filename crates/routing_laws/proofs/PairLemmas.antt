@@ -240,7 +240,7 @@ module _ (types : List TypeEntry) (fields : Fields) (R : CellId → CellId → T
   unfolding Live
   chain_goes {a = a} chain c p =
       let k = Chain-matched types fields (Live R s) s t Matches-paired (parent_down types fields (Live R s) s t Matches-paired) chain c
-          (p, (Chain-live (IsParent-live types s) chain).0) in
+      (p, (Chain-live (IsParent-live types s) chain).0) in
       (k.0, k.1.0, k.2)
 
 module _ (types : List TypeEntry) (R : CellId → CellId → Type 0) (s t : StoreMap) (h : ArePaired R s t) where

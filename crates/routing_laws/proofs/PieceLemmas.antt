@@ -143,12 +143,14 @@ module _ (cells : List CellId) (s : StoreMap) where
         reached = λ c live.
             let here = live_on cells s (piece_on s cells) piece_on-IsOn c live in
             let tree = backbone.reached c here.1 in
-            let path = chain_on cells s (piece_on s cells) piece_on-IsOn types whole tree.1.path here.0 in
-            (tree.0, record {
-              root = tree.1.root;
-              named = record { place = tree.1.named.place; value = onto_piece tree.0 tree.1.root path.0 tree.1.named.value };
-              path = path.1;
-            });
+            let path = chain_on cells s (piece_on s cells) piece_on-IsOn types whole tree.1.path here.0 in (
+              tree.0,
+              record {
+                root = tree.1.root;
+                named = record { place = tree.1.named.place; value = onto_piece tree.0 tree.1.root path.0 tree.1.named.value };
+                path = path.1;
+              },
+            );
       }
 
       -- ---- what a piece that is a backbone says of the store
@@ -177,12 +179,14 @@ module _ (cells : List CellId) (s : StoreMap) where
 
         pub reached_off : (c : CellId) → IsLive s c → Contains cells c → (v : VarId) × IsInTree types vars s v c
         reached_off c live m =
-            let tree = backbone.reached c (on_live cells s (piece_on s cells) piece_on-IsOn c m live) in
-            (tree.0, record {
-              root = tree.1.root;
-              named = names_off (place.Var tree.0) tree.1.root tree.1.named;
-              path = chain_off tree.1.path;
-            })
+            let tree = backbone.reached c (on_live cells s (piece_on s cells) piece_on-IsOn c m live) in (
+              tree.0,
+              record {
+                root = tree.1.root;
+                named = names_off (place.Var tree.0) tree.1.root tree.1.named;
+                path = chain_off tree.1.path;
+              },
+            )
 
         of_kept : (target : TypeId) (d : CellId) → Contains cells d → HoldsOfType (piece_on s cells) target (value_on cells (value.Cell (Some d))) → IsOfType s target d
         of_kept target d m h = type_off target d (subst (HoldsOfType (piece_on s cells) target) (cell_kept d m) h)
