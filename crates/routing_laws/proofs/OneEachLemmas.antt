@@ -1,5 +1,5 @@
 -- A field that no backbone with one data variable a type refutes is functional.
-use Rattle.std.proofs.Common.{◌≡◌, ◌↔◌, inl, inr, ◌<◌, ℕ, Bool, true, false, List, [], ◌∷◌, map, length, slice_get, Option, Some, None, IsSome, IsSomeAnd, IfSome, refl, sym, ap, ◌∙◌, subst, arith, Contains, nat_eq, if◌then◌else◌}
+use Rattle.std.proofs.Common.{◌≡◌, inl, inr, ◌<◌, ℕ, Bool, true, false, List, [], ◌∷◌, map, length, slice_get, Option, Some, None, IsSome, IsSomeAnd, IfSome, refl, sym, ap, ◌∙◌, subst, arith, Contains, nat_eq, if◌then◌else◌}
 use Rattle.std.specs.Prelude.{option_map}
 use Rattle.std.specs.Option.{option_map_or}
 use Rattle.std.proofs.lemmas.Bool.{cases_lt, false≢true}
@@ -13,18 +13,17 @@ use Rattle.store_core.specs.declared.kind.VarKind.{VarKind}
 use Rattle.store_core.specs.declared.kind.VarKind.TheVariants as var
 use Rattle.store_core.specs.declared.value.Value.{Value}
 use Rattle.store_core.specs.declared.value.Value.TheVariants as value
-use Rattle.store_core.specs.Tables.{TypeEntry, VarEntry, type_at, count_of_variants, variant_count, field_at, var_at}
+use Rattle.store_core.specs.Tables.{TypeEntry, VarEntry, type_at, count_of_variants, variant_count, var_at}
 use Rattle.store_core.specs.Stores.{StoreMap, CellEntry, IsLive, cell_of, field_value, var_value, var_class, blank, NamesType, VarFits, VarsFit, Fits}
 use Rattle.routing_expr.specs.declared.fault.Place.{Place}
 use Rattle.routing_expr.specs.declared.fault.Place.TheVariants as place
 use Rattle.routing_expr.specs.Walks.{DataAlone, IsOfType, stay}
 use Rattle.routing_expr.specs.Destinations.{Dest}
-use Rattle.routing_expr.specs.WellFormed.{IsDataVar, Names, IsInTree, HoldsOfType, VarHoldsLive, IsBackbone, IsFunctional}
-use Rattle.routing_expr.specs.Regions.{store_on, IsOn, IsReachedFrom, IsPart, IsApart}
+use Rattle.routing_expr.specs.WellFormed.{IsDataVar, Names, IsInTree, VarHoldsLive, IsBackbone, IsFunctional}
+use Rattle.routing_expr.specs.Regions.{store_on, IsOn, IsPart, IsApart}
 use Rattle.routing_expr.proofs.LiveLemmas.{IsLive-field_value, IsParent-live, Chain-live}
 use Rattle.routing_expr.proofs.FittingLemmas.{IfSome-from, IfSome-at, IsSomeAnd-at}
 use Rattle.routing_laws.specs.Refuting.{IsOneEach, Refutes}
-use Rattle.routing_laws.specs.Pieces.{piece_on}
 use Rattle.routing_laws.proofs.DecidedLemmas.{holds_from, in_none, in_first, in_cases}
 use Rattle.routing_laws.proofs.DecidedWalks.{decided_same_cell}
 use Rattle.routing_laws.proofs.DecidedStores.{part_of}

@@ -1,12 +1,9 @@
 -- Paired stores: what is wrong with them, and whether they are well-formed.
-use Rattle.std.proofs.Common.{◌≡◌, ◌↔◌, ◌⊎◌, inl, inr, ℕ, List, [], ◌∷◌, get_or, Option, Some, None, IsSome, IsSomeAnd, IfSome, refl, sym, ap, ◌∙◌, subst, Contains, All}
-use Rattle.std.specs.Prelude.{Any}
-use Rattle.std.specs.List.{AllByRecursion}
+use Rattle.std.proofs.Common.{◌≡◌, inl, inr, ℕ, List, [], ◌∷◌, get_or, Option, Some, None, IsSome, IsSomeAnd, IfSome, refl, sym, subst, Contains, All}
 use Rattle.std.proofs.lemmas.List.Elements.{All-from_recursion, recursion_from_All, All-contains, Contains-get_or}
 use Rattle.store_core.specs.declared.ids.TypeId.{TypeId}
 use Rattle.store_core.specs.declared.ids.VariantId.{VariantId}
 use Rattle.store_core.specs.declared.ids.FieldId.{FieldId}
-use Rattle.store_core.specs.declared.ids.VarId.{VarId}
 use Rattle.store_core.specs.declared.ids.CellId.{CellId}
 use Rattle.store_core.specs.declared.kind.FieldKind.{FieldKind}
 use Rattle.store_core.specs.declared.kind.FieldKind.TheVariants as field
@@ -15,16 +12,15 @@ use Rattle.store_core.specs.declared.kind.VarKind.TheVariants as var
 use Rattle.store_core.specs.declared.value.Value.{Value}
 use Rattle.store_core.specs.declared.value.Value.TheVariants as value
 use Rattle.store_core.specs.Tables.{TypeEntry, VarEntry, FieldEntry, field_at, var_at, fields_of, KnowsVariant}
-use Rattle.store_core.specs.Stores.{StoreMap, CellEntry, IsLive, IsAbove, cell_of, field_value, var_value, NamesType, FieldFits, VarFits, SlotsFit, CellFits, VarsFit, Fits}
+use Rattle.store_core.specs.Stores.{StoreMap, CellEntry, IsAbove, cell_of, field_value, var_value, NamesType, FieldFits, VarFits, SlotsFit, CellFits, VarsFit, Fits}
 use Rattle.routing_expr.specs.declared.fault.Place.{Place}
-use Rattle.routing_expr.specs.declared.fault.Place.TheVariants as place
 use Rattle.routing_expr.specs.Walks.{IsOfType}
 use Rattle.routing_expr.specs.Destinations.{IsOnlyDestination}
-use Rattle.routing_expr.specs.WellFormed.{value_at, Names, IsInTree, NamesDead, HoldsDead, IsDanglingReference, IsDangling, IsShared, IsLeaked, IsWrongField, HoldsOfType, VarHoldsLive, FieldHoldsLive, SetHoldsLive, IsBackbone, IsWellFormed}
+use Rattle.routing_expr.specs.WellFormed.{value_at, NamesDead, HoldsDead, IsDanglingReference, IsDangling, IsShared, IsLeaked, IsWrongField, HoldsOfType, VarHoldsLive, FieldHoldsLive, SetHoldsLive, IsBackbone, IsWellFormed}
 use Rattle.routing_expr.proofs.LiveLemmas.{IsLive-field_value}
 use Rattle.routing_expr.proofs.FittingLemmas.{IfSome-from, IfSome-at}
 use Rattle.routing_expr.proofs.SharedLemmas.{there}
-use Rattle.routing_laws.specs.Pairing.{PairsValue, PairsSlot, Pairwise, PairsCell, PairsEntry, ArePaired, PairsPlace, FailAlike, FormAlike}
+use Rattle.routing_laws.specs.Pairing.{PairsValue, PairsSlot, Pairwise, PairsEntry, ArePaired, PairsPlace, FailAlike, FormAlike}
 use Rattle.routing_laws.proofs.PairLemmas.{turn, ArePaired-turned, value_turned, place_turned, field_paired, var_paired, place_paired, live_to, type_to, place_forth, place_one, names_to, tree_to, only_to}
 
 module _ (types : List TypeEntry) (R : CellId → CellId → Type 0) (s t : StoreMap) (h : ArePaired R s t) where

@@ -1,5 +1,5 @@
 -- Walks and destinations on a set of cells that no field leads into or out of.
-use Rattle.std.proofs.Common.{◌≡◌, ◌↔◌, ◌⊎◌, inl, inr, ℕ, Bool, true, false, List, [], ◌∷◌, Option, Some, None, IsSome, IsSomeAnd, IfSome, refl, sym, ap, ◌∙◌, subst, arith, Contains, cond, nat_eq}
+use Rattle.std.proofs.Common.{◌≡◌, ◌↔◌, inl, inr, ℕ, Bool, true, false, List, [], ◌∷◌, Option, Some, None, IsSome, IsSomeAnd, refl, sym, ap, ◌∙◌, subst, arith, Contains, cond, nat_eq}
 use Rattle.std.specs.Prelude.{◌||◌}
 use Rattle.std.specs.Option.{option_and_then}
 use Rattle.std.specs.FinMap.{get-retain_keys, nat_cmp-IsAntisymmetric}
@@ -14,20 +14,19 @@ use Rattle.store_core.specs.declared.kind.Route.{Route}
 use Rattle.store_core.specs.declared.value.Value.{Value}
 use Rattle.store_core.specs.declared.value.Value.TheVariants as value
 use Rattle.store_core.specs.Tables.{TypeEntry, VarEntry, FieldEntry, field_at}
-use Rattle.store_core.specs.Stores.{StoreMap, CellEntry, IsLive, cell_of, field_of, field_value}
+use Rattle.store_core.specs.Stores.{StoreMap, IsLive, cell_of, field_of, field_value}
 use Rattle.routing_expr.specs.declared.fault.Place.{Place}
-use Rattle.routing_expr.specs.Walks.{Fields, DataAlone, DataAndPointers, IsFollowed, Leads, IsParent, IsOfType, IsOfVariant, Chain, stay, go, Walk}
-use Rattle.routing_expr.specs.Destinations.{EndsWalk, EndsKind, Dest, IsOnlyDestination, IsPointer}
-use Rattle.routing_expr.specs.WellFormed.{Names, IsInTree}
-use Rattle.routing_expr.specs.Regions.{has_number, store_on, IsOn, IsReachedFrom, IsPart, IsOutside, IsRest, IsClosedUnderFields, IsApart}
-use Rattle.routing_expr.proofs.LiveLemmas.{Leads-live, Walk-live, IsLive-field_value}
+use Rattle.routing_expr.specs.Walks.{Fields, DataAlone, DataAndPointers, IsFollowed, Leads, IsParent, IsOfVariant, Chain, stay, go, Walk}
+use Rattle.routing_expr.specs.Destinations.{EndsKind, Dest, IsOnlyDestination, IsPointer}
+use Rattle.routing_expr.specs.WellFormed.{Names}
+use Rattle.routing_expr.specs.Regions.{has_number, store_on, IsOn, IsPart, IsRest, IsClosedUnderFields, IsApart}
+use Rattle.routing_expr.proofs.LiveLemmas.{Leads-live, Walk-live}
 use Rattle.routing_expr.proofs.FittingLemmas.{IfSome-at, IsSomeAnd-at}
 use Rattle.routing_expr.proofs.TreeLemmas.{IsInTree-child, IsInTree-parent}
-use Rattle.routing_expr.proofs.MatchLemmas.{Matches, Matches-data, Matches-turned, Walk-matched, Walk-match, type_matched}
-use Rattle.routing_laws.specs.Deciding.{Decided}
+use Rattle.routing_expr.proofs.MatchLemmas.{Matches, Matches-turned, Walk-matched}
 use Rattle.routing_laws.specs.Shown.{IsSound}
 use Rattle.routing_laws.specs.Pieces.{IsLikeOn}
-use Rattle.routing_laws.proofs.DecidedLemmas.{in_none, in_first, in_rest, in_cases, decided_in, holds_from}
+use Rattle.routing_laws.proofs.DecidedLemmas.{in_none, in_rest, in_cases, decided_in, holds_from}
 use Rattle.routing_laws.proofs.DecidedWalks.{decided_same_cell}
 use Rattle.routing_laws.proofs.DecidedStores.{rest_of}
 
