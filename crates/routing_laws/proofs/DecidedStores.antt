@@ -1,5 +1,5 @@
 -- Trees, leaks, shared cells and destinations are decided, and what shows that a store isn't well-formed.
-use Rattle.std.proofs.Common.{◌≡◌, ◌↔◌, ◌⊎◌, inl, inr, ◌<◌, ℕ, List, [], ◌∷◌, length, Option, Some, None, IsSome, IsSomeAnd, IfSome, refl, sym, ap, subst, arith, Contains}
+use Rattle.std.proofs.Common.{◌≡◌, ◌⊎◌, inl, inr, List, length, Option, Some, None, IsSome, IsSomeAnd, refl, sym, subst, Contains}
 use Rattle.std.proofs.lemmas.Bool.{false≢true}
 use Rattle.store_core.specs.declared.ids.FieldId.{FieldId}
 use Rattle.store_core.specs.declared.ids.VarId.{VarId}
@@ -15,7 +15,7 @@ use Rattle.store_core.specs.Stores.{StoreMap, IsLive, CellEntry, cell_of, field_
 use Rattle.routing_expr.specs.declared.fault.Place.{Place}
 use Rattle.routing_expr.specs.declared.fault.Place.TheVariants as place
 use Rattle.routing_expr.specs.Walks.{DataAlone, IsParent, Chain, stay, go}
-use Rattle.routing_expr.specs.Destinations.{EndsWalk, EndsKind, Dest, IsOnlyDestination, IsPointer}
+use Rattle.routing_expr.specs.Destinations.{EndsKind, Dest, IsOnlyDestination, IsPointer}
 use Rattle.routing_expr.specs.WellFormed.{value_at, IsDataVar, IsDataPlace, Names, IsInTree, NamesDead, HoldsDead, IsDanglingReference, IsDangling, IsShared, IsLeaked, IsWrongField, IsWellFormed}
 use Rattle.routing_expr.specs.Reaching.{IsInSomeTree}
 use Rattle.routing_expr.specs.Judging.{IsRightField}
@@ -23,14 +23,14 @@ use Rattle.routing_expr.specs.Searches.{Lists}
 use Rattle.routing_expr.specs.Places.{IsThere}
 use Rattle.routing_expr.specs.Regions.{IsReachedFrom, IsPart, IsOutside, IsRest}
 use Rattle.routing_expr.proofs.LiveLemmas.{IsParent-live, IsSome-and, IsOfType-live, IsLive-field_value, Chain-live}
-use Rattle.routing_expr.proofs.TreeLemmas.{IsInTree-live, IsInTree-child, Chain-then}
+use Rattle.routing_expr.proofs.TreeLemmas.{IsInTree-live, IsInTree-child}
 use Rattle.routing_expr.proofs.FittingLemmas.{IfSome-from, IsSomeAnd-at, var_at_value, slot_at_value}
 use Rattle.routing_expr.proofs.FaultLemmas.{place_cases, no_reference, no_shared, no_leak, no_wrong_field, no_dangling, backbone_from, well_formed_from}
 use Rattle.routing_laws.specs.Deciding.{Decided}
-use Rattle.routing_laws.specs.Shown.{HasFault, dangling, shared, leaked, wrong, IsSound, ShowsLeak, HasLeakSet, HasOther, HasDest, ShowsWrong}
+use Rattle.routing_laws.specs.Shown.{HasFault, dangling, shared, leaked, wrong, IsSound, HasLeakSet, HasOther, HasDest, ShowsWrong}
 use Rattle.routing_laws.specs.Shown.{HasCause, at_reference, at_shared, at_leak, at_field}
 use Rattle.routing_laws.proofs.DecidedLemmas.{decided_as, decided_both, decided_either, decided_not, holds_from, decided_some, decided_there, decided_in, decided_one_of, decided_below}
-use Rattle.routing_laws.proofs.DecidedWalks.{live_cells, live_in, decided_cell, listed, decided_same_cell, decided_reference, decided_followed, within, decided_field, decided_live, decided_parent, decided_of_type, decided_steps, decided_walk}
+use Rattle.routing_laws.proofs.DecidedWalks.{decided_cell, listed, decided_same_cell, decided_reference, decided_followed, within, decided_field, decided_live, decided_parent, decided_of_type, decided_steps, decided_walk}
 
 decided_data_var : (kind : VarKind) → Decided (IsDataVar kind)
 decided_data_var var.Bool = inr (λ h. h)

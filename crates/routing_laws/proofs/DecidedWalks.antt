@@ -1,11 +1,11 @@
 -- The live cells of a store as a list, and whether a walk joins two cells.
-use Rattle.std.proofs.Common.{◌≡◌, ◌⊎◌, inl, inr, ◌<◌, ℕ, zero, suc, Bool, List, [], ◌∷◌, map, length, slice_get, Option, Some, None, IsSome, IsSomeAnd, refl, sym, ap, ◌∙◌, subst, arith, Contains}
+use Rattle.std.proofs.Common.{◌≡◌, ◌⊎◌, inl, inr, ◌<◌, ℕ, zero, suc, Bool, List, [], ◌∷◌, map, length, slice_get, Option, Some, None, IsSome, refl, sym, ap, ◌∙◌, subst, arith, Contains}
 use Rattle.std.specs.Prelude.{option_map}
 use Rattle.std.specs.Option.{option_map_or}
 use Rattle.std.specs.FinMap.{keys}
 use Rattle.std.specs.List.{AllByRecursion}
 use Rattle.std.proofs.lemmas.Bool.{cases_lt, false≢true}
-use Rattle.std.proofs.lemmas.Option.{slice_get-map, slice_get_within, slice_get_past}
+use Rattle.std.proofs.lemmas.Option.{slice_get-map, slice_get_past}
 use Rattle.store_core.specs.declared.ids.TypeId.{TypeId}
 use Rattle.store_core.specs.declared.ids.VariantId.{VariantId}
 use Rattle.store_core.specs.declared.ids.FieldId.{FieldId}
@@ -25,7 +25,7 @@ use Rattle.routing_expr.proofs.WalkLemmas.{Walk-Down, Walk-Up, Walk-UpAny, Walk-
 use Rattle.routing_expr.proofs.LiveLemmas.{Walk-live, IsParent-live, IsSome-and}
 use Rattle.routing_expr.proofs.KeyLemmas.{keys-rise, key_of_live, live_of_key}
 use Rattle.routing_laws.specs.Deciding.{Decided}
-use Rattle.routing_laws.proofs.DecidedLemmas.{decided_as, decided_both, decided_either, decided_not, decided_number, decided_truth, decided_name, decided_some, decided_there, decided_one_of, decided_below, in_none, in_first, in_rest, in_cases, in_at, at_in}
+use Rattle.routing_laws.proofs.DecidedLemmas.{decided_as, decided_both, decided_either, decided_not, decided_number, decided_truth, decided_name, decided_some, decided_there, decided_one_of, decided_below, in_none, in_rest, in_cases, in_at, at_in}
 use Rattle.routing_laws.proofs.StarLemmas.{decided_chain}
 
 -- ---- the live cells by number
@@ -141,13 +141,16 @@ passing_rising P each (c ∷ cells) rising =
 -- what is decided and of live cells alone has a list
 pub listed : (s : StoreMap) (P : CellId → Type 0) → ((c : CellId) → Decided (P c)) → ((c : CellId) → P c → IsLive s c) →
     (cells : List CellId) × Lists P cells
-listed s P each live = (passing each (live_cells s), record {
-  rising = passing_rising P each (live_cells s) (live_rising s);
-  members = λ d. (
-    λ m. (in_passing P each (live_cells s) d m).1,
-    λ h. passing_in P each (live_cells s) d (live_in s d (live d h)) h,
-  );
-})
+listed s P each live = (
+  passing each (live_cells s),
+  record {
+    rising = passing_rising P each (live_cells s) (live_rising s);
+    members = λ d. (
+      λ m. (in_passing P each (live_cells s) d m).1,
+      λ h. passing_in P each (live_cells s) d (live_in s d (live d h)) h,
+    );
+  },
+)
 
 -- ---- names and values
 

@@ -1,5 +1,5 @@
 -- A store with some cells of a store that fits its tables fits them too.
-use Rattle.std.proofs.Common.{◌≡◌, inl, inr, ◌<◌, ℕ, List, [], ◌∷◌, get_or, Option, Some, None, IsSome, IfSome, refl, sym, ap, ◌∙◌, subst, Contains}
+use Rattle.std.proofs.Common.{◌≡◌, inl, inr, ◌<◌, ℕ, List, [], ◌∷◌, get_or, Option, Some, None, IsSome, IfSome, refl, sym, ◌∙◌, subst}
 use Rattle.std.specs.FinMap.{keys}
 use Rattle.std.proofs.lemmas.Option.{slice_get-get_or}
 use Rattle.std.proofs.lemmas.List.Elements.{All-from_recursion, recursion_from_All, All-contains}
@@ -17,6 +17,15 @@ use Rattle.routing_expr.proofs.FittingLemmas.{IfSome-from, IfSome-at}
 use Rattle.routing_laws.proofs.DecidedLemmas.{decided_in, in_at}
 use Rattle.routing_laws.proofs.DecidedWalks.{decided_same_cell}
 use Rattle.routing_laws.proofs.RegionLemmas.{live_on}
+
+-- where the live cells are live in the other store, and the next numbers are the same
+pub above_from : (s t : StoreMap) → ((c : CellId) → IsLive t c → IsLive s c) → t.next ≡ s.next → IsAbove s → IsAbove t
+above_from s t lives same above = recursion_from_All (λ n. n < t.next) (keys t.cells) (λ i d within.
+    let c : CellId = record { 0 = get_or (keys t.cells) i d } in
+    let live = lives c (live_of_key t c i (slice_get-get_or (keys t.cells) i d within)) in
+    let k = key_of_live s c live in
+    subst (λ n. c.0 < n) (sym same)
+    (All-contains (λ n. n < s.next) (keys s.cells) c.0 (All-from_recursion (λ n. n < s.next) (keys s.cells) above) (in_at (keys s.cells) k.0 c.0 k.1)))
 
 module _ (cells : List CellId) (s t : StoreMap) (on : IsOn cells s t) where
   pub names_type_on : (target : TypeId) (c : CellId) → NamesType s target c → NamesType t target c
@@ -55,9 +64,4 @@ module _ (cells : List CellId) (s t : StoreMap) (on : IsOn cells s t) where
 
   -- its cells are below the next number too
   pub above_on : t.next ≡ s.next → IsAbove s → IsAbove t
-  above_on same above = recursion_from_All (λ n. n < t.next) (keys t.cells) (λ i d within.
-      let c : CellId = record { 0 = get_or (keys t.cells) i d } in
-      let live = (live_on cells s t on c (live_of_key t c i (slice_get-get_or (keys t.cells) i d within))).1 in
-      let k = key_of_live s c live in
-      subst (λ n. c.0 < n) (sym same)
-      (All-contains (λ n. n < s.next) (keys s.cells) c.0 (All-from_recursion (λ n. n < s.next) (keys s.cells) above) (in_at (keys s.cells) k.0 c.0 k.1)))
+  above_on same above = above_from s t (λ c live. (live_on cells s t on c live).1) same above

@@ -26,7 +26,7 @@ module _ (types : List TypeEntry) (f : FieldId) (target : TypeId) (name : List �
       let up = (Walk-Up types s DataAlone name c d).0 (by_up s (field_at types f) c d kind one).walk in
       let above = (Walk-Up types s DataAlone name c e).0 (by_up s (field_at types f) c e kind other).walk in
       let same : place.Field d up.field ≡ place.Field e above.field = backbone.named_once c (place.Field d up.field) (place.Field e above.field) up.leads.live
-          (Names-Leads types vars s up.field d c up.leads) (Names-Leads types vars s above.field e c above.leads) in
+      (Names-Leads types vars s up.field d c up.leads) (Names-Leads types vars s above.field e c above.leads) in
       cc
 
 pub Up-functional : (types : List TypeEntry) (f : FieldId) (target : TypeId) (name : List ℕ) →

@@ -12,3 +12,4 @@ pub mod FitsOn
 pub mod OneEachLemmas
 pub mod PieceForms
 pub mod TwinLemmas
+pub mod BareLemmas

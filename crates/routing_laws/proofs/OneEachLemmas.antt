@@ -1,5 +1,5 @@
 -- A field that no backbone with one data variable a type refutes is functional.
-use Rattle.std.proofs.Common.{◌≡◌, ◌↔◌, inl, inr, ◌<◌, ℕ, Bool, true, false, List, [], ◌∷◌, map, length, slice_get, Option, Some, None, IsSome, IsSomeAnd, IfSome, refl, sym, ap, ◌∙◌, subst, arith, Contains, nat_eq, if◌then◌else◌}
+use Rattle.std.proofs.Common.{◌≡◌, inl, inr, ◌<◌, ℕ, Bool, true, false, List, [], ◌∷◌, map, length, slice_get, Option, Some, None, IsSome, IsSomeAnd, IfSome, refl, sym, ap, ◌∙◌, subst, arith, Contains, nat_eq, if◌then◌else◌}
 use Rattle.std.specs.Prelude.{option_map}
 use Rattle.std.specs.Option.{option_map_or}
 use Rattle.std.proofs.lemmas.Bool.{cases_lt, false≢true}
@@ -13,24 +13,24 @@ use Rattle.store_core.specs.declared.kind.VarKind.{VarKind}
 use Rattle.store_core.specs.declared.kind.VarKind.TheVariants as var
 use Rattle.store_core.specs.declared.value.Value.{Value}
 use Rattle.store_core.specs.declared.value.Value.TheVariants as value
-use Rattle.store_core.specs.Tables.{TypeEntry, VarEntry, type_at, count_of_variants, variant_count, field_at, var_at}
+use Rattle.store_core.specs.Tables.{TypeEntry, VarEntry, type_at, count_of_variants, variant_count, var_at}
 use Rattle.store_core.specs.Stores.{StoreMap, CellEntry, IsLive, cell_of, field_value, var_value, var_class, blank, NamesType, VarFits, VarsFit, Fits}
 use Rattle.routing_expr.specs.declared.fault.Place.{Place}
 use Rattle.routing_expr.specs.declared.fault.Place.TheVariants as place
 use Rattle.routing_expr.specs.Walks.{DataAlone, IsOfType, stay}
 use Rattle.routing_expr.specs.Destinations.{Dest}
-use Rattle.routing_expr.specs.WellFormed.{IsDataVar, Names, IsInTree, HoldsOfType, VarHoldsLive, IsBackbone, IsFunctional}
-use Rattle.routing_expr.specs.Regions.{store_on, IsOn, IsReachedFrom, IsPart, IsApart}
+use Rattle.routing_expr.specs.WellFormed.{IsDataVar, Names, IsInTree, VarHoldsLive, IsBackbone, IsFunctional}
+use Rattle.routing_expr.specs.Regions.{store_on, IsOn, IsPart, IsApart}
 use Rattle.routing_expr.proofs.LiveLemmas.{IsLive-field_value, IsParent-live, Chain-live}
 use Rattle.routing_expr.proofs.FittingLemmas.{IfSome-from, IfSome-at, IsSomeAnd-at}
 use Rattle.routing_laws.specs.Refuting.{IsOneEach, Refutes}
-use Rattle.routing_laws.specs.Pieces.{piece_on}
 use Rattle.routing_laws.proofs.DecidedLemmas.{holds_from, in_none, in_first, in_cases}
 use Rattle.routing_laws.proofs.DecidedWalks.{decided_same_cell}
 use Rattle.routing_laws.proofs.DecidedStores.{part_of}
 use Rattle.routing_laws.proofs.RegionLemmas.{store_on-IsOn, live_on, part_apart, dests_on, chain_on}
 use Rattle.routing_laws.proofs.RegionLemmas.{value_on as field_on}
 use Rattle.routing_laws.proofs.PieceLemmas.{backbone_on, value_off}
+use Rattle.routing_laws.proofs.BareLemmas.{bare, refutes_bare}
 use Rattle.routing_laws.proofs.FitsOn.{cells_fit_on, above_on}
 
 -- ---- what the variables hold: the root in the variable of its type, and null in all others
@@ -148,7 +148,7 @@ module _ (types : List TypeEntry) (others : List VarEntry) (each : IsOneEach typ
       let kind = IsSomeAnd-at (slice_get others v.0) _ (each.each v.0 within) in
       let same : entry.0 ≡ kind.0 = let both : Some entry.0 ≡ Some kind.0 = sym entry.1 ∙ kind.1 in cc in
       let holds : held cell.variant.ty r entry.0.kind ≡ value.Cell (Some c) =
-          let both : Some (held cell.variant.ty r entry.0.kind) ≡ Some (value.Cell (Some c)) = sym (var_at_alone v entry.0 entry.1) ∙ names.value in cc in
+      let both : Some (held cell.variant.ty r entry.0.kind) ≡ Some (value.Cell (Some c)) = sym (var_at_alone v entry.0 entry.1) ∙ names.value in cc in
       held_data entry.0.kind v.0 c (ap (λ (e : VarEntry). e.kind) same ∙ kind.2) holds
 
   old_name : (a : CellId) (f : FieldId) (c : CellId) → Names types others alone (place.Field a f) c → Names types vars s (place.Field a f) c
@@ -176,7 +176,7 @@ module _ (types : List TypeEntry) (others : List VarEntry) (each : IsOneEach typ
   root_named =
       let fit = IfSome-at (cell_of s r) _ cell at (fits.cells r) in
       let entry = IsSomeAnd-at (slice_get others cell.variant.ty.0) _
-          (each.each cell.variant.ty.0 (known_type types cell.variant.ty cell.variant.index fit.variant)) in
+      (each.each cell.variant.ty.0 (known_type types cell.variant.ty cell.variant.index fit.variant)) in
       record {
         place = subst (λ o. IsSomeAnd o (λ (e : VarEntry). IsDataVar e.kind)) (sym entry.1) (subst IsDataVar (sym entry.2) tt);
         value = var_at_alone root_var entry.0 entry.1 ∙ ap (λ k. Some (held cell.variant.ty r k)) entry.2
@@ -189,12 +189,14 @@ module _ (types : List TypeEntry) (others : List VarEntry) (each : IsOneEach typ
       let h = (part.members c).0 (live_on cells s alone on c lives).0 in
       let is_tree : tree ≡ h.root = elim (in_cases tree h.root [] h.listed) [ inl e ↦ e | inr m ↦ absurd (in_none h.root m) ] in
       let root = subst (λ v. Names types vars s (place.Var v) h.in_tree.root) (sym is_tree) h.in_tree.named in
-      let same : r ≡ h.in_tree.root = let both : Some (value.Cell (Some r)) ≡ Some (value.Cell (Some h.in_tree.root)) = sym named.value ∙ root.value in cc in
-      (root_var, record {
-        root = h.in_tree.root;
-        named = subst (λ x. Names types others alone (place.Var root_var) x) same root_named;
-        path = (chain_on cells s alone on types whole h.in_tree.path (live_on cells s alone on c lives).0).1;
-      })
+      let same : r ≡ h.in_tree.root = let both : Some (value.Cell (Some r)) ≡ Some (value.Cell (Some h.in_tree.root)) = sym named.value ∙ root.value in cc in (
+        root_var,
+        record {
+          root = h.in_tree.root;
+          named = subst (λ x. Names types others alone (place.Var root_var) x) same root_named;
+          path = (chain_on cells s alone on types whole h.in_tree.path (live_on cells s alone on c lives).0).1;
+        },
+      )
 
   backbone_alone : IsBackbone types others alone
   unfolding alone
@@ -209,17 +211,12 @@ module _ (types : List TypeEntry) (others : List VarEntry) (each : IsOneEach typ
   -- what refutes a field on the store refutes it on the tree
   pub refutes_alone : (f : FieldId) (c d e : CellId) → Contains cells c → IsSomeAnd (field_value s c f) (λ x. Unit {0}) → (d ≡ e → ⊥) →
       Dest types s c f d → Dest types s c f e → (t : StoreMap) × Refutes types others t f
-  refutes_alone f c d e m has apart one other = (alone, record {
-    fits = fits_alone;
-    backbone = backbone_alone;
-    cell = c;
-    has = subst (λ o. IsSomeAnd o (λ x. Unit {0})) (sym (field_on cells s alone on c f m)) has;
-    one = d;
-    other = e;
-    apart = apart;
-    to_one = (dests_on types DataAlone cells s alone on whole c f d m).0 one;
-    to_other = (dests_on types DataAlone cells s alone on whole c f e m).0 other;
-  })
+  refutes_alone f c d e m has apart one other = (
+    bare types alone,
+    refutes_bare types others alone fits_alone f c d e backbone_alone
+        (subst (λ o. IsSomeAnd o (λ x. Unit {0})) (sym (field_on cells s alone on c f m)) has) apart
+        ((dests_on types DataAlone cells s alone on whole c f d m).0 one) ((dests_on types DataAlone cells s alone on whole c f e m).0 other),
+  )
 
 opened : {X : Type 0} (o : Option X) → IsSome o → (x : X) × (o ≡ Some x)
 opened None h = absurd (false≢true h)
@@ -234,7 +231,7 @@ functional_from types others f each none = record {
       let cells = part_of types vars s (tree.0 ∷ []) in
       let cell = opened (cell_of s tree.1.root) (Chain-live (IsParent-live types s) tree.1.path).0 in
       let t = refutes_alone types others each vars s fits backbone tree.0 tree.1.root tree.1.named cell.0 cell.1 cells.0 cells.1 f c d e
-          ((cells.1.members c).1 (record { root = tree.0; listed = in_first tree.0 []; in_tree = tree.1 })) has apart one other in
+      ((cells.1.members c).1 (record { root = tree.0; listed = in_first tree.0 []; in_tree = tree.1 })) has apart one other in
       none t.0 t.1);
 }
 

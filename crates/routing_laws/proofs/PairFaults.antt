@@ -1,12 +1,9 @@
 -- Paired stores: what is wrong with them, and whether they are well-formed.
-use Rattle.std.proofs.Common.{◌≡◌, ◌↔◌, ◌⊎◌, inl, inr, ℕ, List, [], ◌∷◌, get_or, Option, Some, None, IsSome, IsSomeAnd, IfSome, refl, sym, ap, ◌∙◌, subst, Contains, All}
-use Rattle.std.specs.Prelude.{Any}
-use Rattle.std.specs.List.{AllByRecursion}
+use Rattle.std.proofs.Common.{◌≡◌, inl, inr, ℕ, List, [], ◌∷◌, get_or, Option, Some, None, IsSome, IsSomeAnd, IfSome, refl, sym, subst, Contains, All}
 use Rattle.std.proofs.lemmas.List.Elements.{All-from_recursion, recursion_from_All, All-contains, Contains-get_or}
 use Rattle.store_core.specs.declared.ids.TypeId.{TypeId}
 use Rattle.store_core.specs.declared.ids.VariantId.{VariantId}
 use Rattle.store_core.specs.declared.ids.FieldId.{FieldId}
-use Rattle.store_core.specs.declared.ids.VarId.{VarId}
 use Rattle.store_core.specs.declared.ids.CellId.{CellId}
 use Rattle.store_core.specs.declared.kind.FieldKind.{FieldKind}
 use Rattle.store_core.specs.declared.kind.FieldKind.TheVariants as field
@@ -15,16 +12,15 @@ use Rattle.store_core.specs.declared.kind.VarKind.TheVariants as var
 use Rattle.store_core.specs.declared.value.Value.{Value}
 use Rattle.store_core.specs.declared.value.Value.TheVariants as value
 use Rattle.store_core.specs.Tables.{TypeEntry, VarEntry, FieldEntry, field_at, var_at, fields_of, KnowsVariant}
-use Rattle.store_core.specs.Stores.{StoreMap, CellEntry, IsLive, IsAbove, cell_of, field_value, var_value, NamesType, FieldFits, VarFits, SlotsFit, CellFits, VarsFit, Fits}
+use Rattle.store_core.specs.Stores.{StoreMap, CellEntry, IsAbove, cell_of, field_value, var_value, NamesType, FieldFits, VarFits, SlotsFit, CellFits, VarsFit, Fits}
 use Rattle.routing_expr.specs.declared.fault.Place.{Place}
-use Rattle.routing_expr.specs.declared.fault.Place.TheVariants as place
 use Rattle.routing_expr.specs.Walks.{IsOfType}
 use Rattle.routing_expr.specs.Destinations.{IsOnlyDestination}
-use Rattle.routing_expr.specs.WellFormed.{value_at, Names, IsInTree, NamesDead, HoldsDead, IsDanglingReference, IsDangling, IsShared, IsLeaked, IsWrongField, HoldsOfType, VarHoldsLive, FieldHoldsLive, SetHoldsLive, IsBackbone, IsWellFormed}
+use Rattle.routing_expr.specs.WellFormed.{value_at, NamesDead, HoldsDead, IsDanglingReference, IsDangling, IsShared, IsLeaked, IsWrongField, HoldsOfType, VarHoldsLive, FieldHoldsLive, SetHoldsLive, IsBackbone, IsWellFormed}
 use Rattle.routing_expr.proofs.LiveLemmas.{IsLive-field_value}
 use Rattle.routing_expr.proofs.FittingLemmas.{IfSome-from, IfSome-at}
 use Rattle.routing_expr.proofs.SharedLemmas.{there}
-use Rattle.routing_laws.specs.Pairing.{PairsValue, PairsSlot, Pairwise, PairsCell, PairsEntry, ArePaired, PairsPlace, FailAlike, FormAlike}
+use Rattle.routing_laws.specs.Pairing.{PairsValue, PairsSlot, Pairwise, PairsEntry, ArePaired, PairsPlace, FailAlike, FormAlike}
 use Rattle.routing_laws.proofs.PairLemmas.{turn, ArePaired-turned, value_turned, place_turned, field_paired, var_paired, place_paired, live_to, type_to, place_forth, place_one, names_to, tree_to, only_to}
 
 module _ (types : List TypeEntry) (R : CellId → CellId → Type 0) (s t : StoreMap) (h : ArePaired R s t) where
@@ -149,7 +145,7 @@ module _ (types : List TypeEntry) (R : CellId → CellId → Type 0) (s t : Stor
   var_fits_to (var.LogicSet target) (value.Cells cells) (value.Cells others) e k = (
     e.1,
     recursion_from_All (NamesType t target) others (members_to (NamesType s target) (NamesType t target) (names_type_to target) cells others e.3
-    (All-from_recursion (NamesType s target) cells k.1)),
+        (All-from_recursion (NamesType s target) cells k.1)),
   )
   var_fits_to var.Bool (value.Cell c) y e k = absurd k
   var_fits_to var.Bool (value.Cells c) y e k = absurd k
@@ -255,7 +251,7 @@ module _ (types : List TypeEntry) (R : CellId → CellId → Type 0) (s t : Stor
         let one = place_forth (turn R) t s back p (there types vars t p c by_p) in
         let other = place_forth (turn R) t s back q (there types vars t q c by_q) in
         let same = backbone.named_once a.0 one.0 other.0 (live_to (turn R) t s back c a.0 a.1 live)
-            (names_to types (turn R) t s back vars p one.0 c a.0 one.1 a.1 by_p) (names_to types (turn R) t s back vars q other.0 c a.0 other.1 a.1 by_q) in
+        (names_to types (turn R) t s back vars p one.0 c a.0 one.1 a.1 by_p) (names_to types (turn R) t s back vars q other.0 c a.0 other.1 a.1 by_q) in
         place_one (turn R) t s back p q one.0 one.1 (subst (λ x. PairsPlace (turn R) q x) (sym same) other.1);
     reached = λ c live.
         let a = h.back c live in

@@ -1,5 +1,5 @@
 -- Paired stores: what stands in them, and what routes and data fields join.
-use Rattle.std.proofs.Common.{◌≡◌, ◌↔◌, ℕ, zero, suc, Bool, true, false, List, [], ◌∷◌, slice_get, Option, Some, None, IsSome, IsSomeAnd, IfSome, refl, sym, ap, ◌∙◌, subst, Contains, ◌==◌, if◌then◌else◌}
+use Rattle.std.proofs.Common.{◌≡◌, ℕ, zero, suc, Bool, true, false, List, [], ◌∷◌, slice_get, Option, Some, None, IsSome, IsSomeAnd, refl, sym, ap, ◌∙◌, subst, ◌==◌, if◌then◌else◌}
 use Rattle.std.specs.Option.{option_and_then}
 use Rattle.store_core.specs.declared.ids.TypeId.{TypeId}
 use Rattle.store_core.specs.declared.ids.VariantId.{VariantId}
@@ -19,7 +19,7 @@ use Rattle.routing_expr.specs.Walks.{Fields, DataAlone, Leads, IsParent, IsOfTyp
 use Rattle.routing_expr.specs.Destinations.{EndsKind, Dest, IsOnlyDestination}
 use Rattle.routing_expr.specs.WellFormed.{value_at, IsDataPlace, Names, IsInTree}
 use Rattle.routing_expr.specs.Places.{IsThere}
-use Rattle.routing_expr.proofs.LiveLemmas.{Leads-live, Walk-live, IsParent-live, IsLive-field_value, IsOfType-live, Chain-live}
+use Rattle.routing_expr.proofs.LiveLemmas.{Leads-live, Walk-live, IsParent-live, Chain-live}
 use Rattle.routing_expr.proofs.MatchLemmas.{Matches, Walk-matched, Walk-match, Chain-matched, parent_down}
 use Rattle.routing_laws.specs.Pairing.{PairsReference, PairsValue, PairsSlot, Pairwise, PairsCell, PairsEntry, ArePaired, PairsPlace, JoinAlike}
 use Rattle.routing_laws.proofs.DecidedStores.{dest_live}
@@ -240,7 +240,7 @@ module _ (types : List TypeEntry) (fields : Fields) (R : CellId → CellId → T
   unfolding Live
   chain_goes {a = a} chain c p =
       let k = Chain-matched types fields (Live R s) s t Matches-paired (parent_down types fields (Live R s) s t Matches-paired) chain c
-          (p, (Chain-live (IsParent-live types s) chain).0) in
+      (p, (Chain-live (IsParent-live types s) chain).0) in
       (k.0, k.1.0, k.2)
 
 module _ (types : List TypeEntry) (R : CellId → CellId → Type 0) (s t : StoreMap) (h : ArePaired R s t) where

@@ -1,5 +1,5 @@
 -- Well-formed stores taken apart into pieces and put together.
-use Rattle.std.proofs.Common.{◌≡◌, ◌⊎◌, inl, inr, ◌<◌, ℕ, Bool, true, false, cond, List, [], ◌∷◌, map, get_or, Option, Some, None, IsSome, IsSomeAnd, IfSome, refl, sym, ap, ◌∙◌, subst, arith, filter, Contains, All, if◌then◌else◌}
+use Rattle.std.proofs.Common.{◌≡◌, inl, inr, ◌<◌, Bool, true, false, cond, List, [], ◌∷◌, map, get_or, Some, None, IsSomeAnd, IfSome, refl, sym, ◌∙◌, subst, filter, Contains, if◌then◌else◌}
 use Rattle.std.specs.List.{AllByRecursion}
 use Rattle.std.proofs.lemmas.Bool.{false≢true}
 use Rattle.std.proofs.lemmas.List.Elements.{All-from_recursion, recursion_from_All, All-contains, Contains-get_or}
@@ -13,7 +13,7 @@ use Rattle.store_core.specs.declared.value.Value.{Value}
 use Rattle.store_core.specs.declared.value.Value.TheVariants as value
 use Rattle.store_core.specs.CellLists.{AreRising}
 use Rattle.store_core.specs.Tables.{TypeEntry, VarEntry, field_at, var_at}
-use Rattle.store_core.specs.Stores.{StoreMap, CellEntry, IsLive, cell_of, field_value, var_value, NamesType, VarFits, VarsFit, Fits}
+use Rattle.store_core.specs.Stores.{StoreMap, IsLive, cell_of, field_value, var_value, NamesType, VarFits, VarsFit, Fits}
 use Rattle.routing_expr.specs.declared.fault.Place.TheVariants as place
 use Rattle.routing_expr.specs.Walks.{DataAlone, IsOfType}
 use Rattle.routing_expr.specs.Destinations.{IsOnlyDestination, IsPointer}

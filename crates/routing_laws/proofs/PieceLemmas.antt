@@ -1,5 +1,5 @@
 -- Backbones taken apart into pieces and put together.
-use Rattle.std.proofs.Common.{◌≡◌, ◌↔◌, ◌⊎◌, inl, inr, ℕ, Bool, true, false, List, [], ◌∷◌, map, slice_get, Option, Some, None, IsSome, IsSomeAnd, IfSome, refl, sym, ap, ◌∙◌, subst, Contains, if◌then◌else◌}
+use Rattle.std.proofs.Common.{◌≡◌, ◌⊎◌, inl, inr, Bool, true, false, List, [], Option, Some, None, IsSome, IsSomeAnd, IfSome, refl, sym, ap, ◌∙◌, subst, Contains, if◌then◌else◌}
 use Rattle.std.specs.Prelude.{option_map}
 use Rattle.std.proofs.lemmas.Option.{slice_get-map}
 use Rattle.store_core.specs.declared.ids.TypeId.{TypeId}
@@ -16,14 +16,13 @@ use Rattle.store_core.specs.Tables.{TypeEntry, VarEntry, FieldEntry, field_at, v
 use Rattle.store_core.specs.Stores.{StoreMap, CellEntry, IsLive, cell_of, field_value, var_value}
 use Rattle.routing_expr.specs.declared.fault.Place.{Place}
 use Rattle.routing_expr.specs.declared.fault.Place.TheVariants as place
-use Rattle.routing_expr.specs.Walks.{DataAlone, IsFollowed, Leads, IsParent, IsOfType, Chain, stay, go}
+use Rattle.routing_expr.specs.Walks.{DataAlone, IsFollowed, IsParent, IsOfType, Chain, stay, go}
 use Rattle.routing_expr.specs.WellFormed.{Names, IsInTree, NamesDead, IsDanglingReference, HoldsOfType, VarHoldsLive, FieldHoldsLive, IsBackbone}
 use Rattle.routing_expr.specs.Regions.{has_number, IsOn, IsRest, IsApart}
 use Rattle.routing_expr.proofs.LiveLemmas.{IsLive-field_value, IsOfType-live}
-use Rattle.routing_expr.proofs.FittingLemmas.{IfSome-from, IfSome-at, IsSomeAnd-at}
-use Rattle.routing_laws.specs.Deciding.{Decided}
-use Rattle.routing_laws.specs.Pieces.{value_on, cell_on, piece_on}
-use Rattle.routing_laws.proofs.DecidedLemmas.{decided_in, decided_there}
+use Rattle.routing_expr.proofs.FittingLemmas.{IfSome-from, IfSome-at}
+use Rattle.routing_laws.specs.Pieces.{value_on, piece_on}
+use Rattle.routing_laws.proofs.DecidedLemmas.{decided_in}
 use Rattle.routing_laws.proofs.DecidedWalks.{decided_same_cell}
 use Rattle.routing_laws.proofs.RegionLemmas.{number_in, in_number, store_on-IsOn, live_on, on_live, leads_off, chain_on}
 use Rattle.routing_laws.proofs.RegionLemmas.{value_on as field_on}
@@ -143,12 +142,14 @@ module _ (cells : List CellId) (s : StoreMap) where
         reached = λ c live.
             let here = live_on cells s (piece_on s cells) piece_on-IsOn c live in
             let tree = backbone.reached c here.1 in
-            let path = chain_on cells s (piece_on s cells) piece_on-IsOn types whole tree.1.path here.0 in
-            (tree.0, record {
-              root = tree.1.root;
-              named = record { place = tree.1.named.place; value = onto_piece tree.0 tree.1.root path.0 tree.1.named.value };
-              path = path.1;
-            });
+            let path = chain_on cells s (piece_on s cells) piece_on-IsOn types whole tree.1.path here.0 in (
+              tree.0,
+              record {
+                root = tree.1.root;
+                named = record { place = tree.1.named.place; value = onto_piece tree.0 tree.1.root path.0 tree.1.named.value };
+                path = path.1;
+              },
+            );
       }
 
       -- ---- what a piece that is a backbone says of the store
@@ -177,12 +178,14 @@ module _ (cells : List CellId) (s : StoreMap) where
 
         pub reached_off : (c : CellId) → IsLive s c → Contains cells c → (v : VarId) × IsInTree types vars s v c
         reached_off c live m =
-            let tree = backbone.reached c (on_live cells s (piece_on s cells) piece_on-IsOn c m live) in
-            (tree.0, record {
-              root = tree.1.root;
-              named = names_off (place.Var tree.0) tree.1.root tree.1.named;
-              path = chain_off tree.1.path;
-            })
+            let tree = backbone.reached c (on_live cells s (piece_on s cells) piece_on-IsOn c m live) in (
+              tree.0,
+              record {
+                root = tree.1.root;
+                named = names_off (place.Var tree.0) tree.1.root tree.1.named;
+                path = chain_off tree.1.path;
+              },
+            )
 
         of_kept : (target : TypeId) (d : CellId) → Contains cells d → HoldsOfType (piece_on s cells) target (value_on cells (value.Cell (Some d))) → IsOfType s target d
         of_kept target d m h = type_off target d (subst (HoldsOfType (piece_on s cells) target) (cell_kept d m) h)

@@ -1,5 +1,5 @@
 -- Walks and destinations on a set of cells that no field leads into or out of.
-use Rattle.std.proofs.Common.{◌≡◌, ◌↔◌, ◌⊎◌, inl, inr, ℕ, Bool, true, false, List, [], ◌∷◌, Option, Some, None, IsSome, IsSomeAnd, IfSome, refl, sym, ap, ◌∙◌, subst, arith, Contains, cond, nat_eq}
+use Rattle.std.proofs.Common.{◌≡◌, ◌↔◌, inl, inr, ℕ, Bool, true, false, List, [], ◌∷◌, Option, Some, None, IsSome, IsSomeAnd, refl, sym, ap, ◌∙◌, subst, arith, Contains, cond, nat_eq}
 use Rattle.std.specs.Prelude.{◌||◌}
 use Rattle.std.specs.Option.{option_and_then}
 use Rattle.std.specs.FinMap.{get-retain_keys, nat_cmp-IsAntisymmetric}
@@ -14,20 +14,19 @@ use Rattle.store_core.specs.declared.kind.Route.{Route}
 use Rattle.store_core.specs.declared.value.Value.{Value}
 use Rattle.store_core.specs.declared.value.Value.TheVariants as value
 use Rattle.store_core.specs.Tables.{TypeEntry, VarEntry, FieldEntry, field_at}
-use Rattle.store_core.specs.Stores.{StoreMap, CellEntry, IsLive, cell_of, field_of, field_value}
+use Rattle.store_core.specs.Stores.{StoreMap, IsLive, cell_of, field_of, field_value}
 use Rattle.routing_expr.specs.declared.fault.Place.{Place}
-use Rattle.routing_expr.specs.Walks.{Fields, DataAlone, DataAndPointers, IsFollowed, Leads, IsParent, IsOfType, IsOfVariant, Chain, stay, go, Walk}
-use Rattle.routing_expr.specs.Destinations.{EndsWalk, EndsKind, Dest, IsOnlyDestination, IsPointer}
-use Rattle.routing_expr.specs.WellFormed.{Names, IsInTree}
-use Rattle.routing_expr.specs.Regions.{has_number, store_on, IsOn, IsReachedFrom, IsPart, IsOutside, IsRest, IsClosedUnderFields, IsApart}
-use Rattle.routing_expr.proofs.LiveLemmas.{Leads-live, Walk-live, IsLive-field_value}
+use Rattle.routing_expr.specs.Walks.{Fields, DataAlone, DataAndPointers, IsFollowed, Leads, IsParent, IsOfVariant, Chain, stay, go, Walk}
+use Rattle.routing_expr.specs.Destinations.{EndsKind, Dest, IsOnlyDestination, IsPointer}
+use Rattle.routing_expr.specs.WellFormed.{Names}
+use Rattle.routing_expr.specs.Regions.{has_number, store_on, IsOn, IsPart, IsRest, IsClosedUnderFields, IsApart}
+use Rattle.routing_expr.proofs.LiveLemmas.{Leads-live, Walk-live}
 use Rattle.routing_expr.proofs.FittingLemmas.{IfSome-at, IsSomeAnd-at}
 use Rattle.routing_expr.proofs.TreeLemmas.{IsInTree-child, IsInTree-parent}
-use Rattle.routing_expr.proofs.MatchLemmas.{Matches, Matches-data, Matches-turned, Walk-matched, Walk-match, type_matched}
-use Rattle.routing_laws.specs.Deciding.{Decided}
+use Rattle.routing_expr.proofs.MatchLemmas.{Matches, Matches-turned, Walk-matched}
 use Rattle.routing_laws.specs.Shown.{IsSound}
 use Rattle.routing_laws.specs.Pieces.{IsLikeOn}
-use Rattle.routing_laws.proofs.DecidedLemmas.{in_none, in_first, in_rest, in_cases, decided_in, holds_from}
+use Rattle.routing_laws.proofs.DecidedLemmas.{in_none, in_rest, in_cases, decided_in, holds_from}
 use Rattle.routing_laws.proofs.DecidedWalks.{decided_same_cell}
 use Rattle.routing_laws.proofs.DecidedStores.{rest_of}
 
@@ -122,9 +121,12 @@ module _ (types : List TypeEntry) (fields : Fields) (cells : List CellId) (s t :
     );
     down = λ f a b c h leads. let m = (whole f a b leads).0 h.1 in
         (b, (refl, m, leads.live), subst (λ x. Leads types t fields f x b) h.0 (leads_on cells s t on types fields f a b h.1 m leads));
-    up = λ f a b d h leads. let m = (whole f a b leads).1 h.1 in
-        (a, (refl, m, (Leads-live types s fields f a b leads).0), subst (λ x. Leads types t fields f a x) h.0
-        (leads_on cells s t on types fields f a b m h.1 leads));
+    up = λ f a b d h leads. let m = (whole f a b leads).1 h.1 in (
+      a,
+      (refl, m, (Leads-live types s fields f a b leads).0),
+      subst (λ x. Leads types t fields f a x) h.0
+          (leads_on cells s t on types fields f a b m h.1 leads),
+    );
     down_back = λ f a c d h leads. let k = leads_off cells s t on types fields f c d leads in
         (d, (refl, k.1, k.2.live), subst (λ x. Leads types s fields f x d) (sym h.0) k.2);
     up_back = λ f b c d h leads. let k = leads_off cells s t on types fields f c d leads in
@@ -144,7 +146,7 @@ module _ (types : List TypeEntry) (fields : Fields) (cells : List CellId) (s t :
       let live = Walk-live types t fields along a b w in
       let from = live_on cells s t on a live.0 in
       let k = Walk-matched types fields (λ c a. Within cells s a c) t s (Matches-turned types fields (Within cells s) s t Matches-on) along a b a
-          (refl, from.0, from.1) w in
+      (refl, from.0, from.1) w in
       subst (λ x. Walk types s fields along a x) k.1.0 k.2
 
   pub walks_on : (along : Route) (a b : CellId) → Contains cells a → Walk types s fields along a b ↔ Walk types t fields along a b
@@ -158,8 +160,7 @@ pub rest_apart : (types : List TypeEntry) (fields : Fields) (s : StoreMap) (cell
     IsApart types s fields cells → IsApart types s fields rest
 rest_apart types fields s cells rest is whole f a b leads =
     let live = Leads-live types s fields f a b leads in
-    let same = whole f a b leads in
-    (
+    let same = whole f a b leads in (
       λ m. (is.members b).1 (live.1, λ k. ((is.members a).0 m).1 (same.1 k)),
       λ m. (is.members a).1 (live.0, λ k. ((is.members b).0 m).1 (same.0 k)),
     )
@@ -187,7 +188,7 @@ module _ (types : List TypeEntry) (fields : Fields) (cells : List CellId) (s t :
       let rest = rest_of s cells in
       let live = Walk-live types s fields along a b w in
       let there : Contains rest.0 b = walk_ends_in types fields rest.0 s (store_on s rest.0) (store_on-IsOn s rest.0)
-          (rest_apart types fields s cells rest.0 rest.1 whole) along a b w ((rest.1.members a).1 (live.0, out)) in
+      (rest_apart types fields s cells rest.0 rest.1 whole) along a b w ((rest.1.members a).1 (live.0, out)) in
       ((rest.1.members b).0 there).1 m)
 
   dest_to : (kind : FieldKind) (c d : CellId) → Contains cells c → EndsKind types s kind c d → EndsKind types t kind c d
@@ -280,7 +281,7 @@ pointers_apart types vars s cells sound whole f a b leads =
     })
     cased (field.Pointer target along) entry at is h =
         let only = IfSome-at _ (IsOnlyDestination types s a f) _ leads.value
-            (sound.pointers a f (subst (λ o. IsSomeAnd o (λ e. IsPointer e.kind)) (sym at) (subst IsPointer (sym is) tt))) in
+        (sound.pointers a f (subst (λ o. IsSomeAnd o (λ e. IsPointer e.kind)) (sym at) (subst IsPointer (sym is) tt))) in
         let dest = IsSomeAnd-at (field_at types f) _ only.0 in
         ends dest.0.kind dest.2
 
@@ -292,7 +293,7 @@ pub walks_alike : (types : List TypeEntry) (fields : Fields) (cells : List CellI
 walks_alike types fields cells s t same whole other along a b m =
     let here = store_on-IsOn s cells in
     let there : IsOn cells t (store_on s cells) =
-        record { inside = λ c k. here.inside c k ∙ sym (same c k); outside = here.outside } in
+    record { inside = λ c k. here.inside c k ∙ sym (same c k); outside = here.outside } in
     let one = walks_on types fields cells s (store_on s cells) here whole along a b m in
     let two = walks_on types fields cells t (store_on s cells) there other along a b m in
     (λ w. two.1 (one.0 w), λ w. one.1 (two.0 w))

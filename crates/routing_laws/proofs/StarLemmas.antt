@@ -32,8 +32,10 @@ module _ (Step : CellId → CellId → Type 0) where
   unfolding Through
   meet [] a m b here one two = absurd (in_none m here)
   meet (c ∷ cells) a m b here one two = elim (in_cases c m cells here) [
-    | inl same ↦ inr (to_head (subst (λ x. Through Step (c ∷ cells) a x) (sym same) one),
-        from_head (subst (λ x. Through Step (c ∷ cells) x b) (sym same) two))
+    | inl same ↦ inr (
+      to_head (subst (λ x. Through Step (c ∷ cells) a x) (sym same) one),
+      from_head (subst (λ x. Through Step (c ∷ cells) x b) (sym same) two),
+    )
     | inr rest ↦ elim one [
       | inl p ↦ elim two [ inl q ↦ inl (meet cells a m b rest p q) | inr q ↦ inr (meet cells a m c rest p q.0, q.1) ]
       | inr p ↦ elim two [ inl q ↦ inr (p.0, meet cells c m b rest p.1 q) | inr q ↦ inr (p.0, q.1) ]

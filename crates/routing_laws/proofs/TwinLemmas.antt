@@ -3,27 +3,26 @@ use Rattle.std.proofs.Common.{◌≡◌, ◌⊎◌, inl, inr, ◌<◌, ℕ, zero
 use Rattle.std.specs.Option.{option_and_then}
 use Rattle.std.specs.List.{AllByRecursion}
 use Rattle.std.specs.Ordering.{nat_cmp, eq_by_cmp}
-use Rattle.std.specs.FinMap.{entries, get, find, get-from_sorted, entries-from_sorted}
+use Rattle.std.specs.FinMap.{get, find, get-from_sorted, entries-from_sorted}
 use Rattle.std.proofs.lemmas.Bool.{false≢true, cases_eq}
 use Rattle.std.proofs.lemmas.Bool.Decides.{nat_tests}
-use Rattle.store_core.specs.declared.ids.TypeId.{TypeId}
 use Rattle.store_core.specs.declared.ids.FieldId.{FieldId}
 use Rattle.store_core.specs.declared.ids.VarId.{VarId}
 use Rattle.store_core.specs.declared.ids.CellId.{CellId}
 use Rattle.store_core.specs.declared.kind.Route.TheVariants as route
 use Rattle.store_core.specs.declared.value.Value.{Value}
 use Rattle.store_core.specs.declared.value.Value.TheVariants as value
-use Rattle.store_core.specs.Tables.{TypeEntry, VarEntry, field_at}
-use Rattle.store_core.specs.Stores.{StoreMap, CellEntry, IsLive, IsAbove, cell_of, field_of, field_value, CellFits, Fits}
+use Rattle.store_core.specs.Tables.{field_at, fields_of}
+use Rattle.store_core.specs.Stores.{CellEntry, IsLive, cell_of, field_of, field_value, CellFits, Fits}
 use Rattle.routing_expr.specs.declared.fault.Place.{Place}
 use Rattle.routing_expr.specs.declared.fault.Place.TheVariants as place
 use Rattle.routing_expr.specs.Walks.{DataAlone, Leads, IsParent, IsOfType, Walk, Chain, stay, go}
-use Rattle.routing_expr.specs.Destinations.{Dest}
+use Rattle.routing_expr.specs.Destinations.{Dest, IsPointer}
 use Rattle.routing_expr.specs.WellFormed.{value_at, NamesDead, Names, IsBackbone}
 use Rattle.routing_expr.specs.Reaching.{IsInSomeTree}
 use Rattle.routing_expr.proofs.WalkLemmas.{Walk-Or, Walk-Down}
 use Rattle.routing_expr.proofs.LiveLemmas.{IsLive-field_value}
-use Rattle.routing_expr.proofs.FittingLemmas.{IsSomeAnd-at}
+use Rattle.routing_expr.proofs.FittingLemmas.{IfSome-from, IsSomeAnd-at}
 use Rattle.routing_expr.proofs.FaultLemmas.{backbone_from}
 use Rattle.routing_laws.specs.Refuting.{Refutes}
 use Rattle.routing_laws.specs.Twins.{twin_type, twin_types, twin_field, twin_vars, twin_cell, twin_store}
@@ -253,10 +252,34 @@ to_right = ends_walk right _ at_right refl ((Walk-Or twin_types twin_store DataA
     (inr ((Walk-Down twin_types twin_store DataAlone (114 ∷ []) first right).1
     (record { field = record { ty = twin_type; index = 1 }; named = refl; leads = leads_right }))))
 
+pointer_slot : (i : ℕ) (x : Value) (left right : Option CellId) → IsSomeAnd (slice_get (fields_of twin_types twin_type) i) (λ entry. IsPointer entry.kind) →
+    option_and_then (λ (v : Option Value). v) (slice_get (twin_cell left right).values i) ≡ Some x → x ≡ value.Cell None
+pointer_slot zero x left right pointer e = absurd pointer
+pointer_slot (suc zero) x left right pointer e = absurd pointer
+pointer_slot (suc (suc zero)) x left right pointer e = cc
+pointer_slot (suc (suc (suc i))) x left right pointer e = cc
+
+pointer_null : (c : CellId) (f : FieldId) (x : Value) (left right : Option CellId) → cell_of twin_store c ≡ Some (twin_cell left right) →
+    IsSomeAnd (field_at twin_types f) (λ entry. IsPointer entry.kind) → field_value twin_store c f ≡ Some x → x ≡ value.Cell None
+pointer_null c f x left right is pointer e =
+    let h = tested (nat_eq 0 f.ty.0) _ _ (subst (λ o. option_and_then (λ cell. field_of cell f) o ≡ Some x) is e) in
+    pointer_slot f.index x left right
+    (subst (λ n. IsSomeAnd (slice_get (fields_of twin_types (record { 0 = n })) f.index) (λ entry. IsPointer entry.kind)) (sym (same_number 0 f.ty.0 h.0)) pointer) h.1
+
+pointers_null : (c : CellId) (f : FieldId) → IsSomeAnd (field_at twin_types f) (λ entry. IsPointer entry.kind) →
+    IfSome (field_value twin_store c f) (λ x. x ≡ value.Cell None)
+pointers_null c f pointer = IfSome-from (field_value twin_store c f) _ (λ x e. elim (which c) [
+  | is_first k ↦ pointer_null c f x (Some left) (Some right) (ap (cell_of twin_store) k ∙ at_first) pointer e
+  | is_left k ↦ pointer_null c f x None None (ap (cell_of twin_store) k ∙ at_left) pointer e
+  | is_right k ↦ pointer_null c f x None None (ap (cell_of twin_store) k ∙ at_right) pointer e
+  | is_dead k ↦ absurd (not_live c k (IsLive-field_value twin_store c f _ e))
+])
+
 pub twins_refute : Refutes twin_types twin_vars twin_store twin_field
 twins_refute = record {
   fits = twins_fit;
   backbone = twins_backbone;
+  nulls = pointers_null;
   cell = first;
   has = subst (λ o. IsSomeAnd (option_and_then (λ cell. field_of cell twin_field) o) (λ x. Unit {0})) (sym at_first) tt;
   one = left;

@@ -1,5 +1,5 @@
 -- A pointer field that isn't functional: its route leads to two cells of a backbone.
-use Rattle.std.specs.Prelude.{ℕ, List, [], ◌∷◌, Option, Some, None}
+use Rattle.std.specs.Prelude.{List, [], ◌∷◌, Option, Some, None}
 use Rattle.std.specs.FinMap.{from_sorted}
 use Rattle.std.specs.Ordering.{nat_cmp}
 use Rattle.store_core.specs.declared.ids.TypeId.{TypeId}
@@ -8,7 +8,6 @@ use Rattle.store_core.specs.declared.ids.CellId.{CellId}
 use Rattle.store_core.specs.declared.kind.FieldKind.TheVariants as field
 use Rattle.store_core.specs.declared.kind.VarKind.TheVariants as var
 use Rattle.store_core.specs.declared.kind.Route.TheVariants as route
-use Rattle.store_core.specs.declared.value.Value.{Value}
 use Rattle.store_core.specs.declared.value.Value.TheVariants as value
 use Rattle.store_core.specs.Tables.{TypeEntry, VarEntry}
 use Rattle.store_core.specs.Stores.{StoreMap, CellEntry}

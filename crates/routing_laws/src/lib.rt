@@ -20,7 +20,9 @@ pub use decided::{
 pub use functional::{
     one_variable_a_type_is_enough, two_ways_are_not_functional, ways_up_are_functional,
 };
-pub use paths::{cells_have_one_path, paths_have_no_cycle, paths_lead_to_one_cell, trees_are_paths};
+pub use paths::{
+    cells_have_one_path, paths_have_no_cycle, paths_lead_to_one_cell, trees_are_paths,
+};
 pub use pieces::{
     pieces_have_their_cells, pieces_of_backbones_are_backbones,
     pieces_of_well_formed_stores_are_well_formed, two_pieces_are_a_backbone,
