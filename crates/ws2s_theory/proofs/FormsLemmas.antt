@@ -117,39 +117,39 @@ module _ (g : Spaces) (guide : IsGuide g) where
         (name-inside g guide A of_A.stable Listed closed B counts name is) looks-listed)
 
 -- the atoms' states, listed and told apart
-all-sub : (q : SubState) → Contains (inside ∷ outside ∷ []) q
+pub all-sub : (q : SubState) → Contains (inside ∷ outside ∷ []) q
 all-sub inside = Contains-first inside (outside ∷ [])
 all-sub outside = Contains-later inside outside (outside ∷ []) (Contains-first outside [])
 
-decide-sub : (p q : SubState) → (p ≡ q) ⊎ (p ≢ q)
+pub decide-sub : (p q : SubState) → (p ≡ q) ⊎ (p ≢ q)
 decide-sub inside inside = inl refl
 decide-sub outside outside = inl refl
 decide-sub inside outside = inr (λ e. absurd cc)
 decide-sub outside inside = inr (λ e. absurd cc)
 
-all-single : (q : SingleState) → Contains (nothing ∷ one ∷ more ∷ []) q
+pub all-single : (q : SingleState) → Contains (nothing ∷ one ∷ more ∷ []) q
 all-single nothing = Contains-first nothing (one ∷ more ∷ [])
 all-single one = Contains-later nothing one (one ∷ more ∷ []) (Contains-first one (more ∷ []))
 all-single more = Contains-later nothing more (one ∷ more ∷ []) (Contains-later one more (more ∷ []) (Contains-first more []))
 
-decide-single : (p q : SingleState) → (p ≡ q) ⊎ (p ≢ q)
+pub decide-single : (p q : SingleState) → (p ≡ q) ⊎ (p ≢ q)
 decide-single nothing nothing = inl refl
 decide-single one one = inl refl
 decide-single more more = inl refl
 decide-single p q = inr (λ e. absurd cc)
 
-all-root : (q : RootState) → Contains (absent ∷ alone ∷ lower ∷ []) q
+pub all-root : (q : RootState) → Contains (absent ∷ alone ∷ lower ∷ []) q
 all-root absent = Contains-first absent (alone ∷ lower ∷ [])
 all-root alone = Contains-later absent alone (alone ∷ lower ∷ []) (Contains-first alone (lower ∷ []))
 all-root lower = Contains-later absent lower (alone ∷ lower ∷ []) (Contains-later alone lower (lower ∷ []) (Contains-first lower []))
 
-decide-root : (p q : RootState) → (p ≡ q) ⊎ (p ≢ q)
+pub decide-root : (p q : RootState) → (p ≡ q) ⊎ (p ≢ q)
 decide-root absent absent = inl refl
 decide-root alone alone = inl refl
 decide-root lower lower = inl refl
 decide-root p q = inr (λ e. absurd cc)
 
-all-succ : (q : SuccState) → Contains (neither ∷ child ∷ found ∷ wrong ∷ []) q
+pub all-succ : (q : SuccState) → Contains (neither ∷ child ∷ found ∷ wrong ∷ []) q
 all-succ neither = Contains-first neither (child ∷ found ∷ wrong ∷ [])
 all-succ child = Contains-later neither child (child ∷ found ∷ wrong ∷ []) (Contains-first child (found ∷ wrong ∷ []))
 all-succ found = Contains-later neither found (child ∷ found ∷ wrong ∷ [])
@@ -157,7 +157,7 @@ all-succ found = Contains-later neither found (child ∷ found ∷ wrong ∷ [])
 all-succ wrong = Contains-later neither wrong (child ∷ found ∷ wrong ∷ [])
     (Contains-later child wrong (found ∷ wrong ∷ []) (Contains-later found wrong (wrong ∷ []) (Contains-first wrong [])))
 
-decide-succ : (p q : SuccState) → (p ≡ q) ⊎ (p ≢ q)
+pub decide-succ : (p q : SuccState) → (p ≡ q) ⊎ (p ≢ q)
 decide-succ neither neither = inl refl
 decide-succ child child = inl refl
 decide-succ found found = inl refl

@@ -1,7 +1,17 @@
 pub mod AtomsLemmas
+pub mod ChildTestsLemmas
+pub mod EqualTracksLemmas
 pub mod FormsLemmas
+pub mod MergedAtomsLemmas
+pub mod MergedSuccessorsLemmas
+pub mod MergingLemmas
 pub mod PeaksLemmas
 pub mod SetsLemmas
 pub mod SizesLemmas
 pub mod SuccessorsLemmas
 pub mod TablesLemmas
+pub mod TestedSizesLemmas
+pub mod TestsLemmas
+pub mod WorkedLemmas
+pub mod WorkedPeakLemmas
+pub mod WorkedSureLemmas

@@ -1,2 +1,4 @@
 pub mod Atoms
+pub mod Merging
 pub mod Peaks
+pub mod Worked
