@@ -1,0 +1,3 @@
+pub mod ContextsLemmas
+pub mod JoiningLemmas
+pub mod TreesLemmas
