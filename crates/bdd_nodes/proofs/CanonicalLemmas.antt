@@ -1,13 +1,13 @@
--- In a canonical list of nodes, references are equal exactly where their functions are.
-use Rattle.std.proofs.Common.{◌≡◌, ℕ, suc, zero, ◌+◌, ◌<◌, ◌≤◌, Bool, true, false, List, length, if◌then◌else◌, sym, ◌∙◌, ap, inl, inr, arith}
-use Rattle.std.proofs.lemmas.Bool.{cases_lt}
+-- In a canonical list of nodes, references are equal exactly where their functions are, and others differ for some label.
+use Rattle.std.proofs.Common.{◌≡◌, ◌⊎◌, Some, ℕ, suc, zero, ◌+◌, ◌<◌, ◌≤◌, Bool, true, false, List, length, if◌then◌else◌, sym, ◌∙◌, ap, inl, inr, arith}
+use Rattle.std.proofs.lemmas.Bool.{cases_lt, cases_eq}
 use Rattle.bdd_nodes.specs.declared.node_ref.NodeRef.{NodeRef}
 use Rattle.bdd_nodes.specs.declared.node_ref.Named.{Named}
 use Rattle.bdd_nodes.specs.declared.node_ref.Named.TheVariants.{Leaf, Inner}
 use Rattle.bdd_nodes.specs.declared.node.Node.{Node}
 use Rattle.labels.specs.Labels.{Label, with_track}
 use Rattle.labels.proofs.LabelsLemmas.{with_track-same, with_track-later}
-use Rattle.bdd_nodes.specs.Nodes.{node_of, rank, node_at, state_named, IsNamedIn, AsksNoneBelow, AreCanonical}
+use Rattle.bdd_nodes.specs.Nodes.{node_of, rank, node_at, state_named, IsNamedIn, first_track, AsksNoneBelow, AreCanonical}
 use Rattle.bdd_nodes.proofs.RefLemmas.{node_of-injective}
 use Rattle.bdd_nodes.proofs.NodesLemmas.{state_named-leaf, state_named-inner, if_same}
 
@@ -192,3 +192,118 @@ module _ (nodes : List Node) (canonical : AreCanonical nodes) where
   pub equal_named : (a b : Named) → IsNamedIn nodes a → IsNamedIn nodes b → ((label : Label) → state_named nodes a label ≡ state_named nodes b label) → a ≡ b
   equal_named a b a_valid b_valid same =
       equal_up_to (rank a + rank b) a b (omega arith) (omega arith) a_valid b_valid same
+
+  -- a label for which the two are different
+  abbrev pub Differ : Named → Named → Type 0
+  Differ a b = (label : Label) × (state_named nodes a label ≡ state_named nodes b label → ⊥)
+
+  Differ-flipped : (a b : Named) → Differ a b → Differ b a
+  Differ-flipped a b h = (h.0, λ e. h.1 (sym e))
+
+  -- where the sides of node i differ, so do its function and one that doesn't ask its track, with the track set or unset
+  inner_differs : (i : ℕ) (named : Named) → i < length nodes → IsNamedIn nodes named → AsksNoneBelow nodes (suc (node_at nodes i).track) named →
+      Differ (low_at i) (high_at i) → Differ (Inner i) named
+  inner_differs i named within valid asks sides =
+      let t = (node_at nodes i).track in
+      let l = sides.0 in
+      let same : state_named nodes named (with_track l t false) ≡ state_named nodes named (with_track l t true) =
+      state_named-unasked named (suc t) (with_track l t false) (with_track l t true) valid asks
+      (λ u later. with_track-later l t u false later ∙ sym (with_track-later l t u true later)) in
+      elim (cases_eq (state_named nodes (low_at i) l) (state_named nodes named (with_track l t false))) as (λ _. Differ (Inner i) named) [
+        | inl low ↦ (with_track l t true, λ e. sides.1 (low ∙ same ∙ sym e ∙ sym (high_states i l within)))
+        | inr low ↦ (with_track l t false, λ e. low (low_states i l within ∙ e))
+      ]
+
+  Differ-leaves : (s u : ℕ) → (s ≡ u → ⊥) → Differ (Leaf s) (Leaf u)
+  Differ-leaves s u other = (
+    (λ _. false),
+    (λ e. other (sym (state_named-leaf nodes s (λ _. false)) ∙ e ∙ state_named-leaf nodes u (λ _. false))),
+  )
+
+  Differ-low : (i j : ℕ) → i < length nodes → j < length nodes → (node_at nodes i).track ≡ (node_at nodes j).track →
+      Differ (low_at i) (low_at j) → Differ (Inner i) (Inner j)
+  Differ-low i j i_in j_in tracks h = (
+    with_track h.0 (node_at nodes i).track false,
+    (λ e. h.1 (low_states i h.0 i_in ∙ e ∙ ap (λ (v : ℕ). state_named nodes (Inner j) (with_track h.0 v false)) tracks
+        ∙ sym (low_states j h.0 j_in))),
+  )
+
+  Differ-high : (i j : ℕ) → i < length nodes → j < length nodes → (node_at nodes i).track ≡ (node_at nodes j).track →
+      Differ (high_at i) (high_at j) → Differ (Inner i) (Inner j)
+  Differ-high i j i_in j_in tracks h = (
+    with_track h.0 (node_at nodes i).track true,
+    (λ e. h.1 (high_states i h.0 i_in ∙ e ∙ ap (λ (v : ℕ). state_named nodes (Inner j) (with_track h.0 v true)) tracks
+        ∙ sym (high_states j h.0 j_in))),
+  )
+
+  -- where both sides are the same or differ, so are the nodes of one track
+  inner_apart : (i j : ℕ) → i < length nodes → j < length nodes → (node_at nodes i).track ≡ (node_at nodes j).track →
+      (low_at i ≡ low_at j) ⊎ Differ (low_at i) (low_at j) → (high_at i ≡ high_at j) ⊎ Differ (high_at i) (high_at j) →
+      (Inner i ≡ Inner j) ⊎ Differ (Inner i) (Inner j)
+  inner_apart i j i_in j_in tracks (inr lows) highs = inr (Differ-low i j i_in j_in tracks lows)
+  inner_apart i j i_in j_in tracks (inl lows) (inr highs) = inr (Differ-high i j i_in j_in tracks highs)
+  inner_apart i j i_in j_in tracks (inl lows) (inl highs) = inl (ap Inner (same_index i j i_in j_in tracks lows highs))
+
+  -- the sides of a node differ, where it is known of them that they are the same or differ
+  sides_apart : (i : ℕ) → i < length nodes → (low_at i ≡ high_at i) ⊎ Differ (low_at i) (high_at i) → Differ (low_at i) (high_at i)
+  sides_apart i within (inl same) = absurd (sides_differ i within same)
+  sides_apart i within (inr differ) = differ
+
+  apart_up_to : (k : ℕ) (a b : Named) → rank a ≤ k → rank b ≤ k → IsNamedIn nodes a → IsNamedIn nodes b → (a ≡ b) ⊎ Differ a b
+  apart_up_to k (Leaf s) (Leaf u) a_below b_below a_valid b_valid =
+      elim (cases_eq s u) as (λ _. (Leaf s ≡ Leaf u) ⊎ Differ (Leaf s) (Leaf u)) [
+        | inl same ↦ inl (ap Leaf same)
+        | inr other ↦ inr (Differ-leaves s u other)
+      ]
+  apart_up_to zero (Leaf s) (Inner j) a_below b_below a_valid b_valid = absurd (omega arith)
+  apart_up_to zero (Inner i) (Leaf u) a_below b_below a_valid b_valid = absurd (omega arith)
+  apart_up_to zero (Inner i) (Inner j) a_below b_below a_valid b_valid = absurd (omega arith)
+  apart_up_to (suc k) (Leaf s) (Inner j) a_below b_below a_valid b_valid =
+      let sides = sides_apart j b_valid (apart_up_to k (low_at j) (high_at j) (let r = low_rank j b_valid in omega arith)
+      (let r = high_rank j b_valid in omega arith) (low_valid j b_valid) (high_valid j b_valid)) in
+      inr (Differ-flipped (Inner j) (Leaf s) (inner_differs j (Leaf s) b_valid tt tt sides))
+  apart_up_to (suc k) (Inner i) (Leaf u) a_below b_below a_valid b_valid =
+      let sides = sides_apart i a_valid (apart_up_to k (low_at i) (high_at i) (let r = low_rank i a_valid in omega arith)
+      (let r = high_rank i a_valid in omega arith) (low_valid i a_valid) (high_valid i a_valid)) in
+      inr (inner_differs i (Leaf u) a_valid tt tt sides)
+  apart_up_to (suc k) (Inner i) (Inner j) a_below b_below a_valid b_valid =
+      let t = (node_at nodes i).track in
+      let u = (node_at nodes j).track in
+      elim (cases_lt t u) as (λ _. (Inner i ≡ Inner j) ⊎ Differ (Inner i) (Inner j)) [
+        | inl below ↦ inr (inner_differs i (Inner j) a_valid b_valid below
+            (sides_apart i a_valid (apart_up_to k (low_at i) (high_at i) (let r = low_rank i a_valid in omega arith)
+            (let r = high_rank i a_valid in omega arith) (low_valid i a_valid) (high_valid i a_valid))))
+        | inr not_below ↦ elim (cases_lt u t) as (λ _. (Inner i ≡ Inner j) ⊎ Differ (Inner i) (Inner j)) [
+          | inl above ↦ inr (Differ-flipped (Inner j) (Inner i) (inner_differs j (Inner i) b_valid a_valid above
+              (sides_apart j b_valid (apart_up_to k (low_at j) (high_at j) (let r = low_rank j b_valid in omega arith)
+              (let r = high_rank j b_valid in omega arith) (low_valid j b_valid) (high_valid j b_valid)))))
+          | inr not_above ↦
+              let tracks : t ≡ u = omega arith in
+              inner_apart i j a_valid b_valid tracks
+              (apart_up_to k (low_at i) (low_at j) (let r = low_rank i a_valid in omega arith)
+              (let r = low_rank j b_valid in omega arith) (low_valid i a_valid) (low_valid j b_valid))
+              (apart_up_to k (high_at i) (high_at j) (let r = high_rank i a_valid in omega arith)
+              (let r = high_rank j b_valid in omega arith) (high_valid i a_valid) (high_valid j b_valid))
+        ]
+      ]
+
+  -- two that aren't the same differ for some label
+  pub differ_named : (a b : Named) → IsNamedIn nodes a → IsNamedIn nodes b → (a ≡ b → ⊥) → Differ a b
+  differ_named a b a_valid b_valid other = pick (apart_up_to (rank a + rank b) a b (omega arith) (omega arith) a_valid b_valid)
+    where
+      pick : (a ≡ b) ⊎ Differ a b → Differ a b
+      pick (inl same) = absurd (other same)
+      pick (inr differ) = differ
+
+  -- for some label the state changes with the first track
+  pub changes_named : (named : Named) (t : ℕ) → IsNamedIn nodes named → first_track nodes named ≡ Some t →
+      (label : Label) × (state_named nodes named (with_track label t false) ≡ state_named nodes named (with_track label t true) → ⊥)
+  changes_named (Leaf state) t valid first = absurd cc
+  changes_named (Inner i) t valid first =
+      let sides = differ_named (low_at i) (high_at i) (low_valid i valid) (high_valid i valid) (sides_differ i valid) in
+      let track : (node_at nodes i).track ≡ t = cc in (
+        sides.0,
+        λ e. sides.1 (low_states i sides.0 valid
+            ∙ ap (λ (v : ℕ). state_named nodes (Inner i) (with_track sides.0 v false)) track ∙ e
+            ∙ sym (ap (λ (v : ℕ). state_named nodes (Inner i) (with_track sides.0 v true)) track) ∙ sym (high_states i sides.0 valid)),
+      )

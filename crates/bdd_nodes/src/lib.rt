@@ -12,7 +12,11 @@ mod node_ref;
 mod roots;
 mod shelf;
 
-pub use laws::{equal_references, reached_functions, small_states, unasked_tracks, unused_numbers};
+pub use laws::{
+    equal_references, inner_references_change_with_their_first_track,
+    other_references_differ_somewhere, reached_functions, small_states, unasked_tracks,
+    unused_numbers,
+};
 pub use node_ref::NodeRef;
 pub use roots::{RefList, TableId};
 pub use shelf::read::Label;

@@ -38,14 +38,17 @@ AreCovered-meanings : (known : List Assignment) (nodes : List TreeNode) → AreC
 AreCovered-meanings known [] covered = covered
 AreCovered-meanings known (node ∷ nodes) covered = AreCovered-meanings (known ++ node_assignment known node ∷ []) nodes (AreCovered-push known node covered)
 
--- the number of nodes covers what they stand for
-pub Covers-tree : (nodes : List TreeNode) → Covers (length nodes) (assignment_of nodes)
-Covers-tree nodes = pick (slice_get (meanings node_assignment nodes) (length nodes - 1)) refl
+-- the number of nodes covers what any of them stands for
+pub Covers-at : (nodes : List TreeNode) (k : ℕ) → Covers (length nodes) (unwrap_or (slice_get (meanings node_assignment nodes) k) empty_assignment)
+Covers-at nodes k = pick (slice_get (meanings node_assignment nodes) k) refl
   where
-    pick : (o : Option Assignment) → slice_get (meanings node_assignment nodes) (length nodes - 1) ≡ o → Covers (length nodes) (unwrap_or o empty_assignment)
+    pick : (o : Option Assignment) → slice_get (meanings node_assignment nodes) k ≡ o → Covers (length nodes) (unwrap_or o empty_assignment)
     pick None at = λ t p deep. refl
     pick (Some a) at =
-        let inside = slice_get_within (meanings node_assignment nodes) (length nodes - 1) a at in
-        let n : suc (length nodes - 1) ≤ length nodes = omega (arith, length-meanings node_assignment nodes) in
-        Covers-more (suc (length nodes - 1)) (length nodes) a n
-        ((AreCovered-meanings [] nodes (record { at = λ k b none. absurd cc })).at (length nodes - 1) a at)
+        let inside = slice_get_within (meanings node_assignment nodes) k a at in
+        Covers-more (suc k) (length nodes) a (omega (arith, length-meanings node_assignment nodes))
+        ((AreCovered-meanings [] nodes (record { at = λ k b none. absurd cc })).at k a at)
+
+-- and what they stand for
+pub Covers-tree : (nodes : List TreeNode) → Covers (length nodes) (assignment_of nodes)
+Covers-tree nodes = Covers-at nodes (length nodes - 1)

@@ -2,6 +2,7 @@ pub mod ExamplesLemmas
 pub mod FormulaLemmas
 pub mod LabelTreesLemmas
 pub mod NodesLemmas
+pub mod PartsLemmas
 pub mod PlacingLemmas
 pub mod PostfixLemmas
 pub mod RecognisingLemmas

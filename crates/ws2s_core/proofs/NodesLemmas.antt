@@ -10,6 +10,7 @@ use Rattle.std.specs.declared.hash.BuildHasherDefault.{BuildHasherDefault}
 use Rattle.std.specs.declared.hash.FoldHasher.{FoldHasher}
 use Rattle.gta_theory.proofs.ListedLemmas.{meanings-front, length-meanings, slice_get-meanings, slice_get-front, slice_get-last, slice_get-push}
 use Rattle.ws2s_core.specs.declared.track.Track.{Track}
+use Rattle.ws2s_core.specs.declared.node.FormulaId.{FormulaId}
 use Rattle.ws2s_core.specs.declared.node.Node.{Node}
 use Rattle.ws2s_core.specs.declared.postfix.Symbol.{Symbol}
 use Rattle.ws2s_core.specs.declared.formula.Formula.{Formula, roll-Formula, out-Formula, out-roll-Formula}
@@ -26,6 +27,9 @@ same_node = (node_eq.ghosts).eq
 same_track : (x y : Track) → eqb x.0 y.0 ≡ true → x ≡ y
 same_track x y e = ap (λ n. record { 0 = n }) (eqb-true x.0 y.0 e)
 
+same_id : (x y : FormulaId) → eqb x.0 y.0 ≡ true → x ≡ y
+same_id x y e = ap (λ n. record { 0 = n }) (eqb-true x.0 y.0 e)
+
 -- the derived test says whether two nodes are the same
 pub same_node-true : (x y : Node) → same_node x y ≡ true → x ≡ y
 same_node-true (Node.Sub x y) (Node.Sub x' y') e = let h = and_parts _ _ e in ap₂ Node.Sub (same_track x x' h.0) (same_track y y' h.1)
@@ -33,9 +37,9 @@ same_node-true (Node.Single x) (Node.Single x') e = ap Node.Single (same_track x
 same_node-true (Node.Succ0 x y) (Node.Succ0 x' y') e = let h = and_parts _ _ e in ap₂ Node.Succ0 (same_track x x' h.0) (same_track y y' h.1)
 same_node-true (Node.Succ1 x y) (Node.Succ1 x' y') e = let h = and_parts _ _ e in ap₂ Node.Succ1 (same_track x x' h.0) (same_track y y' h.1)
 same_node-true (Node.Root x) (Node.Root x') e = ap Node.Root (same_track x x' e)
-same_node-true (Node.And f g) (Node.And f' g') e = let h = and_parts _ _ e in ap₂ Node.And (eqb-true f f' h.0) (eqb-true g g' h.1)
-same_node-true (Node.Not f) (Node.Not f') e = ap Node.Not (eqb-true f f' e)
-same_node-true (Node.Ex2 t f) (Node.Ex2 t' f') e = let h = and_parts _ _ e in ap₂ Node.Ex2 (same_track t t' h.0) (eqb-true f f' h.1)
+same_node-true (Node.And f g) (Node.And f' g') e = let h = and_parts _ _ e in ap₂ Node.And (same_id f f' h.0) (same_id g g' h.1)
+same_node-true (Node.Not f) (Node.Not f') e = ap Node.Not (same_id f f' e)
+same_node-true (Node.Ex2 t f) (Node.Ex2 t' f') e = let h = and_parts _ _ e in ap₂ Node.Ex2 (same_track t t' h.0) (same_id f f' h.1)
 same_node-true x y e = absurd (false≢true e)
 
 pub same_node-refl : (x : Node) → same_node x x ≡ true
@@ -44,9 +48,9 @@ same_node-refl (Node.Single x) = eq-eqb x.0 x.0 refl
 same_node-refl (Node.Succ0 x y) = and_from _ _ (eq-eqb x.0 x.0 refl) (eq-eqb y.0 y.0 refl)
 same_node-refl (Node.Succ1 x y) = and_from _ _ (eq-eqb x.0 x.0 refl) (eq-eqb y.0 y.0 refl)
 same_node-refl (Node.Root x) = eq-eqb x.0 x.0 refl
-same_node-refl (Node.And f g) = and_from _ _ (eq-eqb f f refl) (eq-eqb g g refl)
-same_node-refl (Node.Not f) = eq-eqb f f refl
-same_node-refl (Node.Ex2 t f) = and_from _ _ (eq-eqb t.0 t.0 refl) (eq-eqb f f refl)
+same_node-refl (Node.And f g) = and_from _ _ (eq-eqb f.0 f.0 refl) (eq-eqb g.0 g.0 refl)
+same_node-refl (Node.Not f) = eq-eqb f.0 f.0 refl
+same_node-refl (Node.Ex2 t f) = and_from _ _ (eq-eqb t.0 t.0 refl) (eq-eqb f.0 f.0 refl)
 
 -- the index, after the map was reordered
 pub IsIndexed-same : (nodes : List Node) (places places' : HashMap Node ℕ (BuildHasherDefault FoldHasher)) →
@@ -152,6 +156,17 @@ stands_for-extends nodes nodes' (k ∷ places) extends inside =
     (ap (λ ns. formula_at (formulas_of ns) k) extends.is ∙ ap (λ fs. formula_at fs k) front.is ∙ formula_at-front (formulas_of nodes) front.more k lt)
     (stands_for-extends nodes nodes' places extends (All-tail (λ place. place < length nodes) k places inside))
 
+-- the formula of a node whose parts were there, after more nodes came
+pub formula_of_node-extends : (nodes nodes' : List Node) (node : Node) → Extends nodes nodes' → HasPartsBelow (length nodes) node →
+    formula_of_node (formulas_of nodes') node ≡ formula_of_node (formulas_of nodes) node
+formula_of_node-extends nodes nodes' node extends inside =
+    let front = formulas_of-extends nodes extends.more in
+    ap (λ ns. formula_of_node (formulas_of ns) node) extends.is ∙ ap (λ fs. formula_of_node fs node) front.is
+    ∙ ap roll-Formula (map-same (formula_at (formulas_of nodes ++ front.more)) (formula_at (formulas_of nodes)) (form_of node)
+    (All-weaker (λ part. part < length nodes) (λ part. formula_at (formulas_of nodes ++ front.more) part ≡ formula_at (formulas_of nodes) part)
+    (λ part lt. formula_at-front (formulas_of nodes) front.more part (omega (arith, length-meanings formula_of_node nodes)))
+    (parts_of (form_of node)) inside))
+
 -- a symbol takes numbers as it takes what they stand for
 pub taken-map : (symbol : Symbol) (h : ℕ → Formula) (parts : List ℕ) →
     taken symbol (map h parts) ≡ option_map (λ found. (map-Formula ℕ Formula h found.0, map h found.1)) (taken symbol parts)
@@ -217,6 +232,10 @@ applied-placed symbol nodes parts rest node place taking at below =
     (sym (formula_at-is (formulas_of nodes) place (formula_of_node (formulas_of nodes) node)
     (formulas_of-at nodes place node at below)))
 
+-- the id with a number
+abbrev id_of : ℕ → FormulaId
+id_of n = record { 0 = n }
+
 -- the node of a form
 node_from : Formula-F ℕ → Node
 node_from (Formula-F.Sub x y) = Node.Sub x y
@@ -224,9 +243,9 @@ node_from (Formula-F.Single x) = Node.Single x
 node_from (Formula-F.Succ0 x y) = Node.Succ0 x y
 node_from (Formula-F.Succ1 x y) = Node.Succ1 x y
 node_from (Formula-F.Root x) = Node.Root x
-node_from (Formula-F.And f g) = Node.And f g
-node_from (Formula-F.Not f) = Node.Not f
-node_from (Formula-F.Ex2 t f) = Node.Ex2 t f
+node_from (Formula-F.And f g) = Node.And (id_of f) (id_of g)
+node_from (Formula-F.Not f) = Node.Not (id_of f)
+node_from (Formula-F.Ex2 t f) = Node.Ex2 t (id_of f)
 
 node_from-form : (node : Node) → node_from (form_of node) ≡ node
 unfolding node_from
@@ -262,14 +281,15 @@ map-injective P h same (Formula-F.Ex2 t f) (Formula-F.Ex2 t' f') in_x in_y e =
     ap₂ Formula-F.Ex2 track (same f f' (All-head P f [] in_x) (All-head P f' [] in_y) first)
 map-injective P h same x y in_x in_y e = absurd cc
 
+-- the node at a place
+pub node-inside : (nodes : List Node) (k : ℕ) → k < length nodes → (node : Node) × (slice_get nodes k ≡ Some node)
+node-inside [] k inside = absurd (omega arith)
+node-inside (node ∷ nodes) zero inside = (node, refl)
+node-inside (node ∷ nodes) (suc k) inside = node-inside nodes k (omega arith)
+
 -- the node at a place where a formula is
 node-at : (nodes : List Node) (k : ℕ) (f : Formula) → slice_get (formulas_of nodes) k ≡ Some f → (node : Node) × (slice_get nodes k ≡ Some node)
-node-at nodes k f at = pick nodes k (subst (λ n. k < n) (length-meanings formula_of_node nodes) (slice_get_within (formulas_of nodes) k f at))
-  where
-    pick : (nodes : List Node) (k : ℕ) → k < length nodes → (node : Node) × (slice_get nodes k ≡ Some node)
-    pick [] k inside = absurd (omega arith)
-    pick (node ∷ nodes) zero inside = (node, refl)
-    pick (node ∷ nodes) (suc k) inside = pick nodes k (omega arith)
+node-at nodes k f at = node-inside nodes k (subst (λ n. k < n) (length-meanings formula_of_node nodes) (slice_get_within (formulas_of nodes) k f at))
 
 module _ (nodes : List Node) (places : HashMap Node ℕ (BuildHasherDefault FoldHasher)) (index : IsIndexed nodes places) where
   once-below : (n i j : ℕ) (f : Formula) → i < n → j < n → slice_get (formulas_of nodes) i ≡ Some f → slice_get (formulas_of nodes) j ≡ Some f → i ≡ j

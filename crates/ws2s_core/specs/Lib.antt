@@ -2,6 +2,7 @@ pub mod Dropping
 pub mod Examples
 pub mod LabelTrees
 pub mod Nodes
+pub mod Parts
 pub mod Postfix
 pub mod Recognising
 pub mod Satisfaction

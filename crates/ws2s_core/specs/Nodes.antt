@@ -1,5 +1,5 @@
 -- Formulas that are kept as nodes over the numbers of others, each formula once.
-use Rattle.std.specs.Prelude.{◌≡◌, ℕ, ◌+◌, ◌<◌, ◌≤◌, List, [], ◌∷◌, ◌++◌, length, map, reverse, slice_get, unwrap_or, Some, All, Vec, vec_len, vec_capacity}
+use Rattle.std.specs.Prelude.{◌≡◌, ◌⊎◌, ℕ, ◌+◌, ◌<◌, ◌≤◌, List, [], ◌∷◌, ◌++◌, length, map, reverse, slice_get, unwrap_or, Some, All, Vec, vec_len, vec_capacity}
 use Rattle.std.specs.declared.alloc.Global.{Global}
 use Rattle.std.specs.HashMap.{HashMap, get, spare}
 use Rattle.std.specs.declared.hash.BuildHasherDefault.{BuildHasherDefault}
@@ -21,9 +21,9 @@ form_of (Node.Single x) = Formula-F.Single x
 form_of (Node.Succ0 x y) = Formula-F.Succ0 x y
 form_of (Node.Succ1 x y) = Formula-F.Succ1 x y
 form_of (Node.Root x) = Formula-F.Root x
-form_of (Node.And f g) = Formula-F.And f g
-form_of (Node.Not f) = Formula-F.Not f
-form_of (Node.Ex2 t f) = Formula-F.Ex2 t f
+form_of (Node.And f g) = Formula-F.And f.0 g.0
+form_of (Node.Not f) = Formula-F.Not f.0
+form_of (Node.Ex2 t f) = Formula-F.Ex2 t f.0
 
 -- the formula with a number; one that isn't there has none, and counts as `Root 0`
 abbrev pub formula_at : List Formula → ℕ → Formula
@@ -62,6 +62,10 @@ pub record HasRoom (nodes : Vec Node Global) (places : HashMap Node ℕ (BuildHa
 pub record Extends {N : Type 0} (old new : List N) : Type 0 where
   pub more : List N
   pub is : new ≡ old ++ more
+
+-- the list stays, or gets one more at its end
+abbrev pub AddsAtMost : {N : Type 0} → List N → N → List N → Type 0
+AddsAtMost old one new = (new ≡ old) ⊎ (new ≡ old ++ one ∷ [])
 
 -- the formulas that places stand for
 abbrev pub stands_for : List Node → List ℕ → List Formula

@@ -1,16 +1,16 @@
 //! Numbers for formulas: equal ones exactly for equal formulas.
 
-ghost use Rattle.std.specs.Prelude.{◌≡◌, ◌↔◌, ℕ, List, [], Some, IfOk, OnErr, slice_get};
-ghost use Rattle.ws2s_core.specs.Nodes.{IsOnceEach, Extends};
+ghost use Rattle.std.specs.Prelude.{◌≡◌, ◌<◌, [], Some, IfOk, IfSome, OnErr, length, option_map, slice_get};
+ghost use Rattle.ws2s_core.specs.Nodes.{formula_of_node, HasPartsBelow, IsOnceEach, AddsAtMost, Extends};
+ghost use Rattle.ws2s_core.specs.Parts.{ArePartsOf};
 
 use crate::formula::Formula;
-use crate::node_table::{NodeTable, place_formula};
+use crate::node::{FormulaId, Node};
+use crate::node_table::{NodeTable, place_formula, place_node};
+use crate::parts::{FormulaIdList, parts_at};
+use plain_data::at;
 use std::alloc::{AllocError, Global};
 use std::marker::Model;
-
-/// The number of a formula in an [`Interner`].
-#[derive(Clone, Copy, Debug, PartialEq, Eq, PartialOrd, Ord, Hash)]
-pub struct FormulaId(pub u32);
 
 /// The formulas that have a number. Contracts see the list of them, each at the place that its number names; it has
 /// no formula twice.
@@ -46,6 +46,49 @@ impl Interner {
             table: NodeTable::new(alloc),
         }
     }
+
+    /// The form of the formula with a number, over the numbers of its parts, which are lower. `None` exactly for an
+    /// unknown number. Takes constant time, and no memory.
+    pub fn form(&self, id: FormulaId) -> Option<Node>
+        ensures value { option_map (formula_of_node self.now) result ≡ slice_get self.now id.0 }
+        ensures parts { IfSome result (λ node. HasPartsBelow id.0 node) }
+        ensures once { IsOnceEach self.now }
+    {
+        at(self.table.nodes.as_slice(), id.0 as usize).copied()
+    }
+
+    /// The numbers of all parts of a formula, its own among them, each once and after those of its own parts.
+    ///
+    /// Takes constant time for each number up to the formula's, and goes over numbers alone: a part that stands in
+    /// many places is looked at once.
+    ///
+    /// # Errors
+    ///
+    /// Want of memory.
+    pub fn parts(&self, alloc: Global, id: FormulaId) -> Result<FormulaIdList, AllocError>
+        requires { id.0 < length self.now }
+        ensures { IfOk result (λ ids. ArePartsOf self.now id.0 ids) }
+    {
+        parts_at(alloc, self.table.nodes.as_slice(), id.0)
+    }
+}
+
+/// The number of a formula that is given by its form over numbers: the one that it has, or a new one. Takes expected
+/// constant time.
+///
+/// # Errors
+///
+/// Want of memory, also where the formulas are more than a `u32` numbers. The interner is then as it was.
+pub fn intern_form(interner: &mut Interner, form: Node) -> Result<FormulaId, AllocError>
+    requires { HasPartsBelow (length interner.old) form }
+    ensures value { IfOk result (λ id. slice_get interner.new id.0 ≡ Some (formula_of_node interner.old form)) }
+    ensures kept { Extends interner.old interner.new }
+    ensures added { AddsAtMost interner.old (formula_of_node interner.old form) interner.new }
+    ensures once { IsOnceEach interner.new }
+    ensures err { OnErr result (interner.new ≡ interner.old) }
+{
+    let place = place_node(&mut interner.table, form)?;
+    Ok(FormulaId(place))
 }
 
 /// The number of a formula: the one that it has, or a new one. Its parts get numbers too.

@@ -19,14 +19,17 @@ mod label_tree;
 mod laws;
 mod node;
 mod node_table;
+mod parts;
 mod postfix;
 mod size;
 mod track;
 
 pub use formula::Formula;
 pub use guide::{Guide, SpaceList};
-pub use interner::{FormulaId, Interner, intern};
+pub use interner::{Interner, intern, intern_form};
 pub use label_tree::{LabelTree, TreeNode, TreeNodeList};
 pub use laws::{examples, recognising, satisfaction, trees};
+pub use node::{FormulaId, Node};
+pub use parts::FormulaIdList;
 pub use plain_data::Boxed;
 pub use track::{Track, TrackList};

@@ -2,7 +2,12 @@
 
 use crate::track::Track;
 
-/// A form whose parts are the numbers of formulas.
+/// The number of a formula in an [`Interner`](crate::Interner).
+#[derive(Clone, Copy, Debug, PartialEq, Eq, PartialOrd, Ord, Hash)]
+pub struct FormulaId(pub u32);
+
+/// A formula of one level, whose parts are the numbers of formulas; the forms are those of
+/// [`Formula`](crate::Formula).
 #[derive(Clone, Copy, Debug, PartialEq, Eq, Hash)]
 pub enum Node {
     Sub(Track, Track),
@@ -10,7 +15,7 @@ pub enum Node {
     Succ0(Track, Track),
     Succ1(Track, Track),
     Root(Track),
-    And(u32, u32),
-    Not(u32),
-    Ex2(Track, u32),
+    And(FormulaId, FormulaId),
+    Not(FormulaId),
+    Ex2(Track, FormulaId),
 }

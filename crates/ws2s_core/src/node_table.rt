@@ -2,10 +2,10 @@
 
 ghost use Rattle.std.specs.Prelude.{◌≡◌, ℕ, ◌+◌, ◌<◌, ◌≤◌, [], Some, IsSome, IfOk, OnOk, OnErr, All, length, map, reverse, slice_get, vec_len, vec_capacity};
 ghost use Rattle.ws2s_core.specs.Postfix.{taken, applied};
-ghost use Rattle.ws2s_core.specs.Nodes.{form_of, HasPartsBelow, IsIndexed, HasRoom, Extends, stands_for, formulas_of};
+ghost use Rattle.ws2s_core.specs.Nodes.{form_of, HasPartsBelow, IsIndexed, HasRoom, AddsAtMost, Extends, stands_for, formulas_of};
 
 use crate::formula::Formula;
-use crate::node::Node;
+use crate::node::{FormulaId, Node};
 use crate::postfix::{Symbol, symbols_of};
 use std::alloc::{AllocError, Global};
 use std::collections::HashMap;
@@ -54,6 +54,7 @@ fn place_of(table: &mut NodeTable, node: Node) -> u32
     requires parts { HasPartsBelow (length table.old.nodes.items) node }
     ensures indexed { IsIndexed table.new.nodes.items table.new.places }
     ensures kept { Extends table.old.nodes.items table.new.nodes.items }
+    ensures added { AddsAtMost table.old.nodes.items node table.new.nodes.items }
     ensures value { slice_get table.new.nodes.items result ≡ Some node }
     ensures room { (more : ℕ) → HasRoom table.old.nodes table.old.places (more + 1) →
         HasRoom table.new.nodes table.new.places more }
@@ -89,10 +90,10 @@ fn node_of(parts: &mut Vec<u32>, symbol: Symbol) -> Node
         Symbol::And => {
             let right = parts.pop().unwrap();
             let left = parts.pop().unwrap();
-            Node::And(left, right)
+            Node::And(FormulaId(left), FormulaId(right))
         }
-        Symbol::Not => Node::Not(parts.pop().unwrap()),
-        Symbol::Ex2(t) => Node::Ex2(t, parts.pop().unwrap()),
+        Symbol::Not => Node::Not(FormulaId(parts.pop().unwrap())),
+        Symbol::Ex2(t) => Node::Ex2(t, FormulaId(parts.pop().unwrap())),
     }
 }
 
@@ -119,6 +120,20 @@ fn place_symbol(table: &mut NodeTable, parts: &mut Vec<u32>, symbol: Symbol)
         Ok(()) => {}
         Err(_) => unreachable!(),
     }
+}
+
+/// The place of a node over places of the table, which is put in where it isn't there.
+pub fn place_node(table: &mut NodeTable, node: Node) -> Result<u32, AllocError>
+    requires indexed { IsIndexed table.old.nodes.items table.old.places }
+    requires parts { HasPartsBelow (length table.old.nodes.items) node }
+    ensures indexed { IsIndexed table.new.nodes.items table.new.places }
+    ensures kept { Extends table.old.nodes.items table.new.nodes.items }
+    ensures added { AddsAtMost table.old.nodes.items node table.new.nodes.items }
+    ensures value { IfOk result (λ place. slice_get table.new.nodes.items place ≡ Some node) }
+    ensures err { OnErr result (table.new.nodes.items ≡ table.old.nodes.items) }
+{
+    reserve(table, 1)?;
+    Ok(place_of(table, node))
 }
 
 /// The place of a formula, whose nodes are put in where they aren't there.

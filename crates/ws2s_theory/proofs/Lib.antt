@@ -1,7 +1,9 @@
 pub mod AtomsLemmas
 pub mod ChildTestsLemmas
+pub mod ContextsLemmas
 pub mod EqualTracksLemmas
 pub mod FormsLemmas
+pub mod JoiningLemmas
 pub mod MergedAtomsLemmas
 pub mod MergedSuccessorsLemmas
 pub mod MergingLemmas
@@ -12,6 +14,7 @@ pub mod SuccessorsLemmas
 pub mod TablesLemmas
 pub mod TestedSizesLemmas
 pub mod TestsLemmas
+pub mod TreesLemmas
 pub mod WorkedLemmas
 pub mod WorkedPeakLemmas
 pub mod WorkedSureLemmas
