@@ -9,7 +9,7 @@ use Rattle.store_core.specs.declared.kind.Route.{Route}
 use Rattle.store_core.specs.declared.value.Value.{Value}
 use Rattle.store_core.specs.declared.value.Value.TheVariants as value
 use Rattle.store_core.specs.Tables.{TypeEntry}
-use Rattle.store_core.specs.Stores.{StoreMap, CellEntry, IsLive, cell_of, field_of, field_value}
+use Rattle.store_core.specs.Stores.{StoreMap, CellEntry, IsLive, field_of, field_value}
 use Rattle.routing_expr.specs.Walks.{Fields, Leads, IsOfVariant, Walk}
 use Rattle.routing_expr.proofs.LiveLemmas.{Leads-live, Walk-live}
 use Rattle.routing_expr.proofs.MatchLemmas.{Matches, Walk-match}
@@ -42,12 +42,21 @@ module _ (types : List TypeEntry) (fields : Fields) (s t : StoreMap) (e : s.cell
     truth = λ a c h f b. subst (λ x. (field_value s a f ≡ Some (value.Bool b)) ↔ (field_value t x f ≡ Some (value.Bool b))) h.0
         (value_too s t e a f _, value_too t s (sym e) a f _);
     down = λ f a b c h leads. (b, (refl, leads.live), subst (λ x. Leads types t fields f x b) h.0 (leads_too s t e types fields f a b leads));
-    up = λ f a b d h leads. (a, (refl, (Leads-live types s fields f a b leads).0),
-        subst (λ x. Leads types t fields f a x) h.0 (leads_too s t e types fields f a b leads));
-    down_back = λ f a c d h leads. (d, (refl, live_too t s (sym e) d leads.live),
-        subst (λ x. Leads types s fields f x d) (sym h.0) (leads_too t s (sym e) types fields f c d leads));
-    up_back = λ f b c d h leads. (c, (refl, live_too t s (sym e) c (Leads-live types t fields f c d leads).0),
-        subst (λ x. Leads types s fields f c x) (sym h.0) (leads_too t s (sym e) types fields f c d leads));
+    up = λ f a b d h leads. (
+      a,
+      (refl, (Leads-live types s fields f a b leads).0),
+      subst (λ x. Leads types t fields f a x) h.0 (leads_too s t e types fields f a b leads),
+    );
+    down_back = λ f a c d h leads. (
+      d,
+      (refl, live_too t s (sym e) d leads.live),
+      subst (λ x. Leads types s fields f x d) (sym h.0) (leads_too t s (sym e) types fields f c d leads),
+    );
+    up_back = λ f b c d h leads. (
+      c,
+      (refl, live_too t s (sym e) c (Leads-live types t fields f c d leads).0),
+      subst (λ x. Leads types s fields f c x) (sym h.0) (leads_too t s (sym e) types fields f c d leads),
+    );
   }
 
   walk_too : (along : Route) (a b : CellId) → Walk types s fields along a b → Walk types t fields along a b

@@ -12,7 +12,7 @@ use Rattle.store_core.specs.Stores.{StoreMap}
 use Rattle.routing_expr.specs.Walks.{Fields, Chain, stay, go as go_round, Walk}
 use Rattle.routing_expr.specs.declared.machine.Edge.{Edge}
 use Rattle.routing_expr.specs.declared.machine.Part.{Part}
-use Rattle.routing_expr.specs.Machines.{Label, live, along, Arc, arc, arc_of, part_of, Takes, Path, stop, go, Means, IsPlan}
+use Rattle.routing_expr.specs.Machines.{live, along, Arc, arc, arc_of, part_of, Takes, Path, stop, go, Means, IsPlan}
 use Rattle.routing_expr.specs.Gathering.{Gathers, HasAll}
 use Rattle.routing_expr.proofs.WalkLemmas.{Walk-Then, Walk-Or, Walk-Star}
 use Rattle.routing_expr.proofs.LiveLemmas.{Walk-live, Chain-live}

@@ -10,7 +10,7 @@ use Rattle.store_core.specs.declared.kind.Route.{Route}
 use Rattle.store_core.specs.declared.value.Value.TheVariants as value
 use Rattle.store_core.specs.Tables.{TypeEntry, FieldEntry, field_at}
 use Rattle.store_core.specs.Stores.{StoreMap, CellEntry, IsLive, cell_of, field_value}
-use Rattle.routing_expr.specs.Walks.{Fields, DataAlone, DataAndPointers, IsFollowed, Leads, LeadsByName, IsParent, Stays, IsRoot, IsLeaf, IsOfType, IsOfVariant, HasTruth, Chain, stay, go, Walk}
+use Rattle.routing_expr.specs.Walks.{Fields, DataAlone, IsFollowed, Leads, IsParent, Stays, IsRoot, IsLeaf, IsOfType, IsOfVariant, HasTruth, Chain, stay, go, Walk}
 use Rattle.routing_expr.proofs.RouteLemmas.{IsHereditary, route-induction}
 use Rattle.routing_expr.proofs.WalkLemmas.{Walk-Down, Walk-Up, Walk-UpAny, Walk-Root, Walk-Leaf, Walk-IsType, Walk-IsVariant, Walk-IsBool, Walk-Then, Walk-Or, Walk-Star}
 
@@ -146,7 +146,7 @@ module _ (types : List TypeEntry) (fields : Fields) (R : CellId → CellId → T
         (k.0, k.1, (Walk-IsVariant types t fields v c k.0).1 k.2);
     of_IsBool = λ name truth a b c h w.
         let k = test_matched (HasTruth types s name truth) (HasTruth types t name truth) (truth_matched name truth) a b c h
-            ((Walk-IsBool types s fields name truth a b).0 w) in
+        ((Walk-IsBool types s fields name truth a b).0 w) in
         (k.0, k.1, (Walk-IsBool types t fields name truth c k.0).1 k.2);
     of_Then = λ first second one two a e c h w. let n = (Walk-Then types s fields first second a e).0 w in
         let k = one a n.0 c h n.1 in
