@@ -92,7 +92,15 @@ fn walk(
     let route = to_all(alloc, shape)?;
     let mut ended = 0;
     for _round in 0..rounds {
-        let ends = ends_on(alloc, types, store, cells, &route, Followed::Data, CellId(1))?;
+        let ends = ends_on(
+            alloc,
+            types,
+            store,
+            cells,
+            &route,
+            Followed::Data,
+            CellId(1),
+        )?;
         ended = ends.as_slice().len();
     }
     Ok(ended)

@@ -1,11 +1,11 @@
 -- The cells that are kept of a store are the store on the set.
-use Rattle.std.proofs.Common.{◌≡◌, ◌⊎◌, ◌↔◌, ℕ, zero, suc, ◌+◌, ◌<◌, ◌≤◌, Bool, true, false, cond, T, ◌==◌, ◌||◌, map, List, [], ◌∷◌, length, slice_get, get_or, Option, Some, None, refl, sym, ap, ◌∙◌, subst, arith, inl, inr}
+use Rattle.std.proofs.Common.{◌≡◌, ◌⊎◌, ◌↔◌, ℕ, zero, suc, ◌+◌, ◌<◌, ◌≤◌, Bool, true, false, cond, T, ◌==◌, ◌||◌, map, List, [], ◌∷◌, length, slice_get, Option, Some, None, refl, sym, ap, ◌∙◌, subst, arith, inl, inr}
 use Rattle.std.specs.Prelude.{Contains}
 use Rattle.std.specs.List.{AllByRecursion, filter}
 use Rattle.std.specs.Ordering.{nat_cmp, eq_by_cmp}
 use Rattle.std.specs.BTreeSet.{BTreeSet, contains}
 use Rattle.std.specs.FinMap.Entries.{below_all}
-use Rattle.std.specs.FinMap.{FinMap, get, entries, entries_sorted, keys, from_sorted, retain_keys, find, is_sorted, get-from_sorted, get-retain_keys, get-entries, same_map, nat_cmp-IsAntisymmetric}
+use Rattle.std.specs.FinMap.{entries, entries_sorted, from_sorted, retain_keys, find, is_sorted, get-from_sorted, get-retain_keys, get-entries, same_map, nat_cmp-IsAntisymmetric}
 use Rattle.std.proofs.lemmas.Bool.{cases_lt, cases_eq, or_cases, eq-eqb, eqb-true, false≢true}
 use Rattle.std.proofs.lemmas.Cmp.{nat_cmp_total}
 use Rattle.std.proofs.lemmas.Option.{same_Some, slice_get_within, slice_get-get_or, get_or_from_slice_get}
@@ -56,8 +56,7 @@ Has-insert old new cell d is = elim (cases_eq cell.0 d.0) [
   )
   | inr apart ↦
       let unchanged : contains nat_cmp new d.0 ≡ contains nat_cmp old d.0 =
-      is ∙ ap (λ t. cond t true (contains nat_cmp old d.0)) (differs cell.0 d.0 apart) in
-      (
+      is ∙ ap (λ t. cond t true (contains nat_cmp old d.0)) (differs cell.0 d.0 apart) in (
         λ h. inl (sym unchanged ∙ h),
         λ h. elim h [ inl was ↦ unchanged ∙ was | inr same ↦ absurd (apart (ap (λ (e : CellId). e.0) (sym same))) ],
       )

@@ -57,7 +57,15 @@ fn ends_from_one(
 ) -> Result<CellList, AllocError> {
     let cells = set_of(alloc, set)?;
     let route = along_next(alloc)?;
-    ends_on(alloc, types, store, &cells, &route, Followed::Data, CellId(1))
+    ends_on(
+        alloc,
+        types,
+        store,
+        &cells,
+        &route,
+        Followed::Data,
+        CellId(1),
+    )
 }
 
 fn check(rt: &impl Abort, alloc: Global, case: &Case) -> Result<(), Fail> {
@@ -65,7 +73,10 @@ fn check(rt: &impl Abort, alloc: Global, case: &Case) -> Result<(), Fail> {
     let vars = made_vars(alloc, VARS)?;
     let store = store_of(alloc, &types, &vars, case.lines)?;
     let lines = case.lines;
-    assert!(rt; cut_fault(alloc, &types, &vars, &store)? == case.fault, "{lines}");
+    assert!(rt;
+        cut_fault(alloc, &types, &vars, &store)? == case.fault,
+        "{lines}"
+    );
     let from_x = reached(alloc, &types, &vars, &store, &[VarId(0)])?;
     assert!(rt; lists(&from_x, case.reached), "{lines}");
     let ends = ends_from_one(alloc, &types, &store, case.set)?;

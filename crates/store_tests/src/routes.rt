@@ -77,7 +77,12 @@ fn every_form_of_route_is_copied(rt: HostRuntime) -> Result<(), Fail> {
     let truth = Route::IsBool(Items::from_slice(alloc, b"b")?, true);
     assert!(rt; matches!(&truth.copy(alloc)?, Route::IsBool(_, true)));
     let variant = Route::IsVariant(VariantId { ty, index: 2 });
-    assert!(rt; matches!(&variant.copy(alloc)?, Route::IsVariant(VariantId { index: 2, .. })));
+    assert!(rt;
+        matches!(
+            &variant.copy(alloc)?,
+            Route::IsVariant(VariantId { index: 2, .. })
+        )
+    );
     assert!(rt; matches!(&Route::IsType(ty).copy(alloc)?, Route::IsType(TypeId(1))));
     let up = Route::Up(Items::from_slice(alloc, b"next")?);
     assert!(rt; matches!(&up.copy(alloc)?, Route::Up(_)));

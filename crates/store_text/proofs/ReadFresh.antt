@@ -16,8 +16,7 @@ below_from s fresh = record { values = fresh.values; vars = fresh.vars }
 pub read_stores_are_fresh_below : (types : List TypeEntry) (vars : List VarEntry) (text : List ℕ) (store : StoreMap) →
     reading types vars text ≡ Ok store → IsFresh store ↔ NamesAllBelow (next_after (keys store.cells)) store
 read_stores_are_fresh_below types vars text store read =
-    let next = read_stores_go_on types vars text store read in
-    (
+    let next = read_stores_go_on types vars text store read in (
       λ fresh. subst (λ n. NamesAllBelow n store) next (below_from store fresh),
       λ below. fresh_from store (read_stores_fit types vars text store read).above (subst (λ n. NamesAllBelow n store) (sym next) below),
     )

@@ -11,8 +11,7 @@ loop-cell-preserved c = λ d.
     let cell : CellId = get_or cells index (record { 0 = 0 }) in
     let step = one_step cells index cell (slice_get-get_or cells index (record { 0 = 0 }) c.loop-cell-test.true) d in
     let has = Has-insert c.loop-cell.numbers c.insert.new.self cell d (c.in_ok-insert.ensures.updates.0 d.0) in
-    let was = c.loop-cell.invariant d in
-    (
+    let was = c.loop-cell.invariant d in (
       λ h. step.0 (elim (has.0 h) [ inl old ↦ inl (was.0 old) | inr same ↦ inr same ]),
       λ h. has.1 (elim (step.1 h) [ inl old ↦ inl (was.1 old) | inr same ↦ inr same ]),
     )

@@ -1,9 +1,8 @@
-use Rattle.std.proofs.Common.{◌≡◌, ◌↔◌, ◌∙◌, sym, ap, subst, ℕ}
+use Rattle.std.proofs.Common.{◌↔◌, ◌∙◌, sym, ap, subst}
 use Rattle.std.specs.Prelude.{Contains}
 use Rattle.std.specs.Ordering.{nat_cmp}
 use Rattle.std.specs.BTreeSet.{contains}
 use Rattle.std.specs.FinMap.{from_sorted}
-use Rattle.store_core.specs.declared.ids.CellId.{CellId}
 use Rattle.store_core.specs.StoreBodies.{IsKept, cells_of}
 use Rattle.routing_expr.specs.Sets.{Has}
 use Rattle.routing_expr.proofs.RegionLemmas.{IsKept-on, cells_on}
