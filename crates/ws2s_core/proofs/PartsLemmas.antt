@@ -84,6 +84,10 @@ parts-at nodes k node at below =
 abbrev HasMark : List Bool → ℕ → Type 0
 HasMark marks = λ part. IsTrue (is_marked marks part)
 
+-- the number has a mark, once those of a node's parts are set
+abbrev IsMarkedAfter : List Bool → Node → ℕ → Type 0
+IsMarkedAfter marks node = HasMark (with_marks marks (parts_of (form_of node)))
+
 marked-inside : (marks : List Bool) (k : ℕ) → IsTrue (is_marked marks k) → k < length marks
 marked-inside marks k m = elim (cases_lt k (length marks)) as (λ _. k < length marks) [
   | inl inside ↦ inside
@@ -172,14 +176,15 @@ module _ (nodes : List Node) (earlier : (k : ℕ) (node : Node) → slice_get no
   MarksParts-marked marks k node h here at = record {
     len = length-with_marks (parts_of (form_of node)) marks ∙ h.len;
     whole_marked = with_marks-kept (parts_of (form_of node)) marks whole h.whole_marked;
-    closed = λ j other from at_j m. elim (cases_eq j k) as (λ _. All (HasMark (with_marks marks (parts_of (form_of node)))) (parts_of (form_of other))) [
+    closed = λ j other from at_j m. elim (cases_eq j k) as (λ _. All (IsMarkedAfter marks node) (parts_of (form_of other))) [
       | inl same ↦
           let e : Some node ≡ Some other = sym at ∙ sym (ap (slice_get nodes) same) ∙ at_j in
           let is : node ≡ other = cc in
-          subst (λ n. All (HasMark (with_marks marks (parts_of (form_of node)))) (parts_of (form_of n))) is
-          (All-from_contains (HasMark (with_marks marks (parts_of (form_of node)))) (parts_of (form_of node)) (with_marks-marked (parts_of (form_of node)) marks room))
-      | inr later ↦ elim (with_marks-cases (parts_of (form_of node)) marks j m) as (λ _. All (HasMark (with_marks marks (parts_of (form_of node)))) (parts_of (form_of other))) [
-        | inl old ↦ All-weaker (HasMark marks) (HasMark (with_marks marks (parts_of (form_of node)))) (with_marks-kept (parts_of (form_of node)) marks)
+          subst (λ n. All (IsMarkedAfter marks node) (parts_of (form_of n))) is
+          (All-from_contains (IsMarkedAfter marks node) (parts_of (form_of node)) (with_marks-marked (parts_of (form_of node)) marks room))
+      | inr later ↦ elim (with_marks-cases (parts_of (form_of node)) marks j m)
+          as (λ _. All (IsMarkedAfter marks node) (parts_of (form_of other))) [
+        | inl old ↦ All-weaker (HasMark marks) (IsMarkedAfter marks node) (with_marks-kept (parts_of (form_of node)) marks)
             (parts_of (form_of other)) (h.closed j other (omega arith) at_j old)
         | inr part ↦ (let lt : j < k = below-of part in absurd (omega arith))
       ]

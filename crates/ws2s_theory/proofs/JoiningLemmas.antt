@@ -199,36 +199,43 @@ last-before : (offset n k : ℕ) → offset + n ≤ k → IfSome (last_place off
 last-before offset zero k le = tt
 last-before offset (suc n) k le = omega arith
 
+length-front : (l r : List TreeNode) → length (l ++ map (moved_on (length l)) r) ≡ length l + length r
+length-front l r = omega (arith, length-append l (map (moved_on (length l)) r), length-map r (moved_on (length l)))
+
+-- the children on one side stand before their parents, where they do in both trees and at the root
+module _ (tracks : List Track) (l r : List TreeNode) (side : TreeNode → Option ℕ)
+    (moves : (n : ℕ) (node : TreeNode) → side (moved_on n node) ≡ option_map (λ j. n + j) (side node)) where
+  before-joined : ((k : ℕ) (node : TreeNode) → slice_get l k ≡ Some node → IfSome (side node) (λ child. child < k)) →
+      ((k : ℕ) (node : TreeNode) → slice_get r k ≡ Some node → IfSome (side node) (λ child. child < k)) →
+      IfSome (side (root_over tracks (length l) (length r))) (λ child. child < length l + length r) →
+      (k : ℕ) (node : TreeNode) → slice_get (under_root tracks l r) k ≡ Some node → IfSome (side node) (λ child. child < k)
+  before-joined in_l in_r at_root k node at =
+      elim (slice_get-push (l ++ map (moved_on (length l)) r) (root_over tracks (length l) (length r)) node k at)
+      as (λ _. IfSome (side node) (λ child. child < k)) [
+        | inl early ↦ elim (later-origin l l r k node early) as (λ _. IfSome (side node) (λ child. child < k)) [
+          | inl first ↦ in_l k node first
+          | inr second ↦
+              subst (λ (o : Option ℕ). IfSome o (λ child. child < k)) (sym (ap side second.4 ∙ moves (length l) second.1))
+              (subst (λ i. IfSome (option_map (λ j. length l + j) (side second.1)) (λ child. child < i)) (sym second.2)
+              (IfSome-moved (length l) second.0 (side second.1) (in_r second.0 second.1 second.3)))
+        ]
+        | inr last ↦
+            let end : length l + length r ≡ k = omega (arith, last.0, length-front l r) in
+            subst (λ (n : TreeNode). IfSome (side n) (λ child. child < k)) last.1
+            (subst (λ i. IfSome (side (root_over tracks (length l) (length r))) (λ child. child < i)) end at_root)
+      ]
+
 -- two trees under a root are a tree
 pub IsTree-joined : (tracks : List Track) (l r : List TreeNode) → IsTree l → IsTree r → length l + length r + 1 < 4294967295 →
     IsTree (under_root tracks l r)
 IsTree-joined tracks l r of_l of_r few = record {
   few = omega (arith, long);
-  left_before = λ k node at. elim (slice_get-push (l ++ map (moved_on (length l)) r) (root_over tracks (length l) (length r)) node k at) as (λ _. IfSome node.left (λ child. child < k)) [
-    | inl early ↦ elim (later-origin l l r k node early) as (λ _. IfSome node.left (λ child. child < k)) [
-      | inl in_l ↦ of_l.left_before k node in_l
-      | inr in_r ↦ subst (λ (n : TreeNode). IfSome n.left (λ child. child < k)) (sym in_r.4)
-          (subst (λ i. IfSome (option_map (λ j. length l + j) (in_r.1).left) (λ child. child < i)) (sym in_r.2)
-          (IfSome-moved (length l) in_r.0 (in_r.1).left (of_r.left_before in_r.0 in_r.1 in_r.3)))
-    ]
-    | inr last ↦ subst (λ (n : TreeNode). IfSome n.left (λ child. child < k)) last.1
-        (last-before 0 (length l) k (omega (arith, last.0, long_front)))
-  ];
-  right_before = λ k node at. elim (slice_get-push (l ++ map (moved_on (length l)) r) (root_over tracks (length l) (length r)) node k at) as (λ _. IfSome node.right (λ child. child < k)) [
-    | inl early ↦ elim (later-origin l l r k node early) as (λ _. IfSome node.right (λ child. child < k)) [
-      | inl in_l ↦ of_l.right_before k node in_l
-      | inr in_r ↦ subst (λ (n : TreeNode). IfSome n.right (λ child. child < k)) (sym in_r.4)
-          (subst (λ i. IfSome (option_map (λ j. length l + j) (in_r.1).right) (λ child. child < i)) (sym in_r.2)
-          (IfSome-moved (length l) in_r.0 (in_r.1).right (of_r.right_before in_r.0 in_r.1 in_r.3)))
-    ]
-    | inr last ↦ subst (λ (n : TreeNode). IfSome n.right (λ child. child < k)) last.1
-        (last-before (length l) (length r) k (omega (arith, last.0, long_front)))
-  ];
+  left_before = before-joined tracks l r (λ node. node.left) (λ n node. refl) of_l.left_before of_r.left_before
+      (last-before 0 (length l) (length l + length r) (omega arith));
+  right_before = before-joined tracks l r (λ node. node.right) (λ n node. refl) of_l.right_before of_r.right_before
+      (last-before (length l) (length r) (length l + length r) (omega arith));
   once = λ k inside. once-each tracks l r of_l of_r k (omega (arith, long));
 }
   where
-    long_front : length (l ++ map (moved_on (length l)) r) ≡ length l + length r
-    long_front = omega (arith, length-append l (map (moved_on (length l)) r), length-map r (moved_on (length l)))
-
     long : length (under_root tracks l r) ≡ length l + length r + 1
-    long = omega (arith, length-append (l ++ map (moved_on (length l)) r) (root_over tracks (length l) (length r) ∷ []), long_front)
+    long = omega (arith, length-append (l ++ map (moved_on (length l)) r) (root_over tracks (length l) (length r) ∷ []), length-front l r)

@@ -140,7 +140,8 @@ module _ {Q : Type 0} (g : Spaces) (guide : IsGuide g) (A : Automaton Q) (stable
       value_at g A s nodes k ≡ A.step s (child_value g A (left g s) nodes node.left) (child_value g A (right g s) nodes node.right) (label_of node.tracks)
   value-step s k node there tree at =
       let covers = Covers-at nodes k in
-      let more : Covers (suc (length nodes)) (assignment_at nodes k) = Covers-more (length nodes) (suc (length nodes)) (assignment_at nodes k) (omega arith) covers in
+      let more : Covers (suc (length nodes)) (assignment_at nodes k) =
+      Covers-more (length nodes) (suc (length nodes)) (assignment_at nodes k) (omega arith) covers in
       value-same g guide A stable s (length nodes) (suc (length nodes)) (assignment_at nodes k) there covers more
       ∙ (λ i. A.step s
       (value g A (left g s) (length nodes) (left-at nodes k node tree at i)) (value g A (right g s) (length nodes) (right-at nodes k node tree at i))
