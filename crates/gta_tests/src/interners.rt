@@ -12,7 +12,10 @@ fn a_doubled_formula_is_a_graph_of_its_levels(rt: HostRuntime) -> Result<(), Fai
     assert_eq!(rt; interner.form(FormulaId(0)), Some(Node::Single(Track(0))));
     for k in 0..12u32 {
         let half = FormulaId(k);
-        assert_eq!(rt; interner.form(FormulaId(k + 1)), Some(Node::And(half, half)));
+        assert_eq!(rt;
+            interner.form(FormulaId(k + 1)),
+            Some(Node::And(half, half))
+        );
     }
     assert_eq!(rt; interner.form(FormulaId(13)), None);
     let parts = interner.parts(alloc, id)?;
@@ -31,7 +34,10 @@ fn a_deep_chain_has_a_part_for_each_level(rt: HostRuntime) -> Result<(), Fail> {
     let parts = interner.parts(alloc, id)?;
     assert_eq!(rt; parts.len(), 65_537);
     for k in 0..DEEP {
-        assert_eq!(rt; interner.form(FormulaId(k + 1)), Some(Node::Not(FormulaId(k))));
+        assert_eq!(rt;
+            interner.form(FormulaId(k + 1)),
+            Some(Node::Not(FormulaId(k)))
+        );
     }
     Ok(())
 }
