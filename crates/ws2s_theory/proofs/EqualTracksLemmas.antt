@@ -1,5 +1,5 @@
 -- On merging: an atom of one track twice holds always or never, and its minimal automaton has one state.
-use Rattle.std.proofs.Common.{◌≡◌, ◌≢◌, Bool, true, false, ℕ, refl, sym, subst}
+use Rattle.std.proofs.Common.{◌≡◌, Bool, true, false, ℕ, refl}
 use Rattle.gta_theory.specs.Guides.{Spaces, IsGuide, IsSpace, left, right}
 use Rattle.gta_theory.specs.Automata.{Automaton}
 use Rattle.gta_theory.specs.Constructions.{IsReached, IsClosed, IsNaming}

@@ -1,13 +1,13 @@
 -- On Sizes under the plain guide, by a test that computes: what is listed are the parts of the table.
-use Rattle.std.proofs.Common.{◌≡◌, ◌≢◌, ℕ, zero, suc, ◌+◌, ◌<◌, ◌≤◌, Bool, true, false, not, ◌&&◌, ◌||◌, cond, eqb, ◌⊎◌, inl, inr, List, [], ◌∷◌, map, nat_lt}
-use Rattle.std.proofs.Common.{length, All, Contains, AllPairs, flat_map, refl, sym, ap, subst, ◌∙◌, arith, eqb-true, eq-eqb}
+use Rattle.std.proofs.Common.{◌≡◌, ◌≢◌, ℕ, zero, suc, ◌+◌, Bool, true, false, not, ◌&&◌, ◌||◌, cond, eqb, inl, inr, List, map, nat_lt}
+use Rattle.std.proofs.Common.{length, All, Contains, flat_map, refl, sym, ap, subst, ◌∙◌, arith, eqb-true, eq-eqb}
 use Rattle.std.proofs.lemmas.Bool.{false≢true, ltb-true, ltb-false, lt-ltb, and_parts, eqb-false}
 use Rattle.std.proofs.lemmas.List.Elements.{All-map, All-contains}
 use mathlib.Core.Path.{fun_ext}
 use Rattle.labels.specs.Labels.{Label, empty_label, with_below}
 use Rattle.gta_theory.specs.Guides.{IsSpace}
 use Rattle.gta_theory.specs.Automata.{Automaton}
-use Rattle.gta_theory.specs.Sizes.{IsListOf, AreDifferent, IsVaried, IsUnderTable, IsPart, IsChildPair, SizeIn, SizeOf, AreSameBelow}
+use Rattle.gta_theory.specs.Sizes.{AreDifferent, IsPart, IsChildPair, SizeIn, SizeOf, AreSameBelow}
 use Rattle.gta_theory.proofs.ListsLemmas.{All-from_contains, Contains-map, Contains-flat_map, All-flat_map}
 use Rattle.ws2s_theory.specs.Worked.{plain}
 use Rattle.ws2s_theory.proofs.TestsLemmas.{all-pass, all-pass-at, some-pass, or-cases, some-pass-at, pairs-pass, pairs-pass-AllPairs}

@@ -1,11 +1,11 @@
 -- On the worked Sizes: the minimal automata of the atoms under the plain guide.
-use Rattle.std.proofs.Common.{◌≡◌, ◌≢◌, ℕ, zero, suc, ◌<◌, Bool, true, false, List, [], ◌∷◌, Contains, refl, sym, subst, arith}
+use Rattle.std.proofs.Common.{◌≡◌, ◌≢◌, ℕ, zero, suc, true, [], ◌∷◌, refl, sym, arith}
 use Rattle.labels.specs.Labels.{Label, empty_label, with_track}
 use Rattle.gta_theory.specs.Guides.{Spaces, IsGuide, IsSpace, left, right}
-use Rattle.gta_theory.specs.Automata.{Automaton, IsStable}
-use Rattle.gta_theory.specs.Constructions.{IsReached, IsClosed}
+use Rattle.gta_theory.specs.Automata.{Automaton}
+use Rattle.gta_theory.specs.Constructions.{IsReached}
 use Rattle.gta_theory.specs.Generated.{Generated, starts, steps}
-use Rattle.gta_theory.specs.Minimal.{IsMinimal, AreSeparated, at_root, below_left, below_right}
+use Rattle.gta_theory.specs.Minimal.{AreSeparated, at_root, below_left, below_right}
 use Rattle.gta_theory.specs.Sizes.{SizeOf}
 use Rattle.gta_theory.proofs.GeneratedLemmas.{IsReached-generated, IsValue-generated}
 use Rattle.gta_theory.proofs.MinimalLemmas.{AreToldApart-from_separated}

@@ -1,10 +1,9 @@
 -- On the worked Peaks 13 and 14: some set has one position, and two such formulas together, under the plain guide.
-use Rattle.std.proofs.Common.{◌≡◌, ◌≢◌, ℕ, Bool, true, false, ◌||◌, IsTrue, ◌↔◌, ◌⊎◌, inl, inr, List, [], ◌∷◌, Contains, refl, sym, ap, subst, arith, cond, eq-eqb}
+use Rattle.std.proofs.Common.{◌≡◌, ◌≢◌, ℕ, Bool, true, false, IsTrue, ◌⊎◌, inl, [], ◌∷◌, refl, subst, cond, eq-eqb}
 use Rattle.std.proofs.lemmas.Bool.{ltb-true}
-use Rattle.labels.specs.Labels.{Label, empty_label, with_track, HasAtMost}
+use Rattle.labels.specs.Labels.{Label, empty_label, with_track}
 use Rattle.labels.proofs.LabelsLemmas.{HasAtMost-with_track}
-use Rattle.gta_theory.specs.Guides.{IsSpace}
-use Rattle.gta_theory.specs.Automata.{Automaton, IsStable}
+use Rattle.gta_theory.specs.Automata.{Automaton}
 use Rattle.gta_theory.specs.Constructions.{pairs, IsReached, IsClosed, IsNaming, IsProduct, IsSubset, Settled, IsStepOf, HasAccepting}
 use Rattle.gta_theory.specs.Generated.{Generated}
 use Rattle.gta_theory.specs.Sizes.{SizeOf}
@@ -17,7 +16,7 @@ use Rattle.ws2s_core.specs.Recognising.{Recognises, IsMinimalOf}
 use Rattle.ws2s_core.specs.Examples.{track}
 use Rattle.ws2s_core.proofs.RecognisingLemmas.{Recognises-And, Recognises-Ex2, Recognises-classes}
 use Rattle.ws2s_theory.specs.Atoms.{SingleState, nothing, one, more, single_step, single_automaton}
-use Rattle.ws2s_theory.specs.Peaks.{HasMinimalSize, HasProductSize, HasSubsetSize, HasPeak}
+use Rattle.ws2s_theory.specs.Peaks.{HasMinimalSize, HasProductSize, HasPeak}
 use Rattle.ws2s_theory.specs.Worked.{plain}
 use Rattle.ws2s_theory.proofs.FormsLemmas.{decide-single}
 use Rattle.ws2s_theory.proofs.PeaksLemmas.{HasPeak-Single, HasPeak-And, HasPeak-Ex2}

@@ -2,8 +2,8 @@
 //!
 //! No code runs here. `specs/Atoms.antt` has the automata of the five atoms, `specs/Merging.antt` which of their states
 //! are one state of the minimal automaton in each space, and `specs/Peaks.antt` says which number the Peak of a formula
-//! is; satisfaction and "recognises" are those of `ws2s_core`, automata and Sizes those of `gta_theory`. Each function of
-//! this crate is a law: its body is empty, and its clause holds of all guides and formulas, or is a worked example.
+//! is; satisfaction and "recognises" are those of `ws2s_core`, automata and Sizes those of `gta_theory`. Each function
+//! of this crate is a law: its body is empty, and its clause holds of all guides and formulas, or is a worked example.
 #![tactic(auto)]
 
 mod atoms;
