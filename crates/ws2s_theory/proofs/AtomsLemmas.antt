@@ -1,9 +1,9 @@
 -- On the atoms' automata: what their values say of an assignment, and that they recognise the atoms.
-use Rattle.std.proofs.Common.{◌≡◌, ℕ, zero, suc, Bool, true, false, IsTrue, ◌↔◌, ◌⊎◌, [], ◌∷◌, ◌++◌, refl, sym, ap, ◌∙◌, zero-le}
+use Rattle.std.proofs.Common.{◌≡◌, ℕ, zero, suc, Bool, true, false, IsTrue, ◌↔◌, [], refl, sym, ◌∙◌, zero-le}
 use Rattle.std.proofs.lemmas.Bool.{false≢true}
 use Rattle.gta_theory.specs.Assignments.{Position, PositionSet, Assignment, IsOnly, Covers, half}
 use Rattle.gta_theory.specs.Guides.{Spaces, IsGuide, left, right}
-use Rattle.gta_theory.specs.Automata.{Automaton, value, IsStable, Accepts}
+use Rattle.gta_theory.specs.Automata.{Automaton, value, IsStable}
 use Rattle.gta_theory.proofs.AssignmentsLemmas.{Covers-half}
 use Rattle.gta_theory.proofs.AutomataLemmas.{Accepts-at}
 use Rattle.ws2s_core.specs.declared.track.Track.{Track}
@@ -18,7 +18,7 @@ use Rattle.ws2s_theory.specs.Atoms.{RootState, absent, alone, lower, is_alone, r
 use Rattle.ws2s_theory.specs.Atoms.{SuccState, neither, child, found, wrong, is_found, succ0_automaton, succ1_automaton}
 use Rattle.ws2s_theory.proofs.SetsLemmas.{both, back, three, either, same, IsEmptySet, IsInside, HasOne}
 use Rattle.ws2s_theory.proofs.SetsLemmas.{inside-halves, empty-halves, root-halves, one-halves}
-use Rattle.ws2s_theory.proofs.SuccessorsLemmas.{Neither, IsChild, IsPair, Says, Says-step}
+use Rattle.ws2s_theory.proofs.SuccessorsLemmas.{Says, Says-step}
 use Rattle.ws2s_theory.proofs.TablesLemmas.{sub-inside, single-nothing, single-one, root-absent, root-alone}
 
 -- a stable automaton that is in one state exactly where the formula holds, and accepts in that state alone

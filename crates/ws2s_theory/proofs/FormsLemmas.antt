@@ -1,13 +1,12 @@
 -- On the forms of formulas: each formula has a minimal automaton with numbered states.
-use Rattle.std.proofs.Common.{◌≡◌, ◌≢◌, ℕ, suc, ◌+◌, ◌<◌, ◌≤◌, max, Bool, IsTrue, ◌↔◌, ◌⊎◌, inl, inr, List, [], ◌∷◌, Contains, refl, sym, ap, ◌∙◌, arith}
+use Rattle.std.proofs.Common.{◌≡◌, ◌≢◌, ℕ, suc, ◌≤◌, max, Bool, IsTrue, ◌↔◌, ◌⊎◌, inl, inr, List, [], ◌∷◌, Contains, refl, arith}
 use Rattle.labels.specs.Labels.{Label}
-use Rattle.gta_theory.specs.Assignments.{Assignment, Covers}
-use Rattle.gta_theory.specs.Guides.{Spaces, IsGuide, IsSpace}
+use Rattle.gta_theory.specs.Assignments.{Assignment}
+use Rattle.gta_theory.specs.Guides.{Spaces, IsGuide}
 use Rattle.gta_theory.specs.Automata.{Automaton, IsStable, Accepts}
 use Rattle.gta_theory.specs.Constructions.{complement, IsClosed, IsProduct, IsSubset}
-use Rattle.gta_theory.specs.Minimal.{IsMinimal}
 use Rattle.gta_theory.specs.Sizes.{AreSameBelow, LooksBelow}
-use Rattle.gta_theory.specs.Numbered.{Below, IsNumbered}
+use Rattle.gta_theory.specs.Numbered.{Below}
 use Rattle.gta_theory.proofs.AutomataLemmas.{Accepts-named, IsStable-named, IsClosed-reached}
 use Rattle.gta_theory.proofs.AlikeLemmas.{IsMinimal-complement}
 use Rattle.gta_theory.proofs.LooksLemmas.{LooksBelow-named, LooksBelow-product, LooksBelow-subset}
@@ -19,7 +18,7 @@ use Rattle.ws2s_core.specs.declared.track.Track.{Track}
 use Rattle.ws2s_core.specs.declared.formula.Formula.{Formula}
 use Rattle.ws2s_core.specs.declared.formula.Formula.TheVariants.{Sub, Single, Succ0, Succ1, Root, And, Not, Ex2}
 use Rattle.ws2s_core.specs.Recognising.{Recognises, IsMinimalOf}
-use Rattle.ws2s_core.proofs.FormulaLemmas.{IsHereditary, formula-induction}
+use Rattle.ws2s_core.proofs.FormulaLemmas.{formula-induction}
 use Rattle.ws2s_core.proofs.RecognisingLemmas.{Recognises-And, Recognises-Not, Recognises-Ex2}
 use Rattle.ws2s_theory.specs.Atoms.{SubState, inside, outside, sub_step, sub_automaton}
 use Rattle.ws2s_theory.specs.Atoms.{SingleState, nothing, one, more, single_step, single_automaton}

@@ -9,6 +9,7 @@ pub mod MergedSuccessorsLemmas
 pub mod MergingLemmas
 pub mod PeaksLemmas
 pub mod SetsLemmas
+pub mod SingleSizeLemmas
 pub mod SizesLemmas
 pub mod SuccessorsLemmas
 pub mod TablesLemmas

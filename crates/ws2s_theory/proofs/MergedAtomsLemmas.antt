@@ -2,7 +2,7 @@
 use Rattle.std.proofs.Common.{◌≡◌, ◌≢◌, ℕ, Bool, true, false, ◌||◌, ◌⊎◌, inl, inr, refl, sym, ap, subst, ◌∙◌, cond, eqb, eqb-true, eq-eqb, ne_eqb}
 use Rattle.labels.specs.Labels.{Label, empty_label, with_track}
 use Rattle.gta_theory.specs.Guides.{Spaces, IsGuide, IsSpace, left, right}
-use Rattle.gta_theory.specs.Automata.{Automaton, IsStable, IsValue}
+use Rattle.gta_theory.specs.Automata.{Automaton, IsValue}
 use Rattle.gta_theory.specs.Generated.{Generated, starts, steps}
 use Rattle.gta_theory.specs.Minimal.{AreSeparated, at_root, below_left, below_right}
 use Rattle.gta_theory.proofs.GeneratedLemmas.{IsValue-generated}
@@ -15,7 +15,7 @@ use Rattle.ws2s_theory.specs.Atoms.{RootState, absent, alone, lower, is_alone, r
 use Rattle.ws2s_theory.specs.Merging.{child_space, IsChildTest, is_below, sub_class, single_class, root_class, merged, Stands}
 use Rattle.ws2s_theory.proofs.AtomsLemmas.{Recognises-Sub, Recognises-Single, Recognises-Root}
 use Rattle.ws2s_theory.proofs.WorkedLemmas.{separated-turned}
-use Rattle.ws2s_theory.proofs.MergingLemmas.{child-inside, child-below, everywhere, at-below, IsMinimalOf-merged}
+use Rattle.ws2s_theory.proofs.MergingLemmas.{child-below, everywhere, at-below, IsMinimalOf-merged}
 
 -- every track is set
 abbrev every_track : Label

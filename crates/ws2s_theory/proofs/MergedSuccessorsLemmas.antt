@@ -1,8 +1,8 @@
 -- On merging: the minimal automata of `Succ0` and `Succ1`.
 use Rattle.std.proofs.Common.{◌≡◌, ◌≢◌, ℕ, Bool, true, false, ◌||◌, refl, sym, ap, subst, ◌∙◌, eqb}
-use Rattle.labels.specs.Labels.{Label, empty_label}
+use Rattle.labels.specs.Labels.{empty_label}
 use Rattle.gta_theory.specs.Guides.{Spaces, IsGuide, IsSpace, left, right}
-use Rattle.gta_theory.specs.Automata.{Automaton, IsStable, IsValue}
+use Rattle.gta_theory.specs.Automata.{Automaton, IsValue}
 use Rattle.gta_theory.specs.Generated.{Generated, starts, steps}
 use Rattle.gta_theory.specs.Minimal.{AreSeparated, at_root, below_left, below_right}
 use Rattle.gta_theory.proofs.GeneratedLemmas.{IsValue-generated}
@@ -13,7 +13,7 @@ use Rattle.ws2s_theory.specs.Atoms.{SuccState, neither, child, found, wrong, is_
 use Rattle.ws2s_theory.specs.Merging.{child_space, IsChildTest, is_below, succ_class, merged, Stands}
 use Rattle.ws2s_theory.proofs.AtomsLemmas.{Recognises-Succ0, Recognises-Succ1}
 use Rattle.ws2s_theory.proofs.WorkedLemmas.{separated-turned}
-use Rattle.ws2s_theory.proofs.MergingLemmas.{child-inside, child-passes, child-below, everywhere, at-child, at-below, IsMinimalOf-merged}
+use Rattle.ws2s_theory.proofs.MergingLemmas.{child-passes, child-below, everywhere, at-child, at-below, IsMinimalOf-merged}
 use Rattle.ws2s_theory.proofs.MergedAtomsLemmas.{lone, lone-here, lone-there}
 
 succ-idempotent : (low by top : Bool) (q : SuccState) → succ_class low by top (succ_class low by top q) ≡ succ_class low by top q

@@ -1,12 +1,12 @@
 -- On merging: what holds along all positions holds in their spaces; and classes of an automaton whose states are all met.
-use Rattle.std.proofs.Common.{◌≡◌, ◌≢◌, ℕ, Bool, true, false, ◌||◌, IsTrue, ◌⊎◌, inl, inr, List, [], ◌∷◌, ◌++◌, refl, sym, ap, subst, ◌∙◌, eqb, eqb-true}
+use Rattle.std.proofs.Common.{◌≡◌, ◌≢◌, ℕ, Bool, true, false, ◌||◌, inl, inr, [], ◌∷◌, ◌++◌, refl, sym, ap, subst, ◌∙◌, eqb, eqb-true}
 use Rattle.labels.specs.Labels.{Label}
 use Rattle.gta_theory.specs.Assignments.{Position}
 use Rattle.gta_theory.specs.Guides.{Spaces, IsGuide, IsSpace, left, right, space_at}
-use Rattle.gta_theory.specs.Automata.{Automaton, IsStable}
+use Rattle.gta_theory.specs.Automata.{Automaton}
 use Rattle.gta_theory.specs.Constructions.{IsReached, IsNaming}
 use Rattle.gta_theory.specs.Generated.{Generated}
-use Rattle.gta_theory.specs.Minimal.{AreSeparated, at_root, below_left, below_right}
+use Rattle.gta_theory.specs.Minimal.{AreSeparated}
 use Rattle.gta_theory.proofs.GeneratedLemmas.{IsReached-generated}
 use Rattle.gta_theory.proofs.MinimalLemmas.{IsMinimal-classes}
 use Rattle.ws2s_core.specs.declared.formula.Formula.{Formula}
@@ -14,7 +14,7 @@ use Rattle.ws2s_core.specs.Recognising.{Recognises, IsMinimalOf}
 use Rattle.ws2s_core.proofs.RecognisingLemmas.{Recognises-classes}
 use Rattle.ws2s_theory.specs.Merging.{child_space, IsChildTest, is_below, merged, Stands}
 use Rattle.ws2s_theory.proofs.TestsLemmas.{or-cases, or-true}
-use Rattle.ws2s_theory.proofs.WorkedLemmas.{Any}
+use Rattle.ws2s_theory.proofs.SingleSizeLemmas.{Any}
 
 module _ (g : Spaces) (guide : IsGuide g) where
   pub child-inside : (letter : Bool) (s : ℕ) → IsSpace g s → IsSpace g (child_space g letter s)

@@ -1,5 +1,5 @@
 -- On the Peak: by cases on the formula; it exists, and is one number.
-use Rattle.std.proofs.Common.{◌≡◌, ℕ, ◌+◌, max, ◌↔◌, refl, sym, ap, ap₂, ◌∙◌}
+use Rattle.std.proofs.Common.{◌≡◌, ℕ, ◌+◌, max, ◌↔◌, refl, sym, ap, ◌∙◌}
 use mathlib.Core.Path.{transport}
 use Rattle.gta_theory.specs.Guides.{Spaces, IsGuide}
 use Rattle.ws2s_core.specs.declared.track.Track.{Track}
@@ -9,8 +9,8 @@ use Rattle.ws2s_core.specs.declared.formula.Formula.TheVariants.{rolls-Single, r
 use Rattle.ws2s_core.specs.declared.formula.Formula.TheVariants.{rolls-Not, rolls-Ex2}
 use Rattle.ws2s_core.specs.declared.formula.Formula.TheOpen.{Formula-F}
 use Rattle.ws2s_core.specs.declared.formula.Formula.TheFolds.{rec-roll-Formula, map-Formula}
-use Rattle.ws2s_core.proofs.FormulaLemmas.{IsHereditary, formula-induction}
-use Rattle.ws2s_theory.specs.Peaks.{HasMinimalSize, HasProductSize, HasSubsetSize, IsPeakOfAnd, IsPeakOfEx2, HasPeakNode, HasPeak}
+use Rattle.ws2s_core.proofs.FormulaLemmas.{formula-induction}
+use Rattle.ws2s_theory.specs.Peaks.{HasMinimalSize, IsPeakOfAnd, IsPeakOfEx2, HasPeakNode, HasPeak}
 use Rattle.ws2s_theory.proofs.SizesLemmas.{HasMinimalSize-exists, HasProductSize-exists, HasSubsetSize-exists}
 use Rattle.ws2s_theory.proofs.SizesLemmas.{HasMinimalSize-unique, HasProductSize-unique, HasSubsetSize-unique}
 

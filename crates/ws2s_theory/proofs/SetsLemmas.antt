@@ -1,5 +1,5 @@
 -- On sets of positions: none, or one position, by the root and the two halves.
-use Rattle.std.proofs.Common.{◌≡◌, ◌≢◌, Bool, true, false, not, IsTrue, ◌↔◌, ◌⊎◌, inl, inr, [], ◌∷◌, ◌++◌, length, drop, slice_index_or}
+use Rattle.std.proofs.Common.{◌≡◌, ◌≢◌, Bool, true, false, not, IsTrue, ◌↔◌, ◌⊎◌, inl, inr, [], ◌∷◌, length, drop, slice_index_or}
 use Rattle.std.proofs.Common.{refl, sym, ap, subst, ◌∙◌, arith}
 use Rattle.std.proofs.lemmas.Bool.{false≢true}
 use Rattle.gta_theory.specs.Assignments.{Position, PositionSet, IsOnly}

@@ -1,12 +1,11 @@
 -- On the Sizes of a formula's automata: each exists and is one number, whatever automata stand for it.
-use Rattle.std.proofs.Common.{◌≡◌, ◌≢◌, ℕ, nat_lt, Bool, IsTrue, ◌↔◌, ◌⊎◌, refl, sym, subst}
+use Rattle.std.proofs.Common.{◌≡◌, ◌≢◌, ℕ, nat_lt, IsTrue, ◌⊎◌, sym, subst}
 use Rattle.std.proofs.lemmas.Bool.{cases_eq}
 use Rattle.gta_theory.specs.Guides.{Spaces, IsGuide}
 use Rattle.gta_theory.specs.Automata.{Automaton, Has}
 use Rattle.gta_theory.specs.Constructions.{IsProduct, IsSubset}
 use Rattle.gta_theory.specs.Minimal.{AreAlike}
 use Rattle.gta_theory.specs.Sizes.{SizeOf}
-use Rattle.gta_theory.specs.Numbered.{Below}
 use Rattle.gta_theory.proofs.MinimalLemmas.{AreAlike-minimal}
 use Rattle.gta_theory.proofs.AlikeMoreLemmas.{AreAlike-products_alike, AreAlike-subsets_alike}
 use Rattle.gta_theory.proofs.SizesLemmas.{SizeOf-alike}

@@ -3,7 +3,7 @@ use Rattle.std.proofs.Common.{◌≡◌, Bool, true, false, not, ◌↔◌, ◌�
 use Rattle.gta_theory.specs.Assignments.{Position, PositionSet, IsOnly}
 use Rattle.ws2s_theory.specs.Atoms.{SuccState, neither, child, found, succ_step}
 use Rattle.ws2s_theory.proofs.SetsLemmas.{IsEmptySet, below, empty-halves, root-halves, only-below, both, back}
-use Rattle.ws2s_theory.proofs.TablesLemmas.{SuccRow, succ-neither, succ-child, succ-found}
+use Rattle.ws2s_theory.proofs.TablesLemmas.{succ-neither, succ-child, succ-found}
 
 -- the halves in the order that a letter says
 sides : {P Q R : Type 0} → (P × Q × R) ↔ (Q × P × R)

@@ -1,7 +1,7 @@
 -- On the atoms' tables: from which states a step leads to each.
 use Rattle.std.proofs.Common.{◌≡◌, Bool, true, false, ◌↔◌, ◌⊎◌, inl, inr, refl}
-use Rattle.ws2s_theory.specs.Atoms.{SubState, inside, outside, sub_step, SingleState, nothing, one, more, single_step}
-use Rattle.ws2s_theory.specs.Atoms.{RootState, absent, alone, lower, root_step, SuccState, neither, child, found, wrong, succ_step}
+use Rattle.ws2s_theory.specs.Atoms.{SubState, inside, outside, sub_step, SingleState, nothing, one, single_step}
+use Rattle.ws2s_theory.specs.Atoms.{RootState, absent, alone, root_step, SuccState, neither, child, found, succ_step}
 
 pub sub-inside : (p q : SubState) (b c : Bool) → (sub_step p q b c ≡ inside) ↔ ((p ≡ inside) × (q ≡ inside) × (b ≡ true → c ≡ true))
 sub-inside p q b c = (there p q b c, λ h. back p q b c h.0 h.1 h.2)

@@ -1,13 +1,13 @@
 -- On Sizes under the plain guide, by a test that computes: what is listed are the parts of the table.
-use Rattle.std.proofs.Common.{◌≡◌, ◌≢◌, ℕ, zero, suc, ◌+◌, ◌<◌, ◌≤◌, Bool, true, false, not, ◌&&◌, ◌||◌, cond, eqb, ◌⊎◌, inl, inr, List, [], ◌∷◌, map, nat_lt}
-use Rattle.std.proofs.Common.{length, All, Contains, AllPairs, flat_map, refl, sym, ap, subst, ◌∙◌, arith, eqb-true, eq-eqb}
+use Rattle.std.proofs.Common.{◌≡◌, ◌≢◌, ℕ, zero, suc, ◌+◌, Bool, true, false, not, ◌&&◌, ◌||◌, cond, eqb, inl, inr, List, map, nat_lt}
+use Rattle.std.proofs.Common.{length, All, Contains, flat_map, refl, sym, ap, subst, ◌∙◌, arith, eqb-true, eq-eqb}
 use Rattle.std.proofs.lemmas.Bool.{false≢true, ltb-true, ltb-false, lt-ltb, and_parts, eqb-false}
 use Rattle.std.proofs.lemmas.List.Elements.{All-map, All-contains}
 use mathlib.Core.Path.{fun_ext}
 use Rattle.labels.specs.Labels.{Label, empty_label, with_below}
 use Rattle.gta_theory.specs.Guides.{IsSpace}
 use Rattle.gta_theory.specs.Automata.{Automaton}
-use Rattle.gta_theory.specs.Sizes.{IsListOf, AreDifferent, IsVaried, IsUnderTable, IsPart, IsChildPair, SizeIn, SizeOf, AreSameBelow}
+use Rattle.gta_theory.specs.Sizes.{IsListOf, AreDifferent, IsPart, IsChildPair, SizeIn, SizeOf, AreSameBelow}
 use Rattle.gta_theory.proofs.ListsLemmas.{All-from_contains, Contains-map, Contains-flat_map, All-flat_map}
 use Rattle.ws2s_theory.specs.Worked.{plain}
 use Rattle.ws2s_theory.proofs.TestsLemmas.{all-pass, all-pass-at, some-pass, or-cases, some-pass-at, pairs-pass, pairs-pass-AllPairs}
@@ -174,16 +174,19 @@ module _ {Q : Type 0} (number : Q → ℕ) (once : (p q : Q) → number p ≡ nu
             fixed-same t label l same true is = same t (ltb-true t (part.under).below is)
             fixed-same t label l same false is = refl
 
+    pub pairs-tested : IsListOf (λ x y. x ≢ y) (IsChildPair plain has 0) (square number A states k)
+    pairs-tested = record {
+      every = Contains-square;
+      only = λ x h. All-contains (IsChildPair plain has 0) (square number A states k) x square-are h;
+      once = pairs-pass-AllPairs (λ x y. not (eqb (number x.0) (number y.0) && eqb (number x.1) (number y.1))) (λ x y. x ≢ y)
+          differ-pairs (square number A states k) second.1;
+    }
+
     pub SizeIn-tested : SizeIn plain A has 0 (length (square number A states k) + length (map at places))
     SizeIn-tested = record {
       pairs = square number A states k;
       parts = map at places;
-      all_pairs = record {
-        every = Contains-square;
-        only = λ x h. All-contains (IsChildPair plain has 0) (square number A states k) x square-are h;
-        once = pairs-pass-AllPairs (λ x y. not (eqb (number x.0) (number y.0) && eqb (number x.1) (number y.1))) (λ x y. x ≢ y)
-            differ-pairs (square number A states k) second.1;
-      };
+      all_pairs = pairs-tested;
       all_parts = record {
         every = part-place;
         only = λ f h. All-contains (IsPart plain A has 0) (map at places) f

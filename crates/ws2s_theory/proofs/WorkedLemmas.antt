@@ -1,11 +1,11 @@
 -- On the worked Sizes: the minimal automata of the atoms under the plain guide.
-use Rattle.std.proofs.Common.{◌≡◌, ◌≢◌, ℕ, zero, suc, ◌<◌, Bool, true, false, List, [], ◌∷◌, Contains, refl, sym, subst, arith}
+use Rattle.std.proofs.Common.{◌≡◌, ◌≢◌, ℕ, zero, suc, true, [], ◌∷◌, refl, sym, arith}
 use Rattle.labels.specs.Labels.{Label, empty_label, with_track}
 use Rattle.gta_theory.specs.Guides.{Spaces, IsGuide, IsSpace, left, right}
-use Rattle.gta_theory.specs.Automata.{Automaton, IsStable}
-use Rattle.gta_theory.specs.Constructions.{IsReached, IsClosed}
+use Rattle.gta_theory.specs.Automata.{Automaton}
+use Rattle.gta_theory.specs.Constructions.{IsReached}
 use Rattle.gta_theory.specs.Generated.{Generated, starts, steps}
-use Rattle.gta_theory.specs.Minimal.{IsMinimal, AreSeparated, at_root, below_left, below_right}
+use Rattle.gta_theory.specs.Minimal.{AreSeparated, at_root, below_left, below_right}
 use Rattle.gta_theory.specs.Sizes.{SizeOf}
 use Rattle.gta_theory.proofs.GeneratedLemmas.{IsReached-generated, IsValue-generated}
 use Rattle.gta_theory.proofs.MinimalLemmas.{AreToldApart-from_separated}
@@ -22,6 +22,7 @@ use Rattle.ws2s_theory.specs.Worked.{plain}
 use Rattle.ws2s_theory.proofs.AtomsLemmas.{Recognises-Sub, Recognises-Single, Recognises-Root}
 use Rattle.ws2s_theory.proofs.FormsLemmas.{all-sub, decide-sub, all-single, decide-single, all-root, decide-root}
 use Rattle.ws2s_theory.proofs.SizesLemmas.{HasMinimalSize-of}
+use Rattle.ws2s_theory.proofs.SingleSizeLemmas.{Any, every_track, size-single}
 use Rattle.ws2s_theory.proofs.TestedSizesLemmas.{SizeOf-tested}
 
 pub plain-guide : IsGuide plain
@@ -41,10 +42,6 @@ plain-guide = record {
 
 pub zero-there : IsSpace plain 0
 zero-there = omega arith
-
--- every state is a state
-abbrev pub Any : {Q : Type 0} → ℕ → Q → Type 0
-Any s q = Unit {0}
 
 -- the plain guide's space is 0
 pub at-zero : (P : ℕ → Type 0) → P 0 → (s : ℕ) → IsSpace plain s → P s
@@ -79,10 +76,6 @@ module _ {Q : Type 0} (A : Automaton Q) (f : Formula) (of_A : Recognises plain A
 
 abbrev pub unset : Label
 unset = empty_label
-
--- every track is set
-abbrev pub every_track : Label
-every_track = λ t. true
 
 abbrev pub only : ℕ → Label
 only t = with_track empty_label t true
@@ -172,17 +165,6 @@ pub HasMinimalSize-root : HasMinimalSize plain (Root (track 1)) 10
 HasMinimalSize-root = HasMinimalSize-of plain plain-guide decide-root (Root (track 1)) root_1 Any minimal-root 10 size-root
 
 -- `Single x`
-abbrev pub single-number : SingleState → ℕ
-single-number nothing = 0
-single-number one = 1
-single-number more = 2
-
-pub single-once : (p q : SingleState) → single-number p ≡ single-number q → p ≡ q
-single-once nothing nothing e = refl
-single-once one one e = refl
-single-once more more e = refl
-single-once p q e = absurd (omega (arith, e))
-
 module _ (x : Track) where
   abbrev One : Automaton SingleState
   One = single_automaton x.0
@@ -217,15 +199,5 @@ module _ (x : Track) where
   pub minimal-single : IsMinimalOf plain One Any (Single x)
   minimal-single = minimal-all One (Single x) (Recognises-Single plain plain-guide x) single-generated single-apart
 
-  pub HasMinimalSize-single : SizeOf plain One Any 11 → HasMinimalSize plain (Single x) 11
-  HasMinimalSize-single size = HasMinimalSize-of plain plain-guide decide-single (Single x) One Any minimal-single 11 size
-
-pub size-single_0 : SizeOf plain (single_automaton 0) Any 11
-size-single_0 = SizeOf-tested single-number single-once (single_automaton 0) Any (nothing ∷ one ∷ more ∷ []) (λ q is. all-single q) (λ q h. tt) 1
-    (λ p q l m same i. single_step p q (same 0 (omega arith) i))
-    ((nothing, nothing, 0, unset) ∷ (one, nothing, 0, unset) ∷ []) refl 11 refl
-
-pub size-single_1 : SizeOf plain (single_automaton 1) Any 11
-size-single_1 = SizeOf-tested single-number single-once (single_automaton 1) Any (nothing ∷ one ∷ more ∷ []) (λ q is. all-single q) (λ q h. tt) 2
-    (λ p q l m same i. single_step p q (same 1 (omega arith) i))
-    ((nothing, nothing, 0, unset) ∷ (one, nothing, 0, unset) ∷ []) refl 11 refl
+  pub HasMinimalSize-single : HasMinimalSize plain (Single x) 11
+  HasMinimalSize-single = HasMinimalSize-of plain plain-guide decide-single (Single x) One Any minimal-single 11 (size-single x.0)

@@ -1,9 +1,8 @@
 -- On the worked Peak: some set that is the root alone is within a track, under the plain guide.
-use Rattle.std.proofs.Common.{◌≡◌, ◌≢◌, ℕ, zero, suc, ◌+◌, ◌*◌, ◌<◌, Bool, true, false, ◌&&◌, IsTrue, ◌↔◌, ◌⊎◌, inl, inr, List, [], ◌∷◌, Contains, refl, sym, ap, subst, arith}
+use Rattle.std.proofs.Common.{◌≡◌, ◌≢◌, ℕ, ◌+◌, ◌*◌, ◌<◌, Bool, true, false, ◌&&◌, IsTrue, ◌↔◌, ◌⊎◌, inl, inr, List, [], ◌∷◌, Contains, refl, ap, subst, arith}
 use Rattle.std.proofs.lemmas.Bool.{ltb-true}
-use Rattle.labels.specs.Labels.{Label, with_track, HasAtMost}
+use Rattle.labels.specs.Labels.{Label, with_track}
 use Rattle.labels.proofs.LabelsLemmas.{HasAtMost-with_track}
-use Rattle.gta_theory.specs.Guides.{IsSpace}
 use Rattle.gta_theory.specs.Automata.{Automaton, IsStable}
 use Rattle.gta_theory.specs.Constructions.{pairs, IsReached, IsClosed, IsNaming, IsProduct, IsSubset, Settled, IsStepOf, HasAccepting}
 use Rattle.gta_theory.specs.Generated.{Generated}
@@ -12,7 +11,7 @@ use Rattle.gta_theory.specs.Sizes.{SizeOf}
 use Rattle.gta_theory.proofs.AutomataLemmas.{IsStable-pairs}
 use Rattle.gta_theory.proofs.GeneratedLemmas.{IsReached-generated, IsValue-generated}
 use Rattle.ws2s_core.specs.declared.formula.Formula.{Formula}
-use Rattle.ws2s_core.specs.declared.formula.Formula.TheVariants.{Sub, Root, And, Not, Ex2}
+use Rattle.ws2s_core.specs.declared.formula.Formula.TheVariants.{Sub, Root, And, Not}
 use Rattle.ws2s_core.specs.Recognising.{Recognises, IsMinimalOf}
 use Rattle.ws2s_core.specs.Examples.{track, has_root}
 use Rattle.ws2s_core.proofs.RecognisingLemmas.{Recognises-And, Recognises-Ex2, Recognises-classes}
@@ -24,7 +23,8 @@ use Rattle.ws2s_theory.proofs.PeaksLemmas.{HasPeak-Sub, HasPeak-Root, HasPeak-An
 use Rattle.ws2s_theory.proofs.SizesLemmas.{HasMinimalSize-of, HasProductSize-of, HasSubsetSize-of}
 use Rattle.ws2s_theory.proofs.TestsLemmas.{all-pass-at}
 use Rattle.ws2s_theory.proofs.TestedSizesLemmas.{SizeOf-tested}
-use Rattle.ws2s_theory.proofs.WorkedLemmas.{plain-guide, zero-there, Any, at-zero, minimal-all, unset, only, sub_10, minimal-sub, root_1, minimal-root}
+use Rattle.ws2s_theory.proofs.SingleSizeLemmas.{Any}
+use Rattle.ws2s_theory.proofs.WorkedLemmas.{plain-guide, zero-there, at-zero, minimal-all, unset, only, sub_10, minimal-sub, root_1, minimal-root}
 use Rattle.ws2s_theory.proofs.WorkedLemmas.{HasMinimalSize-sub, HasMinimalSize-root, root-number, root-once, sub-number, sub-once}
 
 -- the root alone on track 1, and within track 0

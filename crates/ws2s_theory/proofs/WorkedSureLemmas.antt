@@ -1,10 +1,9 @@
--- On the worked Peaks 13 and 14: some set has one position, and two such formulas together, under the plain guide.
-use Rattle.std.proofs.Common.{◌≡◌, ◌≢◌, ℕ, Bool, true, false, ◌||◌, IsTrue, ◌↔◌, ◌⊎◌, inl, inr, List, [], ◌∷◌, Contains, refl, sym, ap, subst, arith, cond, eq-eqb}
+-- On the worked Peaks 13 and 14: some set has one position, and several such formulas together, under the plain guide.
+use Rattle.std.proofs.Common.{◌≡◌, zero, suc, max, ◌+◌, ◌≢◌, ℕ, Bool, true, false, IsTrue, ◌⊎◌, inl, [], ◌∷◌, refl, subst, cond, eq-eqb}
 use Rattle.std.proofs.lemmas.Bool.{ltb-true}
-use Rattle.labels.specs.Labels.{Label, empty_label, with_track, HasAtMost}
+use Rattle.labels.specs.Labels.{Label, empty_label, with_track}
 use Rattle.labels.proofs.LabelsLemmas.{HasAtMost-with_track}
-use Rattle.gta_theory.specs.Guides.{IsSpace}
-use Rattle.gta_theory.specs.Automata.{Automaton, IsStable}
+use Rattle.gta_theory.specs.Automata.{Automaton}
 use Rattle.gta_theory.specs.Constructions.{pairs, IsReached, IsClosed, IsNaming, IsProduct, IsSubset, Settled, IsStepOf, HasAccepting}
 use Rattle.gta_theory.specs.Generated.{Generated}
 use Rattle.gta_theory.specs.Sizes.{SizeOf}
@@ -17,14 +16,15 @@ use Rattle.ws2s_core.specs.Recognising.{Recognises, IsMinimalOf}
 use Rattle.ws2s_core.specs.Examples.{track}
 use Rattle.ws2s_core.proofs.RecognisingLemmas.{Recognises-And, Recognises-Ex2, Recognises-classes}
 use Rattle.ws2s_theory.specs.Atoms.{SingleState, nothing, one, more, single_step, single_automaton}
-use Rattle.ws2s_theory.specs.Peaks.{HasMinimalSize, HasProductSize, HasSubsetSize, HasPeak}
-use Rattle.ws2s_theory.specs.Worked.{plain}
+use Rattle.ws2s_theory.specs.Peaks.{HasMinimalSize, HasProductSize, HasPeak}
+use Rattle.ws2s_theory.specs.Worked.{plain, some_each}
 use Rattle.ws2s_theory.proofs.FormsLemmas.{decide-single}
 use Rattle.ws2s_theory.proofs.PeaksLemmas.{HasPeak-Single, HasPeak-And, HasPeak-Ex2}
 use Rattle.ws2s_theory.proofs.SizesLemmas.{HasMinimalSize-of, HasProductSize-of, HasSubsetSize-of}
 use Rattle.ws2s_theory.proofs.TestedSizesLemmas.{SizeOf-tested}
-use Rattle.ws2s_theory.proofs.WorkedLemmas.{plain-guide, zero-there, Any, at-zero, minimal-all, minimal-single}
-use Rattle.ws2s_theory.proofs.WorkedLemmas.{HasMinimalSize-single, size-single_0, size-single_1}
+use Rattle.ws2s_theory.proofs.SingleSizeLemmas.{Any}
+use Rattle.ws2s_theory.proofs.WorkedLemmas.{plain-guide, zero-there, at-zero, minimal-all, minimal-single}
+use Rattle.ws2s_theory.proofs.WorkedLemmas.{HasMinimalSize-single}
 
 -- the automaton with one state, which accepts all
 abbrev Sure : Automaton (Unit {0})
@@ -79,7 +79,7 @@ HasProductSize-sure f h of_f of_h = HasProductSize-of plain plain-guide decide-u
     (minimal-sure f of_f) (minimal-sure h of_h) two-product 1 size-two
 
 -- some set has one position
-module _ (x : Track) (size : SizeOf plain (single_automaton x.0) Any 11) where
+module _ (x : Track) where
   abbrev Some : Formula
   Some = Ex2 x (Single x)
 
@@ -143,35 +143,42 @@ module _ (x : Track) (size : SizeOf plain (single_automaton x.0) Any 11) where
     size_part = 11;
     size_subset = 1;
     size_result = 1;
-    of_peak_part = (HasPeak-Single plain x 11).1 (HasMinimalSize-single x size);
-    of_part = HasMinimalSize-single x size;
+    of_peak_part = (HasPeak-Single plain x 11).1 (HasMinimalSize-single x);
+    of_part = HasMinimalSize-single x;
     of_subset = HasSubsetSize-of plain plain-guide decide-single x (Single x) One Any Sure Any All-members (minimal-single x) some-subset 1 size-sure;
     of_result = HasMinimalSize-sure Some sure-Some;
     is_greatest = refl;
   })
 
-pub HasPeak-some_0 : HasPeak plain (Ex2 (track 0) (Single (track 0))) 13
-HasPeak-some_0 = HasPeak-Some (track 0) size-single_0
+-- a formula for each of the first tracks, all of them together
+pub sure-each : (n : ℕ) → Recognises plain Sure (some_each n)
+unfolding some_each
+sure-each zero = sure-Some (track 0)
+sure-each (suc n) = sure-And (some_each n) (Ex2 (track (suc n)) (Single (track (suc n)))) (sure-each n) (sure-Some (track (suc n)))
 
-abbrev Both-some : Formula
-Both-some = And (Ex2 (track 0) (Single (track 0))) (Ex2 (track 1) (Single (track 1)))
-
-pub HasPeak-both_some : HasPeak plain Both-some 14
-HasPeak-both_some =
-    let first = sure-Some (track 0) size-single_0 in
-    let second = sure-Some (track 1) size-single_1 in
-    (HasPeak-And plain (Ex2 (track 0) (Single (track 0))) (Ex2 (track 1) (Single (track 1))) 14).1 (record {
-      peak_first = 13;
+-- one more, beside what has a peak of 13 or 14
+more-each : (n peak : ℕ) → max peak (max (1 + 13) (1 + 1 + 1 + 1)) ≡ 14 → HasPeak plain (some_each n) peak → HasPeak plain (some_each (suc n)) 14
+unfolding some_each
+more-each n peak greatest of_n =
+    let last : Formula = Ex2 (track (suc n)) (Single (track (suc n))) in
+    let of_last = sure-Some (track (suc n)) in
+    (HasPeak-And plain (some_each n) last 14).1 (record {
+      peak_first = peak;
       peak_second = 13;
       size_first = 1;
       size_second = 1;
       size_product = 1;
       size_result = 1;
-      of_peak_first = HasPeak-Some (track 0) size-single_0;
-      of_peak_second = HasPeak-Some (track 1) size-single_1;
-      of_first = HasMinimalSize-sure (Ex2 (track 0) (Single (track 0))) first;
-      of_second = HasMinimalSize-sure (Ex2 (track 1) (Single (track 1))) second;
-      of_product = HasProductSize-sure (Ex2 (track 0) (Single (track 0))) (Ex2 (track 1) (Single (track 1))) first second;
-      of_result = HasMinimalSize-sure Both-some (sure-And (Ex2 (track 0) (Single (track 0))) (Ex2 (track 1) (Single (track 1))) first second);
-      is_greatest = refl;
+      of_peak_first = of_n;
+      of_peak_second = HasPeak-Some (track (suc n));
+      of_first = HasMinimalSize-sure (some_each n) (sure-each n);
+      of_second = HasMinimalSize-sure last of_last;
+      of_product = HasProductSize-sure (some_each n) last (sure-each n) of_last;
+      of_result = HasMinimalSize-sure (And (some_each n) last) (sure-And (some_each n) last (sure-each n) of_last);
+      is_greatest = greatest;
     })
+
+pub HasPeak-each : (n : ℕ) → HasPeak plain (some_each (suc n)) 14
+unfolding some_each
+HasPeak-each zero = more-each 0 13 refl (HasPeak-Some (track 0))
+HasPeak-each (suc n) = more-each (suc n) 14 refl (HasPeak-each n)

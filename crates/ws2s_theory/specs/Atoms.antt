@@ -1,6 +1,5 @@
 -- The atoms as automata. Their tables are the same in each space, and hold where the two tracks are one.
 use Rattle.std.specs.Prelude.{ℕ, Bool, true, false}
-use Rattle.labels.specs.Labels.{Label}
 use Rattle.gta_theory.specs.Automata.{Automaton}
 
 -- what `Sub` knows of a tree: each position of the first set is one of the second, or some isn't

@@ -1,11 +1,11 @@
 -- Which states of an atom's automaton are one state of its minimal automaton, space by space. It goes by whether the
 -- space is the root's, whether a position below the root has it, and whether it is a child of a position's space by a
 -- letter.
-use Rattle.std.specs.Prelude.{◌≡◌, ℕ, Bool, true, false, ◌||◌, ◌==◌, IsTrue, ◌↔◌}
+use Rattle.std.specs.Prelude.{◌≡◌, ℕ, Bool, true, false, ◌||◌, IsTrue, ◌↔◌, ◌==◌}
 use Rattle.gta_theory.specs.Assignments.{Position}
 use Rattle.gta_theory.specs.Guides.{Spaces, IsSpace, left, right, space_at}
 use Rattle.gta_theory.specs.Automata.{Automaton}
-use Rattle.ws2s_theory.specs.Atoms.{SubState, inside, outside, SingleState, nothing, one, more, RootState, absent, alone, lower}
+use Rattle.ws2s_theory.specs.Atoms.{SubState, inside, SingleState, nothing, one, RootState, absent, alone, lower}
 use Rattle.ws2s_theory.specs.Atoms.{SuccState, neither, child, found, wrong}
 
 -- the child space that a letter leads to
@@ -22,8 +22,8 @@ pub record IsChildTest (g : Spaces) (is_child : Bool → ℕ → Bool) : Type 0 
 abbrev pub is_below : (Bool → ℕ → Bool) → ℕ → Bool
 is_below is_child s = is_child false s || is_child true s
 
--- The state that stands for a state in a space, by whether a position below the root has the space, and whether it is the
--- root's. Where neither is so, one state stands for all.
+-- The state that stands for a state in a space, by whether a position below the root has the space, and whether it is
+-- the root's. Where neither is so, one state stands for all.
 abbrev pub sub_class : Bool → Bool → SubState → SubState
 sub_class true top q = q
 sub_class false true q = q
@@ -50,6 +50,19 @@ succ_class true by_letter top found = found
 succ_class true by_letter top wrong = wrong
 succ_class false by_letter true found = found
 succ_class false by_letter top q = neither
+
+-- the same, of each space, with a test of children
+abbrev pub sub_classes : (Bool → ℕ → Bool) → ℕ → SubState → SubState
+sub_classes is_child s q = sub_class (is_below is_child s) (s == 0) q
+
+abbrev pub single_classes : (Bool → ℕ → Bool) → ℕ → SingleState → SingleState
+single_classes is_child s q = single_class (is_below is_child s) (s == 0) q
+
+abbrev pub root_classes : (Bool → ℕ → Bool) → ℕ → RootState → RootState
+root_classes is_child s q = root_class (is_below is_child s) (s == 0) q
+
+abbrev pub succ_classes : Bool → (Bool → ℕ → Bool) → ℕ → SuccState → SuccState
+succ_classes letter is_child s q = succ_class (is_below is_child s) (is_child letter s) (s == 0) q
 
 -- the automaton of the states that stand for others
 abbrev pub merged : {Q : Type 0} → (ℕ → Q → Q) → Automaton Q → Automaton Q

@@ -4,7 +4,8 @@ ghost use Rattle.gta_theory.specs.Guides.{Spaces, IsGuide};
 ghost use Rattle.ws2s_core.specs.declared.track.Track.{Track};
 ghost use Rattle.ws2s_core.specs.declared.formula.Formula.TheVariants.{Sub, Single, Succ0, Succ1, Root};
 ghost use Rattle.ws2s_core.specs.Recognising.{Recognises};
-ghost use Rattle.ws2s_theory.specs.Atoms.{sub_automaton, single_automaton, succ0_automaton, succ1_automaton, root_automaton};
+ghost use Rattle.ws2s_theory.specs.Atoms.{sub_automaton, single_automaton, root_automaton};
+ghost use Rattle.ws2s_theory.specs.Atoms.{succ0_automaton, succ1_automaton};
 
 /// Under every guide the automaton of an atom recognises it.
 pub fn atoms_are_recognised()

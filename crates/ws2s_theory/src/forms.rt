@@ -14,7 +14,8 @@ ghost use Rattle.ws2s_theory.specs.Peaks.{HasMinimalSize, HasProductSize, HasSub
 /// whose steps look at the tracks below some number alone.
 pub fn formulas_have_minimal_automata()
     ensures { (g : Spaces) (f : Formula) → IsGuide g →
-        (M : Automaton ℕ) × (count : ℕ → ℕ) × (k : ℕ) × IsMinimalOf g M (Below count) f × LooksBelow g M (Below count) k }
+        (M : Automaton ℕ) × (count : ℕ → ℕ) × (k : ℕ) × IsMinimalOf g M (Below count) f
+        × LooksBelow g M (Below count) k }
 {}
 
 /// The Sizes of a formula's minimal automaton, of products of two formulas' minimal automata, and of subset automata of

@@ -1,13 +1,14 @@
 //! Worked Sizes and Peaks, under the plain guide.
 
+ghost use Rattle.std.specs.Prelude.{ℕ, suc};
 ghost use Rattle.ws2s_core.specs.declared.formula.Formula.TheVariants.{Sub, Single, Root, And, Not, Ex2};
 ghost use Rattle.ws2s_core.specs.Examples.{track, has_root};
 ghost use Rattle.ws2s_theory.specs.Peaks.{HasMinimalSize, HasProductSize, HasSubsetSize, HasPeak};
-ghost use Rattle.ws2s_theory.specs.Worked.{plain};
+ghost use Rattle.ws2s_theory.specs.Worked.{plain, some_each};
 
 /// The Sizes of atoms' minimal automata.
 pub fn sizes_of_atoms()
-    ensures single { HasMinimalSize plain (Single (track 0)) 11 }
+    ensures single { (t : ℕ) → HasMinimalSize plain (Single (track t)) 11 }
     ensures root { HasMinimalSize plain (Root (track 1)) 10 }
     ensures sub { HasMinimalSize plain (Sub (track 1) (track 0)) 6 }
 {}
@@ -28,9 +29,8 @@ pub fn peak_of_a_root_within()
     ensures negated { HasPeak plain (Not has_root) 58 }
 {}
 
-/// The Peak of "some set has one position", and of two such formulas together: what the first made is gone but for its
-/// minimal automaton when the second is made.
+/// The Peak of "some set has one position", and of such formulas of several tracks together.
 pub fn peaks_of_one_position()
-    ensures one { HasPeak plain (Ex2 (track 0) (Single (track 0))) 13 }
-    ensures two { HasPeak plain (And (Ex2 (track 0) (Single (track 0))) (Ex2 (track 1) (Single (track 1)))) 14 }
+    ensures one { (t : ℕ) → HasPeak plain (Ex2 (track t) (Single (track t))) 13 }
+    ensures several { (n : ℕ) → HasPeak plain (some_each (suc n)) 14 }
 {}

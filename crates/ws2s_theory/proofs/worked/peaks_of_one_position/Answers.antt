@@ -1,5 +1,6 @@
-use Rattle.ws2s_theory.proofs.WorkedSureLemmas.{HasPeak-some_0, HasPeak-both_some}
+use Rattle.ws2s_core.specs.Examples.{track}
+use Rattle.ws2s_theory.proofs.WorkedSureLemmas.{HasPeak-Some, HasPeak-each}
 use Rattle.ws2s_theory.proofs.worked.peaks_of_one_position.Goals as goal
 
 pub returns : goal.returns
-returns c = record { one = HasPeak-some_0; two = HasPeak-both_some }
+returns c = record { one = λ t. HasPeak-Some (track t); several = HasPeak-each }
