@@ -184,10 +184,10 @@ module _ (nodes : List Node) (earlier : (k : ℕ) (node : Node) → slice_get no
           (All-from_contains (IsMarkedAfter marks node) (parts_of (form_of node)) (with_marks-marked (parts_of (form_of node)) marks room))
       | inr later ↦ elim (with_marks-cases (parts_of (form_of node)) marks j m)
           as (λ _. All (IsMarkedAfter marks node) (parts_of (form_of other))) [
-        | inl old ↦ All-weaker (HasMark marks) (IsMarkedAfter marks node) (with_marks-kept (parts_of (form_of node)) marks)
-            (parts_of (form_of other)) (h.closed j other (omega arith) at_j old)
-        | inr part ↦ (let lt : j < k = below-of part in absurd (omega arith))
-      ]
+            | inl old ↦ All-weaker (HasMark marks) (IsMarkedAfter marks node) (with_marks-kept (parts_of (form_of node)) marks)
+                (parts_of (form_of other)) (h.closed j other (omega arith) at_j old)
+            | inr part ↦ (let lt : j < k = below-of part in absurd (omega arith))
+          ]
     ];
     sound = λ j m. elim (with_marks-cases (parts_of (form_of node)) marks j m)
         as (λ _. IsPart (formula_at (formulas_of nodes) whole) (formula_at (formulas_of nodes) j)) [
