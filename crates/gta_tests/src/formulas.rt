@@ -5,10 +5,10 @@ use std::alloc::{AllocError, Global};
 use std::test::Fail;
 use ws2s_core::{Formula, Guide, Interner, LabelTree, Track, TreeNode, intern};
 
-pub const DEEP: u32 = 65_536;
+const DEEP: u32 = 65_536;
 
 /// `Single 0` under so many negations.
-pub fn negations(alloc: Global, count: u32) -> Result<Formula, AllocError> {
+fn negations(alloc: Global, count: u32) -> Result<Formula, AllocError> {
     let mut formula = Formula::Single(Track(0));
     for _ in 0..count {
         formula = Formula::not(alloc, formula)?;
@@ -31,7 +31,7 @@ fn zigzag(alloc: Global, count: u32) -> Result<Formula, AllocError> {
 }
 
 /// `Single 0`, conjoined with itself so many times.
-pub fn doubled(alloc: Global, count: u32) -> Result<Formula, AllocError> {
+fn doubled(alloc: Global, count: u32) -> Result<Formula, AllocError> {
     let mut formula = Formula::Single(Track(0));
     for _ in 0..count {
         formula = Formula::and(alloc, formula.copy(alloc)?, formula)?;

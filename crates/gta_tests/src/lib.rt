@@ -1,11 +1,8 @@
-//! Tests of the crates for automata: shelves of nodes, joins, core formulas and
-//! their graphs. The crate has nothing else.
+//! Tests of the crates for automata: shelves of nodes, joins, and core formulas. The crate has nothing else.
 #![tactic(auto)]
 
 #[cfg(test)]
 mod formulas;
-#[cfg(test)]
-mod interners;
 #[cfg(test)]
 mod joins;
 #[cfg(test)]

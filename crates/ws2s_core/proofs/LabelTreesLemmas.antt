@@ -1,5 +1,5 @@
 -- On what labelled trees stand for.
-use Rattle.std.proofs.Common.{◌≡◌, ℕ, suc, ◌-◌, ◌≤◌, true, false, List, [], ◌∷◌, ◌++◌, length, slice_get, unwrap_or, Option, Some}
+use Rattle.std.proofs.Common.{◌≡◌, ℕ, suc, ◌-◌, true, false, List, [], ◌∷◌, ◌++◌, length, slice_get, unwrap_or, Option, Some}
 use Rattle.std.proofs.Common.{None, inl, inr, refl, sym, subst, arith}
 use Rattle.std.proofs.lemmas.Option.{slice_get_within}
 use Rattle.gta_theory.specs.Assignments.{Assignment, Covers, empty_assignment}

@@ -1,13 +1,13 @@
 -- On the parts of formulas that are kept as nodes, and on marks.
-use Rattle.std.proofs.Common.{◌≡◌, ◌≢◌, ◌⊎◌, ℕ, zero, suc, ◌+◌, ◌<◌, ◌≤◌, Bool, true, false, IsTrue, List, [], ◌∷◌, ◌++◌, length, map, slice_get}
-use Rattle.std.proofs.Common.{slice_index_or, replicate, set, option_map, Option, Some, None, IfSome, All, AllPairs, Contains, Result, Ok, Err, IfOk, refl, sym, ap, subst}
+use Rattle.std.proofs.Common.{◌≡◌, ◌⊎◌, ℕ, suc, ◌+◌, ◌<◌, Bool, true, false, IsTrue, List, [], ◌∷◌, ◌++◌, length, map, slice_get}
+use Rattle.std.proofs.Common.{slice_index_or, replicate, set, option_map, Option, Some, None, IfSome, All, Contains, Result, Ok, Err, IfOk, refl, sym, ap, subst}
 use Rattle.std.proofs.Common.{◌∙◌, inl, inr, arith}
 use Rattle.std.proofs.lemmas.Bool.{cases_lt, cases_eq, false≢true}
-use Rattle.std.proofs.lemmas.Option.{slice_get_within, slice_get_past}
+use Rattle.std.proofs.lemmas.Option.{slice_get_past}
 use Rattle.std.proofs.lemmas.List.{get_or-set_other, get_or-set_same, get_or_past, get_or-replicate, length-set, length-replicate}
 use Rattle.std.proofs.lemmas.List.Elements.{All-head, All-tail, All-weaker, Contains-append_left, Contains-append_right, Contains-append_cases, Contains-get_or}
 use Rattle.std.proofs.lemmas.List.Quantifiers.{all_pairs_push}
-use Rattle.gta_theory.proofs.ListedLemmas.{meanings-push, length-meanings, slice_get-push}
+use Rattle.gta_theory.proofs.ListedLemmas.{meanings-push, length-meanings}
 use Rattle.gta_theory.proofs.ListsLemmas.{Contains-first, Contains-later, Contains-cases, Contains-none, Contains-map, All-from_contains}
 use Rattle.ws2s_core.specs.declared.node.FormulaId.{FormulaId}
 use Rattle.ws2s_core.specs.declared.node.Node.{Node}

@@ -7,8 +7,9 @@
 //! `examples` are worked ones: functions with empty bodies, whose clauses hold of all formulas.
 //!
 //! A formula may be as deep as memory allows. It is copied, counted, numbered and dropped by loops; of these a drop
-//! and a count take no memory. Only `Debug` recurses. No crate above looks at how an interner keeps its formulas, nor
-//! at the order in which the parts of a formula get their numbers.
+//! and a count take no memory. Only `Debug` recurses. No crate above looks at how an interner keeps its formulas. A
+//! graph of subformulas is worked on by their numbers, of which `specs/Parts.antt` has the words: parts have lower
+//! numbers than what they stand in, in no order among themselves.
 #![tactic(auto)]
 
 mod copy;

@@ -1,12 +1,11 @@
-use Rattle.std.proofs.Common.{◌≡◌, ◌∙◌, ◌+◌, ◌-◌, ◌<◌, IsTrue, true, false, set, suc, Some, List, Bool, length, slice_get, slice_index_or, sym, ap, subst, arith}
+use Rattle.std.proofs.Common.{◌≡◌, ◌∙◌, ◌-◌, ◌<◌, IsTrue, true, false, set, suc, Some, List, Bool, length, slice_get, slice_index_or, sym, ap, subst, arith}
 use Rattle.std.proofs.lemmas.List.{get_or_read}
 use Rattle.std.proofs.lemmas.Option.{slice_get-get_or}
 use Rattle.std.proofs.lemmas.List.Elements.{All-weaker}
-use Rattle.ws2s_core.specs.declared.track.Track.{Track}
 use Rattle.ws2s_core.specs.declared.node.Node.{Node}
 use Rattle.ws2s_core.specs.Postfix.{parts_of}
 use Rattle.ws2s_core.specs.Nodes.{form_of}
-use Rattle.ws2s_core.specs.Parts.{MarksParts, is_marked, with_marks}
+use Rattle.ws2s_core.specs.Parts.{MarksParts, is_marked}
 use Rattle.ws2s_core.proofs.PartsLemmas.{MarksParts-first, MarksParts-marked}
 use Rattle.ws2s_core.proofs.parts.marks_of.Goals as goal
 use Rattle.ws2s_core.proofs.parts.marks_of.Goals.{After-index}

@@ -1,6 +1,5 @@
-use Rattle.std.proofs.Common.{List, Bool, length, sym, subst, IfOk}
-use Rattle.ws2s_core.specs.Nodes.{formulas_of}
-use Rattle.ws2s_core.specs.Parts.{ArePartsOf, AreMarkedBelow}
+use Rattle.std.proofs.Common.{List, Bool, length, subst, IfOk}
+use Rattle.ws2s_core.specs.Parts.{AreMarkedBelow}
 use Rattle.ws2s_core.proofs.PartsLemmas.{ArePartsOf-listed}
 use Rattle.ws2s_core.proofs.parts.parts_at.Goals as goal
 
