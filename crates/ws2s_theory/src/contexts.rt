@@ -2,14 +2,11 @@
 
 ghost use Rattle.std.specs.Prelude.{◌≡◌, ◌⊎◌, ℕ, ◌↔◌, List, [], ◌∷◌, All, Contains};
 ghost use Rattle.gta_theory.specs.Assignments.{Assignment, PositionSet, IsFinite, IsFiniteSet, replace};
-ghost use Rattle.gta_theory.specs.Guides.{Spaces, IsGuide};
-ghost use Rattle.gta_theory.specs.Automata.{Automaton};
 ghost use Rattle.ws2s_core.specs.declared.track.Track.{Track};
 ghost use Rattle.ws2s_core.specs.declared.formula.Formula.{Formula};
 ghost use Rattle.ws2s_core.specs.declared.formula.Formula.TheVariants.{And, Not, Ex2};
 ghost use Rattle.ws2s_core.specs.Satisfaction.{WSat, Same};
 ghost use Rattle.ws2s_core.specs.Tracks.{IsFree};
-ghost use Rattle.ws2s_core.specs.Recognising.{Recognises};
 ghost use Rattle.ws2s_theory.specs.Contexts.{SatisfiesAll, SameUnder, IsRelevant, Entails, Rewrites, IsLightestOf};
 
 /// A formula and its rewriting in a context agree wherever the context is satisfied; in the empty context they are the
@@ -81,11 +78,9 @@ pub fn quantifiers_leave_conjunctions()
     ensures left { (t : Track) (f g : Formula) → (¬ IsFree t.0 g) → Same (And (Ex2 t f) g) (Ex2 t (And f g)) }
 {}
 
-/// Where some automaton recognises a formula, each assignment of finite sets satisfies the formula or doesn't; and so it
-/// does where it can't be that it doesn't.
+/// An assignment of finite sets satisfies a formula or doesn't, and it does where it can't be that it doesn't: the formula's
+/// automaton tells.
 pub fn satisfaction_is_decided()
-    ensures decided { (g : Spaces) (A : Automaton ℕ) (f : Formula) (a : Assignment) → IsGuide g → Recognises g A f →
-        IsFinite a → WSat f a ⊎ (¬ WSat f a) }
-    ensures not_not { (g : Spaces) (A : Automaton ℕ) (f : Formula) (a : Assignment) → IsGuide g → Recognises g A f →
-        IsFinite a → (¬ (¬ WSat f a)) → WSat f a }
+    ensures decided { (f : Formula) (a : Assignment) → IsFinite a → WSat f a ⊎ (¬ WSat f a) }
+    ensures not_not { (f : Formula) (a : Assignment) → IsFinite a → (¬ (¬ WSat f a)) → WSat f a }
 {}
