@@ -8,7 +8,8 @@ use Rattle.bdd_nodes.specs.declared.roots.RootTable.{RootTable}
 use Rattle.labels.specs.Labels.{Label, Function}
 use Rattle.bdd_nodes.specs.Nodes.{node_of, first_track}
 use Rattle.bdd_nodes.specs.Roots.{root_under}
-use Rattle.bdd_nodes.specs.Shelf.{Contents, limit_of, IsValid, state_of, top_of, low_of, high_of, low_named, high_named, AsksFrom, roots_of, root_of, tables_added}
+use Rattle.bdd_nodes.specs.Shelf.{Contents, limit_of, IsValid, state_of, top_of, low_of, high_of, low_named, high_named, AsksFrom, roots_of, root_of}
+use Rattle.bdd_nodes.specs.Shelf.{tables_added}
 
 -- every valid reference stays valid, with its function and with what it is under its first track
 pub record Keeps (old new : Contents) : Type 0 where

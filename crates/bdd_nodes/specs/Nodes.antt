@@ -1,6 +1,7 @@
 -- Lists of decision nodes: which function from labels to states a reference stands for, and what it asks.
 -- (Shared, reduced and ordered decision diagrams with many leaves: Bryant 1986; Klarlund and Schwartzbach 1993.)
-use Rattle.std.specs.Prelude.{◌≡◌, ◌≢◌, ℕ, suc, ◌-◌, ◌^◌, ◌<◌, ◌≤◌, List, [], ◌∷◌, ◌++◌, length, fold, Option, Some, None, MatchOption, slice_index_or, nat_lt, if◌then◌else◌}
+use Rattle.std.specs.Prelude.{◌≡◌, ◌≢◌, ℕ, suc, ◌-◌, ◌^◌, ◌<◌, ◌≤◌, List, [], ◌∷◌, ◌++◌, length, fold, Option, Some, None, MatchOption}
+use Rattle.std.specs.Prelude.{slice_index_or, nat_lt, if◌then◌else◌}
 use Rattle.labels.specs.Labels.{Function}
 use Rattle.bdd_nodes.specs.declared.node_ref.NodeRef.{NodeRef}
 use Rattle.bdd_nodes.specs.declared.node_ref.Named.{Named}

@@ -1,5 +1,6 @@
 -- What is read as an assertion is one and is spelled so, and what is spelled so is read.
-use Rattle.std.proofs.Common.{◌≡◌, ◌≢◌, ℕ, zero, suc, ◌+◌, ◌-◌, ◌*◌, ◌^◌, ◌<◌, ◌≤◌, max, Bool, true, false, cond, ltb, List, [], ◌∷◌, ◌++◌, All, Option, Some, None, refl, sym, ap, subst, ◌∙◌, append_assoc, inl, inr, arith}
+use Rattle.std.proofs.Common.{◌≡◌, ◌≢◌, ℕ, zero, suc, ◌+◌, ◌-◌, ◌*◌, ◌^◌, ◌<◌, ◌≤◌, max, Bool, true, false, cond, ltb, List, [], ◌∷◌, ◌++◌, All}
+use Rattle.std.proofs.Common.{Option, Some, None, refl, sym, ap, subst, ◌∙◌, append_assoc, inl, inr, arith}
 use Rattle.std.proofs.Math.Nat.{pow-succ'}
 use Rattle.std.proofs.Math.Pow.{pow_mono}
 use Rattle.std.proofs.lemmas.Bool.{cases_lt, ltb-false, le-ltb}
@@ -17,7 +18,8 @@ use Rattle.bool_path.specs.Reading.{Form, Literal, Chain, Neither, negated, join
 use Rattle.bool_path.specs.Reader.Steps.{◌>>=◌, begins, after, ended, is_mark}
 use Rattle.bool_path.specs.Reader.Terms.{literal_at, chain_at, assertion_at}
 use Rattle.bool_path.proofs.AllLemmas.{All-left, All-right}
-use Rattle.bool_path.proofs.ExprLemmas.{by_form, form_of-Name, form_of-Truth, form_of-Not, form_of-Iff, uses_of-Iff, levels_of-Iff, size_of-Name, size_of-Truth, size_of-Not, size_of-Iff, tokens_of-Iff}
+use Rattle.bool_path.proofs.ExprLemmas.{by_form, form_of-Name, form_of-Truth, form_of-Not, form_of-Iff, uses_of-Iff, levels_of-Iff, size_of-Name}
+use Rattle.bool_path.proofs.ExprLemmas.{size_of-Truth, size_of-Not, size_of-Iff, tokens_of-Iff}
 use Rattle.bool_path.proofs.LiteralLaws.{IsLiteral, literal-Some, literal_again}
 use Rattle.bool_path.proofs.NamesLaws.{MayBe, IsTable}
 use Rattle.bool_path.proofs.StepLaws.{bind_some, after-mark, mark_again, begins_mark, ended-Some, ended_again}
@@ -42,7 +44,8 @@ joined_form f Neither one two e = absurd cc
 IsPart-literal : (at : Place) (t : Table) (e : BoolExpr) (front : List TokenKind) → IsLiteral at t 200 e front → IsPart at t e
 IsPart-literal at t e front is = record { form = literal_form (form_of e) is.form; names = is.names; levels = is.levels; size = omega (arith, is.size) }
 
-IsPart-Iff : (at : Place) (t : Table) (l r : BoolExpr) (front : List TokenKind) → IsPart at t l → IsLiteral at t 200 r front → size_of (Iff l r) ≤ 65536 → IsPart at t (Iff l r)
+IsPart-Iff : (at : Place) (t : Table) (l r : BoolExpr) (front : List TokenKind) → IsPart at t l → IsLiteral at t 200 r front → size_of (Iff l r) ≤ 65536
+    → IsPart at t (Iff l r)
 IsPart-Iff at t l r front one two size =
     let levels : max (levels_of l) (levels_of r) ≤ 200 = omega (arith, one.levels, two.levels) in
     record {
@@ -65,10 +68,12 @@ GoesOn-Iff : (at : Place) (t : Table) (left right e : BoolExpr) (kinds others fr
 GoesOn-Iff at t left right e kinds others front later rest marked fronted spelled on =
     let ours : BoolExpr → List TokenKind = tokens_of (negation at) t.all in
     let regrouped : ours (Iff left right) ++ on.more ≡ ours left ++ (kind.Mark mark.Equivalent ∷ (ours right ++ on.more)) =
-    ap (λ (x : List TokenKind). x ++ on.more) (tokens_of-Iff (negation at) t.all left right) ∙ append_assoc (ours left) (kind.Mark mark.Equivalent ∷ ours right) on.more in
+    ap (λ (x : List TokenKind). x ++ on.more) (tokens_of-Iff (negation at) t.all left right) ∙ append_assoc (ours left)
+        (kind.Mark mark.Equivalent ∷ ours right) on.more in
     record {
       more = kind.Mark mark.Equivalent ∷ (front ++ on.more);
-      parts = marked ∙ ap (λ (x : List TokenKind). kind.Mark mark.Equivalent ∷ x) (fronted ∙ ap (λ (x : List TokenKind). front ++ x) on.parts ∙ sym (append_assoc front on.more rest));
+      parts = marked ∙ ap (λ (x : List TokenKind). kind.Mark mark.Equivalent ∷ x)
+          (fronted ∙ ap (λ (x : List TokenKind). front ++ x) on.parts ∙ sym (append_assoc front on.more rest));
       spelled = on.spelled ∙ regrouped ∙ ap (λ (x : List TokenKind). ours left ++ (kind.Mark mark.Equivalent ∷ (x ++ on.more))) (sym spelled);
       is = on.is;
     }
@@ -85,10 +90,14 @@ chain-Some at t (suc turns) left kinds e rest is read =
         → GoesOn at t left e kinds rest
     go false starts rec =
         let made : ◌≡◌ {A = BoolExpr × List TokenKind} (left, kinds) (e, rest) = same_Some (left, kinds) (e, rest) (rw starts at read) in
-        subst (λ (x : BoolExpr × List TokenKind). GoesOn at t left x.0 kinds x.1) made (record { more = []; parts = refl; spelled = sym (append-nil (tokens_of (negation at) t.all left)); is = is })
+        subst (λ (x : BoolExpr × List TokenKind). GoesOn at t left x.0 kinds x.1) made
+            (record { more = []; parts = refl; spelled = sym (append-nil (tokens_of (negation at) t.all left)); is = is })
     go true starts rec =
-        let a = bind_some (after (is_mark mark.Equivalent) kinds) (λ others. literal_at at t 200 others >>= λ x. cond (ltb 65536 (size_of (Iff left x.0))) None (chain_at at t turns (Iff left x.0) x.1)) (e, rest) (rw starts at read) in
-        let b = bind_some (literal_at at t 200 a.0) (λ x. cond (ltb 65536 (size_of (Iff left x.0))) None (chain_at at t turns (Iff left x.0) x.1)) (e, rest) a.2 in
+        let a = bind_some (after (is_mark mark.Equivalent) kinds)
+            (λ others. literal_at at t 200 others >>= λ x. cond (ltb 65536 (size_of (Iff left x.0))) None (chain_at at t turns (Iff left x.0) x.1))
+            (e, rest) (rw starts at read) in
+        let b = bind_some (literal_at at t 200 a.0) (λ x. cond (ltb 65536 (size_of (Iff left x.0))) None (chain_at at t turns (Iff left x.0) x.1))
+            (e, rest) a.2 in
         let g = fits (ltb 65536 (size_of (Iff left b.0.0))) (chain_at at t turns (Iff left b.0.0) b.0.1) b.2 in
         let literal = literal-Some at t 200 a.0 b.0.0 b.0.1 b.1 in
         let size : size_of (Iff left b.0.0) ≤ 65536 = ltb-false 65536 (size_of (Iff left b.0.0)) g.0 in
@@ -99,7 +108,8 @@ chain-Some at t (suc turns) left kinds e rest is read =
         fits true later now = absurd (none-some (e, rest) now)
         fits false later now = (refl, now)
 
-pub assertion-Some : (at : Place) (t : Table) (kinds : List TokenKind) (e : BoolExpr) → assertion_at at t kinds ≡ Some e → (kinds ≡ tokens_of (negation at) t.all e) × IsPart at t e
+pub assertion-Some : (at : Place) (t : Table) (kinds : List TokenKind) (e : BoolExpr) → assertion_at at t kinds ≡ Some e
+    → (kinds ≡ tokens_of (negation at) t.all e) × IsPart at t e
 unfolding assertion_at
 assertion-Some at t kinds e read =
     let a = bind_some (literal_at at t 200 kinds) (λ first. chain_at at t 16 first.0 first.1 >>= λ whole. ended whole.0 whole.1) e read in
@@ -132,7 +142,8 @@ joined_parts Neither Neither is = absurd (is refl)
 
 size_pos : (e : BoolExpr) → 1 ≤ size_of e
 size_pos = by_form (λ e. 1 ≤ size_of e)
-    (λ k. omega (arith, size_of-Name k)) (λ b. omega (arith, size_of-Truth b)) (λ e on_e. omega (arith, size_of-Not e)) (λ l r on_l on_r. omega (arith, size_of-Iff l r))
+    (λ k. omega (arith, size_of-Name k)) (λ b. omega (arith, size_of-Truth b)) (λ e on_e. omega (arith, size_of-Not e))
+        (λ l r on_l on_r. omega (arith, size_of-Iff l r))
 
 -- a reading begins with the first literal, and reads the rest of the chain in `joins` turns
 record Begins (at : Place) (t : Table) (e : BoolExpr) (rest : List TokenKind) : Type 0 where
@@ -168,10 +179,12 @@ module _ (at : Place) (t : Table) (is : IsTable t) where
       let uses : All (MayBe at t) (uses_of l ++ uses_of r) = rw uses_of-Iff at part.names in
       let levels : max (levels_of l) (levels_of r) ≤ 200 = rw levels_of-Iff at part.levels in
       let size = size_of-Iff l r in
-      let left : IsPart at t l = record { form = forms.0; names = All-left (MayBe at t) (uses_of l) (uses_of r) uses; levels = omega arith; size = omega (arith, part.size) } in
+      let left : IsPart at t l = record { form = forms.0; names = All-left (MayBe at t) (uses_of l) (uses_of r) uses; levels = omega arith; size =
+          omega (arith, part.size) } in
       let after_left : List TokenKind = kind.Mark mark.Equivalent ∷ (ours r ++ rest) in
       let begun = on_l left after_left in
-      let right : literal_at at t 200 (ours r ++ rest) ≡ Some (r, rest) = literal_again at t is r 200 rest forms.1 (All-right (MayBe at t) (uses_of l) (uses_of r) uses) (omega arith) in
+      let right : literal_at at t 200 (ours r ++ rest) ≡ Some (r, rest) =
+          literal_again at t is r 200 rest forms.1 (All-right (MayBe at t) (uses_of l) (uses_of r) uses) (omega arith) in
       let small : ltb 65536 (size_of (Iff l r)) ≡ false = le-ltb 65536 (size_of (Iff l r)) part.size in
       let turn : (turns : ℕ) → chain_at at t (suc turns) l after_left ≡ chain_at at t turns (Iff l r) rest =
       λ turns. rw (begins_mark mark.Equivalent (ours r ++ rest), mark_again mark.Equivalent (ours r ++ rest), right, small) refl in
@@ -182,7 +195,8 @@ module _ (at : Place) (t : Table) (is : IsTable t) where
         later = begun.later;
         joins = begun.joins + 1;
         literal = ap (literal_at at t 200) regrouped ∙ begun.literal;
-        chain = λ turns. let e : turns + (begun.joins + 1) ≡ suc turns + begun.joins = omega arith in ap (λ n. chain_at at t n begun.first begun.later) e ∙ begun.chain (suc turns) ∙ turn turns;
+        chain = λ turns. let e : turns + (begun.joins + 1) ≡ suc turns + begun.joins =
+            omega arith in ap (λ n. chain_at at t n begun.first begun.later) e ∙ begun.chain (suc turns) ∙ turn turns;
         few = let twice : 2 ^ (suc (begun.joins + 2)) ≡ 2 * 2 ^ (begun.joins + 2) = pow-succ' 2 (begun.joins + 2) in
             let e : begun.joins + 1 + 2 ≡ suc (begun.joins + 2) = omega arith in
             rw (e, twice) (omega (arith, size, begun.few, size_pos r));

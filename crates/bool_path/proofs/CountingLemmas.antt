@@ -90,8 +90,10 @@ number_of-injective [] [] (o ∷ others) fits fit same = absurd fit
 number_of-injective [] (v ∷ values) others fits fit same = absurd fits
 number_of-injective (m ∷ mask) [] others fits fit same = absurd fits
 number_of-injective (m ∷ mask) (v ∷ values) [] fits fit same = absurd fit
-number_of-injective (m ∷ mask) (true ∷ values) (true ∷ others) fits fit same = ap (λ rest. true ∷ rest) (number_of-injective mask values others fits.1 fit.1 (omega arith))
-number_of-injective (m ∷ mask) (false ∷ values) (false ∷ others) fits fit same = ap (λ rest. false ∷ rest) (number_of-injective mask values others fits.1 fit.1 (omega arith))
+number_of-injective (m ∷ mask) (true ∷ values) (true ∷ others) fits fit same =
+    ap (λ rest. true ∷ rest) (number_of-injective mask values others fits.1 fit.1 (omega arith))
+number_of-injective (m ∷ mask) (false ∷ values) (false ∷ others) fits fit same =
+    ap (λ rest. false ∷ rest) (number_of-injective mask values others fits.1 fit.1 (omega arith))
 number_of-injective (m ∷ mask) (true ∷ values) (false ∷ others) fits fit same = absurd (omega arith)
 number_of-injective (m ∷ mask) (false ∷ values) (true ∷ others) fits fit same = absurd (omega arith)
 

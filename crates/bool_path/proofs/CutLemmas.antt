@@ -1,5 +1,6 @@
 -- Tokens cut at the first `]`, whose place `position` gives.
-use Rattle.std.proofs.Common.{◌≡◌, ℕ, zero, suc, ◌+◌, ◌<◌, Bool, true, false, List, [], ◌∷◌, length, get_or, take, drop, Option, Some, None, refl, sym, ◌∙◌, arith}
+use Rattle.std.proofs.Common.{◌≡◌, ℕ, zero, suc, ◌+◌, ◌<◌, Bool, true, false, List, [], ◌∷◌, length, get_or, take, drop, Option, Some, None, refl}
+use Rattle.std.proofs.Common.{sym, ◌∙◌, arith}
 use Rattle.std.specs.Prelude.{position, option_map}
 use Rattle.std.proofs.lemmas.List.Quantifiers.{position-Some}
 use Rattle.std.proofs.lemmas.Option.{none-some}
@@ -18,7 +19,8 @@ suc_none None e = refl
 suc_none (Some n) e = absurd (none-some (suc n) (sym e))
 
 -- a place where `]` stands, and none stands before it
-pub cut_there : (tokens : List Token) (at : ℕ) (d : Token) → at < length tokens → closes (get_or tokens at d) ≡ true → ((k : ℕ) → k < at → closes (get_or tokens k d) ≡ false)
+pub cut_there : (tokens : List Token) (at : ℕ) (d : Token) → at < length tokens → closes (get_or tokens at d) ≡ true
+    → ((k : ℕ) → k < at → closes (get_or tokens k d) ≡ false)
     → cut_at (kinds_of tokens) ≡ Some (kinds_of (take at tokens), kinds_of (drop (suc at) tokens))
 unfolding cut_at
 cut_there [] at d lt hit before = absurd (omega arith)
@@ -35,7 +37,8 @@ cut_nowhere (token ∷ tokens) none = go (closes token) refl (cut_nowhere tokens
     go true hit rest = absurd (none-some 0 (sym none ∙ position-hit closes token tokens hit))
     go false miss rest = rw (miss, rest (suc_none (position closes tokens) (sym (position-miss closes token tokens miss) ∙ none))) refl
 
-pub cut-Some : (tokens : List Token) (at : ℕ) → position closes tokens ≡ Some at → cut_at (kinds_of tokens) ≡ Some (kinds_of (take at tokens), kinds_of (drop (at + 1) tokens))
+pub cut-Some : (tokens : List Token) (at : ℕ) → position closes tokens ≡ Some at
+    → cut_at (kinds_of tokens) ≡ Some (kinds_of (take at tokens), kinds_of (drop (at + 1) tokens))
 cut-Some [] at found = absurd (none-some at found)
 cut-Some (token ∷ tokens) at found =
     let p = position-Some closes (token ∷ tokens) at token found in

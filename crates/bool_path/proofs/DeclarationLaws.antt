@@ -1,5 +1,6 @@
 -- What is read as a head is spelled so, and what is spelled so is read.
-use Rattle.std.proofs.Common.{◌≡◌, ℕ, zero, suc, ◌≤◌, Bool, true, false, cond, List, [], ◌∷◌, ◌++◌, length, codes, Contains, Some, None, refl, ap, subst, ◌∙◌, append_assoc, arith}
+use Rattle.std.proofs.Common.{◌≡◌, ℕ, zero, suc, ◌≤◌, Bool, true, false, cond, List, [], ◌∷◌, ◌++◌, length, codes, Contains, Some, None, refl, ap}
+use Rattle.std.proofs.Common.{subst, ◌∙◌, append_assoc, arith}
 use Rattle.std.specs.List.{AllByRecursion}
 use Rattle.std.proofs.lemmas.Option.{none-some, same_Some}
 use Rattle.pale_text.specs.declared.token.Mark.TheVariants as mark
@@ -22,7 +23,8 @@ pub guard_some : {A : Type 0} (b : Bool) (x y : A) → cond b None (Some x) ≡ 
 guard_some true x y e = absurd (none-some y e)
 guard_some false x y e = (refl, same_Some x y e)
 
-pub new_name-Some : (kinds : List TokenKind) (name : List ℕ) (rest : List TokenKind) → new_name_at kinds ≡ Some (name, rest) → (kinds ≡ kind.Name name ∷ rest) × IsFree name
+pub new_name-Some : (kinds : List TokenKind) (name : List ℕ) (rest : List TokenKind) → new_name_at kinds ≡ Some (name, rest)
+    → (kinds ≡ kind.Name name ∷ rest) × IsFree name
 unfolding new_name_at
 new_name-Some [] name rest read = absurd (none-some (name, rest) read)
 new_name-Some (kind.Number digits ∷ others) name rest read = absurd (none-some (name, rest) read)
@@ -35,7 +37,8 @@ pub new_name_again : (name : List ℕ) (rest : List TokenKind) → IsFree name �
 unfolding new_name_at
 new_name_again name rest free = rw (false-is_reserved name free) refl
 
-pub declared-Some : (kinds : List TokenKind) (name : List ℕ) (rest : List TokenKind) → declared_at kinds ≡ Some (name, rest) → (kinds ≡ bool_name name ++ rest) × IsFree name
+pub declared-Some : (kinds : List TokenKind) (name : List ℕ) (rest : List TokenKind) → declared_at kinds ≡ Some (name, rest)
+    → (kinds ≡ bool_name name ++ rest) × IsFree name
 unfolding declared_at
 declared-Some kinds name rest read =
     let a = bind_some (after (is_word (codes "bool")) kinds) new_name_at (name, rest) read in
@@ -56,10 +59,12 @@ pub record Declares (before all : List (List ℕ)) (kinds rest : List TokenKind)
   pub spelled : kinds ≡ declarations (first ∷ others) ++ rest
   pub free : AreFree (first ∷ others)
 
-Declares-one : (before : List (List ℕ)) (name : List ℕ) (kinds rest : List TokenKind) → kinds ≡ bool_name name ++ rest → IsFree name → Declares before (before ++ name ∷ []) kinds rest
+Declares-one : (before : List (List ℕ)) (name : List ℕ) (kinds rest : List TokenKind) → kinds ≡ bool_name name ++ rest → IsFree name
+    → Declares before (before ++ name ∷ []) kinds rest
 Declares-one before name kinds rest spelled free = record { first = name; others = []; names = refl; spelled = spelled; free = (free, tt) }
 
-Declares-more : (before all : List (List ℕ)) (name : List ℕ) (kinds middle others rest : List TokenKind) → kinds ≡ bool_name name ++ middle → IsFree name → middle ≡ kind.Mark mark.Comma ∷ others
+Declares-more : (before all : List (List ℕ)) (name : List ℕ) (kinds middle others rest : List TokenKind) → kinds ≡ bool_name name ++ middle
+    → IsFree name → middle ≡ kind.Mark mark.Comma ∷ others
     → Declares (before ++ name ∷ []) all others rest → Declares before all kinds rest
 Declares-more before all name kinds middle others rest spelled free comma on = record {
   first = name;
@@ -74,7 +79,8 @@ pub declarations-Some : (turns : ℕ) (before : List (List ℕ)) (kinds : List T
 unfolding declarations_at
 declarations-Some zero before kinds all rest read = absurd (none-some (all, rest) read)
 declarations-Some (suc turns) before kinds all rest read =
-    let a = bind_some (declared_at kinds) (λ x. cond (begins (is_mark mark.Comma) x.1) (after (is_mark mark.Comma) x.1 >>= declarations_at turns (before ++ x.0 ∷ [])) (Some (before ++ x.0 ∷ [], x.1))) (all, rest) read in
+    let a = bind_some (declared_at kinds) (λ x. cond (begins (is_mark mark.Comma) x.1)
+        (after (is_mark mark.Comma) x.1 >>= declarations_at turns (before ++ x.0 ∷ [])) (Some (before ++ x.0 ∷ [], x.1))) (all, rest) read in
     let d = declared-Some kinds a.0.0 a.0.1 a.1 in
     go a.0.0 a.0.1 d.0 d.1 (begins (is_mark mark.Comma) a.0.1) a.2 (λ names later now. declarations-Some turns names later all rest now)
   where
@@ -83,13 +89,15 @@ declarations-Some (suc turns) before kinds all rest read =
         → ((names : List (List ℕ)) (later : List TokenKind) → declarations_at turns names later ≡ Some (all, rest) → Declares names all later rest)
         → Declares before all kinds rest
     go name middle spelled free false now rec =
-        let made : ◌≡◌ {A = List (List ℕ) × List TokenKind} (before ++ name ∷ [], middle) (all, rest) = same_Some (before ++ name ∷ [], middle) (all, rest) now in
+        let made : ◌≡◌ {A = List (List ℕ) × List TokenKind} (before ++ name ∷ [], middle) (all, rest) =
+            same_Some (before ++ name ∷ [], middle) (all, rest) now in
         subst (λ (x : List (List ℕ) × List TokenKind). Declares before x.0 kinds x.1) made (Declares-one before name kinds middle spelled free)
     go name middle spelled free true now rec =
         let a = bind_some (after (is_mark mark.Comma) middle) (declarations_at turns (before ++ name ∷ [])) (all, rest) now in
         Declares-more before all name kinds middle a.0 rest spelled free (after-mark mark.Comma middle a.0 a.1) (rec (before ++ name ∷ []) a.0 a.2)
 
-pub declarations_again : (turns : ℕ) (before : List (List ℕ)) (first : List ℕ) (others : List (List ℕ)) (rest : List TokenKind) → length (first ∷ others) ≤ turns → AreFree (first ∷ others)
+pub declarations_again : (turns : ℕ) (before : List (List ℕ)) (first : List ℕ) (others : List (List ℕ)) (rest : List TokenKind)
+    → length (first ∷ others) ≤ turns → AreFree (first ∷ others)
     → begins (is_mark mark.Comma) rest ≡ false → declarations_at turns before (declarations (first ∷ others) ++ rest) ≡ Some (before ++ first ∷ others, rest)
 unfolding declarations_at
 declarations_again zero before first others rest long free stops = absurd (omega arith)

@@ -23,7 +23,8 @@ module _ (names : List (List ℕ)) (kinds : List TokenKind) (n : ℕ) (is_left :
   unfolding declarations_at
   no_comma x d b a = rw (turn_left n is_left, d, b, a) refl
 
-  pub one_more : (x : List ℕ × List TokenKind) (rest : List TokenKind) → declared_at kinds ≡ Some x → begins (is_mark mark.Comma) x.1 ≡ true → after (is_mark mark.Comma) x.1 ≡ Some rest
+  pub one_more : (x : List ℕ × List TokenKind) (rest : List TokenKind) → declared_at kinds ≡ Some x → begins (is_mark mark.Comma) x.1 ≡ true
+      → after (is_mark mark.Comma) x.1 ≡ Some rest
       → declarations_at (12 - n) names kinds ≡ declarations_at (12 - (n + 1)) (names ++ x.0 ∷ []) rest
   unfolding declarations_at
   one_more x rest d b a = rw (turn_left n is_left, d, b, a) refl
@@ -34,12 +35,14 @@ too_many names kinds n le = let none : 12 - n ≡ 0 = omega arith in rw none ref
 
 -- ---- locals
 
-pub no_local : (room : ℕ) (names : List (List ℕ)) (kinds : List TokenKind) → begins (is_word (codes "bool")) kinds ≡ false → locals_at room names kinds ≡ Some (names, kinds)
+pub no_local : (room : ℕ) (names : List (List ℕ)) (kinds : List TokenKind) → begins (is_word (codes "bool")) kinds ≡ false
+    → locals_at room names kinds ≡ Some (names, kinds)
 unfolding locals_at
 no_local zero names kinds b = rw b refl
 no_local (suc room) names kinds b = rw b refl
 
-pub no_room : (room : ℕ) (names : List (List ℕ)) (kinds : List TokenKind) → room ≡ 0 → begins (is_word (codes "bool")) kinds ≡ true → locals_at room names kinds ≡ None
+pub no_room : (room : ℕ) (names : List (List ℕ)) (kinds : List TokenKind) → room ≡ 0 → begins (is_word (codes "bool")) kinds ≡ true
+    → locals_at room names kinds ≡ None
 unfolding locals_at
 no_room room names kinds z b = rw (z, b) refl
 

@@ -10,7 +10,8 @@ use Rattle.bool_path.specs.declared.program.BoolExpr.TheOpen.{BoolExpr-F}
 use Rattle.bool_path.specs.declared.program.BoolExpr.TheViews.{roll-BoolExpr}
 use Rattle.bool_path.specs.declared.program.BoolExpr.TheFolds.{fold-roll-BoolExpr, ind-BoolExpr, map-BoolExpr}
 use denote.Hole.Carrier.{roll}
-use Rattle.bool_path.specs.Reading.{Form, negated, joined, form_of, form_of_node, name_at, truth_word, tokens_of, tokens_of_node, uses_of, uses_of_node, levels_of, levels_of_node, size_of, size_of_node}
+use Rattle.bool_path.specs.Reading.{Form, negated, joined, form_of, form_of_node, name_at, truth_word, tokens_of, tokens_of_node, uses_of}
+use Rattle.bool_path.specs.Reading.{uses_of_node, levels_of, levels_of_node, size_of, size_of_node}
 
 pub form_of-Name : (k : ℕ) → form_of (Name k) ≡ Form.Literal
 unfolding roll-BoolExpr roll
@@ -88,14 +89,17 @@ pub tokens_of-Not : (mark : Mark) (names : List (List ℕ)) (e : BoolExpr) → t
 unfolding roll-BoolExpr roll
 tokens_of-Not mark names e = fold-roll-BoolExpr (List TokenKind) (tokens_of_node mark names) (BoolExpr-F.Not e)
 
-pub tokens_of-Iff : (mark : Mark) (names : List (List ℕ)) (l r : BoolExpr) → tokens_of mark names (Iff l r) ≡ tokens_of mark names l ++ kind.Mark marks.Equivalent ∷ tokens_of mark names r
+pub tokens_of-Iff : (mark : Mark) (names : List (List ℕ)) (l r : BoolExpr)
+    → tokens_of mark names (Iff l r) ≡ tokens_of mark names l ++ kind.Mark marks.Equivalent ∷ tokens_of mark names r
 unfolding roll-BoolExpr roll
 tokens_of-Iff mark names l r = fold-roll-BoolExpr (List TokenKind) (tokens_of_node mark names) (BoolExpr-F.Iff l r)
 
 -- induction by the four forms
-pub by_form : (Q : BoolExpr → Type 0) → ((k : ℕ) → Q (Name k)) → ((b : Bool) → Q (Truth b)) → ((e : BoolExpr) → Q e → Q (Not e)) → ((l r : BoolExpr) → Q l → Q r → Q (Iff l r)) → (e : BoolExpr) → Q e
+pub by_form : (Q : BoolExpr → Type 0) → ((k : ℕ) → Q (Name k)) → ((b : Bool) → Q (Truth b)) → ((e : BoolExpr) → Q e → Q (Not e))
+    → ((l r : BoolExpr) → Q l → Q r → Q (Iff l r)) → (e : BoolExpr) → Q e
 unfolding roll-BoolExpr roll
-by_form Q name truth not iff = ind-BoolExpr Q (λ x y is. subst (λ z. Q (roll-BoolExpr z)) is (elim y as (λ w. Q (roll-BoolExpr (map-BoolExpr ((e : BoolExpr) × Q e) BoolExpr (λ e. e.0) w))) [
+by_form Q name truth not iff = ind-BoolExpr Q (λ x y is. subst (λ z. Q (roll-BoolExpr z)) is
+    (elim y as (λ w. Q (roll-BoolExpr (map-BoolExpr ((e : BoolExpr) × Q e) BoolExpr (λ e. e.0) w))) [
   | BoolExpr-F.Name k ↦ name k
   | BoolExpr-F.Truth b ↦ truth b
   | BoolExpr-F.Not e ↦ not e.0 e.1

@@ -27,10 +27,12 @@ pub record IsHead (h : Head) : Type 0 where
 
 head_is : (kinds k1 k2 k3 k4 k5 k6 rest : List TokenKind) (h : Head)
     → kinds ≡ kind.Name (codes "proc") ∷ k1 → k1 ≡ kind.Name h.name ∷ k2 → k2 ≡ params_part h.params k3 → k3 ≡ returns_part h.results ++ k4
-    → k4 ≡ logic_part h.logics ++ k5 → k5 ≡ bracket_part (codes "pre") h.pre ++ k6 → k6 ≡ bracket_part (codes "post") h.post ++ rest → kinds ≡ head_tokens h rest
+    → k4 ≡ logic_part h.logics ++ k5 → k5 ≡ bracket_part (codes "pre") h.pre ++ k6 → k6 ≡ bracket_part (codes "post") h.post ++ rest
+        → kinds ≡ head_tokens h rest
 head_is kinds k1 k2 k3 k4 k5 k6 rest h e1 e2 e3 e4 e5 e6 e7 =
     e1 ∙ ap (λ (x : List TokenKind). kind.Name (codes "proc") ∷ x) (e2 ∙ ap (λ (x : List TokenKind). kind.Name h.name ∷ x) (e3 ∙ ap (params_part h.params)
-    (e4 ∙ ap (λ (x : List TokenKind). returns_part h.results ++ x) (e5 ∙ ap (λ (x : List TokenKind). logic_part h.logics ++ x) (e6 ∙ ap (λ (x : List TokenKind). bracket_part (codes "pre") h.pre ++ x) e7)))))
+    (e4 ∙ ap (λ (x : List TokenKind). returns_part h.results ++ x)
+        (e5 ∙ ap (λ (x : List TokenKind). logic_part h.logics ++ x) (e6 ∙ ap (λ (x : List TokenKind). bracket_part (codes "pre") h.pre ++ x) e7)))))
 
 pub head-Some : (kinds : List TokenKind) (h : Head) (rest : List TokenKind) → head_at kinds ≡ Some (h, rest) → (kinds ≡ head_tokens h rest) × IsHead h
 unfolding head_at
@@ -62,7 +64,8 @@ pub record FollowsHead (h : Head) (rest : List TokenKind) : Type 0 where
   pub logics : length h.logics ≤ 12
   pub pre : IsBracketed (codes "pre") h.pre (bracket_part (codes "post") h.post ++ rest)
   pub post : IsBracketed (codes "post") h.post rest
-  pub no_returns : begins (is_word (codes "returns")) (logic_part h.logics ++ (bracket_part (codes "pre") h.pre ++ (bracket_part (codes "post") h.post ++ rest))) ≡ false
+  pub no_returns : begins (is_word (codes "returns")) (logic_part h.logics ++
+      (bracket_part (codes "pre") h.pre ++ (bracket_part (codes "post") h.post ++ rest))) ≡ false
   pub no_logic : begins (is_word (codes "logic")) (bracket_part (codes "pre") h.pre ++ (bracket_part (codes "post") h.post ++ rest)) ≡ false
   pub no_comma : begins (is_mark mark.Comma) (bracket_part (codes "pre") h.pre ++ (bracket_part (codes "post") h.post ++ rest)) ≡ false
 
@@ -85,25 +88,30 @@ head_on h rest is on =
     ) refl
 
 -- a body's brace follows a head
-opened_pre : (pre : Option (List TokenKind)) (rest : List TokenKind) → begins (is_word (codes "pre")) (bracket_part (codes "post") pre ++ (kind.Mark mark.LeftBrace ∷ rest)) ≡ false
+opened_pre : (pre : Option (List TokenKind)) (rest : List TokenKind)
+    → begins (is_word (codes "pre")) (bracket_part (codes "post") pre ++ (kind.Mark mark.LeftBrace ∷ rest)) ≡ false
 unfolding begins is_word
 opened_pre None rest = refl
 opened_pre (Some inner) rest = refl
 
-opened_word : (word : List ℕ) (pre post : Option (List TokenKind)) (rest : List TokenKind) → bytes_eq (codes "pre") word ≡ false → bytes_eq (codes "post") word ≡ false
+opened_word : (word : List ℕ) (pre post : Option (List TokenKind)) (rest : List TokenKind) → bytes_eq (codes "pre") word ≡ false
+    → bytes_eq (codes "post") word ≡ false
     → begins (is_word word) (bracket_part (codes "pre") pre ++ (bracket_part (codes "post") post ++ (kind.Mark mark.LeftBrace ∷ rest))) ≡ false
 unfolding begins is_word
 opened_word word None None rest one two = refl
 opened_word word None (Some inner) rest one two = two
 opened_word word (Some inner) post rest one two = one
 
-opened_comma : (pre post : Option (List TokenKind)) (rest : List TokenKind) → begins (is_mark mark.Comma) (bracket_part (codes "pre") pre ++ (bracket_part (codes "post") post ++ (kind.Mark mark.LeftBrace ∷ rest))) ≡ false
+opened_comma : (pre post : Option (List TokenKind)) (rest : List TokenKind)
+    → begins (is_mark mark.Comma) (bracket_part (codes "pre") pre ++ (bracket_part (codes "post") post ++ (kind.Mark mark.LeftBrace ∷ rest))) ≡ false
 unfolding begins is_mark
 opened_comma None None rest = refl
 opened_comma None (Some inner) rest = refl
 opened_comma (Some inner) post rest = refl
 
-opened_returns : (logics : List (List ℕ)) (pre post : Option (List TokenKind)) (rest : List TokenKind) → begins (is_word (codes "returns")) (logic_part logics ++ (bracket_part (codes "pre") pre ++ (bracket_part (codes "post") post ++ (kind.Mark mark.LeftBrace ∷ rest)))) ≡ false
+opened_returns : (logics : List (List ℕ)) (pre post : Option (List TokenKind)) (rest : List TokenKind)
+    → begins (is_word (codes "returns")) (logic_part logics ++
+    (bracket_part (codes "pre") pre ++ (bracket_part (codes "post") post ++ (kind.Mark mark.LeftBrace ∷ rest)))) ≡ false
 unfolding begins is_word
 opened_returns [] None None rest = refl
 opened_returns [] None (Some inner) rest = refl
@@ -119,7 +127,8 @@ abbrev pub IsPartUncut : Option (List TokenKind) → Type 0
 IsPartUncut None = Unit {0}
 IsPartUncut (Some inner) = IsUncut inner
 
-is_bracketed : (word : List ℕ) (part : Option (List TokenKind)) (rest : List TokenKind) → IsPartUncut part → begins (is_word word) rest ≡ false → IsBracketed word part rest
+is_bracketed : (word : List ℕ) (part : Option (List TokenKind)) (rest : List TokenKind) → IsPartUncut part → begins (is_word word) rest ≡ false
+    → IsBracketed word part rest
 is_bracketed word None rest uncut other = other
 is_bracketed word (Some inner) rest uncut other = uncut
 
@@ -132,7 +141,8 @@ pub record MayBeHead (h : Head) : Type 0 where
   pub pre : IsPartUncut h.pre
   pub post : IsPartUncut h.post
 
-pub head_again : (h : Head) (rest : List TokenKind) → MayBeHead h → head_at (head_tokens h (kind.Mark mark.LeftBrace ∷ rest)) ≡ Some (h, kind.Mark mark.LeftBrace ∷ rest)
+pub head_again : (h : Head) (rest : List TokenKind) → MayBeHead h → head_at (head_tokens h (kind.Mark mark.LeftBrace ∷ rest))
+    ≡ Some (h, kind.Mark mark.LeftBrace ∷ rest)
 head_again h rest may =
     let opened : List TokenKind = kind.Mark mark.LeftBrace ∷ rest in
     head_on h opened may.is (record {

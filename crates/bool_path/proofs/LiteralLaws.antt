@@ -1,5 +1,6 @@
 -- What is read as a literal is spelled so, and what is spelled so is read, whatever follows.
-use Rattle.std.proofs.Common.{◌≡◌, ◌≢◌, ℕ, ◌+◌, ◌-◌, ◌<◌, ◌≤◌, Bool, true, false, eqb, List, [], ◌∷◌, ◌++◌, length, codes, All, Contains, Option, Some, refl, sym, ap, subst, ◌∙◌, arith}
+use Rattle.std.proofs.Common.{◌≡◌, ◌≢◌, ℕ, ◌+◌, ◌-◌, ◌<◌, ◌≤◌, Bool, true, false, eqb, List, [], ◌∷◌, ◌++◌, length, codes, All, Contains, Option}
+use Rattle.std.proofs.Common.{Some, refl, sym, ap, subst, ◌∙◌, arith}
 use Rattle.std.specs.Str.{bytes_eq}
 use Rattle.std.proofs.lemmas.Bool.{eqb-false, ne_eqb}
 use Rattle.std.proofs.lemmas.List.Elements.{All-nil, All-cons, All-head, All-contains, Contains-get_or}
@@ -13,10 +14,13 @@ use Rattle.bool_path.specs.declared.program.BoolExpr.{BoolExpr}
 use Rattle.bool_path.specs.declared.program.BoolExpr.TheVariants.{Name, Truth, Not, Iff}
 use Rattle.bool_path.specs.declared.read.place.Place.{Place}
 use Rattle.bool_path.specs.Reader.Names.{Table, negation, variable_at}
-use Rattle.bool_path.specs.Reading.{Form, Literal, Chain, Neither, negated, joined, form_of, name_at, reserved, tokens_of, truth_word, uses_of, levels_of, size_of}
+use Rattle.bool_path.specs.Reading.{Form, Literal, Chain, Neither, negated, joined, form_of, name_at, reserved, tokens_of, truth_word, uses_of}
+use Rattle.bool_path.specs.Reading.{levels_of, size_of}
 use Rattle.bool_path.specs.Reader.Steps.{◌>>=◌}
 use Rattle.bool_path.specs.Reader.Terms.{atom_at, literal_at}
-use Rattle.bool_path.proofs.ExprLemmas.{by_form, form_of-Name, form_of-Truth, form_of-Not, uses_of-Name, uses_of-Truth, uses_of-Not, levels_of-Name, levels_of-Truth, levels_of-Not, size_of-Name, size_of-Truth, size_of-Not, tokens_of-Name, tokens_of-Truth, tokens_of-Not, form_of-Iff}
+use Rattle.bool_path.proofs.ExprLemmas.{by_form, form_of-Name, form_of-Truth, form_of-Not, uses_of-Name, uses_of-Truth, uses_of-Not, levels_of-Name}
+use Rattle.bool_path.proofs.ExprLemmas.{levels_of-Truth, levels_of-Not, size_of-Name, size_of-Truth, size_of-Not, tokens_of-Name, tokens_of-Truth}
+use Rattle.bool_path.proofs.ExprLemmas.{tokens_of-Not, form_of-Iff}
 use Rattle.bool_path.proofs.NamesLaws.{MayBe, MayBe-within, IsTable, variable-Some, variable_again}
 use Rattle.bool_path.proofs.StepLaws.{bind_some, bytes_differ, mark_same}
 
@@ -66,7 +70,8 @@ atom-Some at t room word e read = go (bytes_eq word (codes "true")) (bytes_eq wo
         })
 
 -- what is read as a literal is one, and stands at the front
-pub literal-Some : (at : Place) (t : Table) (room : ℕ) (kinds : List TokenKind) (e : BoolExpr) (rest : List TokenKind) → literal_at at t room kinds ≡ Some (e, rest)
+pub literal-Some : (at : Place) (t : Table) (room : ℕ) (kinds : List TokenKind) (e : BoolExpr) (rest : List TokenKind)
+    → literal_at at t room kinds ≡ Some (e, rest)
     → (front : List TokenKind) × (kinds ≡ front ++ rest) × IsLiteral at t room e front
 unfolding literal_at
 literal-Some at t room [] e rest read = absurd (none-some (e, rest) read)
@@ -76,12 +81,14 @@ literal-Some at t room (kind.Name word ∷ others) e rest read =
     let made : ◌≡◌ {A = BoolExpr × List TokenKind} (b.0, others) (e, rest) = same_Some (b.0, others) (e, rest) b.2 in
     let one : b.0 ≡ e = ap (λ (x : BoolExpr × List TokenKind). x.0) made in
     let two : others ≡ rest = ap (λ (x : BoolExpr × List TokenKind). x.1) made in
-    (kind.Name word ∷ [], ap (λ (x : List TokenKind). kind.Name word ∷ x) two, subst (λ x. IsLiteral at t room x (kind.Name word ∷ [])) one (atom-Some at t room word b.0 b.1))
+    (kind.Name word ∷ [], ap (λ (x : List TokenKind). kind.Name word ∷ x) two, subst (λ x. IsLiteral at t room x (kind.Name word ∷ [])) one
+        (atom-Some at t room word b.0 b.1))
 literal-Some at t room (kind.Mark m ∷ others) e rest read =
     go (sameb the_type m (negation at)) refl (eqb room 0) refl (λ x later. literal-Some at t (room - 1) others x later)
   where
     go : (b : Bool) → sameb the_type m (negation at) ≡ b → (c : Bool) → eqb room 0 ≡ c
-        → ((x : BoolExpr) (later : List TokenKind) → literal_at at t (room - 1) others ≡ Some (x, later) → (front : List TokenKind) × (others ≡ front ++ later) × IsLiteral at t (room - 1) x front)
+        → ((x : BoolExpr) (later : List TokenKind) → literal_at at t (room - 1) others ≡ Some (x, later)
+            → (front : List TokenKind) × (others ≡ front ++ later) × IsLiteral at t (room - 1) x front)
         → (front : List TokenKind) × (kind.Mark m ∷ others ≡ front ++ rest) × IsLiteral at t room e front
     go false is_not c is_zero rec = absurd (none-some (e, rest) (rw is_not at read))
     go true is_not true is_zero rec = absurd (none-some (e, rest) (rw (is_not, is_zero) at read))
@@ -106,14 +113,16 @@ literal-Some at t room (kind.Mark m ∷ others) e rest read =
 
 -- ---- the way back
 
-atom_again : (at : Place) (t : Table) (word : List ℕ) → word ≢ codes "true" → word ≢ codes "false" → atom_at at t word ≡ (variable_at at t word >>= λ k. Some (Name k))
+atom_again : (at : Place) (t : Table) (word : List ℕ) → word ≢ codes "true" → word ≢ codes "false"
+    → atom_at at t word ≡ (variable_at at t word >>= λ k. Some (Name k))
 unfolding atom_at
 atom_again at t word not_true not_false = rw (bytes_differ word (codes "true") not_true, bytes_differ word (codes "false") not_false) refl
 
 -- a name of the table is no reserved word
 pub is_free : (t : Table) (k : ℕ) (word : List ℕ) → IsTable t → k < length t.all → Contains reserved word → name_at t.all k ≢ word
 is_free t k word is lt held same =
-    All-contains (λ name. Contains reserved name → ⊥) t.all word is.free (subst (Contains t.all) (sym (unwrap_or-slice_get t.all k []) ∙ same) (Contains-get_or t.all k [] lt)) held
+    All-contains (λ name. Contains reserved name → ⊥) t.all word is.free
+        (subst (Contains t.all) (sym (unwrap_or-slice_get t.all k []) ∙ same) (Contains-get_or t.all k [] lt)) held
 
 pub negated-Literal : (f : Form) → negated f ≡ Literal → f ≡ Literal
 negated-Literal Literal e = refl

@@ -1,5 +1,6 @@
 -- The mask of a procedure stands for what its triple says of the values at entry.
-use Rattle.std.proofs.Common.{inl, inr, Option, Some, None, ◌≡◌, ℕ, zero, suc, ◌-◌, ◌^◌, ◌<◌, ◌≤◌, Bool, true, false, List, [], ◌∷◌, length, get_or, refl, ap, sym, ◌∙◌, arith, subst}
+use Rattle.std.proofs.Common.{inl, inr, Option, Some, None, ◌≡◌, ℕ, zero, suc, ◌-◌, ◌^◌, ◌<◌, ◌≤◌, Bool, true, false, List, [], ◌∷◌, length, get_or}
+use Rattle.std.proofs.Common.{refl, ap, sym, ◌∙◌, arith, subst}
 use Rattle.std.proofs.lemmas.Bool.Decides.{nat_tests}
 use Rattle.std.specs.Prelude.{MatchOption, replicate}
 use Rattle.std.proofs.lemmas.Option.{unwrap_or-slice_get}
@@ -115,7 +116,8 @@ pub Advances-some : (r : Option (List Bool)) (result : Bool) (new : List Bool) �
 Advances-some None result new h is_true = absurd (cc)
 Advances-some (Some next) result new h is_true = ap Some (sym h.1)
 
-pub next-fits : (mask values next : List Bool) → FitsMask mask values → next_values mask values ≡ Some next → FitsMask mask next × (number_of values < number_of next)
+pub next-fits : (mask values next : List Bool) → FitsMask mask values → next_values mask values ≡ Some next
+    → FitsMask mask next × (number_of values < number_of next)
 next-fits mask values next fits is_next =
     let h : IsNext mask values values (Some next) = subst (IsNext mask values values) is_next (next_values-is mask values values fits fits) in
     (h.0, h.1)

@@ -1,5 +1,6 @@
 -- Looking up the variables of a table whose names are free and distinct.
-use Rattle.std.proofs.Common.{◌≡◌, ◌≢◌, ℕ, ◌+◌, ◌<◌, ◌≤◌, Bool, true, false, cond, List, [], length, get_or, All, Contains, Some, None, refl, sym, ap, subst, ◌∙◌, ◌⊎◌, inl, inr, arith}
+use Rattle.std.proofs.Common.{◌≡◌, ◌≢◌, ℕ, ◌+◌, ◌<◌, ◌≤◌, Bool, true, false, cond, List, [], length, get_or, All, Contains, Some, None, refl, sym, ap}
+use Rattle.std.proofs.Common.{subst, ◌∙◌, ◌⊎◌, inl, inr, arith}
 use Rattle.std.specs.Prelude.{AllPairs, position, ◌||◌, ◌&&◌}
 use Rattle.std.specs.Str.{bytes_eq}
 use Rattle.std.proofs.lemmas.Bool.{false≢true, cases_lt, or_cases, leb-true, le-leb, ltb-true, lt-ltb}
@@ -63,7 +64,8 @@ MayBe-within place.Post t k is (inl param) = omega (arith, is.parts)
 MayBe-within place.Post t k is (inr logic) = logic.0
 MayBe-within place.Code t k is lt = omega arith
 
-pub variable-Some : (at : Place) (t : Table) (name : List ℕ) (k : ℕ) → variable_at at t name ≡ Some k → (k < length t.all) × (name_at t.all k ≡ name) × MayBe at t k
+pub variable-Some : (at : Place) (t : Table) (name : List ℕ) (k : ℕ) → variable_at at t name ≡ Some k → (k < length t.all) × (name_at t.all k ≡ name)
+    × MayBe at t k
 unfolding variable_at
 variable-Some at t name k e =
     let b = bind_some (position (λ known. bytes_eq known name) t.all) (λ i. cond (may_be at t i) (Some i) None) k e in
@@ -73,7 +75,8 @@ variable-Some at t name k e =
     subst (λ (i : ℕ). (i < length t.all) × (name_at t.all i ≡ name) × MayBe at t i) c.1 (p.0, named, may_be-true at t b.0 p.0 c.0)
 
 -- two places of one name are one
-one_place : (names : List (List ℕ)) (i j : ℕ) → AllPairs (λ one other. one ≢ other) names → i < length names → j < length names → get_or names i [] ≡ get_or names j [] → i ≡ j
+one_place : (names : List (List ℕ)) (i j : ℕ) → AllPairs (λ one other. one ≢ other) names → i < length names → j < length names
+    → get_or names i [] ≡ get_or names j [] → i ≡ j
 one_place names i j distinct li lj same =
     elim (cases_lt i j) [
       | inl lt ↦ absurd (distinct i j [] lt lj same)

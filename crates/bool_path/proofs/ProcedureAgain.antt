@@ -1,5 +1,6 @@
 -- What is spelled as a procedure and keeps the rules is read.
-use Rattle.std.proofs.Common.{◌≡◌, ℕ, ◌+◌, ◌-◌, ◌≤◌, false, List, [], ◌∷◌, ◌++◌, length, take, drop, codes, All, Option, Some, None, refl, sym, ap, subst, ◌∙◌, inl, inr, arith}
+use Rattle.std.proofs.Common.{◌≡◌, ℕ, ◌+◌, ◌-◌, ◌≤◌, false, List, [], ◌∷◌, ◌++◌, length, take, drop, codes, All, Option, Some, None, refl, sym, ap}
+use Rattle.std.proofs.Common.{subst, ◌∙◌, inl, inr, arith}
 use Rattle.std.specs.List.{flat_map}
 use Rattle.std.proofs.lemmas.List.{length-take, length-drop}
 use Rattle.std.proofs.lemmas.List.Elements.{All-head, All-tail, All-take, All-drop, recursion_from_All}
@@ -15,7 +16,8 @@ use Rattle.bool_path.specs.declared.read.place.Place.TheVariants as place
 use Rattle.bool_path.specs.Reader.Bodies.{assertion_from, procedure_at}
 use Rattle.bool_path.specs.Reader.Names.{Table, negation}
 use Rattle.bool_path.specs.Reader.Heads.{Head, table_from}
-use Rattle.bool_path.specs.Reading.{name_at, declarations, returns_part, logic_part, local_part, statement_part, tokens_of, params_of, results_of, locals_of, logics_of, SpellsAssertion, SpellsProcedure, IsAssertion, KeepsRules}
+use Rattle.bool_path.specs.Reading.{name_at, declarations, returns_part, logic_part, local_part, statement_part, tokens_of, params_of, results_of}
+use Rattle.bool_path.specs.Reading.{locals_of, logics_of, SpellsAssertion, SpellsProcedure, IsAssertion, KeepsRules}
 use Rattle.bool_path.specs.Reader.Terms.{assertion_at}
 use Rattle.bool_path.specs.Reader.Steps.{begins, is_mark, is_word}
 use Rattle.bool_path.proofs.BodyLaws.{IsCode, body_tokens, body_again}
@@ -41,7 +43,8 @@ tokens_uncut : (names : List (List ℕ)) (e : BoolExpr) → IsUncut (tokens_of m
 unfolding is_mark
 tokens_uncut names = by_form (λ e. IsUncut (tokens_of mark.Tilde names e))
     (λ k. rw tokens_of-Name (refl, tt)) (λ b. rw tokens_of-Truth (refl, tt)) (λ e on_e. rw tokens_of-Not (refl, on_e))
-    (λ l r on_l on_r. rw tokens_of-Iff (uncut_append (tokens_of mark.Tilde names l) (kind.Mark mark.Equivalent ∷ tokens_of mark.Tilde names r) on_l (refl, on_r)))
+    (λ l r on_l on_r. rw tokens_of-Iff (uncut_append (tokens_of mark.Tilde names l) (kind.Mark mark.Equivalent ∷ tokens_of mark.Tilde names r) on_l
+        (refl, on_r)))
 
 -- ---- an assertion with its keyword, or left out
 
@@ -51,12 +54,14 @@ record IsReadBack (keyword : List ℕ) (at : Place) (t : Table) (e : BoolExpr) (
   uncut : IsPartUncut part
   read : assertion_from at t part ≡ Some e
 
-part_again : (keyword : List ℕ) (at : Place) (t : Table) (e : BoolExpr) (tokens : List TokenKind) → negation at ≡ mark.Tilde → IsTable t → IsPart at t e → SpellsAssertion keyword t.all e tokens → IsReadBack keyword at t e tokens
+part_again : (keyword : List ℕ) (at : Place) (t : Table) (e : BoolExpr) (tokens : List TokenKind) → negation at ≡ mark.Tilde → IsTable t → IsPart at t e
+    → SpellsAssertion keyword t.all e tokens → IsReadBack keyword at t e tokens
 unfolding assertion_from
 part_again keyword at t e tokens tilde is part (inl left_out) =
     record { part = None; spelled = left_out.1; uncut = tt; read = ap (λ (x : BoolExpr). Some x) (sym left_out.0) }
 part_again keyword at t e tokens tilde is part (inr spelled) =
-    record { part = Some (tokens_of mark.Tilde t.all e); spelled = spelled; uncut = tokens_uncut t.all e; read = ap (λ m. assertion_at at t (tokens_of m t.all e)) (sym tilde) ∙ assertion_again at t is e part }
+    record { part = Some (tokens_of mark.Tilde t.all e); spelled = spelled; uncut = tokens_uncut t.all e; read =
+        ap (λ m. assertion_at at t (tokens_of m t.all e)) (sym tilde) ∙ assertion_again at t is e part }
 
 -- ---- the whole
 
@@ -105,7 +110,8 @@ module _ (p : BoolProc) (rules : KeepsRules p) where
   length-logics = omega (arith, length-drop (length p.names - p.logics) p.names, rules.parts)
 
   few_locals : length (locals_of p) ≤ 12
-  few_locals = omega (arith, length-drop (p.params + p.results) (take (length p.names - p.logics) p.names), length-take (length p.names - p.logics) p.names, rules.few)
+  few_locals = omega (arith, length-drop (p.params + p.results) (take (length p.names - p.logics) p.names), length-take (length p.names - p.logics)
+      p.names, rules.few)
 
   few_names : length (joined (params_of p) (results_of p) (locals_of p) (logics_of p)) ≤ 12
   few_names = rw whole_again rules.few
@@ -113,7 +119,8 @@ module _ (p : BoolProc) (rules : KeepsRules p) where
   table_read : table_from (params_of p) (results_of p) (locals_of p) (logics_of p) ≡ Some table
   table_read =
       table_again (params_of p) (results_of p) (locals_of p) (logics_of p) few_names (subst AreDistinct (sym whole_again) rules.distinct)
-      ∙ ap (λ (x : Table). Some x) (same_table (joined (params_of p) (results_of p) (locals_of p) (logics_of p)) p.names (length (params_of p)) p.params (length (results_of p)) p.results (length (logics_of p)) p.logics
+      ∙ ap (λ (x : Table). Some x) (same_table (joined (params_of p) (results_of p) (locals_of p) (logics_of p)) p.names (length (params_of p)) p.params
+          (length (results_of p)) p.results (length (logics_of p)) p.logics
       whole_again length-params length-results length-logics)
 
   all_free : All IsFree p.names
@@ -138,10 +145,12 @@ module _ (p : BoolProc) (rules : KeepsRules p) where
   }
 
   locals_free : AreFree (locals_of p)
-  locals_free = recursion_from_All IsFree (locals_of p) (All-drop IsFree (p.params + p.results) (take (length p.names - p.logics) p.names) (All-take IsFree (length p.names - p.logics) p.names all_free))
+  locals_free = recursion_from_All IsFree (locals_of p) (All-drop IsFree (p.params + p.results) (take (length p.names - p.logics) p.names)
+      (All-take IsFree (length p.names - p.logics) p.names all_free))
 
   -- the tokens that are put together are read
-  put_together : (pre post : Option (List TokenKind)) → IsPartUncut pre → IsPartUncut post → assertion_from place.Pre table pre ≡ Some p.pre → assertion_from place.Post table post ≡ Some p.post
+  put_together : (pre post : Option (List TokenKind)) → IsPartUncut pre → IsPartUncut post → assertion_from place.Pre table pre ≡ Some p.pre
+      → assertion_from place.Post table post ≡ Some p.post
       → procedure_at p.line p.last (whole_tokens (head_of_parts pre post) (locals_of p) (flat_map (statement_part p.names) p.body)) ≡ Some p
   unfolding procedure_at
   put_together pre post pre_uncut post_uncut pre_read post_read =
@@ -162,5 +171,6 @@ module _ (p : BoolProc) (rules : KeepsRules p) where
       let pre = part_again (codes "pre") place.Pre table p.pre s.pre_part refl is_table (part_of_rules place.Pre table p.pre rules.pre) s.pre in
       let post = part_again (codes "post") place.Post table p.post s.post_part refl is_table (part_of_rules place.Post table p.post rules.post) s.post in
       let whole : kinds ≡ whole_tokens (head_of_parts pre.part post.part) (locals_of p) (flat_map (statement_part p.names) p.body) =
-      whole_is kinds (head_of_parts pre.part post.part) (locals_of p) (flat_map (statement_part p.names) p.body) s.pre_part s.post_part s.whole pre.spelled post.spelled in
+      whole_is kinds (head_of_parts pre.part post.part) (locals_of p) (flat_map (statement_part p.names) p.body) s.pre_part s.post_part s.whole
+          pre.spelled post.spelled in
       ap (procedure_at p.line p.last) whole ∙ put_together pre.part post.part pre.uncut post.uncut pre.read post.read

@@ -34,7 +34,8 @@ pub record IsRead (line last : ℕ) (tokens : List Token) (o : Option BoolProc) 
   pub is : o ≡ Some p
   pub read : procedure_at line last (kinds_of tokens) ≡ Some p
 
-pub IsRead-from_tokens : (tokens : List Token) (line last : ℕ) (o : Option BoolProc) → first_line_of tokens ≡ Some line → last_line_of tokens ≡ Some last → AreTokensOf tokens o → IsRead line last tokens o
+pub IsRead-from_tokens : (tokens : List Token) (line last : ℕ) (o : Option BoolProc) → first_line_of tokens ≡ Some line
+    → last_line_of tokens ≡ Some last → AreTokensOf tokens o → IsRead line last tokens o
 IsRead-from_tokens tokens line last None first_is last_is are =
     absurd (none-some line (sym (ap first_line_of are) ∙ first_is))
 IsRead-from_tokens tokens line last (Some p) first_is last_is is =
@@ -49,7 +50,8 @@ IsRead-from_tokens tokens line last (Some p) first_is last_is is =
 first_there : (token : Token) (tokens : List Token) → first_line_of (token ∷ tokens) ≡ Some token.span.start.line
 first_there token tokens = refl
 
-last_there : (token : Token) (tokens : List Token) → last_line_of (token ∷ tokens) ≡ Some (get_or (token ∷ tokens) (length (token ∷ tokens) - 1) token).span.start.line
+last_there : (token : Token) (tokens : List Token) → last_line_of (token ∷ tokens)
+    ≡ Some (get_or (token ∷ tokens) (length (token ∷ tokens) - 1) token).span.start.line
 last_there token tokens = ap (option_map (λ one. one.span.start.line)) (slice_get-get_or (token ∷ tokens) (length (token ∷ tokens) - 1) token (omega arith))
 
 pub none_first : (tokens : List Token) → first_line_of tokens ≡ None → tokens ≡ []
@@ -58,10 +60,12 @@ none_first (token ∷ tokens) none = absurd (none-some token.span.start.line (sy
 
 pub none_last : (tokens : List Token) → last_line_of tokens ≡ None → tokens ≡ []
 none_last [] none = refl
-none_last (token ∷ tokens) none = absurd (none-some (get_or (token ∷ tokens) (length (token ∷ tokens) - 1) token).span.start.line (sym none ∙ last_there token tokens))
+none_last (token ∷ tokens) none = absurd (none-some (get_or (token ∷ tokens) (length (token ∷ tokens) - 1) token).span.start.line
+    (sym none ∙ last_there token tokens))
 
 -- a text that is read has these tokens
-pub tokens_of_text : (text : List ℕ) (list : TokenList) (program : BoolProgram) → IsLexed text list → Reads text program → AreTokensOf list.tokens program.procedure
+pub tokens_of_text : (text : List ℕ) (list : TokenList) (program : BoolProgram) → IsLexed text list → Reads text program
+    → AreTokensOf list.tokens program.procedure
 tokens_of_text text list program lexed reads =
     subst (λ one. AreTokensOf one.tokens program.procedure) (tokens_are_one text reads.list list reads.lexed lexed) reads.tokens
 

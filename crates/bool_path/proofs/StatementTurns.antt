@@ -21,12 +21,14 @@ module _ (t : Table) (n : ℕ) (body : List BoolStmt) (atoms : ℕ) (kinds : Lis
   unfolding statements_at
   bad_statement b s = rw (b, s) refl
 
-  pub many_atoms : (x : BoolStmt × List TokenKind) → begins (is_mark mark.RightBrace) kinds ≡ false → statement_at t kinds ≡ Some x → ltb 128 (atoms + atoms_in x.0) ≡ true
+  pub many_atoms : (x : BoolStmt × List TokenKind) → begins (is_mark mark.RightBrace) kinds ≡ false → statement_at t kinds ≡ Some x
+      → ltb 128 (atoms + atoms_in x.0) ≡ true
       → statements_at t (suc n) body atoms kinds ≡ None
   unfolding statements_at
   many_atoms x b s m = rw (b, s, m) refl
 
-  pub next_statement : (x : BoolStmt × List TokenKind) → begins (is_mark mark.RightBrace) kinds ≡ false → statement_at t kinds ≡ Some x → ltb 128 (atoms + atoms_in x.0) ≡ false
+  pub next_statement : (x : BoolStmt × List TokenKind) → begins (is_mark mark.RightBrace) kinds ≡ false → statement_at t kinds ≡ Some x
+      → ltb 128 (atoms + atoms_in x.0) ≡ false
       → statements_at t (suc n) body atoms kinds ≡ statements_at t n (body ++ x.0 ∷ []) (atoms + atoms_in x.0) x.1
   unfolding statements_at
   next_statement x b s m = rw (b, s, m) refl

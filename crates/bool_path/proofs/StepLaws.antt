@@ -42,7 +42,8 @@ is_word-true w (kind.Name name) e = ap (λ (x : List ℕ). kind.Name x) ((bytes_
 is_word-true w (kind.Number digits) e = absurd (false≢true e)
 is_word-true w (kind.Mark m) e = absurd (false≢true e)
 
-after_first : (test : TokenKind → Bool) (kinds rest : List TokenKind) → after test kinds ≡ Some rest → (first : TokenKind) × (kinds ≡ first ∷ rest) × (test first ≡ true)
+after_first : (test : TokenKind → Bool) (kinds rest : List TokenKind) → after test kinds ≡ Some rest → (first : TokenKind) × (kinds ≡ first ∷ rest)
+    × (test first ≡ true)
 unfolding after
 after_first test [] rest e = absurd (none-some rest e)
 after_first test (first ∷ others) rest e = let c = cond_some (test first) others rest e in (first, ap (λ (x : List TokenKind). first ∷ x) c.1, c.0)

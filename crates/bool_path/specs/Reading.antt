@@ -1,6 +1,7 @@
 -- Which texts are read as which program of bools: the text's tokens spell the program, and the program keeps the
 -- static rules of the language and the bounds of this form.
-use Rattle.std.specs.Prelude.{◌≡◌, ◌≢◌, ℕ, ◌+◌, ◌-◌, ◌*◌, ◌<◌, ◌≤◌, ◌⊎◌, max, Bool, true, List, [], ◌∷◌, ◌++◌, length, take, drop, map, codes, slice_get, unwrap_or, if◌then◌else◌, All, AllPairs, Contains, option_map, Some, None, Option}
+use Rattle.std.specs.Prelude.{◌≡◌, ◌≢◌, ℕ, ◌+◌, ◌-◌, ◌*◌, ◌<◌, ◌≤◌, ◌⊎◌, max, Bool, true, List, [], ◌∷◌, ◌++◌, length, take, drop, map, codes}
+use Rattle.std.specs.Prelude.{slice_get, unwrap_or, if◌then◌else◌, All, AllPairs, Contains, option_map, Some, None, Option}
 use Rattle.std.specs.List.{flat_map}
 use Rattle.pale_text.specs.declared.token.Mark.{Mark}
 use Rattle.pale_text.specs.declared.token.Mark.TheVariants as mark

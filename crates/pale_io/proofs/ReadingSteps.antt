@@ -11,6 +11,7 @@ pub record ReadsSoFar (most : ℕ) (first now : Option (List ℕ)) (first_faults
   pub size : length piece ≡ 4096
 
 -- what was read so far and the next piece were taken off the front
-pub ReadsSoFar-taken : {most : ℕ} {first now : Option (List ℕ)} {first_faults faults : ℕ} {bytes piece : List ℕ} (after : Option (List ℕ)) (moved : List ℕ) → ReadsSoFar most first now first_faults faults bytes piece → now ≡ prepended moved after → first ≡ prepended (bytes ++ moved) after
+pub ReadsSoFar-taken : {most : ℕ} {first now : Option (List ℕ)} {first_faults faults : ℕ} {bytes piece : List ℕ} (after : Option (List ℕ))
+    (moved : List ℕ) → ReadsSoFar most first now first_faults faults bytes piece → now ≡ prepended moved after → first ≡ prepended (bytes ++ moved) after
 ReadsSoFar-taken {bytes = bytes} after moved so_far next =
     so_far.taken ∙ ap (λ told. prepended bytes told) next ∙ prepended-prepended bytes moved after

@@ -15,7 +15,8 @@ pub record WritesSoFar (first now : Option (List ℕ)) (first_faults faults : �
   pub kept : first_faults ≤ faults
 
 -- a stop at the next piece
-pub WritesFront-from_so_far : {first now : Option (List ℕ)} {first_faults faults : ℕ} {bytes rest : List ℕ} (after : Option (List ℕ)) → WritesSoFar first now first_faults faults bytes rest → 0 < length rest → after ≡ now → WritesFront first after bytes
+pub WritesFront-from_so_far : {first now : Option (List ℕ)} {first_faults faults : ℕ} {bytes rest : List ℕ} (after : Option (List ℕ))
+    → WritesSoFar first now first_faults faults bytes rest → 0 < length rest → after ≡ now → WritesFront first after bytes
 WritesFront-from_so_far {bytes = bytes} {rest = rest} after so_far more same = record {
   count = length so_far.written;
   within = omega (arith, ap length so_far.parts, length-append so_far.written rest);
@@ -23,10 +24,14 @@ WritesFront-from_so_far {bytes = bytes} {rest = rest} after so_far more same = r
 }
 
 -- one more piece was written
-pub WritesSoFar-more : {first now : Option (List ℕ)} {first_faults faults : ℕ} {bytes rest : List ℕ} (after : Option (List ℕ)) (later count end : ℕ) → WritesSoFar first now first_faults faults bytes rest → after ≡ appended now (take count rest) → faults ≤ later → length rest ≤ end → WritesSoFar first after first_faults later bytes (take (end - count) (drop count rest))
+pub WritesSoFar-more : {first now : Option (List ℕ)} {first_faults faults : ℕ} {bytes rest : List ℕ} (after : Option (List ℕ)) (later count end : ℕ)
+    → WritesSoFar first now first_faults faults bytes rest → after ≡ appended now (take count rest) → faults ≤ later → length rest ≤ end
+    → WritesSoFar first after first_faults later bytes (take (end - count) (drop count rest))
 WritesSoFar-more {first = first} {rest = rest} after later count end so_far added kept fits = record {
   written = so_far.written ++ take count rest;
-  parts = so_far.parts ∙ ap (λ xs. so_far.written ++ xs) (sym (take-append-drop count rest)) ∙ sym (append_assoc so_far.written (take count rest) (drop count rest)) ∙ ap (λ xs. (so_far.written ++ take count rest) ++ xs) (sym (between_to_end rest count end fits));
+  parts = so_far.parts ∙ ap (λ xs. so_far.written ++ xs) (sym (take-append-drop count rest))
+      ∙ sym (append_assoc so_far.written (take count rest) (drop count rest)) ∙ ap (λ xs. (so_far.written ++ take count rest) ++ xs)
+      (sym (between_to_end rest count end fits));
   added = added ∙ ap (λ told. appended told (take count rest)) so_far.added ∙ appended-appended first so_far.written (take count rest);
   kept = omega (arith, so_far.kept);
 }

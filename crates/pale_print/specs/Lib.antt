@@ -5,5 +5,6 @@ pub mod Placeless
 pub mod RouteTokens
 pub mod Spelling
 pub mod StatementTokens
+pub mod Tightness
 pub mod Tokens
 pub mod Writing

@@ -1,8 +1,9 @@
-//! Assertions. `<=>` binds 0, `=>` 1, `|` 2, `&` 3 and all others 4: one that binds less than its place asks is in
-//! parentheses, and a quantifier where an operator follows it, which its body would take.
+//! Assertions. One that binds less than its place asks is in parentheses, and a quantifier where an operator follows it,
+//! which its body would take.
 
 ghost use Rattle.std.specs.Prelude.{◌≡◌, OnOk, length};
 ghost use Rattle.pale_print.specs.AssertionTokens.{assertion_tokens, bracketed_tokens};
+ghost use Rattle.pale_print.specs.Tightness.{assertion_tightness};
 ghost use Rattle.pale_print.specs.Writing.{Writes, goes_on, inside, related, walked, used, quantifier_words, quantifier_tokens, assertion_operands};
 
 use crate::names::{
@@ -10,6 +11,7 @@ use crate::names::{
     push_variant_test,
 };
 use crate::routes::push_route;
+use crate::tightness::{AssertionTightness, RouteTightness};
 use crate::tokens::{close_group, open_group, push_mark, push_word};
 use pale_syntax::{Assertion, Bracketed, Name, Path, Quantifier, QuantifierKind, Route, Term};
 use pale_text::Mark;
@@ -44,7 +46,7 @@ fn push_walk(text: &mut Vec<u8>, from: &Term, route: &Route, to: &Term) -> Resul
 {
     push_term(text, from)?;
     push_mark(text, Mark::Less)?;
-    push_route(text, route, 0)?;
+    push_route(text, route, RouteTightness::Choice)?;
     push_mark(text, Mark::Greater)?;
     push_term(text, to)
 }
@@ -88,11 +90,11 @@ fn push_quantifier(text: &mut Vec<u8>, quantifier: &Quantifier) -> Result<(), Al
 fn push_operands(
     text: &mut Vec<u8>,
     mark: Mark,
-    asked: u8,
+    asked: AssertionTightness,
     operands: &[Assertion],
     followed: bool,
 ) -> Result<(), AllocError>
-    ensures { OnOk result (Writes (assertion_operands mark asked operands.now followed) text.old.items text.new.items) }
+    ensures { OnOk result (Writes (assertion_operands mark (assertion_tightness asked) operands.now followed) text.old.items text.new.items) }
 {
     let mut left = operands.len();
     for operand in operands {
@@ -109,10 +111,10 @@ fn push_operands(
 fn push_assertion(
     text: &mut Vec<u8>,
     assertion: &Assertion,
-    asked: u8,
+    asked: AssertionTightness,
     followed: bool,
 ) -> Result<(), AllocError>
-    ensures { OnOk result (Writes (assertion_tokens assertion.now asked followed) text.old.items text.new.items) }
+    ensures { OnOk result (Writes (assertion_tokens assertion.now (assertion_tightness asked) followed) text.old.items text.new.items) }
 {
     match assertion {
         Assertion::True => push_word(text, b"true"),
@@ -127,40 +129,82 @@ fn push_assertion(
         Assertion::Use(predicate, arguments) => push_use(text, predicate, arguments.as_slice()),
         Assertion::Not(_, inner) => {
             push_mark(text, Mark::Tilde)?;
-            push_assertion(text, inner.get(), 4, followed)
+            push_assertion(text, inner.get(), AssertionTightness::Single, followed)
         }
         Assertion::And(first, others) => {
-            let last = inside(asked > 3, followed);
-            open_group(text, asked > 3)?;
-            push_assertion(text, first.get(), 4, goes_on(others.len(), last))?;
-            push_operands(text, Mark::Ampersand, 4, others.as_slice(), last)?;
-            close_group(text, asked > 3)
+            let grouped = AssertionTightness::Conjunction.is_grouped_at(asked);
+            let last = inside(grouped, followed);
+            open_group(text, grouped)?;
+            push_assertion(
+                text,
+                first.get(),
+                AssertionTightness::Single,
+                goes_on(others.len(), last),
+            )?;
+            push_operands(
+                text,
+                Mark::Ampersand,
+                AssertionTightness::Single,
+                others.as_slice(),
+                last,
+            )?;
+            close_group(text, grouped)
         }
         Assertion::Or(first, others) => {
-            let last = inside(asked > 2, followed);
-            open_group(text, asked > 2)?;
-            push_assertion(text, first.get(), 3, goes_on(others.len(), last))?;
-            push_operands(text, Mark::Bar, 3, others.as_slice(), last)?;
-            close_group(text, asked > 2)
+            let grouped = AssertionTightness::Disjunction.is_grouped_at(asked);
+            let last = inside(grouped, followed);
+            open_group(text, grouped)?;
+            push_assertion(
+                text,
+                first.get(),
+                AssertionTightness::Conjunction,
+                goes_on(others.len(), last),
+            )?;
+            push_operands(
+                text,
+                Mark::Bar,
+                AssertionTightness::Conjunction,
+                others.as_slice(),
+                last,
+            )?;
+            close_group(text, grouped)
         }
         Assertion::Imp(left, _, right) => {
-            open_group(text, asked > 1)?;
-            push_assertion(text, left.get(), 2, true)?;
+            let grouped = AssertionTightness::Implication.is_grouped_at(asked);
+            open_group(text, grouped)?;
+            push_assertion(text, left.get(), AssertionTightness::Disjunction, true)?;
             push_mark(text, Mark::Implies)?;
-            push_assertion(text, right.get(), 1, inside(asked > 1, followed))?;
-            close_group(text, asked > 1)
+            push_assertion(
+                text,
+                right.get(),
+                AssertionTightness::Implication,
+                inside(grouped, followed),
+            )?;
+            close_group(text, grouped)
         }
         Assertion::Iff(first, others) => {
-            let last = inside(asked > 0, followed);
-            open_group(text, asked > 0)?;
-            push_assertion(text, first.get(), 1, goes_on(others.len(), last))?;
-            push_operands(text, Mark::Equivalent, 1, others.as_slice(), last)?;
-            close_group(text, asked > 0)
+            let grouped = AssertionTightness::Equivalence.is_grouped_at(asked);
+            let last = inside(grouped, followed);
+            open_group(text, grouped)?;
+            push_assertion(
+                text,
+                first.get(),
+                AssertionTightness::Implication,
+                goes_on(others.len(), last),
+            )?;
+            push_operands(
+                text,
+                Mark::Equivalent,
+                AssertionTightness::Implication,
+                others.as_slice(),
+                last,
+            )?;
+            close_group(text, grouped)
         }
         Assertion::Quantified(quantifier, inner) => {
             open_group(text, followed)?;
             push_quantifier(text, quantifier)?;
-            push_assertion(text, inner.get(), 0, false)?;
+            push_assertion(text, inner.get(), AssertionTightness::Equivalence, false)?;
             close_group(text, followed)
         }
     }
@@ -171,6 +215,11 @@ pub fn push_bracketed(text: &mut Vec<u8>, bracketed: &Bracketed) -> Result<(), A
     ensures { OnOk result (Writes (bracketed_tokens bracketed.now) text.old.items text.new.items) }
 {
     push_mark(text, Mark::LeftBracket)?;
-    push_assertion(text, &bracketed.assertion, 0, false)?;
+    push_assertion(
+        text,
+        &bracketed.assertion,
+        AssertionTightness::Equivalence,
+        false,
+    )?;
     push_mark(text, Mark::RightBracket)
 }

@@ -9,6 +9,7 @@ ghost use Rattle.pale_print.specs.Writing.{Writes, call_head, call_arguments};
 use crate::assertions::push_bracketed;
 use crate::conditions::push_condition;
 use crate::names::{push_marked, push_name, push_names};
+use crate::tightness::ConditionTightness;
 use crate::tokens::{push_mark, push_word};
 use pale_syntax::{Argument, Bracketed, Call, Name, Value};
 use pale_text::Mark;
@@ -59,7 +60,11 @@ pub fn push_value(text: &mut Vec<u8>, value: &Value) -> Result<(), AllocError>
             push_name(text, ty)?;
             push_new_variant(text, variant)
         }
-        Value::Condition(_, condition) => push_condition(text, condition, 0),
+        Value::Condition(_, condition) => push_condition(
+            text,
+            condition,
+            ConditionTightness::Disjunction,
+        ),
     }
 }
 

@@ -1,10 +1,12 @@
-//! Conditions of code. `||` binds 0, `&&` 1 and all others 2: one that binds less than its place asks is in parentheses.
+//! Conditions of code. One that binds less than its place asks is in parentheses.
 
 ghost use Rattle.std.specs.Prelude.{◌≡◌, OnOk};
 ghost use Rattle.pale_print.specs.ConditionTokens.{condition_tokens};
+ghost use Rattle.pale_print.specs.Tightness.{condition_tightness};
 ghost use Rattle.pale_print.specs.Writing.{Writes, condition_operands};
 
 use crate::names::{push_compared, push_term, push_variant_test};
+use crate::tightness::ConditionTightness;
 use crate::tokens::{close_group, open_group, push_mark, push_word};
 use pale_syntax::Condition;
 use pale_text::Mark;
@@ -15,10 +17,10 @@ use std::alloc::AllocError;
 fn push_operands(
     text: &mut Vec<u8>,
     mark: Mark,
-    asked: u8,
+    asked: ConditionTightness,
     operands: &[Condition],
 ) -> Result<(), AllocError>
-    ensures { OnOk result (Writes (condition_operands mark asked operands.now) text.old.items text.new.items) }
+    ensures { OnOk result (Writes (condition_operands mark (condition_tightness asked) operands.now) text.old.items text.new.items) }
 {
     for operand in operands {
         push_mark(text, mark)?;
@@ -33,9 +35,9 @@ fn push_operands(
 pub fn push_condition(
     text: &mut Vec<u8>,
     condition: &Condition,
-    asked: u8,
+    asked: ConditionTightness,
 ) -> Result<(), AllocError>
-    ensures { OnOk result (Writes (condition_tokens condition.now asked) text.old.items text.new.items) }
+    ensures { OnOk result (Writes (condition_tokens condition.now (condition_tightness asked)) text.old.items text.new.items) }
 {
     match condition {
         Condition::True(_) => push_word(text, b"true"),
@@ -46,19 +48,31 @@ pub fn push_condition(
         Condition::Is(term, _, variant) => push_variant_test(text, term, variant),
         Condition::Not(_, inner) => {
             push_mark(text, Mark::Bang)?;
-            push_condition(text, inner.get(), 2)
+            push_condition(text, inner.get(), ConditionTightness::Single)
         }
         Condition::And(first, others) => {
-            open_group(text, asked > 1)?;
-            push_condition(text, first.get(), 2)?;
-            push_operands(text, Mark::AndAlso, 2, others.as_slice())?;
-            close_group(text, asked > 1)
+            let grouped = ConditionTightness::Conjunction.is_grouped_at(asked);
+            open_group(text, grouped)?;
+            push_condition(text, first.get(), ConditionTightness::Single)?;
+            push_operands(
+                text,
+                Mark::AndAlso,
+                ConditionTightness::Single,
+                others.as_slice(),
+            )?;
+            close_group(text, grouped)
         }
         Condition::Or(first, others) => {
-            open_group(text, asked > 0)?;
-            push_condition(text, first.get(), 1)?;
-            push_operands(text, Mark::OrElse, 1, others.as_slice())?;
-            close_group(text, asked > 0)
+            let grouped = ConditionTightness::Disjunction.is_grouped_at(asked);
+            open_group(text, grouped)?;
+            push_condition(text, first.get(), ConditionTightness::Conjunction)?;
+            push_operands(
+                text,
+                Mark::OrElse,
+                ConditionTightness::Conjunction,
+                others.as_slice(),
+            )?;
+            close_group(text, grouped)
         }
     }
 }

@@ -12,6 +12,7 @@ use crate::calls::push_clause;
 use crate::names::{push_name, push_typed};
 use crate::routes::push_route;
 use crate::statements::push_statements;
+use crate::tightness::RouteTightness;
 use crate::tokens::{push_mark, push_word};
 use pale_syntax::{
     Declaration, FieldDeclaration, FieldForm, LogicParameter, Parameter, PredicateDeclaration,
@@ -25,7 +26,7 @@ fn push_route_in_brackets(text: &mut Vec<u8>, route: &Route) -> Result<(), Alloc
     ensures { OnOk result (Writes (route_in_brackets route.now) text.old.items text.new.items) }
 {
     push_mark(text, Mark::LeftBracket)?;
-    push_route(text, route, 0)?;
+    push_route(text, route, RouteTightness::Choice)?;
     push_mark(text, Mark::RightBracket)
 }
 

@@ -13,6 +13,7 @@ mod declarations;
 mod names;
 mod routes;
 mod statements;
+mod tightness;
 mod tokens;
 
 pub use declarations::print_program;

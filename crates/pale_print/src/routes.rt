@@ -1,11 +1,12 @@
-//! Routing expressions. `+` binds 0, `.` 1, `*` 2 and a single step 3: one that binds less than its place asks is in
-//! parentheses.
+//! Routing expressions. One that binds less than its place asks is in parentheses.
 
 ghost use Rattle.std.specs.Prelude.{◌≡◌, OnOk};
 ghost use Rattle.pale_print.specs.RouteTokens.{stars, route_tokens};
+ghost use Rattle.pale_print.specs.Tightness.{route_tightness};
 ghost use Rattle.pale_print.specs.Writing.{Writes, bool_tested, route_operands};
 
 use crate::names::{push_marked, push_name};
+use crate::tightness::RouteTightness;
 use crate::tokens::{close_group, open_group, push_mark, push_word};
 use pale_syntax::{Name, Route};
 use pale_text::{Mark, Pos};
@@ -37,10 +38,10 @@ fn push_stars(text: &mut Vec<u8>, places: &[Pos]) -> Result<(), AllocError>
 fn push_operands(
     text: &mut Vec<u8>,
     mark: Mark,
-    asked: u8,
+    asked: RouteTightness,
     operands: &[Route],
 ) -> Result<(), AllocError>
-    ensures { OnOk result (Writes (route_operands mark asked operands.now) text.old.items text.new.items) }
+    ensures { OnOk result (Writes (route_operands mark (route_tightness asked) operands.now) text.old.items text.new.items) }
 {
     for operand in operands {
         push_mark(text, mark)?;
@@ -52,8 +53,12 @@ fn push_operands(
 /// A route where its place asks so much.
 #[cycle(routes)]
 #[tactic(auto, using(crate::proofs::RouteLemmas::route_forms))]
-pub fn push_route(text: &mut Vec<u8>, route: &Route, asked: u8) -> Result<(), AllocError>
-    ensures { OnOk result (Writes (route_tokens route.now asked) text.old.items text.new.items) }
+pub fn push_route(
+    text: &mut Vec<u8>,
+    route: &Route,
+    asked: RouteTightness,
+) -> Result<(), AllocError>
+    ensures { OnOk result (Writes (route_tokens route.now (route_tightness asked)) text.old.items text.new.items) }
 {
     match route {
         Route::Down(field) => push_name(text, field),
@@ -68,22 +73,35 @@ pub fn push_route(text: &mut Vec<u8>, route: &Route, asked: u8) -> Result<(), Al
         }
         Route::IsBool(field, value) => push_bool_test(text, *value, field),
         Route::Then(first, others) => {
-            open_group(text, asked > 1)?;
-            push_route(text, first.get(), 2)?;
-            push_operands(text, Mark::Dot, 2, others.as_slice())?;
-            close_group(text, asked > 1)
+            let grouped = RouteTightness::Sequence.is_grouped_at(asked);
+            open_group(text, grouped)?;
+            push_route(text, first.get(), RouteTightness::Repetition)?;
+            push_operands(
+                text,
+                Mark::Dot,
+                RouteTightness::Repetition,
+                others.as_slice(),
+            )?;
+            close_group(text, grouped)
         }
         Route::Or(first, others) => {
-            open_group(text, asked > 0)?;
-            push_route(text, first.get(), 1)?;
-            push_operands(text, Mark::Plus, 1, others.as_slice())?;
-            close_group(text, asked > 0)
+            let grouped = RouteTightness::Choice.is_grouped_at(asked);
+            open_group(text, grouped)?;
+            push_route(text, first.get(), RouteTightness::Sequence)?;
+            push_operands(
+                text,
+                Mark::Plus,
+                RouteTightness::Sequence,
+                others.as_slice(),
+            )?;
+            close_group(text, grouped)
         }
         Route::Star(inner, places) => {
-            open_group(text, asked > 2)?;
-            push_route(text, inner.get(), 3)?;
+            let grouped = RouteTightness::Repetition.is_grouped_at(asked);
+            open_group(text, grouped)?;
+            push_route(text, inner.get(), RouteTightness::Step)?;
             push_stars(text, places.as_slice())?;
-            close_group(text, asked > 2)
+            close_group(text, grouped)
         }
     }
 }

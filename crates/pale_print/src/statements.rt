@@ -8,6 +8,7 @@ use crate::assertions::push_bracketed;
 use crate::calls::{push_call, push_value};
 use crate::conditions::push_condition;
 use crate::names::{push_name, push_path};
+use crate::tightness::ConditionTightness;
 use crate::tokens::{push_mark, push_word};
 use pale_syntax::{Bracketed, Condition, Name, Path, Statement, Value};
 use pale_text::Mark;
@@ -19,7 +20,7 @@ fn push_test(text: &mut Vec<u8>, word: &[u8], condition: &Condition) -> Result<(
 {
     push_word(text, word)?;
     push_mark(text, Mark::LeftParen)?;
-    push_condition(text, condition, 0)?;
+    push_condition(text, condition, ConditionTightness::Disjunction)?;
     push_mark(text, Mark::RightParen)
 }
 

@@ -64,7 +64,8 @@ mutual
         IsCanonicalAssertion p followed room (assertion.Member t place set)
     subset : (p : AssertionPlace) (followed : Bool) (room : ℕ) (t : Term) (place : Pos) (set : Name) → IsFreeTerm t → IsFree set →
         IsCanonicalAssertion p followed room (assertion.Subset t place set)
-    walk : (p : AssertionPlace) (followed : Bool) (room : ℕ) (t : Term) (place : Pos) (r : Route) (u : Term) → IsFreeTerm t → IsCanonicalRoute whole_route room r → IsFreeTerm u →
+    walk : (p : AssertionPlace) (followed : Bool) (room : ℕ) (t : Term) (place : Pos) (r : Route) (u : Term) → IsFreeTerm t
+        → IsCanonicalRoute whole_route room r → IsFreeTerm u →
         IsCanonicalAssertion p followed room (assertion.Walk t place r u)
     of_variant : (p : AssertionPlace) (followed : Bool) (room : ℕ) (t : Term) (place : Pos) (variant : Name) → IsFreeTerm t → IsFree variant →
         IsCanonicalAssertion p followed room (assertion.Is t place variant)
@@ -72,19 +73,23 @@ mutual
         IsCanonicalAssertion p followed room (assertion.Use predicate arguments)
     not : (p : AssertionPlace) (followed : Bool) (room : ℕ) (place : Pos) (inner : Assertion) → IsCanonicalAssertion operand followed room inner →
         IsCanonicalAssertion p followed (suc room) (assertion.Not place inner)
-    and : (p : AssertionPlace) (followed : Bool) (room : ℕ) (first next : Assertion) (others : List Assertion) → nat_lt 3 (asks p) ≡ false → is_and_node (out-Assertion first) ≡ false →
+    and : (p : AssertionPlace) (followed : Bool) (room : ℕ) (first next : Assertion) (others : List Assertion) → nat_lt 3 (asks p) ≡ false
+        → is_and_node (out-Assertion first) ≡ false →
         IsCanonicalAssertion operand true room first → AreCanonicalAssertions operand followed room (next ∷ others) →
         IsCanonicalAssertion p followed room (assertion.And first (next ∷ others))
-    or : (p : AssertionPlace) (followed : Bool) (room : ℕ) (first next : Assertion) (others : List Assertion) → nat_lt 2 (asks p) ≡ false → is_or_node (out-Assertion first) ≡ false →
+    or : (p : AssertionPlace) (followed : Bool) (room : ℕ) (first next : Assertion) (others : List Assertion) → nat_lt 2 (asks p) ≡ false
+        → is_or_node (out-Assertion first) ≡ false →
         IsCanonicalAssertion conjunct true room first → AreCanonicalAssertions conjunct followed room (next ∷ others) →
         IsCanonicalAssertion p followed room (assertion.Or first (next ∷ others))
     imp : (p : AssertionPlace) (followed : Bool) (room : ℕ) (left : Assertion) (place : Pos) (right : Assertion) → nat_lt 1 (asks p) ≡ false →
         IsCanonicalAssertion disjunct true (suc room) left → IsCanonicalAssertion implication followed room right →
         IsCanonicalAssertion p followed (suc room) (assertion.Imp left place right)
-    iff : (p : AssertionPlace) (followed : Bool) (room : ℕ) (first next : Assertion) (others : List Assertion) → nat_lt 0 (asks p) ≡ false → is_iff_node (out-Assertion first) ≡ false →
+    iff : (p : AssertionPlace) (followed : Bool) (room : ℕ) (first next : Assertion) (others : List Assertion) → nat_lt 0 (asks p) ≡ false
+        → is_iff_node (out-Assertion first) ≡ false →
         IsCanonicalAssertion implication true room first → AreCanonicalAssertions implication followed room (next ∷ others) →
         IsCanonicalAssertion p followed room (assertion.Iff first (next ∷ others))
-    quantified : (p : AssertionPlace) (room : ℕ) (kind : QuantifierKind) (place : Pos) (sets : Bool) (first : Name) (others : List Name) (ty : Name) (inner : Assertion) →
+    quantified : (p : AssertionPlace) (room : ℕ) (kind : QuantifierKind) (place : Pos) (sets : Bool) (first : Name) (others : List Name) (ty : Name)
+        (inner : Assertion) →
         IsFree first → AreFree others → IsFree ty → IsCanonicalAssertion whole false room inner →
         IsCanonicalAssertion p false (suc room)
         (assertion.Quantified (record { kind = kind; place = place; of_sets = sets; names = first ∷ others; ty = ty }) inner)
@@ -93,7 +98,8 @@ mutual
 
   -- the operands of a chain but the first, at least one
   pub data AreCanonicalAssertions : AssertionPlace → Bool → ℕ → List Assertion → Type 0 where
-    last : (p : AssertionPlace) (followed : Bool) (room : ℕ) (a : Assertion) → IsCanonicalAssertion p followed room a → AreCanonicalAssertions p followed room (a ∷ [])
+    last : (p : AssertionPlace) (followed : Bool) (room : ℕ) (a : Assertion) → IsCanonicalAssertion p followed room a
+        → AreCanonicalAssertions p followed room (a ∷ [])
     more : (p : AssertionPlace) (followed : Bool) (room : ℕ) (a b : Assertion) (others : List Assertion) → IsCanonicalAssertion p true room a →
         AreCanonicalAssertions p followed room (b ∷ others) → AreCanonicalAssertions p followed room (a ∷ b ∷ others)
 

@@ -41,11 +41,16 @@ mutual
     truth : (p : ConditionPlace) (room : ℕ) (place : Pos) → IsCanonicalCondition p room (condition.True place)
     falsehood : (p : ConditionPlace) (room : ℕ) (place : Pos) → IsCanonicalCondition p room (condition.False place)
     term : (p : ConditionPlace) (room : ℕ) (t : Term) → IsFreeTerm t → IsCanonicalCondition p room (condition.Truth t)
-    same : (p : ConditionPlace) (room : ℕ) (t : Term) (place : Pos) (u : Term) → IsFreeTerm t → IsFreeTerm u → IsCanonicalCondition p room (condition.Same t place u)
-    differ : (p : ConditionPlace) (room : ℕ) (t : Term) (place : Pos) (u : Term) → IsFreeTerm t → IsFreeTerm u → IsCanonicalCondition p room (condition.Differ t place u)
-    of_variant : (p : ConditionPlace) (room : ℕ) (t : Term) (place : Pos) (variant : Name) → IsFreeTerm t → IsFree variant → IsCanonicalCondition p room (condition.Is t place variant)
-    not : (p : ConditionPlace) (room : ℕ) (place : Pos) (inner : Condition) → IsCanonicalCondition literal room inner → IsCanonicalCondition p (suc room) (condition.Not place inner)
-    and : (p : ConditionPlace) (room : ℕ) (first : Condition) (others : List Condition) → nat_lt 1 (asks p) ≡ false → is_and_node (out-Condition first) ≡ false →
+    same : (p : ConditionPlace) (room : ℕ) (t : Term) (place : Pos) (u : Term) → IsFreeTerm t → IsFreeTerm u
+        → IsCanonicalCondition p room (condition.Same t place u)
+    differ : (p : ConditionPlace) (room : ℕ) (t : Term) (place : Pos) (u : Term) → IsFreeTerm t → IsFreeTerm u
+        → IsCanonicalCondition p room (condition.Differ t place u)
+    of_variant : (p : ConditionPlace) (room : ℕ) (t : Term) (place : Pos) (variant : Name) → IsFreeTerm t → IsFree variant
+        → IsCanonicalCondition p room (condition.Is t place variant)
+    not : (p : ConditionPlace) (room : ℕ) (place : Pos) (inner : Condition) → IsCanonicalCondition literal room inner
+        → IsCanonicalCondition p (suc room) (condition.Not place inner)
+    and : (p : ConditionPlace) (room : ℕ) (first : Condition) (others : List Condition) → nat_lt 1 (asks p) ≡ false
+        → is_and_node (out-Condition first) ≡ false →
         IsCanonicalCondition literal room first → AreCanonicalConditions literal room others → IsCanonicalCondition p room (condition.And first others)
     or : (p : ConditionPlace) (room : ℕ) (first : Condition) (others : List Condition) → nat_lt 0 (asks p) ≡ false → is_or_node (out-Condition first) ≡ false →
         IsCanonicalCondition conjunction room first → AreCanonicalConditions conjunction room others → IsCanonicalCondition p room (condition.Or first others)

@@ -63,4 +63,5 @@ mutual
   -- the operands of a chain but the first, at least one
   pub data AreCanonicalRoutes : RoutePlace → ℕ → List Route → Type 0 where
     last : (p : RoutePlace) (room : ℕ) (r : Route) → IsCanonicalRoute p room r → AreCanonicalRoutes p room (r ∷ [])
-    more : (p : RoutePlace) (room : ℕ) (r : Route) (others : List Route) → IsCanonicalRoute p room r → AreCanonicalRoutes p room others → AreCanonicalRoutes p room (r ∷ others)
+    more : (p : RoutePlace) (room : ℕ) (r : Route) (others : List Route) → IsCanonicalRoute p room r → AreCanonicalRoutes p room others
+        → AreCanonicalRoutes p room (r ∷ others)

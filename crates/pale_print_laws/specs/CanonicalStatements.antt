@@ -63,4 +63,5 @@ mutual
 
   pub data AreCanonicalStatements : ℕ → List Statement → Type 0 where
     none : (room : ℕ) → AreCanonicalStatements room []
-    more : (room : ℕ) (s : Statement) (ss : List Statement) → IsCanonicalStatement room s → AreCanonicalStatements room ss → AreCanonicalStatements room (s ∷ ss)
+    more : (room : ℕ) (s : Statement) (ss : List Statement) → IsCanonicalStatement room s → AreCanonicalStatements room ss
+        → AreCanonicalStatements room (s ∷ ss)

@@ -2,9 +2,12 @@
 use Rattle.std.specs.Prelude.{[], ◌∷◌, ◌++◌, true, false}
 use Rattle.plain_data.specs.Stacks.{top, rest}
 use Rattle.pale_syntax.specs.declared.grammar.act.AtomAct.{AtomAct}
-use Rattle.pale_syntax.specs.declared.grammar.act.AtomAct.TheVariants.{TrueAssertion, FalseAssertion, PathAlone, ExtendPathAlone, TakePathBack, AddUsedPath, MakeUse, MakeSame, MakeDiffer, MakeMember, MakeSubset, MakeWalk, MakeIs}
+use Rattle.pale_syntax.specs.declared.grammar.act.AtomAct.TheVariants.{TrueAssertion, FalseAssertion, PathAlone, ExtendPathAlone, TakePathBack}
+use Rattle.pale_syntax.specs.declared.grammar.act.AtomAct.TheVariants.{AddUsedPath, MakeUse, MakeSame, MakeDiffer, MakeMember, MakeSubset, MakeWalk}
+use Rattle.pale_syntax.specs.declared.grammar.act.AtomAct.TheVariants.{MakeIs}
 use Rattle.pale_syntax.specs.declared.grammar.act.ConnectiveAct.{ConnectiveAct}
-use Rattle.pale_syntax.specs.declared.grammar.act.ConnectiveAct.TheVariants.{JoinIff, MakeImp, JoinOr, JoinAnd, MakeNot, BeginEx, BeginAll, BindsSets, AddBound, MakeQuantified, Bracket}
+use Rattle.pale_syntax.specs.declared.grammar.act.ConnectiveAct.TheVariants.{JoinIff, MakeImp, JoinOr, JoinAnd, MakeNot, BeginEx, BeginAll, BindsSets}
+use Rattle.pale_syntax.specs.declared.grammar.act.ConnectiveAct.TheVariants.{AddBound, MakeQuantified, Bracket}
 use Rattle.pale_text.specs.declared.place.Pos.{Pos}
 use Rattle.pale_syntax.specs.declared.tree.names.Name.{Name}
 use Rattle.pale_syntax.specs.declared.tree.names.Path.{Path}

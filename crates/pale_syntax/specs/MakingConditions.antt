@@ -2,7 +2,8 @@
 use Rattle.std.specs.Prelude.{[], ◌∷◌, ◌++◌}
 use Rattle.plain_data.specs.Stacks.{top, rest}
 use Rattle.pale_syntax.specs.declared.grammar.act.ConditionAct.{ConditionAct}
-use Rattle.pale_syntax.specs.declared.grammar.act.ConditionAct.TheVariants.{TrueCondition, FalseCondition, TermAlone, TakeTermBack, SameAs, NotSameAs, OfVariant, NotCondition, JoinAndAlso, JoinOrElse}
+use Rattle.pale_syntax.specs.declared.grammar.act.ConditionAct.TheVariants.{TrueCondition, FalseCondition, TermAlone, TakeTermBack, SameAs, NotSameAs}
+use Rattle.pale_syntax.specs.declared.grammar.act.ConditionAct.TheVariants.{OfVariant, NotCondition, JoinAndAlso, JoinOrElse}
 use Rattle.pale_syntax.specs.declared.tree.names.Term.{Term}
 use Rattle.pale_syntax.specs.declared.tree.condition.Condition.{Condition, out-Condition}
 use Rattle.pale_syntax.specs.declared.tree.condition.Condition.TheVariants as condition

@@ -6,7 +6,8 @@ use Rattle.pale_syntax.specs.declared.grammar.act.TypeAct.TheVariants.{BoolField
 use Rattle.pale_syntax.specs.declared.grammar.act.PredicateAct.{PredicateAct}
 use Rattle.pale_syntax.specs.declared.grammar.act.PredicateAct.TheVariants.{CellParameter, SetParameter, BoolParameter, AddPredicate}
 use Rattle.pale_syntax.specs.declared.grammar.act.ProcedureAct.{ProcedureAct}
-use Rattle.pale_syntax.specs.declared.grammar.act.ProcedureAct.TheVariants.{DataParameter, PointerParameter, BoolVariable, TakeParameters, TakeResults, LogicSet, LogicBool, SetPre, SetPost, AddProcedure}
+use Rattle.pale_syntax.specs.declared.grammar.act.ProcedureAct.TheVariants.{DataParameter, PointerParameter, BoolVariable, TakeParameters}
+use Rattle.pale_syntax.specs.declared.grammar.act.ProcedureAct.TheVariants.{TakeResults, LogicSet, LogicBool, SetPre, SetPost, AddProcedure}
 use Rattle.pale_syntax.specs.declared.tree.names.Name.{Name}
 use Rattle.pale_syntax.specs.declared.tree.declaration.Declaration.{Declaration}
 use Rattle.pale_syntax.specs.declared.tree.declaration.Declaration.TheVariants as declaration

@@ -2,7 +2,8 @@
 use Rattle.std.specs.Prelude.{[], ◌∷◌, ◌++◌, true, false}
 use Rattle.plain_data.specs.Stacks.{top, rest}
 use Rattle.pale_syntax.specs.declared.grammar.act.RouteAct.{RouteAct}
-use Rattle.pale_syntax.specs.declared.grammar.act.RouteAct.TheVariants.{Down, UpAny, NameUp, Leaf, Root, IsType, NarrowToVariant, IsTrue, IsFalse, JoinThen, JoinOr, AddStar}
+use Rattle.pale_syntax.specs.declared.grammar.act.RouteAct.TheVariants.{Down, UpAny, NameUp, Leaf, Root, IsType, NarrowToVariant, IsTrue, IsFalse}
+use Rattle.pale_syntax.specs.declared.grammar.act.RouteAct.TheVariants.{JoinThen, JoinOr, AddStar}
 use Rattle.pale_text.specs.declared.place.Pos.{Pos}
 use Rattle.pale_syntax.specs.declared.tree.names.Name.{Name}
 use Rattle.pale_syntax.specs.declared.tree.route.Route.{Route, out-Route}

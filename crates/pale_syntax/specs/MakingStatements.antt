@@ -2,9 +2,11 @@
 use Rattle.std.specs.Prelude.{List, [], ◌∷◌, ◌++◌, true, false, None, Some}
 use Rattle.plain_data.specs.Stacks.{top, rest}
 use Rattle.pale_syntax.specs.declared.grammar.act.StatementAct.{StatementAct}
-use Rattle.pale_syntax.specs.declared.grammar.act.StatementAct.TheVariants.{BeginBlock, MakeSkip, NoElse, SetElse, MakeIf, MakeWhile, MakeSplit, MakeAssert, MakeFree, MakeNew, NarrowNew, MakeValue, MakeAssign}
+use Rattle.pale_syntax.specs.declared.grammar.act.StatementAct.TheVariants.{BeginBlock, MakeSkip, NoElse, SetElse, MakeIf, MakeWhile, MakeSplit}
+use Rattle.pale_syntax.specs.declared.grammar.act.StatementAct.TheVariants.{MakeAssert, MakeFree, MakeNew, NarrowNew, MakeValue, MakeAssign}
 use Rattle.pale_syntax.specs.declared.grammar.act.CallAct.{CallAct}
-use Rattle.pale_syntax.specs.declared.grammar.act.CallAct.TheVariants.{TakeResult, NameArgument, NullArgument, TrueArgument, FalseArgument, TakeArguments, SetKeep, MakeCall}
+use Rattle.pale_syntax.specs.declared.grammar.act.CallAct.TheVariants.{TakeResult, NameArgument, NullArgument, TrueArgument, FalseArgument}
+use Rattle.pale_syntax.specs.declared.grammar.act.CallAct.TheVariants.{TakeArguments, SetKeep, MakeCall}
 use Rattle.pale_syntax.specs.declared.tree.names.Name.{Name}
 use Rattle.pale_syntax.specs.declared.tree.assertion.Bracketed.{Bracketed}
 use Rattle.pale_syntax.specs.declared.tree.statement.Argument.{Argument}

@@ -192,7 +192,8 @@ rows_of part.Local = (Once part.Parameter ∷ reads mark.Semicolon ∷ []) ∷ [
 -- ---- statements
 -- Block = "{" { Statement } "}" .
 rows_of part.Block = (opens mark.LeftBrace ∷ statement statements.BeginBlock ∷ Many part.Statement ∷ reads mark.RightBrace ∷ []) ∷ []
--- Statement = "skip" ";" | "if" "(" Condition ")" Block [ Else ] | "while" "(" Condition ")" Bracketed Block | "split" Bracketed ";" | "assert" Bracketed ";" | "free" Name ";" | "call" Name CallRest ";" | Path "=" Value ";" .
+-- Statement = "skip" ";" | "if" "(" Condition ")" Block [ Else ] | "while" "(" Condition ")" Bracketed Block | "split" Bracketed ";" | "assert"
+-- Bracketed ";" | "free" Name ";" | "call" Name CallRest ";" | Path "=" Value ";" .
 rows_of part.Statement =
     (Read kind.Skip ∷ mark_place ∷ statement statements.MakeSkip ∷ reads mark.Semicolon ∷ []) ∷
     (Read kind.If ∷ mark_place ∷ reads mark.LeftParen ∷ Once part.Condition ∷ reads mark.RightParen ∷ Once part.Block ∷

@@ -1,5 +1,6 @@
 -- The three arguments of a command whose shape is that of the definition.
-use Rattle.std.proofs.Common.{◌≡◌, ◌∙◌, ◌<◌, ◌≤◌, ◌⊎◌, ℕ, List, [], ◌∷◌, zero, suc, length, map, ap, refl, sym, subst, arith, Option, Some, None, is_some, true, false, not, true≢false, inl, inr, codes}
+use Rattle.std.proofs.Common.{◌≡◌, ◌∙◌, ◌<◌, ◌≤◌, ◌⊎◌, ℕ, List, [], ◌∷◌, zero, suc, length, map, ap, refl, sym, subst, arith, Option, Some, None}
+use Rattle.std.proofs.Common.{is_some, true, false, not, true≢false, inl, inr, codes}
 use Rattle.std.specs.Prelude.{slice_index}
 use Rattle.std.specs.List.{slice_index_or}
 use Rattle.std.specs.Str.{bytes_eq}
@@ -59,13 +60,15 @@ distinct p (suc (suc (suc j))) k r s a b e = absurd (omega arith)
 distinct p j (suc (suc (suc k))) r s a b e = absurd (omega arith)
 
 -- the first letter of an id is `m`, `l` or `s`, so none is empty or a flag that clap adds
-letter : (p : ValueParser) (k : ℕ) (r : Rule) → k < 3 → (104 < slice_index (slice_index_or (rules_of p) k r).id 0) × (slice_index (slice_index_or (rules_of p) k r).id 0 < 118)
+letter : (p : ValueParser) (k : ℕ) (r : Rule) → k < 3 → (104 < slice_index (slice_index_or (rules_of p) k r).id 0)
+    × (slice_index (slice_index_or (rules_of p) k r).id 0 < 118)
 letter p zero r lt = (omega arith, omega arith)
 letter p (suc zero) r lt = (omega arith, omega arith)
 letter p (suc (suc zero)) r lt = (omega arith, omega arith)
 letter p (suc (suc (suc k))) r lt = absurd (omega arith)
 
-rule_at : (xs : List Arg) (rs : List Rule) → map rule_of xs ≡ rs → (k : ℕ) (d : Arg) (r : Rule) → k < length xs → rule_of (slice_index_or xs k d) ≡ slice_index_or rs k r
+rule_at : (xs : List Arg) (rs : List Rule) → map rule_of xs ≡ rs → (k : ℕ) (d : Arg) (r : Rule) → k < length xs
+    → rule_of (slice_index_or xs k d) ≡ slice_index_or rs k r
 rule_at [] rs same k d r lt = absurd (omega arith)
 rule_at (x ∷ xs) rs same zero d r lt = ap (λ (l : List Rule). slice_index_or l 0 r) same
 rule_at (x ∷ xs) rs same (suc k) d r lt =
@@ -133,7 +136,8 @@ module _ (old : Command) (p : ValueParser) (is : app_of old ≡ command_with p) 
   pub id_is : (k : ℕ) (d : Arg) → k < 3 → (slice_index_or (args_of old) k d).id.now ≡ (slice_index_or (rules_of p) k (rule_of d)).id
   id_is k d lt = ap (λ (r : Rule). r.id) (at k d lt)
 
-  first_letter : (k : ℕ) (d : Arg) → k < 3 → (104 < slice_index (slice_index_or (args_of old) k d).id.now 0) × (slice_index (slice_index_or (args_of old) k d).id.now 0 < 118)
+  first_letter : (k : ℕ) (d : Arg) → k < 3 → (104 < slice_index (slice_index_or (args_of old) k d).id.now 0)
+      × (slice_index (slice_index_or (args_of old) k d).id.now 0 < 118)
   first_letter k d lt =
       subst (λ (t : Text). (104 < slice_index t 0) × (slice_index t 0 < 118)) (sym (id_is k d lt)) (letter p k (rule_of d) lt)
 
@@ -169,7 +173,8 @@ module _ (old : Command) (p : ValueParser) (is : app_of old ≡ command_with p) 
   pub required : (d : Arg) → (slice_index_or (args_of old) 0 d).required ≡ true
   required d = ap (λ (r : Rule). r.required) (at 0 d (omega arith))
 
-  pub wants_default : (k : ℕ) (d : Arg) → k < 3 → 0 < length (slice_index_or (rules_of p) k (rule_of d)).defaults → WantsDefault (slice_index_or (args_of old) k d)
+  pub wants_default : (k : ℕ) (d : Arg) → k < 3 → 0 < length (slice_index_or (rules_of p) k (rule_of d)).defaults
+      → WantsDefault (slice_index_or (args_of old) k d)
   wants_default k d lt some =
       let count : length (texts (items_of (slice_index_or (args_of old) k d).default_vals)) ≡ length (slice_index_or (rules_of p) k (rule_of d)).defaults =
       ap (λ (r : Rule). length r.defaults) (at k d lt) in (

@@ -19,7 +19,8 @@ use Rattle.pale_top.specs.Words.{Gives, IsRefused}
 use Rattle.pale_top.proofs.WrittenLemmas.{Wrote-weaker, WroteAtMost-weaker}
 use Rattle.pale_top.specs.Formatting.{Formats}
 use Rattle.pale_top.specs.Formatting as formatting
-use Rattle.pale_top.specs.Output.{Answers, Begins, CallOutput, Checks, too_long, not_yet, report, EndsBy, IsAnswer, IsCutShort, Output, check, format, given, Reports, Wrote, WroteAtMost, status_of}
+use Rattle.pale_top.specs.Output.{Answers, Begins, CallOutput, Checks, too_long, not_yet, report, EndsBy, IsAnswer, IsCutShort, Output, check, format}
+use Rattle.pale_top.specs.Output.{given, Reports, Wrote, WroteAtMost, status_of}
 use Rattle.pale_top.specs.Report.{too_long_line}
 use Rattle.pale_top.specs.Texts.{most_bytes}
 
@@ -101,19 +102,22 @@ module _ (settings : Settings) (text : List ℕ) (before after : Option (List �
 
   -- where the writing was cut short, what was written begins an output
   pub text_begun : (left : Option (List ℕ)) (outcome : Result Status WriteStop) (status : Status) → IfSome left (λ bytes. text ≡ bytes) → EndsBy outcome status
-      → IfOk outcome (Wrote (Output settings text) before after) → OnErr outcome (WroteAtMost (Output settings text) before after) → IsCutShort status → Begins (Output settings) left before after
+      → IfOk outcome (Wrote (Output settings text) before after) → OnErr outcome (WroteAtMost (Output settings text) before after) → IsCutShort status
+          → Begins (Output settings) left before after
   text_begun left (Ok answer) status told ends wrote begun cut = absurd (given_whole status (wrote_given answer status ends wrote) cut)
   text_begun left (Err Failed) status told ends wrote begun cut = record { text = text; told = told; wrote = begun }
   text_begun left (Err NoMemory) status told ends wrote begun cut = record { text = text; told = told; wrote = begun }
 
   -- it doesn't end as at a fault of the source
-  pub no_read_fault : (outcome : Result Status WriteStop) (status : Status) → EndsBy outcome status → IfOk outcome (Wrote (Output settings text) before after) → status ≡ ReadFault → ⊥
+  pub no_read_fault : (outcome : Result Status WriteStop) (status : Status) → EndsBy outcome status
+      → IfOk outcome (Wrote (Output settings text) before after) → status ≡ ReadFault → ⊥
   no_read_fault (Ok answer) status ends wrote is = subst IsGiven is (wrote_given answer status ends wrote)
   no_read_fault (Err Failed) status ends wrote is = subst IsCutShort (sym ends ∙ is) tt
   no_read_fault (Err NoMemory) status ends wrote is = subst IsCutShort (sym ends ∙ is) tt
 
   -- and as at a fault of the sink only where the sink failed
-  pub write_failed : (outcome : Result Status WriteStop) (status : Status) → EndsBy outcome status → IfOk outcome (Wrote (Output settings text) before after) → status ≡ WriteFault
+  pub write_failed : (outcome : Result Status WriteStop) (status : Status) → EndsBy outcome status
+      → IfOk outcome (Wrote (Output settings text) before after) → status ≡ WriteFault
       → IsErrOf outcome Failed
   write_failed (Ok answer) status ends wrote is = absurd (subst IsGiven is (wrote_given answer status ends wrote))
   write_failed (Err Failed) status ends wrote is = refl
@@ -144,7 +148,8 @@ module _ (Allowed : List ℕ → List ℕ → Status → Type 0) (left before af
   line_answers (Err NoMemory) status ends said is = absurd (subst IsAnswer ends is)
 
   pub line_begins : (outcome : Result Status WriteStop) (status : Status) → EndsBy outcome status → (IsCutShort answer → ⊥)
-      → IfOk outcome (λ s. (s ≡ answer) × WritesAll before after line) → OnErr outcome (WritesFront before after line) → IsCutShort status → Begins Allowed left before after
+      → IfOk outcome (λ s. (s ≡ answer) × WritesAll before after line) → OnErr outcome (WritesFront before after line) → IsCutShort status
+          → Begins Allowed left before after
   line_begins (Ok s) status ends whole said begun cut = absurd (whole (subst IsCutShort (ends ∙ said.0) cut))
   line_begins (Err Failed) status ends whole said begun cut =
       record { text = text; told = told; wrote = inr (record { output = line; status = answer; allowed = allowed; written = begun }) }
@@ -169,7 +174,8 @@ module _ (words : List (List ℕ)) (settings : Settings) (gives : Gives words se
   }
 
 -- no mode has an output with the status of the limit
-pub not_limit : (settings : Settings) (left before after : Option (List ℕ)) (status : Status) → (IsAnswer status → Answers (Output settings) left before after status) → status ≡ Limit → ⊥
+pub not_limit : (settings : Settings) (left before after : Option (List ℕ)) (status : Status)
+    → (IsAnswer status → Answers (Output settings) left before after status) → status ≡ Limit → ⊥
 not_limit settings left before after status answers is =
     let answer = answers (subst IsAnswer (sym is) tt) in
     subst IsGiven is (output_given settings answer.text answer.wrote.output status answer.wrote.allowed)

@@ -9,7 +9,9 @@ use Rattle.clap.specs.ValueTests.{accepts}
 use Rattle.clap.specs.Kinds.{Kinds, or_else, range_kinds, value_kinds, values_kinds}
 use Rattle.std.specs.Prelude.{◌==◌, if◌then◌else◌, fold}
 use Rattle.clap.specs.declared.builder.action.ArgAction.TheVariants.{Set}
-use Rattle.clap.specs.Walk.{used_as, used_by_id, idle, is_multiple, is_pending, next_position, positional, positional_held, pushed, takes_several, with_default, Held, Row, Rule, Text, Walk, arg_by_id, arg_by_index, finished, nothing_held, option_word, settled, settled_rows, to_positional, walk}
+use Rattle.clap.specs.Walk.{used_as, used_by_id, idle, is_multiple, is_pending, next_position, positional, positional_held, pushed, takes_several}
+use Rattle.clap.specs.Walk.{with_default, Held, Row, Rule, Text, Walk, arg_by_id, arg_by_index, finished, nothing_held, option_word, settled}
+use Rattle.clap.specs.Walk.{settled_rows, to_positional, walk}
 use Rattle.clap.specs.Simple.{App, Shape, built, is_simple}
 use Rattle.clap.specs.Faults.{is_simple_and_free, repeat_fault, defaults_fault, fault_of, positional_fault, settle_fault, use_fault}
 use Rattle.clap.specs.Simple.{matches_of}
@@ -59,7 +61,8 @@ module _ (p q : ValueParser) (same : TakesAlike p q) where
   uses_same [] rows = λ i. used_as Set (codes "mode") (same.reading i) [] rows
   uses_same (v ∷ vs) rows = λ i. used_as Set (codes "mode") (same.reading i) (v ∷ vs) rows
 
-  settled_rows_same : (pending : Option (Text × List Text)) (rows : List Row) → settled_rows (rules_with p) pending rows ≡ settled_rows (rules_with q) pending rows
+  settled_rows_same : (pending : Option (Text × List Text)) (rows : List Row)
+      → settled_rows (rules_with p) pending rows ≡ settled_rows (rules_with q) pending rows
   settled_rows_same None rows = refl
   settled_rows_same (Some x) rows = at_id (λ o. used_by_id o x.1 rows) x.0 (uses_same x.1 rows)
 
@@ -91,7 +94,8 @@ module _ (p q : ValueParser) (same : TakesAlike p q) where
   use_fault_same : (again : Bool) (values : List Text) (rows : List Row)
       → option_map_or (λ a. use_fault again a values rows) (mode_of p) [] ≡ option_map_or (λ a. use_fault again a values rows) (mode_of q) []
   use_fault_same again [] rows = refl
-  use_fault_same again (v ∷ vs) rows = λ i. or_else (range_kinds 1 1 (length (v ∷ vs))) (or_else (repeat_fault again (codes "mode") rows) (values_kinds_same (v ∷ vs) i))
+  use_fault_same again (v ∷ vs) rows = λ i. or_else (range_kinds 1 1 (length (v ∷ vs)))
+      (or_else (repeat_fault again (codes "mode") rows) (values_kinds_same (v ∷ vs) i))
 
   settle_fault_same : (again : Bool) (h : Held) → settle_fault (rules_with p) again h ≡ settle_fault (rules_with q) again h
   settle_fault_same again h = go h.pending

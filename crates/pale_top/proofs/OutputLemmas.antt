@@ -61,26 +61,30 @@ pub record Laws : Type 0 where
   pub tokens : (text : List ℕ) (one other : TokenList) → IsLexed text one → IsLexed text other → one ≡ other
   pub stray : (text : List ℕ) (one other : Pos) → IsStrayAt text one → IsStrayAt text other → one ≡ other
   pub apart : (text : List ℕ) (list : TokenList) (place : Pos) → IsLexed text list → IsStrayAt text place → ⊥
-  pub tree : (tokens : List Token) (one other : List (Step Act)) (tree another : Program) → IsProgram tokens one tree → IsProgram tokens other another → tree ≡ another
+  pub tree : (tokens : List Token) (one other : List (Step Act)) (tree another : Program) → IsProgram tokens one tree → IsProgram tokens other another
+      → tree ≡ another
 
 module _ (laws : Laws) where
   one_stray : (text : List ℕ) (r s : Refusal) → IsLexStop text (Refused r) → IsLexStop text (Refused s) → refused_line r ≡ refused_line s
   one_stray text r s one other =
       ap refused_line (same_refusal r s (laws.stray text (place_of r) (place_of s) one.1 other.1) (one.0 ∙ sym other.0))
 
-  one_unparsed : (text : List ℕ) (list found : TokenList) (r s : Refusal) → IsLexed text list → IsLexed text found → IsParseStop list (Refused r) → IsParseStop found (Refused s)
+  one_unparsed : (text : List ℕ) (list found : TokenList) (r s : Refusal) → IsLexed text list → IsLexed text found → IsParseStop list (Refused r)
+      → IsParseStop found (Refused s)
       → refused_line r ≡ refused_line s
   one_unparsed text list found r s lexed again one other =
       let here = subst (λ (l : TokenList). IsParseStop l (Refused s)) (laws.tokens text found list again lexed) other in
       ap refused_line (one_refused program_rows max_levels (kinds_in list.tokens) list r s one here)
 
-  one_program : (text : List ℕ) (list found : TokenList) (tree another : Program) → IsLexed text list → IsLexed text found → IsParsedAs list.tokens tree → IsParsedAs found.tokens another
+  one_program : (text : List ℕ) (list found : TokenList) (tree another : Program) → IsLexed text list → IsLexed text found → IsParsedAs list.tokens tree
+      → IsParsedAs found.tokens another
       → spelling tree ≡ spelling another
   one_program text list found tree another lexed again one other =
       let here = subst (λ (l : TokenList). IsParsedAs l.tokens another) (laws.tokens text found list again lexed) other in
       ap spelling (laws.tree list.tokens one.steps here.steps tree another one.sentence here.sentence)
 
-  parsed_or_refused : (text : List ℕ) (list found : TokenList) (tree : Program) (r : Refusal) → IsLexed text list → IsLexed text found → IsParsedAs list.tokens tree
+  parsed_or_refused : (text : List ℕ) (list found : TokenList) (tree : Program) (r : Refusal) → IsLexed text list → IsLexed text found
+      → IsParsedAs list.tokens tree
       → IsParseStop found (Refused r) → ⊥
   parsed_or_refused text list found tree r lexed again parsed stop =
       none_refused list tree r parsed (subst (λ (l : TokenList). IsParseStop l (Refused r)) (laws.tokens text found list again lexed) stop)
@@ -96,9 +100,13 @@ module _ (laws : Laws) where
   one_output text one other s t (stray r within stop) (program list tree inside lexed parsed) = absurd (laws.apart text list (place_of r) lexed stop.1)
   one_output text one other s t (unparsed list r within lexed stop) (too_long more) = absurd (omega arith)
   one_output text one other s t (unparsed list r within lexed stop) (stray q inside again) = absurd (laws.apart text list (place_of q) lexed again.1)
-  one_output text one other s t (unparsed list r within lexed stop) (unparsed found q inside read again) = (one_unparsed text list found r q lexed read stop again, refl)
-  one_output text one other s t (unparsed list r within lexed stop) (program found tree inside read parsed) = absurd (parsed_or_refused text found list tree r read lexed parsed stop)
+  one_output text one other s t (unparsed list r within lexed stop) (unparsed found q inside read again) =
+      (one_unparsed text list found r q lexed read stop again, refl)
+  one_output text one other s t (unparsed list r within lexed stop) (program found tree inside read parsed) =
+      absurd (parsed_or_refused text found list tree r read lexed parsed stop)
   one_output text one other s t (program list tree within lexed parsed) (too_long more) = absurd (omega arith)
   one_output text one other s t (program list tree within lexed parsed) (stray q inside again) = absurd (laws.apart text list (place_of q) lexed again.1)
-  one_output text one other s t (program list tree within lexed parsed) (unparsed found q inside read again) = absurd (parsed_or_refused text list found tree q lexed read parsed again)
-  one_output text one other s t (program list tree within lexed parsed) (program found another inside read again) = (one_program text list found tree another lexed read parsed again, refl)
+  one_output text one other s t (program list tree within lexed parsed) (unparsed found q inside read again) =
+      absurd (parsed_or_refused text list found tree q lexed read parsed again)
+  one_output text one other s t (program list tree within lexed parsed) (program found another inside read again) =
+      (one_program text list found tree another lexed read parsed again, refl)

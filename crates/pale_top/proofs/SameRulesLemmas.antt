@@ -4,9 +4,15 @@ use Rattle.std.specs.Prelude.{encode_utf8, slice_get, fold}
 use Rattle.std.specs.Option.{option_map_or}
 use Rattle.std.specs.Str.{bytes_eq, chars}
 use Rattle.clap.specs.Lexer.{long_of, short_of}
-use Rattle.clap.specs.Walk.{Held, Names, Outcome, done, waits, plain, refused, Row, Rule, Step, next, trailing, subcommand, value, Text, Waiting, idle, option, positional, Walk, after_flag, after_step, arg_by_id, arg_by_index, arg_by_long, arg_by_short, attached_value, bundle_met, bundle_step, finished, flag_met, long_met, long_or_other, long_word, option_met, option_word, plain_word, reacted, settled, short_met, short_or_plain, subcommand_met, subcommand_or_other, takes_values, to_positional, used, walk, walk_from, walked, walked_from, word_met}
+use Rattle.clap.specs.Walk.{Held, Names, Outcome, done, waits, plain, refused, Row, Rule, Step, next, trailing, subcommand, value, Text, Waiting}
+use Rattle.clap.specs.Walk.{idle, option, positional, Walk, after_flag, after_step, arg_by_id, arg_by_index, arg_by_long, arg_by_short}
+use Rattle.clap.specs.Walk.{attached_value, bundle_met, bundle_step, finished, flag_met, long_met, long_or_other, long_word, option_met, option_word}
+use Rattle.clap.specs.Walk.{plain_word, reacted, settled, short_met, short_or_plain, subcommand_met, subcommand_or_other, takes_values, to_positional}
+use Rattle.clap.specs.Walk.{used, walk, walk_from, walked, walked_from, word_met}
 use Rattle.clap.specs.Kinds.{Kinds, or_else}
-use Rattle.clap.specs.Faults.{bundle_fault, bundle_step_fault, check_fault, defaults_fault, level_fault, flag_word_fault, flags_fault, long_fault, option_fault, other_fault, positional_fault, react_fault, settle_fault, short_fault, step_fault, stray_fault, turn_fault, use_fault, walk_fault}
+use Rattle.clap.specs.Faults.{bundle_fault, bundle_step_fault, check_fault, defaults_fault, level_fault, flag_word_fault, flags_fault, long_fault}
+use Rattle.clap.specs.Faults.{option_fault, other_fault, positional_fault, react_fault, settle_fault, short_fault, step_fault, stray_fault}
+use Rattle.clap.specs.Faults.{turn_fault, use_fault, walk_fault}
 use Rattle.clap.specs.Simple.{Shape}
 use Rattle.clap.specs.declared.error.kind.ErrorKind.TheVariants as kind
 
@@ -34,7 +40,8 @@ module _ (c d : List Rule) (same : ReadsAlike c d) where
   long_met_same None v h = refl
   long_met_same (Some a) v h = ap₂ (cond (takes_values a)) (option_met_same a v h) (flag_met_same a v h)
 
-  short_met_same : (o : Option Rule) (rest : Text) (h : Held) (f g : Held → Held × Outcome) → ((k : Held) → f k ≡ g k) → short_met c o rest h f ≡ short_met d o rest h g
+  short_met_same : (o : Option Rule) (rest : Text) (h : Held) (f g : Held → Held × Outcome) → ((k : Held) → f k ≡ g k)
+      → short_met c o rest h f ≡ short_met d o rest h g
   short_met_same None rest h f g eq = refl
   short_met_same (Some a) rest h f g eq =
       ap₂ (cond (takes_values a)) (option_met_same a (attached_value rest) h) (eq (reacted c a [] h) ∙ ap g (reacted_same a [] h))
@@ -50,7 +57,8 @@ module _ (c d : List Rule) (same : ReadsAlike c d) where
   bundle_met_same : (k : ℕ) (flags : Text) (skip : ℕ) (so_far : Outcome) (h : Held) → bundle_met c k flags skip so_far h ≡ bundle_met d k flags skip so_far h
   unfolding bundle_met
   bundle_met_same zero flags skip so_far h = refl
-  bundle_met_same (suc k) flags skip so_far h = bundle_step_same (slice_get (chars flags) 0) flags skip so_far h (bundle_met c k) (bundle_met d k) (bundle_met_same k)
+  bundle_met_same (suc k) flags skip so_far h = bundle_step_same (slice_get (chars flags) 0) flags skip so_far h (bundle_met c k) (bundle_met d k)
+      (bundle_met_same k)
 
   plain_word_same : (waiting : Waiting) (word : Text) (h : Held) → plain_word c waiting word h ≡ plain_word d waiting word h
   plain_word_same idle word h = refl
@@ -69,14 +77,16 @@ module _ (c d : List Rule) (same : ReadsAlike c d) where
       let end = long_met d (arg_by_long d name) v h in
       ap (λ (p : Held × Outcome). after_flag c waiting word p.0 p.1) met ∙ after_flag_same waiting word end.0 end.1
 
-  short_or_plain_same : (waiting : Waiting) (word : Text) (flags : Option Text) (h : Held) → short_or_plain c waiting word flags h ≡ short_or_plain d waiting word flags h
+  short_or_plain_same : (waiting : Waiting) (word : Text) (flags : Option Text) (h : Held)
+      → short_or_plain c waiting word flags h ≡ short_or_plain d waiting word flags h
   short_or_plain_same waiting word (Some flags) h =
       let met = bundle_met_same (length flags) flags h.skip plain (record h { skip = 0 }) in
       let end = bundle_met d (length flags) flags h.skip plain (record h { skip = 0 }) in
       ap (λ (p : Held × Outcome). after_flag c waiting word p.0 p.1) met ∙ after_flag_same waiting word end.0 end.1
   short_or_plain_same waiting word None h = plain_word_same waiting word h
 
-  long_or_other_same : (waiting : Waiting) (word : Text) (p : Option (Text × Option Text)) (h : Held) → long_or_other c waiting word p h ≡ long_or_other d waiting word p h
+  long_or_other_same : (waiting : Waiting) (word : Text) (p : Option (Text × Option Text)) (h : Held)
+      → long_or_other c waiting word p h ≡ long_or_other d waiting word p h
   long_or_other_same waiting word (Some p) h = long_word_same waiting word p.0 p.1 h
   long_or_other_same waiting word None h = short_or_plain_same waiting word (short_of word) h
 
@@ -96,11 +106,13 @@ module _ (c d : List Rule) (same : ReadsAlike c d) where
   after_step_same word w h (subcommand name) = refl
   after_step_same word w h value = same.positional w.position word w h
 
-  walked_from_same : (names : Names) (stop : Option (Text × List Text)) (w : Walk) (word : Text) → walked_from c names stop w word ≡ walked_from d names stop w word
+  walked_from_same : (names : Names) (stop : Option (Text × List Text)) (w : Walk) (word : Text)
+      → walked_from c names stop w word ≡ walked_from d names stop w word
   walked_from_same names (Some p) w word = refl
   walked_from_same names None w word =
       let end = word_met d names w.is_trailing w.waiting w.position word w.held in
-      ap (λ (p : Held × Step). after_step c word w p.0 p.1) (word_met_same names w.is_trailing w.waiting w.position word w.held) ∙ after_step_same word w end.0 end.1
+      ap (λ (p : Held × Step). after_step c word w p.0 p.1) (word_met_same names w.is_trailing w.waiting w.position word w.held)
+          ∙ after_step_same word w end.0 end.1
 
   pub walked_same : (names : Names) (w : Walk) (word : Text) → walked c names w word ≡ walked d names w word
   unfolding walked
@@ -133,7 +145,8 @@ module _ (c d : List Rule) (same : FaultsAlike c d) (again : Bool) where
   long_fault_same (Some a) v h =
       ap₂ (cond (takes_values a)) (option_fault_same a v h) (ap (cond (is_some v) (kind.TooManyValues ∷ [])) (react_fault_same a [] h))
 
-  short_fault_same : (o : Option Rule) (rest : Text) (h : Held) (f g : Held → Kinds) → ((k : Held) → f k ≡ g k) → short_fault c again o rest h f ≡ short_fault d again o rest h g
+  short_fault_same : (o : Option Rule) (rest : Text) (h : Held) (f g : Held → Kinds) → ((k : Held) → f k ≡ g k)
+      → short_fault c again o rest h f ≡ short_fault d again o rest h g
   short_fault_same None rest h f g eq = refl
   short_fault_same (Some a) rest h f g eq =
       ap₂ (cond (takes_values a)) (option_fault_same a (attached_value rest) h)
@@ -150,7 +163,8 @@ module _ (c d : List Rule) (same : FaultsAlike c d) (again : Bool) where
   flags_fault_same : (k : ℕ) (flags : Text) (skip : ℕ) (h : Held) → flags_fault c again k flags skip h ≡ flags_fault d again k flags skip h
   unfolding flags_fault
   flags_fault_same zero flags skip h = refl
-  flags_fault_same (suc k) flags skip h = bundle_step_fault_same (slice_get (chars flags) 0) flags skip h (flags_fault c again k) (flags_fault d again k) (flags_fault_same k)
+  flags_fault_same (suc k) flags skip h = bundle_step_fault_same (slice_get (chars flags) 0) flags skip h (flags_fault c again k)
+      (flags_fault d again k) (flags_fault_same k)
 
   flag_word_fault_same : (p : Option (Text × Option Text)) (word : Text) (h : Held) → flag_word_fault c again p word h ≡ flag_word_fault d again p word h
   flag_word_fault_same (Some p) word h = ap (λ (o : Option Rule). long_fault c again o p.1 h) (same.reads.long p.0) ∙ long_fault_same (arg_by_long d p.0) p.1 h
@@ -179,7 +193,8 @@ module _ (s : Shape) (c d : List Rule) (same : FaultsAlike c d) where
   turn_fault_same names w word =
       let of_word = ap (cond w.is_trailing []) (other_fault_same (subcommand_met names w.waiting word) word w.held) in
       let end = word_met d names w.is_trailing w.waiting w.position word w.held in
-      let of_step = ap (λ (p : Held × Step). step_fault (with_rules s c) w.position p.0 p.1) (word_met_same c d same.reads names w.is_trailing w.waiting w.position word w.held)
+      let of_step = ap (λ (p : Held × Step). step_fault (with_rules s c) w.position p.0 p.1)
+          (word_met_same c d same.reads names w.is_trailing w.waiting w.position word w.held)
       ∙ step_fault_same w.position end.0 end.1 in
       ap (cond (is_some w.stopped) []) (ap₂ or_else of_word of_step)
 
@@ -188,7 +203,8 @@ module _ (s : Shape) (c d : List Rule) (same : FaultsAlike c d) where
   walk_fault_same names w [] = refl
   walk_fault_same names w (word ∷ rest) =
       ap₂ or_else (turn_fault_same names w word)
-      (ap (λ (x : Walk). walk_fault (with_rules s c) names x rest) (walked_same c d same.reads names w word) ∙ walk_fault_same names (walked d names w word) rest)
+      (ap (λ (x : Walk). walk_fault (with_rules s c) names x rest) (walked_same c d same.reads names w word) ∙ walk_fault_same names
+          (walked d names w word) rest)
 
   pub level_fault_same : ((rows : List Row) → defaults_fault rows c ≡ defaults_fault rows d) → ((h : Held) → finished c h ≡ finished d h)
       → ((rows : List Row) → check_fault (with_rules s c) rows false ≡ check_fault (with_rules s d) rows false)
@@ -202,4 +218,5 @@ module _ (s : Shape) (c d : List Rule) (same : FaultsAlike c d) where
       (ap (λ (k : Held). after_walk (with_rules s c) k) held ∙ after (walk d [] h words).held)
     where
       after_walk : Shape → Held → Kinds
-      after_walk t k = or_else (settle_fault t.rules t.args_override_self k) (or_else (defaults_fault (settled t.rules k).rows t.rules) (check_fault t (finished t.rules k) false))
+      after_walk t k = or_else (settle_fault t.rules t.args_override_self k)
+          (or_else (defaults_fault (settled t.rules k).rows t.rules) (check_fault t (finished t.rules k) false))

@@ -1,5 +1,6 @@
 -- What the matches of a command hold for an argument that takes one value.
-use Rattle.std.proofs.Common.{◌≡◌, ◌∙◌, ◌<◌, ◌≤◌, ℕ, Bool, List, [], ◌∷◌, length, ap, refl, sym, subst, arith, Option, Some, None, is_some, true, false, inl, inr, option_map}
+use Rattle.std.proofs.Common.{◌≡◌, ◌∙◌, ◌<◌, ◌≤◌, ℕ, Bool, List, [], ◌∷◌, length, ap, refl, sym, subst, arith, Option, Some, None, is_some, true}
+use Rattle.std.proofs.Common.{false, inl, inr, option_map}
 use Rattle.std.specs.Prelude.{option_and_then, slice_get, unwrap_or}
 use Rattle.std.specs.List.{All, slice_index_or}
 use Rattle.std.specs.Str.{bytes_eq}
@@ -75,7 +76,8 @@ module _ (old : Command) (m : ArgMatches) (p : IsParsedFrom old m) (plain : IsPl
         ]
   ]
 
-  entry_values : (e : Entry) → e.0.now ≡ (slice_index_or (args_of old) k d).id.now → EntryPasses p.built e → All (λ v. PassesArg p.built e.0.now v.now) e.1.vals.items
+  entry_values : (e : Entry) → e.0.now ≡ (slice_index_or (args_of old) k d).id.now → EntryPasses p.built e
+      → All (λ v. PassesArg p.built e.0.now v.now) e.1.vals.items
   entry_values e key passes = elim passes.0 [ inl group ↦ absurd (alone e key passes group) | inr all ↦ all ]
 
   entry_reading : (e : Entry) → e.0.now ≡ (slice_index_or (args_of old) k d).id.now → EntryPasses p.built e → e.1.reading ≡ reading_of q
@@ -123,4 +125,5 @@ module _ (old : Command) (m : ArgMatches) (p : IsParsedFrom old m) (plain : IsPl
       go (Some x) is some =
           let parsed = p.parsed (p.from.globals ∙ globals) in
           let got = entry_by_id (EntryPasses p.built) (found_of m).entries.items (slice_index_or (args_of old) k d).id.now x parsed.values is in
-          entry_value got.0 (is ∙ ap (λ (y : MatchedArg). Some y) (sym got.1)) ((bytes_eq-Decides got.0.0.now (slice_index_or (args_of old) k d).id.now).0 got.2) got.3
+          entry_value got.0 (is ∙ ap (λ (y : MatchedArg). Some y) (sym got.1))
+              ((bytes_eq-Decides got.0.0.now (slice_index_or (args_of old) k d).id.now).0 got.2) got.3

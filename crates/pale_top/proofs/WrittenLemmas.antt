@@ -1,5 +1,6 @@
 -- What two writes leave, one after the other.
-use Rattle.std.proofs.Common.{◌≡◌, ◌∙◌, ◌+◌, ◌<◌, ◌≤◌, ℕ, List, ◌++◌, length, take, refl, ap, sym, arith, Option, Some, None, append_assoc, length-append, Result, Ok, Err, inl, inr}
+use Rattle.std.proofs.Common.{◌≡◌, ◌∙◌, ◌+◌, ◌<◌, ◌≤◌, ℕ, List, ◌++◌, length, take, refl, ap, sym, arith, Option, Some, None, append_assoc}
+use Rattle.std.proofs.Common.{length-append, Result, Ok, Err, inl, inr}
 use Rattle.std.specs.Prelude.{IfOk, OnErr}
 use Rattle.std.proofs.lemmas.List.{take-append-le}
 use Rattle.std.proofs.Math.Seq.{take-append_seam, take-append-add}
@@ -63,7 +64,8 @@ pub line_begun : (Allowed : List ℕ → Status → Type 0) (before after : Opti
     → Allowed line status → WritesFront before after line → WroteAtMost Allowed before after
 line_begun Allowed before after line status allowed written = inr (record { output = line; status = status; allowed = allowed; written = written })
 
-module _ (A B : List ℕ → Status → Type 0) (follows : (output : List ℕ) (status : Status) → A output status → B output status) (before after : Option (List ℕ)) where
+module _ (A B : List ℕ → Status → Type 0) (follows : (output : List ℕ) (status : Status) → A output status → B output status)
+    (before after : Option (List ℕ)) where
   pub Wrote-weaker : (status : Status) → Wrote A before after status → Wrote B before after status
   Wrote-weaker status wrote = record { output = wrote.output; allowed = follows wrote.output status wrote.allowed; written = wrote.written }
 

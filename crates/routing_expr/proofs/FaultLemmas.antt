@@ -19,7 +19,8 @@ use Rattle.routing_expr.specs.declared.fault.Place.{Place}
 use Rattle.routing_expr.specs.declared.fault.Place.TheVariants as place
 use Rattle.routing_expr.specs.Walks.{IsOfType}
 use Rattle.routing_expr.specs.Destinations.{EndsKind, IsOnlyDestination, IsPointer}
-use Rattle.routing_expr.specs.WellFormed.{NamesDead, HoldsDead, IsDanglingReference, IsDangling, IsShared, IsLeaked, IsWrongField, VarHoldsLive, FieldHoldsLive, SetHoldsLive, IsBackbone, IsWellFormed}
+use Rattle.routing_expr.specs.WellFormed.{NamesDead, HoldsDead, IsDanglingReference, IsDangling, IsShared, IsLeaked, IsWrongField, VarHoldsLive}
+use Rattle.routing_expr.specs.WellFormed.{FieldHoldsLive, SetHoldsLive, IsBackbone, IsWellFormed}
 use Rattle.routing_expr.specs.Reaching.{IsInSomeTree}
 use Rattle.routing_expr.specs.Judging.{IsRightField}
 use Rattle.routing_expr.proofs.FittingLemmas.{IfSome-from, IfSome-at, IsSomeAnd-at, var_at_value, slot_at_value}

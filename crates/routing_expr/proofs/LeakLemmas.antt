@@ -22,7 +22,8 @@ module _ (types : List TypeEntry) (vars : List VarEntry) (s : StoreMap) (roots :
 
   module _ (IsLeft : CellId → Type 0) (reached : (c : CellId) → IsLive s c → IsLeft c ⊎ IsReachedFrom types vars s roots c) where
     -- nothing is left
-    pub none_left : (found : Option CellId) → IfNone found ((c : CellId) → IsLeft c → ⊥) → IfNone found ((c : CellId) → IsLive s c → IsInSomeTree types vars s c)
+    pub none_left : (found : Option CellId) → IfNone found ((c : CellId) → IsLeft c → ⊥)
+        → IfNone found ((c : CellId) → IsLive s c → IsInSomeTree types vars s c)
     none_left None none = λ c live. elim (reached c live) [ inl l ↦ absurd (none c l) | inr r ↦ IsInSomeTree-reached c r ]
     none_left (Some c) none = tt
 

@@ -10,7 +10,8 @@ use Rattle.store_core.specs.Stores.{StoreMap, CellEntry, IsLive, cell_of, field_
 use Rattle.std.specs.Option.{option_and_then}
 use Rattle.routing_expr.specs.Walks.{Fields, Leads, IsParent, Stays, IsRoot, IsLeaf, IsOfType, IsOfVariant, HasTruth, Chain, stay, go, Walk}
 use Rattle.routing_expr.proofs.RouteLemmas.{IsHereditary, route-induction}
-use Rattle.routing_expr.proofs.WalkLemmas.{Walk-Down, Walk-Up, Walk-UpAny, Walk-Root, Walk-Leaf, Walk-IsType, Walk-IsVariant, Walk-IsBool, Walk-Then, Walk-Or, Walk-Star}
+use Rattle.routing_expr.proofs.WalkLemmas.{Walk-Down, Walk-Up, Walk-UpAny, Walk-Root, Walk-Leaf, Walk-IsType, Walk-IsVariant, Walk-IsBool, Walk-Then}
+use Rattle.routing_expr.proofs.WalkLemmas.{Walk-Or, Walk-Star}
 
 and_then_some : (o : Option CellEntry) (g : CellEntry → Option Value) (x : Value) → option_and_then g o ≡ Some x → IsSome o
 and_then_some None g x e = cc

@@ -1,5 +1,6 @@
 -- A machine keeps its meaning while its parts are taken apart.
-use Rattle.std.proofs.Common.{◌≡◌, ◌⊎◌, inl, inr, ◌↔◌, ◌<◌, ◌≤◌, ◌+◌, ◌++◌, ◌∷◌, [], ℕ, List, map, Result, Ok, Err, OnOk, refl, sym, ap, ◌∙◌, subst, arith, Contains}
+use Rattle.std.proofs.Common.{◌≡◌, ◌⊎◌, inl, inr, ◌↔◌, ◌<◌, ◌≤◌, ◌+◌, ◌++◌, ◌∷◌, [], ℕ, List, map, Result, Ok, Err, OnOk, refl, sym, ap, ◌∙◌, subst}
+use Rattle.std.proofs.Common.{arith, Contains}
 use Rattle.std.specs.List.Sorted.{IsPermutation}
 use Rattle.std.proofs.lemmas.List.{map_push}
 use Rattle.std.proofs.lemmas.List.Elements.{Contains-append_cases, Contains-append_left}
@@ -16,7 +17,8 @@ use Rattle.routing_expr.specs.Machines.{live, along, Arc, arc, arc_of, part_of, 
 use Rattle.routing_expr.specs.Gathering.{Gathers, HasAll}
 use Rattle.routing_expr.proofs.WalkLemmas.{Walk-Then, Walk-Or, Walk-Star}
 use Rattle.routing_expr.proofs.LiveLemmas.{Walk-live, Chain-live}
-use Rattle.routing_expr.proofs.GatheringLemmas.{Contains-none, Contains-map, map-Contains, Gathers-both, Gathers-first, Gathers-last, Contains-one, Contains-here, Contains-there, Contains-cases}
+use Rattle.routing_expr.proofs.GatheringLemmas.{Contains-none, Contains-map, map-Contains, Gathers-both, Gathers-first, Gathers-last, Contains-one}
+use Rattle.routing_expr.proofs.GatheringLemmas.{Contains-here, Contains-there, Contains-cases}
 
 apart : (m n : ℕ) → m < n → m ≡ n → ⊥
 apart m n below same = absurd (omega arith)

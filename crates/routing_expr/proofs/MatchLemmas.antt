@@ -10,9 +10,11 @@ use Rattle.store_core.specs.declared.kind.Route.{Route}
 use Rattle.store_core.specs.declared.value.Value.TheVariants as value
 use Rattle.store_core.specs.Tables.{TypeEntry, FieldEntry, field_at}
 use Rattle.store_core.specs.Stores.{StoreMap, CellEntry, IsLive, cell_of, field_value}
-use Rattle.routing_expr.specs.Walks.{Fields, DataAlone, IsFollowed, Leads, IsParent, Stays, IsRoot, IsLeaf, IsOfType, IsOfVariant, HasTruth, Chain, stay, go, Walk}
+use Rattle.routing_expr.specs.Walks.{Fields, DataAlone, IsFollowed, Leads, IsParent, Stays, IsRoot, IsLeaf, IsOfType, IsOfVariant, HasTruth, Chain}
+use Rattle.routing_expr.specs.Walks.{stay, go, Walk}
 use Rattle.routing_expr.proofs.RouteLemmas.{IsHereditary, route-induction}
-use Rattle.routing_expr.proofs.WalkLemmas.{Walk-Down, Walk-Up, Walk-UpAny, Walk-Root, Walk-Leaf, Walk-IsType, Walk-IsVariant, Walk-IsBool, Walk-Then, Walk-Or, Walk-Star}
+use Rattle.routing_expr.proofs.WalkLemmas.{Walk-Down, Walk-Up, Walk-UpAny, Walk-Root, Walk-Leaf, Walk-IsType, Walk-IsVariant, Walk-IsBool, Walk-Then}
+use Rattle.routing_expr.proofs.WalkLemmas.{Walk-Or, Walk-Star}
 
 -- cells of s are matched one to one with cells of t of the same variant and truth values, and a followed field leads to or
 -- from a cell where it does to or from its match
@@ -47,7 +49,8 @@ followed_too fields field.Bool h = absurd h
 followed_too fields (field.Data target) h = tt
 followed_too fields (field.Pointer target along) h = absurd h
 
-kind_too : (fields : Fields) (o : Option FieldEntry) → IsSomeAnd o (λ entry. IsFollowed DataAlone entry.kind) → IsSomeAnd o (λ entry. IsFollowed fields entry.kind)
+kind_too : (fields : Fields) (o : Option FieldEntry) → IsSomeAnd o (λ entry. IsFollowed DataAlone entry.kind)
+    → IsSomeAnd o (λ entry. IsFollowed fields entry.kind)
 kind_too fields None h = absurd h
 kind_too fields (Some entry) h = followed_too fields entry.kind h
 

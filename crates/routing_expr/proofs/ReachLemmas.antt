@@ -1,5 +1,6 @@
 -- What a search from data variables along the data fields has reached.
-use Rattle.std.proofs.Common.{◌≡◌, ◌⊎◌, ◌↔◌, ℕ, zero, suc, ◌+◌, ◌<◌, ◌≤◌, List, [], ◌∷◌, ◌++◌, length, slice_get, Some, IsSomeAnd, refl, sym, ap, ◌∙◌, subst, arith, inl, inr}
+use Rattle.std.proofs.Common.{◌≡◌, ◌⊎◌, ◌↔◌, ℕ, zero, suc, ◌+◌, ◌<◌, ◌≤◌, List, [], ◌∷◌, ◌++◌, length, slice_get, Some, IsSomeAnd, refl, sym, ap, ◌∙◌}
+use Rattle.std.proofs.Common.{subst, arith, inl, inr}
 use Rattle.std.specs.Prelude.{option_map, Contains}
 use Rattle.std.specs.List.{AllByRecursion}
 use Rattle.std.specs.FinMap.{keys}
@@ -270,7 +271,8 @@ module _ (types : List TypeEntry) (vars : List VarEntry) (s : StoreMap) (roots :
       ]
 
   -- nothing waits any more
-  pub reach_done : (reach : Reach) → IsReach types vars s roots reach → reach.waiting.items ≡ [] → (c : CellId) → Has reach.left c → IsUnreached types vars s roots c
+  pub reach_done : (reach : Reach) → IsReach types vars s roots reach → reach.waiting.items ≡ [] → (c : CellId) → Has reach.left c
+      → IsUnreached types vars s roots c
   reach_done reach is none c l = record {
     live = is.live c l;
     unreached = λ r. reached_along reach is none r.in_tree.path

@@ -1,11 +1,13 @@
 -- The cells that are kept of a store are the store on the set.
-use Rattle.std.proofs.Common.{◌≡◌, ◌⊎◌, ◌↔◌, ℕ, zero, suc, ◌+◌, ◌<◌, ◌≤◌, Bool, true, false, cond, T, ◌==◌, ◌||◌, map, List, [], ◌∷◌, length, slice_get, Option, Some, None, refl, sym, ap, ◌∙◌, subst, arith, inl, inr}
+use Rattle.std.proofs.Common.{◌≡◌, ◌⊎◌, ◌↔◌, ℕ, zero, suc, ◌+◌, ◌<◌, ◌≤◌, Bool, true, false, cond, T, ◌==◌, ◌||◌, map, List, [], ◌∷◌, length}
+use Rattle.std.proofs.Common.{slice_get, Option, Some, None, refl, sym, ap, ◌∙◌, subst, arith, inl, inr}
 use Rattle.std.specs.Prelude.{Contains}
 use Rattle.std.specs.List.{AllByRecursion, filter}
 use Rattle.std.specs.Ordering.{nat_cmp, eq_by_cmp}
 use Rattle.std.specs.BTreeSet.{BTreeSet, contains}
 use Rattle.std.specs.FinMap.Entries.{below_all}
-use Rattle.std.specs.FinMap.{entries, entries_sorted, from_sorted, retain_keys, find, is_sorted, get-from_sorted, get-retain_keys, get-entries, same_map, nat_cmp-IsAntisymmetric}
+use Rattle.std.specs.FinMap.{entries, entries_sorted, from_sorted, retain_keys, find, is_sorted, get-from_sorted, get-retain_keys, get-entries}
+use Rattle.std.specs.FinMap.{same_map, nat_cmp-IsAntisymmetric}
 use Rattle.std.proofs.lemmas.Bool.{cases_lt, cases_eq, or_cases, eq-eqb, eqb-true, false≢true}
 use Rattle.std.proofs.lemmas.Cmp.{nat_cmp_total}
 use Rattle.std.proofs.lemmas.Option.{same_Some, slice_get_within, slice_get-get_or, get_or_from_slice_get}
@@ -161,7 +163,8 @@ module _ (bodies : List CellBody) (s : StoreMap) (is : cells_of bodies ≡ entri
   below_next : IsAbove s → AllByRecursion (λ b. b.number < s.next) bodies
   below_next above = numbers bodies (subst (λ es. AllByRecursion (λ n. n < s.next) (map (λ (e : ℕ × CellEntry). e.0) es)) (sym is) above)
     where
-      numbers : (bodies : List CellBody) → AllByRecursion (λ n. n < s.next) (map (λ (e : ℕ × CellEntry). e.0) (cells_of bodies)) → AllByRecursion (λ b. b.number < s.next) bodies
+      numbers : (bodies : List CellBody) → AllByRecursion (λ n. n < s.next) (map (λ (e : ℕ × CellEntry). e.0) (cells_of bodies))
+          → AllByRecursion (λ b. b.number < s.next) bodies
       numbers [] all = tt
       numbers (b ∷ bodies) all = (all.0, numbers bodies all.1)
 

@@ -3,7 +3,9 @@ use Rattle.std.proofs.Common.{ℕ, Bool, List, sym, subst}
 use Rattle.store_core.specs.declared.ids.TypeId.{TypeId}
 use Rattle.store_core.specs.declared.ids.VariantId.{VariantId}
 use Rattle.store_core.specs.declared.kind.Route.{Route, roll-Route}
-use Rattle.store_core.specs.declared.kind.Route.TheVariants.{Down, Up, UpAny, Root, Leaf, IsType, IsVariant, IsBool, Then, Or, Star, rolls-Down, rolls-Up, rolls-UpAny, rolls-Root, rolls-Leaf, rolls-IsType, rolls-IsVariant, rolls-IsBool, rolls-Then, rolls-Or, rolls-Star}
+use Rattle.store_core.specs.declared.kind.Route.TheVariants.{Down, Up, UpAny, Root, Leaf, IsType, IsVariant, IsBool, Then, Or, Star, rolls-Down}
+use Rattle.store_core.specs.declared.kind.Route.TheVariants.{rolls-Up, rolls-UpAny, rolls-Root, rolls-Leaf, rolls-IsType, rolls-IsVariant}
+use Rattle.store_core.specs.declared.kind.Route.TheVariants.{rolls-IsBool, rolls-Then, rolls-Or, rolls-Star}
 use Rattle.store_core.specs.declared.kind.Route.TheOpen.{Route-F}
 use Rattle.store_core.specs.declared.kind.Route.TheFolds.{ind-Route, map-Route}
 

@@ -1,5 +1,7 @@
 -- A search finds what can be reached, each once, and lists it by number.
-use Rattle.std.proofs.Common.{◌≡◌, ◌↔◌, ◌⊎◌, inl, inr, ◌<◌, ◌≤◌, ◌+◌, ◌-◌, ◌&&◌, ◌++◌, ◌∷◌, [], ℕ, zero, suc, Bool, true, false, eqb, List, map, length, get_or, Option, Some, None, Result, Ok, Err, OnOk, if◌then◌else◌, refl, sym, ap, ◌∙◌, subst, arith, slice_get, eqb-true, Contains}
+use Rattle.std.proofs.Common.{◌≡◌, ◌↔◌, ◌⊎◌, inl, inr, ◌<◌, ◌≤◌, ◌+◌, ◌-◌, ◌&&◌, ◌++◌, ◌∷◌, [], ℕ, zero, suc, Bool, true, false, eqb, List, map}
+use Rattle.std.proofs.Common.{length, get_or, Option, Some, None, Result, Ok, Err, OnOk, if◌then◌else◌, refl, sym, ap, ◌∙◌, subst, arith, slice_get}
+use Rattle.std.proofs.Common.{eqb-true, Contains}
 use Rattle.std.specs.List.{list_any, AllByRecursion}
 use Rattle.std.specs.List.Sorted.{IsNonDecreasingBy, IsPermutation}
 use Rattle.std.proofs.lemmas.Bool.{false≢true}
@@ -22,7 +24,8 @@ use Rattle.routing_expr.specs.Gathering.{HasAll, Before, Grows}
 use Rattle.routing_expr.specs.Searches.{Lists, IsWanted}
 use Rattle.routing_expr.specs.Machines.{Arc, arc_of, label_of, Takes, Path, stop, go, Means}
 use Rattle.routing_expr.specs.Spots.{Follows, IsAtEnd}
-use Rattle.routing_expr.proofs.GatheringLemmas.{below_suc, Contains-at, place_in, Contains-one, Contains-here, Contains-there, Contains-map, map-Contains, Gathers-push}
+use Rattle.routing_expr.proofs.GatheringLemmas.{below_suc, Contains-at, place_in, Contains-one, Contains-here, Contains-there, Contains-map}
+use Rattle.routing_expr.proofs.GatheringLemmas.{map-Contains, Gathers-push}
 use Rattle.routing_expr.proofs.MachineLemmas.{Path-then}
 
 -- what is read past the end of a list of spots

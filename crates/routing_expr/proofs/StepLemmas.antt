@@ -1,5 +1,6 @@
 -- Where single steps lead, by names and by the index of links.
-use Rattle.std.proofs.Common.{◌≡◌, ◌↔◌, ◌<◌, ◌≤◌, ℕ, Bool, true, false, IsTrue, Result, Ok, Err, IfOk, List, [], ◌∷◌, ◌++◌, length, get_or, Option, Some, None, IsSomeAnd, refl, sym, ap, ◌∙◌, subst, arith, slice_get, Contains}
+use Rattle.std.proofs.Common.{◌≡◌, ◌↔◌, ◌<◌, ◌≤◌, ℕ, Bool, true, false, IsTrue, Result, Ok, Err, IfOk, List, [], ◌∷◌, ◌++◌, length, get_or, Option}
+use Rattle.std.proofs.Common.{Some, None, IsSomeAnd, refl, sym, ap, ◌∙◌, subst, arith, slice_get, Contains}
 use Rattle.std.specs.Option.{option_map, option_map_or}
 use Rattle.std.specs.Str.{bytes_eq}
 use Rattle.std.proofs.lemmas.Option.{slice_get_within, slice_get-get_or, slice_get-map, same_Some}
@@ -11,7 +12,8 @@ use Rattle.store_core.specs.declared.ids.FieldId.{FieldId}
 use Rattle.store_core.specs.declared.ids.CellId.{CellId}
 use Rattle.store_core.specs.declared.kind.FieldKind.{FieldKind}
 use Rattle.store_core.specs.declared.kind.FieldKind.TheVariants as field
-use Rattle.store_core.specs.Tables.{TypeEntry, FieldEntry, type_at, fields_of, field_at, field_names, field_named, place_of, AreDistinct, IsTypeTable, IsTypeEntry}
+use Rattle.store_core.specs.Tables.{TypeEntry, FieldEntry, type_at, fields_of, field_at, field_names, field_named, place_of, AreDistinct, IsTypeTable}
+use Rattle.store_core.specs.Tables.{IsTypeEntry}
 use Rattle.store_core.specs.Stores.{StoreMap}
 use Rattle.store_core.proofs.Bodies.{AllByRecursion-at}
 use Rattle.store_core.proofs.Names.{place_of-at}

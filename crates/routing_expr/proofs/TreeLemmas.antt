@@ -12,7 +12,8 @@ use Rattle.routing_expr.specs.Walks.{DataAlone, Leads, IsParent, Chain, stay, go
 use Rattle.routing_expr.specs.WellFormed.{Names, IsInTree, IsBackbone}
 use Rattle.routing_expr.specs.Laws.{AreInOneTree}
 use Rattle.routing_expr.proofs.RouteLemmas.{IsHereditary, route-induction}
-use Rattle.routing_expr.proofs.WalkLemmas.{Walk-Down, Walk-Up, Walk-UpAny, Walk-Root, Walk-Leaf, Walk-IsType, Walk-IsVariant, Walk-IsBool, Walk-Then, Walk-Or, Walk-Star}
+use Rattle.routing_expr.proofs.WalkLemmas.{Walk-Down, Walk-Up, Walk-UpAny, Walk-Root, Walk-Leaf, Walk-IsType, Walk-IsVariant, Walk-IsBool, Walk-Then}
+use Rattle.routing_expr.proofs.WalkLemmas.{Walk-Or, Walk-Star}
 use Rattle.routing_expr.proofs.LiveLemmas.{Walk-live, IsParent-live, Chain-live}
 
 -- a chain with one step more at its end

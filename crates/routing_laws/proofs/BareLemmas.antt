@@ -1,5 +1,6 @@
 -- A store with null in every pointer field: what data fields say of it.
-use Rattle.std.proofs.Common.{◌≡◌, ◌↔◌, ℕ, zero, suc, Bool, true, false, cond, List, [], ◌∷◌, map, slice_get, Option, Some, None, IsSome, IsSomeAnd, IfSome, refl, sym, ap, ◌∙◌, subst, arith, nat_eq}
+use Rattle.std.proofs.Common.{◌≡◌, ◌↔◌, ℕ, zero, suc, Bool, true, false, cond, List, [], ◌∷◌, map, slice_get, Option, Some, None, IsSome, IsSomeAnd}
+use Rattle.std.proofs.Common.{IfSome, refl, sym, ap, ◌∙◌, subst, arith, nat_eq}
 use Rattle.std.specs.Prelude.{option_map}
 use Rattle.std.specs.Option.{option_and_then}
 use Rattle.std.specs.List.{AllByRecursion}
@@ -18,7 +19,8 @@ use Rattle.store_core.specs.declared.kind.VarKind.TheVariants as var
 use Rattle.store_core.specs.declared.value.Value.{Value}
 use Rattle.store_core.specs.declared.value.Value.TheVariants as value
 use Rattle.store_core.specs.Tables.{TypeEntry, VarEntry, FieldEntry, field_at, var_at, fields_of}
-use Rattle.store_core.specs.Stores.{StoreMap, CellEntry, IsLive, cell_of, field_of, field_value, var_value, NamesType, FieldFits, VarFits, SlotFits, SlotsFit, CellFits, VarsFit, Fits}
+use Rattle.store_core.specs.Stores.{StoreMap, CellEntry, IsLive, cell_of, field_of, field_value, var_value, NamesType, FieldFits, VarFits, SlotFits}
+use Rattle.store_core.specs.Stores.{SlotsFit, CellFits, VarsFit, Fits}
 use Rattle.routing_expr.specs.declared.fault.Place.{Place}
 use Rattle.routing_expr.specs.declared.fault.Place.TheVariants as place
 use Rattle.routing_expr.specs.Walks.{DataAlone, IsFollowed, Leads, IsParent, IsOfVariant, Chain}
@@ -92,7 +94,8 @@ module _ (types : List TypeEntry) (s : StoreMap) where
       ∙ ap (option_map (bare_cell types)) (sym (get-entries s.cells c.0))
 
   -- a fact of cells that looks at their variants
-  by_variant : (P : VariantId → Type 0) (c : CellId) → IsSomeAnd (cell_of s c) (λ cell. P cell.variant) ↔ IsSomeAnd (cell_of (bare types s) c) (λ cell. P cell.variant)
+  by_variant : (P : VariantId → Type 0) (c : CellId) → IsSomeAnd (cell_of s c) (λ cell. P cell.variant) ↔ IsSomeAnd (cell_of (bare types s) c)
+      (λ cell. P cell.variant)
   unfolding bare_cell
   by_variant P c = (
     λ h. subst (λ o. IsSomeAnd o (λ cell. P cell.variant)) (sym (cell_bare c)) (to (cell_of s c) h),
@@ -118,10 +121,12 @@ module _ (types : List TypeEntry) (s : StoreMap) where
       from None h = h
       from (Some cell) h = refl
 
-  field_bare : (f : FieldId) (entry : FieldEntry) → field_at types f ≡ Some entry → (cell : CellEntry) → field_of (bare_cell types cell) f ≡ bare_slot entry.kind (field_of cell f)
+  field_bare : (f : FieldId) (entry : FieldEntry) → field_at types f ≡ Some entry → (cell : CellEntry)
+      → field_of (bare_cell types cell) f ≡ bare_slot entry.kind (field_of cell f)
   unfolding bare_cell flat
   field_bare f entry at cell = tested (nat_eq cell.variant.ty.0 f.ty.0) (λ e. bare_at (fields_of types cell.variant.ty) cell.values f.index entry
-      (subst (λ ty. slice_get (fields_of types ty) f.index ≡ Some entry) (sym (ap (λ (n : ℕ). record { 0 = n }) (same_number cell.variant.ty.0 f.ty.0 e))) at)) refl
+      (subst (λ ty. slice_get (fields_of types ty) f.index ≡ Some entry)
+          (sym (ap (λ (n : ℕ). record { 0 = n }) (same_number cell.variant.ty.0 f.ty.0 e))) at)) refl
     where
       tested : (b : Bool) → (nat_eq cell.variant.ty.0 f.ty.0 ≡ true →
           flat (bare_slots (fields_of types cell.variant.ty) cell.values) f.index ≡ bare_slot entry.kind (flat cell.values f.index)) →
@@ -130,7 +135,8 @@ module _ (types : List TypeEntry) (s : StoreMap) where
       tested true at e = at e
       tested false at e = sym (bare_none entry.kind)
 
-  value_bare : (c : CellId) (f : FieldId) (entry : FieldEntry) → field_at types f ≡ Some entry → field_value (bare types s) c f ≡ bare_slot entry.kind (field_value s c f)
+  value_bare : (c : CellId) (f : FieldId) (entry : FieldEntry) → field_at types f ≡ Some entry
+      → field_value (bare types s) c f ≡ bare_slot entry.kind (field_value s c f)
   value_bare c f entry at = ap (option_and_then (λ cell. field_of cell f)) (cell_bare c) ∙ opened (cell_of s c)
     where
       opened : (o : Option CellEntry) → option_and_then (λ cell. field_of cell f) (option_map (bare_cell types) o) ≡
@@ -185,7 +191,8 @@ module _ (types : List TypeEntry) (s : StoreMap) where
   vars_fit_bare (v ∷ vs) [] h = h
   vars_fit_bare (v ∷ vs) (x ∷ xs) h = (var_fits_bare v.kind x h.0, vars_fit_bare vs xs h.1)
 
-  slot_fits_bare : (index : ℕ) (f : FieldEntry) (kind : FieldKind) (x : Value) → FieldFits s kind x → IsSomeAnd (bare_slot kind (Some x)) (FieldFits (bare types s) kind)
+  slot_fits_bare : (index : ℕ) (f : FieldEntry) (kind : FieldKind) (x : Value) → FieldFits s kind x
+      → IsSomeAnd (bare_slot kind (Some x)) (FieldFits (bare types s) kind)
   unfolding bare_slot
   slot_fits_bare index f field.Bool (value.Bool b) h = tt
   slot_fits_bare index f field.Bool (value.Cell c) h = h
@@ -283,7 +290,8 @@ module _ (types : List TypeEntry) (vars : List VarEntry) (s : StoreMap) (fits : 
   dest_bare : (c : CellId) (f : FieldId) (d : CellId) → Dest types s c f d → Dest types (bare types s) c f d
   dest_bare c f d h = to (field_at types f) h
     where
-      to : (o : Option FieldEntry) → IsSomeAnd o (λ entry. EndsKind types s entry.kind c d) → IsSomeAnd o (λ entry. EndsKind types (bare types s) entry.kind c d)
+      to : (o : Option FieldEntry) → IsSomeAnd o (λ entry. EndsKind types s entry.kind c d)
+          → IsSomeAnd o (λ entry. EndsKind types (bare types s) entry.kind c d)
       to None k = k
       to (Some entry) k = ends_bare entry.kind c d k
 
@@ -317,7 +325,8 @@ module _ (types : List TypeEntry) (vars : List VarEntry) (s : StoreMap) (fits : 
   chain_bare : {a b : CellId} → Chain s (IsParent types s) a b → Chain (bare types s) (IsParent types (bare types s)) a b
   unfolding Itself
   chain_bare {a = a} {b = b} chain =
-      let k = Chain-matched types DataAlone (Itself s) s (bare types s) Matches-bare (parent_down types DataAlone (Itself s) s (bare types s) Matches-bare) chain a
+      let k = Chain-matched types DataAlone (Itself s) s (bare types s) Matches-bare
+          (parent_down types DataAlone (Itself s) s (bare types s) Matches-bare) chain a
       (refl, (Chain-live (IsParent-live types s) chain).0) in
       subst (λ x. Chain (bare types s) (IsParent types (bare types s)) a x) (sym k.1.0) k.2
 

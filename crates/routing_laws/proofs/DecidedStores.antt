@@ -16,7 +16,8 @@ use Rattle.routing_expr.specs.declared.fault.Place.{Place}
 use Rattle.routing_expr.specs.declared.fault.Place.TheVariants as place
 use Rattle.routing_expr.specs.Walks.{DataAlone, IsParent, Chain, stay, go}
 use Rattle.routing_expr.specs.Destinations.{EndsKind, Dest, IsOnlyDestination, IsPointer}
-use Rattle.routing_expr.specs.WellFormed.{value_at, IsDataVar, IsDataPlace, Names, IsInTree, NamesDead, HoldsDead, IsDanglingReference, IsDangling, IsShared, IsLeaked, IsWrongField, IsWellFormed}
+use Rattle.routing_expr.specs.WellFormed.{value_at, IsDataVar, IsDataPlace, Names, IsInTree, NamesDead, HoldsDead, IsDanglingReference, IsDangling}
+use Rattle.routing_expr.specs.WellFormed.{IsShared, IsLeaked, IsWrongField, IsWellFormed}
 use Rattle.routing_expr.specs.Reaching.{IsInSomeTree}
 use Rattle.routing_expr.specs.Judging.{IsRightField}
 use Rattle.routing_expr.specs.Searches.{Lists}
@@ -29,8 +30,10 @@ use Rattle.routing_expr.proofs.FaultLemmas.{place_cases, no_reference, no_shared
 use Rattle.routing_laws.specs.Deciding.{Decided}
 use Rattle.routing_laws.specs.Shown.{HasFault, dangling, shared, leaked, wrong, IsSound, HasLeakSet, HasOther, HasDest, ShowsWrong}
 use Rattle.routing_laws.specs.Shown.{HasCause, at_reference, at_shared, at_leak, at_field}
-use Rattle.routing_laws.proofs.DecidedLemmas.{decided_as, decided_both, decided_either, decided_not, holds_from, decided_some, decided_there, decided_in, decided_one_of, decided_below}
-use Rattle.routing_laws.proofs.DecidedWalks.{decided_cell, listed, decided_same_cell, decided_reference, decided_followed, within, decided_field, decided_live, decided_parent, decided_of_type, decided_steps, decided_walk}
+use Rattle.routing_laws.proofs.DecidedLemmas.{decided_as, decided_both, decided_either, decided_not, holds_from, decided_some, decided_there}
+use Rattle.routing_laws.proofs.DecidedLemmas.{decided_in, decided_one_of, decided_below}
+use Rattle.routing_laws.proofs.DecidedWalks.{decided_cell, listed, decided_same_cell, decided_reference, decided_followed, within, decided_field}
+use Rattle.routing_laws.proofs.DecidedWalks.{decided_live, decided_parent, decided_of_type, decided_steps, decided_walk}
 
 decided_data_var : (kind : VarKind) → Decided (IsDataVar kind)
 decided_data_var var.Bool = inr (λ h. h)
@@ -93,7 +96,8 @@ module _ (types : List TypeEntry) (vars : List VarEntry) (s : StoreMap) where
       (λ h. record { root = h.0; named = h.1.0; path = h.1.1 })
       (λ h. (h.root, (h.named, h.path)))
       (decided_cell s (λ root. Names types vars s (place.Var v) root × Chain s (IsParent types s) root c)
-      (λ root. decided_both (decided_names (place.Var v) root) (decided_steps types s (IsParent types s) (IsParent-live types s) (decided_parent types s) root c))
+      (λ root. decided_both (decided_names (place.Var v) root)
+          (decided_steps types s (IsParent types s) (IsParent-live types s) (decided_parent types s) root c))
       (λ root h. (Chain-live (IsParent-live types s) h.1).0))
 
   pub decided_some_tree : (c : CellId) → Decided (IsInSomeTree types vars s c)
@@ -223,7 +227,8 @@ module _ (types : List TypeEntry) (s : StoreMap) where
 
   right_from : (c : CellId) (f : FieldId) → (IsWrongField types s c f → ⊥) → IsRightField types s c f
   right_from c f never pointer = IfSome-from (field_value s c f) (IsOnlyDestination types s c f)
-      (λ x at. holds_from (decided_only c f x) (λ wrong. never (record { kind = pointer; wrong = subst (λ o. IsSomeAnd o (λ y. IsOnlyDestination types s c f y → ⊥)) (sym at) wrong })))
+      (λ x at. holds_from (decided_only c f x) (λ wrong. never
+          (record { kind = pointer; wrong = subst (λ o. IsSomeAnd o (λ y. IsOnlyDestination types s c f y → ⊥)) (sym at) wrong })))
 
 -- ---- faults
 

@@ -1,5 +1,6 @@
 -- The live cells of a store as a list, and whether a walk joins two cells.
-use Rattle.std.proofs.Common.{◌≡◌, ◌⊎◌, inl, inr, ◌<◌, ℕ, zero, suc, Bool, List, [], ◌∷◌, map, length, slice_get, Option, Some, None, IsSome, refl, sym, ap, ◌∙◌, subst, arith, Contains}
+use Rattle.std.proofs.Common.{◌≡◌, ◌⊎◌, inl, inr, ◌<◌, ℕ, zero, suc, Bool, List, [], ◌∷◌, map, length, slice_get, Option, Some, None, IsSome, refl}
+use Rattle.std.proofs.Common.{sym, ap, ◌∙◌, subst, arith, Contains}
 use Rattle.std.specs.Prelude.{option_map}
 use Rattle.std.specs.Option.{option_map_or}
 use Rattle.std.specs.FinMap.{keys}
@@ -18,14 +19,17 @@ use Rattle.store_core.specs.declared.value.Value.TheVariants as value
 use Rattle.store_core.specs.CellLists.{AreRising}
 use Rattle.store_core.specs.Tables.{TypeEntry, field_at, fields_of, type_at}
 use Rattle.store_core.specs.Stores.{StoreMap, IsLive, cell_of, field_value}
-use Rattle.routing_expr.specs.Walks.{Fields, DataAlone, DataAndPointers, IsFollowed, Leads, IsNamed, LeadsByName, IsParent, Stays, IsRoot, IsLeaf, IsOfType, IsOfVariant, HasTruth, Chain, Walk}
+use Rattle.routing_expr.specs.Walks.{Fields, DataAlone, DataAndPointers, IsFollowed, Leads, IsNamed, LeadsByName, IsParent, Stays, IsRoot, IsLeaf}
+use Rattle.routing_expr.specs.Walks.{IsOfType, IsOfVariant, HasTruth, Chain, Walk}
 use Rattle.routing_expr.specs.Searches.{Lists}
 use Rattle.routing_expr.proofs.RouteLemmas.{IsHereditary, route-induction}
-use Rattle.routing_expr.proofs.WalkLemmas.{Walk-Down, Walk-Up, Walk-UpAny, Walk-Root, Walk-Leaf, Walk-IsType, Walk-IsVariant, Walk-IsBool, Walk-Then, Walk-Or, Walk-Star}
+use Rattle.routing_expr.proofs.WalkLemmas.{Walk-Down, Walk-Up, Walk-UpAny, Walk-Root, Walk-Leaf, Walk-IsType, Walk-IsVariant, Walk-IsBool, Walk-Then}
+use Rattle.routing_expr.proofs.WalkLemmas.{Walk-Or, Walk-Star}
 use Rattle.routing_expr.proofs.LiveLemmas.{Walk-live, IsParent-live, IsSome-and}
 use Rattle.routing_expr.proofs.KeyLemmas.{keys-rise, key_of_live, live_of_key}
 use Rattle.routing_laws.specs.Deciding.{Decided}
-use Rattle.routing_laws.proofs.DecidedLemmas.{decided_as, decided_both, decided_either, decided_not, decided_number, decided_truth, decided_name, decided_some, decided_there, decided_one_of, decided_below, in_none, in_rest, in_cases, in_at, at_in}
+use Rattle.routing_laws.proofs.DecidedLemmas.{decided_as, decided_both, decided_either, decided_not, decided_number, decided_truth, decided_name}
+use Rattle.routing_laws.proofs.DecidedLemmas.{decided_some, decided_there, decided_one_of, decided_below, in_none, in_rest, in_cases, in_at, at_in}
 use Rattle.routing_laws.proofs.StarLemmas.{decided_chain}
 
 -- ---- the live cells by number

@@ -56,7 +56,8 @@ module _ (cells : List CellId) (s t : StoreMap) (on : IsOn cells s t) where
   slots_fit_on index (f ∷ fs) (None ∷ xs) h = (h.0, slots_fit_on index fs xs h.1)
   slots_fit_on index (f ∷ fs) (Some x ∷ xs) h = ((h.0.0, field_fits_on f.kind x h.0.1), slots_fit_on index fs xs h.1)
 
-  pub cells_fit_on : (types : List TypeEntry) → ((c : CellId) → IfSome (cell_of s c) (CellFits types s)) → (c : CellId) → IfSome (cell_of t c) (CellFits types t)
+  pub cells_fit_on : (types : List TypeEntry) → ((c : CellId) → IfSome (cell_of s c) (CellFits types s)) → (c : CellId)
+      → IfSome (cell_of t c) (CellFits types t)
   cells_fit_on types fits c = IfSome-from (cell_of t c) (CellFits types t) (λ cell at.
       let m = (live_on cells s t on c (subst IsSome (sym at) refl)).0 in
       let there = IfSome-at (cell_of s c) (CellFits types s) cell (sym (on.inside c m) ∙ at) (fits c) in

@@ -12,16 +12,19 @@ use Rattle.store_core.specs.declared.kind.VarKind.TheVariants as var
 use Rattle.store_core.specs.declared.value.Value.{Value}
 use Rattle.store_core.specs.declared.value.Value.TheVariants as value
 use Rattle.store_core.specs.Tables.{TypeEntry, VarEntry, FieldEntry, field_at, var_at, fields_of, KnowsVariant}
-use Rattle.store_core.specs.Stores.{StoreMap, CellEntry, IsAbove, cell_of, field_value, var_value, NamesType, FieldFits, VarFits, SlotsFit, CellFits, VarsFit, Fits}
+use Rattle.store_core.specs.Stores.{StoreMap, CellEntry, IsAbove, cell_of, field_value, var_value, NamesType, FieldFits, VarFits, SlotsFit, CellFits}
+use Rattle.store_core.specs.Stores.{VarsFit, Fits}
 use Rattle.routing_expr.specs.declared.fault.Place.{Place}
 use Rattle.routing_expr.specs.Walks.{IsOfType}
 use Rattle.routing_expr.specs.Destinations.{IsOnlyDestination}
-use Rattle.routing_expr.specs.WellFormed.{value_at, NamesDead, HoldsDead, IsDanglingReference, IsDangling, IsShared, IsLeaked, IsWrongField, HoldsOfType, VarHoldsLive, FieldHoldsLive, SetHoldsLive, IsBackbone, IsWellFormed}
+use Rattle.routing_expr.specs.WellFormed.{value_at, NamesDead, HoldsDead, IsDanglingReference, IsDangling, IsShared, IsLeaked, IsWrongField}
+use Rattle.routing_expr.specs.WellFormed.{HoldsOfType, VarHoldsLive, FieldHoldsLive, SetHoldsLive, IsBackbone, IsWellFormed}
 use Rattle.routing_expr.proofs.LiveLemmas.{IsLive-field_value}
 use Rattle.routing_expr.proofs.FittingLemmas.{IfSome-from, IfSome-at}
 use Rattle.routing_expr.proofs.SharedLemmas.{there}
 use Rattle.routing_laws.specs.Pairing.{PairsValue, PairsSlot, Pairwise, PairsEntry, ArePaired, PairsPlace, FailAlike, FormAlike}
-use Rattle.routing_laws.proofs.PairLemmas.{turn, ArePaired-turned, value_turned, place_turned, field_paired, var_paired, place_paired, live_to, type_to, place_forth, place_one, names_to, tree_to, only_to}
+use Rattle.routing_laws.proofs.PairLemmas.{turn, ArePaired-turned, value_turned, place_turned, field_paired, var_paired, place_paired, live_to}
+use Rattle.routing_laws.proofs.PairLemmas.{type_to, place_forth, place_one, names_to, tree_to, only_to}
 
 module _ (types : List TypeEntry) (R : CellId → CellId → Type 0) (s t : StoreMap) (h : ArePaired R s t) where
   back : ArePaired (turn R) t s
@@ -119,7 +122,8 @@ module _ (types : List TypeEntry) (R : CellId → CellId → Type 0) (s t : Stor
       let k = from (get_or others i d) (Contains-get_or others i d within) in
       each k.0 (get_or others i d) k.2 (All-contains P cells k.0 all k.1)
 
-  reference_fits_to : (target : TypeId) (x y : Option CellId) → PairsValue R (value.Cell x) (value.Cell y) → IfSome x (NamesType s target) → IfSome y (NamesType t target)
+  reference_fits_to : (target : TypeId) (x y : Option CellId) → PairsValue R (value.Cell x) (value.Cell y) → IfSome x (NamesType s target)
+      → IfSome y (NamesType t target)
   reference_fits_to target None None e k = tt
   reference_fits_to target None (Some d) e k = absurd e
   reference_fits_to target (Some c) None e k = tt
@@ -159,7 +163,8 @@ module _ (types : List TypeEntry) (R : CellId → CellId → Type 0) (s t : Stor
   var_fits_to (var.LogicSet target) (value.Cell b) y e k = absurd k
   var_fits_to kind x y e k = absurd e
 
-  slots_fit_to : (index : ℕ) (fs : List FieldEntry) (xs ys : List (Option Value)) → Pairwise (PairsSlot R) xs ys → SlotsFit s index fs xs → SlotsFit t index fs ys
+  slots_fit_to : (index : ℕ) (fs : List FieldEntry) (xs ys : List (Option Value)) → Pairwise (PairsSlot R) xs ys → SlotsFit s index fs xs
+      → SlotsFit t index fs ys
   slots_fit_to index [] [] [] e k = tt
   slots_fit_to index [] [] (y ∷ ys) e k = absurd e
   slots_fit_to index [] (x ∷ xs) ys e k = absurd k

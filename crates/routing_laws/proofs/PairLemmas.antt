@@ -1,5 +1,6 @@
 -- Paired stores: what stands in them, and what routes and data fields join.
-use Rattle.std.proofs.Common.{◌≡◌, ℕ, zero, suc, Bool, true, false, List, [], ◌∷◌, slice_get, Option, Some, None, IsSome, IsSomeAnd, refl, sym, ap, ◌∙◌, subst, ◌==◌, if◌then◌else◌}
+use Rattle.std.proofs.Common.{◌≡◌, ℕ, zero, suc, Bool, true, false, List, [], ◌∷◌, slice_get, Option, Some, None, IsSome, IsSomeAnd, refl, sym, ap}
+use Rattle.std.proofs.Common.{◌∙◌, subst, ◌==◌, if◌then◌else◌}
 use Rattle.std.specs.Option.{option_and_then}
 use Rattle.store_core.specs.declared.ids.TypeId.{TypeId}
 use Rattle.store_core.specs.declared.ids.VariantId.{VariantId}
@@ -141,7 +142,8 @@ module _ (R : CellId → CellId → Type 0) where
   live_entry (Some cell) None h live = absurd h
   live_entry (Some cell) (Some other) h live = refl
 
-  variant_entry : (P : VariantId → Type 0) (o p : Option CellEntry) → PairsEntry R o p → IsSomeAnd o (λ cell. P cell.variant) → IsSomeAnd p (λ cell. P cell.variant)
+  variant_entry : (P : VariantId → Type 0) (o p : Option CellEntry) → PairsEntry R o p → IsSomeAnd o (λ cell. P cell.variant)
+      → IsSomeAnd p (λ cell. P cell.variant)
   variant_entry P None p h is = absurd is
   variant_entry P (Some cell) None h is = absurd h
   variant_entry P (Some cell) (Some other) h is = subst P h.variant is

@@ -34,7 +34,8 @@ module _ (types : List TypeEntry) (s : StoreMap) where
       let same : h.0 ≡ k.0 = cc in
       along_one fields k.0 b c (subst (λ x. LeadsAlong types s fields x b) same h.2) k.2
 
-  along_join : (fields more : List FieldId) (a b c : CellId) → LeadsAlong types s fields a b → LeadsAlong types s more b c → LeadsAlong types s (fields ++ more) a c
+  along_join : (fields more : List FieldId) (a b c : CellId) → LeadsAlong types s fields a b → LeadsAlong types s more b c
+      → LeadsAlong types s (fields ++ more) a c
   along_join [] more a b c h k = subst (λ x. LeadsAlong types s more x c) (sym h.0) k
   along_join (f ∷ fields) more a b c h k = (h.0, h.1, along_join fields more h.0 b c h.2 k)
 

@@ -1,5 +1,6 @@
 -- Well-formed stores taken apart into pieces and put together.
-use Rattle.std.proofs.Common.{◌≡◌, inl, inr, ◌<◌, Bool, true, false, cond, List, [], ◌∷◌, map, get_or, Some, None, IsSomeAnd, IfSome, refl, sym, ◌∙◌, subst, filter, Contains, if◌then◌else◌}
+use Rattle.std.proofs.Common.{◌≡◌, inl, inr, ◌<◌, Bool, true, false, cond, List, [], ◌∷◌, map, get_or, Some, None, IsSomeAnd, IfSome, refl, sym, ◌∙◌}
+use Rattle.std.proofs.Common.{subst, filter, Contains, if◌then◌else◌}
 use Rattle.std.specs.List.{AllByRecursion}
 use Rattle.std.proofs.lemmas.Bool.{false≢true}
 use Rattle.std.proofs.lemmas.List.Elements.{All-from_recursion, recursion_from_All, All-contains, Contains-get_or}
@@ -116,7 +117,8 @@ module _ (cells : List CellId) (s : StoreMap) where
   set_holds_on var.LogicBool x h = tt
   set_holds_on (var.LogicSet target) (value.Bool b) h = h
   set_holds_on (var.LogicSet target) (value.Cell c) h = h
-  set_holds_on (var.LogicSet target) (value.Cells others) h = All-from_recursion (IsOfType (piece_on s cells) target) (filter (λ c. has_number cells c.0) others)
+  set_holds_on (var.LogicSet target) (value.Cells others) h = All-from_recursion (IsOfType (piece_on s cells) target)
+      (filter (λ c. has_number cells c.0) others)
       (filter_all (IsOfType s target) (IsOfType (piece_on s cells) target) (λ c. has_number cells c.0)
       (λ d e k. type_on cells s target d (in_number cells d e) k) others (recursion_from_All (IsOfType s target) others h))
 
@@ -141,7 +143,8 @@ module _ (cells : List CellId) (s : StoreMap) where
         field_value s c f ≡ Some x → IsOnlyDestination types s c f x
     pointer_off c f x m pointer holds =
         (only_on types DataAlone cells s (piece_on s cells) (piece_on-IsOn cells s) whole c f x m).1
-        (IfSome-at (field_value (piece_on s cells) c f) _ x (field_on cells s (piece_on s cells) (piece_on-IsOn cells s) c f m ∙ holds) (is.pointers c f pointer))
+        (IfSome-at (field_value (piece_on s cells) c f) _ x (field_on cells s (piece_on s cells) (piece_on-IsOn cells s) c f m ∙ holds)
+            (is.pointers c f pointer))
 
     pub member_off : (target : TypeId) (others : List CellId) (d : CellId) → Contains cells d → Contains others d →
         SetHoldsLive (piece_on s cells) (var.LogicSet target) (value_on cells (value.Cells others)) → IsOfType s target d

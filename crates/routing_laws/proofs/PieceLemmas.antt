@@ -1,5 +1,6 @@
 -- Backbones taken apart into pieces and put together.
-use Rattle.std.proofs.Common.{◌≡◌, ◌⊎◌, inl, inr, Bool, true, false, List, [], Option, Some, None, IsSome, IsSomeAnd, IfSome, refl, sym, ap, ◌∙◌, subst, Contains, if◌then◌else◌}
+use Rattle.std.proofs.Common.{◌≡◌, ◌⊎◌, inl, inr, Bool, true, false, List, [], Option, Some, None, IsSome, IsSomeAnd, IfSome, refl, sym, ap, ◌∙◌}
+use Rattle.std.proofs.Common.{subst, Contains, if◌then◌else◌}
 use Rattle.std.specs.Prelude.{option_map}
 use Rattle.std.proofs.lemmas.Option.{slice_get-map}
 use Rattle.store_core.specs.declared.ids.TypeId.{TypeId}
@@ -50,7 +51,8 @@ module _ (cells : List CellId) (s : StoreMap) where
   cell_kept : (c : CellId) → Contains cells c → value_on cells (value.Cell (Some c)) ≡ value.Cell (Some c)
   cell_kept c m = ap (λ b. value.Cell (if b then Some c else None)) (number_in cells c m)
 
-  onto_piece : (v : VarId) (c : CellId) → Contains cells c → var_value s v ≡ Some (value.Cell (Some c)) → var_value (piece_on s cells) v ≡ Some (value.Cell (Some c))
+  onto_piece : (v : VarId) (c : CellId) → Contains cells c → var_value s v ≡ Some (value.Cell (Some c))
+      → var_value (piece_on s cells) v ≡ Some (value.Cell (Some c))
   onto_piece v c m e = var_on v ∙ ap (option_map (value_on cells)) e ∙ ap (λ x. Some x) (cell_kept c m)
 
   pub type_on : (target : TypeId) (c : CellId) → Contains cells c → IsOfType s target c → IsOfType (piece_on s cells) target c
@@ -166,7 +168,8 @@ module _ (cells : List CellId) (s : StoreMap) where
         field_holds_off (field.Data target) x h = field_off target x h
         field_holds_off (field.Pointer target along) x h = tt
 
-        pub data_off : (c : CellId) (f : FieldId) → Contains cells c → IfSome (field_at types f) (λ entry. IfSome (field_value s c f) (FieldHoldsLive s entry.kind))
+        pub data_off : (c : CellId) (f : FieldId) → Contains cells c
+            → IfSome (field_at types f) (λ entry. IfSome (field_value s c f) (FieldHoldsLive s entry.kind))
         data_off c f m = IfSome-from (field_at types f) _ (λ entry at. IfSome-from (field_value s c f) _ (λ x holds.
             field_holds_off entry.kind x (IfSome-at (field_value (piece_on s cells) c f) _ x
             (field_on cells s (piece_on s cells) piece_on-IsOn c f m ∙ holds)
@@ -187,12 +190,14 @@ module _ (cells : List CellId) (s : StoreMap) where
               },
             )
 
-        of_kept : (target : TypeId) (d : CellId) → Contains cells d → HoldsOfType (piece_on s cells) target (value_on cells (value.Cell (Some d))) → IsOfType s target d
+        of_kept : (target : TypeId) (d : CellId) → Contains cells d → HoldsOfType (piece_on s cells) target (value_on cells (value.Cell (Some d)))
+            → IsOfType s target d
         of_kept target d m h = type_off target d (subst (HoldsOfType (piece_on s cells) target) (cell_kept d m) h)
 
         pub var_off : (v : VarId) (entry : VarEntry) (x : Value) → var_at vars v ≡ Some entry → var_value s v ≡ Some x →
             VarHoldsLive (piece_on s cells) entry.kind (value_on cells x)
-        var_off v entry x at holds = in_piece (VarHoldsLive (piece_on s cells) entry.kind) v x holds (IfSome-at (var_at vars v) _ entry at (backbone.cell_vars v))
+        var_off v entry x at holds = in_piece (VarHoldsLive (piece_on s cells) entry.kind) v x holds
+            (IfSome-at (var_at vars v) _ entry at (backbone.cell_vars v))
 
 -- ---- two pieces that are all of the store
 

@@ -1,5 +1,6 @@
 -- Walks and destinations on a set of cells that no field leads into or out of.
-use Rattle.std.proofs.Common.{◌≡◌, ◌↔◌, inl, inr, ℕ, Bool, true, false, List, [], ◌∷◌, Option, Some, None, IsSome, IsSomeAnd, refl, sym, ap, ◌∙◌, subst, arith, Contains, cond, nat_eq}
+use Rattle.std.proofs.Common.{◌≡◌, ◌↔◌, inl, inr, ℕ, Bool, true, false, List, [], ◌∷◌, Option, Some, None, IsSome, IsSomeAnd, refl, sym, ap, ◌∙◌}
+use Rattle.std.proofs.Common.{subst, arith, Contains, cond, nat_eq}
 use Rattle.std.specs.Prelude.{◌||◌}
 use Rattle.std.specs.Option.{option_and_then}
 use Rattle.std.specs.FinMap.{get-retain_keys, nat_cmp-IsAntisymmetric}
@@ -178,7 +179,8 @@ data_too types fields s f a b h = record { kind = kind_too (field_at types f) h.
     kind_too (Some entry) h = followed_too fields entry.kind h
 
 -- no data field does where no followed one does
-pub data_apart : (types : List TypeEntry) (fields : Fields) (s : StoreMap) (cells : List CellId) → IsApart types s fields cells → IsApart types s DataAlone cells
+pub data_apart : (types : List TypeEntry) (fields : Fields) (s : StoreMap) (cells : List CellId) → IsApart types s fields cells
+    → IsApart types s DataAlone cells
 data_apart types fields s cells whole f a b leads = whole f a b (data_too types fields s f a b leads)
 
 module _ (types : List TypeEntry) (fields : Fields) (cells : List CellId) (s t : StoreMap) (on : IsOn cells s t) (whole : IsApart types s fields cells) where
@@ -241,7 +243,8 @@ module _ (types : List TypeEntry) (fields : Fields) (cells : List CellId) (s t :
 
 -- ---- parts
 
-module _ (types : List TypeEntry) (vars : List VarEntry) (s : StoreMap) (roots : List VarId) (cells : List CellId) (part : IsPart types vars s roots cells) where
+module _ (types : List TypeEntry) (vars : List VarEntry) (s : StoreMap) (roots : List VarId) (cells : List CellId)
+    (part : IsPart types vars s roots cells) where
   pub part_closed : IsClosedUnderFields types s cells
   part_closed a b m p = let h = (part.members a).0 m in
       (part.members b).1 (record { root = h.root; listed = h.listed; in_tree = IsInTree-child types vars s h.root a b h.in_tree p })
@@ -272,7 +275,8 @@ pointers_apart types vars s cells sound whole f a b leads =
     ends (field.Data target) h = absurd h
     ends (field.Pointer target along) h = like.inside along a b h.walk
 
-    cased : (kind : FieldKind) (entry : FieldEntry) → field_at types f ≡ Some entry → entry.kind ≡ kind → IsFollowed DataAndPointers kind → Contains cells a ↔ Contains cells b
+    cased : (kind : FieldKind) (entry : FieldEntry) → field_at types f ≡ Some entry → entry.kind ≡ kind → IsFollowed DataAndPointers kind
+        → Contains cells a ↔ Contains cells b
     cased field.Bool entry at is h = absurd h
     cased (field.Data target) entry at is h = whole f a b (record {
       kind = subst (λ o. IsSomeAnd o (λ e. IsFollowed DataAlone e.kind)) (sym at) (subst (IsFollowed DataAlone) (sym is) tt);

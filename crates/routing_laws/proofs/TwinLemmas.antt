@@ -1,5 +1,6 @@
 -- The twins are a backbone, on which the first has both others as destinations.
-use Rattle.std.proofs.Common.{◌≡◌, ◌⊎◌, inl, inr, ◌<◌, ℕ, zero, suc, List, [], ◌∷◌, map, slice_get, Option, Some, None, IsSome, IsSomeAnd, IfSome, refl, sym, ap, ◌∙◌, subst, arith, Bool, true, false, cond, nat_eq}
+use Rattle.std.proofs.Common.{◌≡◌, ◌⊎◌, inl, inr, ◌<◌, ℕ, zero, suc, List, [], ◌∷◌, map, slice_get, Option, Some, None, IsSome, IsSomeAnd, IfSome}
+use Rattle.std.proofs.Common.{refl, sym, ap, ◌∙◌, subst, arith, Bool, true, false, cond, nat_eq}
 use Rattle.std.specs.Option.{option_and_then}
 use Rattle.std.specs.List.{AllByRecursion}
 use Rattle.std.specs.Ordering.{nat_cmp, eq_by_cmp}
@@ -72,7 +73,8 @@ which c = elim (cases_eq c.0 1) [
     | inr not_two ↦ elim (cases_eq c.0 3) [
       | inl e ↦ is_right (cell_is c 3 e)
       | inr not_three ↦ is_dead (at c.0
-          ∙ ap (λ b. cond b (Some (twin_cell (Some left) (Some right))) (find nat_cmp c.0 ((2, twin_cell None None) ∷ (3, twin_cell None None) ∷ []))) (differs c.0 1 not_one)
+          ∙ ap (λ b. cond b (Some (twin_cell (Some left) (Some right))) (find nat_cmp c.0 ((2, twin_cell None None) ∷ (3, twin_cell None None) ∷ [])))
+              (differs c.0 1 not_one)
           ∙ ap (λ b. cond b (Some (twin_cell None None)) (find nat_cmp c.0 ((3, twin_cell None None) ∷ []))) (differs c.0 2 not_two)
           ∙ ap (λ b. cond b (Some (twin_cell None None)) None) (differs c.0 3 not_three))
     ]
@@ -90,7 +92,8 @@ null_fits = record { variant = omega arith; values = ((refl, tt), ((refl, tt), (
 of_twin : (c : CellId) (cell : CellEntry) → cell_of twin_store c ≡ Some cell → cell.variant.ty ≡ twin_type → IsOfType twin_store twin_type c
 of_twin c cell is ty = subst (λ o. IsSomeAnd o (λ (e : CellEntry). e.variant.ty ≡ twin_type)) (sym is) ty
 
-fits_twin : (c : CellId) (cell : CellEntry) → cell_of twin_store c ≡ Some cell → cell.variant.ty ≡ twin_type → IfSome (cell_of twin_store c) (λ e. e.variant.ty ≡ twin_type)
+fits_twin : (c : CellId) (cell : CellEntry) → cell_of twin_store c ≡ Some cell → cell.variant.ty ≡ twin_type
+    → IfSome (cell_of twin_store c) (λ e. e.variant.ty ≡ twin_type)
 fits_twin c cell is ty = subst (λ o. IfSome o (λ (e : CellEntry). e.variant.ty ≡ twin_type)) (sym is) ty
 
 first_fits : CellFits twin_types twin_store (twin_cell (Some left) (Some right))
@@ -132,7 +135,8 @@ null_slot (suc zero) c e = cc
 null_slot (suc (suc zero)) c e = cc
 null_slot (suc (suc (suc i))) c e = cc
 
-first_slot : (i : ℕ) (c : CellId) → option_and_then (λ (v : Option Value). v) (slice_get (twin_cell (Some left) (Some right)).values i) ≡ Some (value.Cell (Some c)) →
+first_slot : (i : ℕ) (c : CellId) → option_and_then (λ (v : Option Value). v) (slice_get (twin_cell (Some left) (Some right)).values i)
+    ≡ Some (value.Cell (Some c)) →
     ((i ≡ 0) × (c ≡ left)) ⊎ ((i ≡ 1) × (c ≡ right))
 first_slot zero c e = inl (refl, cc)
 first_slot (suc zero) c e = inr (refl, cc)
@@ -142,7 +146,8 @@ first_slot (suc (suc (suc i))) c e = absurd (cc)
 same_number : (x y : ℕ) → nat_eq x y ≡ true → x ≡ y
 same_number x y e = grind (arith, nat_tests)
 
-null_names : (a : CellId) (f : FieldId) (c : CellId) → cell_of twin_store a ≡ Some (twin_cell None None) → field_value twin_store a f ≡ Some (value.Cell (Some c)) → ⊥
+null_names : (a : CellId) (f : FieldId) (c : CellId) → cell_of twin_store a ≡ Some (twin_cell None None)
+    → field_value twin_store a f ≡ Some (value.Cell (Some c)) → ⊥
 null_names a f c is e = null_slot f.index c (tested (nat_eq 0 f.ty.0) _ _
     (subst (λ o. option_and_then (λ cell. field_of cell f) o ≡ Some (value.Cell (Some c))) is e)).1
 
@@ -226,7 +231,8 @@ reached c live = elim (which c) [
   | is_left e ↦ subst (IsInSomeTree twin_types twin_vars twin_store) (sym e)
       (in_tree left (go first left left (record { field = record { ty = twin_type; index = 0 }; leads = leads_left }) (stay left (lives left _ at_left))))
   | is_right e ↦ subst (IsInSomeTree twin_types twin_vars twin_store) (sym e)
-      (in_tree right (go first right right (record { field = record { ty = twin_type; index = 1 }; leads = leads_right }) (stay right (lives right _ at_right))))
+      (in_tree right (go first right right (record { field = record { ty = twin_type; index = 1 }; leads = leads_right })
+          (stay right (lives right _ at_right))))
   | is_dead e ↦ absurd (not_live c e live)
 ]
 
@@ -264,7 +270,8 @@ pointer_null : (c : CellId) (f : FieldId) (x : Value) (left right : Option CellI
 pointer_null c f x left right is pointer e =
     let h = tested (nat_eq 0 f.ty.0) _ _ (subst (λ o. option_and_then (λ cell. field_of cell f) o ≡ Some x) is e) in
     pointer_slot f.index x left right
-    (subst (λ n. IsSomeAnd (slice_get (fields_of twin_types (record { 0 = n })) f.index) (λ entry. IsPointer entry.kind)) (sym (same_number 0 f.ty.0 h.0)) pointer) h.1
+    (subst (λ n. IsSomeAnd (slice_get (fields_of twin_types (record { 0 = n })) f.index) (λ entry. IsPointer entry.kind))
+        (sym (same_number 0 f.ty.0 h.0)) pointer) h.1
 
 pointers_null : (c : CellId) (f : FieldId) → IsSomeAnd (field_at twin_types f) (λ entry. IsPointer entry.kind) →
     IfSome (field_value twin_store c f) (λ x. x ≡ value.Cell None)

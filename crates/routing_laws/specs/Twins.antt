@@ -46,7 +46,8 @@ twin_cell left right = record {
 -- cell 1, which x names, has cell 2 for l and cell 3 for r; cells 2 and 3 have null
 abbrev pub twin_store : StoreMap
 twin_store = record {
-  cells = from_sorted {R = nat_cmp} ((1, twin_cell (Some (record { 0 = 2 })) (Some (record { 0 = 3 }))) ∷ (2, twin_cell None None) ∷ (3, twin_cell None None) ∷ []);
+  cells = from_sorted {R = nat_cmp} ((1, twin_cell (Some (record { 0 = 2 })) (Some (record { 0 = 3 }))) ∷ (2, twin_cell None None) ∷
+      (3, twin_cell None None) ∷ []);
   vars = value.Cell (Some (record { 0 = 1 })) ∷ [];
   next = 4;
 }

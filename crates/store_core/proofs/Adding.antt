@@ -1,12 +1,15 @@
 -- A table with a type, a variant or a field more is a table.
-use Rattle.std.proofs.Common.{◌≡◌, ℕ, zero, suc, ◌+◌, ◌<◌, ◌≤◌, List, [], ◌∷◌, ◌++◌, length, set, Option, Some, None, refl, sym, ap, subst, arith, slice_get, eqb, cond, IfSome}
+use Rattle.std.proofs.Common.{◌≡◌, ℕ, zero, suc, ◌+◌, ◌<◌, ◌≤◌, List, [], ◌∷◌, ◌++◌, length, set, Option, Some, None, refl, sym, ap, subst, arith}
+use Rattle.std.proofs.Common.{slice_get, eqb, cond, IfSome}
 use Rattle.std.proofs.lemmas.List.{length_push, map_push}
 use Rattle.std.specs.Option.{option_map_or}
 use Rattle.store_core.specs.declared.ids.TypeId.{TypeId}
 use Rattle.store_core.specs.declared.kind.FieldKind.{FieldKind}
 use Rattle.store_core.specs.declared.kind.Owner.{Owner}
 use Rattle.store_core.specs.declared.kind.Owner.TheVariants as owner
-use Rattle.store_core.specs.Tables.{TypeEntry, FieldEntry, KnowsType, KnowsOwner, KnowsKind, count_of_variants, type_names, field_names, type_at, variants_of, fields_of, place_of, with_type, add_type, add_variant, add_field, owner_type, owner_only, IsFieldEntry, IsTypeEntry, IsTypeTable, AreDistinct}
+use Rattle.store_core.specs.Tables.{TypeEntry, FieldEntry, KnowsType, KnowsOwner, KnowsKind, count_of_variants, type_names, field_names, type_at}
+use Rattle.store_core.specs.Tables.{variants_of, fields_of, place_of, with_type, add_type, add_variant, add_field, owner_type, owner_only}
+use Rattle.store_core.specs.Tables.{IsFieldEntry, IsTypeEntry, IsTypeTable, AreDistinct}
 use Rattle.store_core.proofs.Names.{AreDistinct-push}
 use Rattle.store_core.proofs.Growing.{Grows, Grows-set, IsFieldEntry-grows, IsTypeTable-push, IsTypeTable-set, AllByRecursion-weaker, AllByRecursion-push}
 use Rattle.store_core.proofs.Bodies.{AllByRecursion-at}

@@ -1,5 +1,6 @@
 -- What stands at the places of a store that fits its tables.
-use Rattle.std.proofs.Common.{◌≡◌, ℕ, zero, suc, Bool, true, false, cond, nat_eq, List, [], ◌∷◌, slice_get, Option, Some, None, IsSomeAnd, IfSome, refl, ap, subst, inl, inr}
+use Rattle.std.proofs.Common.{◌≡◌, ℕ, zero, suc, Bool, true, false, cond, nat_eq, List, [], ◌∷◌, slice_get, Option, Some, None, IsSomeAnd, IfSome}
+use Rattle.std.proofs.Common.{refl, ap, subst, inl, inr}
 use Rattle.std.specs.Option.{option_and_then}
 use Rattle.std.proofs.lemmas.Bool.{cases_eq, ne_eqb}
 use Rattle.store_core.specs.declared.ids.VarId.{VarId}

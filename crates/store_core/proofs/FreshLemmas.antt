@@ -43,5 +43,6 @@ module _ (s : StoreMap) (above : IsAbove s) where
   IsFresh-no_dead no_dead = record {
     cells = above;
     values = λ c. IfSome-from (cell_of s c) _ (λ cell is. AllByRecursion-from _ cell.values (slot_below c cell is no_dead));
-    vars = AllByRecursion-from (NamesBelow s.next) s.vars (λ i x at. names_below x (IfSome-at (slice_get s.vars i) (NamesLiveAlone s) x at (no_dead.vars (record { 0 = i }))));
+    vars = AllByRecursion-from (NamesBelow s.next) s.vars (λ i x at. names_below x
+        (IfSome-at (slice_get s.vars i) (NamesLiveAlone s) x at (no_dead.vars (record { 0 = i }))));
   }

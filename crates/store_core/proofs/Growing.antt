@@ -1,5 +1,6 @@
 -- What a table knows, a greater one knows; and a table stays one as it grows.
-use Rattle.std.proofs.Common.{◌≡◌, ℕ, zero, suc, ◌<◌, ◌≤◌, Bool, IsTrue, ◌&&◌, List, [], ◌∷◌, ◌++◌, length, set, Option, Some, None, refl, sym, ap, ◌∙◌, subst, arith, slice_get, IfSome}
+use Rattle.std.proofs.Common.{◌≡◌, ℕ, zero, suc, ◌<◌, ◌≤◌, Bool, IsTrue, ◌&&◌, List, [], ◌∷◌, ◌++◌, length, set, Option, Some, None, refl, sym, ap}
+use Rattle.std.proofs.Common.{◌∙◌, subst, arith, slice_get, IfSome}
 use Rattle.std.proofs.lemmas.List.{length-set, length_push, map_push}
 use Rattle.std.specs.Option.{option_map_or}
 use Rattle.std.specs.List.{AllByRecursion}
@@ -9,7 +10,8 @@ use Rattle.store_core.specs.declared.kind.Route.TheOpen.{Route-F}
 use Rattle.store_core.specs.declared.kind.Route.TheFolds.{fold-Route, fold-roll-Route, ind-Route, map-Route}
 use Rattle.store_core.specs.declared.kind.FieldKind.{FieldKind}
 use Rattle.store_core.specs.declared.kind.FieldKind.TheVariants as field
-use Rattle.store_core.specs.Tables.{TypeEntry, FieldEntry, KnowsVariant, KnowsKind, KnowsRoute, knows_node, count_of_variants, type_names, IsFieldEntry, IsTypeEntry, IsTypeTable, AreDistinct}
+use Rattle.store_core.specs.Tables.{TypeEntry, FieldEntry, KnowsVariant, KnowsKind, KnowsRoute, knows_node, count_of_variants, type_names}
+use Rattle.store_core.specs.Tables.{IsFieldEntry, IsTypeEntry, IsTypeTable, AreDistinct}
 
 -- every type and variant stays
 pub record Grows (old new : List TypeEntry) : Type 0 where

@@ -1,5 +1,6 @@
 -- Places of names in a list, and names that stand once.
-use Rattle.std.proofs.Common.{◌≡◌, ℕ, zero, suc, ◌+◌, Bool, true, false, cond, not, List, [], ◌∷◌, ◌++◌, length, map, Option, Some, None, position, refl, sym, ap, ◌∙◌, arith, slice_get, nat_lt, Result, Ok, Err, OnErr, IfNone}
+use Rattle.std.proofs.Common.{◌≡◌, ℕ, zero, suc, ◌+◌, Bool, true, false, cond, not, List, [], ◌∷◌, ◌++◌, length, map, Option, Some, None, position}
+use Rattle.std.proofs.Common.{refl, sym, ap, ◌∙◌, arith, slice_get, nat_lt, Result, Ok, Err, OnErr, IfNone}
 use Rattle.std.specs.Option.{option_map}
 use Rattle.std.specs.Str.{bytes_eq}
 use Rattle.std.proofs.lemmas.Cmp.{nat_list_eq_equiv}

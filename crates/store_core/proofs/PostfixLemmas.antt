@@ -1,5 +1,6 @@
 -- On routes in postfix order.
-use Rattle.std.proofs.Common.{◌≡◌, ℕ, ◌+◌, ◌<◌, List, [], ◌∷◌, ◌++◌, length, map, drop, get_or, IsSome, Option, Some, None, option_and_then, drop-cons, add-one, rules, suc, sym, ap, ◌∙◌, subst, append_assoc, append-nil}
+use Rattle.std.proofs.Common.{◌≡◌, ℕ, ◌+◌, ◌<◌, List, [], ◌∷◌, ◌++◌, length, map, drop, get_or, IsSome, Option, Some, None, option_and_then}
+use Rattle.std.proofs.Common.{drop-cons, add-one, rules, suc, sym, ap, ◌∙◌, subst, append_assoc, append-nil}
 use Rattle.store_core.specs.declared.kind.Route.{Route, roll-Route}
 use Rattle.store_core.specs.declared.kind.Route.TheOpen.{Route-F}
 use Rattle.store_core.specs.declared.kind.Route.TheFolds.{ind-Route, map-Route, fold-roll-Route}

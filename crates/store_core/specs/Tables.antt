@@ -1,6 +1,7 @@
 -- What a type table and a variable table are: lists of named things, each known by its place. (Klarlund and Schwartzbach,
 -- POPL 1993, "graph types"; the spelling is this project's.)
-use Rattle.std.specs.Prelude.{◌≡◌, IfSome, ℕ, ◌<◌, ◌≤◌, ◌==◌, ◌&&◌, Bool, true, false, IsTrue, nat_lt, List, [], length, map, slice_get, slice_set, Option, Some, None, option_map, position, if◌then◌else◌, ◌++◌, ◌∷◌}
+use Rattle.std.specs.Prelude.{◌≡◌, IfSome, ℕ, ◌<◌, ◌≤◌, ◌==◌, ◌&&◌, Bool, true, false, IsTrue, nat_lt, List, [], length, map, slice_get, slice_set}
+use Rattle.std.specs.Prelude.{Option, Some, None, option_map, position, if◌then◌else◌, ◌++◌, ◌∷◌}
 use Rattle.std.specs.Option.{option_map_or, option_and_then}
 use Rattle.std.specs.List.{AllByRecursion}
 use Rattle.std.specs.Str.{bytes_eq}

@@ -1,5 +1,6 @@
 -- What each change of a store changes and what it leaves.
-use Rattle.std.proofs.Common.{◌≡◌, ◌≢◌, ◌↔◌, ℕ, false, cond, nat_eq, List, map, set, Option, Some, None, IsSome, refl, sym, ap, ◌∙◌, subst, arith, slice_get, inl, inr}
+use Rattle.std.proofs.Common.{◌≡◌, ◌≢◌, ◌↔◌, ℕ, false, cond, nat_eq, List, map, set, Option, Some, None, IsSome, refl, sym, ap, ◌∙◌, subst, arith}
+use Rattle.std.proofs.Common.{slice_get, inl, inr}
 use Rattle.std.specs.Option.{option_map, option_and_then}
 use Rattle.std.proofs.lemmas.Bool.{cases_eq, eq-eqb, ne_eqb, false≢true}
 use Rattle.std.proofs.lemmas.Option.{slice_get-map}
@@ -10,11 +11,13 @@ use Rattle.store_core.specs.declared.ids.TypeId.{TypeId}
 use Rattle.store_core.specs.declared.ids.VariantId.{VariantId}
 use Rattle.store_core.specs.declared.value.Value.{Value}
 use Rattle.store_core.specs.Tables.{TypeEntry, FieldEntry, fields_of, field_at}
-use Rattle.store_core.specs.Stores.{StoreMap, CellEntry, IsLive, IsAbove, cell_of, field_of, field_value, var_value, blank_slot, blank_cell, put_cell, with_field, set_field, set_var, remove_cell}
+use Rattle.store_core.specs.Stores.{StoreMap, CellEntry, IsLive, IsAbove, cell_of, field_of, field_value, var_value, blank_slot, blank_cell, put_cell}
+use Rattle.store_core.specs.Stores.{with_field, set_field, set_var, remove_cell}
 use Rattle.store_core.proofs.AboveLemmas.{live_below}
 use Rattle.store_core.proofs.FittingLemmas.{same_type}
 use Rattle.store_laws.specs.Changed.{IsPut, IsFieldSet, IsVarSet, IsRemoved, next_cell, variant_of, blank_field}
-use Rattle.store_laws.proofs.CellLemmas.{cell_cases, put_here, put_elsewhere, set_here, set_elsewhere, gone_here, gone_elsewhere, get-set_here, get-set_elsewhere}
+use Rattle.store_laws.proofs.CellLemmas.{cell_cases, put_here, put_elsewhere, set_here, set_elsewhere, gone_here, gone_elsewhere, get-set_here}
+use Rattle.store_laws.proofs.CellLemmas.{get-set_elsewhere}
 
 -- a cell that isn't live is dead
 dead_unless : (o : Option CellEntry) → (IsSome o → ⊥) → o ≡ None
@@ -37,7 +40,8 @@ flat o = option_and_then (λ v. v) o
 
 -- ---- a cell more
 
-flat-blank : (index : ℕ) (o : Option FieldEntry) → option_and_then (λ (v : Option Value). v) (option_map (blank_slot index) o) ≡ option_and_then (blank_slot index) o
+flat-blank : (index : ℕ) (o : Option FieldEntry) → option_and_then (λ (v : Option Value). v) (option_map (blank_slot index) o)
+    ≡ option_and_then (blank_slot index) o
 flat-blank index None = refl
 flat-blank index (Some entry) = refl
 

@@ -1,5 +1,6 @@
 -- Which changes keep a store fitting its tables.
-use Rattle.std.proofs.Common.{◌≡◌, ℕ, zero, suc, ◌<◌, Bool, true, false, cond, List, [], ◌∷◌, map, set, Option, Some, None, IsSome, IsSomeAnd, IfSome, refl, sym, ap, ◌∙◌, subst, arith, slice_get, inl, inr}
+use Rattle.std.proofs.Common.{◌≡◌, ℕ, zero, suc, ◌<◌, Bool, true, false, cond, List, [], ◌∷◌, map, set, Option, Some, None, IsSome, IsSomeAnd, IfSome}
+use Rattle.std.proofs.Common.{refl, sym, ap, ◌∙◌, subst, arith, slice_get, inl, inr}
 use Rattle.std.specs.Option.{option_map, option_and_then}
 use Rattle.std.specs.FinMap.{get-empty}
 use Rattle.std.specs.Ordering.{nat_cmp}
@@ -15,7 +16,9 @@ use Rattle.store_core.specs.declared.kind.VarKind.{VarKind}
 use Rattle.store_core.specs.declared.kind.VarKind.TheVariants as var
 use Rattle.store_core.specs.declared.value.Value.{Value}
 use Rattle.store_core.specs.Tables.{TypeEntry, FieldEntry, VarEntry, fields_of, field_at, var_at, is_had, KnowsVariant}
-use Rattle.store_core.specs.Stores.{StoreMap, CellEntry, IsLive, IsAbove, IsFresh, cell_of, field_of, field_value, field_class, var_class, blank, blank_slot, blank_cell, empty_store, put_cell, with_field, set_field, set_var, remove_cell, NamesType, FieldFits, VarFits, SlotFits, SlotsFit, CellFits, VarsFit, Fits}
+use Rattle.store_core.specs.Stores.{StoreMap, CellEntry, IsLive, IsAbove, IsFresh, cell_of, field_of, field_value, field_class, var_class, blank}
+use Rattle.store_core.specs.Stores.{blank_slot, blank_cell, empty_store, put_cell, with_field, set_field, set_var, remove_cell, NamesType, FieldFits}
+use Rattle.store_core.specs.Stores.{VarFits, SlotFits, SlotsFit, CellFits, VarsFit, Fits}
 use Rattle.store_core.proofs.Growing.{AllByRecursion-weaker}
 use Rattle.store_core.proofs.AboveLemmas.{live_below, IsAbove-from}
 use Rattle.store_core.proofs.FittingLemmas.{IfSome-from, IfSome-at, IsSomeAnd-at, same_type}
@@ -58,7 +61,8 @@ blank_var_fits s (var.Pointer target) = tt
 blank_var_fits s (var.LogicSet target) = (tt, tt)
 blank_var_fits s var.LogicBool = tt
 
-blank_slot_fits : (s : StoreMap) (index : ℕ) (f : FieldEntry) (b : Bool) → is_had index f ≡ b → SlotFits s index f (cond b (Some (blank (field_class f.kind))) None)
+blank_slot_fits : (s : StoreMap) (index : ℕ) (f : FieldEntry) (b : Bool) → is_had index f ≡ b
+    → SlotFits s index f (cond b (Some (blank (field_class f.kind))) None)
 blank_slot_fits s index f true is = (is, blank_field_fits s f.kind)
 blank_slot_fits s index f false is = is
 
@@ -202,7 +206,8 @@ Fits-set_var types vars s v x fits fit =
 pub Fits-remove_cell : (types : List TypeEntry) (vars : List VarEntry) (s : StoreMap) (c : CellId) → Fits types vars s → Fits types vars (remove_cell s c)
 Fits-remove_cell types vars s c fits = record {
   cells = λ d. elim (cell_cases d c) [
-    | inl same ↦ subst (λ e. IfSome (cell_of t e) (CellFits types t)) (sym same) (subst (λ (o : Option CellEntry). IfSome o (CellFits types t)) (sym (gone_here s c)) tt)
+    | inl same ↦ subst (λ e. IfSome (cell_of t e) (CellFits types t)) (sym same)
+        (subst (λ (o : Option CellEntry). IfSome o (CellFits types t)) (sym (gone_here s c)) tt)
     | inr apart ↦ subst (λ (o : Option CellEntry). IfSome o (CellFits types t)) (sym (gone_elsewhere s c d apart))
         (IfSome-from (cell_of s d) (CellFits types t) (λ cell is.
         CellFits-kept s t (λ e. Unit {0}) type_kept types cell (slots-any cell.values) (IfSome-at (cell_of s d) _ cell is (fits.cells d))))
@@ -216,6 +221,7 @@ Fits-remove_cell types vars s c fits = record {
 
     type_kept : (target : TypeId) (d : CellId) → Unit {0} → NamesType s target d → NamesType t target d
     type_kept target d such names = elim (cell_cases d c) [
-      | inl same ↦ subst (λ e. NamesType t target e) (sym same) (subst (λ (o : Option CellEntry). IfSome o (λ cell. cell.variant.ty ≡ target)) (sym (gone_here s c)) tt)
+      | inl same ↦ subst (λ e. NamesType t target e) (sym same)
+          (subst (λ (o : Option CellEntry). IfSome o (λ cell. cell.variant.ty ≡ target)) (sym (gone_here s c)) tt)
       | inr apart ↦ subst (λ (o : Option CellEntry). IfSome o (λ cell. cell.variant.ty ≡ target)) (sym (gone_elsewhere s c d apart)) names
     ]

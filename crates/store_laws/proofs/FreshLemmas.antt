@@ -1,5 +1,6 @@
 -- Which changes keep a store fresh.
-use Rattle.std.proofs.Common.{◌≡◌, ℕ, ◌<◌, ◌+◌, Bool, true, false, cond, List, [], ◌∷◌, map, Option, Some, None, IsSome, IfSome, refl, sym, subst, arith, inl, inr}
+use Rattle.std.proofs.Common.{◌≡◌, ℕ, ◌<◌, ◌+◌, Bool, true, false, cond, List, [], ◌∷◌, map, Option, Some, None, IsSome, IfSome, refl, sym, subst}
+use Rattle.std.proofs.Common.{arith, inl, inr}
 use Rattle.std.specs.List.{AllByRecursion}
 use Rattle.std.specs.Ordering.{nat_cmp}
 use Rattle.std.specs.FinMap.{get, get-empty}
@@ -12,7 +13,8 @@ use Rattle.store_core.specs.declared.value.Class.TheVariants.{Truth, Reference, 
 use Rattle.store_core.specs.declared.value.Value.{Value}
 use Rattle.store_core.specs.declared.value.Value.TheVariants as value
 use Rattle.store_core.specs.Tables.{TypeEntry, FieldEntry, VarEntry, fields_of, is_had}
-use Rattle.store_core.specs.Stores.{StoreMap, CellEntry, cell_of, field_class, var_class, blank, blank_slot, empty_store, put_cell, set_field, set_var, remove_cell, NamesBelow, IsFresh}
+use Rattle.store_core.specs.Stores.{StoreMap, CellEntry, cell_of, field_class, var_class, blank, blank_slot, empty_store, put_cell, set_field}
+use Rattle.store_core.specs.Stores.{set_var, remove_cell, NamesBelow, IsFresh}
 use Rattle.store_core.proofs.Growing.{AllByRecursion-weaker, AllByRecursion-set}
 use Rattle.store_core.proofs.FittingLemmas.{IfSome-at}
 use Rattle.store_laws.specs.Changed.{next_cell}

@@ -1,5 +1,6 @@
 -- The cells that a draft keeps against the finite map that they stand for.
-use Rattle.std.proofs.Common.{◌≡◌, ℕ, ◌+◌, ◌<◌, ◌≤◌, max, Bool, true, false, cond, T, ◌&&◌, List, [], ◌∷◌, length, map, Option, Some, None, is_some, refl, sym, ap, ◌∙◌, subst, arith}
+use Rattle.std.proofs.Common.{◌≡◌, ℕ, ◌+◌, ◌<◌, ◌≤◌, max, Bool, true, false, cond, T, ◌&&◌, List, [], ◌∷◌, length, map, Option, Some, None, is_some}
+use Rattle.std.proofs.Common.{refl, sym, ap, ◌∙◌, subst, arith}
 use Rattle.std.specs.Option.{option_map}
 use Rattle.std.specs.List.{AllByRecursion}
 use Rattle.std.specs.List.Sorted.{IsStrictlySortedBy}
@@ -11,7 +12,8 @@ use Rattle.std.specs.BTreeMap.{is_at, insert_entry}
 use Rattle.std.proofs.lemmas.Cmp.{ranked, nat_cmp_total}
 use Rattle.std.proofs.lemmas.Map.Keys.{sorted_head, sorted_tail}
 use Rattle.std.specs.FinMap.Entries.{below_all, by_order}
-use Rattle.std.specs.FinMap.{keys, insert, contains_key, from_sorted, is_sorted, find, put, empty, entries-from_sorted, get-from_sorted, entries-insert, same_entries_map, empty_of_len, len-entries}
+use Rattle.std.specs.FinMap.{keys, insert, contains_key, from_sorted, is_sorted, find, put, empty, entries-from_sorted, get-from_sorted}
+use Rattle.std.specs.FinMap.{entries-insert, same_entries_map, empty_of_len, len-entries}
 use Rattle.store_core.specs.declared.store.CellBody.{CellBody}
 use Rattle.store_text.specs.declared.read.fields.SaidCell.{SaidCell}
 use Rattle.store_core.specs.Stores.{CellEntry}

@@ -1,5 +1,7 @@
 -- A store that was read fits its tables. The mentions that are no fault at the end are those of each value that was said.
-use Rattle.std.proofs.Common.{◌≡◌, ℕ, zero, suc, ◌+◌, ◌<◌, ◌≤◌, ◌==◌, ◌&&◌, Bool, true, false, cond, not, nat_lt, List, [], ◌∷◌, ◌++◌, length, map, slice_set, Option, Some, None, Result, Ok, Err, IfSome, inl, inr, ◌⊎◌, ◌↔◌, refl, sym, ap, ◌∙◌, subst, arith, slice_get, position, codes}
+use Rattle.std.proofs.Common.{◌≡◌, ℕ, zero, suc, ◌+◌, ◌<◌, ◌≤◌, ◌==◌, ◌&&◌, Bool, true, false, cond, not, nat_lt, List, [], ◌∷◌, ◌++◌, length, map}
+use Rattle.std.proofs.Common.{slice_set, Option, Some, None, Result, Ok, Err, IfSome, inl, inr, ◌⊎◌, ◌↔◌, refl, sym, ap, ◌∙◌, subst, arith, slice_get}
+use Rattle.std.proofs.Common.{position, codes}
 use Rattle.std.specs.Option.{option_map, option_map_or}
 use Rattle.std.specs.List.{AllByRecursion, find}
 use Rattle.std.specs.Ordering.{nat_cmp, eq_by_cmp, match_ordering}
@@ -29,12 +31,14 @@ use Rattle.store_text.specs.declared.read.spelled.Given.{Given}
 use Rattle.store_text.specs.declared.read.spelled.CellLine.{CellLine}
 use Rattle.store_text.specs.declared.read.spelled.Line.{Line}
 use Rattle.store_text.specs.declared.read.spelled.Line.TheVariants as line
-use Rattle.store_core.specs.Tables.{TypeEntry, FieldEntry, VarEntry, fields_of, field_at, field_names, variants_of, variant_count, type_at, type_named, var_named, var_at, place_of, is_had, has_field, KnowsVariant}
+use Rattle.store_core.specs.Tables.{TypeEntry, FieldEntry, VarEntry, fields_of, field_at, field_names, variants_of, variant_count, type_at}
+use Rattle.store_core.specs.Tables.{type_named, var_named, var_at, place_of, is_had, has_field, KnowsVariant}
 use Rattle.store_core.specs.CellLists.{AreRising}
 use Rattle.store_core.specs.Stores.{StoreMap, CellEntry, CellFits, Fits, FieldFits, VarFits, VarsFit, SlotsFit, NamesType, cell_of}
 use Rattle.store_text.specs.Spelling.{line_of, all_of}
 use Rattle.store_text.specs.Lines.{lines_of}
-use Rattle.store_text.specs.Saying.{is_said, Said, nothing_said, say_var, say_field, say_fields, say_cell, cell_said, field_had, variant_named, named_in, value_for, set_of, members_after, cells_numbered, mentions_of, field_holds, var_holds}
+use Rattle.store_text.specs.Saying.{is_said, Said, nothing_said, say_var, say_field, say_fields, say_cell, cell_said, field_had, variant_named}
+use Rattle.store_text.specs.Saying.{named_in, value_for, set_of, members_after, cells_numbered, mentions_of, field_holds, var_holds}
 use Rattle.store_text.specs.Reading.{reading, read_text, read_lines, read_end, after_end, say_line, checked, store_said, next_after, is_misnamed}
 use Rattle.std.specs.Str.{bytes_eq}
 use Rattle.store_core.proofs.Names.{position-cons}

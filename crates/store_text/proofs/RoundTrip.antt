@@ -1,5 +1,6 @@
 -- What is written of a store is read as that store: a line after the other.
-use Rattle.std.proofs.Common.{◌≡◌, ℕ, zero, suc, ◌+◌, ◌<◌, true, false, cond, T, List, [], ◌∷◌, ◌++◌, length, map, slice_get, slice_set, Option, Some, None, Ok, IfSome, refl, sym, ap, ◌∙◌, subst, arith, append_assoc, codes}
+use Rattle.std.proofs.Common.{◌≡◌, ℕ, zero, suc, ◌+◌, ◌<◌, true, false, cond, T, List, [], ◌∷◌, ◌++◌, length, map, slice_get, slice_set, Option, Some}
+use Rattle.std.proofs.Common.{None, Ok, IfSome, refl, sym, ap, ◌∙◌, subst, arith, append_assoc, codes}
 use Rattle.std.specs.Option.{option_map, option_map_or, is_some}
 use Rattle.std.specs.List.{AllByRecursion, flat_map, find, zip}
 use Rattle.std.specs.Ordering.{nat_cmp, is_lt, is_eq}
@@ -10,11 +11,13 @@ use Rattle.std.proofs.lemmas.List.{append-nil, length_push}
 use Rattle.std.proofs.lemmas.List.Folds.{flat_map-map}
 use Rattle.std.proofs.lemmas.Option.{slice_get-map}
 use Rattle.std.specs.FinMap.Entries.{below_all, by_order}
-use Rattle.std.specs.FinMap.{entries, entries_sorted, insert, keys, empty, contains_key, is_sorted, put, get-entries, entries-insert, same_entries_map, len-entries, len-empty}
+use Rattle.std.specs.FinMap.{entries, entries_sorted, insert, keys, empty, contains_key, is_sorted, put, get-entries, entries-insert}
+use Rattle.std.specs.FinMap.{same_entries_map, len-entries, len-empty}
 use Rattle.std.specs.FinMap as fin
 use Rattle.store_core.specs.declared.value.Value.{Value}
 use Rattle.store_text.specs.declared.read.holds.Mention.{Mention}
-use Rattle.store_core.specs.Tables.{TypeEntry, VarEntry, fields_of, field_names, var_names, var_named, type_at, IsTypeTable, IsTypeEntry, IsVarTable, AreDistinct}
+use Rattle.store_core.specs.Tables.{TypeEntry, VarEntry, fields_of, field_names, var_names, var_named, type_at, IsTypeTable, IsTypeEntry, IsVarTable}
+use Rattle.store_core.specs.Tables.{AreDistinct}
 use Rattle.store_core.specs.Stores.{StoreMap, CellEntry, CellFits, Fits, VarsFit, VarFits}
 use Rattle.store_text.specs.StoreText.{store_text_of, variant_text, var_lines, cell_lines}
 use Rattle.store_text.specs.Lines.{lines_of}

@@ -1,5 +1,7 @@
 -- What lines add to what was said, step by step.
-use Rattle.std.proofs.Common.{◌≡◌, ℕ, zero, suc, ◌+◌, ◌<◌, ◌==◌, ◌&&◌, ◌||◌, not, nat_lt, Bool, true, false, cond, List, [], ◌∷◌, ◌++◌, length, map, take, drop, get_or, slice_get, Option, Some, None, Result, Ok, Err, IsSomeAnd, IsErrAnd, IfErr, refl, sym, ap, ◌∙◌, subst, arith, append_assoc}
+use Rattle.std.proofs.Common.{◌≡◌, ℕ, zero, suc, ◌+◌, ◌<◌, ◌==◌, ◌&&◌, ◌||◌, not, nat_lt, Bool, true, false, cond, List, [], ◌∷◌, ◌++◌, length, map}
+use Rattle.std.proofs.Common.{take, drop, get_or, slice_get, Option, Some, None, Result, Ok, Err, IsSomeAnd, IsErrAnd, IfErr, refl, sym, ap, ◌∙◌}
+use Rattle.std.proofs.Common.{subst, arith, append_assoc}
 use Rattle.std.specs.Option.{option_map, option_and_then, option_map_or}
 use Rattle.std.specs.List.{list_any, AllByRecursion}
 use Rattle.std.specs.List.Sorted.{IsStrictlySortedBy}
@@ -25,10 +27,12 @@ use Rattle.store_text.specs.declared.read.spelled.CellLine.{CellLine}
 use Rattle.store_core.specs.declared.ids.VarId.{VarId}
 use Rattle.store_core.specs.declared.kind.VarKind.{VarKind}
 use Rattle.store_text.specs.declared.read.spelled.Given.{Given}
-use Rattle.store_core.specs.Tables.{TypeEntry, FieldEntry, VarEntry, var_named, var_at, fields_of, type_named, variant_count, place_of, field_names, has_field, is_had, KnowsVariant}
+use Rattle.store_core.specs.Tables.{TypeEntry, FieldEntry, VarEntry, var_named, var_at, fields_of, type_named, variant_count, place_of, field_names}
+use Rattle.store_core.specs.Tables.{has_field, is_had, KnowsVariant}
 use Rattle.store_core.specs.CellLists.{AreRising}
 use Rattle.store_core.specs.Stores.{CellEntry}
-use Rattle.store_text.specs.Saying.{◌>>=◌, IsStop, or_fault, members_after, cells_numbered, field_had, field_holds, mentions_of, named_by, named_in, named_at, variant_named, say_fields, cell_said, Said, say_cell, is_said, value_for, var_holds, say_var}
+use Rattle.store_text.specs.Saying.{◌>>=◌, IsStop, or_fault, members_after, cells_numbered, field_had, field_holds, mentions_of, named_by, named_in}
+use Rattle.store_text.specs.Saying.{named_at, variant_named, say_fields, cell_said, Said, say_cell, is_said, value_for, var_holds, say_var}
 use Rattle.store_core.proofs.Adding.{at_known}
 
 -- ---- faults

@@ -1,5 +1,6 @@
 -- What is spelled of values and lines is read as those values and lines.
-use Rattle.std.proofs.Common.{◌≡◌, ℕ, ◌<◌, ◌≤◌, ◌==◌, ◌&&◌, ◌^◌, Bool, true, false, cond, nat_le, List, [], ◌∷◌, ◌++◌, length, map, Some, None, refl, sym, ap, ◌∙◌, arith, get_or, codes}
+use Rattle.std.proofs.Common.{◌≡◌, ℕ, ◌<◌, ◌≤◌, ◌==◌, ◌&&◌, ◌^◌, Bool, true, false, cond, nat_le, List, [], ◌∷◌, ◌++◌, length, map, Some, None, refl}
+use Rattle.std.proofs.Common.{sym, ap, ◌∙◌, arith, get_or, codes}
 use Rattle.std.specs.Option.{option_map}
 use Rattle.std.specs.List.{AllByRecursion, flat_map, join_by, list_all}
 use Rattle.std.specs.Fmt.{decimal}
@@ -16,7 +17,8 @@ use Rattle.store_text.specs.StoreText.{value_text, cell_text}
 use Rattle.store_text.specs.Lines.{parts_of}
 use Rattle.store_text.specs.Spelling.{◌>>=◌, is_name, is_name_part, all_of, number_of, number_after, before_close, numbers_of, counted_of, value_of}
 use Rattle.store_text.specs.Writable.{IsTellable, NamesTellable}
-use Rattle.store_text.proofs.Words.{IsWord, IsWord-parts, IsWord-braces, IsInside, AreParts, parts_all, AreDigits, AreDigits-decimal, AreParts-digits, spaced, parts_words}
+use Rattle.store_text.proofs.Words.{IsWord, IsWord-parts, IsWord-braces, IsInside, AreParts, parts_all, AreDigits, AreDigits-decimal, AreParts-digits}
+use Rattle.store_text.proofs.Words.{spaced, parts_words}
 
 -- ---- names
 

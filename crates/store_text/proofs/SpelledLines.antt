@@ -11,7 +11,8 @@ use Rattle.store_core.specs.Tables.{FieldEntry, field_names}
 use Rattle.store_text.specs.StoreText.{value_text, slots_text}
 use Rattle.store_text.specs.Spelling.{◌>>=◌, is_name, all_of, name_of, given_of, field_of, variant_of, type_of, line_in, line_of, var_line, cell_line, cell_in}
 use Rattle.store_text.specs.Writable.{AreNames, IsTellable, NamesTellable}
-use Rattle.store_text.proofs.Words.{IsWord, IsWord-parts, IsWord-append, IsWord-equals, IsWord-colon, HasNoLine, HasNoLine-words, AreParts, plain_part, spaced, parts_words, cut_front, cut_none}
+use Rattle.store_text.proofs.Words.{IsWord, IsWord-parts, IsWord-append, IsWord-equals, IsWord-colon, HasNoLine, HasNoLine-words, AreParts}
+use Rattle.store_text.proofs.Words.{plain_part, spaced, parts_words, cut_front, cut_none}
 use Rattle.store_text.proofs.Spelled.{name_parts, number_read, spelled_of, value_read, IsWord-value, IsWord-cell}
 
 apart_equals : (bytes : List ℕ) → AreParts bytes → AllByRecursion (λ b. (b == 61) ≡ false) bytes

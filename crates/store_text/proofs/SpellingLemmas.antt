@@ -1,5 +1,6 @@
 -- Names, numbers and values, read byte by byte and word by word.
-use Rattle.std.proofs.Common.{◌≡◌, ◌≢◌, ℕ, ◌+◌, ◌-◌, ◌*◌, ◌<◌, ◌≤◌, ◌==◌, ◌&&◌, nat_le, Bool, true, false, cond, List, [], ◌∷◌, ◌++◌, length, Option, Some, None, refl, sym, ap, ◌∙◌, arith, append_assoc, get_or, drop, codes, subst}
+use Rattle.std.proofs.Common.{◌≡◌, ◌≢◌, ℕ, ◌+◌, ◌-◌, ◌*◌, ◌<◌, ◌≤◌, ◌==◌, ◌&&◌, nat_le, Bool, true, false, cond, List, [], ◌∷◌, ◌++◌, length, Option}
+use Rattle.std.proofs.Common.{Some, None, refl, sym, ap, ◌∙◌, arith, append_assoc, get_or, drop, codes, subst}
 use Rattle.std.specs.Option.{option_map}
 use Rattle.std.specs.List.{list_all}
 use Rattle.std.specs.Char.{is_ascii_digit, digit_value}
@@ -12,7 +13,8 @@ use Rattle.store_text.specs.declared.read.spelled.Given.{Given}
 use Rattle.store_text.specs.declared.read.spelled.CellLine.{CellLine}
 use Rattle.store_text.specs.declared.read.spelled.Line.TheVariants as line
 use Rattle.store_text.specs.Lines.{parts_of}
-use Rattle.store_text.specs.Spelling.{◌>>=◌, all_of, number_after, number_of, before_close, numbers_of, counted_of, given_of, field_of, type_of, var_line, cell_in, cell_line, line_in, line_of}
+use Rattle.store_text.specs.Spelling.{◌>>=◌, all_of, number_after, number_of, before_close, numbers_of, counted_of, given_of, field_of, type_of}
+use Rattle.store_text.specs.Spelling.{var_line, cell_in, cell_line, line_in, line_of}
 
 -- ---- all of a list
 

@@ -1,5 +1,6 @@
 -- A cell that fits is read from the line that tells it.
-use Rattle.std.proofs.Common.{◌≡◌, ℕ, zero, suc, ◌<◌, ◌==◌, ◌&&◌, Bool, true, false, cond, nat_lt, List, [], ◌∷◌, ◌++◌, length, map, slice_get, slice_set, Option, Some, None, Ok, refl, sym, ap, ◌∙◌, subst, arith, append_assoc}
+use Rattle.std.proofs.Common.{◌≡◌, ℕ, zero, suc, ◌<◌, ◌==◌, ◌&&◌, Bool, true, false, cond, nat_lt, List, [], ◌∷◌, ◌++◌, length, map, slice_get}
+use Rattle.std.proofs.Common.{slice_set, Option, Some, None, Ok, refl, sym, ap, ◌∙◌, subst, arith, append_assoc}
 use Rattle.std.specs.Option.{option_map, option_map_or}
 use Rattle.std.specs.List.{AllByRecursion}
 use Rattle.std.proofs.lemmas.Option.{slice_get-map}
@@ -10,7 +11,8 @@ use Rattle.store_core.specs.declared.ids.FieldId.{FieldId}
 use Rattle.store_core.specs.declared.value.Value.{Value}
 use Rattle.store_text.specs.declared.read.holds.Mention.{Mention}
 use Rattle.store_text.specs.declared.read.spelled.CellLine.{CellLine}
-use Rattle.store_core.specs.Tables.{TypeEntry, FieldEntry, fields_of, field_at, field_names, field_named, type_at, type_names, type_named, variants_of, variant_count, place_of, is_had, has_field, KnowsVariant, AreDistinct}
+use Rattle.store_core.specs.Tables.{TypeEntry, FieldEntry, fields_of, field_at, field_names, field_named, type_at, type_names, type_named}
+use Rattle.store_core.specs.Tables.{variants_of, variant_count, place_of, is_had, has_field, KnowsVariant, AreDistinct}
 use Rattle.store_core.specs.Stores.{StoreMap, CellEntry, SlotsFit, CellFits}
 use Rattle.store_text.specs.Saying.{◌>>=◌, say_field, say_fields, cell_said, field_had, variant_named, named_in, mentions_of, field_holds}
 use Rattle.store_core.proofs.Names.{place_of-at}

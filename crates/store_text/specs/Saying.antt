@@ -1,5 +1,6 @@
 -- What the lines of a store text add to what those before them have said.
-use Rattle.std.specs.Prelude.{◌≡◌, ◌≢◌, ℕ, ◌==◌, List, [], ◌∷◌, ◌++◌, map, slice_get, slice_set, Option, Some, None, option_map, Result, Ok, Err, if◌then◌else◌, Bool, true, false}
+use Rattle.std.specs.Prelude.{◌≡◌, ◌≢◌, ℕ, ◌==◌, List, [], ◌∷◌, ◌++◌, map, slice_get, slice_set, Option, Some, None, option_map, Result, Ok, Err}
+use Rattle.std.specs.Prelude.{if◌then◌else◌, Bool, true, false}
 use Rattle.std.specs.Option.{option_and_then}
 use Rattle.std.specs.List.{list_any}
 use Rattle.std.specs.Ordering.{nat_cmp}
@@ -24,7 +25,8 @@ use Rattle.store_text.specs.declared.read.spelled.Spelled.{Spelled}
 use Rattle.store_text.specs.declared.read.spelled.Spelled.TheVariants as spelled
 use Rattle.store_text.specs.declared.read.spelled.Given.{Given}
 use Rattle.store_text.specs.declared.read.spelled.CellLine.{CellLine}
-use Rattle.store_core.specs.Tables.{TypeEntry, FieldEntry, VarEntry, fields_of, variants_of, field_at, var_at, type_named, field_named, var_named, place_of, unnamed_of, has_field, is_had}
+use Rattle.store_core.specs.Tables.{TypeEntry, FieldEntry, VarEntry, fields_of, variants_of, field_at, var_at, type_named, field_named, var_named}
+use Rattle.store_core.specs.Tables.{place_of, unnamed_of, has_field, is_had}
 use Rattle.store_core.specs.Stores.{CellEntry}
 
 infixl 10 ◌>>=◌

@@ -1,5 +1,6 @@
 -- Labelled trees as lists of nodes, and the assignment that such a list stands for.
-use Rattle.std.specs.Prelude.{◌≡◌, ℕ, ◌+◌, ◌-◌, ◌<◌, true, false, ◌==◌, List, [], ◌∷◌, ◌++◌, length, slice_get, unwrap_or, option_to_list, flat_map, count_by, Option, Some, None, IfSome}
+use Rattle.std.specs.Prelude.{◌≡◌, ℕ, ◌+◌, ◌-◌, ◌<◌, true, false, ◌==◌, List, [], ◌∷◌, ◌++◌, length, slice_get, unwrap_or, option_to_list, flat_map}
+use Rattle.std.specs.Prelude.{count_by, Option, Some, None, IfSome}
 use Rattle.std.specs.List.{list_any}
 use Rattle.gta_theory.specs.Assignments.{Assignment, empty_assignment}
 use Rattle.gta_theory.specs.Listed.{meanings}

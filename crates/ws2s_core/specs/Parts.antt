@@ -1,5 +1,6 @@
 -- The parts of a formula, and their numbers in a list of formulas.
-use Rattle.std.specs.Prelude.{◌≡◌, ℕ, suc, ◌<◌, ◌≤◌, Bool, true, false, IsTrue, ◌↔◌, List, length, All, AllPairs, Contains, fold, slice_get, slice_index_or, slice_set, Some}
+use Rattle.std.specs.Prelude.{◌≡◌, ℕ, suc, ◌<◌, ◌≤◌, Bool, true, false, IsTrue, ◌↔◌, List, length, All, AllPairs, Contains, fold, slice_get}
+use Rattle.std.specs.Prelude.{slice_index_or, slice_set, Some}
 use Rattle.ws2s_core.specs.declared.formula.Formula.{Formula, out-Formula}
 use Rattle.ws2s_core.specs.declared.node.FormulaId.{FormulaId}
 use Rattle.ws2s_core.specs.declared.node.Node.{Node}

@@ -27,13 +27,16 @@ use Rattle.ws2s_parse.specs.declared.build.binding.Binding.{Binding}
 use Rattle.ws2s_parse.specs.declared.grammar.act.SourceAct.{SourceAct}
 use Rattle.ws2s_parse.specs.declared.grammar.act.SourceAct.TheVariants as made
 use Rattle.ws2s_parse.specs.declared.grammar.act.ItemAct.{ItemAct}
-use Rattle.ws2s_parse.specs.declared.grammar.act.ItemAct.TheVariants.{AddVariable, DeclarePositions, DeclareSets, PositionParameter, SetParameter, AddPredicate, AddFormula}
+use Rattle.ws2s_parse.specs.declared.grammar.act.ItemAct.TheVariants.{AddVariable, DeclarePositions, DeclareSets, PositionParameter, SetParameter}
+use Rattle.ws2s_parse.specs.declared.grammar.act.ItemAct.TheVariants.{AddPredicate, AddFormula}
 use Rattle.ws2s_parse.specs.declared.grammar.act.TermAct.{TermAct}
 use Rattle.ws2s_parse.specs.declared.grammar.act.TermAct.TheVariants.{PushName, StartRoot, StartName, AddZero, AddOne, AddArgument}
 use Rattle.ws2s_parse.specs.declared.grammar.act.AtomAct.{AtomAct}
-use Rattle.ws2s_parse.specs.declared.grammar.act.AtomAct.TheVariants.{TrueFormula, FalseFormula, MakeEmpty, MakeUse, MakeSame, MakeDiffer, MakeIn, MakeNotIn, MakeSub}
+use Rattle.ws2s_parse.specs.declared.grammar.act.AtomAct.TheVariants.{TrueFormula, FalseFormula, MakeEmpty, MakeUse, MakeSame, MakeDiffer, MakeIn}
+use Rattle.ws2s_parse.specs.declared.grammar.act.AtomAct.TheVariants.{MakeNotIn, MakeSub}
 use Rattle.ws2s_parse.specs.declared.grammar.act.ConnectiveAct.{ConnectiveAct}
-use Rattle.ws2s_parse.specs.declared.grammar.act.ConnectiveAct.TheVariants.{JoinIff, MakeImplies, JoinOr, JoinAnd, MakeNot, BeginEx1, BeginAll1, BeginEx2, BeginAll2, AddBound, MakeQuantified}
+use Rattle.ws2s_parse.specs.declared.grammar.act.ConnectiveAct.TheVariants.{JoinIff, MakeImplies, JoinOr, JoinAnd, MakeNot, BeginEx1, BeginAll1}
+use Rattle.ws2s_parse.specs.declared.grammar.act.ConnectiveAct.TheVariants.{BeginEx2, BeginAll2, AddBound, MakeQuantified}
 use Rattle.ws2s_parse.specs.MakingParts.{Parts, nothing, nameless, name_of}
 
 -- ---- items

@@ -1,5 +1,6 @@
 -- How reductions are built by a loop: what is left to do, and the formulas that are finished.
-use Rattle.std.specs.Prelude.{ℕ, zero, suc, ◌+◌, nat_le, if◌then◌else◌, ◌==◌, List, [], ◌∷◌, length, map, reverse, take, drop, slice_get, Option, Some, None, option_and_then}
+use Rattle.std.specs.Prelude.{ℕ, zero, suc, ◌+◌, nat_le, if◌then◌else◌, ◌==◌, List, [], ◌∷◌, length, map, reverse, take, drop, slice_get, Option}
+use Rattle.std.specs.Prelude.{Some, None, option_and_then}
 use Rattle.std.specs.List.{sum}
 use Rattle.ws2s_core.specs.declared.formula.Formula.{Formula}
 use Rattle.ws2s_core.specs.declared.formula.Formula.TheVariants.{And, Not, Ex2}

@@ -1,4 +1,5 @@
-use Rattle.routing_expr.proofs.WalkLemmas.{Walk-Down, Walk-Up, Walk-UpAny, Walk-Root, Walk-Leaf, Walk-IsType, Walk-IsVariant, Walk-IsBool, Walk-Then, Walk-Or, Walk-Star}
+use Rattle.routing_expr.proofs.WalkLemmas.{Walk-Down, Walk-Up, Walk-UpAny, Walk-Root, Walk-Leaf, Walk-IsType, Walk-IsVariant, Walk-IsBool, Walk-Then}
+use Rattle.routing_expr.proofs.WalkLemmas.{Walk-Or, Walk-Star}
 use Rattle.routing_expr.proofs.laws.walks_go_by_cases.Goals as goal
 
 pub returns : goal.returns

@@ -8,7 +8,8 @@ no_length [] e = refl
 no_length (c ∷ cells) e = absurd (omega arith)
 
 pub loop-cell-init : goal.loop-cell-init
-loop-cell-init c = reach_init c.args.types.now c.args.vars.now c.args.store.now c.args.roots.now _ _ c.in_ok-live_cells.ensures c.new.ensures.items c.in_ok-add_roots.ensures
+loop-cell-init c = reach_init c.args.types.now c.args.vars.now c.args.store.now c.args.roots.now _ _ c.in_ok-live_cells.ensures c.new.ensures.items
+    c.in_ok-add_roots.ensures
 
 pub loop-cell-preserved : goal.loop-cell-preserved
 loop-cell-preserved c =

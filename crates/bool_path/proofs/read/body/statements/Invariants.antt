@@ -6,7 +6,8 @@ use Rattle.bool_path.proofs.read.body.statements.Given as goal
 
 abbrev pub invariant-statements : goal.invariant-statements
 invariant-statements l = record {
-  so_far : (turns : ℕ) → statements_at (table_of l.names) turns l.body l.atoms (kinds_of l.rest) ≡ statements_at (table_of l.names) (turns + length l.body) [] 0 (kinds_of l.tokens);
+  so_far : (turns : ℕ) → statements_at (table_of l.names) turns l.body l.atoms (kinds_of l.rest) ≡ statements_at (table_of l.names)
+      (turns + length l.body) [] 0 (kinds_of l.tokens);
   shorter : length l.rest + length l.body ≤ length l.tokens;
   few : l.atoms ≤ 128;
 }

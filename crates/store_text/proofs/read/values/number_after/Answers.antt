@@ -4,7 +4,8 @@ use Rattle.std.proofs.lemmas.Bool.Decides.{nat_tests}
 use Rattle.store_text.specs.Spelling.{number_after}
 use Rattle.store_text.proofs.SpellingLemmas.{number_after-digit, number_after-stray, number_after-great, number_after-end}
 use Rattle.store_text.proofs.read.values.number_after.Goals as goal
-use Rattle.store_text.proofs.read.values.number_after.Goals.{then-not-is_ascii_digit-via-then-not-is_ascii_digit, then-not-is_ascii_digit-via-else-not-is_ascii_digit+then-number}
+use Rattle.store_text.proofs.read.values.number_after.Goals.{then-not-is_ascii_digit-via-then-not-is_ascii_digit}
+use Rattle.store_text.proofs.read.values.number_after.Goals.{then-not-is_ascii_digit-via-else-not-is_ascii_digit+then-number}
 
 pub returns-then-not-is_ascii_digit : goal.returns-then-not-is_ascii_digit
 returns-then-not-is_ascii_digit c =
