@@ -76,7 +76,7 @@ set-Some t kinds x read =
     let two = literal-Some place.Code t 199 k2 source.0 source.1 e3 in
     let is : IsCondition (MayBe place.Code t) source.0 = record { form = two.2.form; names = two.2.names; levels = omega (arith, two.2.levels) } in
     let whole = set_is t target.0 source.0 kinds target.1 k2 source.1 two.0 k4 one.0 (after-mark mark.Equals target.1 k2 e2) two.1 two.2.spelled
-        (after-mark mark.Semicolon source.1 k4 e4) in
+    (after-mark mark.Semicolon source.1 k4 e4) in
     subst (IsFirst t kinds) (same_Some {A = Stated} (Set target.0 source.0, k4) x now4) (whole, (one.1, is))))))
 
 statement-Some : (t : Table) (kinds : List TokenKind) (x : Stated) → statement_at t kinds ≡ Some x → IsFirst t kinds x
@@ -93,19 +93,23 @@ not_skip word later differ = bytes_differ word (codes "skip") differ
 
 set_again : (t : Table) (k : ℕ) (source : BoolExpr) (rest : List TokenKind) → IsTable t → IsCode t (Set k source)
     → set_at t (kind.Name (name_at t.all k) ∷ kind.Mark mark.Equals ∷ (tokens_of mark.Bang t.all source ++ (kind.Mark mark.Semicolon ∷ rest)))
-        ≡ Some (Set k source, rest)
+    ≡ Some (Set k source, rest)
 unfolding set_at target_at
 set_again t k source rest is code =
     let end : List TokenKind = kind.Mark mark.Semicolon ∷ rest in
     let later : List TokenKind = tokens_of mark.Bang t.all source ++ end in
     let read : literal_at place.Code t 199 later ≡ Some (source, end) = literal_again place.Code t is source 199 end code.1.form code.1.names
-        (omega (arith, code.1.levels)) in
+    (omega (arith, code.1.levels)) in
     rw (variable_again place.Code t k is code.0, mark_again mark.Equals later, read, mark_again mark.Semicolon rest) refl
 
 statement_again : (t : Table) (s : BoolStmt) (rest : List TokenKind) → IsTable t → IsCode t s → statement_at t (statement_part t.all s ++ rest) ≡ Some (s, rest)
 unfolding statement_at skip_at
-statement_again t Skip rest is code = rw (begins_word (codes "skip") (kind.Mark mark.Semicolon ∷ rest), word_again (codes "skip")
-    (kind.Mark mark.Semicolon ∷ rest), mark_again mark.Semicolon rest) refl
+statement_again t Skip rest is code = rw (
+  begins_word (codes "skip") (kind.Mark mark.Semicolon ∷ rest),
+  word_again (codes "skip")
+      (kind.Mark mark.Semicolon ∷ rest),
+  mark_again mark.Semicolon rest,
+) refl
 statement_again t (Set k source) rest is code =
     let ours : List TokenKind = tokens_of mark.Bang t.all source in
     let end : List TokenKind = kind.Mark mark.Semicolon ∷ rest in
@@ -114,7 +118,7 @@ statement_again t (Set k source) rest is code =
     let regrouped : statement_part t.all (Set k source) ++ rest ≡ kind.Name (name_at t.all k) ∷ later =
     ap (λ (x : List TokenKind). kind.Name (name_at t.all k) ∷ kind.Mark mark.Equals ∷ x) (append_assoc ours (kind.Mark mark.Semicolon ∷ []) rest) in
     ap (statement_at t) regrouped ∙ rw (not_skip (name_at t.all k) later (is_free t k (codes "skip") is lt (11, omega arith, refl)))
-        (set_again t k source rest is code)
+    (set_again t k source rest is code)
 
 -- ---- statements
 
@@ -156,7 +160,7 @@ statements-Some t (suc turns) before atoms kinds all rest low read =
         (statement_at t kinds >>= λ x. cond (ltb 128 (atoms + atoms_in x.0)) None
         (statements_at t turns (before ++ x.0 ∷ []) (atoms + atoms_in x.0) x.1)) ≡ Some (all, rest)
         → ((body : List BoolStmt) (count : ℕ) (later : List TokenKind) → count ≤ 128 → statements_at t turns body count later ≡ Some (all, rest)
-            → AddsStatements t body all count later rest)
+        → AddsStatements t body all count later rest)
         → AddsStatements t before all atoms kinds rest
     go true now rec =
         subst (λ (x : Bodied). AddsStatements t before x.0 atoms kinds x.1) (same_Some {A = Bodied} (before, kinds) (all, rest) now)
@@ -179,7 +183,7 @@ no_brace t (Set k source) rest = refl
 statements_again : (t : Table) (turns : ℕ) (before more : List BoolStmt) (atoms : ℕ) (rest : List TokenKind) → IsTable t
     → AllByRecursion (IsCode t) more → length more < turns → atoms + atoms_of more ≤ 128
     → statements_at t turns before atoms (flat_map (statement_part t.all) more ++ (kind.Mark mark.RightBrace ∷ rest))
-        ≡ Some (before ++ more, kind.Mark mark.RightBrace ∷ rest)
+    ≡ Some (before ++ more, kind.Mark mark.RightBrace ∷ rest)
 unfolding statements_at
 statements_again t zero before more atoms rest is code long few = absurd (omega arith)
 statements_again t (suc turns) before [] atoms rest is code long few =
@@ -208,16 +212,19 @@ body-Some t kinds body read =
     let on = statements-Some t (length kinds + 1) [] 0 kinds x.0 x.1 (omega arith) e1 in
     let same : on.more ≡ body = sym on.body ∙ over.1 in
     let ended : x.1 ≡ kind.Mark mark.RightBrace ∷ [] = after-mark mark.RightBrace x.1 rest e2
-        ∙ ap (λ (y : List TokenKind). kind.Mark mark.RightBrace ∷ y) over.0 in
+    ∙ ap (λ (y : List TokenKind). kind.Mark mark.RightBrace ∷ y) over.0 in
     let whole : kinds ≡ body_tokens t on.more = on.spelled ∙ ap (λ (y : List TokenKind). flat_map (statement_part t.all) on.more ++ y) ended in
     subst (λ b. (kinds ≡ body_tokens t b) × All (IsCode t) b × (atoms_of b ≤ 128)) same
-        (whole, All-from_recursion (IsCode t) on.more on.code, omega (arith, on.few))))
+    (whole, All-from_recursion (IsCode t) on.more on.code, omega (arith, on.few))))
 
 length-statements : (t : Table) (body : List BoolStmt) → length body ≤ length (flat_map (statement_part t.all) body)
 length-statements t [] = omega arith
 length-statements t (Skip ∷ body) = omega (arith, length-append (statement_part t.all Skip) (flat_map (statement_part t.all) body), length-statements t body)
-length-statements t (Set k source ∷ body) = omega (arith, length-append (statement_part t.all (Set k source)) (flat_map (statement_part t.all) body),
-    length-statements t body)
+length-statements t (Set k source ∷ body) = omega (
+  arith,
+  length-append (statement_part t.all (Set k source)) (flat_map (statement_part t.all) body),
+  length-statements t body,
+)
 
 pub body_again : (t : Table) (body : List BoolStmt) → IsTable t → All (IsCode t) body → atoms_of body ≤ 128 → body_at t (body_tokens t body) ≡ Some body
 unfolding body_at
@@ -226,5 +233,5 @@ body_again t body is code few =
     let end : List TokenKind = kind.Mark mark.RightBrace ∷ [] in
     let long : length body < length kinds + 1 = omega (arith, length-append (flat_map (statement_part t.all) body) end, length-statements t body) in
     let read : statements_at t (length kinds + 1) [] 0 kinds ≡ Some (body, end) = statements_again t (length kinds + 1) [] body 0 [] is
-        (recursion_from_All (IsCode t) body code) long (omega arith) in
+    (recursion_from_All (IsCode t) body code) long (omega arith) in
     rw (read, mark_again mark.RightBrace []) (ended_again body)

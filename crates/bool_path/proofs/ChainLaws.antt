@@ -69,7 +69,7 @@ GoesOn-Iff at t left right e kinds others front later rest marked fronted spelle
     let ours : BoolExpr → List TokenKind = tokens_of (negation at) t.all in
     let regrouped : ours (Iff left right) ++ on.more ≡ ours left ++ (kind.Mark mark.Equivalent ∷ (ours right ++ on.more)) =
     ap (λ (x : List TokenKind). x ++ on.more) (tokens_of-Iff (negation at) t.all left right) ∙ append_assoc (ours left)
-        (kind.Mark mark.Equivalent ∷ ours right) on.more in
+    (kind.Mark mark.Equivalent ∷ ours right) on.more in
     record {
       more = kind.Mark mark.Equivalent ∷ (front ++ on.more);
       parts = marked ∙ ap (λ (x : List TokenKind). kind.Mark mark.Equivalent ∷ x)
@@ -91,13 +91,13 @@ chain-Some at t (suc turns) left kinds e rest is read =
     go false starts rec =
         let made : ◌≡◌ {A = BoolExpr × List TokenKind} (left, kinds) (e, rest) = same_Some (left, kinds) (e, rest) (rw starts at read) in
         subst (λ (x : BoolExpr × List TokenKind). GoesOn at t left x.0 kinds x.1) made
-            (record { more = []; parts = refl; spelled = sym (append-nil (tokens_of (negation at) t.all left)); is = is })
+        (record { more = []; parts = refl; spelled = sym (append-nil (tokens_of (negation at) t.all left)); is = is })
     go true starts rec =
         let a = bind_some (after (is_mark mark.Equivalent) kinds)
-            (λ others. literal_at at t 200 others >>= λ x. cond (ltb 65536 (size_of (Iff left x.0))) None (chain_at at t turns (Iff left x.0) x.1))
-            (e, rest) (rw starts at read) in
+        (λ others. literal_at at t 200 others >>= λ x. cond (ltb 65536 (size_of (Iff left x.0))) None (chain_at at t turns (Iff left x.0) x.1))
+        (e, rest) (rw starts at read) in
         let b = bind_some (literal_at at t 200 a.0) (λ x. cond (ltb 65536 (size_of (Iff left x.0))) None (chain_at at t turns (Iff left x.0) x.1))
-            (e, rest) a.2 in
+        (e, rest) a.2 in
         let g = fits (ltb 65536 (size_of (Iff left b.0.0))) (chain_at at t turns (Iff left b.0.0) b.0.1) b.2 in
         let literal = literal-Some at t 200 a.0 b.0.0 b.0.1 b.1 in
         let size : size_of (Iff left b.0.0) ≤ 65536 = ltb-false 65536 (size_of (Iff left b.0.0)) g.0 in
@@ -143,7 +143,7 @@ joined_parts Neither Neither is = absurd (is refl)
 size_pos : (e : BoolExpr) → 1 ≤ size_of e
 size_pos = by_form (λ e. 1 ≤ size_of e)
     (λ k. omega (arith, size_of-Name k)) (λ b. omega (arith, size_of-Truth b)) (λ e on_e. omega (arith, size_of-Not e))
-        (λ l r on_l on_r. omega (arith, size_of-Iff l r))
+    (λ l r on_l on_r. omega (arith, size_of-Iff l r))
 
 -- a reading begins with the first literal, and reads the rest of the chain in `joins` turns
 record Begins (at : Place) (t : Table) (e : BoolExpr) (rest : List TokenKind) : Type 0 where
@@ -179,12 +179,17 @@ module _ (at : Place) (t : Table) (is : IsTable t) where
       let uses : All (MayBe at t) (uses_of l ++ uses_of r) = rw uses_of-Iff at part.names in
       let levels : max (levels_of l) (levels_of r) ≤ 200 = rw levels_of-Iff at part.levels in
       let size = size_of-Iff l r in
-      let left : IsPart at t l = record { form = forms.0; names = All-left (MayBe at t) (uses_of l) (uses_of r) uses; levels = omega arith; size =
-          omega (arith, part.size) } in
+      let left : IsPart at t l = record {
+        form = forms.0;
+        names = All-left (MayBe at t) (uses_of l) (uses_of r) uses;
+        levels = omega arith;
+        size =
+            omega (arith, part.size);
+      } in
       let after_left : List TokenKind = kind.Mark mark.Equivalent ∷ (ours r ++ rest) in
       let begun = on_l left after_left in
       let right : literal_at at t 200 (ours r ++ rest) ≡ Some (r, rest) =
-          literal_again at t is r 200 rest forms.1 (All-right (MayBe at t) (uses_of l) (uses_of r) uses) (omega arith) in
+      literal_again at t is r 200 rest forms.1 (All-right (MayBe at t) (uses_of l) (uses_of r) uses) (omega arith) in
       let small : ltb 65536 (size_of (Iff l r)) ≡ false = le-ltb 65536 (size_of (Iff l r)) part.size in
       let turn : (turns : ℕ) → chain_at at t (suc turns) l after_left ≡ chain_at at t turns (Iff l r) rest =
       λ turns. rw (begins_mark mark.Equivalent (ours r ++ rest), mark_again mark.Equivalent (ours r ++ rest), right, small) refl in

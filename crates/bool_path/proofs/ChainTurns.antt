@@ -37,7 +37,7 @@ module _ (at : Place) (t : Table) (left : BoolExpr) (kinds : List TokenKind) (n 
   pub goes_on : (rest : List TokenKind) (x : BoolExpr × List TokenKind) → begins (is_mark mark.Equivalent) kinds ≡ true
       → after (is_mark mark.Equivalent) kinds ≡ Some rest
       → literal_at at t 200 rest ≡ Some x → ltb 65536 (size_of (Iff left x.0)) ≡ false
-          → chain_at at t (16 - n) left kinds ≡ chain_at at t (16 - (n + 1)) (Iff left x.0) x.1
+      → chain_at at t (16 - n) left kinds ≡ chain_at at t (16 - (n + 1)) (Iff left x.0) x.1
   unfolding chain_at
   goes_on rest x b a l s = rw (turn_left n is_left, b, a, l, s) refl
 

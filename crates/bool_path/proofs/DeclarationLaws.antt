@@ -80,7 +80,7 @@ unfolding declarations_at
 declarations-Some zero before kinds all rest read = absurd (none-some (all, rest) read)
 declarations-Some (suc turns) before kinds all rest read =
     let a = bind_some (declared_at kinds) (λ x. cond (begins (is_mark mark.Comma) x.1)
-        (after (is_mark mark.Comma) x.1 >>= declarations_at turns (before ++ x.0 ∷ [])) (Some (before ++ x.0 ∷ [], x.1))) (all, rest) read in
+    (after (is_mark mark.Comma) x.1 >>= declarations_at turns (before ++ x.0 ∷ [])) (Some (before ++ x.0 ∷ [], x.1))) (all, rest) read in
     let d = declared-Some kinds a.0.0 a.0.1 a.1 in
     go a.0.0 a.0.1 d.0 d.1 (begins (is_mark mark.Comma) a.0.1) a.2 (λ names later now. declarations-Some turns names later all rest now)
   where
@@ -90,7 +90,7 @@ declarations-Some (suc turns) before kinds all rest read =
         → Declares before all kinds rest
     go name middle spelled free false now rec =
         let made : ◌≡◌ {A = List (List ℕ) × List TokenKind} (before ++ name ∷ [], middle) (all, rest) =
-            same_Some (before ++ name ∷ [], middle) (all, rest) now in
+        same_Some (before ++ name ∷ [], middle) (all, rest) now in
         subst (λ (x : List (List ℕ) × List TokenKind). Declares before x.0 kinds x.1) made (Declares-one before name kinds middle spelled free)
     go name middle spelled free true now rec =
         let a = bind_some (after (is_mark mark.Comma) middle) (declarations_at turns (before ++ name ∷ [])) (all, rest) now in

@@ -100,8 +100,8 @@ pub by_form : (Q : BoolExpr → Type 0) → ((k : ℕ) → Q (Name k)) → ((b :
 unfolding roll-BoolExpr roll
 by_form Q name truth not iff = ind-BoolExpr Q (λ x y is. subst (λ z. Q (roll-BoolExpr z)) is
     (elim y as (λ w. Q (roll-BoolExpr (map-BoolExpr ((e : BoolExpr) × Q e) BoolExpr (λ e. e.0) w))) [
-  | BoolExpr-F.Name k ↦ name k
-  | BoolExpr-F.Truth b ↦ truth b
-  | BoolExpr-F.Not e ↦ not e.0 e.1
-  | BoolExpr-F.Iff l r ↦ iff l.0 r.0 l.1 r.1
-]))
+      | BoolExpr-F.Name k ↦ name k
+      | BoolExpr-F.Truth b ↦ truth b
+      | BoolExpr-F.Not e ↦ not e.0 e.1
+      | BoolExpr-F.Iff l r ↦ iff l.0 r.0 l.1 r.1
+    ]))

@@ -28,11 +28,11 @@ pub record IsHead (h : Head) : Type 0 where
 head_is : (kinds k1 k2 k3 k4 k5 k6 rest : List TokenKind) (h : Head)
     → kinds ≡ kind.Name (codes "proc") ∷ k1 → k1 ≡ kind.Name h.name ∷ k2 → k2 ≡ params_part h.params k3 → k3 ≡ returns_part h.results ++ k4
     → k4 ≡ logic_part h.logics ++ k5 → k5 ≡ bracket_part (codes "pre") h.pre ++ k6 → k6 ≡ bracket_part (codes "post") h.post ++ rest
-        → kinds ≡ head_tokens h rest
+    → kinds ≡ head_tokens h rest
 head_is kinds k1 k2 k3 k4 k5 k6 rest h e1 e2 e3 e4 e5 e6 e7 =
     e1 ∙ ap (λ (x : List TokenKind). kind.Name (codes "proc") ∷ x) (e2 ∙ ap (λ (x : List TokenKind). kind.Name h.name ∷ x) (e3 ∙ ap (params_part h.params)
     (e4 ∙ ap (λ (x : List TokenKind). returns_part h.results ++ x)
-        (e5 ∙ ap (λ (x : List TokenKind). logic_part h.logics ++ x) (e6 ∙ ap (λ (x : List TokenKind). bracket_part (codes "pre") h.pre ++ x) e7)))))
+    (e5 ∙ ap (λ (x : List TokenKind). logic_part h.logics ++ x) (e6 ∙ ap (λ (x : List TokenKind). bracket_part (codes "pre") h.pre ++ x) e7)))))
 
 pub head-Some : (kinds : List TokenKind) (h : Head) (rest : List TokenKind) → head_at kinds ≡ Some (h, rest) → (kinds ≡ head_tokens h rest) × IsHead h
 unfolding head_at

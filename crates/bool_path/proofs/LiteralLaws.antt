@@ -80,15 +80,18 @@ literal-Some at t room (kind.Name word ∷ others) e rest read =
     let b = bind_some (atom_at at t word) (λ atom. Some (atom, others)) (e, rest) read in
     let made : ◌≡◌ {A = BoolExpr × List TokenKind} (b.0, others) (e, rest) = same_Some (b.0, others) (e, rest) b.2 in
     let one : b.0 ≡ e = ap (λ (x : BoolExpr × List TokenKind). x.0) made in
-    let two : others ≡ rest = ap (λ (x : BoolExpr × List TokenKind). x.1) made in
-    (kind.Name word ∷ [], ap (λ (x : List TokenKind). kind.Name word ∷ x) two, subst (λ x. IsLiteral at t room x (kind.Name word ∷ [])) one
-        (atom-Some at t room word b.0 b.1))
+    let two : others ≡ rest = ap (λ (x : BoolExpr × List TokenKind). x.1) made in (
+      kind.Name word ∷ [],
+      ap (λ (x : List TokenKind). kind.Name word ∷ x) two,
+      subst (λ x. IsLiteral at t room x (kind.Name word ∷ [])) one
+          (atom-Some at t room word b.0 b.1),
+    )
 literal-Some at t room (kind.Mark m ∷ others) e rest read =
     go (sameb the_type m (negation at)) refl (eqb room 0) refl (λ x later. literal-Some at t (room - 1) others x later)
   where
     go : (b : Bool) → sameb the_type m (negation at) ≡ b → (c : Bool) → eqb room 0 ≡ c
         → ((x : BoolExpr) (later : List TokenKind) → literal_at at t (room - 1) others ≡ Some (x, later)
-            → (front : List TokenKind) × (others ≡ front ++ later) × IsLiteral at t (room - 1) x front)
+        → (front : List TokenKind) × (others ≡ front ++ later) × IsLiteral at t (room - 1) x front)
         → (front : List TokenKind) × (kind.Mark m ∷ others ≡ front ++ rest) × IsLiteral at t room e front
     go false is_not c is_zero rec = absurd (none-some (e, rest) (rw is_not at read))
     go true is_not true is_zero rec = absurd (none-some (e, rest) (rw (is_not, is_zero) at read))
@@ -122,7 +125,7 @@ atom_again at t word not_true not_false = rw (bytes_differ word (codes "true") n
 pub is_free : (t : Table) (k : ℕ) (word : List ℕ) → IsTable t → k < length t.all → Contains reserved word → name_at t.all k ≢ word
 is_free t k word is lt held same =
     All-contains (λ name. Contains reserved name → ⊥) t.all word is.free
-        (subst (Contains t.all) (sym (unwrap_or-slice_get t.all k []) ∙ same) (Contains-get_or t.all k [] lt)) held
+    (subst (Contains t.all) (sym (unwrap_or-slice_get t.all k []) ∙ same) (Contains-get_or t.all k [] lt)) held
 
 pub negated-Literal : (f : Form) → negated f ≡ Literal → f ≡ Literal
 negated-Literal Literal e = refl

@@ -50,7 +50,7 @@ locals_from (suc turns) before kinds all rest read = go (begins (is_word (codes 
     go : (b : Bool) → cond {A = Option Named} b (declared_at kinds >>= λ x. after (is_mark mark.Semicolon) x.1 >>= locals_at turns (before ++ x.0 ∷ []))
         (Some (before, kinds)) ≡ Some (all, rest)
         → ((names : List (List ℕ)) (later : List TokenKind) → locals_at turns names later ≡ Some (all, rest) → AddsLocals names all later rest)
-            → AddsLocals before all kinds rest
+        → AddsLocals before all kinds rest
     go false now rec = subst (λ (x : Named). AddsLocals before x.0 kinds x.1) (same_Some {A = Named} (before, kinds) (all, rest) now)
         (AddsLocals-none before kinds)
     go true now rec =
@@ -75,8 +75,12 @@ locals_on zero before (name ∷ more) rest few free stops = absurd (omega arith)
 locals_on (suc turns) before (name ∷ more) rest few free stops =
     let later : List TokenKind = flat_map local_part more ++ rest in
     let again = locals_on turns (before ++ name ∷ []) more rest (omega arith) free.1 stops in
-    rw (begins_word (codes "bool") (kind.Name name ∷ kind.Mark mark.Semicolon ∷ later), declared_again name (kind.Mark mark.Semicolon ∷ later) free.0,
-        mark_again mark.Semicolon later, again)
+    rw (
+      begins_word (codes "bool") (kind.Name name ∷ kind.Mark mark.Semicolon ∷ later),
+      declared_again name (kind.Mark mark.Semicolon ∷ later) free.0,
+      mark_again mark.Semicolon later,
+      again,
+    )
     (ap (λ (x : List (List ℕ)). Some (x, rest)) (append_assoc before (name ∷ []) more))
 
 pub locals_again : (names : List (List ℕ)) (rest : List TokenKind) → length names ≤ 12 → AreFree names → begins (is_word (codes "bool")) rest ≡ false
@@ -93,16 +97,16 @@ cut-Some (first ∷ others) inner rest read = go (is_mark mark.RightBracket firs
     go : (b : Bool) → is_mark mark.RightBracket first ≡ b → cond {A = Option (List TokenKind × List TokenKind)} b (Some ([], others))
         (cut_at others >>= λ x. Some (first ∷ x.0, x.1)) ≡ Some (inner, rest)
         → ((x later : List TokenKind) → cut_at others ≡ Some (x, later) → others ≡ x ++ kind.Mark mark.RightBracket ∷ later)
-            → first ∷ others ≡ inner ++ kind.Mark mark.RightBracket ∷ rest
+        → first ∷ others ≡ inner ++ kind.Mark mark.RightBracket ∷ rest
     go true is now rec =
         let made = same_Some {A = List TokenKind × List TokenKind} ([], others) (inner, rest) now in
         subst (λ (x : List TokenKind × List TokenKind). first ∷ others ≡ x.0 ++ kind.Mark mark.RightBracket ∷ x.1) made
-            (ap (λ x. x ∷ others) (is_mark-true mark.RightBracket first is))
+        (ap (λ x. x ∷ others) (is_mark-true mark.RightBracket first is))
     go false is now rec =
         let a = bind_some (cut_at others) (λ x. Some (first ∷ x.0, x.1)) (inner, rest) now in
         let made = same_Some {A = List TokenKind × List TokenKind} (first ∷ a.0.0, a.0.1) (inner, rest) a.2 in
         subst (λ (x : List TokenKind × List TokenKind). first ∷ others ≡ x.0 ++ kind.Mark mark.RightBracket ∷ x.1) made
-            (ap (λ (x : List TokenKind). first ∷ x) (rec a.0.0 a.0.1 a.1))
+        (ap (λ (x : List TokenKind). first ∷ x) (rec a.0.0 a.0.1 a.1))
 
 -- no `]` is among these tokens
 abbrev pub IsUncut : List TokenKind → Type 0
@@ -138,7 +142,7 @@ bracketed-Some word kinds part rest read = go (begins (is_word word) kinds) read
         subst (λ (x : Bracketed). kinds ≡ bracket_part word x.0 ++ x.1) made refl
     go true now =
         let a = bind_some (after (is_word word) kinds) (λ opened. after (is_mark mark.LeftBracket) opened >>= λ inner. cut_at inner >>=
-            λ x. Some (Some x.0, x.1)) (part, rest) now in
+        λ x. Some (Some x.0, x.1)) (part, rest) now in
         let b = bind_some (after (is_mark mark.LeftBracket) a.0) (λ inner. cut_at inner >>= λ x. Some (Some x.0, x.1)) (part, rest) a.2 in
         let c = bind_some (cut_at b.0) (λ x. Some (Some x.0, x.1)) (part, rest) b.2 in
         let made = same_Some {A = Bracketed} (Some c.0.0, c.0.1) (part, rest) c.2 in

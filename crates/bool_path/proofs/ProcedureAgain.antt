@@ -44,7 +44,7 @@ unfolding is_mark
 tokens_uncut names = by_form (λ e. IsUncut (tokens_of mark.Tilde names e))
     (λ k. rw tokens_of-Name (refl, tt)) (λ b. rw tokens_of-Truth (refl, tt)) (λ e on_e. rw tokens_of-Not (refl, on_e))
     (λ l r on_l on_r. rw tokens_of-Iff (uncut_append (tokens_of mark.Tilde names l) (kind.Mark mark.Equivalent ∷ tokens_of mark.Tilde names r) on_l
-        (refl, on_r)))
+    (refl, on_r)))
 
 -- ---- an assertion with its keyword, or left out
 
@@ -60,8 +60,13 @@ unfolding assertion_from
 part_again keyword at t e tokens tilde is part (inl left_out) =
     record { part = None; spelled = left_out.1; uncut = tt; read = ap (λ (x : BoolExpr). Some x) (sym left_out.0) }
 part_again keyword at t e tokens tilde is part (inr spelled) =
-    record { part = Some (tokens_of mark.Tilde t.all e); spelled = spelled; uncut = tokens_uncut t.all e; read =
-        ap (λ m. assertion_at at t (tokens_of m t.all e)) (sym tilde) ∙ assertion_again at t is e part }
+    record {
+      part = Some (tokens_of mark.Tilde t.all e);
+      spelled = spelled;
+      uncut = tokens_uncut t.all e;
+      read =
+          ap (λ m. assertion_at at t (tokens_of m t.all e)) (sym tilde) ∙ assertion_again at t is e part;
+    }
 
 -- ---- the whole
 
@@ -110,8 +115,13 @@ module _ (p : BoolProc) (rules : KeepsRules p) where
   length-logics = omega (arith, length-drop (length p.names - p.logics) p.names, rules.parts)
 
   few_locals : length (locals_of p) ≤ 12
-  few_locals = omega (arith, length-drop (p.params + p.results) (take (length p.names - p.logics) p.names), length-take (length p.names - p.logics)
-      p.names, rules.few)
+  few_locals = omega (
+    arith,
+    length-drop (p.params + p.results) (take (length p.names - p.logics) p.names),
+    length-take (length p.names - p.logics)
+        p.names,
+    rules.few,
+  )
 
   few_names : length (joined (params_of p) (results_of p) (locals_of p) (logics_of p)) ≤ 12
   few_names = rw whole_again rules.few
@@ -120,7 +130,7 @@ module _ (p : BoolProc) (rules : KeepsRules p) where
   table_read =
       table_again (params_of p) (results_of p) (locals_of p) (logics_of p) few_names (subst AreDistinct (sym whole_again) rules.distinct)
       ∙ ap (λ (x : Table). Some x) (same_table (joined (params_of p) (results_of p) (locals_of p) (logics_of p)) p.names (length (params_of p)) p.params
-          (length (results_of p)) p.results (length (logics_of p)) p.logics
+      (length (results_of p)) p.results (length (logics_of p)) p.logics
       whole_again length-params length-results length-logics)
 
   all_free : All IsFree p.names
@@ -172,5 +182,5 @@ module _ (p : BoolProc) (rules : KeepsRules p) where
       let post = part_again (codes "post") place.Post table p.post s.post_part refl is_table (part_of_rules place.Post table p.post rules.post) s.post in
       let whole : kinds ≡ whole_tokens (head_of_parts pre.part post.part) (locals_of p) (flat_map (statement_part p.names) p.body) =
       whole_is kinds (head_of_parts pre.part post.part) (locals_of p) (flat_map (statement_part p.names) p.body) s.pre_part s.post_part s.whole
-          pre.spelled post.spelled in
+      pre.spelled post.spelled in
       ap (procedure_at p.line p.last) whole ∙ put_together pre.part post.part pre.uncut post.uncut pre.read post.read

@@ -38,13 +38,20 @@ part-Some : (keyword : List ℕ) (at : Place) (t : Table) (part : Option (List T
     → SpellsAssertion keyword t.all e (bracket_part keyword part) × IsPart at t e
 unfolding assertion_from
 part-Some keyword at t None e tilde read =
-    subst (λ x. SpellsAssertion keyword t.all x [] × IsPart at t x) (same_Some {A = BoolExpr} (Truth true) e read)
-    (inl (refl, refl), record { form = λ neither. truth_no_neither (sym (form_of-Truth true) ∙ neither); names =
-        rw uses_of-Truth (All-nil (MayBe at t)); levels = rw levels_of-Truth (omega arith); size = rw size_of-Truth (omega arith) })
+    subst (λ x. SpellsAssertion keyword t.all x [] × IsPart at t x) (same_Some {A = BoolExpr} (Truth true) e read) (
+      inl (refl, refl),
+      record {
+        form = λ neither. truth_no_neither (sym (form_of-Truth true) ∙ neither);
+        names =
+            rw uses_of-Truth (All-nil (MayBe at t));
+        levels = rw levels_of-Truth (omega arith);
+        size = rw size_of-Truth (omega arith);
+      },
+    )
 part-Some keyword at t (Some inner) e tilde read =
     let a = assertion-Some at t inner e read in
     let whole : bracket_part keyword (Some inner) ≡ kind.Name keyword ∷ kind.Mark mark.LeftBracket ∷ tokens_of mark.Tilde t.all e ++ kind.Mark
-        mark.RightBracket ∷ [] =
+    mark.RightBracket ∷ [] =
     ap (λ (x : List TokenKind). bracket_part keyword (Some x)) (a.0 ∙ ap (λ m. tokens_of m t.all e) tilde) in
     (inr whole, a.1)
 
@@ -52,8 +59,19 @@ part-Some keyword at t (Some inner) e tilde read =
 
 abbrev pub procedure_of : ℕ → ℕ → List ℕ → Table → BoolExpr → BoolExpr → List BoolStmt → BoolProc
 procedure_of line last name t pre post body =
-    record { name = name; line = line; names = t.all; params = t.params; results = t.results; logics = t.logics; pre = pre; post = post; body =
-        body; last = last }
+    record {
+      name = name;
+      line = line;
+      names = t.all;
+      params = t.params;
+      results = t.results;
+      logics = t.logics;
+      pre = pre;
+      post = post;
+      body =
+          body;
+      last = last;
+    }
 
 -- the tokens of a procedure, put together from the right
 abbrev pub whole_tokens : Head → List (List ℕ) → List TokenKind → List TokenKind
@@ -61,8 +79,8 @@ whole_tokens h locals statements = head_tokens h (kind.Mark mark.LeftBrace ∷ (
 
 pub regrouped : (name : List ℕ) (declared returned logics pre post locals statements : List TokenKind) →
     kind.Name (codes "proc") ∷ kind.Name name ∷ kind.Mark mark.LeftParen ∷
-        (declared ++ kind.Mark mark.RightParen ∷ (returned ++
-        (logics ++ (pre ++ (post ++ (kind.Mark mark.LeftBrace ∷ (locals ++ (statements ++ kind.Mark mark.RightBrace ∷ []))))))))
+    (declared ++ kind.Mark mark.RightParen ∷ (returned ++
+    (logics ++ (pre ++ (post ++ (kind.Mark mark.LeftBrace ∷ (locals ++ (statements ++ kind.Mark mark.RightBrace ∷ []))))))))
     ≡ kind.Name (codes "proc") ∷ kind.Name name ∷ kind.Mark mark.LeftParen ∷ declared
     ++ kind.Mark mark.RightParen ∷ returned ++ logics ++ pre ++ post
     ++ kind.Mark mark.LeftBrace ∷ locals ++ statements
@@ -80,16 +98,26 @@ spelled_is kinds line last h locals pre post body pre_is post_is whole =
       post_part = bracket_part (codes "post") h.post;
       pre = pre_is;
       post = post_is;
-      whole = rw (params_cut h.params h.results locals h.logics, results_cut h.params h.results locals h.logics, locals_cut h.params h.results locals
-          h.logics, logics_cut h.params h.results locals h.logics)
+      whole = rw (
+        params_cut h.params h.results locals h.logics,
+        results_cut h.params h.results locals h.logics,
+        locals_cut h.params h.results locals
+            h.logics,
+        logics_cut h.params h.results locals h.logics,
+      )
           (whole ∙ regrouped h.name (declarations h.params) (returns_part h.results) (logic_part h.logics) (bracket_part (codes "pre") h.pre)
-              (bracket_part (codes "post") h.post)
+          (bracket_part (codes "post") h.post)
           (flat_map local_part locals) (flat_map (statement_part t.all) body));
     }
 
 part_rules : (at : Place) (t : Table) (MayBeIn : ℕ → Type 0) (e : BoolExpr) → ((k : ℕ) → MayBe at t k → MayBeIn k) → IsPart at t e → IsAssertion MayBeIn e
-part_rules at t MayBeIn e may part = record { form = part.form; names = All-weaker (MayBe at t) MayBeIn may (uses_of e) part.names; levels =
-    part.levels; size = part.size }
+part_rules at t MayBeIn e may part = record {
+  form = part.form;
+  names = All-weaker (MayBe at t) MayBeIn may (uses_of e) part.names;
+  levels =
+      part.levels;
+  size = part.size;
+}
 
 rules_kept : (line last : ℕ) (name : List ℕ) (t : Table) (pre post : BoolExpr) (body : List BoolStmt) → IsTable t → IsFree name → IsPart place.Pre t pre
     → IsPart place.Post t post
@@ -118,7 +146,7 @@ made_is : (kinds : List TokenKind) (line last : ℕ) (h : Head) (locals : List (
 made_is kinds line last h locals t pre post body same is head pre_is post_is whole code few =
     let parts : Table = table_of_parts h.params h.results locals h.logics in
     let Spelled : Table → Type 0 = λ x. SpellsAssertion (codes "pre") x.all pre (bracket_part (codes "pre") h.pre)
-        → SpellsAssertion (codes "post") x.all post (bracket_part (codes "post") h.post)
+    → SpellsAssertion (codes "post") x.all post (bracket_part (codes "post") h.post)
     → kinds ≡ whole_tokens h locals (flat_map (statement_part x.all) body) → SpellsProcedure kinds (procedure_of line last h.name x pre post body) in
     let spelled : Spelled t = subst Spelled (sym same) (spelled_is kinds line last h locals pre post body) in
     (spelled pre_is.0 post_is.0 whole, rules_kept line last h.name t pre post body is head.name pre_is.1 post_is.1 code few, refl, refl)
@@ -139,7 +167,7 @@ procedure-Some line last kinds p read =
     let b = body-Some t locals.1 body e7 in
     let whole : kinds ≡ whole_tokens head.0 locals.0 (flat_map (statement_part t.all) body) =
     h.0 ∙ ap (head_tokens head.0) (after-mark mark.LeftBrace head.1 opened e2 ∙ ap (λ (x : List TokenKind). kind.Mark mark.LeftBrace ∷ x)
-        (local.0 ∙ ap (λ (x : List TokenKind). flat_map local_part locals.0 ++ x) b.0)) in
+    (local.0 ∙ ap (λ (x : List TokenKind). flat_map local_part locals.0 ++ x) b.0)) in
     let made = made_is kinds line last head.0 locals.0 t pre post body table.0 table.1 h.1 (part-Some (codes "pre") place.Pre t head.0.pre pre refl e5)
-        (part-Some (codes "post") place.Post t head.0.post post refl e6) whole b.1 b.2 in
+    (part-Some (codes "post") place.Post t head.0.post post refl e6) whole b.1 b.2 in
     subst (IsProcedureOf line last kinds) (same_Some {A = BoolProc} (procedure_of line last head.0.name t pre post body) p now7) made)))))))

@@ -40,12 +40,12 @@ enclosed-Some : (kinds : List TokenKind) (names : List (List ℕ)) (rest : List 
 unfolding enclosed_at
 enclosed-Some kinds names rest read =
     let a = bind_some (after (is_mark mark.LeftParen) kinds) (λ inner. declarations_at 12 [] inner >>= λ x. after (is_mark mark.RightParen) x.1 >>=
-        λ later. Some (x.0, later)) (names, rest) read in
+    λ later. Some (x.0, later)) (names, rest) read in
     let b = bind_some (declarations_at 12 [] a.0) (λ x. after (is_mark mark.RightParen) x.1 >>= λ later. Some (x.0, later)) (names, rest) a.2 in
     let c = bind_some (after (is_mark mark.RightParen) b.0.1) (λ later. Some (b.0.0, later)) (names, rest) b.2 in
     let made : ◌≡◌ {A = Named} (b.0.0, c.0) (names, rest) = same_Some (b.0.0, c.0) (names, rest) c.2 in
     let is = IsEnclosed-from b.0.0 kinds a.0 b.0.1 c.0 (after-mark mark.LeftParen kinds a.0 a.1) (declarations-Some 12 [] a.0 b.0.0 b.0.1 b.1)
-        (after-mark mark.RightParen b.0.1 c.0 c.1) in
+    (after-mark mark.RightParen b.0.1 c.0 c.1) in
     subst (λ (x : Named). IsEnclosed x.0 kinds x.1) made is
 
 no_comma : (rest : List TokenKind) → begins (is_mark mark.Comma) (kind.Mark mark.RightParen ∷ rest) ≡ false
@@ -57,8 +57,12 @@ enclosed_again : (first : List ℕ) (others : List (List ℕ)) (rest : List Toke
 unfolding enclosed_at
 enclosed_again first others rest few free =
     let closed : List TokenKind = kind.Mark mark.RightParen ∷ rest in
-    rw (mark_again mark.LeftParen (declarations (first ∷ others) ++ closed), declarations_again 12 [] first others closed few free
-        (no_comma rest), mark_again mark.RightParen rest) refl
+    rw (
+      mark_again mark.LeftParen (declarations (first ∷ others) ++ closed),
+      declarations_again 12 [] first others closed few free
+          (no_comma rest),
+      mark_again mark.RightParen rest,
+    ) refl
 
 -- ---- parameters
 
@@ -70,13 +74,13 @@ pub params-Some : (kinds : List TokenKind) (names : List (List ℕ)) (rest : Lis
 unfolding params_at
 params-Some kinds names rest read =
     let a = bind_some (after (is_mark mark.LeftParen) kinds)
-        (λ inner. cond (begins (is_mark mark.RightParen) inner) (after (is_mark mark.RightParen) inner >>= λ later. found ([], later))
-        (enclosed_at kinds)) (names, rest) read in
+    (λ inner. cond (begins (is_mark mark.RightParen) inner) (after (is_mark mark.RightParen) inner >>= λ later. found ([], later))
+    (enclosed_at kinds)) (names, rest) read in
     go a.0 (after-mark mark.LeftParen kinds a.0 a.1) (begins (is_mark mark.RightParen) a.0) a.2
   where
     go : (inner : List TokenKind) → kinds ≡ kind.Mark mark.LeftParen ∷ inner → (b : Bool)
         → cond b (after (is_mark mark.RightParen) inner >>= λ later. found ([], later)) (enclosed_at kinds) ≡ Some (names, rest)
-            → (kinds ≡ params_part names rest) × AreFree names
+        → (kinds ≡ params_part names rest) × AreFree names
     go inner opened false now = let e = enclosed-Some kinds names rest now in (e.spelled, e.free)
     go inner opened true now =
         let c = bind_some (after (is_mark mark.RightParen) inner) (λ later. found ([], later)) (names, rest) now in
@@ -92,8 +96,12 @@ not_closed first (next ∷ others) rest = refl
 
 pub params_again : (names : List (List ℕ)) (rest : List TokenKind) → length names ≤ 12 → AreFree names → params_at (params_part names rest) ≡ Some (names, rest)
 unfolding params_at
-params_again [] rest few free = rw (mark_again mark.LeftParen (kind.Mark mark.RightParen ∷ rest), begins_mark mark.RightParen rest, mark_again
-    mark.RightParen rest) refl
+params_again [] rest few free = rw (
+  mark_again mark.LeftParen (kind.Mark mark.RightParen ∷ rest),
+  begins_mark mark.RightParen rest,
+  mark_again
+      mark.RightParen rest,
+) refl
 params_again (first ∷ others) rest few free =
     let closed : List TokenKind = kind.Mark mark.RightParen ∷ rest in
     rw (mark_again mark.LeftParen (declarations (first ∷ others) ++ closed), not_closed first others closed) (enclosed_again first others rest few free)
@@ -110,9 +118,9 @@ results-Some kinds names rest read = go (begins (is_word (codes "returns")) kind
     returned opened word e =
         let one : List TokenKind = kind.Name (codes "returns") ∷ kind.Mark mark.LeftParen ∷ [] in
         let regrouped : returns_part (e.first ∷ e.others) ++ rest ≡ kind.Name (codes "returns") ∷ kind.Mark mark.LeftParen ∷
-            (declarations (e.first ∷ e.others) ++ kind.Mark mark.RightParen ∷ rest) =
+        (declarations (e.first ∷ e.others) ++ kind.Mark mark.RightParen ∷ rest) =
         ap (λ (x : List TokenKind). kind.Name (codes "returns") ∷ kind.Mark mark.LeftParen ∷ x)
-            (append_assoc (declarations (e.first ∷ e.others)) (kind.Mark mark.RightParen ∷ []) rest) in
+        (append_assoc (declarations (e.first ∷ e.others)) (kind.Mark mark.RightParen ∷ []) rest) in
         word ∙ ap (λ (x : List TokenKind). kind.Name (codes "returns") ∷ x) (e.spelled ∙ ap (λ (x : List (List ℕ)). params_part x rest) e.is)
         ∙ sym regrouped ∙ ap (λ (x : List (List ℕ)). returns_part x ++ rest) (sym e.is)
 
@@ -134,8 +142,11 @@ results_again (first ∷ others) rest few free other =
     let decls : List TokenKind = declarations (first ∷ others) in
     let regrouped : returns_part (first ∷ others) ++ rest ≡ kind.Name (codes "returns") ∷ params_part (first ∷ others) rest =
     ap (λ (x : List TokenKind). kind.Name (codes "returns") ∷ kind.Mark mark.LeftParen ∷ x) (append_assoc decls (kind.Mark mark.RightParen ∷ []) rest) in
-    ap results_at regrouped ∙ rw (begins_word (codes "returns") (params_part (first ∷ others) rest), word_again (codes "returns")
-        (params_part (first ∷ others) rest)) (enclosed_again first others rest few free)
+    ap results_at regrouped ∙ rw (
+      begins_word (codes "returns") (params_part (first ∷ others) rest),
+      word_again (codes "returns")
+          (params_part (first ∷ others) rest),
+    ) (enclosed_again first others rest few free)
 
 -- ---- logic variables
 

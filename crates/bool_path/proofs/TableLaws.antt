@@ -29,7 +29,7 @@ module _ (ps rs ls gs : List (List ℕ)) where
       let both = and_parts (nat_le (length joined) 12) (distinct_names joined) c.0 in
       let free : All IsFree joined = All-append IsFree (ps ++ rs ++ ls) gs
       (All-append IsFree (ps ++ rs) ls (All-append IsFree ps rs (All-from_recursion IsFree ps fp) (All-from_recursion IsFree rs fr))
-          (All-from_recursion IsFree ls fl)) (All-from_recursion IsFree gs fg) in
+      (All-from_recursion IsFree ls fl)) (All-from_recursion IsFree gs fg) in
       let is : IsTable table_of_parts = record {
         parts = omega (arith, length-joined);
         few = leb-true (length joined) 12 both.0;
@@ -49,7 +49,7 @@ module _ (ps rs ls gs : List (List ℕ)) where
   pub results_cut : take (length rs) (drop (length ps) joined) ≡ rs
   results_cut =
       let after_params : drop (length ps) joined ≡ rs ++ (ls ++ gs) = ap (drop (length ps)) (simp append_assoc) ∙ drop_at ps (rs ++ (ls ++ gs))
-          (length ps) refl in
+      (length ps) refl in
       ap (take (length rs)) after_params ∙ take_at rs (ls ++ gs) (length rs) refl
 
   pub logics_cut : drop (length joined - length gs) joined ≡ gs
@@ -58,7 +58,7 @@ module _ (ps rs ls gs : List (List ℕ)) where
   pub locals_cut : drop (length ps + length rs) (take (length joined - length gs) joined) ≡ ls
   locals_cut =
       let before_logics : take (length joined - length gs) joined ≡ ps ++ rs ++ ls = take_at (ps ++ rs ++ ls) gs (length joined - length gs)
-          (omega (arith, length-append (ps ++ rs ++ ls) gs)) in
+      (omega (arith, length-append (ps ++ rs ++ ls) gs)) in
       ap (drop (length ps + length rs)) before_logics ∙ drop_at (ps ++ rs) ls (length ps + length rs) (length-append ps rs)
 
 -- a list is made of its cuts
@@ -72,4 +72,4 @@ cuts_joined names p r g parts =
     let two : take (p + r) names ++ drop (p + r) (take n names) ≡ take n names =
     ap (λ (x : List (List ℕ)). x ++ drop (p + r) (take n names)) (sym (take-take (p + r) n names (omega arith))) ∙ take-append-drop (p + r) (take n names) in
     ap (λ (x : List (List ℕ)). x ++ drop (p + r) (take n names) ++ drop n names) one ∙ ap (λ (x : List (List ℕ)). x ++ drop n names) two
-        ∙ take-append-drop n names
+    ∙ take-append-drop n names

@@ -103,7 +103,7 @@ module _ (settings : Settings) (text : List ℕ) (before after : Option (List �
   -- where the writing was cut short, what was written begins an output
   pub text_begun : (left : Option (List ℕ)) (outcome : Result Status WriteStop) (status : Status) → IfSome left (λ bytes. text ≡ bytes) → EndsBy outcome status
       → IfOk outcome (Wrote (Output settings text) before after) → OnErr outcome (WroteAtMost (Output settings text) before after) → IsCutShort status
-          → Begins (Output settings) left before after
+      → Begins (Output settings) left before after
   text_begun left (Ok answer) status told ends wrote begun cut = absurd (given_whole status (wrote_given answer status ends wrote) cut)
   text_begun left (Err Failed) status told ends wrote begun cut = record { text = text; told = told; wrote = begun }
   text_begun left (Err NoMemory) status told ends wrote begun cut = record { text = text; told = told; wrote = begun }
@@ -149,7 +149,7 @@ module _ (Allowed : List ℕ → List ℕ → Status → Type 0) (left before af
 
   pub line_begins : (outcome : Result Status WriteStop) (status : Status) → EndsBy outcome status → (IsCutShort answer → ⊥)
       → IfOk outcome (λ s. (s ≡ answer) × WritesAll before after line) → OnErr outcome (WritesFront before after line) → IsCutShort status
-          → Begins Allowed left before after
+      → Begins Allowed left before after
   line_begins (Ok s) status ends whole said begun cut = absurd (whole (subst IsCutShort (ends ∙ said.0) cut))
   line_begins (Err Failed) status ends whole said begun cut =
       record { text = text; told = told; wrote = inr (record { output = line; status = answer; allowed = allowed; written = begun }) }

@@ -33,7 +33,7 @@ entry_found (x ∷ xs) id has = go has.0 has.1 has.2 (bytes_eq x.0.now id) refl 
   where
     go : (i : ℕ) → i < length (x ∷ xs) → ((d : Entry) → bytes_eq (slice_index_or (x ∷ xs) i d).0.now id ≡ true) → (b : Bool) → bytes_eq x.0.now id ≡ b
         → ((j : ℕ) → j < length xs → ((d : Entry) → bytes_eq (slice_index_or xs j d).0.now id ≡ true)
-            → is_some (option_map (λ e. e.1) (find (λ e. bytes_eq e.0.now id) xs)) ≡ true)
+        → is_some (option_map (λ e. e.1) (find (λ e. bytes_eq e.0.now id) xs)) ≡ true)
         → is_some (option_map (λ e. e.1) (cond (bytes_eq x.0.now id) (Some x) (find (λ e. bytes_eq e.0.now id) xs))) ≡ true
     go i lt is true here rest = rw here refl
     go zero lt is false here rest = absurd (true≢false (sym (is x) ∙ here))
@@ -53,7 +53,7 @@ accepted_mode : (parser : ValueParser) → IsModeParser parser → (t : Text) �
 accepted_mode parser is t accepted =
     let by_names = subst (λ (q : ValueParser). Accepts false q t) is.1 accepted in
     let same = list_any-map (λ (name : Text). same_text false name t) (λ (x : Bor Text). x.now) is.0.now
-        ∙ ap (list_any (λ (name : Text). same_text false name t)) is.2 in
+    ∙ ap (list_any (λ (name : Text). same_text false name t)) is.2 in
     named_mode t (sym same ∙ by_names)
 
 module _ (old : Command) (m : ArgMatches) (p : IsParsedFrom old m) (parser : ValueParser) (names : IsModeParser parser)
@@ -70,7 +70,7 @@ module _ (old : Command) (m : ArgMatches) (p : IsParsedFrom old m) (parser : Val
       (present_has_entry f (slice_index_or (args_of old) 0 d).id.now present) in
       let mode = accepted_mode parser names held.0 held.3 in
       let first : first_value f (codes "mode") ≡ Some held.0 = subst (λ (id : Text). first_value f id ≡ Some held.0)
-          (id_is old parser is 0 d (omega arith)) held.1 in
+      (id_is old parser is 0 d (omega arith)) held.1 in
       (mode.0, sym (first_value-rows f (codes "mode")) ∙ (first ∙ ap (λ (t : Text). Some t) mode.1))
 
   -- an option of ours has a number in its range
@@ -82,7 +82,7 @@ module _ (old : Command) (m : ArgMatches) (p : IsParsedFrom old m) (parser : Val
       let inside : k < length (args_of old) = omega (arith, three old parser is) in
       let entry = default_present old m p (globals old parser is) k d inside (wants_default old parser is k d lt some) in
       let held = value_held old m p (plain old parser is) k d (Signed (pos low) (pos high))
-          (takes old parser is k d (Signed (pos low) (pos high)) lt takes_numbers) (globals old parser is)
+      (takes old parser is k d (Signed (pos low) (pos high)) lt takes_numbers) (globals old parser is)
       (entry_found f.entries.items (slice_index_or (args_of old) k d).id.now entry) in
       let one = subst (λ (i : Text). one_text f i ≡ Some (without_minus held.0)) (id_is old parser is k d lt ∙ name) held.2 in
       (low, high, held.0, fits, held.3, sym (one_text-rows f id) ∙ one)

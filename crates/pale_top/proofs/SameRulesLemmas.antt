@@ -112,7 +112,7 @@ module _ (c d : List Rule) (same : ReadsAlike c d) where
   walked_from_same names None w word =
       let end = word_met d names w.is_trailing w.waiting w.position word w.held in
       ap (λ (p : Held × Step). after_step c word w p.0 p.1) (word_met_same names w.is_trailing w.waiting w.position word w.held)
-          ∙ after_step_same word w end.0 end.1
+      ∙ after_step_same word w end.0 end.1
 
   pub walked_same : (names : Names) (w : Walk) (word : Text) → walked c names w word ≡ walked d names w word
   unfolding walked
@@ -194,7 +194,7 @@ module _ (s : Shape) (c d : List Rule) (same : FaultsAlike c d) where
       let of_word = ap (cond w.is_trailing []) (other_fault_same (subcommand_met names w.waiting word) word w.held) in
       let end = word_met d names w.is_trailing w.waiting w.position word w.held in
       let of_step = ap (λ (p : Held × Step). step_fault (with_rules s c) w.position p.0 p.1)
-          (word_met_same c d same.reads names w.is_trailing w.waiting w.position word w.held)
+      (word_met_same c d same.reads names w.is_trailing w.waiting w.position word w.held)
       ∙ step_fault_same w.position end.0 end.1 in
       ap (cond (is_some w.stopped) []) (ap₂ or_else of_word of_step)
 
@@ -204,7 +204,7 @@ module _ (s : Shape) (c d : List Rule) (same : FaultsAlike c d) where
   walk_fault_same names w (word ∷ rest) =
       ap₂ or_else (turn_fault_same names w word)
       (ap (λ (x : Walk). walk_fault (with_rules s c) names x rest) (walked_same c d same.reads names w word) ∙ walk_fault_same names
-          (walked d names w word) rest)
+      (walked d names w word) rest)
 
   pub level_fault_same : ((rows : List Row) → defaults_fault rows c ≡ defaults_fault rows d) → ((h : Held) → finished c h ≡ finished d h)
       → ((rows : List Row) → check_fault (with_rules s c) rows false ≡ check_fault (with_rules s d) rows false)

@@ -126,4 +126,4 @@ module _ (old : Command) (m : ArgMatches) (p : IsParsedFrom old m) (plain : IsPl
           let parsed = p.parsed (p.from.globals ∙ globals) in
           let got = entry_by_id (EntryPasses p.built) (found_of m).entries.items (slice_index_or (args_of old) k d).id.now x parsed.values is in
           entry_value got.0 (is ∙ ap (λ (y : MatchedArg). Some y) (sym got.1))
-              ((bytes_eq-Decides got.0.0.now (slice_index_or (args_of old) k d).id.now).0 got.2) got.3
+          ((bytes_eq-Decides got.0.0.now (slice_index_or (args_of old) k d).id.now).0 got.2) got.3

@@ -126,7 +126,7 @@ module _ (types : List TypeEntry) (s : StoreMap) where
   unfolding bare_cell flat
   field_bare f entry at cell = tested (nat_eq cell.variant.ty.0 f.ty.0) (λ e. bare_at (fields_of types cell.variant.ty) cell.values f.index entry
       (subst (λ ty. slice_get (fields_of types ty) f.index ≡ Some entry)
-          (sym (ap (λ (n : ℕ). record { 0 = n }) (same_number cell.variant.ty.0 f.ty.0 e))) at)) refl
+      (sym (ap (λ (n : ℕ). record { 0 = n }) (same_number cell.variant.ty.0 f.ty.0 e))) at)) refl
     where
       tested : (b : Bool) → (nat_eq cell.variant.ty.0 f.ty.0 ≡ true →
           flat (bare_slots (fields_of types cell.variant.ty) cell.values) f.index ≡ bare_slot entry.kind (flat cell.values f.index)) →
@@ -326,7 +326,7 @@ module _ (types : List TypeEntry) (vars : List VarEntry) (s : StoreMap) (fits : 
   unfolding Itself
   chain_bare {a = a} {b = b} chain =
       let k = Chain-matched types DataAlone (Itself s) s (bare types s) Matches-bare
-          (parent_down types DataAlone (Itself s) s (bare types s) Matches-bare) chain a
+      (parent_down types DataAlone (Itself s) s (bare types s) Matches-bare) chain a
       (refl, (Chain-live (IsParent-live types s) chain).0) in
       subst (λ x. Chain (bare types s) (IsParent types (bare types s)) a x) (sym k.1.0) k.2
 

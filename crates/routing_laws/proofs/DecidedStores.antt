@@ -97,7 +97,7 @@ module _ (types : List TypeEntry) (vars : List VarEntry) (s : StoreMap) where
       (λ h. (h.root, (h.named, h.path)))
       (decided_cell s (λ root. Names types vars s (place.Var v) root × Chain s (IsParent types s) root c)
       (λ root. decided_both (decided_names (place.Var v) root)
-          (decided_steps types s (IsParent types s) (IsParent-live types s) (decided_parent types s) root c))
+      (decided_steps types s (IsParent types s) (IsParent-live types s) (decided_parent types s) root c))
       (λ root h. (Chain-live (IsParent-live types s) h.1).0))
 
   pub decided_some_tree : (c : CellId) → Decided (IsInSomeTree types vars s c)
@@ -228,7 +228,7 @@ module _ (types : List TypeEntry) (s : StoreMap) where
   right_from : (c : CellId) (f : FieldId) → (IsWrongField types s c f → ⊥) → IsRightField types s c f
   right_from c f never pointer = IfSome-from (field_value s c f) (IsOnlyDestination types s c f)
       (λ x at. holds_from (decided_only c f x) (λ wrong. never
-          (record { kind = pointer; wrong = subst (λ o. IsSomeAnd o (λ y. IsOnlyDestination types s c f y → ⊥)) (sym at) wrong })))
+      (record { kind = pointer; wrong = subst (λ o. IsSomeAnd o (λ y. IsOnlyDestination types s c f y → ⊥)) (sym at) wrong })))
 
 -- ---- faults
 

@@ -144,7 +144,7 @@ module _ (cells : List CellId) (s : StoreMap) where
     pointer_off c f x m pointer holds =
         (only_on types DataAlone cells s (piece_on s cells) (piece_on-IsOn cells s) whole c f x m).1
         (IfSome-at (field_value (piece_on s cells) c f) _ x (field_on cells s (piece_on s cells) (piece_on-IsOn cells s) c f m ∙ holds)
-            (is.pointers c f pointer))
+        (is.pointers c f pointer))
 
     pub member_off : (target : TypeId) (others : List CellId) (d : CellId) → Contains cells d → Contains others d →
         SetHoldsLive (piece_on s cells) (var.LogicSet target) (value_on cells (value.Cells others)) → IsOfType s target d

@@ -74,7 +74,7 @@ which c = elim (cases_eq c.0 1) [
       | inl e ↦ is_right (cell_is c 3 e)
       | inr not_three ↦ is_dead (at c.0
           ∙ ap (λ b. cond b (Some (twin_cell (Some left) (Some right))) (find nat_cmp c.0 ((2, twin_cell None None) ∷ (3, twin_cell None None) ∷ [])))
-              (differs c.0 1 not_one)
+          (differs c.0 1 not_one)
           ∙ ap (λ b. cond b (Some (twin_cell None None)) (find nat_cmp c.0 ((3, twin_cell None None) ∷ []))) (differs c.0 2 not_two)
           ∙ ap (λ b. cond b (Some (twin_cell None None)) None) (differs c.0 3 not_three))
     ]
@@ -232,7 +232,7 @@ reached c live = elim (which c) [
       (in_tree left (go first left left (record { field = record { ty = twin_type; index = 0 }; leads = leads_left }) (stay left (lives left _ at_left))))
   | is_right e ↦ subst (IsInSomeTree twin_types twin_vars twin_store) (sym e)
       (in_tree right (go first right right (record { field = record { ty = twin_type; index = 1 }; leads = leads_right })
-          (stay right (lives right _ at_right))))
+      (stay right (lives right _ at_right))))
   | is_dead e ↦ absurd (not_live c e live)
 ]
 
@@ -271,7 +271,7 @@ pointer_null c f x left right is pointer e =
     let h = tested (nat_eq 0 f.ty.0) _ _ (subst (λ o. option_and_then (λ cell. field_of cell f) o ≡ Some x) is e) in
     pointer_slot f.index x left right
     (subst (λ n. IsSomeAnd (slice_get (fields_of twin_types (record { 0 = n })) f.index) (λ entry. IsPointer entry.kind))
-        (sym (same_number 0 f.ty.0 h.0)) pointer) h.1
+    (sym (same_number 0 f.ty.0 h.0)) pointer) h.1
 
 pointers_null : (c : CellId) (f : FieldId) → IsSomeAnd (field_at twin_types f) (λ entry. IsPointer entry.kind) →
     IfSome (field_value twin_store c f) (λ x. x ≡ value.Cell None)

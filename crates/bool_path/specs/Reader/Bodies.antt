@@ -74,5 +74,16 @@ procedure_at line last kinds = do
   pre ← assertion_from place.Pre table head.0.pre
   post ← assertion_from place.Post table head.0.post
   body ← body_at table locals.1
-  Some (record { name = head.0.name; line = line; names = table.all; params = table.params; results = table.results; logics = table.logics; pre =
-      pre; post = post; body = body; last = last })
+  Some (record {
+    name = head.0.name;
+    line = line;
+    names = table.all;
+    params = table.params;
+    results = table.results;
+    logics = table.logics;
+    pre =
+        pre;
+    post = post;
+    body = body;
+    last = last;
+  })

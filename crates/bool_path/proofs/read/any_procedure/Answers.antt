@@ -20,7 +20,7 @@ returns-in_ok-read_procedure-in-Some-Some-clause-read c =
     let lines = c.in-Some-Some in
     let found = c.in_ok-read_procedure-in-Some-Some in
     IsProcedure-Some c.args.tokens.now lines.line lines.last found.field-0 (sym c.first_line.ensures ∙ lines.is-0)
-        (sym c.last_line.ensures ∙ lines.is-1) found.ensures
+    (sym c.last_line.ensures ∙ lines.is-1) found.ensures
 
 pub returns-in_ok-read_procedure-in-Some-Some-clause-only : goal.returns-in_ok-read_procedure-in-Some-Some-clause-only
 returns-in_ok-read_procedure-in-Some-Some-clause-only c = λ o are.

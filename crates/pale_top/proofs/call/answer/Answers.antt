@@ -18,19 +18,19 @@ returns-in-Ok-clause-begins g c =
 pub returns-in-Ok-clause-read_fault : goal.returns-in-Ok-clause-read_fault
 returns-in-Ok-clause-read_fault g c is =
     absurd (no_read_fault c.args.settings c.deref.result.now (g.K.Sink.written c.args.sink.now) (g.K.Sink.written c.answer_text.new.sink)
-        c.answer_text.result c.ended.result c.ended.ensures
+    c.answer_text.result c.ended.result c.ended.ensures
     c.answer_text.ensures.ok is)
 
 pub returns-in-Ok-clause-unwritten : goal.returns-in-Ok-clause-unwritten
 returns-in-Ok-clause-unwritten g c is =
     absurd (no_read_fault c.args.settings c.deref.result.now (g.K.Sink.written c.args.sink.now) (g.K.Sink.written c.answer_text.new.sink)
-        c.answer_text.result c.ended.result c.ended.ensures
+    c.answer_text.result c.ended.result c.ended.ensures
     c.answer_text.ensures.ok is)
 
 pub returns-in-Ok-clause-write_fault : goal.returns-in-Ok-clause-write_fault
 returns-in-Ok-clause-write_fault g c is =
     c.answer_text.ensures.failed (write_failed c.args.settings c.deref.result.now (g.K.Sink.written c.args.sink.now)
-        (g.K.Sink.written c.answer_text.new.sink) c.answer_text.result c.ended.result
+    (g.K.Sink.written c.answer_text.new.sink) c.answer_text.result c.ended.result
     c.ended.ensures c.answer_text.ensures.ok is)
 
 pub returns-in-Ok-clause-read : goal.returns-in-Ok-clause-read
@@ -45,7 +45,7 @@ returns-in-Err-TooLong-clause-answer g c =
     let many = c.in-Err-TooLong.ensures.too_long (search rules) in
     let text = long_text most_bytes left many.more in
     line_answers (Output c.args.settings) left before after text.0 too_long_line Text text.1 (too_long_output c.args.settings text.0 text.2)
-        c.say.result c.ended-in-Err-TooLong.result c.ended-in-Err-TooLong.ensures c.say.ensures.ok
+    c.say.result c.ended-in-Err-TooLong.result c.ended-in-Err-TooLong.ensures c.say.ensures.ok
 
 pub returns-in-Err-TooLong-clause-begins : goal.returns-in-Err-TooLong-clause-begins
 returns-in-Err-TooLong-clause-begins g c =
@@ -55,7 +55,7 @@ returns-in-Err-TooLong-clause-begins g c =
     let many = c.in-Err-TooLong.ensures.too_long (search rules) in
     let text = long_text most_bytes left many.more in
     line_begins (Output c.args.settings) left before after text.0 too_long_line Text text.1 (too_long_output c.args.settings text.0 text.2) c.say.result
-        c.ended-in-Err-TooLong.result c.ended-in-Err-TooLong.ensures
+    c.ended-in-Err-TooLong.result c.ended-in-Err-TooLong.ensures
     (λ cut. cut) c.say.ensures.ok c.say.ensures.err
 
 pub returns-in-Err-NoMemory-clause-begins : goal.returns-in-Err-NoMemory-clause-begins

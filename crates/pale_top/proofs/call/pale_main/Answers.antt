@@ -9,19 +9,19 @@ use Rattle.pale_top.proofs.call.pale_main.Goals as goal
 pub returns-in-Ok-clause-answer : goal.returns-in-Ok-clause-answer
 returns-in-Ok-clause-answer g c is =
     call_answers (map string_bytes c.args.words.now.items) c.in-Ok.settings c.in-Ok.ensures.ok (g.S.Source.left c.args.source.now)
-        (g.K.Sink.written c.args.sink.now)
+    (g.K.Sink.written c.args.sink.now)
     (g.K.Sink.written c.answer.new.sink) c.answer.result (c.answer.ensures.answer is)
 
 pub returns-in-Ok-clause-begins : goal.returns-in-Ok-clause-begins
 returns-in-Ok-clause-begins g c cut =
     call_begins (map string_bytes c.args.words.now.items) c.in-Ok.settings c.in-Ok.ensures.ok (g.S.Source.left c.args.source.now)
-        (g.K.Sink.written c.args.sink.now)
+    (g.K.Sink.written c.args.sink.now)
     (g.K.Sink.written c.answer.new.sink) (c.answer.ensures.begins cut)
 
 pub returns-in-Ok-clause-limit : goal.returns-in-Ok-clause-limit
 returns-in-Ok-clause-limit g c =
     not_limit c.in-Ok.settings (g.S.Source.left c.args.source.now) (g.K.Sink.written c.args.sink.now) (g.K.Sink.written c.answer.new.sink)
-        c.answer.result c.answer.ensures.answer
+    c.answer.result c.answer.ensures.answer
 
 pub returns-in-Ok-clause-unread : goal.returns-in-Ok-clause-unread
 returns-in-Ok-clause-unread g c refuses = absurd (not_refused (map string_bytes c.args.words.now.items) c.in-Ok.settings c.in-Ok.ensures.ok refuses)
@@ -32,7 +32,7 @@ returns-in-Err-Refused-clause-answer g c =
     let text = some_text (g.S.Source.left c.args.source.now) in
     let refuses = c.in-Err-Refused.ensures.refused (search rules) in
     line_answers (CallOutput words) (g.S.Source.left c.args.source.now) (g.K.Sink.written c.args.sink.now) (g.K.Sink.written c.say.new.sink) text.0
-        usage_line Words text.1
+    usage_line Words text.1
     (refused refuses) c.say.result c.ended.result c.ended.ensures c.say.ensures.ok
 
 pub returns-in-Err-Refused-clause-begins : goal.returns-in-Err-Refused-clause-begins
@@ -41,7 +41,7 @@ returns-in-Err-Refused-clause-begins g c =
     let text = some_text (g.S.Source.left c.args.source.now) in
     let refuses = c.in-Err-Refused.ensures.refused (search rules) in
     line_begins (CallOutput words) (g.S.Source.left c.args.source.now) (g.K.Sink.written c.args.sink.now) (g.K.Sink.written c.say.new.sink) text.0
-        usage_line Words text.1
+    usage_line Words text.1
     (refused refuses) c.say.result c.ended.result c.ended.ensures (λ cut. cut) c.say.ensures.ok c.say.ensures.err
 
 pub returns-in-Err-NoMemory-clause-begins : goal.returns-in-Err-NoMemory-clause-begins

@@ -19,7 +19,7 @@ returns-in_err-line-clause-err g c =
     let before = g.K.Sink.written c.args.sink.now in
     let between = g.K.Sink.written c.write_all.new.sink in
     let report = subst (λ (piece : List ℕ). WritesAll before between piece) (c.as_slice.ensures.value ∙ c.in_ok-report.ensures)
-        c.in_ok-write_all.ensures.whole in
+    c.in_ok-write_all.ensures.whole in
     on_err c.from_residual-in_err-line.result (report_written c.args.p.now c.in_ok-judged.judged c.in_ok-judged.ensures before between report)
 
 pub returns-clause-ok : goal.returns-clause-ok
@@ -30,7 +30,7 @@ returns-clause-ok g c =
     let between = g.K.Sink.written c.write_all.new.sink in
     let after = g.K.Sink.written c.say.new.sink in
     let report = subst (λ (piece : List ℕ). WritesAll before between piece) (c.as_slice.ensures.value ∙ c.in_ok-report.ensures)
-        c.in_ok-write_all.ensures.whole in
+    c.in_ok-write_all.ensures.whole in
     let line = c.as_slice-2.ensures.value ∙ c.in_ok-line.ensures in
     IfOk-weaker c.say.result _ _ (λ status said.
     let totals = subst (λ (piece : List ℕ). WritesAll between after piece) line said.1 in
@@ -43,7 +43,7 @@ returns-clause-err g c =
     let between = g.K.Sink.written c.write_all.new.sink in
     let after = g.K.Sink.written c.say.new.sink in
     let report = subst (λ (piece : List ℕ). WritesAll before between piece) (c.as_slice.ensures.value ∙ c.in_ok-report.ensures)
-        c.in_ok-write_all.ensures.whole in
+    c.in_ok-write_all.ensures.whole in
     let line = c.as_slice-2.ensures.value ∙ c.in_ok-line.ensures in
     on_err_weaker c.say.result (λ begun. totals_begun c.args.p.now c.in_ok-judged.judged c.in_ok-judged.ensures before between report after
     (subst (λ (piece : List ℕ). WritesFront between after piece) line begun)) c.say.ensures.err

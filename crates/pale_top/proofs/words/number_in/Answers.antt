@@ -13,7 +13,7 @@ unwrap-requires c =
     let text = without_minus given.2 in
     let one = c.get_one.ensures.value text (one_text-rows (found_of c.args.matches.now) c.args.id.now ∙ given.5) in
     let got = signed_reads _ (λ bs r. ParsesUnsigned 32 10 bs r × ExplainsUnsignedError 10 bs r × HasUnsignedDigitsIfOk bs r) 32 given.0 given.1 given.2
-        c.get_one.result one (λ u x reads. reads.0) given.3 given.4 in
+    c.get_one.result one (λ u x reads. reads.0) given.3 given.4 in
     subst (λ (o : Option ℕ). IsSome o) (sym got.1) refl
 
 pub returns : goal.returns

@@ -14,16 +14,22 @@ use Rattle.routing_expr.proofs.cuts.cut_fault.Goals as goal
 pub returns-then-has_dangling_reference : goal.returns-then-has_dangling_reference
 returns-then-has_dangling_reference c = let here : IsFirstCutFault c.args.types.now c.args.vars.now c.args.store.now fault.DanglingReference =
     (OnTrue_at c.if-has_dangling_reference.true c.has_dangling_reference.ensures.some) in
-    record { none = none_of_found c.args.types.now c.args.vars.now c.args.store.now c.requires fault.DanglingReference here; some =
-        some_of_found c.args.types.now c.args.vars.now c.args.store.now c.requires fault.DanglingReference here }
+    record {
+      none = none_of_found c.args.types.now c.args.vars.now c.args.store.now c.requires fault.DanglingReference here;
+      some =
+          some_of_found c.args.types.now c.args.vars.now c.args.store.now c.requires fault.DanglingReference here;
+    }
 
 pub returns-then-is_some : goal.returns-then-is_some
 returns-then-is_some c = let here : IsFirstCutFault c.args.types.now c.args.vars.now c.args.store.now fault.Shared = (
   none_dangles c.args.types.now c.args.vars.now c.args.store.now (OnFalse_at c.if-has_dangling_reference.false c.has_dangling_reference.ensures.none),
   shared_found c.args.types.now c.args.vars.now c.args.store.now c.in_ok-first_shared.field-0 (sym c.if-is_some.ensures) c.in_ok-first_shared.ensures.some,
 ) in
-    record { none = none_of_found c.args.types.now c.args.vars.now c.args.store.now c.requires fault.Shared here; some =
-        some_of_found c.args.types.now c.args.vars.now c.args.store.now c.requires fault.Shared here }
+    record {
+      none = none_of_found c.args.types.now c.args.vars.now c.args.store.now c.requires fault.Shared here;
+      some =
+          some_of_found c.args.types.now c.args.vars.now c.args.store.now c.requires fault.Shared here;
+    }
 
 pub returns-then-is_some-2 : goal.returns-then-is_some-2
 returns-then-is_some-2 c = let here : IsFirstCutFault c.args.types.now c.args.vars.now c.args.store.now fault.Leak = (
@@ -32,8 +38,11 @@ returns-then-is_some-2 c = let here : IsFirstCutFault c.args.types.now c.args.va
       (none_of c.in_ok-first_shared.field-0 _ (sym c.if-is_some.ensures) c.in_ok-first_shared.ensures.none),
   leaked_found c.args.types.now c.args.vars.now c.args.store.now c.in_ok-first_leak.field-0 (sym c.if-is_some-2.ensures) c.in_ok-first_leak.ensures.some,
 ) in
-    record { none = none_of_found c.args.types.now c.args.vars.now c.args.store.now c.requires fault.Leak here; some =
-        some_of_found c.args.types.now c.args.vars.now c.args.store.now c.requires fault.Leak here }
+    record {
+      none = none_of_found c.args.types.now c.args.vars.now c.args.store.now c.requires fault.Leak here;
+      some =
+          some_of_found c.args.types.now c.args.vars.now c.args.store.now c.requires fault.Leak here;
+    }
 
 pub returns-then-is_some-3 : goal.returns-then-is_some-3
 returns-then-is_some-3 c = let here : IsFirstCutFault c.args.types.now c.args.vars.now c.args.store.now fault.Field = (
@@ -47,8 +56,11 @@ returns-then-is_some-3 c = let here : IsFirstCutFault c.args.types.now c.args.va
       (subst (λ s. IfSome c.in_ok-first_wrong_place.field-0 (IsFirstPlace (IsWrongPlace c.in_ok-search.search.types.now s))) c.in_ok-search.ensures.store
       c.in_ok-first_wrong_place.ensures.some)),
 ) in
-    record { none = none_of_found c.args.types.now c.args.vars.now c.args.store.now c.requires fault.Field here; some =
-        some_of_found c.args.types.now c.args.vars.now c.args.store.now c.requires fault.Field here }
+    record {
+      none = none_of_found c.args.types.now c.args.vars.now c.args.store.now c.requires fault.Field here;
+      some =
+          some_of_found c.args.types.now c.args.vars.now c.args.store.now c.requires fault.Field here;
+    }
 
 pub returns : goal.returns
 returns c = let sound : IsSound c.args.types.now c.args.vars.now c.args.store.now =

@@ -31,7 +31,7 @@ loop-place-preserved c =
           (λ h. both_ways c.contains.result w.if-not-contains.true (c.contains.ensures ∙ h)) c.loop-place.invariant)
       | else-not-contains w ↦ subst (Lists (IsTakenOfFirst s IsLeft (c.loop-place.place + 1))) (sym w.cells-is)
           (left_step s IsLeft c.loop-place.place c.in-Some.cell c.loop-place.cells key (sym c.contains.ensures ∙ w.if-not-contains.false)
-              c.loop-place.invariant)
+          c.loop-place.invariant)
     ]
 
 pub returns : goal.returns

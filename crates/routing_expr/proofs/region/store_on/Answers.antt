@@ -19,8 +19,12 @@ returns c =
     let s = c.args.store.now in
     let numbers = c.in_ok-numbers.numbers in
     c.of.ensures
-    ∙ (λ i. record { cells = from_sorted (cells_of (c.in_ok-kept.ensures i)); vars = (c.in_ok-vars.ensures ∙ c.values.ensures) i; next =
-        c.next.ensures.value i })
+    ∙ (λ i. record {
+      cells = from_sorted (cells_of (c.in_ok-kept.ensures i));
+      vars = (c.in_ok-vars.ensures ∙ c.values.ensures) i;
+      next =
+          c.next.ensures.value i;
+    })
     ∙ ap (λ cells. record { cells = cells; vars = s.vars; next = s.next })
     (cells_on c.bodies.result.now s c.bodies.ensures (contains nat_cmp numbers) c.args.cells.now
     (λ d. subst (λ xs. Has numbers d ↔ Contains xs d) c.as_slice.ensures.value (c.in_ok-numbers.ensures d)))

@@ -19,15 +19,15 @@ returns-in_err-before c =
     let p = err_from_is_err_and c.from_residual.result c.from_residual.ensures.1 in
     let stop = stuck c.args.place (table_of c.args.names.now) c.loop.left (kinds_of c.loop.rest.now) c.loop.counter c.loop-test.true in
     rw (p.1, p.2) (Fails-whole c.in_err-before.field-0.0 _ _ c.in_err-before.ensures.value
-        (λ none. sym c.loop.invariant.so_far ∙ stop (sym c.begins_with_mark.ensures ∙ c.if-not-begins_with_mark.false) none))
+    (λ none. sym c.loop.invariant.so_far ∙ stop (sym c.begins_with_mark.ensures ∙ c.if-not-begins_with_mark.false) none))
 
 pub returns-in_err-right : goal.returns-in_err-right
 returns-in_err-right c =
     let p = err_from_is_err_and c.from_residual-in_err-right.result c.from_residual-in_err-right.ensures.1 in
     let stop = unread c.args.place (table_of c.args.names.now) c.loop.left (kinds_of c.loop.rest.now) c.loop.counter c.loop-test.true in
     rw (p.1, p.2) (Fails-whole c.in_err-right.field-0.0 _ _ c.in_err-right.ensures.value
-        (λ none. sym c.loop.invariant.so_far ∙ stop (kinds_of c.in_ok-before.before.now)
-        (sym c.begins_with_mark.ensures ∙ c.if-not-begins_with_mark.false) c.in_ok-before.ensures.value none))
+    (λ none. sym c.loop.invariant.so_far ∙ stop (kinds_of c.in_ok-before.before.now)
+    (sym c.begins_with_mark.ensures ∙ c.if-not-begins_with_mark.false) c.in_ok-before.ensures.value none))
 
 pub returns-then-size-gt-MAX_SIZE : goal.returns-then-size-gt-MAX_SIZE
 returns-then-size-gt-MAX_SIZE c =
@@ -35,7 +35,7 @@ returns-then-size-gt-MAX_SIZE c =
     let big : 65536 < size_of (Iff c.loop.left right) = omega (arith, size_of-Iff c.loop.left right, c.in_ok-right.ensures.size, c.loop.invariant.counted) in
     let stop = too_big c.args.place (table_of c.args.names.now) c.loop.left (kinds_of c.loop.rest.now) c.loop.counter c.loop-test.true in
     sym c.loop.invariant.so_far ∙ stop (kinds_of c.in_ok-before.before.now) (right, kinds_of c.in_ok-right.after.now)
-        (sym c.begins_with_mark.ensures ∙ c.if-not-begins_with_mark.false) c.in_ok-before.ensures.value c.in_ok-right.ensures.value (lt-ltb _ _ big)
+    (sym c.begins_with_mark.ensures ∙ c.if-not-begins_with_mark.false) c.in_ok-before.ensures.value c.in_ok-right.ensures.value (lt-ltb _ _ big)
 
 pub loop-preserved : goal.loop-preserved
 loop-preserved c =
@@ -44,7 +44,7 @@ loop-preserved c =
     let small : size_of (Iff c.loop.left right) ≤ 65536 = omega (arith, size, c.in_ok-right.ensures.size, c.loop.invariant.counted) in
     let next = goes_on c.args.place (table_of c.args.names.now) c.loop.left (kinds_of c.loop.rest.now) c.loop.counter c.loop-test.true
     (kinds_of c.in_ok-before.before.now) (right, kinds_of c.in_ok-right.after.now) (sym c.begins_with_mark.ensures ∙ c.if-not-begins_with_mark.false)
-        c.in_ok-before.ensures.value c.in_ok-right.ensures.value (le-ltb _ _ small) in
+    c.in_ok-before.ensures.value c.in_ok-right.ensures.value (le-ltb _ _ small) in
     rw c.in_ok-left.ensures (record {
       so_far = sym next ∙ c.loop.invariant.so_far;
       counted = omega (arith, size, c.in_ok-right.ensures.size, c.loop.invariant.counted);
