@@ -7,7 +7,8 @@ mod tables;
 ghost use Rattle.std.specs.Prelude.{◌≡◌, ◌+◌, ◌<◌, ◌≤◌, ◌^◌, ◌↔◌, IfOk, OnErr, IsErr, IfSome, IfNone, if◌then◌else◌, vec_len, vec_capacity, ◌++◌, ◌∷◌, []};
 ghost use Rattle.labels.specs.Labels.{Label};
 ghost use Rattle.bdd_nodes.specs.Nodes.{node_of};
-ghost use Rattle.bdd_nodes.specs.Shelf.{IsShelf, IsValid, IsSideFor, IsFullFor, Splits, AsksFrom, empty_shelf, count_of, limit_of, state_of, choice_of, top_of, low_of, high_of, label_of};
+ghost use Rattle.bdd_nodes.specs.Shelf.{IsShelf, IsValid, IsSideFor, IsFullFor, Splits, AsksFrom, empty_shelf, count_of, limit_of, state_of};
+ghost use Rattle.bdd_nodes.specs.Shelf.{choice_of, top_of, low_of, high_of, label_of};
 ghost use Rattle.bdd_nodes.specs.Changes.{Keeps, SameTables, AddsOnly, is_valid};
 
 use crate::index::Index;

@@ -3,7 +3,8 @@
 ghost use Rattle.std.specs.Prelude.{◌≡◌, OnOk, codes};
 ghost use Rattle.pale_text.specs.declared.token.Mark.TheVariants as mark;
 ghost use Rattle.pale_print.specs.Tokens.{separated};
-ghost use Rattle.pale_print.specs.StatementTokens.{argument_tokens, new_variant_tokens, value_tokens, clause_tokens, call_result_tokens, logic_argument_tokens, call_tokens};
+ghost use Rattle.pale_print.specs.StatementTokens.{argument_tokens, new_variant_tokens, value_tokens, clause_tokens, call_result_tokens};
+ghost use Rattle.pale_print.specs.StatementTokens.{logic_argument_tokens, call_tokens};
 ghost use Rattle.pale_print.specs.Writing.{Writes, call_head, call_arguments};
 
 use crate::assertions::push_bracketed;

@@ -3,7 +3,9 @@
 ghost use Rattle.std.specs.Prelude.{◌≡◌, OnOk, IfOk};
 ghost use Rattle.pale_text.specs.declared.token.Mark.TheVariants as mark;
 ghost use Rattle.pale_print.specs.Tokens.{each, each_behind, separated};
-ghost use Rattle.pale_print.specs.DeclarationTokens.{field_tokens, fields_tokens, variant_tokens, type_tokens, predicate_parameter_tokens, predicate_tokens, parameter_tokens, parameters_tokens, results_tokens, logic_parameter_tokens, logics_tokens, local_tokens, procedure_tokens, declaration_tokens};
+ghost use Rattle.pale_print.specs.DeclarationTokens.{field_tokens, fields_tokens, variant_tokens, type_tokens, predicate_parameter_tokens};
+ghost use Rattle.pale_print.specs.DeclarationTokens.{predicate_tokens, parameter_tokens, parameters_tokens, results_tokens, logic_parameter_tokens};
+ghost use Rattle.pale_print.specs.DeclarationTokens.{logics_tokens, local_tokens, procedure_tokens, declaration_tokens};
 ghost use Rattle.pale_print.specs.Spelling.{spelling};
 ghost use Rattle.pale_print.specs.Writing.{Writes, route_in_brackets, predicate_list, predicate_head, signature_tokens, body_tokens};
 

@@ -1,7 +1,8 @@
 //! The lines of a report, as bytes.
 ghost use Rattle.std.specs.Prelude.{◌≡◌, ◌+◌, ◌<◌, ◌^◌, ◌++◌, IfOk, OnOk, drop};
 ghost use Rattle.std.specs.Fmt.{decimal};
-ghost use Rattle.pale_top.specs.Report.{invalid_line, refused_line, store_text, totals_line, triple_head, truth_word, valid_line, variable_line, variable_lines};
+ghost use Rattle.pale_top.specs.Report.{invalid_line, refused_line, store_text, totals_line, triple_head, truth_word, valid_line, variable_line};
+ghost use Rattle.pale_top.specs.Report.{variable_lines};
 
 use bool_path::{BitList, BoolProc, ByteList};
 use pale_text::Refusal;

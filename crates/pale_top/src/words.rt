@@ -47,7 +47,8 @@ impl From<AllocError> for WordsStop {
 }
 
 ghost use Rattle.clap.specs.declared.builder.value_parser.ValueParser.TheVariants.{Signed};
-ghost use Rattle.pale_top.specs.Words.{Gives, HasMode, HasNumber, HasSettings, HasValues, number_of, mode_rule, number_rule, IsRefused, IsModeParser, mode_name, command_with};
+ghost use Rattle.pale_top.specs.Words.{Gives, HasMode, HasNumber, HasSettings, HasValues, number_of, mode_rule, number_rule, IsRefused, IsModeParser};
+ghost use Rattle.pale_top.specs.Words.{mode_name, command_with};
 
 static MODE_NAMES: [&str; 2] = ["check", "format"];
 

@@ -5,7 +5,8 @@ ghost use Rattle.std.specs.Option.{option_copied, option_and_then};
 ghost use Rattle.std.specs.FinMap.{entries, keys};
 ghost use Rattle.store_core.specs.Tables.{KnowsVariant, field_at};
 ghost use Rattle.store_core.specs.Stores as stores;
-ghost use Rattle.store_core.specs.Stores.{IsLive, IsAbove, cell_of, field_value, var_value, class_of, field_class, var_class, blank, blank_slot, blank_cell, empty_store};
+ghost use Rattle.store_core.specs.Stores.{IsLive, IsAbove, cell_of, field_value, var_value, class_of, field_class, var_class, blank, blank_slot};
+ghost use Rattle.store_core.specs.Stores.{blank_cell, empty_store};
 
 use crate::ids::{CellId, FieldId, TypeId, VarId, VariantId};
 use crate::kind::{FieldKind, VarKind};

@@ -1,9 +1,12 @@
 //! The table of types.
 
-ghost use Rattle.std.specs.Prelude.{◌≡◌, ◌+◌, ◌<◌, ◌≤◌, ◌↔◌, [], ◌∷◌, ◌++◌, length, Option, Some, None, IsTrue, IfOk, IfSome, IfNone, OnOk, OnErr, map, slice_get, option_map};
+ghost use Rattle.std.specs.Prelude.{◌≡◌, ◌+◌, ◌<◌, ◌≤◌, ◌↔◌, [], ◌∷◌, ◌++◌, length, Option, Some, None, IsTrue, IfOk, IfSome, IfNone, OnOk, OnErr};
+ghost use Rattle.std.specs.Prelude.{map, slice_get, option_map};
 ghost use Rattle.std.specs.Option.{option_map_or, option_copied, option_and_then};
 ghost use Rattle.store_core.specs.Tables as tables;
-ghost use Rattle.store_core.specs.Tables.{type_at, fields_of, variants_of, field_at, type_named, field_named, type_names, field_names, place_of, variant_count, unnamed_of, owner_of, owner_type, owner_only, has_field, KnowsType, KnowsOwner, KnowsKind, IsTypeTable};
+ghost use Rattle.store_core.specs.Tables.{type_at, fields_of, variants_of, field_at, type_named, field_named, type_names, field_names, place_of};
+ghost use Rattle.store_core.specs.Tables.{variant_count, unnamed_of, owner_of, owner_type, owner_only, has_field, KnowsType, KnowsOwner, KnowsKind};
+ghost use Rattle.store_core.specs.Tables.{IsTypeTable};
 
 use crate::ids::{FieldId, TypeId, VariantId};
 use crate::kind::{FieldKind, Owner};

@@ -5,7 +5,8 @@ ghost use Rattle.std.specs.Fmt.{decimal};
 ghost use Rattle.store_core.specs.Tables.{fields_of};
 ghost use Rattle.store_core.specs.Stores.{Fits};
 ghost use Rattle.store_core.specs.StoreBodies.{cell_entry, cells_of};
-ghost use Rattle.store_text.specs.StoreText.{HasSlots, cell_text, value_text, slot_text, slots_text, variant_text, var_line, var_lines, cell_line, cell_lines, store_text_of};
+ghost use Rattle.store_text.specs.StoreText.{HasSlots, cell_text, value_text, slot_text, slots_text, variant_text, var_line, var_lines, cell_line};
+ghost use Rattle.store_text.specs.StoreText.{cell_lines, store_text_of};
 
 use plain_data::at;
 use std::alloc::{AllocError, Global};

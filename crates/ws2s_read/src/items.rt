@@ -1,7 +1,8 @@
 //! Items of a text, and the text.
 
 ghost use Rattle.std.specs.Prelude.{◌≡◌, IfOk, IfErr, OnOk};
-ghost use Rattle.ws2s_read.specs.Resolving.{IsStop, classes_of, with_variable, with_variables, resolved_body, with_predicate, with_formula, with_item, resolved};
+ghost use Rattle.ws2s_read.specs.Resolving.{IsStop, classes_of, with_variable, with_variables, resolved_body, with_predicate, with_formula};
+ghost use Rattle.ws2s_read.specs.Resolving.{with_item, resolved};
 
 use crate::formulas::{bind_parameters, resolve_formula};
 use crate::names::{Meaning, Names, number};

@@ -2,7 +2,8 @@
 
 ghost use Rattle.std.specs.Prelude.{◌≡◌, IfOk, IfErr};
 ghost use Rattle.ws2s_syntax.specs.declared.name.Argument.TheVariants as argument;
-ghost use Rattle.ws2s_read.specs.Resolving.{IsStop, first_place, resolved_variable, resolved_named, resolved_set, resolved_side, resolved_position, resolved_set_side, resolved_argument};
+ghost use Rattle.ws2s_read.specs.Resolving.{IsStop, first_place, resolved_variable, resolved_named, resolved_set, resolved_side, resolved_position};
+ghost use Rattle.ws2s_read.specs.Resolving.{resolved_set_side, resolved_argument};
 
 use crate::names::{Meaning, Names, refused};
 use pale_text::{Pos, RefusalKind, TextStop};

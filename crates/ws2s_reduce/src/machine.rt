@@ -7,7 +7,8 @@ ghost use Rattle.ws2s_syntax.specs.declared.formula.Atom.{Atom};
 ghost use Rattle.ws2s_syntax.specs.declared.name.Argument.{Argument};
 ghost use Rattle.ws2s_syntax.specs.Sentences.{sentence_of};
 ghost use Rattle.ws2s_reduce.specs.Reducing.{is_at, used, reduced, atom_at, no_reductions, reductions_from};
-ghost use Rattle.ws2s_reduce.specs.Building.{to_apply, step_of, steps_of, applied, finished, reductions_to, works_to, atom_work, formula_work, step_work, steps_work};
+ghost use Rattle.ws2s_reduce.specs.Building.{to_apply, step_of, steps_of, applied, finished, reductions_to, works_to, atom_work, formula_work};
+ghost use Rattle.ws2s_reduce.specs.Building.{step_work, steps_work};
 ghost use Rattle.ws2s_reduce.specs.Machines.{IsPassed, IsBuilt};
 ghost use Rattle.std.specs.Option.{option_copied};
 

@@ -3,7 +3,8 @@
 ghost use Rattle.std.specs.Prelude.{◌≡◌, ◌↔◌, ◌+◌, ◌*◌, ◌≤◌, min, not, IsTrue, map, fold, count_by, IfOk};
 ghost use Rattle.std.specs.List.{sum_by};
 ghost use Rattle.ws2s_syntax.specs.Sentences.{Sentence, joined, sentence_of};
-ghost use Rattle.ws2s_reduce.specs.Sizes.{term_size, argument_size, atom_size, joined_size, quantifier_size, sentence_size, formulas_size, sizes_in, AreSizes, IsSmall};
+ghost use Rattle.ws2s_reduce.specs.Sizes.{term_size, argument_size, atom_size, joined_size, quantifier_size, sentence_size, formulas_size, sizes_in};
+ghost use Rattle.ws2s_reduce.specs.Sizes.{AreSizes, IsSmall};
 ghost use Rattle.ws2s_reduce.specs.Reducing.{no_reductions, reductions_from, reductions_of, holds_of, breaks_of};
 ghost use Rattle.ws2s_syntax.specs.Checked.{Text};
 

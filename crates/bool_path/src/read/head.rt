@@ -3,7 +3,8 @@
 ghost use Rattle.std.specs.Prelude.{◌≡◌, ◌<◌, [], length, position, IfSome};
 ghost use Rattle.bool_path.specs.Reading.{kinds_of};
 ghost use Rattle.bool_path.specs.Reader.Steps.{Gives, is_mark};
-ghost use Rattle.bool_path.specs.Reader.Heads.{declared_at, declarations_at, enclosed_at, params_at, results_at, logics_at, locals_at, cut_at, bracketed_at, head_at};
+ghost use Rattle.bool_path.specs.Reader.Heads.{declared_at, declarations_at, enclosed_at, params_at, results_at, logics_at, locals_at, cut_at};
+ghost use Rattle.bool_path.specs.Reader.Heads.{bracketed_at, head_at};
 ghost use Rattle.bool_path.specs.Reader.Views.{head_of, kinds_if_any};
 
 use crate::program::{BoolStop, ByteList};
