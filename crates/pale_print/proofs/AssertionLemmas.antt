@@ -167,41 +167,46 @@ lent_chain needed mark asked first lent others slice followed last before count 
     λ i. opening needed >> assertion_tokens (sym one i) asked (sym flag i) >> assertion_operands mark asked (sym rest i)
     (sym last_is i) >> closing needed >> after
 
-pub at-And : (a first lent : Assertion) (others slice : List Assertion) (asked : ℕ) (followed last before : Bool) (count : ℕ) →
-    a ≡ assertion.And first others → lent ≡ first → slice ≡ others → last ≡ inside (nat_lt 3 asked) followed → count ≡ length others →
-    before ≡ goes_on count last → (after : List TokenKind) →
+pub at-And : (a first lent : Assertion) (others slice : List Assertion) (asked : ℕ) (needed followed last before : Bool) (count : ℕ) →
+    a ≡ assertion.And first others → lent ≡ first → slice ≡ others → needed ≡ nat_lt 3 asked → last ≡ inside needed followed →
+    count ≡ length others → before ≡ goes_on count last → (after : List TokenKind) →
     assertion_tokens a asked followed after
-    ≡ (opening (nat_lt 3 asked) >> assertion_tokens lent 4 before >> assertion_operands mark.Ampersand 4 slice last >> closing (nat_lt 3 asked) >> after)
-at-And a first lent others slice asked followed last before count is one rest last_is count_is before_is after =
+    ≡ (opening needed >> assertion_tokens lent 4 before >> assertion_operands mark.Ampersand 4 slice last >> closing needed >> after)
+at-And a first lent others slice asked needed followed last before count is one rest need last_is count_is before_is after =
     (λ i. (ap assertion_tokens is ∙ of-And first others) i asked followed after)
-    ∙ lent_chain (nat_lt 3 asked) mark.Ampersand 4 first lent others slice followed last before count one rest last_is count_is before_is after
+    ∙ (λ i. chain (sym need i) mark.Ampersand 4 first others followed after)
+    ∙ lent_chain needed mark.Ampersand 4 first lent others slice followed last before count one rest last_is count_is before_is after
 
-pub at-Or : (a first lent : Assertion) (others slice : List Assertion) (asked : ℕ) (followed last before : Bool) (count : ℕ) →
-    a ≡ assertion.Or first others → lent ≡ first → slice ≡ others → last ≡ inside (nat_lt 2 asked) followed → count ≡ length others →
-    before ≡ goes_on count last → (after : List TokenKind) →
+pub at-Or : (a first lent : Assertion) (others slice : List Assertion) (asked : ℕ) (needed followed last before : Bool) (count : ℕ) →
+    a ≡ assertion.Or first others → lent ≡ first → slice ≡ others → needed ≡ nat_lt 2 asked → last ≡ inside needed followed →
+    count ≡ length others → before ≡ goes_on count last → (after : List TokenKind) →
     assertion_tokens a asked followed after
-    ≡ (opening (nat_lt 2 asked) >> assertion_tokens lent 3 before >> assertion_operands mark.Bar 3 slice last >> closing (nat_lt 2 asked) >> after)
-at-Or a first lent others slice asked followed last before count is one rest last_is count_is before_is after =
+    ≡ (opening needed >> assertion_tokens lent 3 before >> assertion_operands mark.Bar 3 slice last >> closing needed >> after)
+at-Or a first lent others slice asked needed followed last before count is one rest need last_is count_is before_is after =
     (λ i. (ap assertion_tokens is ∙ of-Or first others) i asked followed after)
-    ∙ lent_chain (nat_lt 2 asked) mark.Bar 3 first lent others slice followed last before count one rest last_is count_is before_is after
+    ∙ (λ i. chain (sym need i) mark.Bar 3 first others followed after)
+    ∙ lent_chain needed mark.Bar 3 first lent others slice followed last before count one rest last_is count_is before_is after
 
-pub at-Iff : (a first lent : Assertion) (others slice : List Assertion) (asked : ℕ) (followed last before : Bool) (count : ℕ) →
-    a ≡ assertion.Iff first others → lent ≡ first → slice ≡ others → last ≡ inside (nat_lt 0 asked) followed → count ≡ length others →
-    before ≡ goes_on count last → (after : List TokenKind) →
+pub at-Iff : (a first lent : Assertion) (others slice : List Assertion) (asked : ℕ) (needed followed last before : Bool) (count : ℕ) →
+    a ≡ assertion.Iff first others → lent ≡ first → slice ≡ others → needed ≡ nat_lt 0 asked → last ≡ inside needed followed →
+    count ≡ length others → before ≡ goes_on count last → (after : List TokenKind) →
     assertion_tokens a asked followed after
-    ≡ (opening (nat_lt 0 asked) >> assertion_tokens lent 1 before >> assertion_operands mark.Equivalent 1 slice last >> closing (nat_lt 0 asked) >> after)
-at-Iff a first lent others slice asked followed last before count is one rest last_is count_is before_is after =
+    ≡ (opening needed >> assertion_tokens lent 1 before >> assertion_operands mark.Equivalent 1 slice last >> closing needed >> after)
+at-Iff a first lent others slice asked needed followed last before count is one rest need last_is count_is before_is after =
     (λ i. (ap assertion_tokens is ∙ of-Iff first others) i asked followed after)
-    ∙ lent_chain (nat_lt 0 asked) mark.Equivalent 1 first lent others slice followed last before count one rest last_is count_is before_is after
+    ∙ (λ i. chain (sym need i) mark.Equivalent 1 first others followed after)
+    ∙ lent_chain needed mark.Equivalent 1 first lent others slice followed last before count one rest last_is count_is before_is after
 
-pub at-Imp : (a left lent right given : Assertion) (place : Pos) (asked : ℕ) (followed last : Bool) →
-    a ≡ assertion.Imp left place right → lent ≡ left → given ≡ right → last ≡ inside (nat_lt 1 asked) followed → (after : List TokenKind) →
+pub at-Imp : (a left lent right given : Assertion) (place : Pos) (asked : ℕ) (needed followed last : Bool) →
+    a ≡ assertion.Imp left place right → lent ≡ left → given ≡ right → needed ≡ nat_lt 1 asked → last ≡ inside needed followed →
+    (after : List TokenKind) →
     assertion_tokens a asked followed after
-    ≡ (opening (nat_lt 1 asked) >> assertion_tokens lent 2 true >> sign mark.Implies >> assertion_tokens given 1 last >> closing (nat_lt 1 asked) >> after)
-at-Imp a left lent right given place asked followed last is one other last_is after =
+    ≡ (opening needed >> assertion_tokens lent 2 true >> sign mark.Implies >> assertion_tokens given 1 last >> closing needed >> after)
+at-Imp a left lent right given place asked needed followed last is one other need last_is after =
     (λ i. (ap assertion_tokens is ∙ of-Imp left place right) i asked followed after)
-    ∙ (λ i. opening (nat_lt 1 asked) >> assertion_tokens (sym one i) 2 true >> sign mark.Implies >>
-    assertion_tokens (sym other i) 1 (sym last_is i) >> closing (nat_lt 1 asked) >> after)
+    ∙ (λ i. implication (sym need i) left right followed after)
+    ∙ (λ i. opening needed >> assertion_tokens (sym one i) 2 true >> sign mark.Implies >>
+    assertion_tokens (sym other i) 1 (sym last_is i) >> closing needed >> after)
 
 pub at-Quantified : (a inner lent : Assertion) (q : Quantifier) → a ≡ assertion.Quantified q inner → lent ≡ inner →
     assertion_tokens a ≡ (λ asked. governed q lent)

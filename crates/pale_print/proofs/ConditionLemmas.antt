@@ -83,15 +83,15 @@ pub at-Not : (c inner lent : Condition) (place : Pos) → c ≡ condition.Not pl
     condition_tokens c ≡ (λ asked after. sign mark.Bang >> condition_tokens lent 2 >> after)
 at-Not c inner lent place is one = ap condition_tokens (is ∙ (λ i. condition.Not place (sym one i))) ∙ of-Not place lent
 
-pub at-And : (c first lent : Condition) (others slice : List Condition) → c ≡ condition.And first others → lent ≡ first → slice ≡ others →
-    condition_tokens c ≡ (λ asked. chain (nat_lt 1 asked) mark.AndAlso 2 lent slice)
-at-And c first lent others slice is one rest =
-    ap condition_tokens (is ∙ (λ i. condition.And (sym one i) (sym rest i))) ∙ of-And lent slice
+pub at-And : (c first lent : Condition) (others slice : List Condition) (asked : ℕ) (needed : Bool) → c ≡ condition.And first others → lent ≡ first →
+    slice ≡ others → needed ≡ nat_lt 1 asked → condition_tokens c asked ≡ chain needed mark.AndAlso 2 lent slice
+at-And c first lent others slice asked needed is one rest need =
+    (λ i. (ap condition_tokens (is ∙ (λ i. condition.And (sym one i) (sym rest i))) ∙ of-And lent slice) i asked) ∙ (λ i. chain (sym need i) mark.AndAlso 2 lent slice)
 
-pub at-Or : (c first lent : Condition) (others slice : List Condition) → c ≡ condition.Or first others → lent ≡ first → slice ≡ others →
-    condition_tokens c ≡ (λ asked. chain (nat_lt 0 asked) mark.OrElse 1 lent slice)
-at-Or c first lent others slice is one rest =
-    ap condition_tokens (is ∙ (λ i. condition.Or (sym one i) (sym rest i))) ∙ of-Or lent slice
+pub at-Or : (c first lent : Condition) (others slice : List Condition) (asked : ℕ) (needed : Bool) → c ≡ condition.Or first others → lent ≡ first →
+    slice ≡ others → needed ≡ nat_lt 0 asked → condition_tokens c asked ≡ chain needed mark.OrElse 1 lent slice
+at-Or c first lent others slice asked needed is one rest need =
+    (λ i. (ap condition_tokens (is ∙ (λ i. condition.Or (sym one i) (sym rest i))) ∙ of-Or lent slice) i asked) ∙ (λ i. chain (sym need i) mark.OrElse 1 lent slice)
 
 -- each form
 pub ruleset condition_forms = (of-True, of-False, of-Truth, of-Same, of-Differ, of-Is, of-Not, of-And, of-Or)

@@ -90,19 +90,22 @@ of-Star inner places =
 
 -- the same at parts that are lent
 
-pub at-Then : (r first lent : Route) (others slice : List Route) → r ≡ Then first others → lent ≡ first → slice ≡ others →
-    route_tokens r ≡ (λ asked. chain (nat_lt 1 asked) mark.Dot 2 lent slice)
-at-Then r first lent others slice is one rest = ap route_tokens (is ∙ (λ i. Then (sym one i) (sym rest i))) ∙ of-Then lent slice
+pub at-Then : (r first lent : Route) (others slice : List Route) (asked : ℕ) (needed : Bool) → r ≡ Then first others → lent ≡ first →
+    slice ≡ others → needed ≡ nat_lt 1 asked → route_tokens r asked ≡ chain needed mark.Dot 2 lent slice
+at-Then r first lent others slice asked needed is one rest need =
+    (λ i. (ap route_tokens (is ∙ (λ i. Then (sym one i) (sym rest i))) ∙ of-Then lent slice) i asked) ∙ (λ i. chain (sym need i) mark.Dot 2 lent slice)
 
-pub at-Or : (r first lent : Route) (others slice : List Route) → r ≡ Or first others → lent ≡ first → slice ≡ others →
-    route_tokens r ≡ (λ asked. chain (nat_lt 0 asked) mark.Plus 1 lent slice)
-at-Or r first lent others slice is one rest = ap route_tokens (is ∙ (λ i. Or (sym one i) (sym rest i))) ∙ of-Or lent slice
+pub at-Or : (r first lent : Route) (others slice : List Route) (asked : ℕ) (needed : Bool) → r ≡ Or first others → lent ≡ first →
+    slice ≡ others → needed ≡ nat_lt 0 asked → route_tokens r asked ≡ chain needed mark.Plus 1 lent slice
+at-Or r first lent others slice asked needed is one rest need =
+    (λ i. (ap route_tokens (is ∙ (λ i. Or (sym one i) (sym rest i))) ∙ of-Or lent slice) i asked) ∙ (λ i. chain (sym need i) mark.Plus 1 lent slice)
 
-pub at-Star : (r inner lent : Route) (places slice : List Pos) → r ≡ Star inner places → lent ≡ inner → slice ≡ places →
-    route_tokens r
-    ≡ (λ asked after. opening (nat_lt 2 asked) >> route_tokens lent 3 >> stars slice >> closing (nat_lt 2 asked) >> after)
-at-Star r inner lent places slice is one rest =
-    ap route_tokens (is ∙ (λ i. Star (sym one i) (sym rest i))) ∙ of-Star lent slice
+pub at-Star : (r inner lent : Route) (places slice : List Pos) (asked : ℕ) (needed : Bool) → r ≡ Star inner places → lent ≡ inner →
+    slice ≡ places → needed ≡ nat_lt 2 asked →
+    route_tokens r asked ≡ (λ after. opening needed >> route_tokens lent 3 >> stars slice >> closing needed >> after)
+at-Star r inner lent places slice asked needed is one rest need =
+    (λ i. (ap route_tokens (is ∙ (λ i. Star (sym one i) (sym rest i))) ∙ of-Star lent slice) i asked)
+    ∙ (λ i after. opening (sym need i) >> route_tokens lent 3 >> stars slice >> closing (sym need i) >> after)
 
 -- each form
 pub ruleset route_forms = (of-Down, of-Up, of-UpAny, of-Root, of-Leaf, of-IsType, of-IsVariant, of-IsBool, of-Then, of-Or, of-Star)

@@ -1,6 +1,7 @@
 use Rattle.std.proofs.Common.{◌≡◌, ◌+◌, ◌++◌, List, length, drop}
 use Rattle.pale_text.specs.declared.token.TokenKind.{TokenKind}
 use Rattle.pale_print.specs.Spelling.{spelled}
+use Rattle.pale_print.specs.Tightness.{assertion_tightness}
 use Rattle.pale_print.specs.Writing.{assertion_operands}
 use Rattle.pale_print.proofs.assertions.+assertions.Given as goal
 
@@ -9,6 +10,6 @@ abbrev pub invariant-push_operands-loop-operand : goal.invariant-push_operands-l
 invariant-push_operands-loop-operand l = record {
   left : l.left + l.operand-index ≡ length l.operands;
   written : (after : List TokenKind) →
-      l.text.items ++ spelled (assertion_operands l.mark l.asked (drop l.operand-index l.operands) l.followed after)
-      ≡ l.initial.text.items ++ spelled (assertion_operands l.mark l.asked l.operands l.followed after);
+      l.text.items ++ spelled (assertion_operands l.mark (assertion_tightness l.asked) (drop l.operand-index l.operands) l.followed after)
+      ≡ l.initial.text.items ++ spelled (assertion_operands l.mark (assertion_tightness l.asked) l.operands l.followed after);
 }

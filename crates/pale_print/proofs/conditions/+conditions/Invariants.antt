@@ -1,5 +1,6 @@
 use Rattle.std.proofs.Common.{◌≡◌, ◌++◌, List, drop}
 use Rattle.pale_text.specs.declared.token.TokenKind.{TokenKind}
+use Rattle.pale_print.specs.Tightness.{condition_tightness}
 use Rattle.pale_print.specs.Writing.{condition_operands}
 use Rattle.pale_print.specs.Spelling.{spelled}
 use Rattle.pale_print.proofs.conditions.+conditions.Given as goal
@@ -7,5 +8,5 @@ use Rattle.pale_print.proofs.conditions.+conditions.Given as goal
 -- what is written and the operands that are left are all of them
 abbrev pub invariant-push_operands-loop-operand : goal.invariant-push_operands-loop-operand
 invariant-push_operands-loop-operand l =
-    (after : List TokenKind) → l.text.items ++ spelled (condition_operands l.mark l.asked (drop l.operand-index l.operands) after)
-    ≡ l.initial.text.items ++ spelled (condition_operands l.mark l.asked l.operands after)
+    (after : List TokenKind) → l.text.items ++ spelled (condition_operands l.mark (condition_tightness l.asked) (drop l.operand-index l.operands) after)
+    ≡ l.initial.text.items ++ spelled (condition_operands l.mark (condition_tightness l.asked) l.operands after)
