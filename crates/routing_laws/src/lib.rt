@@ -2,8 +2,8 @@
 //!
 //! `specs/Deciding.antt` says what it is to be decided, `specs/Shown.antt` what shows that a store isn't well-formed,
 //! `specs/Paths.antt` what the path to a cell is, `specs/Pieces.antt` what a piece of a store is, `specs/Hanging.antt` when the
-//! variables of a store name its roots, and `specs/Pairing.antt` when two stores are the same but for the names of their cells. The store on a set of cells stands in `routing_expr`,
-//! `specs/Regions.antt`.
+//! variables of a store name its roots, and `specs/Pairing.antt` when two stores are the same but for the names of their cells.
+//! The store on a set of cells stands in `routing_expr`, `specs/Regions.antt`.
 #![tactic(auto)]
 
 mod decided;
