@@ -55,7 +55,8 @@ module _ (types : List TypeEntry) (vars : List VarEntry) (t : StoreMap) (named :
     (data_fields : (c : CellId) (f : FieldId) → IfSome (field_at types f) (λ entry. IfSome (field_value t c f) (FieldHoldsLive t entry.kind)))
     (once : (f g : FieldId) (a b c : CellId) → Leads types t DataAlone f a c → Leads types t DataAlone g b c → place.Field a f ≡ place.Field b g)
     (rooted : (c : CellId) → IsLive t c → (root : CellId) × IsRoot types t root × Chain t (IsParent types t) root c) where
-  never_both : (v : VarId) (a : CellId) (f : FieldId) (c : CellId) → IsLive t c → Names types vars t (place.Var v) c → Names types vars t (place.Field a f) c → ⊥
+  never_both : (v : VarId) (a : CellId) (f : FieldId) (c : CellId) → IsLive t c → Names types vars t (place.Var v) c →
+      Names types vars t (place.Field a f) c → ⊥
   never_both v a f c live by_v by_f = (named.alone v c by_v).alone a (record { field = f; leads = Leads-Names types vars t f a c live by_f })
 
   named_once : (c : CellId) (p q : Place) → IsLive t c → Names types vars t p c → Names types vars t q c → p ≡ q
@@ -110,8 +111,8 @@ module _ (types : List TypeEntry) (vars : List VarEntry) (s t : StoreMap) (cells
       (leads_off cells s t on types DataAlone f a c one).2 (leads_off cells s t on types DataAlone g b c other).2
 
   -- the cell of the set at which a path enters it is a root there
-  root_on : (v : VarId) (root : CellId) → Names types vars s (place.Var v) root → {c : CellId} → Back s (IsParent types s) root c → Contains cells c → IsLive t c →
-      (start : CellId) × IsRoot types t start × Chain t (IsParent types t) start c
+  root_on : (v : VarId) (root : CellId) → Names types vars s (place.Var v) root → {c : CellId} → Back s (IsParent types s) root c →
+      Contains cells c → IsLive t c → (start : CellId) × IsRoot types t start × Chain t (IsParent types t) start c
   root_on v root named (here h) m live = (
     root,
     record {

@@ -281,7 +281,8 @@ module _ (types : List TypeEntry) (R : CellId → CellId → Type 0) (s t : Stor
         (tree.0, tree_to types R s t h vars tree.0 a.0 c a.1 tree.1);
   }
 
-  pointers_to : ((c : CellId) (f : FieldId) → IsSomeAnd (field_at types f) (λ entry. IsPointer entry.kind) → IfSome (field_value s c f) (IsOnlyDestination types s c f)) →
+  pointers_to : ((c : CellId) (f : FieldId) → IsSomeAnd (field_at types f) (λ entry. IsPointer entry.kind) →
+      IfSome (field_value s c f) (IsOnlyDestination types s c f)) →
       (c : CellId) (f : FieldId) → IsSomeAnd (field_at types f) (λ entry. IsPointer entry.kind) → IfSome (field_value t c f) (IsOnlyDestination types t c f)
   pointers_to right c f pointer = field_if (λ a. IsOnlyDestination types s a f) (λ c. IsOnlyDestination types t c f)
       (λ a c p x y e k. only_to types R s t h f a c x y p e k) f (λ a. right a f pointer) c
