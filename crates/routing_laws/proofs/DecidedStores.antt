@@ -18,6 +18,9 @@ use Rattle.routing_expr.specs.Walks.{DataAlone, IsParent, Chain, stay, go}
 use Rattle.routing_expr.specs.Destinations.{EndsKind, Dest, IsOnlyDestination, IsPointer}
 use Rattle.routing_expr.specs.WellFormed.{value_at, IsDataVar, IsDataPlace, Names, IsInTree, NamesDead, HoldsDead, IsDanglingReference, IsDangling}
 use Rattle.routing_expr.specs.WellFormed.{IsShared, IsLeaked, IsWrongField, IsWellFormed}
+use Rattle.routing_expr.specs.declared.fault.CutFault.{CutFault}
+use Rattle.routing_expr.specs.declared.fault.CutFault.TheVariants as fault
+use Rattle.routing_expr.specs.CutFaults.{HasDanglingReference, HasShared, HasWrongField, IsSound, IsFirstCutFault}
 use Rattle.routing_expr.specs.Reaching.{IsInSomeTree}
 use Rattle.routing_expr.specs.Judging.{IsRightField}
 use Rattle.routing_expr.specs.Searches.{Lists}
@@ -28,7 +31,7 @@ use Rattle.routing_expr.proofs.TreeLemmas.{IsInTree-live, IsInTree-child}
 use Rattle.routing_expr.proofs.FittingLemmas.{IfSome-from, IsSomeAnd-at, var_at_value, slot_at_value}
 use Rattle.routing_expr.proofs.FaultLemmas.{place_cases, no_reference, no_shared, no_leak, no_wrong_field, no_dangling, backbone_from, well_formed_from}
 use Rattle.routing_laws.specs.Deciding.{Decided}
-use Rattle.routing_laws.specs.Shown.{HasFault, dangling, shared, leaked, wrong, IsSound, HasLeakSet, HasOther, HasDest, ShowsWrong}
+use Rattle.routing_laws.specs.Shown.{HasFault, dangling, shared, leaked, wrong, HasLeakSet, HasOther, HasDest, ShowsWrong}
 use Rattle.routing_laws.specs.Shown.{HasCause, at_reference, at_shared, at_leak, at_field}
 use Rattle.routing_laws.proofs.DecidedLemmas.{decided_as, decided_both, decided_either, decided_not, holds_from, decided_some, decided_there}
 use Rattle.routing_laws.proofs.DecidedLemmas.{decided_in, decided_one_of, decided_below}
@@ -331,6 +334,34 @@ module _ (types : List TypeEntry) (vars : List VarEntry) (s : StoreMap) (fits : 
       ]
     ]
   ]
+
+  -- of the causes one comes first
+  pub first_cause : HasCause types vars s → (cause : CutFault) × IsFirstCutFault types vars s cause
+  first_cause has = elim some_reference_dangles [
+    | inl d ↦ (fault.DanglingReference, record { place = d.0; dangling = d.1 })
+    | inr none ↦ let no_reference_dangles : HasDanglingReference s → ⊥ = λ h. none (h.place, h.dangling) in elim some_shared [
+      | inl c ↦ (fault.Shared, (no_reference_dangles, record { cell = c.0; shared = c.1 }))
+      | inr single ↦ let no_cell_is_shared : HasShared types vars s → ⊥ = λ h. single (h.cell, h.shared) in elim some_leaked [
+        | inl c ↦ (fault.Leak, (no_reference_dangles, no_cell_is_shared, record { cell = c.0; leaked = c.1 }))
+        | inr kept ↦ (
+          fault.Field,
+          (
+            no_reference_dangles,
+            no_cell_is_shared,
+            λ h. kept (h.cell, h.leaked),
+            wrong_field (λ p d. none (p, d)) (λ c h. single (c, h)) (λ c h. kept (c, h)) has,
+          ),
+        )
+      ]
+    ]
+  ]
+    where
+      wrong_field : ((p : Place) → IsDanglingReference s p → ⊥) → ((c : CellId) → IsShared types vars s c → ⊥) →
+          ((c : CellId) → IsLeaked types vars s c → ⊥) → HasCause types vars s → HasWrongField types s
+      wrong_field none single kept (at_reference p h) = absurd (none p h)
+      wrong_field none single kept (at_shared c h) = absurd (single c h)
+      wrong_field none single kept (at_leak c h) = absurd (kept c h)
+      wrong_field none single kept (at_field c f h) = record { cell = c; field = f; wrong = h }
 
   pub no_cause : IsSound types vars s → HasCause types vars s → ⊥
   no_cause is (at_reference p h) = no_reference types vars s fits is.backbone is.pointers p h

@@ -13,3 +13,5 @@ pub mod OneEachLemmas
 pub mod PieceForms
 pub mod TwinLemmas
 pub mod BareLemmas
+pub mod HangingLemmas
+pub mod TogetherLemmas

@@ -15,12 +15,15 @@ use Rattle.store_core.specs.Tables.{TypeEntry, VarEntry, FieldEntry, field_at, v
 use Rattle.store_core.specs.Stores.{StoreMap, CellEntry, IsAbove, cell_of, field_value, var_value, NamesType, FieldFits, VarFits, SlotsFit, CellFits}
 use Rattle.store_core.specs.Stores.{VarsFit, Fits}
 use Rattle.routing_expr.specs.declared.fault.Place.{Place}
+use Rattle.routing_expr.specs.declared.fault.CutFault.{CutFault}
+use Rattle.routing_expr.specs.declared.fault.CutFault.TheVariants as fault
 use Rattle.routing_expr.specs.Walks.{IsOfType}
-use Rattle.routing_expr.specs.Destinations.{IsOnlyDestination}
+use Rattle.routing_expr.specs.Destinations.{IsOnlyDestination, IsPointer}
 use Rattle.routing_expr.specs.WellFormed.{value_at, NamesDead, HoldsDead, IsDanglingReference, IsDangling, IsShared, IsLeaked, IsWrongField}
 use Rattle.routing_expr.specs.WellFormed.{HoldsOfType, VarHoldsLive, FieldHoldsLive, SetHoldsLive, IsBackbone, IsWellFormed}
-use Rattle.routing_expr.proofs.LiveLemmas.{IsLive-field_value}
-use Rattle.routing_expr.proofs.FittingLemmas.{IfSome-from, IfSome-at}
+use Rattle.routing_expr.specs.CutFaults.{HasDanglingReference, HasShared, HasLeaked, HasWrongField, IsFirstCutFault, IsSound}
+use Rattle.routing_expr.proofs.LiveLemmas.{IsLive-field_value, IsSome-and}
+use Rattle.routing_expr.proofs.FittingLemmas.{IfSome-from, IfSome-at, IsSomeAnd-at}
 use Rattle.routing_expr.proofs.SharedLemmas.{there}
 use Rattle.routing_laws.specs.Pairing.{PairsValue, PairsSlot, Pairwise, PairsEntry, ArePaired, PairsPlace, FailAlike, FormAlike}
 use Rattle.routing_laws.proofs.PairLemmas.{turn, ArePaired-turned, value_turned, place_turned, field_paired, var_paired, place_paired, live_to}
@@ -103,6 +106,25 @@ module _ (types : List TypeEntry) (R : CellId → CellId → Type 0) (s t : Stor
         (λ x y e wrong only. wrong (only_to types (turn R) t s back f c a y x p (value_turned R x y e) only))
         (field_value s a f) (field_value t c f) (field_paired R s t h a c f p) k.wrong;
   }
+
+  -- ---- the conditions of a cut
+
+  dangling_to : HasDanglingReference s → HasDanglingReference t
+  dangling_to k =
+      let q = place_forth R s t h k.place (IsSome-and (value_at s k.place) _ k.dangling) in
+      record { place = q.0; dangling = reference_dangles_to k.place q.0 q.1 k.dangling }
+
+  some_shared_to : (vars : List VarEntry) → HasShared types vars s → HasShared types vars t
+  some_shared_to vars k = let c = h.forth k.cell k.shared.live in record { cell = c.0; shared = shared_to vars k.cell c.0 c.1 k.shared }
+
+  some_leaked_to : (vars : List VarEntry) → HasLeaked types vars s → HasLeaked types vars t
+  some_leaked_to vars k = let c = h.forth k.cell k.leaked.live in record { cell = c.0; leaked = leaked_to vars k.cell c.0 c.1 k.leaked }
+
+  some_wrong_to : HasWrongField types s → HasWrongField types t
+  some_wrong_to k =
+      let x = IsSomeAnd-at (field_value s k.cell k.field) _ k.wrong.wrong in
+      let c = h.forth k.cell (IsLive-field_value s k.cell k.field x.0 x.1) in
+      record { cell = c.0; field = k.field; wrong = wrong_to k.field k.cell c.0 c.1 k.wrong }
 
   -- ---- fitting
 
@@ -264,16 +286,41 @@ module _ (types : List TypeEntry) (R : CellId → CellId → Type 0) (s t : Stor
         (tree.0, tree_to types R s t h vars tree.0 a.0 c a.1 tree.1);
   }
 
+  pointers_to : ((c : CellId) (f : FieldId) → IsSomeAnd (field_at types f) (λ entry. IsPointer entry.kind) →
+      IfSome (field_value s c f) (IsOnlyDestination types s c f)) →
+      (c : CellId) (f : FieldId) → IsSomeAnd (field_at types f) (λ entry. IsPointer entry.kind) → IfSome (field_value t c f) (IsOnlyDestination types t c f)
+  pointers_to right c f pointer = field_if (λ a. IsOnlyDestination types s a f) (λ c. IsOnlyDestination types t c f)
+      (λ a c p x y e k. only_to types R s t h f a c x y p e k) f (λ a. right a f pointer) c
+
   pub well_formed_to : (vars : List VarEntry) → IsAbove t → IsWellFormed types vars s → IsWellFormed types vars t
   well_formed_to vars above is = record {
     fits = fits_to vars above is.fits;
     backbone = backbone_to vars is.backbone;
-    pointers = λ c f pointer. field_if (λ a. IsOnlyDestination types s a f) (λ c. IsOnlyDestination types t c f)
-        (λ a c p x y e k. only_to types R s t h f a c x y p e k) f (λ a. is.pointers a f pointer) c;
+    pointers = pointers_to is.pointers;
     sets = λ v. IfSome-from (var_at vars v) _ (λ entry at.
         if_to (SetHoldsLive s entry.kind) (SetHoldsLive t entry.kind) (set_holds_to entry.kind) (var_value s v) (var_value t v) (var_paired R s t h v)
         (IfSome-at (var_at vars v) _ entry at (is.sets v)));
   }
+
+  sound_to : (vars : List VarEntry) → IsSound types vars s → IsSound types vars t
+  sound_to vars is = record { backbone = backbone_to vars is.backbone; pointers = pointers_to is.pointers }
+
+-- the condition that holds first
+module _ (types : List TypeEntry) (R : CellId → CellId → Type 0) (s t : StoreMap) (h : ArePaired R s t) where
+  first_to : (vars : List VarEntry) (first : CutFault) → IsFirstCutFault types vars s first → IsFirstCutFault types vars t first
+  first_to vars fault.DanglingReference k = dangling_to types R s t h k
+  first_to vars fault.Shared k = (λ d. k.0 (dangling_to types (turn R) t s (back types R s t h) d), some_shared_to types R s t h vars k.1)
+  first_to vars fault.Leak k = (
+    λ d. k.0 (dangling_to types (turn R) t s (back types R s t h) d),
+    λ d. k.1 (some_shared_to types (turn R) t s (back types R s t h) vars d),
+    some_leaked_to types R s t h vars k.2,
+  )
+  first_to vars fault.Field k = (
+    λ d. k.0 (dangling_to types (turn R) t s (back types R s t h) d),
+    λ d. k.1 (some_shared_to types (turn R) t s (back types R s t h) vars d),
+    λ d. k.2 (some_leaked_to types (turn R) t s (back types R s t h) vars d),
+    some_wrong_to types R s t h k.3,
+  )
 
 module _ (types : List TypeEntry) (R : CellId → CellId → Type 0) (s t : StoreMap) (h : ArePaired R s t) where
   backwards : ArePaired (turn R) t s
@@ -293,4 +340,6 @@ module _ (types : List TypeEntry) (R : CellId → CellId → Type 0) (s t : Stor
     fits = λ vars. (fits_to types R s t h vars above_t, fits_to types (turn R) t s backwards vars above_s);
     backbones = λ vars. (backbone_to types R s t h vars, backbone_to types (turn R) t s backwards vars);
     well_formed = λ vars. (well_formed_to types R s t h vars above_t, well_formed_to types (turn R) t s backwards vars above_s);
+    sound = λ vars. (sound_to types R s t h vars, sound_to types (turn R) t s backwards vars);
+    cuts = λ vars first. (first_to types R s t h vars first, first_to types (turn R) t s backwards vars first);
   }

@@ -20,12 +20,12 @@ use Rattle.routing_expr.specs.declared.fault.Place.{Place}
 use Rattle.routing_expr.specs.Walks.{Fields, DataAlone, DataAndPointers, IsFollowed, Leads, IsParent, IsOfVariant, Chain, stay, go, Walk}
 use Rattle.routing_expr.specs.Destinations.{EndsKind, Dest, IsOnlyDestination, IsPointer}
 use Rattle.routing_expr.specs.WellFormed.{Names}
+use Rattle.routing_expr.specs.CutFaults.{IsSound}
 use Rattle.routing_expr.specs.Regions.{has_number, store_on, IsOn, IsPart, IsRest, IsClosedUnderFields, IsApart}
 use Rattle.routing_expr.proofs.LiveLemmas.{Leads-live, Walk-live}
 use Rattle.routing_expr.proofs.FittingLemmas.{IfSome-at, IsSomeAnd-at}
 use Rattle.routing_expr.proofs.TreeLemmas.{IsInTree-child, IsInTree-parent}
 use Rattle.routing_expr.proofs.MatchLemmas.{Matches, Matches-turned, Walk-matched}
-use Rattle.routing_laws.specs.Shown.{IsSound}
 use Rattle.routing_laws.specs.Pieces.{IsLikeOn}
 use Rattle.routing_laws.proofs.DecidedLemmas.{in_none, in_rest, in_cases, decided_in, holds_from}
 use Rattle.routing_laws.proofs.DecidedWalks.{decided_same_cell}

@@ -11,9 +11,11 @@ use Rattle.store_core.specs.Tables.{TypeEntry, VarEntry}
 use Rattle.store_core.specs.Stores.{StoreMap, CellEntry, IsLive, Fits, cell_of}
 use Rattle.routing_expr.specs.declared.fault.Place.{Place}
 use Rattle.routing_expr.specs.declared.fault.Place.TheVariants as place
+use Rattle.routing_expr.specs.declared.fault.CutFault.{CutFault}
 use Rattle.routing_expr.specs.Walks.{Fields, Walk}
 use Rattle.routing_expr.specs.Destinations.{Dest, IsOnlyDestination}
 use Rattle.routing_expr.specs.WellFormed.{IsInTree, IsDanglingReference, IsDangling, IsShared, IsLeaked, IsWrongField, IsBackbone, IsWellFormed}
+use Rattle.routing_expr.specs.CutFaults.{IsSound, IsFirstCutFault}
 
 -- a renaming is a finite list of pairs of cells: the second is the name in the one store of the first in the other
 abbrev pub IsPair : List (CellId × CellId) → CellId → CellId → Type 0
@@ -89,8 +91,11 @@ pub record FailAlike (types : List TypeEntry) (R : CellId → CellId → Type 0)
   pub leaked : (vars : List VarEntry) (a c : CellId) → R a c → IsLeaked types vars s a ↔ IsLeaked types vars t c
   pub wrong : (f : FieldId) (a c : CellId) → R a c → IsWrongField types s a f ↔ IsWrongField types t c f
 
--- whether a store fits its tables, is a backbone and is well-formed goes along with the pairs
+-- whether a store fits its tables, is a backbone and is well-formed, and which condition of a cut it breaks first, goes along
+-- with the pairs
 pub record FormAlike (types : List TypeEntry) (s t : StoreMap) : Type 0 where
   pub fits : (vars : List VarEntry) → Fits types vars s ↔ Fits types vars t
   pub backbones : (vars : List VarEntry) → IsBackbone types vars s ↔ IsBackbone types vars t
   pub well_formed : (vars : List VarEntry) → IsWellFormed types vars s ↔ IsWellFormed types vars t
+  pub sound : (vars : List VarEntry) → IsSound types vars s ↔ IsSound types vars t
+  pub cuts : (vars : List VarEntry) (fault : CutFault) → IsFirstCutFault types vars s fault ↔ IsFirstCutFault types vars t fault

@@ -1,17 +1,17 @@
 -- What shows that a store isn't well-formed.
-use Rattle.std.specs.Prelude.{◌≢◌, ◌⊎◌, List, Some, None, Contains, IfSome, IsSomeAnd}
+use Rattle.std.specs.Prelude.{◌≢◌, ◌⊎◌, List, Some, None, Contains}
 use Rattle.store_core.specs.declared.ids.FieldId.{FieldId}
 use Rattle.store_core.specs.declared.ids.VarId.{VarId}
 use Rattle.store_core.specs.declared.ids.CellId.{CellId}
 use Rattle.store_core.specs.declared.value.Value.{Value}
 use Rattle.store_core.specs.declared.value.Value.TheVariants as value
 use Rattle.store_core.specs.CellLists.{AreRising}
-use Rattle.store_core.specs.Tables.{TypeEntry, VarEntry, field_at}
-use Rattle.store_core.specs.Stores.{StoreMap, IsLive, field_value}
+use Rattle.store_core.specs.Tables.{TypeEntry, VarEntry}
+use Rattle.store_core.specs.Stores.{StoreMap, IsLive}
 use Rattle.routing_expr.specs.declared.fault.Place.{Place}
 use Rattle.routing_expr.specs.declared.fault.Place.TheVariants as place
-use Rattle.routing_expr.specs.Destinations.{Dest, IsOnlyDestination, IsPointer}
-use Rattle.routing_expr.specs.WellFormed.{Names, IsDangling, IsDanglingReference, IsShared, IsLeaked, IsWrongField, IsBackbone}
+use Rattle.routing_expr.specs.Destinations.{Dest}
+use Rattle.routing_expr.specs.WellFormed.{Names, IsDangling, IsDanglingReference, IsShared, IsLeaked, IsWrongField}
 use Rattle.routing_expr.specs.Regions.{IsClosedUnderFields}
 
 -- something is wrong with the store, of one of the four kinds
@@ -27,12 +27,6 @@ pub data HasCause (types : List TypeEntry) (vars : List VarEntry) (s : StoreMap)
   at_shared : (c : CellId) → IsShared types vars s c → HasCause types vars s
   at_leak : (c : CellId) → IsLeaked types vars s c → HasCause types vars s
   at_field : (c : CellId) (f : FieldId) → IsWrongField types s c f → HasCause types vars s
-
--- the store is a backbone, and every pointer field that a live cell has holds its only destination, or null where there is none
-pub record IsSound (types : List TypeEntry) (vars : List VarEntry) (s : StoreMap) : Type 0 where
-  pub backbone : IsBackbone types vars s
-  pub pointers : (c : CellId) (f : FieldId) → IsSomeAnd (field_at types f) (λ entry. IsPointer entry.kind) →
-      IfSome (field_value s c f) (IsOnlyDestination types s c f)
 
 -- the set shows that the cell leaks: it has each live cell that a data variable names, it is closed under data fields, and it
 -- hasn't the cell, which is live

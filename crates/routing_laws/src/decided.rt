@@ -11,11 +11,13 @@ ghost use Rattle.store_core.specs.Stores.{StoreMap, Fits};
 ghost use Rattle.routing_expr.specs.Walks.{Fields, IsParent, Walk};
 ghost use Rattle.routing_expr.specs.Destinations.{Dest, IsOnlyDestination};
 ghost use Rattle.routing_expr.specs.WellFormed.{IsInTree, IsDangling, IsShared, IsLeaked, IsWrongField, IsWellFormed};
+ghost use Rattle.routing_expr.specs.CutFaults.{IsSound, IsFirstCutFault};
 ghost use Rattle.routing_expr.specs.Searches.{Lists};
 ghost use Rattle.routing_expr.specs.Regions.{IsReachedFrom, IsPart, IsRest};
 ghost use Rattle.routing_expr.specs.declared.fault.Place.{Place};
+ghost use Rattle.routing_expr.specs.declared.fault.CutFault.{CutFault};
 ghost use Rattle.routing_laws.specs.Deciding.{Decided};
-ghost use Rattle.routing_laws.specs.Shown.{HasFault, HasCause, IsSound, HasLeakSet, ShowsWrong};
+ghost use Rattle.routing_laws.specs.Shown.{HasFault, HasCause, HasLeakSet, ShowsWrong};
 
 /// There is a list of the cells at the ends of the walks from a cell, of its destinations, of the cells that are reached from
 /// listed variables, and of the live cells outside a set.
@@ -51,7 +53,7 @@ pub fn stores_are_decided()
 {}
 
 /// A store that fits its tables is well-formed or has a fault, and not both. It is a backbone with the right pointer fields,
-/// or a cut there has a cause, and not both.
+/// or a cut there has a cause, and not both; and then one of the causes comes first.
 pub fn faults_are_decided()
     ensures well_formed { (types : List TypeEntry) (vars : List VarEntry) (s : StoreMap) → Fits types vars s →
         IsWellFormed types vars s ⊎ HasFault types vars s }
@@ -59,6 +61,8 @@ pub fn faults_are_decided()
     ensures sound { (types : List TypeEntry) (vars : List VarEntry) (s : StoreMap) → Fits types vars s →
         IsSound types vars s ⊎ HasCause types vars s }
     ensures no_cause { (types : List TypeEntry) (vars : List VarEntry) (s : StoreMap) → Fits types vars s → IsSound types vars s → HasCause types vars s → ⊥ }
+    ensures first { (types : List TypeEntry) (vars : List VarEntry) (s : StoreMap) → Fits types vars s → HasCause types vars s →
+        (fault : CutFault) × IsFirstCutFault types vars s fault }
 {}
 
 /// A cell leaks exactly where some set shows it, closed under data fields, with the cells that data variables name and without

@@ -1,13 +1,14 @@
 //! What holds of all stores, routes and sets of cells, each law the contract of a function that does nothing.
 //!
 //! `specs/Deciding.antt` says what it is to be decided, `specs/Shown.antt` what shows that a store isn't well-formed,
-//! `specs/Paths.antt` what the path to a cell is, `specs/Pieces.antt` what a piece of a store is, and `specs/Pairing.antt` when
-//! two stores are the same but for the names of their cells. The store on a set of cells stands in `routing_expr`,
-//! `specs/Regions.antt`.
+//! `specs/Paths.antt` what the path to a cell is, `specs/Pieces.antt` what a piece of a store is, `specs/Hanging.antt` when the
+//! variables of a store name its roots, and `specs/Pairing.antt` when two stores are the same but for the names of their cells.
+//! The store on a set of cells stands in `routing_expr`, `specs/Regions.antt`.
 #![tactic(auto)]
 
 mod decided;
 mod functional;
+mod hanging;
 mod paths;
 mod pieces;
 mod regions;
@@ -20,6 +21,7 @@ pub use decided::{
 pub use functional::{
     one_variable_a_type_is_enough, two_ways_are_not_functional, ways_up_are_functional,
 };
+pub use hanging::{parts_hang_under_other_variables, stores_are_put_together};
 pub use paths::{
     cells_have_one_path, paths_have_no_cycle, paths_lead_to_one_cell, trees_are_paths,
 };

@@ -9,8 +9,8 @@ ghost use Rattle.store_core.specs.Stores.{StoreMap, cell_of};
 ghost use Rattle.routing_expr.specs.Walks.{Fields, DataAlone, DataAndPointers, Walk};
 ghost use Rattle.routing_expr.specs.WellFormed.{IsBackbone};
 ghost use Rattle.routing_expr.specs.Regions.{store_on, IsOn, IsPart, IsRest, IsClosedUnderFields, IsApart};
+ghost use Rattle.routing_expr.specs.CutFaults.{IsSound};
 ghost use Rattle.routing_laws.specs.Pieces.{IsLikeOn};
-ghost use Rattle.routing_laws.specs.Shown.{IsSound};
 
 /// The store on a set of cells has the cells of the set and no others.
 pub fn stores_on_sets_have_their_cells()

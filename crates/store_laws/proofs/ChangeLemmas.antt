@@ -125,6 +125,7 @@ IsFieldSet-set_field s c f x has = by (cell_of s c) refl
         let old = value_in cell is in
         let here : cell_of t c ≡ Some (with_field cell f x) = set_here s c f x cell is in
         record {
+          cell = set_here s c f x;
           value = ap (λ o. option_and_then (λ (e : CellEntry). field_of e f) o) here ∙ field_of-set cell f x old.0 old.1;
           other_fields = λ g apart. ap (λ o. option_and_then (λ (e : CellEntry). field_of e g) o) here
               ∙ field_of-other cell f g x (same_type cell f old.0 old.1).0 apart

@@ -7,7 +7,7 @@ use Rattle.store_core.specs.declared.ids.VarId.{VarId}
 use Rattle.store_core.specs.declared.ids.CellId.{CellId}
 use Rattle.store_core.specs.declared.value.Value.{Value}
 use Rattle.store_core.specs.Tables.{TypeEntry, field_at}
-use Rattle.store_core.specs.Stores.{StoreMap, IsLive, cell_of, field_value, var_value, blank_slot, blank_cell}
+use Rattle.store_core.specs.Stores.{StoreMap, CellEntry, IsLive, cell_of, field_value, var_value, blank_slot, blank_cell, with_field}
 
 -- the cell that a store makes next
 abbrev pub next_cell : StoreMap → CellId
@@ -35,6 +35,7 @@ pub record IsPut (types : List TypeEntry) (v : VariantId) (c : CellId) (s t : St
 
 -- the cell's field has this value; every other field of this cell and of all others, each cell's variant, and all else is as it was
 pub record IsFieldSet (c : CellId) (f : FieldId) (x : Value) (s t : StoreMap) : Type 0 where
+  pub cell : (old : CellEntry) → cell_of s c ≡ Some old → cell_of t c ≡ Some (with_field old f x)
   pub value : field_value t c f ≡ Some x
   pub other_fields : (g : FieldId) → g ≢ f → field_value t c g ≡ field_value s c g
   pub other_cells : (d : CellId) → d ≢ c → cell_of t d ≡ cell_of s d

@@ -4,6 +4,7 @@ use crate::made::{
     DBL, MARK, NODE, TREE, made_types, made_vars, put, remove, second, set_field, set_var, set_with,
 };
 use crate::texts_told::VARS;
+use std::alloc::{AllocError, Global};
 use std::test::Fail;
 use store_core::{
     CellId, FieldId, FieldKind, Owner, Store, TypeTable, Value, VarId, VarKind, VarTable, VariantId,
@@ -59,38 +60,66 @@ fn tables_answer_by_number_and_by_name(rt: HostRuntime) -> Result<(), Fail> {
     Ok(())
 }
 
+const NEXT: FieldId = FieldId { ty: NODE, index: 0 };
+
+/// Whether three cells are put, with the numbers from 1 on.
+fn cells_are_put(store: &mut Store, types: &TypeTable) -> Result<bool, AllocError> {
+    for number in 1..4 {
+        if store.next() != number || put(store, types, PLAIN)? != Some(CellId(number)) {
+            return Ok(false);
+        }
+    }
+    Ok(true)
+}
+
+/// Sets a field, a truth value and a set, and removes the first cell.
+fn change(alloc: Global, store: &mut Store) -> Result<(), AllocError> {
+    set_field(store, CellId(2), NEXT, Value::Cell(Some(CellId(3))));
+    remove(store, CellId(1));
+    set_var(store, VarId(2), Value::Bool(true));
+    let set = Value::Cells(set_with(alloc, CellId(3))?.copy(alloc)?);
+    set_var(store, VarId(1), set.copy(alloc)?);
+    Ok(())
+}
+
+fn cells_are_told(store: &Store) -> bool {
+    store.cells() == 2
+        && store.cell_at(0) == Some(CellId(2))
+        && store.type_of(CellId(1)).is_none()
+        && store.variant_of(CellId(3)) == Some(PLAIN)
+        && store.next() == 4
+}
+
+fn values_are_told(store: &Store) -> bool {
+    matches!(
+        store.field(CellId(2), NEXT),
+        Some(Value::Cell(Some(CellId(3))))
+    ) && matches!(store.var(VarId(2)), Some(Value::Bool(true)))
+}
+
+fn set_is_told(store: &Store) -> bool {
+    match store.var(VarId(1)) {
+        Some(Value::Cells(cells)) => cells.len() == 1 && cells.get(0) == Some(CellId(3)),
+        _ => false,
+    }
+}
+
+/// Whether a store over these tables is made and changed as it has to be.
+fn is_made_and_changed(
+    alloc: Global,
+    types: &TypeTable,
+    vars: &VarTable,
+) -> Result<bool, AllocError> {
+    let mut store = Store::empty(alloc, vars)?;
+    let are_put = cells_are_put(&mut store, types)?;
+    change(alloc, &mut store)?;
+    Ok(are_put && cells_are_told(&store) && values_are_told(&store) && set_is_told(&store))
+}
+
 #[test]
 fn a_store_is_made_and_changed(rt: HostRuntime) -> Result<(), Fail> {
-    let alloc = rt.alloc();
-    let types = made_types(alloc)?;
-    let vars = made_vars(alloc, VARS)?;
-    let mut store = Store::empty(alloc, &vars)?;
-    let next = FieldId { ty: NODE, index: 0 };
-    for number in 1..4 {
-        assert_eq!(rt; store.next(), number);
-        assert_eq!(rt; put(&mut store, &types, PLAIN)?, Some(CellId(number)));
-    }
-    set_field(&mut store, CellId(2), next, Value::Cell(Some(CellId(3))));
-    remove(&mut store, CellId(1));
-    set_var(&mut store, VarId(2), Value::Bool(true));
-    let cells = set_with(alloc, CellId(3))?;
-    assert_eq!(rt; cells.len(), 1);
-    assert_eq!(rt; cells.get(0), Some(CellId(3)));
-    let set = Value::Cells(cells.copy(alloc)?);
-    set_var(&mut store, VarId(1), set.copy(alloc)?);
-    assert_eq!(rt; store.cells(), 2);
-    assert_eq!(rt; store.cell_at(0), Some(CellId(2)));
-    assert_eq!(rt; store.type_of(CellId(1)), None);
-    assert_eq!(rt; store.variant_of(CellId(3)), Some(PLAIN));
-    assert!(rt;
-        matches!(
-            store.field(CellId(2), next),
-            Some(Value::Cell(Some(CellId(3))))
-        )
-    );
-    assert!(rt; matches!(store.var(VarId(2)), Some(Value::Bool(true))));
-    assert_eq!(rt; store.next(), 4);
-    let copy = store.copy(alloc)?;
-    assert_eq!(rt; copy.next(), 4);
+    let types = made_types(rt.alloc())?;
+    let vars = made_vars(rt.alloc(), VARS)?;
+    assert!(rt; is_made_and_changed(rt.alloc(), &types, &vars)?);
     Ok(())
 }

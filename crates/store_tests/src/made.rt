@@ -119,30 +119,42 @@ fn add_forward_pointer(
     Ok(())
 }
 
+fn add_names(types: &mut TypeTable) -> Result<(), AllocError> {
+    for name in ["Node", "Dbl", "Tree", "Mark"] {
+        add_type(types, name.as_bytes())?;
+    }
+    add_variant(types, TREE, b"leaf")?;
+    add_variant(types, TREE, b"node")?;
+    add_variant(types, MARK, b"cold")?;
+    add_variant(types, MARK, b"hot")
+}
+
+fn add_lists(alloc: Global, types: &mut TypeTable) -> Result<(), AllocError> {
+    add_data(types, Owner::Common(NODE), b"next", NODE)?;
+    add_data(types, Owner::Common(DBL), b"next", DBL)?;
+    add_back_pointer(alloc, types, Owner::Common(DBL), b"prev", DBL)
+}
+
+fn add_variants_fields(alloc: Global, types: &mut TypeTable) -> Result<(), AllocError> {
+    add_data(types, Owner::Variant(second(TREE)), b"left", TREE)?;
+    add_data(types, Owner::Variant(second(TREE)), b"right", TREE)?;
+    add_bool(types, Owner::Common(MARK), b"on")?;
+    add_bool(types, Owner::Variant(second(MARK)), b"up")?;
+    add_back_pointer(alloc, types, Owner::Variant(second(MARK)), b"at", NODE)
+}
+
+fn add_four(alloc: Global, types: &mut TypeTable) -> Result<(), AllocError> {
+    add_names(types)?;
+    add_lists(alloc, types)?;
+    add_variants_fields(alloc, types)
+}
+
 /// `type Node = { data next: Node; }`, `type Dbl = { data next: Dbl; pointer prev: Dbl [^next]; }`,
 /// `type Tree = { } | leaf { } | node { data left: Tree; data right: Tree; }` and
 /// `type Mark = { bool on; } | cold { } | hot { bool up; pointer at: Node [^next]; }`.
 pub(crate) fn made_types(alloc: Global) -> Result<TypeTable, AllocError> {
     let mut types = TypeTable::new(alloc);
-    for name in ["Node", "Dbl", "Tree", "Mark"] {
-        add_type(&mut types, name.as_bytes())?;
-    }
-    for (ty, name) in [
-        (TREE, "leaf"),
-        (TREE, "node"),
-        (MARK, "cold"),
-        (MARK, "hot"),
-    ] {
-        add_variant(&mut types, ty, name.as_bytes())?;
-    }
-    add_data(&mut types, Owner::Common(NODE), b"next", NODE)?;
-    add_data(&mut types, Owner::Common(DBL), b"next", DBL)?;
-    add_back_pointer(alloc, &mut types, Owner::Common(DBL), b"prev", DBL)?;
-    add_data(&mut types, Owner::Variant(second(TREE)), b"left", TREE)?;
-    add_data(&mut types, Owner::Variant(second(TREE)), b"right", TREE)?;
-    add_bool(&mut types, Owner::Common(MARK), b"on")?;
-    add_bool(&mut types, Owner::Variant(second(MARK)), b"up")?;
-    add_back_pointer(alloc, &mut types, Owner::Variant(second(MARK)), b"at", NODE)?;
+    add_four(alloc, &mut types)?;
     Ok(types)
 }
 
@@ -177,23 +189,31 @@ fn add_tree(types: &mut TypeTable) -> Result<(), AllocError> {
     add_data(types, Owner::Variant(second(ONLY)), b"right", ONLY)
 }
 
+fn add_declared(
+    alloc: Global,
+    types: &mut TypeTable,
+    declared: Declared,
+) -> Result<(), AllocError> {
+    match declared {
+        Declared::Nothing => Ok(()),
+        Declared::Lists => add_list(types, b"Node"),
+        Declared::DoubleLists => {
+            add_list(types, b"Dbl")?;
+            add_back_pointer(alloc, types, Owner::Common(ONLY), b"prev", ONLY)
+        }
+        Declared::PointedLists => {
+            add_list(types, b"Node")?;
+            add_forward_pointer(alloc, types, Owner::Common(ONLY), b"p", ONLY)
+        }
+        Declared::Trees => add_tree(types),
+        Declared::Four => add_four(alloc, types),
+    }
+}
+
 /// The table of these types.
 pub(crate) fn declared_types(alloc: Global, declared: Declared) -> Result<TypeTable, AllocError> {
     let mut types = TypeTable::new(alloc);
-    match declared {
-        Declared::Nothing => {}
-        Declared::Lists => add_list(&mut types, b"Node")?,
-        Declared::DoubleLists => {
-            add_list(&mut types, b"Dbl")?;
-            add_back_pointer(alloc, &mut types, Owner::Common(ONLY), b"prev", ONLY)?;
-        }
-        Declared::PointedLists => {
-            add_list(&mut types, b"Node")?;
-            add_forward_pointer(alloc, &mut types, Owner::Common(ONLY), b"p", ONLY)?;
-        }
-        Declared::Trees => add_tree(&mut types)?,
-        Declared::Four => return made_types(alloc),
-    }
+    add_declared(alloc, &mut types, declared)?;
     Ok(types)
 }
 

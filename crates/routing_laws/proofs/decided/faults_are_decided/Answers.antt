@@ -1,4 +1,4 @@
-use Rattle.routing_laws.proofs.DecidedStores.{well_formed_or_fault, no_fault, sound_or_cause, no_cause}
+use Rattle.routing_laws.proofs.DecidedStores.{well_formed_or_fault, no_fault, sound_or_cause, no_cause, first_cause}
 use Rattle.routing_laws.proofs.decided.faults_are_decided.Goals as goal
 
 pub returns : goal.returns
@@ -7,4 +7,5 @@ returns c = record {
   no_fault = λ types vars s is. no_fault types vars s is.fits is;
   sound = sound_or_cause;
   no_cause = no_cause;
+  first = first_cause;
 }

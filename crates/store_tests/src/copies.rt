@@ -1,0 +1,83 @@
+//! Copies of stores.
+
+use crate::made::{made_types, made_vars};
+use crate::texts_told::VARS;
+use std::alloc::{AllocError, Global};
+use std::test::Fail;
+use store_core::{CellId, FieldId, Store, TypeTable, Value, VarId, VarTable};
+use store_text::read_store;
+
+/// Cells of three types with gaps in their numbers, and a set with a dead member.
+const TEXT: &str =
+    "store\nvar x 2\nvar S {2 7}\nvar b true\ncell 2 Node next=2\ncell 4 Tree:node left=4 right=4\ncell 5 Mark:hot on=true up=false at=2\nend\n";
+
+/// Whether the values are the same, or both are missing.
+fn is_same(one: Option<&Value>, other: Option<&Value>) -> bool {
+    match (one, other) {
+        (None, None) => true,
+        (Some(Value::Bool(one)), Some(Value::Bool(other))) => one == other,
+        (Some(Value::Cell(one)), Some(Value::Cell(other))) => one == other,
+        (Some(Value::Cells(one)), Some(Value::Cells(other))) => one.as_slice() == other.as_slice(),
+        _ => false,
+    }
+}
+
+/// Whether the cell is of the same variant in both stores, or dead, and each of its fields holds the same.
+fn cell_agrees(types: &TypeTable, one: &Store, other: &Store, c: CellId) -> bool {
+    let Some(ty) = one.type_of(c) else {
+        return other.type_of(c).is_none();
+    };
+    for index in 0..types.fields(ty) {
+        let field = FieldId { ty, index };
+        if !is_same(one.field(c, field), other.field(c, field)) {
+            return false;
+        }
+    }
+    one.variant_of(c) == other.variant_of(c)
+}
+
+/// Whether each variable holds the same in both stores.
+fn vars_agree(vars: &VarTable, one: &Store, other: &Store) -> bool {
+    for index in 0..vars.vars() {
+        if !is_same(one.var(VarId(index)), other.var(VarId(index))) {
+            return false;
+        }
+    }
+    true
+}
+
+/// Whether each number below the next one is that of the same cell in both stores.
+fn cells_agree(types: &TypeTable, one: &Store, other: &Store) -> bool {
+    for number in 1..one.next() {
+        if !cell_agrees(types, one, other, CellId(number)) {
+            return false;
+        }
+    }
+    one.next() == other.next() && one.cells() == other.cells()
+}
+
+fn is_copied(
+    alloc: Global,
+    types: &TypeTable,
+    vars: &VarTable,
+    store: &Store,
+) -> Result<bool, AllocError> {
+    let copy = store.copy(alloc)?;
+    Ok(copy.cells() == 3 && vars_agree(vars, store, &copy) && cells_agree(types, store, &copy))
+}
+
+/// Whether the text is that of a store which is copied as it stands.
+fn text_is_copied(alloc: Global, types: &TypeTable, vars: &VarTable) -> Result<bool, AllocError> {
+    match read_store(alloc, types, vars, TEXT.as_bytes()) {
+        Ok(store) => is_copied(alloc, types, vars, &store),
+        Err(_) => Ok(false),
+    }
+}
+
+#[test]
+fn a_copied_store_is_the_same(rt: HostRuntime) -> Result<(), Fail> {
+    let types = made_types(rt.alloc())?;
+    let vars = made_vars(rt.alloc(), VARS)?;
+    assert!(rt; text_is_copied(rt.alloc(), &types, &vars)?);
+    Ok(())
+}
