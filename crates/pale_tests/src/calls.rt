@@ -14,13 +14,25 @@ pub fn words_of(alloc: Global, line: &str) -> Result<Vec<String>, AllocError> {
 }
 
 /// What `pale MODE` writes for a text, and its status.
-pub fn called(alloc: Global, mode: &str, text: &[u8]) -> Result<(Vec<u8>, u8), AllocError> {
+fn called(alloc: Global, mode: &str, text: &[u8]) -> Result<(Vec<u8>, u8), AllocError> {
     let mut words = words_of(alloc, "pale")?;
     words.push(String::from_str(alloc, mode)?)?;
     let mut source = CleanSource::new(Vec::from_slice(alloc, text)?);
     let mut sink = CleanSink::new(alloc);
     let status = pale_main(alloc, &words, &mut source, &mut sink);
     Ok((Vec::from_slice(alloc, sink.written())?, status.number()))
+}
+
+/// Whether `pale MODE` writes this for a text, with this status.
+pub fn writes(
+    alloc: Global,
+    mode: &str,
+    text: &[u8],
+    want: &[u8],
+    number: u8,
+) -> Result<bool, AllocError> {
+    let (written, status) = called(alloc, mode, text)?;
+    Ok(written.as_slice() == want && status == number)
 }
 
 /// A text that is a piece so many times, between two others.

@@ -1,14 +1,19 @@
 //! Texts with what `check` writes for them and its status, worked out by hand from the rules of the language.
 
-use crate::calls::called;
+use crate::calls::writes;
+use std::alloc::{AllocError, Global};
 use std::test::Fail;
 
-/// The lines of a program whose one triple is valid, behind `triple 1 `.
-fn is_valid(written: &[u8], head: &str) -> bool {
-    written
-        .strip_prefix(b"triple 1 ".as_slice())
-        .and_then(|rest| rest.strip_prefix(head.as_bytes()))
-        == Some(b" valid\ntriples 1 valid 1 invalid 0 limit 0\n".as_slice())
+/// Whether the one triple of a text is valid, and its line begins so.
+fn is_valid(alloc: Global, text: &str, head: &str) -> Result<bool, AllocError> {
+    let want = format!(in alloc; "triple 1 {head} valid\ntriples 1 valid 1 invalid 0 limit 0\n")?;
+    writes(alloc, "check", text.as_bytes(), want.as_bytes(), 0)
+}
+
+/// Whether the one triple of a text is invalid, and its line and its store are these.
+fn is_invalid(alloc: Global, text: &str, report: &str) -> Result<bool, AllocError> {
+    let want = format!(in alloc; "triple 1 {report}triples 1 valid 0 invalid 1 limit 0\n")?;
+    writes(alloc, "check", text.as_bytes(), want.as_bytes(), 1)
 }
 
 #[test]
@@ -19,170 +24,162 @@ fn a_text_without_procedure_has_no_triple(rt: HostRuntime) -> Result<(), Fail> {
         b"# nothing but \xff and \x00",
         b"# one line\n# another\n",
     ] {
-        let (written, status) = called(rt.alloc(), "check", text)?;
-        assert_eq!(rt;
-            written.as_slice(),
-            b"triples 0 valid 0 invalid 0 limit 0\n".as_slice(),
-            "{text:?}"
-        );
-        assert_eq!(rt; status, 0, "{text:?}");
+        let want = b"triples 0 valid 0 invalid 0 limit 0\n";
+        assert!(rt; writes(rt.alloc(), "check", text, want, 0)?, "{text:?}");
     }
     Ok(())
 }
+
+/// Texts whose one triple is valid, and the first words of its line.
+static VALID: &[(&str, &str)] = &[
+    ("proc p() { }", "p line 1"),
+    ("proc p() {\n}", "p line 1"),
+    ("\n\n  proc p() { skip; skip; }\n", "p line 3"),
+    ("proc p()\r\n{\tskip\t;\r\n}\r\n", "p line 1"),
+    // A procedure may be named as one of its variables.
+    ("proc a(bool a) { a = true; }", "a line 1"),
+    // Names that only begin as reserved words do, and words of the other language.
+    (
+        "proc procs(bool bools, bool var1, bool notin) { }",
+        "procs line 1",
+    ),
+    // No values meet the triple.
+    ("proc p(bool a) pre [false] post [false] { }", "p line 1"),
+    (
+        "proc p(bool a) pre [a] post [true] { a = false; }",
+        "p line 1",
+    ),
+    (
+        "proc p() returns (bool b) post [b] { b = !!true; }",
+        "p line 1",
+    ),
+    // Results and locals are false at entry.
+    (
+        "proc p() returns (bool b) pre [true] post [~b] { }",
+        "p line 1",
+    ),
+    (
+        "proc p() returns (bool b) post [~b] { bool t; b = t; }",
+        "p line 1",
+    ),
+    // A parameter is a variable like others, and the logic variable keeps its value.
+    (
+        "proc p(bool a) returns (bool b) logic bool v pre [a <=> v] post [b <=> ~v] { a = !a; b = a; }",
+        "p line 1",
+    ),
+    // `<=>` groups to the left: this `post` is `(b <=> false) <=> ~v`.
+    (
+        "proc p(bool a) returns (bool b) logic bool v pre [a <=> v] post [b <=> false <=> ~v] { b = a; }",
+        "p line 1",
+    ),
+    (
+        "proc neg(bool a) returns (bool b)\nlogic bool v\npre [a <=> v]\npost [b <=> ~v]\n{\n  b = !a;\n}\n",
+        "neg line 1",
+    ),
+];
 
 #[test]
 fn a_triple_that_no_values_fail_is_valid(rt: HostRuntime) -> Result<(), Fail> {
-    let rows = [
-        ("proc p() { }", "p line 1"),
-        ("proc p() {\n}", "p line 1"),
-        ("\n\n  proc p() { skip; skip; }\n", "p line 3"),
-        ("proc p()\r\n{\tskip\t;\r\n}\r\n", "p line 1"),
-        // A procedure may be named as one of its variables.
-        ("proc a(bool a) { a = true; }", "a line 1"),
-        // Names that only begin as reserved words do, and words of the other language.
-        (
-            "proc procs(bool bools, bool var1, bool notin) { }",
-            "procs line 1",
-        ),
-        // No values meet the triple.
-        ("proc p(bool a) pre [false] post [false] { }", "p line 1"),
-        (
-            "proc p(bool a) pre [a] post [true] { a = false; }",
-            "p line 1",
-        ),
-        (
-            "proc p() returns (bool b) post [b] { b = !!true; }",
-            "p line 1",
-        ),
-        // Results and locals are false at entry.
-        (
-            "proc p() returns (bool b) pre [true] post [~b] { }",
-            "p line 1",
-        ),
-        (
-            "proc p() returns (bool b) post [~b] { bool t; b = t; }",
-            "p line 1",
-        ),
-        // A parameter is a variable like others, and the logic variable keeps its value.
-        (
-            "proc p(bool a) returns (bool b) logic bool v pre [a <=> v] post [b <=> ~v] { a = !a; b = a; }",
-            "p line 1",
-        ),
-        // `<=>` groups to the left: this `post` is `(b <=> false) <=> ~v`.
-        (
-            "proc p(bool a) returns (bool b) logic bool v pre [a <=> v] post [b <=> false <=> ~v] { b = a; }",
-            "p line 1",
-        ),
-        (
-            "proc neg(bool a) returns (bool b)\nlogic bool v\npre [a <=> v]\npost [b <=> ~v]\n{\n  b = !a;\n}\n",
-            "neg line 1",
-        ),
-    ];
-    for (text, head) in rows {
-        let (written, status) = called(rt.alloc(), "check", text.as_bytes())?;
-        assert!(rt; is_valid(&written, head), "{text}");
-        assert_eq!(rt; status, 0, "{text}");
+    for (text, head) in VALID {
+        assert!(rt; is_valid(rt.alloc(), text, head)?, "{text}");
     }
     Ok(())
 }
+
+/// Texts whose one triple is invalid, with its line and its store.
+static INVALID: &[(&str, &str)] = &[
+    // Of each triple exactly these values meet it and fail it.
+    (
+        "proc p() post [false] { }",
+        "p line 1 invalid post line 1\nstore\nend\n",
+    ),
+    (
+        "proc p() returns (bool b)\npost [b]\n{\n}",
+        "p line 1 invalid post line 4\nstore\nvar b false\nend\n",
+    ),
+    (
+        "proc p(bool a) logic bool v pre [a <=> v <=> false] post [v] { }",
+        "p line 1 invalid post line 1\nstore\nvar a true\nvar v false\nend\n",
+    ),
+    (
+        "proc p(bool a) returns (bool b) pre [a] post [b] { bool t; b = t; t = a; }",
+        "p line 1 invalid post line 1\nstore\nvar a true\nvar b false\nvar t false\nend\n",
+    ),
+    (
+        "proc neg(bool a) returns (bool b)\nlogic bool v\npre [a <=> v]\npost [b]\n{\n  b = !a;\n}\n",
+        "neg line 1 invalid post line 7\nstore\nvar a true\nvar b false\nvar v true\nend\n",
+    ),
+];
 
 #[test]
 fn the_values_that_fail_are_printed(rt: HostRuntime) -> Result<(), Fail> {
-    let rows = [
-        // Of each triple exactly these values meet it and fail it.
-        (
-            "proc p() post [false] { }",
-            "p line 1 invalid post line 1\nstore\nend\n",
-        ),
-        (
-            "proc p() returns (bool b)\npost [b]\n{\n}",
-            "p line 1 invalid post line 4\nstore\nvar b false\nend\n",
-        ),
-        (
-            "proc p(bool a) logic bool v pre [a <=> v <=> false] post [v] { }",
-            "p line 1 invalid post line 1\nstore\nvar a true\nvar v false\nend\n",
-        ),
-        (
-            "proc p(bool a) returns (bool b) pre [a] post [b] { bool t; b = t; t = a; }",
-            "p line 1 invalid post line 1\nstore\nvar a true\nvar b false\nvar t false\nend\n",
-        ),
-        (
-            "proc neg(bool a) returns (bool b)\nlogic bool v\npre [a <=> v]\npost [b]\n{\n  b = !a;\n}\n",
-            "neg line 1 invalid post line 7\nstore\nvar a true\nvar b false\nvar v true\nend\n",
-        ),
-    ];
-    for (text, report) in rows {
-        let (written, status) = called(rt.alloc(), "check", text.as_bytes())?;
-        let want = format!(in rt.alloc();
-            "triple 1 {report}triples 1 valid 0 invalid 1 limit 0\n"
-        )?;
-        assert_eq!(rt; written.as_slice(), want.as_bytes(), "{text}");
-        assert_eq!(rt; status, 1, "{text}");
+    for (text, report) in INVALID {
+        assert!(rt; is_invalid(rt.alloc(), text, report)?, "{text}");
     }
     Ok(())
 }
 
+/// Texts that aren't read yet.
+static REFUSED: &[&str] = &[
+    // Which names may stand where.
+    "proc p() pre [t] { bool t; }",
+    "proc p() post [t] { bool t; }",
+    "proc p(bool a) post [a] { }",
+    "proc p() returns (bool b) pre [b] { }",
+    "proc p() logic bool v returns (bool b) { }",
+    "proc p() returns (bool b) logic bool v { b = v; }",
+    "proc p() logic bool v { v = true; }",
+    "proc p(bool a) pre [c] { }",
+    "proc p(bool a) { c = a; }",
+    "proc p(bool a) { a = p; }",
+    "proc p() { t = true; bool t; }",
+    // Names that are there, or are none.
+    "proc p(bool a, bool a) { }",
+    "proc p(bool a) returns (bool a) { }",
+    "proc p() logic bool v { bool v; }",
+    "proc p() { bool t; bool t; }",
+    "proc set() { }",
+    "proc p(bool in) { }",
+    "proc p(bool 1) { }",
+    "proc p(bool _a) { }",
+    // Grammar.
+    "proc p() {",
+    "proc p() }",
+    "proc p() { } proc q() { }",
+    "proc p() { } ;",
+    "proc p(bool a,) { }",
+    "proc p() returns () { }",
+    "proc p() logic { }",
+    "proc p() pre [] { }",
+    "proc p() post [true] pre [true] { }",
+    "proc p(bool a) { a = true }",
+    "proc p(bool a) { a = ; }",
+    "proc p(bool a) { a == true; }",
+    "proc p(bool a) { a = ~a; }",
+    "proc p(bool a) pre [!a] { }",
+    "proc p(bool a) pre [a <=> ~] { }",
+    "proc p(bool a) pre [~a <=> ~~] { }",
+    // Forms of the whole language, which aren't read yet.
+    "type T = { }",
+    "pred q() = [true];",
+    "proc p(bool a) pre [(a)] { }",
+    "proc p(bool a) pre [a & a] { }",
+    "proc p(bool a) { a = a && a; }",
+    "proc p(bool a) { if (a) { } }",
+    "proc p(data x: T) { }",
+    // No token begins with these bytes.
+    "proc p() { % }",
+    "proc p() { \u{e9} }",
+];
+
 #[test]
 fn a_text_that_is_no_program_of_bools_is_refused(rt: HostRuntime) -> Result<(), Fail> {
-    let rows = [
-        // Which names may stand where.
-        "proc p() pre [t] { bool t; }",
-        "proc p() post [t] { bool t; }",
-        "proc p(bool a) post [a] { }",
-        "proc p() returns (bool b) pre [b] { }",
-        "proc p() logic bool v returns (bool b) { }",
-        "proc p() returns (bool b) logic bool v { b = v; }",
-        "proc p() logic bool v { v = true; }",
-        "proc p(bool a) pre [c] { }",
-        "proc p(bool a) { c = a; }",
-        "proc p(bool a) { a = p; }",
-        "proc p() { t = true; bool t; }",
-        // Names that are there, or are none.
-        "proc p(bool a, bool a) { }",
-        "proc p(bool a) returns (bool a) { }",
-        "proc p() logic bool v { bool v; }",
-        "proc p() { bool t; bool t; }",
-        "proc set() { }",
-        "proc p(bool in) { }",
-        "proc p(bool 1) { }",
-        "proc p(bool _a) { }",
-        // Grammar.
-        "proc p() {",
-        "proc p() }",
-        "proc p() { } proc q() { }",
-        "proc p() { } ;",
-        "proc p(bool a,) { }",
-        "proc p() returns () { }",
-        "proc p() logic { }",
-        "proc p() pre [] { }",
-        "proc p() post [true] pre [true] { }",
-        "proc p(bool a) { a = true }",
-        "proc p(bool a) { a = ; }",
-        "proc p(bool a) { a == true; }",
-        "proc p(bool a) { a = ~a; }",
-        "proc p(bool a) pre [!a] { }",
-        "proc p(bool a) pre [a <=> ~] { }",
-        "proc p(bool a) pre [~a <=> ~~] { }",
-        // Forms of the whole language, which aren't read yet.
-        "type T = { }",
-        "pred q() = [true];",
-        "proc p(bool a) pre [(a)] { }",
-        "proc p(bool a) pre [a & a] { }",
-        "proc p(bool a) { a = a && a; }",
-        "proc p(bool a) { if (a) { } }",
-        "proc p(data x: T) { }",
-        // No token begins with these bytes.
-        "proc p() { % }",
-        "proc p() { \u{e9} }",
-    ];
-    for text in rows {
-        let (written, status) = called(rt.alloc(), "check", text.as_bytes())?;
-        assert_eq!(rt;
-            written.as_slice(),
-            b"refused 1:1 not-yet\n".as_slice(),
+    for text in REFUSED {
+        let want = b"refused 1:1 not-yet\n";
+        assert!(rt;
+            writes(rt.alloc(), "check", text.as_bytes(), want, 3)?,
             "{text}"
         );
-        assert_eq!(rt; status, 3, "{text}");
     }
     Ok(())
 }

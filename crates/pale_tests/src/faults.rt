@@ -77,86 +77,118 @@ fn call(
     })
 }
 
+impl Ended {
+    fn is(&self, status: Status, report: &[u8]) -> bool {
+        self.status == status && self.written.as_slice() == report
+    }
+}
+
+/// Words and a text, with the status and what is written.
+static REPORTS: &[(&str, &str, u8, &str)] = &[
+    ("pale check", "", 0, "triples 0 valid 0 invalid 0 limit 0\n"),
+    ("pale check", NEG, 0, NEG_REPORT),
+    ("pale check --limit 1 --seed 9", NEG, 0, NEG_REPORT),
+    ("pale check", WRONG, 1, WRONG_REPORT),
+    ("pale", NEG, 2, USAGE),
+    ("pale check extra", NEG, 2, USAGE),
+    ("pale --help", NEG, 2, USAGE),
+    ("pale check", "proc p() {", 3, "refused 1:1 not-yet\n"),
+    ("pale format", NEG, 0, NEG_SPELLING),
+    ("pale format --limit 1 --seed 9", NEG, 0, NEG_SPELLING),
+    ("pale format", "proc p() {", 3, "refused 1:11 syntax\n"),
+    ("pale format", "proc p() { % }", 3, "refused 1:12 char\n"),
+    ("pale format extra", NEG, 2, USAGE),
+];
+
+/// Whether a call without faults ends so.
+fn reports(
+    alloc: Global,
+    line: &str,
+    text: &[u8],
+    number: u8,
+    report: &str,
+) -> Result<bool, AllocError> {
+    let ended = call(alloc, line, text, &[], &[])?;
+    Ok(ended.status.number() == number && ended.written.as_slice() == report.as_bytes())
+}
+
 #[test]
 fn texts_and_words_have_their_reports(rt: HostRuntime) -> Result<(), Fail> {
-    let rows = [
-        ("pale check", "", 0, "triples 0 valid 0 invalid 0 limit 0\n"),
-        ("pale check", NEG, 0, NEG_REPORT),
-        ("pale check --limit 1 --seed 9", NEG, 0, NEG_REPORT),
-        ("pale check", WRONG, 1, WRONG_REPORT),
-        ("pale", NEG, 2, USAGE),
-        ("pale check extra", NEG, 2, USAGE),
-        ("pale --help", NEG, 2, USAGE),
-        ("pale check", "proc p() {", 3, "refused 1:1 not-yet\n"),
-        ("pale format", NEG, 0, NEG_SPELLING),
-        ("pale format --limit 1 --seed 9", NEG, 0, NEG_SPELLING),
-        ("pale format", "proc p() {", 3, "refused 1:11 syntax\n"),
-        ("pale format", "proc p() { % }", 3, "refused 1:12 char\n"),
-        ("pale format extra", NEG, 2, USAGE),
-    ];
-    for (line, text, number, report) in rows {
-        let ended = call(rt.alloc(), line, text.as_bytes(), &[], &[])?;
-        assert_eq!(rt; ended.status.number(), number, "{line}");
-        assert_eq!(rt; ended.written.as_slice(), report.as_bytes(), "{line}");
+    for (line, text, number, report) in REPORTS {
+        let is_so = reports(rt.alloc(), line, text.as_bytes(), *number, report)?;
+        assert!(rt; is_so, "{line}");
     }
     Ok(())
 }
 
+fn spaces_report(
+    alloc: Global,
+    count: usize,
+    number: u8,
+    report: &str,
+) -> Result<bool, AllocError> {
+    let spaces = vec![in alloc; b' '; count]?;
+    reports(alloc, "pale check", &spaces, number, report)
+}
+
 #[test]
 fn one_byte_more_is_too_long(rt: HostRuntime) -> Result<(), Fail> {
-    let rows = [
-        (1_048_576, 0, "triples 0 valid 0 invalid 0 limit 0\n"),
-        (1_048_577, 3, "refused too-long\n"),
-    ];
-    for (count, number, report) in rows {
-        let spaces = vec![in rt.alloc(); b' '; count]?;
-        let ended = call(rt.alloc(), "pale check", &spaces, &[], &[])?;
-        assert_eq!(rt; ended.status.number(), number);
-        assert_eq!(rt; ended.written.as_slice(), report.as_bytes());
-    }
+    let whole = "triples 0 valid 0 invalid 0 limit 0\n";
+    assert!(rt; spaces_report(rt.alloc(), 1_048_576, 0, whole)?);
+    assert!(rt; spaces_report(rt.alloc(), 1_048_577, 3, "refused too-long\n")?);
     Ok(())
+}
+
+/// Whether nothing is written where this read fails, and the output where it isn't made.
+fn fails_at_read(alloc: Global, line: &str, output: &str, read: u64) -> Result<bool, AllocError> {
+    let ended = call(alloc, line, NEG.as_bytes(), &[read], &[])?;
+    if ended.read_faults > 0 {
+        Ok(ended.is(Status::ReadFault, b""))
+    } else {
+        Ok(ended.is(Status::Good, output.as_bytes()))
+    }
 }
 
 #[test]
 fn a_failed_read_leaves_nothing_written(rt: HostRuntime) -> Result<(), Fail> {
     for (line, output) in [("pale check", NEG_REPORT), ("pale format", NEG_SPELLING)] {
         for read in 1..4 {
-            let ended = call(rt.alloc(), line, NEG.as_bytes(), &[read], &[])?;
-            let (status, report) = if ended.read_faults > 0 {
-                (Status::ReadFault, "")
-            } else {
-                (Status::Good, output)
-            };
-            assert_eq!(rt; ended.status, status, "{line}");
-            assert_eq!(rt; ended.written.as_slice(), report.as_bytes(), "{line}");
+            assert!(rt; fails_at_read(rt.alloc(), line, output, read)?, "{line}");
         }
     }
     Ok(())
 }
 
+/// Whether a front of the output is written where this write fails, nothing where it is the first, and all where it isn't made.
+fn fails_at_write(
+    alloc: Global,
+    (line, text): (&str, &str),
+    output: &[u8],
+    good: Status,
+    write: u64,
+) -> Result<bool, AllocError> {
+    let ended = call(alloc, line, text.as_bytes(), &[], &[write])?;
+    if ended.write_faults == 0 {
+        return Ok(ended.is(good, output));
+    }
+    Ok(
+        ended.status == Status::WriteFault
+            && output.starts_with(&ended.written)
+            && (write > 1 || ended.written.is_empty()),
+    )
+}
+
 #[test]
 fn a_failed_write_leaves_a_front(rt: HostRuntime) -> Result<(), Fail> {
-    let rows = [
+    let refused = "refused 1:11 syntax\n";
+    for (line, text, output, good) in [
         ("pale check", WRONG, WRONG_REPORT, Status::Bad),
         ("pale format", NEG, NEG_SPELLING, Status::Good),
-        (
-            "pale format",
-            "proc p() {",
-            "refused 1:11 syntax\n",
-            Status::Text,
-        ),
-    ];
-    for (line, text, output, good) in rows {
+        ("pale format", "proc p() {", refused, Status::Text),
+    ] {
         for write in 1..4 {
-            let ended = call(rt.alloc(), line, text.as_bytes(), &[], &[write])?;
-            let status = if ended.write_faults > 0 {
-                Status::WriteFault
-            } else {
-                good
-            };
-            assert_eq!(rt; ended.status, status, "{line}");
-            assert!(rt; output.as_bytes().starts_with(&ended.written), "{line}");
-            assert!(rt; write > 1 || ended.written.is_empty(), "{line}");
+            let is_so = fails_at_write(rt.alloc(), (line, text), output.as_bytes(), good, write)?;
+            assert!(rt; is_so, "{line}");
         }
     }
     Ok(())

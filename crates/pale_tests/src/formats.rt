@@ -1,6 +1,6 @@
 //! Texts with what `format` writes for them and its status, worked out by hand from the rules of the language.
 
-use crate::calls::{called, repeated};
+use crate::calls::{repeated, writes};
 use std::alloc::{AllocError, Global};
 use std::test::Fail;
 
@@ -93,9 +93,14 @@ static REFUSED: &[(&str, &str)] = &[
 #[test]
 fn programs_have_their_spellings(rt: HostRuntime) -> Result<(), Fail> {
     for (text, spelling) in PROGRAMS {
-        let (written, status) = called(rt.alloc(), "format", text.as_bytes())?;
-        assert_eq!(rt; written.as_slice(), spelling.as_bytes(), "{text}");
-        assert_eq!(rt; status, 0, "{text}");
+        let is_so = writes(
+            rt.alloc(),
+            "format",
+            text.as_bytes(),
+            spelling.as_bytes(),
+            0,
+        )?;
+        assert!(rt; is_so, "{text}");
     }
     Ok(())
 }
@@ -103,9 +108,8 @@ fn programs_have_their_spellings(rt: HostRuntime) -> Result<(), Fail> {
 #[test]
 fn a_spelling_is_spelled_as_itself(rt: HostRuntime) -> Result<(), Fail> {
     for (_, spelling) in PROGRAMS {
-        let (written, status) = called(rt.alloc(), "format", spelling.as_bytes())?;
-        assert_eq!(rt; written.as_slice(), spelling.as_bytes(), "{spelling}");
-        assert_eq!(rt; status, 0, "{spelling}");
+        let spelling = spelling.as_bytes();
+        assert!(rt; writes(rt.alloc(), "format", spelling, spelling, 0)?);
     }
     Ok(())
 }
@@ -113,48 +117,47 @@ fn a_spelling_is_spelled_as_itself(rt: HostRuntime) -> Result<(), Fail> {
 #[test]
 fn other_texts_are_refused_at_their_first_fault(rt: HostRuntime) -> Result<(), Fail> {
     for (text, line) in REFUSED {
-        let (written, status) = called(rt.alloc(), "format", text.as_bytes())?;
-        assert_eq!(rt; written.as_slice(), line.as_bytes(), "{text}");
-        assert_eq!(rt; status, 3, "{text}");
+        let is_so = writes(rt.alloc(), "format", text.as_bytes(), line.as_bytes(), 3)?;
+        assert!(rt; is_so, "{text}");
     }
     Ok(())
 }
 
-/// Texts at the bounds of what `format` reads, one on each side, with what is written and the status.
-fn at_bounds(alloc: Global) -> Result<[(String, &'static str, u8); 5], AllocError> {
-    let within = repeated(alloc, "proc p() pre [", "(", 200, "true")?;
-    Ok([
-        (
-            repeated(alloc, within.as_str(), ")", 200, "] { }")?,
-            "proc p ( ) pre [ true ] {\n}\n",
-            0,
-        ),
-        (
-            repeated(alloc, "proc p() pre [", "(", 201, "")?,
-            "refused 1:215 deep\n",
-            3,
-        ),
-        (repeated(alloc, "", " ", 1_048_576, "")?, "", 0),
-        (
-            repeated(alloc, "", " ", 1_048_577, "")?,
-            "refused too-long\n",
-            3,
-        ),
-        // A text with too many bytes isn't looked at.
-        (
-            repeated(alloc, "% ", " ", 1_048_576, "")?,
-            "refused too-long\n",
-            3,
-        ),
-    ])
+/// Whether this is written for a text that is a piece so many times, between two others.
+fn repeated_writes(
+    alloc: Global,
+    (front, piece, count, back): (&str, &str, usize, &str),
+    want: &str,
+    number: u8,
+) -> Result<bool, AllocError> {
+    let text = repeated(alloc, front, piece, count, back)?;
+    writes(alloc, "format", text.as_bytes(), want.as_bytes(), number)
 }
+
+/// Whether 200 levels are read.
+fn levels_are_read(alloc: Global) -> Result<bool, AllocError> {
+    let within = repeated(alloc, "proc p() pre [", "(", 200, "true")?;
+    let want = "proc p ( ) pre [ true ] {\n}\n";
+    repeated_writes(alloc, (within.as_str(), ")", 200, "] { }"), want, 0)
+}
+
+/// Texts at the other bounds of what `format` reads, with what is written and the status.
+static BOUNDS: &[((&str, &str, usize, &str), &str, u8)] = &[
+    (("proc p() pre [", "(", 201, ""), "refused 1:215 deep\n", 3),
+    (("", " ", 1_048_576, ""), "", 0),
+    (("", " ", 1_048_577, ""), "refused too-long\n", 3),
+    // A text with too many bytes isn't looked at.
+    (("% ", " ", 1_048_576, ""), "refused too-long\n", 3),
+];
 
 #[test]
 fn each_bound_is_the_last_that_is_read(rt: HostRuntime) -> Result<(), Fail> {
-    for (text, want, number) in at_bounds(rt.alloc())? {
-        let (written, status) = called(rt.alloc(), "format", text.as_bytes())?;
-        assert_eq!(rt; written.as_slice(), want.as_bytes());
-        assert_eq!(rt; status, number);
+    assert!(rt; levels_are_read(rt.alloc())?);
+    for (parts, want, number) in BOUNDS {
+        assert!(rt;
+            repeated_writes(rt.alloc(), *parts, want, *number)?,
+            "{want}"
+        );
     }
     Ok(())
 }
