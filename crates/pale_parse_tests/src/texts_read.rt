@@ -36,9 +36,7 @@ fn told(alloc: Global, text: &[u8]) -> Result<String, AllocError>
     }
 }
 
-/// The text of a tower.
-fn built(alloc: Global, tower: &Tower, count: usize) -> Result<Vec<u8>, AllocError> {
-    let mut text = Vec::new(alloc);
+fn push_tower(text: &mut Vec<u8>, tower: &Tower, count: usize) -> Result<(), AllocError> {
     text.extend_from_slice(tower.head)?;
     for _ in 0..count {
         text.extend_from_slice(tower.open)?;
@@ -47,7 +45,13 @@ fn built(alloc: Global, tower: &Tower, count: usize) -> Result<Vec<u8>, AllocErr
     for _ in 0..count {
         text.extend_from_slice(tower.close)?;
     }
-    text.extend_from_slice(tower.tail)?;
+    text.extend_from_slice(tower.tail)
+}
+
+/// The text of a tower.
+fn built(alloc: Global, tower: &Tower, count: usize) -> Result<Vec<u8>, AllocError> {
+    let mut text = Vec::new(alloc);
+    push_tower(&mut text, tower, count)?;
     Ok(text)
 }
 
@@ -76,7 +80,7 @@ fn is_reserved(alloc: Global, word: &str) -> Result<bool, AllocError> {
 fn first_texts_are_programs_or_stop_there(rt: HostRuntime) -> Result<(), Fail> {
     let alloc = rt.alloc();
     for (text, want) in FIRST {
-        assert_eq!(rt; is_told(alloc, text, want)?, true, "of {want}");
+        assert!(rt; is_told(alloc, text, want)?, "of {want}");
     }
     Ok(())
 }
@@ -85,7 +89,7 @@ fn first_texts_are_programs_or_stop_there(rt: HostRuntime) -> Result<(), Fail> {
 fn second_texts_are_programs_or_stop_there(rt: HostRuntime) -> Result<(), Fail> {
     let alloc = rt.alloc();
     for (text, want) in SECOND {
-        assert_eq!(rt; is_told(alloc, text, want)?, true, "of {want}");
+        assert!(rt; is_told(alloc, text, want)?, "of {want}");
     }
     Ok(())
 }
@@ -94,7 +98,7 @@ fn second_texts_are_programs_or_stop_there(rt: HostRuntime) -> Result<(), Fail> 
 fn third_texts_are_programs_or_stop_there(rt: HostRuntime) -> Result<(), Fail> {
     let alloc = rt.alloc();
     for (text, want) in THIRD {
-        assert_eq!(rt; is_told(alloc, text, want)?, true, "of {want}");
+        assert!(rt; is_told(alloc, text, want)?, "of {want}");
     }
     Ok(())
 }
@@ -103,7 +107,7 @@ fn third_texts_are_programs_or_stop_there(rt: HostRuntime) -> Result<(), Fail> {
 fn fourth_texts_are_programs_or_stop_there(rt: HostRuntime) -> Result<(), Fail> {
     let alloc = rt.alloc();
     for (text, want) in FOURTH {
-        assert_eq!(rt; is_told(alloc, text, want)?, true, "of {want}");
+        assert!(rt; is_told(alloc, text, want)?, "of {want}");
     }
     Ok(())
 }
@@ -112,7 +116,7 @@ fn fourth_texts_are_programs_or_stop_there(rt: HostRuntime) -> Result<(), Fail> 
 fn fifth_texts_are_programs_or_stop_there(rt: HostRuntime) -> Result<(), Fail> {
     let alloc = rt.alloc();
     for (text, want) in FIFTH {
-        assert_eq!(rt; is_told(alloc, text, want)?, true, "of {want}");
+        assert!(rt; is_told(alloc, text, want)?, "of {want}");
     }
     Ok(())
 }
@@ -121,7 +125,7 @@ fn fifth_texts_are_programs_or_stop_there(rt: HostRuntime) -> Result<(), Fail> {
 fn sixth_texts_are_programs_or_stop_there(rt: HostRuntime) -> Result<(), Fail> {
     let alloc = rt.alloc();
     for (text, want) in SIXTH {
-        assert_eq!(rt; is_told(alloc, text, want)?, true, "of {want}");
+        assert!(rt; is_told(alloc, text, want)?, "of {want}");
     }
     Ok(())
 }
@@ -130,7 +134,7 @@ fn sixth_texts_are_programs_or_stop_there(rt: HostRuntime) -> Result<(), Fail> {
 fn reserved_words_are_no_names(rt: HostRuntime) -> Result<(), Fail> {
     let alloc = rt.alloc();
     for word in RESERVED {
-        assert_eq!(rt; is_reserved(alloc, word)?, true, "of {word}");
+        assert!(rt; is_reserved(alloc, word)?, "of {word}");
     }
     Ok(())
 }
@@ -139,7 +143,7 @@ fn reserved_words_are_no_names(rt: HostRuntime) -> Result<(), Fail> {
 fn levels_end_at_two_hundred(rt: HostRuntime) -> Result<(), Fail> {
     let alloc = rt.alloc();
     for (tower, count, want) in TOWERS {
-        assert_eq!(rt; is_told_of(alloc, tower, *count, want)?, true, "of {want}");
+        assert!(rt; is_told_of(alloc, tower, *count, want)?, "of {want}");
     }
     Ok(())
 }

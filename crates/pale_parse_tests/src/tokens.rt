@@ -2,13 +2,13 @@
 
 ghost use Rattle.std.specs.Prelude.{◌<◌, length};
 
-use pale_text::{ByteList, TextStop, TokenKind, lex};
+use pale_text::{ByteList, Token, TokenKind, TokenList, lex};
 use std::alloc::{AllocError, Global};
 use std::fmt::Write;
 use std::test::Fail;
 
 /// Texts, and what is printed of their tokens, each with its place and its number of bytes, or of their refusal.
-const ROWS: [(&[u8], &str); 33] = [
+static ROWS: &[(&[u8], &str)] = &[
     (b"", "end 1:1"),
     (b" \t", "end 1:3"),
     (b"\n", "end 2:1"),
@@ -53,51 +53,55 @@ const ROWS: [(&[u8], &str); 33] = [
     (b"ab % \x80", "refused 1:4 char"),
 ];
 
-fn push_word(out: &mut String, bytes: &ByteList) -> Result<(), AllocError> {
+fn push_word(out: &mut String, before: &str, bytes: &ByteList) -> Result<(), AllocError> {
+    out.push_str(before)?;
     for byte in bytes.as_slice() {
         out.push(char::from(*byte))?;
     }
     Ok(())
 }
 
-fn shown(alloc: Global, text: &[u8]) -> Result<String, TextStop>
+fn push_token(out: &mut String, token: &Token) -> Result<(), AllocError> {
+    let (start, length) = (token.span.start, token.span.length);
+    write!(out, "{}:{}+{} ", start.line, start.column, length)?;
+    match &token.kind {
+        TokenKind::Name(bytes) => push_word(out, "name ", bytes)?,
+        TokenKind::Number(bytes) => push_word(out, "number ", bytes)?,
+        TokenKind::Mark(mark) => write!(out, "{mark:?}")?,
+    }
+    out.push_str(", ")
+}
+
+fn push_tokens(out: &mut String, list: &TokenList) -> Result<(), AllocError> {
+    for token in list.tokens.as_slice() {
+        push_token(out, token)?;
+    }
+    write!(out, "end {}:{}", list.end.line, list.end.column)
+}
+
+/// What is printed of a text's tokens, or of their refusal.
+fn shown(alloc: Global, text: &[u8]) -> Result<String, AllocError>
     requires { length text.now < u32.MAX }
 {
-    let list = lex(alloc, text)?;
     let mut out = String::new(alloc);
-    for token in list.tokens.as_slice() {
-        let start = token.span.start;
-        write!(
-            out,
-            "{}:{}+{} ",
-            start.line, start.column, token.span.length
-        )?;
-        match &token.kind {
-            TokenKind::Name(bytes) => {
-                out.push_str("name ")?;
-                push_word(&mut out, bytes)?;
-            }
-            TokenKind::Number(bytes) => {
-                out.push_str("number ")?;
-                push_word(&mut out, bytes)?;
-            }
-            TokenKind::Mark(mark) => write!(out, "{mark:?}")?,
-        }
-        out.push_str(", ")?;
+    match lex(alloc, text) {
+        Ok(list) => push_tokens(&mut out, &list)?,
+        Err(stop) => write!(out, "{stop}")?,
     }
-    write!(out, "end {}:{}", list.end.line, list.end.column)?;
     Ok(out)
+}
+
+fn is_shown(alloc: Global, text: &[u8], want: &str) -> Result<bool, AllocError> {
+    if text.len() >= 1000 {
+        return Ok(false);
+    }
+    Ok(shown(alloc, text)?.as_str() == want)
 }
 
 #[test]
 fn texts_have_these_tokens_and_places(rt: HostRuntime) -> Result<(), Fail> {
     for (text, want) in ROWS {
-        assert!(rt; text.len() < 1000);
-        let got = match shown(rt.alloc(), text) {
-            Ok(tokens) => tokens,
-            Err(stop) => format!(in rt.alloc(); "{stop}")?,
-        };
-        assert_eq!(rt; got.as_str(), want);
+        assert!(rt; is_shown(rt.alloc(), text, want)?, "of {want}");
     }
     Ok(())
 }

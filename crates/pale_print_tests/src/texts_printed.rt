@@ -62,11 +62,7 @@ fn is_printed_in_assignment(alloc: Global, value: &str, want: &str) -> Result<bo
 fn declarations_are_printed_in_lines(rt: HostRuntime) -> Result<(), Fail> {
     let alloc = rt.alloc();
     for (text, want) in PROGRAMS {
-        assert_eq!(rt;
-            is_printed(alloc, text, want.as_bytes())?,
-            true,
-            "of {want}"
-        );
+        assert!(rt; is_printed(alloc, text, want.as_bytes())?, "of {want}");
     }
     Ok(())
 }
@@ -75,11 +71,7 @@ fn declarations_are_printed_in_lines(rt: HostRuntime) -> Result<(), Fail> {
 fn relations_are_printed_with_spaces(rt: HostRuntime) -> Result<(), Fail> {
     let alloc = rt.alloc();
     for (body, want) in RELATIONS {
-        assert_eq!(rt;
-            is_printed_in_predicate(alloc, body, want)?,
-            true,
-            "of {want}"
-        );
+        assert!(rt; is_printed_in_predicate(alloc, body, want)?, "of {want}");
     }
     Ok(())
 }
@@ -88,11 +80,7 @@ fn relations_are_printed_with_spaces(rt: HostRuntime) -> Result<(), Fail> {
 fn routes_keep_the_parentheses_that_they_need(rt: HostRuntime) -> Result<(), Fail> {
     let alloc = rt.alloc();
     for (body, want) in ROUTES {
-        assert_eq!(rt;
-            is_printed_in_predicate(alloc, body, want)?,
-            true,
-            "of {want}"
-        );
+        assert!(rt; is_printed_in_predicate(alloc, body, want)?, "of {want}");
     }
     Ok(())
 }
@@ -101,11 +89,7 @@ fn routes_keep_the_parentheses_that_they_need(rt: HostRuntime) -> Result<(), Fai
 fn chains_keep_the_parentheses_that_they_need(rt: HostRuntime) -> Result<(), Fail> {
     let alloc = rt.alloc();
     for (body, want) in CHAINS {
-        assert_eq!(rt;
-            is_printed_in_predicate(alloc, body, want)?,
-            true,
-            "of {want}"
-        );
+        assert!(rt; is_printed_in_predicate(alloc, body, want)?, "of {want}");
     }
     Ok(())
 }
@@ -114,11 +98,7 @@ fn chains_keep_the_parentheses_that_they_need(rt: HostRuntime) -> Result<(), Fai
 fn quantifiers_are_in_parentheses_where_an_operator_follows(rt: HostRuntime) -> Result<(), Fail> {
     let alloc = rt.alloc();
     for (body, want) in QUANTIFIERS {
-        assert_eq!(rt;
-            is_printed_in_predicate(alloc, body, want)?,
-            true,
-            "of {want}"
-        );
+        assert!(rt; is_printed_in_predicate(alloc, body, want)?, "of {want}");
     }
     Ok(())
 }
@@ -127,11 +107,7 @@ fn quantifiers_are_in_parentheses_where_an_operator_follows(rt: HostRuntime) -> 
 fn statements_are_printed_in_lines(rt: HostRuntime) -> Result<(), Fail> {
     let alloc = rt.alloc();
     for (body, want) in STATEMENTS {
-        assert_eq!(rt;
-            is_printed_in_procedure(alloc, body, want)?,
-            true,
-            "of {want}"
-        );
+        assert!(rt; is_printed_in_procedure(alloc, body, want)?, "of {want}");
     }
     Ok(())
 }
@@ -140,11 +116,7 @@ fn statements_are_printed_in_lines(rt: HostRuntime) -> Result<(), Fail> {
 fn conditions_keep_the_parentheses_that_they_need(rt: HostRuntime) -> Result<(), Fail> {
     let alloc = rt.alloc();
     for (value, want) in CONDITIONS {
-        assert_eq!(rt;
-            is_printed_in_assignment(alloc, value, want)?,
-            true,
-            "of {want}"
-        );
+        assert!(rt; is_printed_in_assignment(alloc, value, want)?, "of {want}");
     }
     Ok(())
 }
@@ -153,9 +125,8 @@ fn conditions_keep_the_parentheses_that_they_need(rt: HostRuntime) -> Result<(),
 fn the_gallery_is_printed_as_its_files(rt: HostRuntime) -> Result<(), Fail> {
     let alloc = rt.alloc();
     for (text, want) in GALLERY {
-        assert_eq!(rt;
+        assert!(rt;
             is_printed(alloc, text.as_bytes(), want.as_bytes())?,
-            true,
             "of {want}"
         );
     }

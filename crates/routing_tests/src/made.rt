@@ -119,14 +119,19 @@ pub fn either_child(alloc: Global) -> Result<Route, AllocError>
     Ok(Route::Or(Boxed::new(alloc, left)?, Boxed::new(alloc, right)?))
 }
 
+fn add_var(vars: &mut VarTable, name: &[u8], kind: VarKind) -> Result<(), Fail> {
+    if vars.find(name).is_some() || vars.vars() > 9 {
+        return Err("no new variable".into());
+    }
+    vars.add(name, kind)?;
+    Ok(())
+}
+
 /// The variables of these names and kinds.
 pub fn made_vars(alloc: Global, list: &[(&str, VarKind)]) -> Result<VarTable, Fail> {
     let mut vars = VarTable::new(alloc);
     for (name, kind) in list {
-        if vars.find(name.as_bytes()).is_some() || vars.vars() > 9 {
-            return Err("no new variable".into());
-        }
-        vars.add(name.as_bytes(), *kind)?;
+        add_var(&mut vars, name.as_bytes(), *kind)?;
     }
     Ok(vars)
 }

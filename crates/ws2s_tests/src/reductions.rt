@@ -71,7 +71,7 @@ fn has_sizes(alloc: Global, large: Large, count: u32, want: &str) -> Result<bool
 fn whole_texts_are_reduced(rt: HostRuntime) -> Result<(), Fail> {
     let alloc = rt.alloc();
     for row in ROWS {
-        assert_eq!(rt; is_row(alloc, row)?, true, "to {}", row.holds);
+        assert!(rt; is_row(alloc, row)?, "to {}", row.holds);
     }
     Ok(())
 }
@@ -80,7 +80,7 @@ fn whole_texts_are_reduced(rt: HostRuntime) -> Result<(), Fail> {
 fn atoms_are_reduced(rt: HostRuntime) -> Result<(), Fail> {
     let alloc = rt.alloc();
     for (text, want) in ATOMS {
-        assert_eq!(rt; is_reduced_to(alloc, text, want)?, true, "to {want}");
+        assert!(rt; is_reduced_to(alloc, text, want)?, "to {want}");
     }
     Ok(())
 }
@@ -89,7 +89,7 @@ fn atoms_are_reduced(rt: HostRuntime) -> Result<(), Fail> {
 fn connectives_are_reduced(rt: HostRuntime) -> Result<(), Fail> {
     let alloc = rt.alloc();
     for (text, want) in CONNECTIVES {
-        assert_eq!(rt; is_reduced_to(alloc, text, want)?, true, "to {want}");
+        assert!(rt; is_reduced_to(alloc, text, want)?, "to {want}");
     }
     Ok(())
 }
@@ -98,7 +98,7 @@ fn connectives_are_reduced(rt: HostRuntime) -> Result<(), Fail> {
 fn quantifiers_are_reduced(rt: HostRuntime) -> Result<(), Fail> {
     let alloc = rt.alloc();
     for (text, want) in QUANTIFIERS {
-        assert_eq!(rt; is_reduced_to(alloc, text, want)?, true, "to {want}");
+        assert!(rt; is_reduced_to(alloc, text, want)?, "to {want}");
     }
     Ok(())
 }
@@ -107,7 +107,7 @@ fn quantifiers_are_reduced(rt: HostRuntime) -> Result<(), Fail> {
 fn uses_of_predicates_are_reduced(rt: HostRuntime) -> Result<(), Fail> {
     let alloc = rt.alloc();
     for (text, want) in PREDICATES {
-        assert_eq!(rt; is_reduced_to(alloc, text, want)?, true, "to {want}");
+        assert!(rt; is_reduced_to(alloc, text, want)?, "to {want}");
     }
     Ok(())
 }
@@ -116,9 +116,8 @@ fn uses_of_predicates_are_reduced(rt: HostRuntime) -> Result<(), Fail> {
 fn names_are_bound_by_thousands(rt: HostRuntime) -> Result<(), Fail> {
     let alloc = rt.alloc();
     for (count, want) in large::NAMES {
-        assert_eq!(rt;
+        assert!(rt;
             has_sizes(alloc, Large::Names, *count, want)?,
-            true,
             "of {count}: {want}"
         );
     }
@@ -129,9 +128,8 @@ fn names_are_bound_by_thousands(rt: HostRuntime) -> Result<(), Fail> {
 fn items_are_joined_by_thousands(rt: HostRuntime) -> Result<(), Fail> {
     let alloc = rt.alloc();
     for (count, want) in large::ITEMS {
-        assert_eq!(rt;
+        assert!(rt;
             has_sizes(alloc, Large::Items, *count, want)?,
-            true,
             "of {count}: {want}"
         );
     }
@@ -142,9 +140,8 @@ fn items_are_joined_by_thousands(rt: HostRuntime) -> Result<(), Fail> {
 fn terms_go_through_thousands_of_children(rt: HostRuntime) -> Result<(), Fail> {
     let alloc = rt.alloc();
     for (count, want) in large::SUCCESSORS {
-        assert_eq!(rt;
+        assert!(rt;
             has_sizes(alloc, Large::Successors, *count, want)?,
-            true,
             "of {count}: {want}"
         );
     }
@@ -155,9 +152,8 @@ fn terms_go_through_thousands_of_children(rt: HostRuntime) -> Result<(), Fail> {
 fn predicates_double_what_is_before(rt: HostRuntime) -> Result<(), Fail> {
     let alloc = rt.alloc();
     for (count, want) in large::PREDICATES {
-        assert_eq!(rt;
+        assert!(rt;
             has_sizes(alloc, Large::Predicates, *count, want)?,
-            true,
             "of {count}: {want}"
         );
     }
@@ -168,9 +164,8 @@ fn predicates_double_what_is_before(rt: HostRuntime) -> Result<(), Fail> {
 fn variables_are_declared_by_thousands(rt: HostRuntime) -> Result<(), Fail> {
     let alloc = rt.alloc();
     for (count, want) in large::VARIABLES {
-        assert_eq!(rt;
+        assert!(rt;
             has_sizes(alloc, Large::Variables, *count, want)?,
-            true,
             "of {count}: {want}"
         );
     }
@@ -181,9 +176,8 @@ fn variables_are_declared_by_thousands(rt: HostRuntime) -> Result<(), Fail> {
 fn chains_have_thousands_of_parts(rt: HostRuntime) -> Result<(), Fail> {
     let alloc = rt.alloc();
     for (between, count, want) in large::CHAINS {
-        assert_eq!(rt;
+        assert!(rt;
             has_sizes(alloc, Large::Chain(between), *count, want)?,
-            true,
             "of {count}: {want}"
         );
     }

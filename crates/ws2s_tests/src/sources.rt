@@ -125,7 +125,7 @@ fn is_verdict(alloc: Global, tower: &Tower, count: u16, want: &str) -> Result<bo
 fn items_have_trees(rt: HostRuntime) -> Result<(), Fail> {
     let alloc = rt.alloc();
     for (text, want) in ITEMS {
-        assert_eq!(rt; is_told(alloc, text, want)?, true, "of {want}");
+        assert!(rt; is_told(alloc, text, want)?, "of {want}");
     }
     Ok(())
 }
@@ -134,7 +134,7 @@ fn items_have_trees(rt: HostRuntime) -> Result<(), Fail> {
 fn atoms_have_trees(rt: HostRuntime) -> Result<(), Fail> {
     let alloc = rt.alloc();
     for (text, want) in ATOMS {
-        assert_eq!(rt; is_told(alloc, text, want)?, true, "of {want}");
+        assert!(rt; is_told(alloc, text, want)?, "of {want}");
     }
     Ok(())
 }
@@ -143,7 +143,7 @@ fn atoms_have_trees(rt: HostRuntime) -> Result<(), Fail> {
 fn connectives_group_as_written(rt: HostRuntime) -> Result<(), Fail> {
     let alloc = rt.alloc();
     for (text, want) in CONNECTIVES {
-        assert_eq!(rt; is_told(alloc, text, want)?, true, "of {want}");
+        assert!(rt; is_told(alloc, text, want)?, "of {want}");
     }
     Ok(())
 }
@@ -152,7 +152,7 @@ fn connectives_group_as_written(rt: HostRuntime) -> Result<(), Fail> {
 fn wrong_items_are_refused_there(rt: HostRuntime) -> Result<(), Fail> {
     let alloc = rt.alloc();
     for (text, want) in WRONG_ITEMS {
-        assert_eq!(rt; is_told(alloc, text, want)?, true, "of {want}");
+        assert!(rt; is_told(alloc, text, want)?, "of {want}");
     }
     Ok(())
 }
@@ -161,7 +161,7 @@ fn wrong_items_are_refused_there(rt: HostRuntime) -> Result<(), Fail> {
 fn wrong_formulas_are_refused_there(rt: HostRuntime) -> Result<(), Fail> {
     let alloc = rt.alloc();
     for (text, want) in WRONG_FORMULAS {
-        assert_eq!(rt; is_told(alloc, text, want)?, true, "of {want}");
+        assert!(rt; is_told(alloc, text, want)?, "of {want}");
     }
     Ok(())
 }
@@ -170,7 +170,7 @@ fn wrong_formulas_are_refused_there(rt: HostRuntime) -> Result<(), Fail> {
 fn reserved_words_are_no_names(rt: HostRuntime) -> Result<(), Fail> {
     let alloc = rt.alloc();
     for word in RESERVED {
-        assert_eq!(rt; is_reserved(alloc, word)?, true, "of {word}");
+        assert!(rt; is_reserved(alloc, word)?, "of {word}");
     }
     Ok(())
 }
@@ -179,7 +179,7 @@ fn reserved_words_are_no_names(rt: HostRuntime) -> Result<(), Fail> {
 fn trees_have_two_hundred_levels(rt: HostRuntime) -> Result<(), Fail> {
     let alloc = rt.alloc();
     for (tower, count, want) in TOWERS {
-        assert_eq!(rt; is_verdict(alloc, tower, *count, want)?, true, "of {want}");
+        assert!(rt; is_verdict(alloc, tower, *count, want)?, "of {want}");
     }
     Ok(())
 }

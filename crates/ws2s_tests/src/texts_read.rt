@@ -71,7 +71,7 @@ fn has_free(text: &Ws2sText, want: &[(&[u8], bool)]) -> bool {
 fn variables_are_found(rt: HostRuntime) -> Result<(), Fail> {
     let alloc = rt.alloc();
     for (text, want) in VARIABLES {
-        assert_eq!(rt; is_told(alloc, text, want)?, true, "of {want}");
+        assert!(rt; is_told(alloc, text, want)?, "of {want}");
     }
     Ok(())
 }
@@ -80,7 +80,7 @@ fn variables_are_found(rt: HostRuntime) -> Result<(), Fail> {
 fn bound_names_are_found(rt: HostRuntime) -> Result<(), Fail> {
     let alloc = rt.alloc();
     for (text, want) in BINDERS {
-        assert_eq!(rt; is_told(alloc, text, want)?, true, "of {want}");
+        assert!(rt; is_told(alloc, text, want)?, "of {want}");
     }
     Ok(())
 }
@@ -89,7 +89,7 @@ fn bound_names_are_found(rt: HostRuntime) -> Result<(), Fail> {
 fn predicates_are_found(rt: HostRuntime) -> Result<(), Fail> {
     let alloc = rt.alloc();
     for (text, want) in PREDICATES {
-        assert_eq!(rt; is_told(alloc, text, want)?, true, "of {want}");
+        assert!(rt; is_told(alloc, text, want)?, "of {want}");
     }
     Ok(())
 }
@@ -98,7 +98,7 @@ fn predicates_are_found(rt: HostRuntime) -> Result<(), Fail> {
 fn a_visible_name_is_no_new_one(rt: HostRuntime) -> Result<(), Fail> {
     let alloc = rt.alloc();
     for (text, want) in DUPLICATE {
-        assert_eq!(rt; is_told(alloc, text, want)?, true, "of {want}");
+        assert!(rt; is_told(alloc, text, want)?, "of {want}");
     }
     Ok(())
 }
@@ -107,7 +107,7 @@ fn a_visible_name_is_no_new_one(rt: HostRuntime) -> Result<(), Fail> {
 fn a_name_that_is_not_visible_is_unknown(rt: HostRuntime) -> Result<(), Fail> {
     let alloc = rt.alloc();
     for (text, want) in UNKNOWN {
-        assert_eq!(rt; is_told(alloc, text, want)?, true, "of {want}");
+        assert!(rt; is_told(alloc, text, want)?, "of {want}");
     }
     Ok(())
 }
@@ -116,7 +116,7 @@ fn a_name_that_is_not_visible_is_unknown(rt: HostRuntime) -> Result<(), Fail> {
 fn sides_of_the_wrong_class_are_refused(rt: HostRuntime) -> Result<(), Fail> {
     let alloc = rt.alloc();
     for (text, want) in KIND {
-        assert_eq!(rt; is_told(alloc, text, want)?, true, "of {want}");
+        assert!(rt; is_told(alloc, text, want)?, "of {want}");
     }
     Ok(())
 }
@@ -125,7 +125,7 @@ fn sides_of_the_wrong_class_are_refused(rt: HostRuntime) -> Result<(), Fail> {
 fn wrong_uses_of_predicates_are_refused(rt: HostRuntime) -> Result<(), Fail> {
     let alloc = rt.alloc();
     for (text, want) in PREDICATES_AT_FAULT {
-        assert_eq!(rt; is_told(alloc, text, want)?, true, "of {want}");
+        assert!(rt; is_told(alloc, text, want)?, "of {want}");
     }
     Ok(())
 }
@@ -134,7 +134,7 @@ fn wrong_uses_of_predicates_are_refused(rt: HostRuntime) -> Result<(), Fail> {
 fn texts_have_two_hundred_levels(rt: HostRuntime) -> Result<(), Fail> {
     let alloc = rt.alloc();
     for (tower, count, want) in TOWERS {
-        assert_eq!(rt; is_verdict(alloc, tower, *count, want)?, true, "of {want}");
+        assert!(rt; is_verdict(alloc, tower, *count, want)?, "of {want}");
     }
     Ok(())
 }

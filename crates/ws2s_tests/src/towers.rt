@@ -15,23 +15,31 @@ pub(super) struct Tower {
 }
 
 impl Tower {
-    /// The text with so many openers.
-    pub(super) fn text(&self, alloc: Global, count: u16) -> Result<Vec<u8>, AllocError> {
-        let mut text = Vec::new(alloc);
+    fn push_opener(&self, text: &mut Vec<u8>, level: u16) -> Result<(), AllocError> {
+        text.extend_from_slice(self.open)?;
+        if !self.goes_on.is_empty() {
+            let number = [b'a' + (level / 26 % 26) as u8, b'a' + (level % 26) as u8];
+            text.extend_from_slice(&number)?;
+        }
+        text.extend_from_slice(self.goes_on)
+    }
+
+    fn push_text(&self, text: &mut Vec<u8>, count: u16) -> Result<(), AllocError> {
         text.extend_from_slice(self.head)?;
         for level in 0..count {
-            text.extend_from_slice(self.open)?;
-            if !self.goes_on.is_empty() {
-                let number = [b'a' + (level / 26 % 26) as u8, b'a' + (level % 26) as u8];
-                text.extend_from_slice(&number)?;
-            }
-            text.extend_from_slice(self.goes_on)?;
+            self.push_opener(text, level)?;
         }
         text.extend_from_slice(self.top)?;
         for _ in 0..count {
             text.extend_from_slice(self.close)?;
         }
-        text.extend_from_slice(self.tail)?;
+        text.extend_from_slice(self.tail)
+    }
+
+    /// The text with so many openers.
+    pub(super) fn text(&self, alloc: Global, count: u16) -> Result<Vec<u8>, AllocError> {
+        let mut text = Vec::new(alloc);
+        self.push_text(&mut text, count)?;
         Ok(text)
     }
 }

@@ -19,20 +19,32 @@ const FORK: VariantId = VariantId { ty: NODE, index: 1 };
 
 const UNNAMED: VariantId = VariantId { ty: BOX, index: 0 };
 
+fn add_nodes(types: &mut TypeTable) -> Result<(), Fail> {
+    add_bool(types, Owner::Common(NODE), "m")?;
+    add_pointer(types, Owner::Common(NODE), "p", NODE, to_root())?;
+    add_data(types, Owner::Variant(FORK), "l", NODE)?;
+    add_data(types, Owner::Variant(FORK), "r", NODE)?;
+    add_bool(types, Owner::Variant(FORK), "b")
+}
+
+fn add_boxes(types: &mut TypeTable) -> Result<(), Fail> {
+    add_data(types, Owner::Common(BOX), "n", NODE)?;
+    add_data(types, Owner::Common(BOX), "l", BOX)?;
+    add_pointer(types, Owner::Common(BOX), "q", NODE, to_root())
+}
+
+fn add_both(types: &mut TypeTable) -> Result<(), Fail> {
+    add_type(types, "Node")?;
+    add_type(types, "Box")?;
+    add_variant(types, NODE, "leaf")?;
+    add_variant(types, NODE, "fork")?;
+    add_nodes(types)?;
+    add_boxes(types)
+}
+
 pub fn made_types(alloc: Global) -> Result<TypeTable, Fail> {
     let mut types = TypeTable::new(alloc);
-    add_type(&mut types, "Node")?;
-    add_type(&mut types, "Box")?;
-    add_variant(&mut types, NODE, "leaf")?;
-    add_variant(&mut types, NODE, "fork")?;
-    add_bool(&mut types, Owner::Common(NODE), "m")?;
-    add_pointer(&mut types, Owner::Common(NODE), "p", NODE, to_root())?;
-    add_data(&mut types, Owner::Variant(FORK), "l", NODE)?;
-    add_data(&mut types, Owner::Variant(FORK), "r", NODE)?;
-    add_bool(&mut types, Owner::Variant(FORK), "b")?;
-    add_data(&mut types, Owner::Common(BOX), "n", NODE)?;
-    add_data(&mut types, Owner::Common(BOX), "l", BOX)?;
-    add_pointer(&mut types, Owner::Common(BOX), "q", NODE, to_root())?;
+    add_both(&mut types)?;
     Ok(types)
 }
 
@@ -93,21 +105,30 @@ static FIELDS: &[(TypeId, u32, u32, u32)] = &[
 /// The bools that are true, by cell and number.
 static TRUTHS: &[(u32, u32)] = &[(1, 0), (2, 4), (3, 0), (5, 0)];
 
+fn put_all(store: &mut Store, types: &TypeTable) -> Result<(), AllocError> {
+    for v in VARIANTS {
+        put(store, types, *v)?;
+    }
+    Ok(())
+}
+
+fn set_all(store: &mut Store) {
+    for (ty, cell, index, target) in FIELDS {
+        set_cell(store, *ty, *cell, *index, *target);
+    }
+    for (cell, index) in TRUTHS {
+        set_true(store, *cell, *index);
+    }
+}
+
 /// The fields as `cell.field = target`: 1.l = 2, 1.r = 3, 1.p = 5, 2.l = 4, 2.r = 5, 3.p = 2, 4.p = 1, 5.p = 7, 6.n = 1,
 /// 6.l = 8, 6.q = 3, 8.n = 2, 8.l = 6, 9.l = 7, 9.p = 9. The cells 1, 2, 7 and 9 are forks, 3, 4 and 5 leaves, 6 and 8 boxes.
 /// The bools 1.m, 2.b, 3.m and 5.m are true.
 pub fn made_store(alloc: Global, types: &TypeTable) -> Result<Store, AllocError> {
     let vars = VarTable::new(alloc);
     let mut store = Store::empty(alloc, &vars)?;
-    for v in VARIANTS {
-        put(&mut store, types, *v)?;
-    }
-    for (ty, cell, index, target) in FIELDS {
-        set_cell(&mut store, *ty, *cell, *index, *target);
-    }
-    for (cell, index) in TRUTHS {
-        set_true(&mut store, *cell, *index);
-    }
+    put_all(&mut store, types)?;
+    set_all(&mut store);
     remove(&mut store, 7);
     Ok(store)
 }

@@ -23,71 +23,70 @@ pub(super) enum Large {
 impl Large {
     /// The text that repeats it so many times.
     pub(super) fn text(self, alloc: Global, count: u32) -> Result<String, AllocError> {
+        let mut text = String::new(alloc);
         match self {
-            Large::Names => names(alloc, count),
-            Large::Items => items(alloc, count),
-            Large::Chain(between) => chain(alloc, between, count),
-            Large::Successors => successors(alloc, count),
-            Large::Predicates => predicates(alloc, count),
-            Large::Variables => variables(alloc, count),
+            Large::Names => push_names(&mut text, count)?,
+            Large::Items => push_items(&mut text, count)?,
+            Large::Chain(between) => push_chain(&mut text, between, count)?,
+            Large::Successors => push_successors(&mut text, count)?,
+            Large::Predicates => push_predicates(&mut text, count)?,
+            Large::Variables => push_variables(&mut text, count)?,
         }
+        Ok(text)
     }
 }
 
-fn names(alloc: Global, count: u32) -> Result<String, AllocError> {
-    let mut text = String::from_str(alloc, "ws2s; var2 X; ex2 n")?;
+fn push_names(text: &mut String, count: u32) -> Result<(), AllocError> {
+    text.push_str("ws2s; var2 X; ex2 n")?;
     for name in 1..count {
         write!(text, ", n{name}")?;
     }
-    text.push_str(": X sub X;")?;
-    Ok(text)
+    text.push_str(": X sub X;")
 }
 
-fn items(alloc: Global, count: u32) -> Result<String, AllocError> {
-    let mut text = String::from_str(alloc, "ws2s; var2 X;")?;
+fn push_items(text: &mut String, count: u32) -> Result<(), AllocError> {
+    text.push_str("ws2s; var2 X;")?;
     for _ in 0..count {
         text.push_str("X sub X;")?;
     }
-    Ok(text)
+    Ok(())
 }
 
-fn chain(alloc: Global, between: &str, count: u32) -> Result<String, AllocError> {
-    let mut text = String::from_str(alloc, "ws2s; var2 X; X sub X")?;
+fn push_chain(text: &mut String, between: &str, count: u32) -> Result<(), AllocError> {
+    text.push_str("ws2s; var2 X; X sub X")?;
     for _ in 1..count {
         text.push_str(between)?;
         text.push_str("X sub X")?;
     }
-    text.push_str(";")?;
-    Ok(text)
+    text.push_str(";")
 }
 
-fn successors(alloc: Global, count: u32) -> Result<String, AllocError> {
-    let mut text = String::from_str(alloc, "ws2s; var2 X; root")?;
+fn push_successors(text: &mut String, count: u32) -> Result<(), AllocError> {
+    text.push_str("ws2s; var2 X; root")?;
     for _ in 0..count {
         text.push_str(".0")?;
     }
-    text.push_str(" in X;")?;
-    Ok(text)
+    text.push_str(" in X;")
 }
 
-fn predicates(alloc: Global, count: u32) -> Result<String, AllocError> {
-    let mut text = String::from_str(alloc, "ws2s; pred p(var2 A) = A sub A;")?;
-    let mut before = String::from_str(alloc, "p")?;
+fn push_predicates(text: &mut String, count: u32) -> Result<(), AllocError> {
+    text.push_str("ws2s; pred p0(var2 A) = A sub A;")?;
     for number in 1..count {
-        write!(text, "pred p{number}(var2 A) = {before}(A) & {before}(A);")?;
-        before = format!(in alloc; "p{number}")?;
+        let before = number - 1;
+        write!(
+            text,
+            "pred p{number}(var2 A) = p{before}(A) & p{before}(A);"
+        )?;
     }
-    write!(text, "ex2 X: {before}(X);")?;
-    Ok(text)
+    write!(text, "ex2 X: p{}(X);", count.saturating_sub(1))
 }
 
-fn variables(alloc: Global, count: u32) -> Result<String, AllocError> {
-    let mut text = String::from_str(alloc, "ws2s; var1 x")?;
+fn push_variables(text: &mut String, count: u32) -> Result<(), AllocError> {
+    text.push_str("ws2s; var1 x")?;
     for name in 1..count {
         write!(text, ", x{name}")?;
     }
-    text.push_str(";")?;
-    Ok(text)
+    text.push_str(";")
 }
 
 /// How many names are bound, and the sizes of `holds` and `breaks`, or the fault.

@@ -5,8 +5,8 @@
 use std::alloc::{AllocError, Global};
 use std::fmt::Write;
 use ws2s_syntax::{
-    Argument, Atom, Base, Class, Connective, Name, Quantifier, Successor, Term, TextFormula,
-    Ws2sText,
+    Argument, Atom, Base, Class, Connective, Name, Predicate, Quantifier, Successor, Term,
+    TextFormula, Ws2sText,
 };
 
 fn push_name(out: &mut String, name: Name) -> Result<(), AllocError> {
@@ -138,26 +138,35 @@ fn push_class(out: &mut String, set: bool) -> Result<(), AllocError> {
     out.push_str(if set { "2" } else { "1" })
 }
 
-/// The outline of a text.
-pub(super) fn outline(alloc: Global, text: &Ws2sText) -> Result<String, AllocError> {
-    let mut out = String::new(alloc);
+fn push_predicate(out: &mut String, predicate: &Predicate) -> Result<(), AllocError> {
+    out.push_str(" (")?;
+    for class in predicate.params.as_slice() {
+        push_class(out, *class == Class::Set)?;
+    }
+    out.push_str(") ")?;
+    push_formula(out, &predicate.body)?;
+    out.push_str(";")
+}
+
+fn push_text(out: &mut String, text: &Ws2sText) -> Result<(), AllocError> {
     for variable in text.free().as_slice() {
-        push_class(&mut out, variable.set)?;
+        push_class(out, variable.set)?;
     }
     out.push_str(";")?;
     for predicate in text.predicates().as_slice() {
-        out.push_str(" (")?;
-        for class in predicate.params.as_slice() {
-            push_class(&mut out, *class == Class::Set)?;
-        }
-        out.push_str(") ")?;
-        push_formula(&mut out, &predicate.body)?;
-        out.push_str(";")?;
+        push_predicate(out, predicate)?;
     }
     for formula in text.formulas().as_slice() {
         out.push_str(" ")?;
-        push_formula(&mut out, formula)?;
+        push_formula(out, formula)?;
         out.push_str(";")?;
     }
+    Ok(())
+}
+
+/// The outline of a text.
+pub(super) fn outline(alloc: Global, text: &Ws2sText) -> Result<String, AllocError> {
+    let mut out = String::new(alloc);
+    push_text(&mut out, text)?;
     Ok(out)
 }
