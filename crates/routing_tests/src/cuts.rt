@@ -97,18 +97,24 @@ fn check_set(
     Ok(())
 }
 
-fn check(rt: &impl Abort, alloc: Global, case: &Case) -> Result<(), Fail> {
-    let types = double_types(alloc)?;
-    let vars = made_vars(alloc, VARS)?;
-    let store = store_of(alloc, &types, &vars, case.lines)?;
-    check_cut(rt, alloc, &types, &vars, &store, case)?;
-    check_set(rt, alloc, &types, &store, case)
+fn check(
+    rt: &impl Abort,
+    alloc: Global,
+    types: &TypeTable,
+    vars: &VarTable,
+    case: &Case,
+) -> Result<(), Fail> {
+    let store = store_of(alloc, types, vars, case.lines)?;
+    check_cut(rt, alloc, types, vars, &store, case)?;
+    check_set(rt, alloc, types, &store, case)
 }
 
 #[test]
 fn cuts_parts_and_sets_of_cells_are_judged(rt: HostRuntime) -> Result<(), Fail> {
+    let types = double_types(rt.alloc())?;
+    let vars = made_vars(rt.alloc(), VARS)?;
     for case in STORES {
-        check(&rt, rt.alloc(), case)?;
+        check(&rt, rt.alloc(), &types, &vars, case)?;
     }
     Ok(())
 }

@@ -2,7 +2,7 @@
 
 use crate::made::{made_types, made_vars};
 use crate::texts_told::VARS;
-use std::alloc::{AllocError, Global};
+use std::alloc::Global;
 use std::test::Fail;
 use store_core::{CellId, FieldId, Store, TypeTable, Value, VarId, VarTable};
 use store_text::read_store;
@@ -46,38 +46,27 @@ fn vars_agree(vars: &VarTable, one: &Store, other: &Store) -> bool {
     true
 }
 
-/// Whether each number below the next one is that of the same cell in both stores.
-fn cells_agree(types: &TypeTable, one: &Store, other: &Store) -> bool {
-    for number in 1..one.next() {
+/// Whether the stores have as many cells, the same next number, and the same cells and variables.
+fn stores_agree(types: &TypeTable, vars: &VarTable, one: &Store, other: &Store) -> bool {
+    for number in 0..one.next() {
         if !cell_agrees(types, one, other, CellId(number)) {
             return false;
         }
     }
-    one.next() == other.next() && one.cells() == other.cells()
+    one.cells() == other.cells() && one.next() == other.next() && vars_agree(vars, one, other)
 }
 
-fn is_copied(
-    alloc: Global,
-    types: &TypeTable,
-    vars: &VarTable,
-    store: &Store,
-) -> Result<bool, AllocError> {
+/// Whether the store of the text, which has three cells, and a copy of it are the same.
+fn copy_agrees(alloc: Global, types: &TypeTable, vars: &VarTable) -> Result<bool, Fail> {
+    let store = read_store(alloc, types, vars, TEXT.as_bytes())?;
     let copy = store.copy(alloc)?;
-    Ok(copy.cells() == 3 && vars_agree(vars, store, &copy) && cells_agree(types, store, &copy))
-}
-
-/// Whether the text is that of a store which is copied as it stands.
-fn text_is_copied(alloc: Global, types: &TypeTable, vars: &VarTable) -> Result<bool, AllocError> {
-    match read_store(alloc, types, vars, TEXT.as_bytes()) {
-        Ok(store) => is_copied(alloc, types, vars, &store),
-        Err(_) => Ok(false),
-    }
+    Ok(store.cells() == 3 && stores_agree(types, vars, &store, &copy))
 }
 
 #[test]
 fn a_copied_store_is_the_same(rt: HostRuntime) -> Result<(), Fail> {
     let types = made_types(rt.alloc())?;
     let vars = made_vars(rt.alloc(), VARS)?;
-    assert!(rt; text_is_copied(rt.alloc(), &types, &vars)?);
+    assert!(rt; copy_agrees(rt.alloc(), &types, &vars)?);
     Ok(())
 }
