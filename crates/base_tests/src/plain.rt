@@ -1,23 +1,36 @@
 //! Each call of a list, a stack and a box once.
 use plain_data::{Boxed, Items, Stack, at};
+use std::alloc::{AllocError, Global};
 use std::test::Fail;
 
-#[test]
-fn a_list_is_changed_at_its_end_and_in_place(rt: HostRuntime) -> Result<(), Fail> {
-    let alloc = rt.alloc();
+/// `[1, 2, 3, 4, 5]`, from a slice, an element and a list.
+fn five(alloc: Global) -> Result<Items<u8>, AllocError> {
     let mut items = Items::from_slice(alloc, &[1, 2])?;
     items.push(3)?;
     items.append(Items::from_vec([4, 5].to_vec(alloc)?))?;
+    Ok(items)
+}
+
+#[test]
+fn a_list_is_made_of_its_parts(rt: HostRuntime) -> Result<(), Fail> {
+    let items = five(rt.alloc())?;
     assert_eq!(rt; items.as_slice(), [1, 2, 3, 4, 5].as_slice());
+    assert_eq!(rt;
+        (items.len(), items.get(4), items.get(5)),
+        (5, Some(&5), None)
+    );
+    assert!(rt; Items::<u8>::new(rt.alloc()).is_empty());
+    Ok(())
+}
+
+#[test]
+fn a_list_is_changed_at_its_end_and_in_place(rt: HostRuntime) -> Result<(), Fail> {
+    let mut items = five(rt.alloc())?;
     assert_eq!(rt; items.pop(), Some(5));
-    assert_eq!(rt; items.len(), 4);
-    assert_eq!(rt; items.get(3), Some(&4));
-    assert_eq!(rt; items.get(4), None);
     items.set(0, 9);
     assert_eq!(rt; items.remove(1), 2);
     assert_eq!(rt; at(items.as_slice(), 0), Some(&9));
     assert_eq!(rt; items.into_vec().as_slice(), [9, 3, 4].as_slice());
-    assert!(rt; Items::<u8>::new(alloc).is_empty());
     Ok(())
 }
 
