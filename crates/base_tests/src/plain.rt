@@ -25,7 +25,7 @@ fn a_list_is_made_of_its_parts(rt: HostRuntime) -> Result<(), Fail> {
 
 #[test]
 fn a_list_is_changed_at_its_end_and_in_place(rt: HostRuntime) -> Result<(), Fail> {
-    let mut items = five(rt.alloc())?;
+    let mut items = Items::from_slice(rt.alloc(), &[1, 2, 3, 4, 5])?;
     assert_eq!(rt; items.pop(), Some(5));
     items.set(0, 9);
     assert_eq!(rt; items.remove(1), 2);
