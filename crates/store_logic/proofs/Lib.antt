@@ -1,0 +1,3 @@
+pub mod PostfixLemmas
+pub mod AssertionLemmas
+pub mod HoldsLemmas
