@@ -1,12 +1,12 @@
 //! Copies of assertions.
 
-ghost use Rattle.std.specs.Prelude.{◌≡◌, ◌++◌, ◌∷◌, [], ◌<◌, length, Some, IfOk, OnOk, IsSome, map, reverse};
+ghost use Rattle.std.specs.Prelude.{◌≡◌, ◌++◌, ◌∷◌, ◌<◌, length, Some, IfOk, OnOk, IsSome, map};
 ghost use Rattle.store_logic.specs.declared.assertion.Assertion.{Assertion, out-Assertion};
 ghost use Rattle.store_logic.specs.Postfix.{form_of, parts_of, postfix_of, applied};
 
 use crate::arg::copy_args;
 use crate::assertion::Assertion;
-use plain_data::Boxed;
+use plain_data::{Boxed, Stack};
 use std::alloc::{AllocError, Global};
 
 impl Assertion {
@@ -15,11 +15,14 @@ impl Assertion {
         ensures { IfOk result (λ copy. copy ≡ self.now) }
     {
         let forms = in_postfix(alloc, self)?;
-        let mut copies = Vec::new(alloc);
+        let mut copies = Stack::new(alloc);
         for form in forms.as_slice() {
-            apply(alloc, &mut copies, *form)?;
+            let copy = copy_form(alloc, &mut copies, *form)?;
+            copies.push(copy)?;
         }
-        let copy = copies.pop().unwrap();
+        let Some(copy) = copies.pop() else {
+            unreachable!()
+        };
         Ok(copy)
     }
 }
@@ -68,55 +71,59 @@ fn push_parts<'a>(
     Ok(())
 }
 
-/// Takes the last copy.
-fn take(alloc: Global, copies: &mut Vec<Assertion>) -> Result<Boxed<Assertion>, AllocError>
-    requires { 0 < length copies.old.items }
-    ensures { IfOk result (λ part. copies.old.items ≡ copies.new.items ++ part ∷ []) }
+/// Takes the copy that was made last.
+fn take(alloc: Global, copies: &mut Stack<Assertion>) -> Result<Boxed<Assertion>, AllocError>
+    requires { 0 < length copies.old }
+    ensures { IfOk result (λ part. copies.old ≡ part ∷ copies.new) }
 {
-    Boxed::new(alloc, copies.pop().unwrap())
+    let Some(part) = copies.pop() else {
+        unreachable!()
+    };
+    Boxed::new(alloc, part)
 }
 
-/// Puts the assertion of this form, with the last copies as its parts, in their place.
-fn apply(
+/// The assertion of this form, with the last copies, which it takes, as its parts.
+fn copy_form(
     alloc: Global,
-    copies: &mut Vec<Assertion>,
+    copies: &mut Stack<Assertion>,
     form: &Assertion,
-) -> Result<(), AllocError>
-    requires { IsSome (applied (form_of form.now) (reverse copies.old.items)) }
-    ensures { OnOk result (applied (form_of form.now) (reverse copies.old.items) ≡ Some (reverse copies.new.items)) }
+) -> Result<Assertion, AllocError>
+    requires { IsSome (applied (form_of form.now) copies.old) }
+    ensures { IfOk result (λ copy. applied (form_of form.now) copies.old ≡ Some (copy ∷ copies.new)) }
 {
-    let copy = match form {
-        Assertion::True => Assertion::True,
-        Assertion::False => Assertion::False,
-        Assertion::Truth(t) => Assertion::Truth(t.copy(alloc)?),
-        Assertion::Is(t, v) => Assertion::Is(t.copy(alloc)?, *v),
-        Assertion::Same(t, u) => Assertion::Same(t.copy(alloc)?, u.copy(alloc)?),
-        Assertion::Member(t, set) => Assertion::Member(t.copy(alloc)?, *set),
-        Assertion::Subset(set, other) => Assertion::Subset(*set, *other),
-        Assertion::Walk(t, route, u) => Assertion::Walk(t.copy(alloc)?, route.copy(alloc)?, u.copy(alloc)?),
-        Assertion::Pred(k, args) => Assertion::Pred(*k, copy_args(alloc, args.as_slice())?),
-        Assertion::Not(_) => Assertion::Not(take(alloc, copies)?),
+    match form {
+        Assertion::True => Ok(Assertion::True),
+        Assertion::False => Ok(Assertion::False),
+        Assertion::Truth(t) => Ok(Assertion::Truth(t.copy(alloc)?)),
+        Assertion::Is(t, v) => Ok(Assertion::Is(t.copy(alloc)?, *v)),
+        Assertion::Same(t, u) => Ok(Assertion::Same(t.copy(alloc)?, u.copy(alloc)?)),
+        Assertion::Member(t, set) => Ok(Assertion::Member(t.copy(alloc)?, *set)),
+        Assertion::Subset(set, other) => Ok(Assertion::Subset(*set, *other)),
+        Assertion::Walk(t, route, u) => {
+            let from = t.copy(alloc)?;
+            Ok(Assertion::Walk(from, route.copy(alloc)?, u.copy(alloc)?))
+        }
+        Assertion::Pred(k, args) => Ok(Assertion::Pred(*k, copy_args(alloc, args.as_slice())?)),
+        Assertion::Not(_) => Ok(Assertion::Not(take(alloc, copies)?)),
         Assertion::And(_, _) => {
             let right = take(alloc, copies)?;
-            Assertion::And(take(alloc, copies)?, right)
+            Ok(Assertion::And(take(alloc, copies)?, right))
         }
         Assertion::Or(_, _) => {
             let right = take(alloc, copies)?;
-            Assertion::Or(take(alloc, copies)?, right)
+            Ok(Assertion::Or(take(alloc, copies)?, right))
         }
         Assertion::Imp(_, _) => {
             let right = take(alloc, copies)?;
-            Assertion::Imp(take(alloc, copies)?, right)
+            Ok(Assertion::Imp(take(alloc, copies)?, right))
         }
         Assertion::Iff(_, _) => {
             let right = take(alloc, copies)?;
-            Assertion::Iff(take(alloc, copies)?, right)
+            Ok(Assertion::Iff(take(alloc, copies)?, right))
         }
-        Assertion::Ex(ty, _) => Assertion::Ex(*ty, take(alloc, copies)?),
-        Assertion::All(ty, _) => Assertion::All(*ty, take(alloc, copies)?),
-        Assertion::ExSet(ty, _) => Assertion::ExSet(*ty, take(alloc, copies)?),
-        Assertion::AllSet(ty, _) => Assertion::AllSet(*ty, take(alloc, copies)?),
-    };
-    copies.push(copy)?;
-    Ok(())
+        Assertion::Ex(ty, _) => Ok(Assertion::Ex(*ty, take(alloc, copies)?)),
+        Assertion::All(ty, _) => Ok(Assertion::All(*ty, take(alloc, copies)?)),
+        Assertion::ExSet(ty, _) => Ok(Assertion::ExSet(*ty, take(alloc, copies)?)),
+        Assertion::AllSet(ty, _) => Ok(Assertion::AllSet(*ty, take(alloc, copies)?)),
+    }
 }
