@@ -1,3 +1,5 @@
 pub mod PostfixLemmas
 pub mod AssertionLemmas
 pub mod HoldsLemmas
+pub mod SameLemmas
+pub mod NextLemmas
