@@ -33,7 +33,8 @@ with_next s n = record s { next = n }
 IsSetOf-next : (s : StoreMap) (n : ℕ) (ty : TypeId) (cells : List CellId) → IsSetOf (with_next s n) ty cells ↔ IsSetOf s ty cells
 IsSetOf-next s n ty cells = (λ h. record { rising = h.rising; members = h.members }, λ h. record { rising = h.rising; members = h.members })
 
-module _ (types : List TypeEntry) (s : StoreMap) (n : ℕ) (said says : ℕ → List Value → Type 0) (alike : (k : ℕ) (args : List Value) → said k args ↔ says k args) where
+module _ (types : List TypeEntry) (s : StoreMap) (n : ℕ) (said says : ℕ → List Value → Type 0)
+    (alike : (k : ℕ) (args : List Value) → said k args ↔ says k args) where
   abbrev IsNext : Assertion → Type 0
   IsNext a = (e : Environment) → Holds types (with_next s n) said a e ↔ Holds types s says a e
 
@@ -93,7 +94,8 @@ module _ (types : List TypeEntry) (vars : List VarEntry) where
       let leads = step.leads in
       go a b c (record { field = step.field; leads = record { kind = leads.kind; value = leads.value; live = leads.live } }) (path-next s n rest)
 
-  reached-next : (s : StoreMap) (n : ℕ) (roots : List VarId) (c : CellId) → IsReachedFrom types vars s roots c → IsReachedFrom types vars (with_next s n) roots c
+  reached-next : (s : StoreMap) (n : ℕ) (roots : List VarId) (c : CellId) →
+      IsReachedFrom types vars s roots c → IsReachedFrom types vars (with_next s n) roots c
   reached-next s n roots c h =
       let tree = h.in_tree in
       record {
@@ -107,10 +109,12 @@ module _ (types : List TypeEntry) (vars : List VarEntry) where
       }
 
   -- the store with the next number that it had is the store
-  reached-both : (s : StoreMap) (n : ℕ) (roots : List VarId) (c : CellId) → IsReachedFrom types vars (with_next s n) roots c ↔ IsReachedFrom types vars s roots c
+  reached-both : (s : StoreMap) (n : ℕ) (roots : List VarId) (c : CellId) →
+      IsReachedFrom types vars (with_next s n) roots c ↔ IsReachedFrom types vars s roots c
   reached-both s n roots c = (reached-next (with_next s n) s.next roots c, reached-next s n roots c)
 
-  unreached-both : (s : StoreMap) (n : ℕ) (roots : List VarId) (c : CellId) → IsUnreached types vars (with_next s n) roots c ↔ IsUnreached types vars s roots c
+  unreached-both : (s : StoreMap) (n : ℕ) (roots : List VarId) (c : CellId) →
+      IsUnreached types vars (with_next s n) roots c ↔ IsUnreached types vars s roots c
   unreached-both s n roots c = (
     λ h. record { live = h.live; unreached = λ r. h.unreached ((reached-both s n roots c).1 r) },
     λ h. record { live = h.live; unreached = λ r. h.unreached ((reached-both s n roots c).0 r) },

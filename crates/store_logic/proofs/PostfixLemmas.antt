@@ -1,5 +1,6 @@
 -- On assertions in postfix order.
-use Rattle.std.proofs.Common.{◌≡◌, ℕ, ◌+◌, ◌<◌, List, [], ◌∷◌, ◌++◌, length, map, drop, get_or, IsSome, Option, Some, None, option_and_then, drop-cons, add-one, rules, suc, sym, ap, ◌∙◌, subst, append_assoc, append-nil}
+use Rattle.std.proofs.Common.{◌≡◌, ℕ, ◌+◌, ◌<◌, List, [], ◌∷◌, ◌++◌, length, map, drop, get_or, IsSome, Option, Some, None}
+use Rattle.std.proofs.Common.{option_and_then, drop-cons, add-one, rules, suc, sym, ap, ◌∙◌, subst, append_assoc, append-nil}
 use Rattle.std.proofs.Common.{reverse, refl}
 use Rattle.std.proofs.lemmas.List.{reverse-append, map_push}
 use Rattle.store_logic.specs.declared.assertion.Assertion.{Assertion, roll-Assertion}

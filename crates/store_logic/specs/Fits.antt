@@ -1,5 +1,5 @@
--- When assertions and regions fit their tables: what they name is there, of the sort that its place needs.
-use Rattle.std.specs.Prelude.{◌≡◌, ℕ, Bool, List, [], ◌∷◌, Some, IsSomeAnd}
+-- When assertions, predicates and regions fit their tables: what they name is there, and of the sort that its place needs.
+use Rattle.std.specs.Prelude.{◌≡◌, ℕ, List, [], ◌∷◌, length, reverse, slice_get, IsSomeAnd}
 use Rattle.std.specs.List.{AllByRecursion}
 use Rattle.store_core.specs.declared.ids.TypeId.{TypeId}
 use Rattle.store_core.specs.declared.ids.FieldId.{FieldId}
@@ -10,7 +10,7 @@ use Rattle.store_core.specs.declared.kind.FieldKind.TheVariants as field
 use Rattle.store_core.specs.declared.kind.Route.{Route}
 use Rattle.store_core.specs.declared.kind.Route.TheOpen.{Route-F}
 use Rattle.store_core.specs.declared.kind.Route.TheFolds.{rec-Route}
-use Rattle.store_core.specs.Tables.{TypeEntry, VarEntry, KnowsType, KnowsVariant, field_at, var_at}
+use Rattle.store_core.specs.Tables.{TypeEntry, VarEntry, KnowsType, KnowsVariant, KnowsVarKind, field_at, var_at}
 use Rattle.routing_expr.specs.Walks.{DataAndPointers, IsFollowed, IsNamed}
 use Rattle.routing_expr.specs.WellFormed.{IsDataVar}
 use Rattle.store_logic.specs.declared.term.Base.{Base}
@@ -18,14 +18,18 @@ use Rattle.store_logic.specs.declared.term.Term.{Term}
 use Rattle.store_logic.specs.declared.assertion.Assertion.{Assertion}
 use Rattle.store_logic.specs.declared.assertion.Assertion.TheOpen.{Assertion-F}
 use Rattle.store_logic.specs.declared.assertion.Assertion.TheFolds.{rec-Assertion}
+use Rattle.store_logic.specs.declared.pred.PredDef.{PredDef}
 use Rattle.store_logic.specs.declared.region.Region.{Region}
 use Rattle.store_logic.specs.declared.region.Region.TheVariants as region
-use Rattle.store_logic.specs.Sorts as sorts
-use Rattle.store_logic.specs.Sorts.{Sort, base_sort, IsOfSort}
+use Rattle.store_logic.specs.Sorts.{Sort, Truth, Cell, Set, Scope, scope_of, under, BaseFits, TermFits, ArgsFit}
+
+-- the kinds of the variables name types of the table
+abbrev pub KnowsVars : List TypeEntry → List VarEntry → Type 0
+KnowsVars types vars = AllByRecursion (λ entry. KnowsVarKind types entry.kind) vars
 
 -- ---- routes of assertions
 
--- some type has a field of this name and of a kind that this is so of
+-- some type has a field of this name, of a kind that this is so of
 pub record HasFieldNamed (types : List TypeEntry) (IsSo : FieldKind → Type 0) (name : List ℕ) : Type 0 where
   pub field : FieldId
   pub named : IsNamed types field name
@@ -50,81 +54,85 @@ RouteFitsNode types Part whole fits (Route-F.Then first second) = fits first × 
 RouteFitsNode types Part whole fits (Route-F.Or one other) = fits one × fits other
 RouteFitsNode types Part whole fits (Route-F.Star round) = fits round
 
--- the route of an assertion names data and pointer fields, bool fields, types and variants of the table
+-- the route of an assertion names data and pointer fields, bool fields, types and variants that are there
 abbrev pub RouteFits : List TypeEntry → Route → Type 0
 RouteFits types = rec-Route (Type 0) (RouteFitsNode types)
 
--- ---- forms of assertions
+-- ---- assertions without parts
 
--- the name is one of a set of cells of the type
-abbrev pub IsSetName : List VarEntry → List Sort → Base → TypeId → Type 0
-IsSetName vars scope name ty = base_sort vars scope name ≡ Some (sorts.Set ty)
-
--- the term is null or a cell, of some type
-pub record IsCellTerm (types : List TypeEntry) (vars : List VarEntry) (scope : List Sort) (t : Term) : Type 0 where
-  pub ty : TypeId
-  pub term : IsOfSort types vars scope t (sorts.Cell ty)
+-- the term is null or a cell of the type of the variant, which is there
+pub record VariantTestFits (types : List TypeEntry) (scope : Scope) (t : Term) (v : VariantId) : Type 0 where
+  pub variant : KnowsVariant types v
+  pub term : TermFits types scope t (Cell v.ty)
 
 -- the terms are null or cells of one type
-pub record AreComparable (types : List TypeEntry) (vars : List VarEntry) (scope : List Sort) (t u : Term) : Type 0 where
+pub record SameTestFits (types : List TypeEntry) (scope : Scope) (t u : Term) : Type 0 where
   pub ty : TypeId
-  pub left : IsOfSort types vars scope t (sorts.Cell ty)
-  pub right : IsOfSort types vars scope u (sorts.Cell ty)
-
--- the term is null or a cell of a variant that is there, or of another variant of its type
-pub record IsVariantTest (types : List TypeEntry) (vars : List VarEntry) (scope : List Sort) (t : Term) (v : VariantId) : Type 0 where
-  pub variant : KnowsVariant types v
-  pub term : IsOfSort types vars scope t (sorts.Cell v.ty)
+  pub left : TermFits types scope t (Cell ty)
+  pub right : TermFits types scope u (Cell ty)
 
 -- the term is null or a cell of the type of the set
-pub record IsMemberTest (types : List TypeEntry) (vars : List VarEntry) (scope : List Sort) (t : Term) (set : Base) : Type 0 where
+pub record MemberTestFits (types : List TypeEntry) (scope : Scope) (t : Term) (set : Base) : Type 0 where
   pub ty : TypeId
-  pub member : IsOfSort types vars scope t (sorts.Cell ty)
-  pub of_type : IsSetName vars scope set ty
+  pub member : TermFits types scope t (Cell ty)
+  pub of_set : BaseFits scope set (Set ty)
 
 -- the sets are of one type
-pub record IsSubsetTest (vars : List VarEntry) (scope : List Sort) (set other : Base) : Type 0 where
+pub record SubsetTestFits (scope : Scope) (set other : Base) : Type 0 where
   pub ty : TypeId
-  pub left : IsSetName vars scope set ty
-  pub right : IsSetName vars scope other ty
+  pub left : BaseFits scope set (Set ty)
+  pub right : BaseFits scope other (Set ty)
 
--- the terms are null or cells, and the route fits
-pub record IsWalkTest (types : List TypeEntry) (vars : List VarEntry) (scope : List Sort) (t : Term) (along : Route) (u : Term) : Type 0 where
-  pub left : IsCellTerm types vars scope t
+-- the terms are null or cells, of whatever types, and the route fits
+pub record WalkTestFits (types : List TypeEntry) (scope : Scope) (t : Term) (along : Route) (u : Term) : Type 0 where
+  pub from_type : TypeId
+  pub from : TermFits types scope t (Cell from_type)
   pub route : RouteFits types along
-  pub right : IsCellTerm types vars scope u
+  pub to_type : TypeId
+  pub to : TermFits types scope u (Cell to_type)
 
 -- ---- assertions
 
--- one form fits under quantifiers of these sorts, the nearest first, where its parts do
-abbrev pub AssertionFitsNode : List TypeEntry → List VarEntry → (Part : Type 0) → (Part → Assertion) → (Part → List Sort → Type 0) →
-    Assertion-F Part → List Sort → Type 0
-AssertionFitsNode types vars Part whole fits Assertion-F.True scope = Unit {0}
-AssertionFitsNode types vars Part whole fits Assertion-F.False scope = Unit {0}
-AssertionFitsNode types vars Part whole fits (Assertion-F.Truth t) scope = IsOfSort types vars scope t sorts.Truth
-AssertionFitsNode types vars Part whole fits (Assertion-F.Is t v) scope = IsVariantTest types vars scope t v
-AssertionFitsNode types vars Part whole fits (Assertion-F.Same t u) scope = AreComparable types vars scope t u
-AssertionFitsNode types vars Part whole fits (Assertion-F.Member t set) scope = IsMemberTest types vars scope t set
-AssertionFitsNode types vars Part whole fits (Assertion-F.Subset set other) scope = IsSubsetTest vars scope set other
-AssertionFitsNode types vars Part whole fits (Assertion-F.Walk t along u) scope = IsWalkTest types vars scope t along u
-AssertionFitsNode types vars Part whole fits (Assertion-F.Pred k args) scope = ⊥
-AssertionFitsNode types vars Part whole fits (Assertion-F.Not a) scope = fits a scope
-AssertionFitsNode types vars Part whole fits (Assertion-F.And a b) scope = fits a scope × fits b scope
-AssertionFitsNode types vars Part whole fits (Assertion-F.Or a b) scope = fits a scope × fits b scope
-AssertionFitsNode types vars Part whole fits (Assertion-F.Imp a b) scope = fits a scope × fits b scope
-AssertionFitsNode types vars Part whole fits (Assertion-F.Iff a b) scope = fits a scope × fits b scope
-AssertionFitsNode types vars Part whole fits (Assertion-F.Ex ty a) scope = KnowsType types ty × fits a (sorts.Cell ty ∷ scope)
-AssertionFitsNode types vars Part whole fits (Assertion-F.All ty a) scope = KnowsType types ty × fits a (sorts.Cell ty ∷ scope)
-AssertionFitsNode types vars Part whole fits (Assertion-F.ExSet ty a) scope = KnowsType types ty × fits a (sorts.Set ty ∷ scope)
-AssertionFitsNode types vars Part whole fits (Assertion-F.AllSet ty a) scope = KnowsType types ty × fits a (sorts.Set ty ∷ scope)
+-- one form fits where its parts do; what a quantifier governs has one bound name more
+abbrev pub AssertionFitsNode : List TypeEntry →
+    (Part : Type 0) → (Part → Assertion) → (Part → Scope → Type 0) → Assertion-F Part → Scope → Type 0
+AssertionFitsNode types Part whole fits Assertion-F.True scope = Unit {0}
+AssertionFitsNode types Part whole fits Assertion-F.False scope = Unit {0}
+AssertionFitsNode types Part whole fits (Assertion-F.Truth t) scope = TermFits types scope t Truth
+AssertionFitsNode types Part whole fits (Assertion-F.Is t v) scope = VariantTestFits types scope t v
+AssertionFitsNode types Part whole fits (Assertion-F.Same t u) scope = SameTestFits types scope t u
+AssertionFitsNode types Part whole fits (Assertion-F.Member t set) scope = MemberTestFits types scope t set
+AssertionFitsNode types Part whole fits (Assertion-F.Subset set other) scope = SubsetTestFits scope set other
+AssertionFitsNode types Part whole fits (Assertion-F.Walk t along u) scope = WalkTestFits types scope t along u
+AssertionFitsNode types Part whole fits (Assertion-F.Pred k args) scope = IsSomeAnd (slice_get scope.preds k) (ArgsFit types scope args)
+AssertionFitsNode types Part whole fits (Assertion-F.Not a) scope = fits a scope
+AssertionFitsNode types Part whole fits (Assertion-F.And a b) scope = fits a scope × fits b scope
+AssertionFitsNode types Part whole fits (Assertion-F.Or a b) scope = fits a scope × fits b scope
+AssertionFitsNode types Part whole fits (Assertion-F.Imp a b) scope = fits a scope × fits b scope
+AssertionFitsNode types Part whole fits (Assertion-F.Iff a b) scope = fits a scope × fits b scope
+AssertionFitsNode types Part whole fits (Assertion-F.Ex ty a) scope = KnowsType types ty × fits a (under (Cell ty) scope)
+AssertionFitsNode types Part whole fits (Assertion-F.All ty a) scope = KnowsType types ty × fits a (under (Cell ty) scope)
+AssertionFitsNode types Part whole fits (Assertion-F.ExSet ty a) scope = KnowsType types ty × fits a (under (Set ty) scope)
+AssertionFitsNode types Part whole fits (Assertion-F.AllSet ty a) scope = KnowsType types ty × fits a (under (Set ty) scope)
 
--- the same of the whole; it has no predicate and no parameter
-abbrev pub FitsUnder : List TypeEntry → List VarEntry → Assertion → List Sort → Type 0
-FitsUnder types vars = rec-Assertion (List Sort → Type 0) (AssertionFitsNode types vars)
+-- the assertion fits where this can be named
+abbrev pub FitsIn : List TypeEntry → Assertion → Scope → Type 0
+FitsIn types = rec-Assertion (Scope → Type 0) (AssertionFitsNode types)
 
--- the assertion fits, outside of all quantifiers
+-- the assertion fits the tables: it has no predicate and no parameter, and each bound name is one of a quantifier around it
 abbrev pub AssertionFits : List TypeEntry → List VarEntry → Assertion → Type 0
-AssertionFits types vars a = FitsUnder types vars a []
+AssertionFits types vars a = FitsIn types a (scope_of vars)
+
+-- ---- predicates
+
+-- the predicates of a list, the last of them first, have parameters of these sorts, and each body fits: it names its parameters
+-- and the predicates before it, and no variable
+abbrev pub PredsFit : List TypeEntry → List PredDef → List (List Sort) → Type 0
+PredsFit types [] [] = Unit {0}
+PredsFit types [] (own ∷ before) = ⊥
+PredsFit types (p ∷ earlier) [] = ⊥
+PredsFit types (p ∷ earlier) (own ∷ before) =
+    (length own ≡ p.params) × FitsIn types p.body (record { vars = []; bound = []; params = own; preds = reverse before }) × PredsFit types earlier before
 
 -- ---- regions
 

@@ -43,12 +43,12 @@ OperandFits types vars operand.Null sort = IsCellSort sort
 OperandFits types vars (operand.Path p) sort = PathFits types vars p sort
 
 -- the path names a cell of the type of the variant, which is there
-pub record IsVariantCond (types : List TypeEntry) (vars : List VarEntry) (p : Path) (v : VariantId) : Type 0 where
+pub record VariantCondFits (types : List TypeEntry) (vars : List VarEntry) (p : Path) (v : VariantId) : Type 0 where
   pub variant : KnowsVariant types v
   pub path : PathFits types vars p (Cell v.ty)
 
 -- the operands are null or cells of one type
-pub record AreComparable (types : List TypeEntry) (vars : List VarEntry) (p q : Operand) : Type 0 where
+pub record SameCondFits (types : List TypeEntry) (vars : List VarEntry) (p q : Operand) : Type 0 where
   pub ty : TypeId
   pub left : OperandFits types vars p (Cell ty)
   pub right : OperandFits types vars q (Cell ty)
@@ -58,8 +58,8 @@ abbrev pub CondFitsNode : List TypeEntry → List VarEntry → (Part : Type 0) �
 CondFitsNode types vars Part whole fits Cond-F.True = Unit {0}
 CondFitsNode types vars Part whole fits Cond-F.False = Unit {0}
 CondFitsNode types vars Part whole fits (Cond-F.Bool p) = PathFits types vars p Truth
-CondFitsNode types vars Part whole fits (Cond-F.Is p v) = IsVariantCond types vars p v
-CondFitsNode types vars Part whole fits (Cond-F.Same p q) = AreComparable types vars p q
+CondFitsNode types vars Part whole fits (Cond-F.Is p v) = VariantCondFits types vars p v
+CondFitsNode types vars Part whole fits (Cond-F.Same p q) = SameCondFits types vars p q
 CondFitsNode types vars Part whole fits (Cond-F.Not c) = fits c
 CondFitsNode types vars Part whole fits (Cond-F.And c d) = fits c × fits d
 CondFitsNode types vars Part whole fits (Cond-F.Or c d) = fits c × fits d

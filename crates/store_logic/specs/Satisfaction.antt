@@ -1,6 +1,7 @@
 -- When a store satisfies an assertion, on all its cells and on a region. (Møller and Schwartzbach, PLDI 2001, "pointer assertion
 -- logic"; monadic second-order logic over the cells of a store.)
-use Rattle.std.specs.Prelude.{◌≡◌, ◌↔◌, ◌⊎◌, ◌==◌, ℕ, IsTrue, IsSomeAnd, List, [], ◌∷◌, map, length, reverse, Some, Contains, MatchBool}
+use Rattle.std.specs.Prelude.{◌≡◌, ◌↔◌, ◌⊎◌, ◌==◌, ℕ, IsTrue, IsSomeAnd, List, [], ◌∷◌, map, length, reverse, Some, Contains}
+use Rattle.std.specs.Prelude.{MatchBool}
 use Rattle.std.specs.List.{AllByRecursion}
 use Rattle.store_core.specs.declared.ids.TypeId.{TypeId}
 use Rattle.store_core.specs.declared.ids.CellId.{CellId}
