@@ -3,3 +3,4 @@ pub mod AssertionLemmas
 pub mod HoldsLemmas
 pub mod SameLemmas
 pub mod NextLemmas
+pub mod RegionLemmas

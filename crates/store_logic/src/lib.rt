@@ -19,7 +19,7 @@ pub use act::{Act, Rhs};
 pub use arg::{Arg, ArgList};
 pub use assertion::Assertion;
 pub use cond::Cond;
-pub use laws::satisfaction_ignores_the_next_number;
+pub use laws::{regions_are_stores_of_their_cells, satisfaction_ignores_the_next_number};
 pub use path::{Operand, Path};
 pub use pred::{PredDef, Preds};
 pub use region::{Region, VarList};
