@@ -1,4 +1,5 @@
 pub mod PostfixLemmas
+pub mod PostfixCondsLemmas
 pub mod AssertionLemmas
 pub mod HoldsLemmas
 pub mod SameLemmas

@@ -1,6 +1,7 @@
 pub mod Dropping
 pub mod Postfix
 pub mod DroppingConds
+pub mod PostfixConds
 pub mod Terms
 pub mod Regions
 pub mod Satisfaction

@@ -9,6 +9,7 @@ mod arg;
 mod assertion;
 mod assertion_copy;
 mod cond;
+mod cond_copy;
 mod laws;
 mod path;
 mod pred;

@@ -1,6 +1,9 @@
 //! Regions of a store.
 
+ghost use Rattle.std.specs.Prelude.{◌≡◌, IfOk};
+
 use plain_data::Items;
+use std::alloc::{AllocError, Global};
 use store_core::VarId;
 
 /// Variables, in order.
@@ -15,4 +18,17 @@ pub enum Region {
     Part(VarList),
     /// All other live cells.
     Rest(VarList),
+}
+
+impl Region {
+    /// An equal region, in memory of its own.
+    pub fn copy(&self, alloc: Global) -> Result<Region, AllocError>
+        ensures { IfOk result (λ copy. copy ≡ self.now) }
+    {
+        match self {
+            Region::All => Ok(Region::All),
+            Region::Part(vars) => Ok(Region::Part(VarList::from_slice(alloc, vars.as_slice())?)),
+            Region::Rest(vars) => Ok(Region::Rest(VarList::from_slice(alloc, vars.as_slice())?)),
+        }
+    }
 }
