@@ -1,14 +1,12 @@
 -- Satisfaction doesn't look at the next number of a store.
-use Rattle.std.proofs.Common.{◌↔◌, ◌==◌, ℕ, List, [], ◌∷◌, length, reverse, Contains, refl}
+use Rattle.std.proofs.Common.{◌↔◌, ◌==◌, ℕ, List, [], ◌∷◌, length, reverse, refl}
 use Rattle.store_core.specs.declared.ids.TypeId.{TypeId}
 use Rattle.store_core.specs.declared.ids.VarId.{VarId}
 use Rattle.store_core.specs.declared.ids.CellId.{CellId}
 use Rattle.store_core.specs.declared.value.Value.{Value}
-use Rattle.store_core.specs.declared.value.Value.TheVariants as value
 use Rattle.store_core.specs.Tables.{TypeEntry, VarEntry}
 use Rattle.store_core.specs.Stores.{StoreMap}
-use Rattle.routing_expr.specs.Walks.{DataAndPointers, IsParent, Walk, Chain, stay, go}
-use Rattle.routing_expr.specs.WellFormed.{IsInTree}
+use Rattle.routing_expr.specs.Walks.{DataAndPointers, IsParent, Chain, stay, go}
 use Rattle.routing_expr.specs.Searches.{Lists}
 use Rattle.routing_expr.specs.Regions.{store_on, IsReachedFrom}
 use Rattle.routing_expr.specs.Reaching.{IsUnreached}
@@ -18,9 +16,8 @@ use Rattle.store_logic.specs.declared.pred.PredDef.{PredDef}
 use Rattle.store_logic.specs.declared.region.Region.{Region}
 use Rattle.store_logic.specs.declared.region.Region.TheVariants as region
 use Rattle.store_logic.specs.Terms.{Environment, under, given, cell_at}
-use Rattle.store_logic.specs.Regions.{IsRegion}
 use Rattle.store_logic.specs.Satisfaction.{IsSetOf, Holds, Says, SatAll, Sat}
-use Rattle.store_logic.proofs.AssertionLemmas.{IsHereditary, assertion-induction}
+use Rattle.store_logic.proofs.AssertionLemmas.{assertion-induction}
 use Rattle.store_logic.proofs.HoldsLemmas.{Holds-True, Holds-False, Holds-Truth, Holds-Is, Holds-Same, Holds-Member, Holds-Subset, Holds-Walk}
 use Rattle.store_logic.proofs.HoldsLemmas.{Holds-Pred, Holds-Not, Holds-And, Holds-Or, Holds-Imp, Holds-Iff, Holds-Ex, Holds-All, Holds-ExSet}
 use Rattle.store_logic.proofs.HoldsLemmas.{Holds-AllSet}

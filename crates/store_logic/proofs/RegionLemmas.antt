@@ -1,12 +1,13 @@
 -- Satisfaction on a region and on the store of its cells.
-use Rattle.std.proofs.Common.{◌≡◌, ◌↔◌, ◌⊎◌, inl, inr, ℕ, Bool, true, false, List, Option, Some, None, IsSome, IsSomeAnd, refl, sym, ap, ◌∙◌, subst, Contains}
+use Rattle.std.proofs.Common.{◌≡◌, ◌↔◌, inl, inr, List, Option, Some}
+use Rattle.std.proofs.Common.{None, IsSome, refl, sym, ◌∙◌, subst, Contains}
 use Rattle.std.specs.Cmp.{nat_cmp_total}
 use Rattle.std.specs.FinMap.{same_map, nat_cmp-IsAntisymmetric}
 use Rattle.store_core.specs.declared.ids.CellId.{CellId}
 use Rattle.store_core.specs.Tables.{TypeEntry, VarEntry}
 use Rattle.store_core.specs.Stores.{StoreMap, CellEntry, IsLive, cell_of}
 use Rattle.routing_expr.specs.Searches.{Lists}
-use Rattle.routing_expr.specs.Regions.{store_on, IsOn}
+use Rattle.routing_expr.specs.Regions.{store_on}
 use Rattle.routing_laws.proofs.DecidedLemmas.{decided_in}
 use Rattle.routing_laws.proofs.DecidedWalks.{decided_same_cell}
 use Rattle.routing_laws.proofs.RegionLemmas.{store_on-IsOn}

@@ -3,7 +3,6 @@ use Rattle.std.specs.Prelude.{◌≡◌, List, Option, Some, None, IsSomeAnd}
 use Rattle.std.specs.Option.{option_and_then}
 use Rattle.store_core.specs.declared.ids.TypeId.{TypeId}
 use Rattle.store_core.specs.declared.ids.VariantId.{VariantId}
-use Rattle.store_core.specs.declared.ids.VarId.{VarId}
 use Rattle.store_core.specs.declared.kind.VarKind.{VarKind}
 use Rattle.store_core.specs.declared.kind.VarKind.TheVariants as var
 use Rattle.store_core.specs.Tables.{TypeEntry, VarEntry, KnowsVariant, var_at}

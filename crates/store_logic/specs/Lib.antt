@@ -5,6 +5,7 @@ pub mod PostfixConds
 pub mod Terms
 pub mod Regions
 pub mod Satisfaction
+pub mod Laws
 pub mod Sizes
 pub mod Filling
 pub mod Expansion

@@ -1,7 +1,6 @@
 -- What the terms of an assertion stand for. (Møller and Schwartzbach, PLDI 2001, "pointer assertion logic"; the rules on null
 -- are this project's.)
-use Rattle.std.specs.Prelude.{Bool, false, List, [], ◌∷◌, map, slice_get, unwrap_or, Option, Some, None, is_some, if◌then◌else◌}
-use Rattle.std.specs.Option.{option_and_then}
+use Rattle.std.specs.Prelude.{Bool, false, List, [], ◌∷◌, slice_get, unwrap_or, Option, Some, None, is_some, if◌then◌else◌}
 use Rattle.store_core.specs.declared.ids.FieldId.{FieldId}
 use Rattle.store_core.specs.declared.ids.CellId.{CellId}
 use Rattle.store_core.specs.declared.value.Value.{Value}

@@ -104,7 +104,8 @@ impl Drop for Assertion {
                 | Assertion::All(_, inner)
                 | Assertion::ExSet(_, inner)
                 | Assertion::AllSet(_, inner) => self = inner.into_inner(),
-                Assertion::Truth(_term) | Assertion::Is(_term, _) | Assertion::Member(_term, _) => return,
+                Assertion::Truth(_term) | Assertion::Is(_term, _) | Assertion::Member(_term, _) =>
+                    return,
                 Assertion::Same(_one, _other) => return,
                 Assertion::Walk(_from, _route, _to) => return,
                 Assertion::Pred(_, _args) => return,

@@ -28,10 +28,7 @@ impl Assertion {
 }
 
 /// The assertion and its parts, each after its own parts.
-fn in_postfix<'a>(
-    alloc: Global,
-    assertion: &'a Assertion,
-) -> Result<Vec<&'a Assertion>, AllocError>
+fn in_postfix<'a>(alloc: Global, assertion: &'a Assertion) -> Result<Vec<&'a Assertion>, AllocError>
     ensures { IfOk result (λ forms. map (λ form. form_of form.now) forms.items ≡ postfix_of assertion.now) }
 {
     let mut pending = Vec::new(alloc);

@@ -27,10 +27,7 @@ impl Cond {
 }
 
 /// The condition and its parts, each after its own parts.
-fn in_postfix<'a>(
-    alloc: Global,
-    cond: &'a Cond,
-) -> Result<Vec<&'a Cond>, AllocError>
+fn in_postfix<'a>(alloc: Global, cond: &'a Cond) -> Result<Vec<&'a Cond>, AllocError>
     ensures { IfOk result (λ forms. map (λ form. form_of form.now) forms.items ≡ postfix_of cond.now) }
 {
     let mut pending = Vec::new(alloc);
@@ -45,10 +42,7 @@ fn in_postfix<'a>(
 }
 
 /// Puts the parts of a condition at the end of those that are still to be gone through.
-fn push_parts<'a>(
-    pending: &mut Vec<&'a Cond>,
-    cond: &'a Cond,
-) -> Result<(), AllocError>
+fn push_parts<'a>(pending: &mut Vec<&'a Cond>, cond: &'a Cond) -> Result<(), AllocError>
     ensures { OnOk result (map (λ part. part.now) pending.new.items
         ≡ map (λ part. part.now) pending.old.items ++ parts_of Cond (out-Cond cond.now)) }
 {
@@ -75,11 +69,7 @@ fn take(alloc: Global, copies: &mut Stack<Cond>) -> Result<Boxed<Cond>, AllocErr
 }
 
 /// The condition of this form, with the last copies, which it takes, as its parts.
-fn copy_form(
-    alloc: Global,
-    copies: &mut Stack<Cond>,
-    form: &Cond,
-) -> Result<Cond, AllocError>
+fn copy_form(alloc: Global, copies: &mut Stack<Cond>, form: &Cond) -> Result<Cond, AllocError>
     requires { IsSome (applied (form_of form.now) copies.old) }
     ensures { IfOk result (λ copy. applied (form_of form.now) copies.old ≡ Some (copy ∷ copies.new)) }
 {

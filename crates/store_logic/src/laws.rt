@@ -12,6 +12,12 @@ ghost use Rattle.store_logic.specs.declared.region.Region.TheVariants as region;
 ghost use Rattle.store_logic.specs.Terms.{Environment};
 ghost use Rattle.store_logic.specs.Regions.{IsRegion};
 ghost use Rattle.store_logic.specs.Satisfaction.{Sat};
+ghost use Rattle.store_logic.specs.Laws.{GoesByCases};
+
+/// An assertion is satisfied on all cells by the cases of its form.
+pub fn satisfaction_goes_by_cases()
+    ensures { (types : List TypeEntry) (preds : List PredDef) (s : StoreMap) → GoesByCases types preds s }
+{}
 
 /// An assertion is satisfied on a region exactly where it is on all cells of the store on the region's cells.
 pub fn regions_are_stores_of_their_cells()

@@ -1,10 +1,10 @@
 //! Terms of assertions: what names a cell, a truth value or a set.
 
+ghost use Rattle.std.specs.Prelude.{◌≡◌, IfOk};
+
 use plain_data::Items;
 use std::alloc::{AllocError, Global};
 use store_core::{FieldId, VarId};
-
-ghost use Rattle.std.specs.Prelude.{◌≡◌, IfOk};
 
 /// The fields of a path, from the left.
 pub type FieldList = Items<FieldId>;

@@ -1,6 +1,6 @@
 use Rattle.std.proofs.Common.{map, ap, ◌∙◌}
 use Rattle.store_logic.specs.Postfix.{form_of, postfix_of, run_on}
-use Rattle.store_logic.proofs.PostfixLemmas.{run_on-whole, applied-next, run_on-next}
+use Rattle.store_logic.proofs.PostfixLemmas.{run_on-whole, applied-next}
 use Rattle.store_logic.proofs.assertion.Assertion.copy.Goals as goal
 
 pub loop-form-init : goal.loop-form-init
