@@ -8,7 +8,7 @@ use Rattle.std.proofs.lemmas.List.{get_or-set_other, get_or-set_same, get_or_pas
 use Rattle.std.proofs.lemmas.List.Elements.{All-head, All-tail, All-weaker, Contains-append_left, Contains-append_right, Contains-append_cases, Contains-get_or}
 use Rattle.std.proofs.lemmas.List.Quantifiers.{all_pairs_push}
 use Rattle.gta_theory.proofs.ListedLemmas.{meanings-push, length-meanings}
-use Rattle.gta_theory.proofs.ListsLemmas.{Contains-first, Contains-later, Contains-cases, Contains-none, Contains-map, All-from_contains}
+use Rattle.gta_theory.proofs.ListsLemmas.{Contains-first, Contains-later, Contains-cases, Contains-none, Contains-map, Contains-mapped, All-from_contains}
 use Rattle.ws2s_core.specs.declared.node.FormulaId.{FormulaId}
 use Rattle.ws2s_core.specs.declared.node.Node.{Node}
 use Rattle.ws2s_core.specs.declared.formula.Formula.{Formula, out-Formula, out-roll-Formula}
@@ -52,14 +52,6 @@ pub formula-placed : (nodes nodes' : List Node) (node : Node) (place : ℕ) → 
     slice_get (formulas_of nodes') place ≡ Some (formula_of_node (formulas_of nodes) node)
 formula-placed nodes nodes' node place extends inside below at =
     formulas_of-at nodes' place node at below ∙ ap Some (formula_of_node-extends nodes nodes' node extends inside)
-
--- what a list of images contains is an image
-pub Contains-mapped : {X Y : Type 0} (f : X → Y) (xs : List X) (y : Y) → Contains (map f xs) y → (x : X) × Contains xs x × (f x ≡ y)
-Contains-mapped f [] y h = absurd (Contains-none y h)
-Contains-mapped {X} f (x ∷ xs) y h = elim (Contains-cases (f x) y (map f xs) h) as (λ _. (z : X) × Contains (x ∷ xs) z × (f z ≡ y)) [
-  | inl is ↦ (x, Contains-first x xs, is)
-  | inr later ↦ (let z = Contains-mapped f xs y later in (z.0, Contains-later x z.0 xs z.1, z.2))
-]
 
 -- the parts of a form are the formulas of the form's numbers
 parts-map : (h : ℕ → Formula) (form : Formula-F ℕ) → parts_of (map-Formula ℕ Formula h form) ≡ map h (parts_of form)
