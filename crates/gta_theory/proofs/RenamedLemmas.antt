@@ -7,14 +7,14 @@ use Rattle.std.proofs.lemmas.List.{length-map}
 use Rattle.std.proofs.lemmas.List.Elements.{All-map}
 use Rattle.std.proofs.lemmas.List.Kept.{AllPairs-cons}
 use mathlib.Core.Path.{fun_ext}
-use Rattle.labels.specs.Labels.{Label, empty_label, with_track, with_below, HasAtMost}
+use Rattle.labels.specs.Labels.{Label, empty_label, with_track, with_below}
 use Rattle.labels.proofs.LabelsLemmas.{HasAtMost-with_track, with_track-at_most}
-use Rattle.gta_theory.specs.Assignments.{Position, Assignment, Covers, half, root_label}
-use Rattle.gta_theory.specs.Guides.{Spaces, IsGuide, IsSpace, left, right}
-use Rattle.gta_theory.specs.Automata.{Automaton, value, IsStable, Accepts, IsValue}
-use Rattle.gta_theory.specs.Constructions.{IsReached, IsProduct, Settled, starts, steps, IsStepOf, IsSubset}
-use Rattle.gta_theory.specs.Minimal.{value_with, AreToldApart, IsMinimal}
-use Rattle.gta_theory.specs.Sizes.{AreDifferent, IsUnderTable, IsVaried, IsPart, SizeIn, SizeOf}
+use Rattle.gta_theory.specs.Assignments.{Position, Assignment, Covers, half}
+use Rattle.gta_theory.specs.Guides.{Spaces, IsGuide, left, right}
+use Rattle.gta_theory.specs.Automata.{Automaton, value, IsStable, Accepts}
+use Rattle.gta_theory.specs.Constructions.{IsReached, IsProduct, Settled, starts, steps, IsSubset}
+use Rattle.gta_theory.specs.Minimal.{value_with, IsMinimal}
+use Rattle.gta_theory.specs.Sizes.{AreDifferent, IsPart, SizeIn, SizeOf}
 use Rattle.gta_theory.specs.Renamed.{IsIncreasing, renamed_tracks}
 use Rattle.gta_theory.proofs.AutomataLemmas.{Accepts-at}
 use Rattle.gta_theory.proofs.ListsLemmas.{Contains-map, Contains-mapped}
