@@ -14,6 +14,7 @@ pub mod LooksLemmas
 pub mod MinimalExistsLemmas
 pub mod MinimalLemmas
 pub mod NumberedLemmas
+pub mod RenamedLemmas
 pub mod SizesExistLemmas
 pub mod SizesLemmas
 pub mod SubsetExistsLemmas

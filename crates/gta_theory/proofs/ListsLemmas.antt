@@ -29,6 +29,14 @@ Contains-map f (z ∷ xs) x h = elim (Contains-cases z x xs h) as (λ _. Contain
   | inr later ↦ Contains-later (f z) (f x) (map f xs) (Contains-map f xs x later)
 ]
 
+-- what a list of images contains is an image
+pub Contains-mapped : {X Y : Type 0} (f : X → Y) (xs : List X) (y : Y) → Contains (map f xs) y → (x : X) × Contains xs x × (f x ≡ y)
+Contains-mapped f [] y h = absurd (Contains-none y h)
+Contains-mapped {X} f (x ∷ xs) y h = elim (Contains-cases (f x) y (map f xs) h) as (λ _. (z : X) × Contains (x ∷ xs) z × (f z ≡ y)) [
+  | inl is ↦ (x, Contains-first x xs, is)
+  | inr later ↦ (let z = Contains-mapped f xs y later in (z.0, Contains-later x z.0 xs z.1, z.2))
+]
+
 pub Contains-flat_map : {X Y : Type 0} (f : X → List Y) (xs : List X) (x : X) (y : Y) → Contains xs x → Contains (f x) y →
     Contains (flat_map f xs) y
 Contains-flat_map f [] x y h in_f = absurd (Contains-none x h)

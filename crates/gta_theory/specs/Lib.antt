@@ -6,5 +6,6 @@ pub mod Guides
 pub mod Listed
 pub mod Minimal
 pub mod Numbered
+pub mod Renamed
 pub mod Sizes
 pub mod Weights

@@ -5,10 +5,10 @@
 //! `specs/Guides.antt` what a guide is, `specs/Automata.antt` what an automaton is and what it accepts,
 //! `specs/Constructions.antt` what the complement, the product and the subset automaton are, and
 //! `specs/Minimal.antt` what a minimal automaton is. `specs/Generated.antt` has what a worklist finds,
-//! `specs/Weights.antt` least weights, `specs/Sizes.antt` the Size, and `specs/Numbered.antt` automata whose states are
-//! the numbers below a count. Each function of this crate is a law: its body is empty, and its clause holds of all
-//! guides and automata. States are numbers in a clause; the lemmas of `proofs/`, which are public, say the same of any
-//! type of states.
+//! `specs/Weights.antt` least weights, `specs/Sizes.antt` the Size, `specs/Numbered.antt` automata whose states are the
+//! numbers below a count, and `specs/Renamed.antt` automata with their tracks renamed in order. Each function of this
+//! crate is a law: its body is empty, and its clause holds of all guides and automata. States are numbers in a clause;
+//! the lemmas of `proofs/`, which are public, say the same of any type of states.
 #![tactic(auto)]
 
 mod alike;
@@ -16,6 +16,7 @@ mod generated;
 mod laws;
 mod minimal;
 mod numbered;
+mod renamed;
 mod sizes;
 mod weights;
 
@@ -39,6 +40,10 @@ pub use minimal::{
 };
 pub use numbered::{
     finite_automata_can_be_numbered, minimal_automata_exist, products_exist, subsets_exist,
+};
+pub use renamed::{
+    constructions_go_along_with_renamed_tracks, renamed_tracks_keep_sizes,
+    renamed_tracks_keep_what_is_accepted,
 };
 pub use sizes::{
     alike_automata_have_equal_sizes, constructions_look_no_further,

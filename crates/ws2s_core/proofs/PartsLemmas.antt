@@ -1,15 +1,16 @@
--- On the parts of formulas that are kept as nodes, and on marks.
-use Rattle.std.proofs.Common.{◌≡◌, ◌⊎◌, ℕ, suc, ◌+◌, ◌<◌, Bool, true, false, IsTrue, List, [], ◌∷◌, ◌++◌, length, map, slice_get}
-use Rattle.std.proofs.Common.{slice_index_or, replicate, set, option_map, Option, Some, None, IfSome, All, Contains, Result, Ok, Err, IfOk, refl, sym}
-use Rattle.std.proofs.Common.{ap, subst}
-use Rattle.std.proofs.Common.{◌∙◌, inl, inr, arith}
-use Rattle.std.proofs.lemmas.Bool.{cases_lt, cases_eq, false≢true}
+-- On the parts of formulas that are kept as nodes, and on the walk down that meets them.
+use Rattle.std.proofs.Common.{◌≡◌, ◌⊎◌, ℕ, ◌+◌, ◌-◌, ◌<◌, ◌≤◌, List, [], ◌∷◌, ◌++◌, length, map, reverse, slice_get, slice_index_or}
+use Rattle.std.proofs.Common.{option_map, Option, Some, None, IfSome, All, Contains, AllPairs, refl, sym, ap, subst, ◌∙◌, inl, inr, arith}
+use Rattle.std.proofs.lemmas.Bool.{cases_lt}
 use Rattle.std.proofs.lemmas.Option.{slice_get_past}
-use Rattle.std.proofs.lemmas.List.{get_or-set_other, get_or-set_same, get_or_past, get_or-replicate, length-set, length-replicate}
-use Rattle.std.proofs.lemmas.List.Elements.{All-head, All-tail, All-weaker, Contains-append_left, Contains-append_right, Contains-append_cases, Contains-get_or}
+use Rattle.std.proofs.lemmas.List.{get_or-reverse, length-reverse}
+use Rattle.std.proofs.lemmas.List.Elements.{All-nil, All-cons, All-append, All-weaker, All-contains, Contains-append_left, Contains-append_right}
+use Rattle.std.proofs.lemmas.List.Elements.{Contains-append_cases, Contains-get_or}
 use Rattle.std.proofs.lemmas.List.Quantifiers.{all_pairs_push}
+use Rattle.std.proofs.lemmas.List.Sorted.{All-permutation, Contains-permutation, IsPermutation-sym, IsPermutation-reverse}
+use Rattle.std.specs.List.Sorted.{IsPermutation}
 use Rattle.gta_theory.proofs.ListedLemmas.{meanings-push, length-meanings}
-use Rattle.gta_theory.proofs.ListsLemmas.{Contains-first, Contains-later, Contains-cases, Contains-none, Contains-map, All-from_contains}
+use Rattle.gta_theory.proofs.ListsLemmas.{Contains-first, Contains-later, Contains-cases, Contains-none, Contains-map, Contains-mapped, All-from_contains}
 use Rattle.ws2s_core.specs.declared.node.FormulaId.{FormulaId}
 use Rattle.ws2s_core.specs.declared.node.Node.{Node}
 use Rattle.ws2s_core.specs.declared.formula.Formula.{Formula, out-Formula, out-roll-Formula}
@@ -17,7 +18,7 @@ use Rattle.ws2s_core.specs.declared.formula.Formula.TheOpen.{Formula-F}
 use Rattle.ws2s_core.specs.declared.formula.Formula.TheFolds.{map-Formula}
 use Rattle.ws2s_core.specs.Nodes.{form_of, formula_at, formula_of_node, formulas_of, HasPartsBelow, IsOnceEach, Extends, AddsAtMost}
 use Rattle.ws2s_core.specs.Postfix.{parts_of}
-use Rattle.ws2s_core.specs.Parts.{IsPart, itself, deeper, ArePartsOf, is_marked, with_marks, MarksParts, AreMarkedBelow}
+use Rattle.ws2s_core.specs.Parts.{IsPart, itself, deeper, ArePartsOf, IsKnown, MeetsParts, HasMetParts}
 use Rattle.ws2s_core.proofs.NodesLemmas.{formulas_of-at, formula_at-is, at-formula_at, formula_of_node-extends, node-inside}
 
 -- the form at a place makes the formula at that place
@@ -54,14 +55,6 @@ pub formula-placed : (nodes nodes' : List Node) (node : Node) (place : ℕ) → 
 formula-placed nodes nodes' node place extends inside below at =
     formulas_of-at nodes' place node at below ∙ ap Some (formula_of_node-extends nodes nodes' node extends inside)
 
--- what a list of images contains is an image
-pub Contains-mapped : {X Y : Type 0} (f : X → Y) (xs : List X) (y : Y) → Contains (map f xs) y → (x : X) × Contains xs x × (f x ≡ y)
-Contains-mapped f [] y h = absurd (Contains-none y h)
-Contains-mapped {X} f (x ∷ xs) y h = elim (Contains-cases (f x) y (map f xs) h) as (λ _. (z : X) × Contains (x ∷ xs) z × (f z ≡ y)) [
-  | inl is ↦ (x, Contains-first x xs, is)
-  | inr later ↦ (let z = Contains-mapped f xs y later in (z.0, Contains-later x z.0 xs z.1, z.2))
-]
-
 -- the parts of a form are the formulas of the form's numbers
 parts-map : (h : ℕ → Formula) (form : Formula-F ℕ) → parts_of (map-Formula ℕ Formula h form) ≡ map h (parts_of form)
 parts-map h (Formula-F.Sub x y) = refl
@@ -81,215 +74,192 @@ parts-at nodes k node at below =
     ∙ ap parts_of (out-roll-Formula _)
     ∙ parts-map (formula_at (formulas_of nodes)) (form_of node)
 
--- the number has a mark
-abbrev HasMark : List Bool → ℕ → Type 0
-HasMark marks = λ part. IsTrue (is_marked marks part)
+-- pairs of a list that is turned round
+AllPairs-reverse : {X : Type 0} (R S : X → X → Type 0) → ((x y : X) → R x y → S y x) → (xs : List X) → AllPairs R xs → AllPairs S (reverse xs)
+AllPairs-reverse R S turn xs h i j d less within =
+    let long = length-reverse xs in
+    let at_i = get_or-reverse xs i d (omega (arith, long)) in
+    let at_j = get_or-reverse xs j d (omega (arith, long)) in
+    subst (λ z. S z (slice_index_or (reverse xs) j d)) (sym at_i)
+    (subst (λ z. S (slice_index_or xs (length xs - 1 - i) d) z) (sym at_j)
+    (turn _ _ (h (length xs - 1 - j) (length xs - 1 - i) d (omega (arith, long)) (omega (arith, long)))))
 
--- the number has a mark, once those of a node's parts are set
-abbrev IsMarkedAfter : List Bool → Node → ℕ → Type 0
-IsMarkedAfter marks node = HasMark (with_marks marks (parts_of (form_of node)))
-
-marked-inside : (marks : List Bool) (k : ℕ) → IsTrue (is_marked marks k) → k < length marks
-marked-inside marks k m = elim (cases_lt k (length marks)) as (λ _. k < length marks) [
-  | inl inside ↦ inside
-  | inr past ↦ absurd (false≢true (sym (get_or_past marks k false past) ∙ m))
+-- a number is known still where those that waited are
+known-permuted : (met : List FormulaId) (waiting waiting' : List ℕ) → ((k : ℕ) → Contains waiting k → IsKnown met waiting' k) → (k : ℕ) →
+    IsKnown met waiting k → IsKnown met waiting' k
+known-permuted met waiting waiting' along k known = elim known as (λ _. IsKnown met waiting' k) [
+  | inl was ↦ inl was
+  | inr waits ↦ along k waits
 ]
 
-mark-kept : (marks : List Bool) (p k : ℕ) → IsTrue (is_marked marks k) → IsTrue (is_marked (set marks p true) k)
-mark-kept marks p k m = elim (cases_eq k p) as (λ _. IsTrue (is_marked (set marks p true) k)) [
-  | inl same ↦ subst (λ q. IsTrue (is_marked (set marks q true) k)) same (get_or-set_same marks k true false (marked-inside marks k m))
-  | inr other ↦ get_or-set_other marks p k true false other ∙ m
-]
+abbrev id-of : ℕ → FormulaId
+id-of k = record { 0 = k }
 
-mark-cases : (marks : List Bool) (p k : ℕ) → IsTrue (is_marked (set marks p true) k) → IsTrue (is_marked marks k) ⊎ (p ≡ k)
-mark-cases marks p k m = elim (cases_eq k p) as (λ _. IsTrue (is_marked marks k) ⊎ (p ≡ k)) [
-  | inl same ↦ inr (sym same)
-  | inr other ↦ inl (sym (get_or-set_other marks p k true false other) ∙ m)
-]
-
-length-with_marks : (ps : List ℕ) (marks : List Bool) → length (with_marks marks ps) ≡ length marks
-length-with_marks [] marks = refl
-length-with_marks (p ∷ ps) marks = length-with_marks ps (set marks p true) ∙ length-set marks p true
-
-with_marks-kept : (ps : List ℕ) (marks : List Bool) (k : ℕ) → IsTrue (is_marked marks k) → IsTrue (is_marked (with_marks marks ps) k)
-with_marks-kept [] marks k m = m
-with_marks-kept (p ∷ ps) marks k m = with_marks-kept ps (set marks p true) k (mark-kept marks p k m)
-
-with_marks-cases : (ps : List ℕ) (marks : List Bool) (k : ℕ) → IsTrue (is_marked (with_marks marks ps) k) →
-    IsTrue (is_marked marks k) ⊎ Contains ps k
-with_marks-cases [] marks k m = inl m
-with_marks-cases (p ∷ ps) marks k m =
-    elim (with_marks-cases ps (set marks p true) k m) as (λ _. IsTrue (is_marked marks k) ⊎ Contains (p ∷ ps) k) [
-      | inl first ↦ elim (mark-cases marks p k first) as (λ _. IsTrue (is_marked marks k) ⊎ Contains (p ∷ ps) k) [
-        | inl old ↦ inl old
-        | inr same ↦ inr (subst (Contains (p ∷ ps)) same (Contains-first p ps))
-      ]
-      | inr later ↦ inr (Contains-later p k ps later)
-    ]
-
-with_marks-marked : (ps : List ℕ) (marks : List Bool) → All (λ p. p < length marks) ps → (k : ℕ) → Contains ps k →
-    IsTrue (is_marked (with_marks marks ps) k)
-with_marks-marked [] marks inside k h = absurd (Contains-none k h)
-with_marks-marked (p ∷ ps) marks inside k h =
-    let room = All-head (λ p. p < length marks) p ps inside in
-    elim (Contains-cases p k ps h) as (λ _. IsTrue (is_marked (with_marks (set marks p true) ps) k)) [
-      | inl same ↦ with_marks-kept ps (set marks p true) k
-          (subst (λ q. IsTrue (is_marked (set marks p true) q)) same (get_or-set_same marks p true false room))
-      | inr later ↦ with_marks-marked ps (set marks p true)
-          (All-weaker (λ q. q < length marks) (λ q. q < length (set marks p true)) (λ q lt. omega (arith, length-set marks p true)) ps
-          (All-tail (λ q. q < length marks) p ps inside)) k later
-    ]
+abbrev parts-of : Node → List ℕ
+parts-of node = parts_of (form_of node)
 
 module _ (nodes : List Node) (earlier : (k : ℕ) (node : Node) → slice_get nodes k ≡ Some node → HasPartsBelow k node) (whole : ℕ) where
-  -- the first mark
-  pub MarksParts-first : (marks : List Bool) → marks ≡ set (replicate (whole + 1) false) whole true → MarksParts nodes whole marks (whole + 1)
-  MarksParts-first marks is = subst (λ (ms : List Bool). MarksParts nodes whole ms (whole + 1)) (sym is) (record {
-    len = long;
-    whole_marked = get_or-set_same (replicate (whole + 1) false) whole true false (omega (arith, length-replicate (whole + 1) false));
-    closed = λ k node from at m. (let inside = marked-inside (set (replicate (whole + 1) false) whole true) k m in absurd (omega (arith, long)));
-    sound = λ k m. elim (mark-cases (replicate (whole + 1) false) whole k m)
-        as (λ _. IsPart (formula_at (formulas_of nodes) whole) (formula_at (formulas_of nodes) k)) [
-          | inl old ↦
-              let inside = marked-inside (replicate (whole + 1) false) k old in
-              absurd (false≢true (sym (get_or-replicate (whole + 1) k false false (omega (arith, length-replicate (whole + 1) false))) ∙ old))
-          | inr same ↦ subst (λ j. IsPart (formula_at (formulas_of nodes) whole) (formula_at (formulas_of nodes) j)) same itself
-        ];
-  })
-    where
-      long : length (set (replicate (whole + 1) false) whole true) ≡ suc whole
-      long = omega (arith, length-set (replicate (whole + 1) false) whole true, length-replicate (whole + 1) false)
+  abbrev IsPartHere : ℕ → Type 0
+  IsPartHere k = IsPart (formula_at (formulas_of nodes) whole) (formula_at (formulas_of nodes) k)
 
-  -- a number without a mark changes nothing
-  pub MarksParts-unmarked : (marks : List Bool) (k : ℕ) → MarksParts nodes whole marks (suc k) → is_marked marks k ≡ false → MarksParts nodes whole marks k
-  MarksParts-unmarked marks k h none = record {
-    len = h.len;
-    whole_marked = h.whole_marked;
-    closed = λ j node from at m. elim (cases_eq j k) as (λ _. All (λ part. IsTrue (is_marked marks part)) (parts_of (form_of node))) [
-      | inl same ↦ absurd (false≢true (sym none ∙ subst (λ i. IsTrue (is_marked marks i)) same m))
-      | inr other ↦ h.closed j node (omega arith) at m
-    ];
-    sound = h.sound;
-  }
-
-  -- the parts of a marked node get marks
-  pub MarksParts-marked : (marks : List Bool) (k : ℕ) (node : Node) → MarksParts nodes whole marks (suc k) → IsTrue (is_marked marks k) →
-      slice_get nodes k ≡ Some node → MarksParts nodes whole (with_marks marks (parts_of (form_of node))) k
-  MarksParts-marked marks k node h here at = record {
-    len = length-with_marks (parts_of (form_of node)) marks ∙ h.len;
-    whole_marked = with_marks-kept (parts_of (form_of node)) marks whole h.whole_marked;
-    closed = λ j other from at_j m. elim (cases_eq j k) as (λ _. All (IsMarkedAfter marks node) (parts_of (form_of other))) [
-      | inl same ↦
-          let e : Some node ≡ Some other = sym at ∙ sym (ap (slice_get nodes) same) ∙ at_j in
-          let is : node ≡ other = cc in
-          subst (λ n. All (IsMarkedAfter marks node) (parts_of (form_of n))) is
-          (All-from_contains (IsMarkedAfter marks node) (parts_of (form_of node)) (with_marks-marked (parts_of (form_of node)) marks room))
-      | inr later ↦ elim (with_marks-cases (parts_of (form_of node)) marks j m)
-          as (λ _. All (IsMarkedAfter marks node) (parts_of (form_of other))) [
-            | inl old ↦ All-weaker (HasMark marks) (IsMarkedAfter marks node) (with_marks-kept (parts_of (form_of node)) marks)
-                (parts_of (form_of other)) (h.closed j other (omega arith) at_j old)
-            | inr part ↦ (let lt : j < k = below-of part in absurd (omega arith))
+  -- at first the formula's own number waits
+  pub MeetsParts-first : whole < length nodes → (met : List FormulaId) (waiting : List ℕ) → met ≡ [] → IsPermutation (whole ∷ []) waiting →
+      MeetsParts nodes whole met waiting (length nodes)
+  MeetsParts-first inside met waiting none order = subst (λ (ids : List FormulaId). MeetsParts nodes whole ids waiting (length nodes)) (sym none) (record {
+    falling = λ i j d less within. absurd (omega arith);
+    no_lower = All-nil (λ id. length nodes ≤ id.0);
+    last = λ less. absurd (omega arith);
+    low = All-permutation (λ k. k ≤ length nodes) (whole ∷ []) waiting order
+        (All-cons (λ k. k ≤ length nodes) whole [] (omega arith) (All-nil (λ k. k ≤ length nodes)));
+    whole_known = inr (Contains-permutation (whole ∷ []) waiting whole order (Contains-first whole []));
+    closed = λ k node h at. absurd (Contains-none (id-of k) h);
+    sound = λ k known. elim known as (λ _. (k < length nodes) × IsPartHere k) [
+      | inl h ↦ absurd (Contains-none (id-of k) h)
+      | inr h ↦ elim (Contains-cases whole k [] (Contains-permutation waiting (whole ∷ []) k (IsPermutation-sym (whole ∷ []) waiting order) h))
+          as (λ _. (k < length nodes) × IsPartHere k) [
+            | inl same ↦ subst (λ j. (j < length nodes) × IsPartHere j) same (inside, itself)
+            | inr past ↦ absurd (Contains-none k past)
           ]
     ];
-    sound = λ j m. elim (with_marks-cases (parts_of (form_of node)) marks j m)
-        as (λ _. IsPart (formula_at (formulas_of nodes) whole) (formula_at (formulas_of nodes) j)) [
-          | inl old ↦ h.sound j old
-          | inr part ↦ deeper (formula_at (formulas_of nodes) k) (formula_at (formulas_of nodes) j) (h.sound k here)
-              (subst (λ (fs : List Formula). Contains fs (formula_at (formulas_of nodes) j)) (sym (parts-at nodes k node at below))
-              (Contains-map (formula_at (formulas_of nodes)) (parts_of (form_of node)) j part))
-        ];
-  }
+  })
+
+  module _ (met : List FormulaId) (waiting rest : List ℕ) (below place : ℕ) (h : MeetsParts nodes whole met waiting below)
+      (order : IsPermutation waiting (place ∷ rest)) where
+    place-waits : Contains waiting place
+    place-waits = Contains-permutation (place ∷ rest) waiting place (IsPermutation-sym waiting (place ∷ rest) order) (Contains-first place rest)
+
+    rest-waits : (k : ℕ) → Contains rest k → Contains waiting k
+    rest-waits k in_rest = Contains-permutation (place ∷ rest) waiting k (IsPermutation-sym waiting (place ∷ rest) order) (Contains-later place k rest in_rest)
+
+    -- what waits is this number or one of the rest
+    waits-cases : (k : ℕ) → Contains waiting k → (place ≡ k) ⊎ Contains rest k
+    waits-cases k waits = Contains-cases place k rest (Contains-permutation waiting (place ∷ rest) k order waits)
+
+    place-low : place ≤ below
+    place-low = All-contains (λ k. k ≤ below) waiting place h.low place-waits
+
+    pub place-inside : place < length nodes
+    place-inside = (h.sound place (inr place-waits)).0
+
+    -- a number that comes up again was met last
+    pub MeetsParts-again : below ≤ place → MeetsParts nodes whole met rest below
+    MeetsParts-again not_less = record {
+      falling = h.falling;
+      no_lower = h.no_lower;
+      last = h.last;
+      low = All-from_contains (λ k. k ≤ below) rest (λ k in_rest. All-contains (λ k. k ≤ below) waiting k h.low (rest-waits k in_rest));
+      whole_known = along whole h.whole_known;
+      closed = λ k node in_met at. All-weaker (IsKnown met waiting) (IsKnown met rest) along (parts_of (form_of node)) (h.closed k node in_met at);
+      sound = λ k known. h.sound k (known-permuted met rest waiting (λ j in_rest. inr (rest-waits j in_rest)) k known);
+    }
+      where
+        along : (k : ℕ) → IsKnown met waiting k → IsKnown met rest k
+        along = known-permuted met waiting rest (λ k waits. elim (waits-cases k waits) as (λ _. IsKnown met rest k) [
+          | inl same ↦ (let is : below ≡ k = omega (arith, same, place-low) in inl (subst (λ j. Contains met (id-of j)) is (h.last (omega (arith, place-low, place-inside)))))
+          | inr in_rest ↦ inr in_rest
+        ])
+
+    -- a lower one is met, and its parts wait
+    pub MeetsParts-new : place < below → All (λ k. k ≤ place) rest → (node : Node) → slice_get nodes place ≡ Some node →
+        (met' : List FormulaId) (waiting' : List ℕ) → met' ≡ met ++ id-of place ∷ [] → IsPermutation (parts-of node ++ rest) waiting' →
+        MeetsParts nodes whole met' waiting' place
+    MeetsParts-new less under node at met' waiting' is order' = subst (λ (ids : List FormulaId). MeetsParts nodes whole ids waiting' place) (sym is) (record {
+      falling = all_pairs_push (λ p q. q.0 < p.0) met (id-of place) h.falling
+          (λ i d within. omega (arith, All-contains (λ id. below ≤ id.0) met (slice_index_or met i d) h.no_lower (Contains-get_or met i d within)));
+      no_lower = All-from_contains (λ id. place ≤ id.0) (met ++ id-of place ∷ []) (λ id in_met.
+          elim (Contains-append_cases met (id-of place ∷ []) id in_met) as (λ _. place ≤ id.0) [
+            | inl old ↦ omega (arith, All-contains (λ id. below ≤ id.0) met id h.no_lower old)
+            | inr new ↦ elim (Contains-cases (id-of place) id [] new) as (λ _. place ≤ id.0) [
+              | inl same ↦ omega (arith, ap (λ (x : FormulaId). x.0) same)
+              | inr none ↦ absurd (Contains-none id none)
+            ]
+          ]);
+      last = λ inside. new_met;
+      low = All-permutation (λ k. k ≤ place) (parts-of node ++ rest) waiting' order' (All-append (λ k. k ≤ place) (parts-of node) rest
+          (All-weaker (λ k. k < place) (λ k. k ≤ place) (λ k lt. omega arith) (parts-of node) (earlier place node at)) under);
+      whole_known = along whole h.whole_known;
+      closed = λ k other in_met at_k. elim (Contains-append_cases met (id-of place ∷ []) (id-of k) in_met)
+          as (λ _. All (IsKnown (met ++ id-of place ∷ []) waiting') (parts_of (form_of other))) [
+            | inl old ↦ All-weaker (IsKnown met waiting) (IsKnown (met ++ id-of place ∷ []) waiting') along (parts_of (form_of other)) (h.closed k other old at_k)
+            | inr new ↦ (let same : node ≡ other = node-same k other new at_k in
+                subst (λ n. All (IsKnown (met ++ id-of place ∷ []) waiting') (parts_of (form_of n))) same
+                (All-from_contains (IsKnown (met ++ id-of place ∷ []) waiting') (parts-of node) (λ p in_parts. inr (part-waits p in_parts))))
+          ];
+      sound = λ k known. elim known as (λ _. (k < length nodes) × IsPartHere k) [
+        | inl in_met ↦ elim (Contains-append_cases met (id-of place ∷ []) (id-of k) in_met) as (λ _. (k < length nodes) × IsPartHere k) [
+          | inl old ↦ h.sound k (inl old)
+          | inr new ↦ subst (λ j. (j < length nodes) × IsPartHere j) (number-same k new) (h.sound place (inr place-waits))
+        ]
+        | inr waits ↦ elim (Contains-append_cases (parts-of node) rest k (Contains-permutation waiting' (parts-of node ++ rest) k (IsPermutation-sym (parts-of node ++ rest) waiting' order') waits))
+            as (λ _. (k < length nodes) × IsPartHere k) [
+              | inl in_parts ↦ (let lt : k < place = All-contains (λ j. j < place) (parts-of node) k (earlier place node at) in_parts in (
+                  omega (arith, lt, place-inside),
+                  deeper (formula_at (formulas_of nodes) place) (formula_at (formulas_of nodes) k) (h.sound place (inr place-waits)).1
+                  (subst (λ (fs : List Formula). Contains fs (formula_at (formulas_of nodes) k)) (sym (parts-at nodes place node at (earlier place node at)))
+                  (Contains-map (formula_at (formulas_of nodes)) (parts-of node) k in_parts)),
+                ))
+              | inr in_rest ↦ h.sound k (inr (rest-waits k in_rest))
+            ]
+      ];
+    })
+      where
+        new_met : Contains (met ++ id-of place ∷ []) (id-of place)
+        new_met = Contains-append_right met (id-of place ∷ []) (id-of place) (Contains-first (id-of place) [])
+
+        part-waits : (p : ℕ) → Contains (parts-of node) p → Contains waiting' p
+        part-waits p in_parts = Contains-permutation (parts-of node ++ rest) waiting' p order' (Contains-append_left (parts-of node) rest p in_parts)
+
+        number-same : (k : ℕ) → Contains (id-of place ∷ []) (id-of k) → place ≡ k
+        number-same k new = elim (Contains-cases (id-of place) (id-of k) [] new) as (λ _. place ≡ k) [
+          | inl same ↦ ap (λ (x : FormulaId). x.0) same
+          | inr none ↦ absurd (Contains-none (id-of k) none)
+        ]
+
+        node-same : (k : ℕ) (other : Node) → Contains (id-of place ∷ []) (id-of k) → slice_get nodes k ≡ Some other → node ≡ other
+        node-same k other new at_k =
+            let e : Some node ≡ Some other = sym at ∙ ap (slice_get nodes) (number-same k new) ∙ at_k in
+            cc
+
+        along : (k : ℕ) → IsKnown met waiting k → IsKnown (met ++ id-of place ∷ []) waiting' k
+        along k known = elim known as (λ _. IsKnown (met ++ id-of place ∷ []) waiting' k) [
+          | inl old ↦ inl (Contains-append_left met (id-of place ∷ []) (id-of k) old)
+          | inr waits ↦ elim (waits-cases k waits) as (λ _. IsKnown (met ++ id-of place ∷ []) waiting' k) [
+            | inl same ↦ inl (subst (λ j. Contains (met ++ id-of place ∷ []) (id-of j)) same new_met)
+            | inr in_rest ↦ inr (Contains-permutation (parts-of node ++ rest) waiting' k order' (Contains-append_right (parts-of node) rest k in_rest))
+          ]
+        ]
+
+  -- where nothing waits, exactly the parts were met
+  part-met : (met : List FormulaId) → HasMetParts nodes whole met → (f : Formula) → IsPart (formula_at (formulas_of nodes) whole) f →
+      (k : ℕ) × (k < length nodes) × (formula_at (formulas_of nodes) k ≡ f) × Contains met (id-of k)
+  part-met met h _ itself = (whole, ((h.1).sound whole (h.1).whole_known).0, refl, met-now whole (h.1).whole_known)
     where
-      below : HasPartsBelow k node
-      below = earlier k node at
+      met-now : (k : ℕ) → IsKnown met [] k → Contains met (id-of k)
+      met-now k known = elim known as (λ _. Contains met (id-of k)) [ inl was ↦ was | inr none ↦ absurd (Contains-none k none) ]
+  part-met met h _ (deeper f e part contains) =
+      let k = part-met met h f part in
+      let node = node-inside nodes k.0 k.1 in
+      let parts : parts_of (out-Formula f) ≡ map (formula_at (formulas_of nodes)) (parts_of (form_of node.0)) =
+      ap (λ x. parts_of (out-Formula x)) (sym k.2) ∙ parts-at nodes k.0 node.0 node.1 (earlier k.0 node.0 node.1) in
+      let p = Contains-mapped (formula_at (formulas_of nodes)) (parts_of (form_of node.0)) e
+      (subst (λ (fs : List Formula). Contains fs e) parts contains) in
+      let known = All-contains (IsKnown met []) (parts_of (form_of node.0)) p.0 ((h.1).closed k.0 node.0 k.3 node.1) p.1 in
+      (p.0, ((h.1).sound p.0 known).0, p.2, elim known as (λ _. Contains met (id-of p.0)) [ inl was ↦ was | inr none ↦ absurd (Contains-none p.0 none) ])
 
-      room : All (λ p. p < length marks) (parts_of (form_of node))
-      room = All-weaker (λ p. p < k) (λ p. p < length marks) (λ p lt. omega (arith, marked-inside marks k here)) (parts_of (form_of node)) below
-
-      below-of : {j : ℕ} → Contains (parts_of (form_of node)) j → j < k
-      below-of {j} (i, inside, is) = subst (λ n. n < k) is (below i j inside)
-
-  -- where the walk ends, exactly the parts have marks
-  part-marked : (marks : List Bool) → MarksParts nodes whole marks 0 → whole < length nodes → (h : Formula) →
-      IsPart (formula_at (formulas_of nodes) whole) h →
-      (j : ℕ) × (j < length nodes) × (formula_at (formulas_of nodes) j ≡ h) × IsTrue (is_marked marks j)
-  part-marked marks m inside _ itself = (whole, inside, refl, m.whole_marked)
-  part-marked marks m inside _ (deeper g h part contains) =
-      let j = part-marked marks m inside g part in
-      let node = node-inside nodes j.0 j.1 in
-      let parts : parts_of (out-Formula g) ≡ map (formula_at (formulas_of nodes)) (parts_of (form_of node.0)) =
-      ap (λ e. parts_of (out-Formula e)) (sym j.2) ∙ parts-at nodes j.0 node.0 node.1 (earlier j.0 node.0 node.1) in
-      let p = Contains-mapped (formula_at (formulas_of nodes)) (parts_of (form_of node.0)) h
-      (subst (λ (fs : List Formula). Contains fs h) parts contains) in
-      let lt : p.0 < j.0 = subst (λ n. n < j.0) (p.1).2 (earlier j.0 node.0 node.1 (p.1).0 p.0 (p.1).1) in
-      let marked : IsTrue (is_marked marks p.0) =
-      subst (λ n. IsTrue (is_marked marks n)) (p.1).2 (m.closed j.0 node.0 (omega arith) node.1 j.3 (p.1).0 p.0 (p.1).1) in
-      (p.0, omega (arith, j.1), p.2, marked)
-
-  pub ArePartsOf-marked : (marks : List Bool) (ids : List FormulaId) → IsOnceEach (formulas_of nodes) → whole < length nodes →
-      MarksParts nodes whole marks 0 → AreMarkedBelow marks (length marks) ids → ArePartsOf (formulas_of nodes) whole ids
-  ArePartsOf-marked marks ids once inside m listed = record {
-    rising = listed.rising;
+  -- turned round they rise
+  pub ArePartsOf-met : (met ids : List FormulaId) → IsOnceEach (formulas_of nodes) → HasMetParts nodes whole met → ids ≡ reverse met →
+      ArePartsOf (formulas_of nodes) whole ids
+  ArePartsOf-met met ids once h turned = subst (ArePartsOf (formulas_of nodes) whole) (sym turned) (record {
+    rising = AllPairs-reverse (λ p q. q.0 < p.0) (λ p q. p.0 < q.0) (λ p q lt. lt) met (h.1).falling;
     exactly = λ id. (
-      (λ h.
-          let is = (listed.exactly id).0 h in
-          (omega (arith, is.0, m.len, length-meanings formula_of_node nodes), m.sound id.0 is.1)),
+      (λ inside.
+          let known = (h.1).sound id.0 (inl (Contains-permutation (reverse met) met id (IsPermutation-sym met (reverse met) (IsPermutation-reverse met)) inside)) in
+          (omega (arith, known.0, length-meanings formula_of_node nodes), known.1)),
       (λ part.
-          let j = part-marked marks m inside (formula_at (formulas_of nodes) id.0) part.1 in
-          let in_j : j.0 < length (formulas_of nodes) = omega (arith, j.1, length-meanings formula_of_node nodes) in
-          let same : j.0 ≡ id.0 = once.once j.0 id.0 (formula_at (formulas_of nodes) id.0)
-          (at-formula_at (formulas_of nodes) j.0 in_j ∙ ap Some j.2) (at-formula_at (formulas_of nodes) id.0 part.0) in
-          let marked : IsTrue (is_marked marks id.0) = subst (λ n. IsTrue (is_marked marks n)) same j.3 in
-          (listed.exactly id).1 (marked-inside marks id.0 marked, marked)),
+          let k = part-met met h (formula_at (formulas_of nodes) id.0) part.1 in
+          let in_k : k.0 < length (formulas_of nodes) = omega (arith, k.1, length-meanings formula_of_node nodes) in
+          let same : k.0 ≡ id.0 = once.once k.0 id.0 (formula_at (formulas_of nodes) id.0)
+          (at-formula_at (formulas_of nodes) k.0 in_k ∙ ap Some k.2) (at-formula_at (formulas_of nodes) id.0 part.0) in
+          Contains-permutation met (reverse met) id (IsPermutation-reverse met) (subst (λ n. Contains met (id-of n)) same k.3)),
     );
-  }
-
-  -- the same of a list that may be missing
-  pub ArePartsOf-listed : {E : Type 0} (marks : List Bool) → IsOnceEach (formulas_of nodes) → whole < length nodes → MarksParts nodes whole marks 0 →
-      (result : Result (List FormulaId) E) → IfOk result (λ ids. AreMarkedBelow marks (length marks) ids) →
-      IfOk result (λ ids. ArePartsOf (formulas_of nodes) whole ids)
-  ArePartsOf-listed marks once inside m (Ok ids) listed = ArePartsOf-marked marks ids once inside m listed
-  ArePartsOf-listed marks once inside m (Err e) listed = tt
-
--- listing the marked numbers
-pub AreMarkedBelow-first : (marks : List Bool) (ids : List FormulaId) → ids ≡ [] → AreMarkedBelow marks 0 ids
-AreMarkedBelow-first marks ids none = subst (AreMarkedBelow marks 0) (sym none) (record {
-  rising = λ i j d lt inside. absurd (omega arith);
-  exactly = λ id. ((λ h. absurd (Contains-none id h)), (λ h. absurd (omega (arith, h.0))));
-})
-
-pub AreMarkedBelow-unmarked : (marks : List Bool) (k : ℕ) (ids : List FormulaId) → AreMarkedBelow marks k ids → is_marked marks k ≡ false →
-    AreMarkedBelow marks (k + 1) ids
-AreMarkedBelow-unmarked marks k ids h none = record {
-  rising = h.rising;
-  exactly = λ id. (
-    (λ is. let old = (h.exactly id).0 is in (omega (arith, old.0), old.1)),
-    (λ is. elim (cases_eq id.0 k) as (λ _. Contains ids id) [
-      | inl same ↦ absurd (false≢true (sym none ∙ subst (λ n. IsTrue (is_marked marks n)) same is.1))
-      | inr other ↦ (h.exactly id).1 (omega (arith, is.0), is.1)
-    ]),
-  );
-}
-
-pub AreMarkedBelow-marked : (marks : List Bool) (k : ℕ) (ids ids' : List FormulaId) (last : FormulaId) → AreMarkedBelow marks k ids →
-    IsTrue (is_marked marks k) → last.0 ≡ k → ids' ≡ ids ++ last ∷ [] → AreMarkedBelow marks (k + 1) ids'
-AreMarkedBelow-marked marks k ids ids' last h here is_last is = subst (AreMarkedBelow marks (k + 1)) (sym is) (record {
-  rising = all_pairs_push (λ p q. p.0 < q.0) ids last h.rising
-      (λ i d inside. let below = ((h.exactly (slice_index_or ids i d)).0 (Contains-get_or ids i d inside)).0 in omega (arith, is_last));
-  exactly = λ id. (
-    (λ c. elim (Contains-append_cases ids (last ∷ []) id c) as (λ _. (id.0 < k + 1) × IsTrue (is_marked marks id.0)) [
-      | inl old ↦ (let was = (h.exactly id).0 old in (omega (arith, was.0), was.1))
-      | inr new ↦ elim (Contains-cases last id [] new) as (λ _. (id.0 < k + 1) × IsTrue (is_marked marks id.0)) [
-        | inl same ↦
-            let n : id.0 ≡ k = sym (ap (λ (x : FormulaId). x.0) same) ∙ is_last in
-            (omega arith, subst (λ j. IsTrue (is_marked marks j)) (sym n) here)
-        | inr none ↦ absurd (Contains-none id none)
-      ]
-    ]),
-    (λ w. elim (cases_eq id.0 k) as (λ _. Contains (ids ++ last ∷ []) id) [
-      | inl same ↦
-          let e : last ≡ id = ap (λ n. record { 0 = n }) (is_last ∙ sym same) in
-          subst (Contains (ids ++ last ∷ [])) e (Contains-append_right ids (last ∷ []) last (Contains-first last []))
-      | inr other ↦ Contains-append_left ids (last ∷ []) id ((h.exactly id).1 (omega (arith, w.0), w.1))
-    ]),
-  );
-})
+  })

@@ -1,6 +1,5 @@
 -- The parts of a formula, and their numbers in a list of formulas.
-use Rattle.std.specs.Prelude.{◌≡◌, ℕ, suc, ◌<◌, ◌≤◌, Bool, true, false, IsTrue, ◌↔◌, List, length, All, AllPairs, Contains, fold, slice_get}
-use Rattle.std.specs.Prelude.{slice_index_or, slice_set, Some}
+use Rattle.std.specs.Prelude.{◌≡◌, ◌⊎◌, ℕ, ◌<◌, ◌≤◌, ◌↔◌, List, [], length, All, AllPairs, Contains, slice_get, Some}
 use Rattle.ws2s_core.specs.declared.formula.Formula.{Formula, out-Formula}
 use Rattle.ws2s_core.specs.declared.node.FormulaId.{FormulaId}
 use Rattle.ws2s_core.specs.declared.node.Node.{Node}
@@ -21,24 +20,23 @@ pub record ArePartsOf (formulas : List Formula) (whole : ℕ) (ids : List Formul
   pub rising : AllPairs (λ p q. p.0 < q.0) ids
   pub exactly : (id : FormulaId) → Contains ids id ↔ IsPartAt formulas whole id.0
 
--- the number has a mark
-abbrev pub is_marked : List Bool → ℕ → Bool
-is_marked marks k = slice_index_or marks k false
+-- the number is among those met, or among those that wait
+abbrev pub IsKnown : List FormulaId → List ℕ → ℕ → Type 0
+IsKnown met waiting k = Contains met (record { 0 = k }) ⊎ Contains waiting k
 
--- the marks with those of more numbers
-abbrev pub with_marks : List Bool → List ℕ → List Bool
-with_marks = fold (λ marks k. slice_set marks k true)
+-- the walk down from a formula has met these numbers, the highest first and `below` last, and these wait: they are those
+-- of parts, the formula's own is known, and so are those of the parts of what was met
+pub record MeetsParts (nodes : List Node) (whole : ℕ) (met : List FormulaId) (waiting : List ℕ) (below : ℕ) : Type 0 where
+  pub falling : AllPairs (λ p q. q.0 < p.0) met
+  pub no_lower : All (λ id. below ≤ id.0) met
+  pub last : below < length nodes → Contains met (record { 0 = below })
+  pub low : All (λ k. k ≤ below) waiting
+  pub whole_known : IsKnown met waiting whole
+  pub closed : (k : ℕ) (node : Node) → Contains met (record { 0 = k }) → slice_get nodes k ≡ Some node →
+      All (IsKnown met waiting) (parts_of (form_of node))
+  pub sound : (k : ℕ) → IsKnown met waiting k →
+      (k < length nodes) × IsPart (formula_at (formulas_of nodes) whole) (formula_at (formulas_of nodes) k)
 
--- the formula has a mark, only parts of it have one, and from a number on the parts of marked nodes have theirs
-pub record MarksParts (nodes : List Node) (whole : ℕ) (marks : List Bool) (from : ℕ) : Type 0 where
-  pub len : length marks ≡ suc whole
-  pub whole_marked : IsTrue (is_marked marks whole)
-  pub closed : (k : ℕ) (node : Node) → from ≤ k → slice_get nodes k ≡ Some node → IsTrue (is_marked marks k) →
-      All (λ part. IsTrue (is_marked marks part)) (parts_of (form_of node))
-  pub sound : (k : ℕ) → IsTrue (is_marked marks k) →
-      IsPart (formula_at (formulas_of nodes) whole) (formula_at (formulas_of nodes) k)
-
--- exactly the marked numbers below a bound, the lowest first
-pub record AreMarkedBelow (marks : List Bool) (below : ℕ) (ids : List FormulaId) : Type 0 where
-  pub rising : AllPairs (λ p q. p.0 < q.0) ids
-  pub exactly : (id : FormulaId) → Contains ids id ↔ ((id.0 < below) × IsTrue (is_marked marks id.0))
+-- in turn, the numbers that the walk has met at its end
+abbrev pub HasMetParts : List Node → ℕ → List FormulaId → Type 0
+HasMetParts nodes whole met = (below : ℕ) × MeetsParts nodes whole met [] below

@@ -57,10 +57,11 @@ impl Interner {
         at(self.table.nodes.as_slice(), id.0 as usize).copied()
     }
 
-    /// The numbers of all parts of a formula, its own among them, each once and after those of its own parts.
+    /// The numbers of all parts of a formula, its own among them, each once, the lowest first: so after those of its own
+    /// parts.
     ///
-    /// Takes constant time for each number up to the formula's, and goes over numbers alone: a part that stands in
-    /// many places is looked at once.
+    /// Looks at the parts alone, each once, however many formulas there are and in however many places a part stands.
+    /// For each part it takes time by the logarithm of how many numbers wait at once to be looked at.
     ///
     /// # Errors
     ///

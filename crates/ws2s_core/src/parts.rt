@@ -1,62 +1,59 @@
-//! The numbers of all parts of a formula, by a walk over numbers.
+//! The numbers of all parts of a formula, by a walk down over numbers.
 
-ghost use Rattle.std.specs.Prelude.{◌≡◌, ℕ, suc, ◌+◌, ◌<◌, ◌≤◌, Some, IfOk, length, slice_get, ◌^◌};
+ghost use Rattle.std.specs.Prelude.{◌≡◌, ℕ, ◌+◌, ◌<◌, ◌≤◌, ◌++◌, Some, IfOk, OnOk, length, slice_get};
+ghost use Rattle.std.specs.Ordering.{nat_cmp};
+ghost use Rattle.std.specs.List.Sorted.{IsPermutation};
+ghost use Rattle.std.specs.BinaryHeap.{heap_items, heap_len, KeepsHeap};
 ghost use Rattle.ws2s_core.specs.declared.node.Node.{Node};
 ghost use Rattle.ws2s_core.specs.Postfix.{parts_of};
 ghost use Rattle.ws2s_core.specs.Nodes.{form_of, formulas_of, HasPartsBelow, IsOnceEach};
-ghost use Rattle.ws2s_core.specs.Parts.{with_marks, ArePartsOf, MarksParts, AreMarkedBelow};
+ghost use Rattle.ws2s_core.specs.Parts.{ArePartsOf, HasMetParts};
 
 use crate::node::{FormulaId, Node};
 use plain_data::Items;
 use std::alloc::{AllocError, Global};
+use std::collections::BinaryHeap;
 
 /// Numbers of formulas, in an order.
 pub type FormulaIdList = Items<FormulaId>;
 
-/// Marks the parts of a node.
-fn mark_parts(marks: &mut Vec<bool>, node: Node)
-    requires { HasPartsBelow (length marks.old.items) node }
-    ensures { marks.new.items ≡ with_marks marks.old.items (parts_of (form_of node)) }
+/// Puts the numbers of a node's parts among those that wait.
+fn push_parts(waiting: &mut BinaryHeap<u32>, node: Node) -> Result<(), AllocError>
+    ensures parts { OnOk result (IsPermutation (parts_of (form_of node) ++ heap_items waiting.old) (heap_items waiting.new)) }
+    ensures len { OnOk result (heap_len waiting.new ≤ heap_len waiting.old + 2) }
+    ensures heap { OnOk result (KeepsHeap nat_cmp (heap_items waiting.old) (heap_items waiting.new)) }
 {
     match node {
         Node::And(left, right) => {
-            marks[left.0 as usize] = true;
-            marks[right.0 as usize] = true;
+            waiting.push(right.0)?;
+            waiting.push(left.0)?;
         }
-        Node::Not(inner) | Node::Ex2(_, inner) => marks[inner.0 as usize] = true,
+        Node::Not(inner) | Node::Ex2(_, inner) => waiting.push(inner.0)?,
         Node::Sub(_, _) | Node::Single(_) | Node::Succ0(_, _) | Node::Succ1(_, _) | Node::Root(_) =>
             {}
     }
+    Ok(())
 }
 
-/// The marks of all parts of the formula at a place: from it on down, since parts stand before.
-fn marks_of(alloc: Global, nodes: &[Node], whole: usize) -> Result<Vec<bool>, AllocError>
+/// The places of all parts of the formula at a place, the highest first. Parts stand before what they are parts of, so
+/// one that waits in several places comes up that often in a row.
+fn met_parts(alloc: Global, nodes: &[Node], whole: u32) -> Result<Vec<FormulaId>, AllocError>
     requires inside { whole < length nodes.now }
     requires earlier { (k : ℕ) (node : Node) → slice_get nodes.now k ≡ Some node → HasPartsBelow k node }
-    ensures { IfOk result (λ marks. MarksParts nodes.now whole marks.items 0) }
+    ensures { IfOk result (λ met. HasMetParts nodes.now whole met.items) }
 {
-    let mut marks = vec![in alloc; false; whole + 1]?;
-    marks[whole] = true;
-    for k in (0..whole + 1).rev() {
-        if marks[k] {
-            mark_parts(&mut marks, nodes[k]);
+    let mut waiting = BinaryHeap::new(alloc);
+    waiting.push(whole)?;
+    let mut met = Vec::new(alloc);
+    let mut below = nodes.len();
+    while let Some(place) = waiting.pop() {
+        if (place as usize) < below {
+            below = place as usize;
+            met.push(FormulaId(place))?;
+            push_parts(&mut waiting, nodes[below])?;
         }
     }
-    Ok(marks)
-}
-
-/// The marked numbers, the lowest first.
-fn marked(alloc: Global, marks: &[bool]) -> Result<FormulaIdList, AllocError>
-    requires { length marks.now ≤ 2 ^ 32 }
-    ensures { IfOk result (λ ids. AreMarkedBelow marks.now (length marks.now) ids) }
-{
-    let mut ids = Items::new(alloc);
-    for k in 0..marks.len() {
-        if marks[k] {
-            ids.push(FormulaId(k as u32))?;
-        }
-    }
-    Ok(ids)
+    Ok(met)
 }
 
 /// The places of all parts of the formula at a place, the lowest first.
@@ -66,6 +63,7 @@ pub fn parts_at(alloc: Global, nodes: &[Node], whole: u32) -> Result<FormulaIdLi
     requires once { IsOnceEach (formulas_of nodes.now) }
     ensures { IfOk result (λ ids. ArePartsOf (formulas_of nodes.now) whole ids) }
 {
-    let marks = marks_of(alloc, nodes, whole as usize)?;
-    marked(alloc, marks.as_slice())
+    let mut ids = met_parts(alloc, nodes, whole)?;
+    ids.reverse();
+    Ok(Items::from_vec(ids))
 }

@@ -8,6 +8,7 @@ pub mod MergedAtomsLemmas
 pub mod MergedSuccessorsLemmas
 pub mod MergingLemmas
 pub mod PeaksLemmas
+pub mod RenamedLemmas
 pub mod SetsLemmas
 pub mod SingleSizeLemmas
 pub mod SizesLemmas
@@ -18,4 +19,5 @@ pub mod TestsLemmas
 pub mod TreesLemmas
 pub mod WorkedLemmas
 pub mod WorkedPeakLemmas
+pub mod WorkedRootsLemmas
 pub mod WorkedSureLemmas

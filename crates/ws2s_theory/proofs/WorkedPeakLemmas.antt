@@ -269,15 +269,15 @@ pub data FlagState : Type 0 where
   missing : FlagState
   present : FlagState
 
-abbrev flag : Bool → FlagState
+abbrev pub flag : Bool → FlagState
 flag true = present
 flag false = missing
 
-abbrev is_present : FlagState → Bool
+abbrev pub is_present : FlagState → Bool
 is_present missing = false
 is_present present = true
 
-abbrev Flag : Automaton FlagState
+abbrev pub Flag : Automaton FlagState
 Flag = record { initial = λ s. missing; step = λ s p q label. flag (label 0); accepting = is_present }
 
 -- the set of states that it stands for
@@ -395,27 +395,27 @@ flag-apart present present differ = absurd (differ refl)
 flag-apart missing present differ = at_root missing present (λ e. absurd cc)
 flag-apart present missing differ = at_root present missing (λ e. absurd cc)
 
-minimal-flag : IsMinimalOf plain Flag Any has_root
+pub minimal-flag : IsMinimalOf plain Flag Any has_root
 minimal-flag = minimal-all Flag has_root
     (Recognises-Ex2 plain plain-guide Here root_within recognises-here (track 1) Flag Any Member is-subset) flag-generated flag-apart
 
-decide-flag : (p q : FlagState) → (p ≡ q) ⊎ (p ≢ q)
+pub decide-flag : (p q : FlagState) → (p ≡ q) ⊎ (p ≢ q)
 decide-flag missing missing = inl refl
 decide-flag present present = inl refl
 decide-flag missing present = inr (λ e. absurd cc)
 decide-flag present missing = inr (λ e. absurd cc)
 
-abbrev flag-number : FlagState → ℕ
+abbrev pub flag-number : FlagState → ℕ
 flag-number missing = 0
 flag-number present = 1
 
-flag-number-once : (p q : FlagState) → flag-number p ≡ flag-number q → p ≡ q
+pub flag-number-once : (p q : FlagState) → flag-number p ≡ flag-number q → p ≡ q
 flag-number-once missing missing e = refl
 flag-number-once present present e = refl
 flag-number-once missing present e = absurd (omega (arith, e))
 flag-number-once present missing e = absurd (omega (arith, e))
 
-all-flag : (q : FlagState) → Contains (missing ∷ present ∷ []) q
+pub all-flag : (q : FlagState) → Contains (missing ∷ present ∷ []) q
 all-flag missing = (0, ltb-true 0 2 refl, refl)
 all-flag present = (1, ltb-true 1 2 refl, refl)
 

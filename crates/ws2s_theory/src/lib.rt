@@ -15,6 +15,7 @@ mod forms;
 mod label_trees;
 mod merging;
 mod peaks;
+mod renamed;
 mod worked;
 
 pub use atoms::atoms_are_recognised;
@@ -31,6 +32,8 @@ pub use label_trees::{
 };
 pub use merging::{atoms_merge_by_space, child_tests_exist, equal_tracks_leave_one_state};
 pub use peaks::{peak_goes_by_cases, peaks_are_unique, peaks_exist};
+pub use renamed::names_of_tracks_change_no_peak;
 pub use worked::{
-    peak_of_a_root_within, peaks_of_one_position, sizes_of_a_root_within, sizes_of_atoms,
+    peak_of_a_root_within, peak_of_four_roots_within, peaks_of_one_position,
+    sizes_of_a_root_within, sizes_of_atoms,
 };

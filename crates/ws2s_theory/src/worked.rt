@@ -4,7 +4,7 @@ ghost use Rattle.std.specs.Prelude.{ℕ, suc};
 ghost use Rattle.ws2s_core.specs.declared.formula.Formula.TheVariants.{Sub, Single, Root, And, Not, Ex2};
 ghost use Rattle.ws2s_core.specs.Examples.{track, has_root};
 ghost use Rattle.ws2s_theory.specs.Peaks.{HasMinimalSize, HasProductSize, HasSubsetSize, HasPeak};
-ghost use Rattle.ws2s_theory.specs.Worked.{plain, some_each};
+ghost use Rattle.ws2s_theory.specs.Worked.{plain, some_each, root_on_each};
 
 /// The Sizes of atoms' minimal automata.
 pub fn sizes_of_atoms()
@@ -33,4 +33,12 @@ pub fn peak_of_a_root_within()
 pub fn peaks_of_one_position()
     ensures one { (t : ℕ) → HasPeak plain (Ex2 (track t) (Single (track t))) 13 }
     ensures several { (n : ℕ) → HasPeak plain (some_each (suc n)) 14 }
+{}
+
+/// The Peak of "the root is in the set of each of tracks 0 to 3", joined from the left, and of its negation; and the Size
+/// of the minimal automaton of the first three, beside which the Peak of the fourth counts.
+pub fn peak_of_four_roots_within()
+    ensures three { HasMinimalSize plain (root_on_each 4 2) 7 }
+    ensures four { HasPeak plain (root_on_each 4 3) 65 }
+    ensures negated { HasPeak plain (Not (root_on_each 4 3)) 65 }
 {}
