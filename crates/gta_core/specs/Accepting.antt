@@ -1,5 +1,5 @@
 -- What a tree's nodes have in a list while acceptance is decided.
-use Rattle.std.specs.Prelude.{◌≡◌, ℕ, suc, ◌<◌, ◌≤◌, List, length, Some, IfSome, Option, None, slice_get, slice_index, slice_set}
+use Rattle.std.specs.Prelude.{◌≡◌, ℕ, suc, ◌<◌, ◌≤◌, List, length, Some, Option, None, slice_get, slice_index, slice_set}
 use Rattle.gta_theory.specs.Guides.{Spaces, IsSpace, left, right}
 use Rattle.gta_theory.specs.Automata.{Automaton}
 use Rattle.ws2s_core.specs.declared.label_tree.TreeNode.{TreeNode}
@@ -16,10 +16,10 @@ pub record AreSpacesFrom (g : Spaces) (nodes : List TreeNode) (from : ℕ) (spac
   pub many : length spaces ≡ length nodes
   pub inside : (k : ℕ) → IsSpace g (slice_index spaces k)
   pub root : (k : ℕ) → suc k ≡ length nodes → slice_index spaces k ≡ 0
-  pub left : (k : ℕ) (node : TreeNode) → from ≤ k → slice_get nodes k ≡ Some node →
-      IfSome node.left (λ j. slice_index spaces j ≡ left g (slice_index spaces k))
-  pub right : (k : ℕ) (node : TreeNode) → from ≤ k → slice_get nodes k ≡ Some node →
-      IfSome node.right (λ j. slice_index spaces j ≡ right g (slice_index spaces k))
+  pub left : (k j : ℕ) (node : TreeNode) → from ≤ k → slice_get nodes k ≡ Some node → node.left ≡ Some j →
+      slice_index spaces j ≡ left g (slice_index spaces k)
+  pub right : (k j : ℕ) (node : TreeNode) → from ≤ k → slice_get nodes k ≡ Some node → node.right ≡ Some j →
+      slice_index spaces j ≡ right g (slice_index spaces k)
 
 -- the first nodes have their values in their spaces
 pub record AreValues (g : Spaces) (A : Automaton ℕ) (nodes : List TreeNode) (spaces values : List ℕ) : Type 0 where

@@ -33,8 +33,8 @@ given_automaton g shelf spaces accepting = record {
 
 -- it has a valid root for each pair of child states, what its steps give are states, and it is stable
 pub record IsGiven (g : Spaces) (shelf : Contents) (spaces : List SpacePart) (accepting : List Bool) : Type 0 where
-  pub spaces : length spaces ≡ length g
-  pub accepting : length accepting ≡ given_states spaces 0
+  pub each_space : length spaces ≡ length g
+  pub each_state : length accepting ≡ given_states spaces 0
   pub complete : (s : ℕ) (part : SpacePart) → slice_get spaces s ≡ Some part →
       length part.roots ≡ given_states spaces (left g s) * given_states spaces (right g s)
   pub valid : (s : ℕ) (part : SpacePart) → slice_get spaces s ≡ Some part → All (IsValid shelf) part.roots

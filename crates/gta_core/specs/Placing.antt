@@ -1,15 +1,11 @@
 -- How given roots are put into one table.
-use Rattle.std.specs.Prelude.{◌≡◌, ℕ, ◌+◌, ◌<◌, ◌≤◌, ◌^◌, nat_lt, if◌then◌else◌, List, length, Option, Some, None, IsSome, MatchOption, slice_get, option_map}
+use Rattle.std.specs.Prelude.{◌≡◌, ℕ, ◌+◌, ◌<◌, ◌≤◌, ◌^◌, List, length, Option, Some, None, IsSome, MatchOption, slice_get, option_map}
 use Rattle.bdd_nodes.specs.declared.node_ref.NodeRef.{NodeRef}
 use Rattle.gta_theory.specs.Guides.{Spaces}
 use Rattle.gta_core.specs.declared.part.Part.{Part}
 use Rattle.gta_core.specs.declared.build.SpacePart.{SpacePart}
 use Rattle.gta_core.specs.Auto.{place_in}
 use Rattle.gta_core.specs.Given.{given_root}
-
--- the list has the first n numbers, in order
-abbrev pub CountsUp : ℕ → List ℕ → Type 0
-CountsUp n xs = (i : ℕ) → slice_get xs i ≡ (if nat_lt i n then Some i else None)
 
 -- roots were put at the end
 pub record Grows (old new : List NodeRef) : Type 0 where
@@ -20,7 +16,7 @@ pub record Grows (old new : List NodeRef) : Type 0 where
 pub record Shares (given old : List NodeRef) (cells : List ℕ) (new : List NodeRef) : Type 0 where
   pub grown : Grows old new
   pub many : length cells ≡ length given
-  pub cells : (i cell : ℕ) → slice_get cells i ≡ Some cell → slice_get new (length old + cell) ≡ slice_get given i
+  pub at : (i cell : ℕ) → slice_get cells i ≡ Some cell → slice_get new (length old + cell) ≡ slice_get given i
   pub used : (more : ℕ) → length old + more < length new → (i : ℕ) × (slice_get cells i ≡ Some more)
 
 -- the place has the root that is given; there is no place where none is given

@@ -7,7 +7,7 @@ ghost use Rattle.bdd_nodes.specs.Changes.{DropsTable};
 ghost use Rattle.gta_theory.specs.Guides.{Spaces, IsSpace, left, right};
 ghost use Rattle.gta_theory.specs.Numbered.{Below};
 ghost use Rattle.gta_theory.specs.Sizes.{IsChildPair};
-ghost use Rattle.gta_core.specs.Auto.{states_of, initial_of, is_accepting, guide_of, root_at, automaton_of, IsAuto, IsWhole};
+ghost use Rattle.gta_core.specs.Auto.{states_of, initial_of, is_accepting, guide_of, place_of, root_at, automaton_of, IsAuto, IsWhole};
 ghost use Rattle.gta_core.specs.Changes.{AddsOneTable};
 
 use crate::part::Part;
@@ -77,8 +77,7 @@ impl Auto {
             ↔ (IsSpace (guide_of self.now) space × IsChildPair (guide_of self.now) (Below (states_of self.now)) space (left, right)) }
         ensures valid { IfSome result (IsValid shelf.now) }
     {
-        let place = self.parts.get(space as usize)?.place(left, right)?;
-        shelf.roots(self.table)?.get(place).copied()
+        self.find(shelf, space, left, right)
     }
 
     /// The same automaton, with a registered table of its own. No node is made.
@@ -106,6 +105,24 @@ impl Auto {
             parts,
             accepting,
         })
+    }
+
+    /// Where the root of a pair of child states of a space stands in the table.
+    #[inline]
+    fn place(&self, space: u32, left: u32, right: u32) -> Option<usize>
+        ensures { result ≡ place_of self.now space left right }
+    {
+        self.parts.get(space as usize)?.place(left, right)
+    }
+
+    #[inline]
+    #[tactic(auto, unfolding(crate::specs::Auto::root_at))]
+    fn find(&self, shelf: &Shelf, space: u32, left: u32, right: u32) -> Option<NodeRef>
+        ensures value { result ≡ root_at shelf.now self.now space left right }
+        ensures valid { IfSome result (IsValid shelf.now) }
+    {
+        let place = self.place(space, left, right)?;
+        shelf.roots(self.table)?.get(place).copied()
     }
 
     /// The initial state of a space; 0 for an unknown space.

@@ -1,13 +1,14 @@
 //! Automata from given roots.
 
 ghost use Rattle.std.specs.Prelude.{◌≡◌, ◌+◌, ◌*◌, ◌<◌, ◌≤◌, ◌^◌, ℕ, Some, All, IfOk, OnErr, length, slice_get, []};
+ghost use Rattle.std.specs.List.{range_with_len};
 ghost use Rattle.bdd_nodes.specs.Shelf.{IsShelf, IsValid};
 ghost use Rattle.gta_theory.specs.Guides.{IsGuide, left, right};
 ghost use Rattle.gta_core.specs.Auto.{states_of, automaton_of, IsAuto};
 ghost use Rattle.gta_core.specs.declared.build.SpacePart.{SpacePart};
 ghost use Rattle.gta_core.specs.Changes.{AddsOneTable};
 ghost use Rattle.gta_core.specs.Given.{given_states, given_automaton, IsGiven};
-ghost use Rattle.gta_core.specs.Placing.{CountsUp, Shares, Grows, IsPlaced, HasPlace, ArePlaced};
+ghost use Rattle.gta_core.specs.Placing.{Shares, Grows, IsPlaced, HasPlace, ArePlaced};
 
 use crate::auto::{Auto, BoolList};
 use crate::part::Part;
@@ -134,7 +135,7 @@ fn states_in(spaces: &[SpacePart], space: u32) -> u32
 
 /// The numbers below.
 fn count_up(alloc: Global, many: u32) -> Result<Items<u32>, NoMemory>
-    ensures { IfOk result (CountsUp many) }
+    ensures { IfOk result (λ numbers. numbers ≡ range_with_len 0 many) }
 {
     let mut numbers = Items::new(alloc);
     for number in 0..many {
