@@ -9,7 +9,7 @@ use Rattle.std.proofs.lemmas.List.{length-set, length-replicate, get_or_past, ge
 use Rattle.std.proofs.lemmas.Option.{slice_get_within}
 use Rattle.std.proofs.Math.ListN.{get_or-append}
 use Rattle.labels.specs.Labels.{Label}
-use Rattle.bdd_nodes.specs.Shelf as shelf
+use Rattle.bdd_nodes.specs.Shelf as bdd
 use Rattle.bdd_nodes.specs.Shelf.{Contents}
 use Rattle.gta_theory.specs.Guides.{Spaces, IsGuide, IsSpace, left, right}
 use Rattle.gta_theory.specs.Automata.{Automaton, IsStable, Accepts}
@@ -50,21 +50,20 @@ names-two (n ∷ nodes) (suc k) (suc i) j node other less at_k at_i =
     omega (arith, times-cons n nodes j, names-two nodes k i j node other (omega arith) at_k at_i)
 
 -- the place is that of a child of the node
-IsChild : TreeNode → ℕ → Type 0
+abbrev pub IsChild : TreeNode → ℕ → Type 0
 IsChild node j = (node.left ≡ Some j) ⊎ (node.right ≡ Some j)
 
 hit : (child : Option ℕ) (j : ℕ) → child ≡ Some j → hits child j ≡ 1
 hit child j at = ap (λ (o : Option ℕ). hits o j) at ∙ hits-same j j refl
 
 names-child : (node : TreeNode) (j : ℕ) → IsChild node j → 1 ≤ names node j
-unfolding names IsChild
+unfolding names
 names-child node j (inl at) = omega (arith, hit node.left j at)
 names-child node j (inr at) = omega (arith, hit node.right j at)
 
 -- children of a tree stand before their one parent
 module _ (nodes : List TreeNode) (tree : IsTree nodes) where
   pub child-before : (k j : ℕ) (node : TreeNode) → slice_get nodes k ≡ Some node → IsChild node j → j < k
-  unfolding IsChild
   child-before k j node at (inl child) = if_some (λ i. i < k) node.left j child (tree.left_before k node at)
   child-before k j node at (inr child) = if_some (λ i. i < k) node.right j child (tree.right_before k node at)
 
@@ -78,7 +77,7 @@ module _ (nodes : List TreeNode) (tree : IsTree nodes) where
       omega (arith, names-two nodes k i j node other less at_k at_i, once k j node at_k of_node, names-child node j of_node, names-child other j of_other)
 
   not-both : (k j : ℕ) (node : TreeNode) → slice_get nodes k ≡ Some node → node.left ≡ Some j → node.right ≡ Some j → ⊥
-  unfolding names IsChild
+  unfolding names
   not-both k j node at on_left on_right =
       omega (arith, names-le nodes k j node at, once k j node at (inl on_left), hit node.left j on_left, hit node.right j on_right)
 
@@ -93,10 +92,18 @@ with-same spaces child s j at inside =
 
 with-other : (spaces : List ℕ) (child : Option ℕ) (s i : ℕ) → (child ≡ Some i → ⊥) → get_or (with_space spaces child s) i 0 ≡ get_or spaces i 0
 with-other spaces None s i other = refl
-with-other spaces (Some j) s i other = get_or-set_other spaces j i s 0 (λ e. other (ap (λ (k : ℕ). let o : Option ℕ = Some k in o) e))
+with-other spaces (Some j) s i other = get_or-set_other spaces j i s 0 (λ e. other (ap (λ (k : ℕ). let o : Option ℕ = Some k in o) (sym e)))
+
+abbrev pub zeros : ℕ → List ℕ
+zeros n = replicate n 0
+
+zero-at : (n k : ℕ) → get_or (zeros n) k 0 ≡ 0
+zero-at zero k = refl
+zero-at (suc n) zero = refl
+zero-at (suc n) (suc k) = zero-at n k
 
 module _ (g : Spaces) (guide : IsGuide g) (nodes : List TreeNode) (tree : IsTree nodes) where
-  pub AreSpacesFrom-start : AreSpacesFrom g nodes (length nodes) (replicate (length nodes) 0)
+  pub AreSpacesFrom-start : AreSpacesFrom g nodes (length nodes) (zeros (length nodes))
   AreSpacesFrom-start = record {
     many = length-replicate (length nodes) 0;
     inside = λ k. subst (IsSpace g) (sym (zero-at (length nodes) k)) guide.not_empty;
@@ -104,11 +111,6 @@ module _ (g : Spaces) (guide : IsGuide g) (nodes : List TreeNode) (tree : IsTree
     left = λ k j node from at child. absurd (omega (arith, slice_get_within nodes k node at));
     right = λ k j node from at child. absurd (omega (arith, slice_get_within nodes k node at));
   }
-    where
-      zero-at : (n k : ℕ) → get_or (replicate n 0) k 0 ≡ 0
-      zero-at zero k = refl
-      zero-at (suc n) zero = refl
-      zero-at (suc n) (suc k) = zero-at n k
 
   -- the children of one node more
   module _ (k : ℕ) (spaces : List ℕ) (so_far : AreSpacesFrom g nodes (suc k) spaces) (node : TreeNode) (at : slice_get nodes k ≡ Some node) where
@@ -122,7 +124,6 @@ module _ (g : Spaces) (guide : IsGuide g) (nodes : List TreeNode) (tree : IsTree
     put_both = with_space once_put node.right (right g here)
 
     same : (i : ℕ) → (IsChild node i → ⊥) → get_or put_both i 0 ≡ get_or spaces i 0
-    unfolding IsChild
     same i other =
         with-other once_put node.right (right g here) i (λ e. other (inr e)) ∙ with-other spaces node.left (left g here) i (λ e. other (inl e))
 
@@ -134,11 +135,10 @@ module _ (g : Spaces) (guide : IsGuide g) (nodes : List TreeNode) (tree : IsTree
         | inl inside ↦ subst (λ (m : ℕ). IsSpace g (get_or (set xs j s) m 0)) e (subst (IsSpace g) (sym (get_or-set_same xs j s 0 inside)) there)
         | inr past ↦ subst (λ (m : ℕ). IsSpace g (get_or (set xs j s) m 0)) e (subst (IsSpace g) (sym (get_or_past (set xs j s) j 0 (omega (arith, length-set xs j s)))) guide.not_empty)
       ]
-      | inr other ↦ subst (IsSpace g) (sym (get_or-set_other xs j i s 0 other)) (all i)
+      | inr other ↦ subst (IsSpace g) (sym (get_or-set_other xs j i s 0 (λ e. other (sym e)))) (all i)
     ]
 
     pub AreSpacesFrom-put : AreSpacesFrom g nodes k put_both
-    unfolding IsChild
     AreSpacesFrom-put = record {
       many = length-with once_put node.right (right g here) ∙ length-with spaces node.left (left g here) ∙ so_far.many;
       inside = inside-with once_put node.right (right g here) (guide.right_inside here (so_far.inside k))
@@ -174,10 +174,10 @@ module _ (g : Spaces) (guide : IsGuide g) (nodes : List TreeNode) (tree : IsTree
     }
 
 -- the two words on labels are one
-pub label-tracks : (tracks : List Track) → shelf.label_of (map (λ track. track.0) tracks) ≡ label_of tracks
+pub label-tracks : (tracks : List Track) → bdd.label_of (map (λ track. track.0) tracks) ≡ label_of tracks
 label-tracks tracks = fun_ext (λ t. pick tracks t)
   where
-    pick : (ts : List Track) (t : ℕ) → shelf.label_of (map (λ track. track.0) ts) t ≡ label_of ts t
+    pick : (ts : List Track) (t : ℕ) → bdd.label_of (map (λ track. track.0) ts) t ≡ label_of ts t
     pick [] t = refl
     pick (x ∷ ts) t = ap (λ (b : Bool). (x.0 == t) || b) (pick ts t)
 
@@ -201,9 +201,8 @@ module _ (shelf : Contents) (a : AutoView) (g : Spaces) (guide : IsGuide g) (sta
   pub value-turn : (values : List ℕ) → AreValues g A nodes spaces values → (k : ℕ) (node : TreeNode) → k ≡ length values →
       slice_get nodes k ≡ Some node →
       A.step (get_or spaces k 0) (state_of_child a values node.left (left g (get_or spaces k 0)))
-      (state_of_child a values node.right (right g (get_or spaces k 0))) (shelf.label_of (map (λ track. track.0) node.tracks))
+      (state_of_child a values node.right (right g (get_or spaces k 0))) (bdd.label_of (map (λ track. track.0) node.tracks))
       ≡ value_at g A (get_or spaces k 0) nodes k
-  unfolding IsChild
   value-turn values so_far k node here at =
       let s = get_or spaces k 0 in
       let of_left = child-is values so_far node.left (left g s) (λ j child.

@@ -1,16 +1,17 @@
 -- An automaton whose parts are placed is the given one.
 use Rattle.std.proofs.Common.{◌≡◌, ℕ, zero, suc, ◌+◌, ◌*◌, ◌^◌, ◌<◌, ◌≤◌, Bool, true, false, List, [], ◌∷◌, length, map, get_or}
 use Rattle.std.proofs.Common.{Option, Some, None, refl, sym, ◌∙◌, ap, subst, inl, inr, arith}
-use Rattle.std.specs.Prelude.{IsSome, is_some, unwrap_or, slice_get, option_map, option_and_then}
+use Rattle.std.specs.Prelude.{All, IsSome, is_some, unwrap_or, slice_get, option_map, option_and_then}
 use mathlib.Core.Path.{fun_ext}
 use Rattle.std.proofs.lemmas.Bool.{cases_lt, false≢true, lt-ltb, ltb-true}
 use Rattle.std.proofs.lemmas.List.{length-map}
 use Rattle.std.proofs.lemmas.Nat.{mul-add-lt}
-use Rattle.std.proofs.lemmas.Option.{slice_get-map, slice_get-get_or, slice_get_within, slice_get_past}
+use Rattle.std.proofs.lemmas.Option.{slice_get-map, slice_get-get_or, slice_get_past, get_or_from_slice_get}
 use Rattle.std.proofs.Math.Nat.{mul_comm}
 use Rattle.bdd_nodes.specs.declared.node_ref.NodeRef.{NodeRef}
-use Rattle.bdd_nodes.specs.Shelf.{Contents, state_of, roots_of, root_of}
+use Rattle.bdd_nodes.specs.Shelf.{Contents, IsValid, state_of, roots_of, root_of}
 use Rattle.bdd_nodes.specs.Changes.{AddsTable}
+use Rattle.bdd_nodes.proofs.TablesLemmas.{All-root}
 use Rattle.gta_theory.specs.Guides.{Spaces, IsGuide, IsSpace, left, right}
 use Rattle.gta_theory.specs.Automata.{Automaton, IsStable}
 use Rattle.gta_theory.specs.Constructions.{IsClosed}
@@ -21,7 +22,7 @@ use Rattle.gta_core.specs.declared.build.SpacePart.{SpacePart}
 use Rattle.gta_core.specs.Auto.{AutoView, states_of, initial_of, is_accepting, guide_of, place_in, place_of, root_at, automaton_of, IsUsed, IsAuto, IsWhole}
 use Rattle.gta_core.specs.Given.{given_states, given_initial, given_root, given_automaton, IsGiven}
 use Rattle.gta_core.specs.Placing.{HasGiven, ArePlaced}
-use Rattle.gta_core.proofs.AutoLemmas.{functions-same}
+use Rattle.gta_core.proofs.AutoLemmas.{past-none, functions-same}
 use Rattle.gta_core.proofs.PlacingLemmas.{given_root-known, given_root-unknown, given_root-IsKnown}
 
 -- lists with the same elements are the same
@@ -33,11 +34,6 @@ ext {X} (x ∷ xs) (y ∷ ys) same =
     let e : ◌≡◌ {A = Option X} (Some x) (Some y) = same 0 in
     let first : x ≡ y = cc in
     ap (λ (z : X). z ∷ xs) first ∙ ap (λ (zs : List X). y ∷ zs) (ext xs ys (λ i. same (suc i)))
-
-past-none : {X : Type 0} (xs : List X) (i : ℕ) → slice_get xs i ≡ None → length xs ≤ i
-past-none [] i none = omega arith
-past-none (x ∷ xs) zero none = absurd cc
-past-none (x ∷ xs) (suc i) none = omega (arith, past-none xs i none)
 
 within-some : {X : Type 0} (xs : List X) (i : ℕ) → IsSome (slice_get xs i) → i < length xs
 within-some [] i some = absurd (false≢true some)
@@ -52,6 +48,34 @@ some-within (x ∷ xs) (suc i) inside = some-within xs i (omega arith)
 some-first : {X Y : Type 0} (f : X → Option Y) (o : Option X) → IsSome (option_and_then f o) → IsSome o
 some-first f None some = some
 some-first f (Some x) some = refl
+
+-- the roots that are placed are valid
+module _ (g : Spaces) (shelf : Contents) (spaces : List SpacePart) (accepting : List Bool) (given : IsGiven g shelf spaces accepting) where
+  valid-found : (o : Option SpacePart) (s i : ℕ) (root : NodeRef) → slice_get spaces s ≡ o →
+      option_and_then (λ (part : SpacePart). slice_get part.roots i) o ≡ Some root → IsValid shelf root
+  valid-found None s i root at found = absurd cc
+  valid-found (Some part) s i root at found = All-root (IsValid shelf) part.roots i root (given.valid s part at) found
+
+  valid-given : (s l r : ℕ) (root : NodeRef) → given_root g spaces s l r ≡ Some root → IsValid shelf root
+  valid-given s l r root is =
+      let known = given_root-IsKnown g spaces s l r (ap (λ (o : Option NodeRef). is_some o) is) in
+      valid-found (slice_get spaces s) s (l * given_states spaces (right g s) + r) root refl
+      (sym (given_root-known g spaces s l r known.left_in known.right_in) ∙ is)
+
+  valid-root : (roots : List NodeRef) (place s l r : ℕ) (o : Option ℕ) → HasGiven roots o (given_root g spaces s l r) → o ≡ Some place → (d : NodeRef) →
+      IsValid shelf (get_or roots place d)
+  valid-root roots place s l r o has is d =
+      let at = subst (λ (p : Option ℕ). HasGiven roots p (given_root g spaces s l r)) is has in
+      pick (given_root g spaces s l r) refl at.0 at.1
+    where
+      pick : (root : Option NodeRef) → given_root g spaces s l r ≡ root → IsSome root → slice_get roots place ≡ root → IsValid shelf (get_or roots place d)
+      pick None e some at = absurd (false≢true some)
+      pick (Some root) e some at = subst (IsValid shelf) (sym (get_or_from_slice_get roots place root d at)) (valid-given s l r root e)
+
+  pub All-placed : (parts : List Part) (roots : List NodeRef) → ArePlaced g spaces parts roots → All (IsValid shelf) roots
+  All-placed parts roots placed place d inside =
+      let u = placed.used place inside in
+      valid-root roots place u.0 u.3.left u.3.right (place_in u.1 u.3.left u.3.right) ((placed.each u.0 u.1 u.2).root u.3.left u.3.right) u.3.there d
 
 module _ (g : Spaces) (old new : Contents) (spaces : List SpacePart) (accepting : List Bool) (a : AutoView) (roots : List NodeRef)
     (given : IsGiven g old spaces accepting) (adds : AddsTable old new a.table roots) (many : length a.parts ≡ length g)

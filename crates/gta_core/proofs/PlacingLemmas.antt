@@ -1,7 +1,7 @@
 -- Given roots in a table.
 use Rattle.std.proofs.Common.{◌≡◌, ◌⊎◌, ◌↔◌, ℕ, zero, suc, ◌+◌, ◌-◌, ◌*◌, ◌^◌, ◌/◌, ◌%◌, ◌<◌, ◌≤◌, Bool, true, false, List, [], ◌∷◌, ◌++◌, length, get_or}
 use Rattle.std.proofs.Common.{Option, Some, None, refl, sym, ◌∙◌, ap, subst, inl, inr, arith, length-append, add-one}
-use Rattle.std.specs.Prelude.{IsSome, is_some, nat_lt, ◌&&◌, if◌then◌else◌, slice_get, option_map, option_and_then}
+use Rattle.std.specs.Prelude.{IsSome, is_some, unwrap_or, nat_lt, ◌&&◌, if◌then◌else◌, slice_get, option_map, option_and_then}
 use Rattle.std.specs.List.{range_with_len}
 use Rattle.std.proofs.lemmas.Bool.{cases_lt, false≢true, lt-ltb, ltb-true}
 use Rattle.std.proofs.lemmas.Bool.Decides.{nat_tests}
@@ -22,12 +22,15 @@ not_below : (a b : ℕ) → b ≤ a → nat_lt a b ≡ false
 not_below a b past = grind (arith, nat_tests)
 
 -- one number more
-pub range-more : (a n : ℕ) → range_with_len a (n + 1) ≡ range_with_len a n ++ (a + n) ∷ []
+range-more : (a n : ℕ) → range_with_len a (n + 1) ≡ range_with_len a n ++ (a + n) ∷ []
 range-more a zero = let e : a ≡ a + 0 = omega arith in ap (λ (k : ℕ). k ∷ []) e
 range-more a (suc n) =
     let e : (a + 1) + n ≡ a + suc n = omega arith in
     let f : suc n + 1 ≡ suc (n + 1) = omega arith in
     ap (range_with_len a) f ∙ ap (λ (xs : List ℕ). a ∷ xs) (range-more (a + 1) n ∙ ap (λ (k : ℕ). range_with_len (a + 1) n ++ k ∷ []) e)
+
+pub range-next : (n : ℕ) → range_with_len 0 (n + 1) ≡ range_with_len 0 n ++ n ∷ []
+range-next n = let e : 0 + n ≡ n = omega arith in range-more 0 n ∙ ap (λ (k : ℕ). range_with_len 0 n ++ k ∷ []) e
 
 range-at : (n i : ℕ) → i < n → slice_get (range_with_len 0 n) i ≡ Some i
 range-at n i inside =
@@ -74,6 +77,21 @@ HasGiven-grown old new grows None given has = has
 HasGiven-grown old new grows (Some p) None has = absurd (false≢true has.0)
 HasGiven-grown old new grows (Some p) (Some root) has = (refl, grows.kept p (slice_get_within old p root has.1) ∙ has.1)
 
+columns-some : (rows columns i : ℕ) → i < rows * columns → 0 < columns
+columns-some rows columns i inside = elim (cases_lt 0 columns) [
+  | inl some ↦ some
+  | inr none ↦ absurd (omega (arith, mul-le-mul_left {m = columns} {n = 0} rows none))
+]
+
+row-inside : (rows columns i : ℕ) → i < rows * columns → i / columns < rows
+row-inside rows columns i inside = elim (cases_lt (i / columns) rows) [
+  | inl less ↦ less
+  | inr past ↦
+      let wide = columns-some rows columns i inside in
+      let split : columns * (i / columns) + i % columns ≡ i = omega arith in
+      absurd (omega (arith, mul-le-mul_left {m = rows} {n = i / columns} columns past, mul_comm rows columns))
+]
+
 -- a part whose classes are the states
 module _ (states initial : ℕ) (children : ℕ × ℕ) (first rows columns : ℕ) (cells : List ℕ) where
   abbrev pub counted : Part
@@ -118,16 +136,10 @@ module _ (states initial : ℕ) (children : ℕ × ℕ) (first rows columns : �
       let used = shares.used more inside in
       let i = used.0 in
       let below : i < rows * columns = omega (arith, slice_get_within cells i more used.1, shares.many) in
-      let wide : 0 < columns = (elim (cases_lt 0 columns) [
-        | inl yes ↦ yes
-        | inr no ↦ absurd (omega (arith, mul-le-mul_left {m = columns} {n = 0} rows no))
-      ]) in
+      let wide = columns-some rows columns i below in
       let split : columns * (i / columns) + i % columns ≡ i = omega arith in
       let r_in : i % columns < columns = omega arith in
-      let l_in : i / columns < rows = (elim (cases_lt (i / columns) rows) [
-        | inl yes ↦ yes
-        | inr no ↦ absurd (omega (arith, mul-le-mul_left {m = rows} {n = i / columns} columns no, mul_comm rows columns))
-      ]) in
+      let l_in = row-inside rows columns i below in
       let at : (i / columns) * columns + i % columns ≡ i = ap (λ (k : ℕ). k + i % columns) (mul_comm (i / columns) columns) ∙ split in
       record {
         left = i / columns;
@@ -214,12 +226,9 @@ module _ (g : Spaces) (spaces : List SpacePart) (s : ℕ) (given : SpacePart) (t
 
       inside : (i : ℕ) → i < length given.roots → (o : Option ℕ) → slice_get cells i ≡ o →
           HasGiven new (option_map (λ cell. length old + cell) o) (slice_get given.roots i)
-      inside i below None at = absurd (false≢true (sym (ap (λ (o : Option ℕ). is_some o) at) ∙ ap (λ (o : Option ℕ). is_some o)
-      (slice_get-get_or cells i 0 (omega (arith, shares.many)))))
-      inside i below (Some cell) at = (
-        some_inside given.roots i below,
-        shares.at i cell at,
-      )
+      inside i below None at =
+          absurd (false≢true (ap (λ (o : Option ℕ). is_some o) (sym at ∙ slice_get-get_or cells i 0 (omega (arith, shares.many)))))
+      inside i below (Some cell) at = (some_inside given.roots i below, shares.at i cell at)
 
       some_inside : (xs : List NodeRef) (i : ℕ) → i < length xs → IsSome (slice_get xs i)
       some_inside [] i below = absurd (omega arith)
@@ -250,6 +259,12 @@ module _ (g : Spaces) (spaces : List SpacePart) (s : ℕ) (given : SpacePart) (t
 
   pub HasPlace-made : (more : ℕ) → length old + more < length new → HasPlace made (length old + more)
   HasPlace-made more inside = HasPlace-counted _ _ _ _ _ _ _ given.roots old new refl many shares more inside
+
+-- an element inside
+pub unwrap-inside : {X : Type 0} (xs : List X) (i : ℕ) (d : X) → i < length xs → slice_get xs i ≡ Some (unwrap_or (slice_get xs i) d)
+unwrap-inside [] i d inside = absurd (omega arith)
+unwrap-inside (x ∷ xs) zero d inside = refl
+unwrap-inside (x ∷ xs) (suc i) d inside = unwrap-inside xs i d (omega arith)
 
 -- the parts so far
 module _ (g : Spaces) (spaces : List SpacePart) where

@@ -1,7 +1,8 @@
 //! Automata whose tables are kept in a shelf.
 
-ghost use Rattle.std.specs.Prelude.{◌≡◌, ◌<◌, ℕ, ◌↔◌, None, Some, length, IfSome, IsSome, IfOk, OnErr, MatchOption, slice_get};
+ghost use Rattle.std.specs.Prelude.{◌≡◌, ◌<◌, ℕ, ◌↔◌, None, Some, length, IfSome, IsSome, IfOk, OnErr, MatchOption, slice_get, unwrap_or, []};
 ghost use Rattle.std.specs.Option.{option_copied, SomeIff};
+ghost use Rattle.bdd_nodes.specs.Roots.{number_of};
 ghost use Rattle.bdd_nodes.specs.Shelf.{IsShelf, IsValid, roots_of, label_of};
 ghost use Rattle.bdd_nodes.specs.Changes.{DropsTable};
 ghost use Rattle.gta_theory.specs.Guides.{Spaces, IsSpace, left, right};
@@ -93,12 +94,11 @@ impl Auto {
         ensures err { OnErr result (shelf.new ≡ shelf.old) }
         ensures shelf { IsShelf shelf.new }
     {
+        // Only for its clause `shelf`.
+        let _ = shelf.count();
         let parts = copies(alloc, self.parts.as_slice())?;
         let accepting = Items::from_slice(alloc, self.accepting.as_slice())?;
-        let roots = match shelf.roots(self.table) {
-            Some(roots) => RefList::from_slice(alloc, roots)?,
-            None => RefList::new(alloc),
-        };
+        let roots = roots_in(alloc, shelf, self.table)?;
         let table = shelf.add_table(roots)?;
         Ok(Auto {
             table,
@@ -171,6 +171,16 @@ impl Auto {
             Some(root) => shelf.eval(root, label),
             None => 0,
         }
+    }
+}
+
+/// The roots of a table; none for an unknown one.
+fn roots_in(alloc: Global, shelf: &Shelf, table: TableId) -> Result<RefList, NoMemory>
+    ensures { IfOk result (λ roots. roots ≡ unwrap_or (roots_of shelf.now (number_of table)) []) }
+{
+    match shelf.roots(table) {
+        Some(roots) => RefList::from_slice(alloc, roots),
+        None => Ok(RefList::new(alloc)),
     }
 }
 

@@ -3,4 +3,4 @@ use Rattle.gta_core.specs.Placing.{ArePlaced}
 use Rattle.gta_core.proofs.build.parts_of.Given as goal
 
 abbrev pub invariant-loop-space : goal.invariant-loop-space
-invariant-loop-space l = (length l.parts ≡ l.space) × ArePlaced l.g l.fn.spaces.now l.parts l.roots
+invariant-loop-space l = (length l.parts ≡ l.space) × ArePlaced l.g l.spaces l.parts l.roots
