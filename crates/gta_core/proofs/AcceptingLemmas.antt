@@ -6,7 +6,7 @@ use Rattle.std.specs.List.{list_any}
 use mathlib.Core.Path.{fun_ext}
 use Rattle.std.proofs.lemmas.Bool.{cases_lt, cases_eq}
 use Rattle.std.proofs.lemmas.List.{length-set, length-replicate, get_or_past, get_or_push}
-use Rattle.std.proofs.lemmas.Option.{slice_get_within}
+use Rattle.std.proofs.lemmas.Option.{slice_get_within, get_or_from_slice_get}
 use Rattle.std.proofs.Math.ListN.{get_or-append}
 use Rattle.labels.specs.Labels.{Label}
 use Rattle.bdd_nodes.specs.Shelf as bdd
@@ -20,10 +20,15 @@ use Rattle.ws2s_theory.specs.Trees.{label_of, last_place, value_at, child_value}
 use Rattle.ws2s_theory.proofs.JoiningLemmas.{hits, hits-same, times-cons}
 use Rattle.ws2s_theory.proofs.TreesLemmas.{value-step, Accepts-root}
 use Rattle.gta_core.specs.Auto.{AutoView, initial_of, is_accepting, automaton_of}
+use Rattle.gta_core.proofs.AutoLemmas.{past-none}
 use Rattle.gta_core.specs.Accepting.{with_space, state_of_child, AreSpacesFrom, AreValues}
 
 if_some : {X : Type 0} (P : X → Type 0) (o : Option X) (x : X) → o ≡ Some x → IfSome o P → P x
 if_some P o x at holds = subst (λ (p : Option _). IfSome p P) at holds
+
+pub IfSome-less : (o : Option ℕ) (k n : ℕ) → k ≤ n → IfSome o (λ j. j < k) → IfSome o (λ j. j < n)
+IfSome-less None k n le less = tt
+IfSome-less (Some j) k n le less = omega arith
 
 -- how often a node names a place
 names : TreeNode → ℕ → ℕ
@@ -82,7 +87,7 @@ module _ (nodes : List TreeNode) (tree : IsTree nodes) where
       omega (arith, names-le nodes k j node at, once k j node at (inl on_left), hit node.left j on_left, hit node.right j on_right)
 
 -- spaces are put in
-length-with : (spaces : List ℕ) (child : Option ℕ) (s : ℕ) → length (with_space spaces child s) ≡ length spaces
+pub length-with : (spaces : List ℕ) (child : Option ℕ) (s : ℕ) → length (with_space spaces child s) ≡ length spaces
 length-with spaces None s = refl
 length-with spaces (Some j) s = length-set spaces j s
 
@@ -181,6 +186,26 @@ label-tracks tracks = fun_ext (λ t. pick tracks t)
     pick [] t = refl
     pick (x ∷ ts) t = ap (λ (b : Bool). (x.0 == t) || b) (pick ts t)
 
+-- the last of the values, or another number where there are none
+pub record IsLast (values : List ℕ) (state start : ℕ) : Type 0 where
+  pub last : (k : ℕ) → suc k ≡ length values → state ≡ get_or values k 0
+  pub empty : length values ≡ 0 → state ≡ start
+
+pub IsLast-some : (values : List ℕ) (state start : ℕ) → Some state ≡ slice_get values (length values - 1) → IsLast values state start
+IsLast-some values state start there =
+    let inside = slice_get_within values (length values - 1) state (sym there) in
+    record {
+      last = λ k e.
+          let f : length values - 1 ≡ k = omega arith in
+          sym (get_or_from_slice_get values (length values - 1) state 0 (sym there)) ∙ ap (λ (m : ℕ). get_or values m 0) f;
+      empty = λ none. absurd (omega arith);
+    }
+
+pub IsLast-none : (values : List ℕ) (start : ℕ) → None ≡ slice_get values (length values - 1) → IsLast values start start
+IsLast-none values start none =
+    let past = past-none values (length values - 1) (sym none) in
+    record { last = λ k e. absurd (omega arith); empty = λ e. refl }
+
 -- values
 module _ (shelf : Contents) (a : AutoView) (g : Spaces) (guide : IsGuide g) (stable : IsStable g (automaton_of shelf a)) (nodes : List TreeNode)
     (tree : IsTree nodes) (spaces : List ℕ) (are_spaces : AreSpacesFrom g nodes 0 spaces) where
@@ -225,10 +250,9 @@ module _ (shelf : Contents) (a : AutoView) (g : Spaces) (guide : IsGuide g) (sta
 
   -- the root's value is that of the last node
   pub Accepts-last : (values : List ℕ) → AreValues g A nodes spaces values → length values ≡ length nodes → (state : ℕ) →
-      ((k : ℕ) → suc k ≡ length nodes → state ≡ get_or values k 0) → (length nodes ≡ 0 → state ≡ initial_of a 0) →
-      IsTrue (is_accepting a state) ↔ Accepts g A (assignment_of nodes)
+      IsLast values state (initial_of a 0) → IsTrue (is_accepting a state) ↔ Accepts g A (assignment_of nodes)
   unfolding automaton_of
-  Accepts-last values are_values many state last empty =
+  Accepts-last values are_values many state is_last =
       let is : state ≡ child_value g A 0 nodes (last_place 0 (length nodes)) = pick (length nodes) refl in
       let both = Accepts-root g guide A stable nodes in (
         λ accepting. both.1 (subst (λ (q : ℕ). IsTrue (A.accepting q)) is accepting),
@@ -236,8 +260,8 @@ module _ (shelf : Contents) (a : AutoView) (g : Spaces) (guide : IsGuide g) (sta
       )
     where
       pick : (n : ℕ) → length nodes ≡ n → state ≡ child_value g A 0 nodes (last_place 0 n)
-      pick zero e = empty e
+      pick zero e = is_last.empty (omega arith)
       pick (suc n) e =
           let f : n ≡ 0 + n = omega arith in
-          last n (sym e) ∙ are_values.each n (omega arith) ∙ ap (λ (m : ℕ). value_at g A m nodes n) (are_spaces.root n (sym e))
+          is_last.last n (omega arith) ∙ are_values.each n (omega arith) ∙ ap (λ (m : ℕ). value_at g A m nodes n) (are_spaces.root n (sym e))
           ∙ ap (λ (m : ℕ). value_at g A 0 nodes m) f

@@ -1,6 +1,6 @@
 -- Automata whose table stays with its functions.
 use Rattle.std.proofs.Common.{◌≡◌, ◌≢◌, ◌≤◌, ℕ, zero, suc, false, true, List, [], ◌∷◌, length, Option, Some, None, refl, sym, ◌∙◌, ap, subst, inl, inr, arith}
-use Rattle.std.specs.Prelude.{IsSome, is_some, unwrap_or, slice_get, option_map, option_and_then}
+use Rattle.std.specs.Prelude.{All, IsSome, is_some, unwrap_or, slice_get, option_map, option_and_then}
 use mathlib.Core.Path.{fun_ext}
 use Rattle.std.proofs.lemmas.Bool.{false≢true}
 use Rattle.std.proofs.lemmas.Option.{slice_get_within}
@@ -8,8 +8,9 @@ use Rattle.labels.specs.Labels.{Label, Function}
 use Rattle.bdd_nodes.specs.declared.node.Node.{Node}
 use Rattle.bdd_nodes.specs.declared.node_ref.NodeRef.{NodeRef}
 use Rattle.bdd_nodes.specs.Nodes.{node_of, state_named}
-use Rattle.bdd_nodes.specs.Shelf.{Contents, IsShelf, state_of, roots_of, root_of}
+use Rattle.bdd_nodes.specs.Shelf.{Contents, IsShelf, IsValid, state_of, roots_of, root_of}
 use Rattle.bdd_nodes.specs.Changes.{SameNodes, AddsTable, MovesRoots, IsMoved}
+use Rattle.bdd_nodes.proofs.TablesLemmas.{All-registered}
 use Rattle.bdd_nodes.proofs.UnderLemmas.{roots_of-unused}
 use Rattle.gta_theory.specs.Guides.{Spaces}
 use Rattle.gta_theory.specs.Automata.{Automaton, IsStable}
@@ -122,6 +123,14 @@ module _ (old new : Contents) (a : AutoView) (keeps : KeepsTable old new a.table
 
   pub IsAuto-kept : (g : Spaces) → IsAuto g old a → IsAuto g new a
   IsAuto-kept g auto = IsAuto-moved old new a a.table keeps.registered keeps.functions g auto
+
+-- the roots of a table are valid
+pub All-roots : (shelf : Contents) → IsShelf shelf → (number : ℕ) → All (IsValid shelf) (unwrap_or (roots_of shelf number) [])
+All-roots shelf is_shelf number = pick (roots_of shelf number) refl
+  where
+    pick : (o : Option (List NodeRef)) → roots_of shelf number ≡ o → All (IsValid shelf) (unwrap_or o [])
+    pick None at = λ k d inside. absurd (omega arith)
+    pick (Some roots) at = All-registered shelf is_shelf number roots at
 
 -- a table of its own for the same roots
 module _ (old new : Contents) (a : AutoView) (table : ℕ) (adds : AddsTable old new table (unwrap_or (roots_of old a.table) [])) where

@@ -216,13 +216,18 @@ module _ (g : Spaces) (spaces : List SpacePart) (s : ℕ) (given : SpacePart) (t
   root-made l r = elim (cases_lt l (given_states spaces (left g s))) as (λ _. HasGiven new (place_in made l r) (given_root g spaces s l r)) [
     | inl l_in ↦ elim (cases_lt r (given_states spaces (right g s))) as (λ _. HasGiven new (place_in made l r) (given_root g spaces s l r)) [
       | inl r_in ↦ both l_in r_in
-      | inr past ↦ outside (place-beside _ _ _ _ _ _ _ l r past) (given_root-beside g spaces s l r past)
+      | inr past ↦ outside (place-beside given.states given.initial children (length old) (given_states spaces (left g s)) (given_states spaces (right g s)) cells l r past) (given_root-beside g spaces s l r past)
     ]
-    | inr past ↦ outside (place-above _ _ _ _ _ _ _ l r past) (given_root-above g spaces s l r past)
+    | inr past ↦ outside (place-above given.states given.initial children (length old) (given_states spaces (left g s)) (given_states spaces (right g s)) cells l r past) (given_root-above g spaces s l r past)
   ]
     where
       outside : place_in made l r ≡ None → given_root g spaces s l r ≡ None → HasGiven new (place_in made l r) (given_root g spaces s l r)
       outside none nothing = subst (λ (o : Option ℕ). HasGiven new o (given_root g spaces s l r)) (sym none) nothing
+
+      some_inside : (xs : List NodeRef) (i : ℕ) → i < length xs → IsSome (slice_get xs i)
+      some_inside [] i below = absurd (omega arith)
+      some_inside (x ∷ xs) zero below = refl
+      some_inside (x ∷ xs) (suc i) below = some_inside xs i (omega arith)
 
       inside : (i : ℕ) → i < length given.roots → (o : Option ℕ) → slice_get cells i ≡ o →
           HasGiven new (option_map (λ cell. length old + cell) o) (slice_get given.roots i)
@@ -230,18 +235,13 @@ module _ (g : Spaces) (spaces : List SpacePart) (s : ℕ) (given : SpacePart) (t
           absurd (false≢true (ap (λ (o : Option ℕ). is_some o) (sym at ∙ slice_get-get_or cells i 0 (omega (arith, shares.many)))))
       inside i below (Some cell) at = (some_inside given.roots i below, shares.at i cell at)
 
-      some_inside : (xs : List NodeRef) (i : ℕ) → i < length xs → IsSome (slice_get xs i)
-      some_inside [] i below = absurd (omega arith)
-      some_inside (x ∷ xs) zero below = refl
-      some_inside (x ∷ xs) (suc i) below = some_inside xs i (omega arith)
-
       both : l < given_states spaces (left g s) → r < given_states spaces (right g s) → HasGiven new (place_in made l r) (given_root g spaces s l r)
       both l_in r_in =
           let L = given_states spaces (left g s) in
           let R = given_states spaces (right g s) in
           let i = l * R + r in
           let below : i < length given.roots = omega (arith, mul-add-lt l R r L l_in r_in, mul_comm L R, many) in
-          let of_place : place_in made l r ≡ option_map (λ cell. length old + cell) (slice_get cells i) = place-inside _ _ _ _ _ _ _ l r l_in r_in in
+          let of_place : place_in made l r ≡ option_map (λ cell. length old + cell) (slice_get cells i) = place-inside given.states given.initial children (length old) (given_states spaces (left g s)) (given_states spaces (right g s)) cells l r l_in r_in in
           let of_given : given_root g spaces s l r ≡ slice_get given.roots i =
           given_root-known g spaces s l r l_in r_in ∙ ap (λ (o : Option SpacePart). option_and_then (λ part. slice_get part.roots i) o) there in
           subst (λ (o : Option ℕ). HasGiven new o (given_root g spaces s l r)) (sym of_place)
@@ -258,7 +258,7 @@ module _ (g : Spaces) (spaces : List SpacePart) (s : ℕ) (given : SpacePart) (t
   }
 
   pub HasPlace-made : (more : ℕ) → length old + more < length new → HasPlace made (length old + more)
-  HasPlace-made more inside = HasPlace-counted _ _ _ _ _ _ _ given.roots old new refl many shares more inside
+  HasPlace-made more inside = HasPlace-counted given.states given.initial children (length old) (given_states spaces (left g s)) (given_states spaces (right g s)) cells given.roots old new refl many shares more inside
 
 -- an element inside
 pub unwrap-inside : {X : Type 0} (xs : List X) (i : ℕ) (d : X) → i < length xs → slice_get xs i ≡ Some (unwrap_or (slice_get xs i) d)

@@ -52,8 +52,8 @@ impl Auto {
         ensures err { OnErr result (shelf.new ≡ shelf.old) }
         ensures shelf { IsShelf shelf.new }
     {
-        // Only for its clause `shelf`.
-        let _ = shelf.count();
+        // Only for their clauses `shelf` and `guide`.
+        let _ = (shelf.count(), g.spaces());
         let mut roots = RefList::new(alloc);
         let parts = parts_of(alloc, g, spaces.as_slice(), &mut roots)?;
         let table = shelf.add_table(roots)?;
