@@ -53,7 +53,7 @@ impl Auto {
         ensures shelf { IsShelf shelf.new }
     {
         // Only for their clauses `shelf` and `guide`.
-        let _ = (shelf.count(), g.spaces());
+        let _ = (shelf.count(), g.children(0));
         let mut roots = RefList::new(alloc);
         let parts = parts_of(alloc, g, spaces.as_slice(), &mut roots)?;
         let table = shelf.add_table(roots)?;
