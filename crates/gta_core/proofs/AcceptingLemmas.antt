@@ -1,14 +1,12 @@
 -- The spaces and the values of a tree's nodes.
-use Rattle.std.proofs.Common.{◌≡◌, ◌⊎◌, ◌↔◌, ℕ, zero, suc, ◌+◌, ◌-◌, ◌<◌, ◌≤◌, Bool, true, false, IsTrue, List, [], ◌∷◌, ◌++◌, length, map, get_or, set}
+use Rattle.std.proofs.Common.{◌≡◌, ◌⊎◌, ◌↔◌, ℕ, zero, suc, ◌+◌, ◌-◌, ◌<◌, ◌≤◌, Bool, IsTrue, List, [], ◌∷◌, ◌++◌, length, map, get_or, set}
 use Rattle.std.proofs.Common.{Option, Some, None, IfSome, refl, sym, ◌∙◌, ap, subst, inl, inr, arith, length-append, get_or-set_same, get_or-set_other}
 use Rattle.std.specs.Prelude.{slice_get, replicate, ◌==◌, ◌||◌}
-use Rattle.std.specs.List.{list_any}
 use mathlib.Core.Path.{fun_ext}
 use Rattle.std.proofs.lemmas.Bool.{cases_lt, cases_eq}
 use Rattle.std.proofs.lemmas.List.{length-set, length-replicate, get_or_past, get_or_push}
 use Rattle.std.proofs.lemmas.Option.{slice_get_within, get_or_from_slice_get}
 use Rattle.std.proofs.Math.ListN.{get_or-append}
-use Rattle.labels.specs.Labels.{Label}
 use Rattle.bdd_nodes.specs.Shelf as bdd
 use Rattle.bdd_nodes.specs.Shelf.{Contents}
 use Rattle.gta_theory.specs.Guides.{Spaces, IsGuide, IsSpace, left, right}
@@ -161,7 +159,7 @@ module _ (g : Spaces) (guide : IsGuide g) (nodes : List TreeNode) (tree : IsTree
             ∙ with-same spaces node.left (left g here) j of_node
             (omega (arith, child-before nodes tree k j node at (inl of_node), slice_get_within nodes k node at, so_far.many))
             ∙ ap (left g) (sym (same k (λ c. omega (arith, child-before nodes tree k k node at c))) ∙ ap (λ (m : ℕ). get_or put_both m 0) e)
-          )
+            )
       ];
       right = λ i j other from there child. elim (cases_lt k i) [
         | inl later ↦
@@ -174,7 +172,7 @@ module _ (g : Spaces) (guide : IsGuide g) (nodes : List TreeNode) (tree : IsTree
             with-same once_put node.right (right g here) j of_node
             (omega (arith, child-before nodes tree k j node at (inr of_node), slice_get_within nodes k node at, so_far.many, length-with spaces node.left (left g here)))
             ∙ ap (right g) (sym (same k (λ c. omega (arith, child-before nodes tree k k node at c))) ∙ ap (λ (m : ℕ). get_or put_both m 0) e)
-          )
+            )
       ];
     }
 

@@ -1,15 +1,14 @@
 -- An automaton whose parts are placed is the given one.
-use Rattle.std.proofs.Common.{◌≡◌, ℕ, zero, suc, ◌+◌, ◌*◌, ◌^◌, ◌<◌, ◌≤◌, Bool, true, false, List, [], ◌∷◌, length, map, get_or}
-use Rattle.std.proofs.Common.{Option, Some, None, refl, sym, ◌∙◌, ap, subst, inl, inr, arith}
+use Rattle.std.proofs.Common.{◌≡◌, ℕ, zero, suc, ◌+◌, ◌*◌, ◌^◌, ◌<◌, ◌≤◌, Bool, false, List, [], ◌∷◌, length, get_or}
+use Rattle.std.proofs.Common.{Option, Some, None, refl, sym, ◌∙◌, ap, subst, arith}
 use Rattle.std.specs.Prelude.{All, IsSome, is_some, unwrap_or, slice_get, option_map, option_and_then}
 use mathlib.Core.Path.{fun_ext}
-use Rattle.std.proofs.lemmas.Bool.{cases_lt, false≢true, lt-ltb, ltb-true}
-use Rattle.std.proofs.lemmas.List.{length-map}
+use Rattle.std.proofs.lemmas.Bool.{false≢true, lt-ltb, ltb-true}
 use Rattle.std.proofs.lemmas.Nat.{mul-add-lt}
 use Rattle.std.proofs.lemmas.Option.{slice_get-map, slice_get-get_or, slice_get_past, get_or_from_slice_get}
 use Rattle.std.proofs.Math.Nat.{mul_comm}
 use Rattle.bdd_nodes.specs.declared.node_ref.NodeRef.{NodeRef}
-use Rattle.bdd_nodes.specs.Shelf.{Contents, IsValid, state_of, roots_of, root_of}
+use Rattle.bdd_nodes.specs.Shelf.{Contents, IsValid, state_of, root_of}
 use Rattle.bdd_nodes.specs.Changes.{AddsTable}
 use Rattle.bdd_nodes.proofs.TablesLemmas.{All-root}
 use Rattle.gta_theory.specs.Guides.{Spaces, IsGuide, IsSpace, left, right}
@@ -19,7 +18,7 @@ use Rattle.gta_theory.specs.Numbered.{Below}
 use Rattle.gta_theory.specs.Sizes.{IsChildPair}
 use Rattle.gta_core.specs.declared.part.Part.{Part}
 use Rattle.gta_core.specs.declared.build.SpacePart.{SpacePart}
-use Rattle.gta_core.specs.Auto.{AutoView, states_of, initial_of, is_accepting, guide_of, place_in, place_of, root_at, automaton_of, IsUsed, IsAuto, IsWhole}
+use Rattle.gta_core.specs.Auto.{AutoView, states_of, initial_of, guide_of, place_in, root_at, automaton_of, IsUsed, IsAuto, IsWhole}
 use Rattle.gta_core.specs.Given.{given_states, given_initial, given_root, given_automaton, IsGiven}
 use Rattle.gta_core.specs.Placing.{HasGiven, ArePlaced}
 use Rattle.gta_core.proofs.AutoLemmas.{past-none, functions-same}

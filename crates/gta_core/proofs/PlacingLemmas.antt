@@ -1,9 +1,9 @@
 -- Given roots in a table.
-use Rattle.std.proofs.Common.{◌≡◌, ◌⊎◌, ◌↔◌, ℕ, zero, suc, ◌+◌, ◌-◌, ◌*◌, ◌^◌, ◌/◌, ◌%◌, ◌<◌, ◌≤◌, Bool, true, false, List, [], ◌∷◌, ◌++◌, length, get_or}
-use Rattle.std.proofs.Common.{Option, Some, None, refl, sym, ◌∙◌, ap, subst, inl, inr, arith, length-append, add-one}
+use Rattle.std.proofs.Common.{◌≡◌, ℕ, zero, suc, ◌+◌, ◌-◌, ◌*◌, ◌^◌, ◌/◌, ◌%◌, ◌<◌, ◌≤◌, Bool, true, false, List, [], ◌∷◌, ◌++◌, length, get_or}
+use Rattle.std.proofs.Common.{Option, Some, None, refl, sym, ◌∙◌, ap, subst, inl, inr, arith, length-append}
 use Rattle.std.specs.Prelude.{IsSome, is_some, unwrap_or, nat_lt, ◌&&◌, if◌then◌else◌, slice_get, option_map, option_and_then}
 use Rattle.std.specs.List.{range_with_len}
-use Rattle.std.proofs.lemmas.Bool.{cases_lt, false≢true, lt-ltb, ltb-true}
+use Rattle.std.proofs.lemmas.Bool.{cases_lt, false≢true, lt-ltb}
 use Rattle.std.proofs.lemmas.Bool.Decides.{nat_tests}
 use Rattle.std.proofs.lemmas.List.FromFn.{length-range_with_len, get_or-range_with_len}
 use Rattle.std.proofs.lemmas.Option.{slice_get-get_or, slice_get_within, slice_get_past}
@@ -196,10 +196,10 @@ module _ (g : Spaces) (spaces : List SpacePart) (s l r : ℕ) where
   given_root-IsKnown some = elim (cases_lt l L) [
     | inl l_in ↦ elim (cases_lt r R) [
       | inl r_in ↦ record {
-          left_in = l_in;
-          right_in = r_in;
-          some = subst (λ (o : Option NodeRef). IsSome o) (given_root-known l_in r_in) some;
-        }
+        left_in = l_in;
+        right_in = r_in;
+        some = subst (λ (o : Option NodeRef). IsSome o) (given_root-known l_in r_in) some;
+      }
       | inr past ↦ absurd (false≢true (subst (λ (o : Option NodeRef). is_some o ≡ true) (given_root-beside past) some))
     ]
     | inr past ↦ absurd (false≢true (subst (λ (o : Option NodeRef). is_some o ≡ true) (given_root-above past) some))

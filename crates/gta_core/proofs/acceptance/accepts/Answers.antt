@@ -1,10 +1,10 @@
-use Rattle.std.proofs.Common.{◌≡◌, ◌↔◌, ℕ, ◌-◌, Bool, IsTrue, List, length, sym, ◌∙◌, ap, subst, arith, vec_len}
+use Rattle.std.proofs.Common.{◌≡◌, ◌↔◌, ℕ, ◌-◌, Bool, IsTrue, List, length, sym, ◌∙◌, ap, subst, arith}
 use Rattle.std.specs.Prelude.{slice_get}
 use Rattle.gta_theory.specs.Automata.{Accepts}
 use Rattle.ws2s_core.specs.declared.label_tree.TreeNode.{TreeNode}
 use Rattle.ws2s_core.specs.LabelTrees.{IsTree, assignment_of}
 use Rattle.gta_core.specs.Auto.{guide_of, initial_of, is_accepting, automaton_of}
-use Rattle.gta_core.specs.Accepting.{AreSpacesFrom, AreValues}
+use Rattle.gta_core.specs.Accepting.{AreValues}
 use Rattle.gta_core.proofs.AcceptingLemmas.{IsLast, IsLast-some, IsLast-none, Accepts-last}
 use Rattle.gta_core.proofs.acceptance.accepts.Goals as goal
 use Rattle.gta_core.proofs.acceptance.accepts.Goals.{in-Some, in-None}

@@ -1,11 +1,11 @@
-use Rattle.std.proofs.Common.{◌≡◌, ℕ, suc, ◌-◌, ◌<◌, ◌≤◌, List, length, get_or, Option, Some, refl, sym, ◌∙◌, ap, subst, arith, vec_len}
-use Rattle.std.specs.Prelude.{slice_get, IfSome}
+use Rattle.std.proofs.Common.{◌≡◌, ℕ, suc, ◌-◌, ◌<◌, ◌≤◌, List, length, get_or, Some, refl, sym, ◌∙◌, ap, subst, arith, vec_len}
+use Rattle.std.specs.Prelude.{slice_get}
 use Rattle.std.proofs.lemmas.Option.{slice_get_read}
 use Rattle.std.proofs.lemmas.List.{get_or_read}
 use Rattle.gta_theory.specs.Guides.{left, right}
 use Rattle.gta_core.specs.Auto.{guide_of}
 use Rattle.gta_core.specs.Accepting.{with_space, AreSpacesFrom}
-use Rattle.gta_core.proofs.AcceptingLemmas.{IfSome-less, length-with, zeros, AreSpacesFrom-start, AreSpacesFrom-put, put_both}
+use Rattle.gta_core.proofs.AcceptingLemmas.{IfSome-less, length-with, AreSpacesFrom-start, AreSpacesFrom-put, put_both}
 use Rattle.gta_core.proofs.acceptance.spaces_of.Goals as goal
 
 pub loop-k-init : goal.loop-k-init

@@ -1,5 +1,4 @@
 use Rattle.std.proofs.Common.{ℕ, List, ◌++◌, sym, ◌∙◌, ap, subst}
-use Rattle.std.specs.List.{range_with_len}
 use Rattle.bdd_nodes.specs.declared.node_ref.NodeRef.{NodeRef}
 use Rattle.gta_core.specs.Placing.{Shares}
 use Rattle.gta_core.proofs.PlacingLemmas.{Shares-each}

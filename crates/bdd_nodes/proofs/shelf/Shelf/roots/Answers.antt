@@ -1,6 +1,5 @@
-use Rattle.std.proofs.Common.{◌≡◌, List, sym, ◌∙◌, ap, subst}
+use Rattle.std.proofs.Common.{sym, ◌∙◌, ap, subst}
 use Rattle.std.specs.Prelude.{All}
-use Rattle.bdd_nodes.specs.declared.node_ref.NodeRef.{NodeRef}
 use Rattle.bdd_nodes.specs.Roots.{number_of}
 use Rattle.bdd_nodes.specs.Shelf.{Contents, IsShelf, IsValid, roots_of}
 use Rattle.bdd_nodes.proofs.TablesLemmas.{All-registered, IfSome-found}

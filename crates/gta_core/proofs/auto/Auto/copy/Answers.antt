@@ -4,7 +4,6 @@ use Rattle.bdd_nodes.specs.declared.node_ref.NodeRef.{NodeRef}
 use Rattle.bdd_nodes.specs.Roots.{number_of}
 use Rattle.bdd_nodes.specs.Shelf.{IsValid, roots_of}
 use Rattle.bdd_nodes.specs.Changes.{AddsTable}
-use Rattle.gta_theory.specs.Guides.{Spaces}
 use Rattle.gta_core.specs.declared.part.Part.{Part}
 use Rattle.gta_core.specs.Auto.{AutoView, automaton_of, IsAuto}
 use Rattle.gta_core.proofs.AutoLemmas.{All-roots, IsAuto-copied, automaton_of-copied}
