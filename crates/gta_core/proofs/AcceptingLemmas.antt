@@ -136,7 +136,8 @@ module _ (g : Spaces) (guide : IsGuide g) (nodes : List TreeNode) (tree : IsTree
     inside-with xs (Some j) s there all i = elim (cases_eq j i) as (λ _. IsSpace g (get_or (set xs j s) i 0)) [
       | inl e ↦ elim (cases_lt j (length xs)) as (λ _. IsSpace g (get_or (set xs j s) i 0)) [
         | inl inside ↦ subst (λ (m : ℕ). IsSpace g (get_or (set xs j s) m 0)) e (subst (IsSpace g) (sym (get_or-set_same xs j s 0 inside)) there)
-        | inr past ↦ subst (λ (m : ℕ). IsSpace g (get_or (set xs j s) m 0)) e (subst (IsSpace g) (sym (get_or_past (set xs j s) j 0 (omega (arith, length-set xs j s)))) guide.not_empty)
+        | inr past ↦ subst (λ (m : ℕ). IsSpace g (get_or (set xs j s) m 0)) e
+            (subst (IsSpace g) (sym (get_or_past (set xs j s) j 0 (omega (arith, length-set xs j s)))) guide.not_empty)
       ]
       | inr other ↦ subst (IsSpace g) (sym (get_or-set_other xs j i s 0 (λ e. other (sym e)))) (all i)
     ]
@@ -170,7 +171,13 @@ module _ (g : Spaces) (guide : IsGuide g) (nodes : List TreeNode) (tree : IsTree
             let e : k ≡ i = omega arith in
             let of_node : node.right ≡ Some j = (let f : Some node ≡ Some other = sym at ∙ ap (slice_get nodes) e ∙ there in cc) in
             with-same once_put node.right (right g here) j of_node
-            (omega (arith, child-before nodes tree k j node at (inr of_node), slice_get_within nodes k node at, so_far.many, length-with spaces node.left (left g here)))
+            (omega (
+              arith,
+              child-before nodes tree k j node at (inr of_node),
+              slice_get_within nodes k node at,
+              so_far.many,
+              length-with spaces node.left (left g here),
+            ))
             ∙ ap (right g) (sym (same k (λ c. omega (arith, child-before nodes tree k k node at c))) ∙ ap (λ (m : ℕ). get_or put_both m 0) e)
             )
       ];

@@ -106,11 +106,14 @@ module _ (old new : Contents) (a : AutoView) (table : ℕ) (registered : IsSome 
     over = auto.over;
     registered = registered auto.registered;
     complete = λ s l r. (
-      λ some. (auto.complete s l r).0 (IsSome-images (state_of old) (state_of new) (root_at old a s l r) (root_at new moved s l r) (sym (functions-moved s l r)) some),
-      λ pair. IsSome-images (state_of new) (state_of old) (root_at new moved s l r) (root_at old a s l r) (functions-moved s l r) ((auto.complete s l r).1 pair),
+      λ some. (auto.complete s l r).0
+          (IsSome-images (state_of old) (state_of new) (root_at old a s l r) (root_at new moved s l r) (sym (functions-moved s l r)) some),
+      λ pair. IsSome-images (state_of new) (state_of old) (root_at new moved s l r) (root_at old a s l r) (functions-moved s l r)
+          ((auto.complete s l r).1 pair),
     );
     used = λ place some.
-        let u = auto.used place (IsSome-images (state_of old) (state_of new) (root_of old a.table place) (root_of new table place) (sym (functions place)) some) in
+        let u = auto.used place
+        (IsSome-images (state_of old) (state_of new) (root_of old a.table place) (root_of new table place) (sym (functions place)) some) in
         record { space = u.space; left = u.left; right = u.right; there = u.there };
     closed = subst (λ (A : Automaton ℕ). IsClosed g A (Below (states_of a))) (sym automaton_of-moved) auto.closed;
     stable = subst (λ (A : Automaton ℕ). IsStable g A) (sym automaton_of-moved) auto.stable;

@@ -72,7 +72,8 @@ Shares-each given old = record {
 }
 
 -- what has a given root has it in a grown list
-pub HasGiven-grown : (old new : List NodeRef) → Grows old new → (place : Option ℕ) (given : Option NodeRef) → HasGiven old place given → HasGiven new place given
+pub HasGiven-grown : (old new : List NodeRef) → Grows old new → (place : Option ℕ) (given : Option NodeRef) →
+    HasGiven old place given → HasGiven new place given
 HasGiven-grown old new grows None given has = has
 HasGiven-grown old new grows (Some p) None has = absurd (false≢true has.0)
 HasGiven-grown old new grows (Some p) (Some root) has = (refl, grows.kept p (slice_get_within old p root has.1) ∙ has.1)
@@ -209,16 +210,24 @@ module _ (g : Spaces) (spaces : List SpacePart) (s l r : ℕ) where
 module _ (g : Spaces) (spaces : List SpacePart) (s : ℕ) (given : SpacePart) (there : slice_get spaces s ≡ Some given) (children : ℕ × ℕ)
     (at_space : slice_get g s ≡ Some children) (old new : List NodeRef) (cells : List ℕ)
     (many : length given.roots ≡ given_states spaces (left g s) * given_states spaces (right g s)) (shares : Shares given.roots old cells new) where
+  abbrev height : ℕ
+  height = given_states spaces (left g s)
+
+  abbrev breadth : ℕ
+  breadth = given_states spaces (right g s)
+
   abbrev pub made : Part
-  made = counted given.states given.initial children (length old) (given_states spaces (left g s)) (given_states spaces (right g s)) cells
+  made = counted given.states given.initial children (length old) height breadth cells
 
   root-made : (l r : ℕ) → HasGiven new (place_in made l r) (given_root g spaces s l r)
   root-made l r = elim (cases_lt l (given_states spaces (left g s))) as (λ _. HasGiven new (place_in made l r) (given_root g spaces s l r)) [
     | inl l_in ↦ elim (cases_lt r (given_states spaces (right g s))) as (λ _. HasGiven new (place_in made l r) (given_root g spaces s l r)) [
       | inl r_in ↦ both l_in r_in
-      | inr past ↦ outside (place-beside given.states given.initial children (length old) (given_states spaces (left g s)) (given_states spaces (right g s)) cells l r past) (given_root-beside g spaces s l r past)
+      | inr past ↦ outside (place-beside given.states given.initial children (length old) height breadth cells l r past)
+          (given_root-beside g spaces s l r past)
     ]
-    | inr past ↦ outside (place-above given.states given.initial children (length old) (given_states spaces (left g s)) (given_states spaces (right g s)) cells l r past) (given_root-above g spaces s l r past)
+    | inr past ↦ outside (place-above given.states given.initial children (length old) height breadth cells l r past)
+        (given_root-above g spaces s l r past)
   ]
     where
       outside : place_in made l r ≡ None → given_root g spaces s l r ≡ None → HasGiven new (place_in made l r) (given_root g spaces s l r)
@@ -241,7 +250,8 @@ module _ (g : Spaces) (spaces : List SpacePart) (s : ℕ) (given : SpacePart) (t
           let R = given_states spaces (right g s) in
           let i = l * R + r in
           let below : i < length given.roots = omega (arith, mul-add-lt l R r L l_in r_in, mul_comm L R, many) in
-          let of_place : place_in made l r ≡ option_map (λ cell. length old + cell) (slice_get cells i) = place-inside given.states given.initial children (length old) (given_states spaces (left g s)) (given_states spaces (right g s)) cells l r l_in r_in in
+          let of_place : place_in made l r ≡ option_map (λ cell. length old + cell) (slice_get cells i) =
+          place-inside given.states given.initial children (length old) height breadth cells l r l_in r_in in
           let of_given : given_root g spaces s l r ≡ slice_get given.roots i =
           given_root-known g spaces s l r l_in r_in ∙ ap (λ (o : Option SpacePart). option_and_then (λ part. slice_get part.roots i) o) there in
           subst (λ (o : Option ℕ). HasGiven new o (given_root g spaces s l r)) (sym of_place)
@@ -258,7 +268,8 @@ module _ (g : Spaces) (spaces : List SpacePart) (s : ℕ) (given : SpacePart) (t
   }
 
   pub HasPlace-made : (more : ℕ) → length old + more < length new → HasPlace made (length old + more)
-  HasPlace-made more inside = HasPlace-counted given.states given.initial children (length old) (given_states spaces (left g s)) (given_states spaces (right g s)) cells given.roots old new refl many shares more inside
+  HasPlace-made more inside =
+      HasPlace-counted given.states given.initial children (length old) height breadth cells given.roots old new refl many shares more inside
 
 -- an element inside
 pub unwrap-inside : {X : Type 0} (xs : List X) (i : ℕ) (d : X) → i < length xs → slice_get xs i ≡ Some (unwrap_or (slice_get xs i) d)

@@ -1,6 +1,7 @@
 -- What an automaton keeps, and which automaton that stands for in a shelf. (Tables of guided tree automata as shared
 -- decision diagrams: Klarlund and Møller, MONA Version 1.4 User Manual; Biehl, Klarlund and Rauhe 1996.)
-use Rattle.std.specs.Prelude.{◌≡◌, ℕ, ◌+◌, ◌*◌, ◌^◌, ◌≤◌, Bool, false, List, length, map, Option, Some, IsSome, ◌↔◌, slice_get, unwrap_or, option_map, option_and_then}
+use Rattle.std.specs.Prelude.{◌≡◌, ℕ, ◌+◌, ◌*◌, ◌^◌, ◌≤◌, Bool, false, List, length, map, ◌↔◌, slice_get}
+use Rattle.std.specs.Prelude.{Option, Some, IsSome, unwrap_or, option_map, option_and_then}
 use Rattle.bdd_nodes.specs.declared.node_ref.NodeRef.{NodeRef}
 use Rattle.bdd_nodes.specs.Shelf.{Contents, state_of, roots_of, root_of}
 use Rattle.gta_theory.specs.Guides.{Spaces, IsGuide, IsSpace}

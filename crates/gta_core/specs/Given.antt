@@ -1,5 +1,6 @@
 -- Automata that are given by a list of roots for each space.
-use Rattle.std.specs.Prelude.{◌≡◌, ℕ, ◌+◌, ◌*◌, Bool, false, ◌&&◌, nat_lt, if◌then◌else◌, List, length, All, Option, Some, None, slice_get, unwrap_or, option_map, option_and_then}
+use Rattle.std.specs.Prelude.{◌≡◌, ℕ, ◌+◌, ◌*◌, Bool, false, ◌&&◌, nat_lt, if◌then◌else◌, List, length, All, slice_get}
+use Rattle.std.specs.Prelude.{Option, Some, None, unwrap_or, option_map, option_and_then}
 use Rattle.bdd_nodes.specs.declared.node_ref.NodeRef.{NodeRef}
 use Rattle.bdd_nodes.specs.Shelf.{Contents, IsValid, state_of}
 use Rattle.gta_theory.specs.Guides.{Spaces, left, right}

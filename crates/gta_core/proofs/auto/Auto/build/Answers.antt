@@ -10,7 +10,8 @@ use Rattle.gta_core.specs.Placing.{ArePlaced}
 use Rattle.gta_core.proofs.BuiltLemmas.{All-placed, IsWhole-given, IsAuto-given, automaton_of-given, states-given}
 use Rattle.gta_core.proofs.auto.Auto.build.Goals as goal
 
-placed : (g : Spaces) (spaces given : List SpacePart) (parts : List Part) (roots : List NodeRef) → given ≡ spaces → ArePlaced g given parts roots → ArePlaced g spaces parts roots
+placed : (g : Spaces) (spaces given : List SpacePart) (parts : List Part) (roots : List NodeRef) → given ≡ spaces →
+    ArePlaced g given parts roots → ArePlaced g spaces parts roots
 placed g spaces given parts roots same are_placed = subst (λ (ps : List SpacePart). ArePlaced g ps parts roots) same are_placed
 
 abbrev made : TableId → List Part → List Bool → AutoView
@@ -23,24 +24,28 @@ add_table-requires c =
 
 pub invariant_of-result : goal.invariant_of-result
 invariant_of-result c =
-    IsWhole-given c.args.g.now c.args.shelf.now c.add_table.new.self c.args.spaces c.args.accepting (made c.in_ok-table.table c.in_ok-parts.parts c.args.accepting)
+    IsWhole-given c.args.g.now c.args.shelf.now c.add_table.new.self c.args.spaces c.args.accepting
+    (made c.in_ok-table.table c.in_ok-parts.parts c.args.accepting)
     c.parts_of.new.roots c.requires c.in_ok-table.ensures.ok c.in_ok-parts.ensures.many
     (placed _ _ _ _ _ c.as_slice.ensures c.in_ok-parts.ensures.placed) refl c.children.ensures.guide
 
 pub returns-clause-auto : goal.returns-clause-auto
 returns-clause-auto c =
-    IsAuto-given c.args.g.now c.args.shelf.now c.add_table.new.self c.args.spaces c.args.accepting (made c.in_ok-table.table c.in_ok-parts.parts c.args.accepting)
+    IsAuto-given c.args.g.now c.args.shelf.now c.add_table.new.self c.args.spaces c.args.accepting
+    (made c.in_ok-table.table c.in_ok-parts.parts c.args.accepting)
     c.parts_of.new.roots c.requires c.in_ok-table.ensures.ok c.in_ok-parts.ensures.many
     (placed _ _ _ _ _ c.as_slice.ensures c.in_ok-parts.ensures.placed) refl
 
 pub returns-clause-same : goal.returns-clause-same
 returns-clause-same c =
-    automaton_of-given c.args.g.now c.args.shelf.now c.add_table.new.self c.args.spaces c.args.accepting (made c.in_ok-table.table c.in_ok-parts.parts c.args.accepting)
+    automaton_of-given c.args.g.now c.args.shelf.now c.add_table.new.self c.args.spaces c.args.accepting
+    (made c.in_ok-table.table c.in_ok-parts.parts c.args.accepting)
     c.parts_of.new.roots c.requires c.in_ok-table.ensures.ok c.in_ok-parts.ensures.many
     (placed _ _ _ _ _ c.as_slice.ensures c.in_ok-parts.ensures.placed) refl
 
 pub returns-clause-states : goal.returns-clause-states
 returns-clause-states c =
-    states-given c.args.g.now c.args.shelf.now c.add_table.new.self c.args.spaces c.args.accepting (made c.in_ok-table.table c.in_ok-parts.parts c.args.accepting)
+    states-given c.args.g.now c.args.shelf.now c.add_table.new.self c.args.spaces c.args.accepting
+    (made c.in_ok-table.table c.in_ok-parts.parts c.args.accepting)
     c.parts_of.new.roots c.requires c.in_ok-table.ensures.ok c.in_ok-parts.ensures.many
     (placed _ _ _ _ _ c.as_slice.ensures c.in_ok-parts.ensures.placed) refl

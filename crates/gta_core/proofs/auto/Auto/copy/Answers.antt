@@ -24,7 +24,8 @@ accepting c = c.in_ok-accepting.ensures ∙ c.as_slice-2.ensures ∙ ap (λ (a :
 abbrev copy : (c : In_ok-table) → List Part → List Bool → AutoView
 copy c ps bs = record { table = number_of c.in_ok-table.table; parts = ps; accepting = bs }
 
-adds : (c : In_ok-table) → AddsTable c.args.shelf.now c.add_table.new.self (number_of c.in_ok-table.table) (unwrap_or (roots_of c.args.shelf.now c.args.self.now.table) [])
+adds : (c : In_ok-table) → AddsTable c.args.shelf.now c.add_table.new.self (number_of c.in_ok-table.table)
+    (unwrap_or (roots_of c.args.shelf.now c.args.self.now.table) [])
 adds c =
     subst (λ (rs : List NodeRef). AddsTable c.args.shelf.now c.add_table.new.self (number_of c.in_ok-table.table) rs)
     (c.in_ok-roots.ensures ∙ ap (λ (a : AutoView). unwrap_or (roots_of c.args.shelf.now a.table) []) c.self.view_is) c.in_ok-table.ensures.ok
