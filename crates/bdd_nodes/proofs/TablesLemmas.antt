@@ -1,8 +1,8 @@
 -- A shelf with one table more.
-use Rattle.std.proofs.Common.{◌≡◌, ◌≢◌, ℕ, ◌+◌, List, [], ◌∷◌, ◌++◌, Option, Some, None, sym, ◌∙◌, ap, refl, subst, inl, inr, arith}
-use Rattle.std.specs.Prelude.{All, IfSome, slice_get, option_and_then}
+use Rattle.std.proofs.Common.{◌≡◌, ◌≢◌, ℕ, ◌+◌, List, [], ◌∷◌, ◌++◌, get_or, Option, Some, None, sym, ◌∙◌, ap, refl, subst, inl, inr, arith}
+use Rattle.std.specs.Prelude.{All, IfSome, MatchOption, slice_get, option_and_then}
 use Rattle.std.proofs.lemmas.Bool.{cases_lt}
-use Rattle.std.proofs.lemmas.Option.{slice_get_within, get_or_from_slice_get}
+use Rattle.std.proofs.lemmas.Option.{slice_get_within, slice_get-get_or, get_or_from_slice_get}
 use Rattle.bdd_nodes.specs.declared.node_ref.NodeRef.{NodeRef}
 use Rattle.bdd_nodes.specs.declared.roots.RootTable.{RootTable}
 use Rattle.bdd_nodes.specs.Roots.{number_of, AreNumbered}
@@ -18,6 +18,20 @@ IfSome-each (Some r) P each = each r refl
 pub All-root : (P : NodeRef → Type 0) (roots : List NodeRef) (index : ℕ) (root : NodeRef) → All P roots → slice_get roots index ≡ Some root → P root
 All-root P roots index root all there =
     subst P (get_or_from_slice_get roots index root root there) (all index root (slice_get_within roots index root there))
+
+-- the roots of a registered table are valid
+pub All-registered : (shelf : Contents) → IsShelf shelf → (number : ℕ) (roots : List NodeRef) →
+    roots_of shelf number ≡ Some roots → All (IsValid shelf) roots
+All-registered shelf is_shelf number roots there index d within =
+    is_shelf.roots number index (get_or roots index d)
+    (ap (λ (o : Option (List NodeRef)). option_and_then (λ (rs : List NodeRef). slice_get rs index) o) there ∙ slice_get-get_or roots index d within)
+
+-- what holds of the roots that are found holds of those that are answered
+pub IfSome-found : {B : Type 0} (view : B → List NodeRef) (answer : Option B) (found : Option (List NodeRef)) (P : List NodeRef → Type 0) →
+    MatchOption answer (found ≡ None) (λ roots. found ≡ Some (view roots)) →
+    ((roots : List NodeRef) → found ≡ Some roots → P roots) → IfSome answer (λ roots. P (view roots))
+IfSome-found view None found P there each = tt
+IfSome-found view (Some roots) found P there each = each (view roots) there
 
 module _ (shelf : Contents) (is_shelf : IsShelf shelf) (t : RootTable) (number : number_of t.id ≡ shelf.roots.added) (valid : All (IsValid shelf) t.roots) where
   abbrev pub with_table : Contents

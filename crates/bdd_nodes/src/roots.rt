@@ -1,6 +1,6 @@
 //! Tables of roots.
 
-ghost use Rattle.std.specs.Prelude.{◌≡◌, ◌≢◌, ◌+◌, ◌<◌, ◌≤◌, ℕ, [], ◌∷◌, ◌++◌, length, IfOk, OnErr, IfSome, IfNone, IsSome, None, All, map, vec_len};
+ghost use Rattle.std.specs.Prelude.{◌≡◌, ◌≢◌, ◌+◌, ◌<◌, ◌≤◌, ℕ, [], ◌∷◌, ◌++◌, length, IfOk, OnErr, IfSome, IfNone, IsSome, None, Some, MatchOption, All, map, vec_len};
 ghost use Rattle.bdd_nodes.specs.Nodes.{node_of, rank};
 ghost use Rattle.bdd_nodes.specs.Collecting.{all_roots, linked_table, IsLinked, MarksList};
 ghost use Rattle.bdd_nodes.specs.Roots.{number_at, number_of, roots_under, root_under, AreNumbered};
@@ -83,8 +83,15 @@ impl RootSet {
     pub(crate) fn root(&self, id: TableId, index: u32) -> Option<NodeRef>
         ensures { result ≡ root_under self.now.tables (number_of id) index }
     {
+        self.roots(id)?.get(index as usize).copied()
+    }
+
+    pub(crate) fn roots(&self, id: TableId) -> Option<&[NodeRef]>
+        ensures { MatchOption result (roots_under self.now.tables (number_of id) ≡ None)
+            (λ roots. roots_under self.now.tables (number_of id) ≡ Some roots.now) }
+    {
         let position = position_of(&self.tables, id)?;
-        self.tables[position].roots.get(index as usize).copied()
+        Some(self.tables[position].roots.as_slice())
     }
 
     /// Marks all roots.

@@ -14,7 +14,7 @@ use Rattle.ws2s_core.specs.LabelTrees.{IsTree, children_of, times_named}
 use Rattle.ws2s_theory.specs.Trees.{last_place, moved_on, root_over, under_root}
 
 -- how often a child names a place
-abbrev hits : Option ℕ → ℕ → ℕ
+abbrev pub hits : Option ℕ → ℕ → ℕ
 hits None k = 0
 hits (Some j) k = cond (eqb j k) 1 0
 
@@ -32,13 +32,13 @@ times-append xs ys k =
     ap (sum_by (λ child. cond (eqb child k) 1 0)) (flat_map-append children_of xs ys)
     ∙ sum_by-append (λ child. cond (eqb child k) 1 0) (flat_map children_of xs) (flat_map children_of ys)
 
-times-cons : (node : TreeNode) (nodes : List TreeNode) (k : ℕ) → times_named (node ∷ nodes) k ≡ hits node.left k + hits node.right k + times_named nodes k
+pub times-cons : (node : TreeNode) (nodes : List TreeNode) (k : ℕ) → times_named (node ∷ nodes) k ≡ hits node.left k + hits node.right k + times_named nodes k
 times-cons node nodes k = times-append (node ∷ []) nodes k ∙ ap (λ n. n + times_named nodes k) (node-times node k)
 
 hits-other : (j k : ℕ) → j ≢ k → hits (Some j) k ≡ 0
 hits-other j k other = ap (λ b. cond b 1 0) (ne_eqb j k other)
 
-hits-same : (j k : ℕ) → j ≡ k → hits (Some j) k ≡ 1
+pub hits-same : (j k : ℕ) → j ≡ k → hits (Some j) k ≡ 1
 hits-same j k same = ap (λ b. cond b 1 0) (eq-eqb j k same)
 
 hits-below : (child : Option ℕ) (k : ℕ) → IfSome child (λ j. j < k) → hits child k ≡ 0

@@ -1,6 +1,6 @@
 //! The registered tables of a shelf.
 
-ghost use Rattle.std.specs.Prelude.{◌≡◌, All, IfOk, OnErr, IfSome, IsSome};
+ghost use Rattle.std.specs.Prelude.{◌≡◌, All, IfOk, OnErr, IfSome, IsSome, None, Some, MatchOption};
 ghost use Rattle.bdd_nodes.specs.Roots.{number_of};
 ghost use Rattle.bdd_nodes.specs.Shelf.{IsShelf, IsValid, roots_of, root_of};
 ghost use Rattle.bdd_nodes.specs.Changes.{AddsTable, DropsTable};
@@ -17,6 +17,15 @@ impl Shelf {
         ensures valid { IfSome result (IsValid self.now) }
     {
         self.roots.root(id, index)
+    }
+
+    /// The roots of a registered table as they stand now, in order; `None` exactly for an unknown table. Takes no memory.
+    pub fn roots(&self, id: TableId) -> Option<&[NodeRef]>
+        ensures value { MatchOption result (roots_of self.now (number_of id) ≡ None)
+            (λ roots. roots_of self.now (number_of id) ≡ Some roots.now) }
+        ensures valid { IfSome result (λ roots. All (IsValid self.now) roots.now) }
+    {
+        self.roots.roots(id)
     }
 
     /// Registers the roots under the number of the tables that were added before. `AllocError` for want of memory, and

@@ -1,0 +1,4 @@
+pub mod AutoLemmas
+pub mod PlacingLemmas
+pub mod BuiltLemmas
+pub mod AcceptingLemmas

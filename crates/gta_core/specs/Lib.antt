@@ -1,0 +1,5 @@
+pub mod Auto
+pub mod Given
+pub mod Placing
+pub mod Changes
+pub mod Accepting
