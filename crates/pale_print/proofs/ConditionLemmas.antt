@@ -86,12 +86,14 @@ at-Not c inner lent place is one = ap condition_tokens (is ∙ (λ i. condition.
 pub at-And : (c first lent : Condition) (others slice : List Condition) (asked : ℕ) (needed : Bool) → c ≡ condition.And first others → lent ≡ first →
     slice ≡ others → needed ≡ nat_lt 1 asked → condition_tokens c asked ≡ chain needed mark.AndAlso 2 lent slice
 at-And c first lent others slice asked needed is one rest need =
-    (λ i. (ap condition_tokens (is ∙ (λ i. condition.And (sym one i) (sym rest i))) ∙ of-And lent slice) i asked) ∙ (λ i. chain (sym need i) mark.AndAlso 2 lent slice)
+    (λ i. (ap condition_tokens (is ∙ (λ i. condition.And (sym one i) (sym rest i))) ∙ of-And lent slice) i asked)
+    ∙ (λ i. chain (sym need i) mark.AndAlso 2 lent slice)
 
 pub at-Or : (c first lent : Condition) (others slice : List Condition) (asked : ℕ) (needed : Bool) → c ≡ condition.Or first others → lent ≡ first →
     slice ≡ others → needed ≡ nat_lt 0 asked → condition_tokens c asked ≡ chain needed mark.OrElse 1 lent slice
 at-Or c first lent others slice asked needed is one rest need =
-    (λ i. (ap condition_tokens (is ∙ (λ i. condition.Or (sym one i) (sym rest i))) ∙ of-Or lent slice) i asked) ∙ (λ i. chain (sym need i) mark.OrElse 1 lent slice)
+    (λ i. (ap condition_tokens (is ∙ (λ i. condition.Or (sym one i) (sym rest i))) ∙ of-Or lent slice) i asked)
+    ∙ (λ i. chain (sym need i) mark.OrElse 1 lent slice)
 
 -- each form
 pub ruleset condition_forms = (of-True, of-False, of-Truth, of-Same, of-Differ, of-Is, of-Not, of-And, of-Or)

@@ -155,7 +155,8 @@ module _ (nodes : List Node) (earlier : (k : ℕ) (node : Node) → slice_get no
       where
         along : (k : ℕ) → IsKnown met waiting k → IsKnown met rest k
         along = known-permuted met waiting rest (λ k waits. elim (waits-cases k waits) as (λ _. IsKnown met rest k) [
-          | inl same ↦ (let is : below ≡ k = omega (arith, same, place-low) in inl (subst (λ j. Contains met (id-of j)) is (h.last (omega (arith, place-low, place-inside)))))
+          | inl same ↦ (let is : below ≡ k = omega (arith, same, place-low) in inl
+              (subst (λ j. Contains met (id-of j)) is (h.last (omega (arith, place-low, place-inside)))))
           | inr in_rest ↦ inr in_rest
         ])
 
@@ -180,7 +181,8 @@ module _ (nodes : List Node) (earlier : (k : ℕ) (node : Node) → slice_get no
       whole_known = along whole h.whole_known;
       closed = λ k other in_met at_k. elim (Contains-append_cases met (id-of place ∷ []) (id-of k) in_met)
           as (λ _. All (IsKnown (met ++ id-of place ∷ []) waiting') (parts_of (form_of other))) [
-            | inl old ↦ All-weaker (IsKnown met waiting) (IsKnown (met ++ id-of place ∷ []) waiting') along (parts_of (form_of other)) (h.closed k other old at_k)
+            | inl old ↦ All-weaker (IsKnown met waiting) (IsKnown (met ++ id-of place ∷ []) waiting') along (parts_of (form_of other))
+                (h.closed k other old at_k)
             | inr new ↦ (let same : node ≡ other = node-same k other new at_k in
                 subst (λ n. All (IsKnown (met ++ id-of place ∷ []) waiting') (parts_of (form_of n))) same
                 (All-from_contains (IsKnown (met ++ id-of place ∷ []) waiting') (parts-of node) (λ p in_parts. inr (part-waits p in_parts))))
@@ -190,14 +192,15 @@ module _ (nodes : List Node) (earlier : (k : ℕ) (node : Node) → slice_get no
           | inl old ↦ h.sound k (inl old)
           | inr new ↦ subst (λ j. (j < length nodes) × IsPartHere j) (number-same k new) (h.sound place (inr place-waits))
         ]
-        | inr waits ↦ elim (Contains-append_cases (parts-of node) rest k (Contains-permutation waiting' (parts-of node ++ rest) k (IsPermutation-sym (parts-of node ++ rest) waiting' order') waits))
+        | inr waits ↦ elim (Contains-append_cases (parts-of node) rest k
+            (Contains-permutation waiting' (parts-of node ++ rest) k (IsPermutation-sym (parts-of node ++ rest) waiting' order') waits))
             as (λ _. (k < length nodes) × IsPartHere k) [
               | inl in_parts ↦ (let lt : k < place = All-contains (λ j. j < place) (parts-of node) k (earlier place node at) in_parts in (
-                  omega (arith, lt, place-inside),
-                  deeper (formula_at (formulas_of nodes) place) (formula_at (formulas_of nodes) k) (h.sound place (inr place-waits)).1
-                  (subst (λ (fs : List Formula). Contains fs (formula_at (formulas_of nodes) k)) (sym (parts-at nodes place node at (earlier place node at)))
-                  (Contains-map (formula_at (formulas_of nodes)) (parts-of node) k in_parts)),
-                ))
+                omega (arith, lt, place-inside),
+                deeper (formula_at (formulas_of nodes) place) (formula_at (formulas_of nodes) k) (h.sound place (inr place-waits)).1
+                    (subst (λ (fs : List Formula). Contains fs (formula_at (formulas_of nodes) k)) (sym (parts-at nodes place node at (earlier place node at)))
+                    (Contains-map (formula_at (formulas_of nodes)) (parts-of node) k in_parts)),
+              ))
               | inr in_rest ↦ h.sound k (inr (rest-waits k in_rest))
             ]
       ];
@@ -253,7 +256,8 @@ module _ (nodes : List Node) (earlier : (k : ℕ) (node : Node) → slice_get no
     rising = AllPairs-reverse (λ p q. q.0 < p.0) (λ p q. p.0 < q.0) (λ p q lt. lt) met (h.1).falling;
     exactly = λ id. (
       (λ inside.
-          let known = (h.1).sound id.0 (inl (Contains-permutation (reverse met) met id (IsPermutation-sym met (reverse met) (IsPermutation-reverse met)) inside)) in
+          let known = (h.1).sound id.0 (inl (Contains-permutation (reverse met) met id (IsPermutation-sym met (reverse met) (IsPermutation-reverse met))
+          inside)) in
           (omega (arith, known.0, length-meanings formula_of_node nodes), known.1)),
       (λ part.
           let k = part-met met h (formula_at (formulas_of nodes) id.0) part.1 in

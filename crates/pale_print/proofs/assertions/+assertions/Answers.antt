@@ -9,7 +9,8 @@ pub push_assertion-returns-in_ok-push_mark-in-Not : goal.push_assertion-returns-
 push_assertion-returns-in_ok-push_mark-in-Not t c =
     on_ok c.push_assertion.result
     (λ ends after. ends after ∙ c.in_ok-push_mark-in-Not.ensures _
-    ∙ ap (λ tokens. c.args.text.now.items ++ spelled (tokens (assertion_tightness c.args.asked) c.args.followed after)) (sym (at-Not _ _ _ _ c.in-Not.is c.get.ensures)))
+    ∙ ap (λ tokens. c.args.text.now.items ++ spelled (tokens (assertion_tightness c.args.asked) c.args.followed after))
+    (sym (at-Not _ _ _ _ c.in-Not.is c.get.ensures)))
     c.push_assertion.ensures
 
 pub push_assertion-returns-in_ok-push_operands-in-And : goal.push_assertion-returns-in_ok-push_operands-in-And
