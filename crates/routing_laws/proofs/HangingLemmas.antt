@@ -1,5 +1,5 @@
 -- A store with cells of a backbone, under variables that name its roots.
-use Rattle.std.proofs.Common.{◌≡◌, inl, inr, List, Option, Some, None, IsSomeAnd, IfSome, refl, sym, ap, ◌∙◌, subst, Contains}
+use Rattle.std.proofs.Common.{◌≡◌, inl, inr, List, Some, None, IsSomeAnd, IfSome, refl, sym, ap, ◌∙◌, subst, Contains}
 use Rattle.store_core.specs.declared.ids.TypeId.{TypeId}
 use Rattle.store_core.specs.declared.ids.FieldId.{FieldId}
 use Rattle.store_core.specs.declared.ids.VarId.{VarId}
@@ -9,12 +9,12 @@ use Rattle.store_core.specs.declared.kind.FieldKind.TheVariants as field
 use Rattle.store_core.specs.declared.value.Value.{Value}
 use Rattle.store_core.specs.declared.value.Value.TheVariants as value
 use Rattle.store_core.specs.Tables.{TypeEntry, VarEntry, FieldEntry, field_at}
-use Rattle.store_core.specs.Stores.{StoreMap, IsLive, cell_of, field_value}
+use Rattle.store_core.specs.Stores.{StoreMap, IsLive, field_value}
 use Rattle.routing_expr.specs.declared.fault.Place.{Place}
 use Rattle.routing_expr.specs.declared.fault.Place.TheVariants as place
 use Rattle.routing_expr.specs.Walks.{DataAlone, IsFollowed, Leads, IsParent, IsOfType, IsRoot, Chain, stay}
-use Rattle.routing_expr.specs.Destinations.{IsOnlyDestination, IsPointer}
-use Rattle.routing_expr.specs.WellFormed.{Names, HoldsOfType, FieldHoldsLive, IsBackbone, IsWellFormed}
+use Rattle.routing_expr.specs.Destinations.{IsOnlyDestination}
+use Rattle.routing_expr.specs.WellFormed.{Names, FieldHoldsLive, IsBackbone, IsWellFormed}
 use Rattle.routing_expr.specs.CutFaults.{IsSound}
 use Rattle.routing_expr.specs.Regions.{IsOn, IsClosedUnderFields, IsApart}
 use Rattle.routing_expr.proofs.LiveLemmas.{IsLive-field_value, IsParent-live, IsOfType-live, Chain-live}
