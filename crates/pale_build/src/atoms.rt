@@ -22,7 +22,10 @@ fn path_alone(alloc: Global, one: Assertion) -> Path
 {
     match one {
         Assertion::Truth(path) => path,
-        _ => pathless(alloc),
+        other => {
+            drop(other);
+            pathless(alloc)
+        }
     }
 }
 

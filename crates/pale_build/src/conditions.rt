@@ -19,7 +19,10 @@ fn term_alone(one: Condition) -> Term
 {
     match one {
         Condition::Truth(term) => term,
-        _ => Term::Null(nowhere()),
+        other => {
+            drop(other);
+            Term::Null(nowhere())
+        }
     }
 }
 

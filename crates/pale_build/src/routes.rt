@@ -19,7 +19,10 @@ fn tested_type(alloc: Global, test: Route) -> Name
 {
     match test {
         Route::IsType(name) => name,
-        _ => nameless(alloc),
+        other => {
+            drop(other);
+            nameless(alloc)
+        }
     }
 }
 
@@ -34,7 +37,7 @@ impl Parts {
             }
             RouteAct::UpAny => self.routes.push(Route::UpAny),
             RouteAct::NameUp => {
-                let _any = take_route(&mut self.routes);
+                drop(take_route(&mut self.routes));
                 let name = take_name(self.alloc, &mut self.names);
                 self.routes.push(Route::Up(name))
             }
