@@ -44,8 +44,8 @@ impl Parts {
                 let alone = take_assertion(&mut self.assertions);
                 let path = path_alone(self.alloc, alone);
                 let field = take_name(self.alloc, &mut self.names);
-                self.assertions
-                    .push(Assertion::Truth(extended(path, field)?))
+                let longer = extended(path, field)?;
+                self.assertions.push(Assertion::Truth(longer))
             }
             AtomAct::TakePathBack => {
                 let alone = take_assertion(&mut self.assertions);

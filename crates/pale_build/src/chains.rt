@@ -41,9 +41,9 @@ pub fn joined_then(alloc: Global, one: Route, other: Route) -> Result<Route, All
     ensures { IfOk result (λ route. route ≡ joined_then one other) }
 {
     let (first, others) = match one {
-        Route::Then(first, others) => longer(first, others, other)?,
-        one => chained(alloc, one, other)?,
-    };
+        Route::Then(first, others) => longer(first, others, other),
+        one => chained(alloc, one, other),
+    }?;
     Ok(Route::Then(first, others))
 }
 
@@ -52,9 +52,9 @@ pub fn joined_or(alloc: Global, one: Route, other: Route) -> Result<Route, Alloc
     ensures { IfOk result (λ route. route ≡ joined_or one other) }
 {
     let (first, others) = match one {
-        Route::Or(first, others) => longer(first, others, other)?,
-        one => chained(alloc, one, other)?,
-    };
+        Route::Or(first, others) => longer(first, others, other),
+        one => chained(alloc, one, other),
+    }?;
     Ok(Route::Or(first, others))
 }
 
@@ -63,9 +63,9 @@ pub fn starred(alloc: Global, one: Route, place: Pos) -> Result<Route, AllocErro
     ensures { IfOk result (λ route. route ≡ starred one place) }
 {
     let (inner, stars) = match one {
-        Route::Star(inner, stars) => longer(inner, stars, place)?,
-        one => chained(alloc, one, place)?,
-    };
+        Route::Star(inner, stars) => longer(inner, stars, place),
+        one => chained(alloc, one, place),
+    }?;
     Ok(Route::Star(inner, stars))
 }
 
@@ -78,9 +78,9 @@ pub fn both_conditions(
     ensures { IfOk result (λ condition. condition ≡ both_conditions one other) }
 {
     let (first, others) = match one {
-        Condition::And(first, others) => longer(first, others, other)?,
-        one => chained(alloc, one, other)?,
-    };
+        Condition::And(first, others) => longer(first, others, other),
+        one => chained(alloc, one, other),
+    }?;
     Ok(Condition::And(first, others))
 }
 
@@ -93,9 +93,9 @@ pub fn either_condition(
     ensures { IfOk result (λ condition. condition ≡ either_condition one other) }
 {
     let (first, others) = match one {
-        Condition::Or(first, others) => longer(first, others, other)?,
-        one => chained(alloc, one, other)?,
-    };
+        Condition::Or(first, others) => longer(first, others, other),
+        one => chained(alloc, one, other),
+    }?;
     Ok(Condition::Or(first, others))
 }
 
@@ -104,9 +104,9 @@ pub fn both(alloc: Global, one: Assertion, other: Assertion) -> Result<Assertion
     ensures { IfOk result (λ assertion. assertion ≡ both one other) }
 {
     let (first, others) = match one {
-        Assertion::And(first, others) => longer(first, others, other)?,
-        one => chained(alloc, one, other)?,
-    };
+        Assertion::And(first, others) => longer(first, others, other),
+        one => chained(alloc, one, other),
+    }?;
     Ok(Assertion::And(first, others))
 }
 
@@ -115,9 +115,9 @@ pub fn either(alloc: Global, one: Assertion, other: Assertion) -> Result<Asserti
     ensures { IfOk result (λ assertion. assertion ≡ either one other) }
 {
     let (first, others) = match one {
-        Assertion::Or(first, others) => longer(first, others, other)?,
-        one => chained(alloc, one, other)?,
-    };
+        Assertion::Or(first, others) => longer(first, others, other),
+        one => chained(alloc, one, other),
+    }?;
     Ok(Assertion::Or(first, others))
 }
 
@@ -126,8 +126,8 @@ pub fn equivalent(alloc: Global, one: Assertion, other: Assertion) -> Result<Ass
     ensures { IfOk result (λ assertion. assertion ≡ equivalent one other) }
 {
     let (first, others) = match one {
-        Assertion::Iff(first, others) => longer(first, others, other)?,
-        one => chained(alloc, one, other)?,
-    };
+        Assertion::Iff(first, others) => longer(first, others, other),
+        one => chained(alloc, one, other),
+    }?;
     Ok(Assertion::Iff(first, others))
 }

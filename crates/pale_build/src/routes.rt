@@ -64,17 +64,19 @@ impl Parts {
             RouteAct::JoinThen => {
                 let other = take_route(&mut self.routes);
                 let one = take_route(&mut self.routes);
-                self.routes.push(joined_then(self.alloc, one, other)?)
+                let made = joined_then(self.alloc, one, other)?;
+                self.routes.push(made)
             }
             RouteAct::JoinOr => {
                 let other = take_route(&mut self.routes);
                 let one = take_route(&mut self.routes);
-                self.routes.push(joined_or(self.alloc, one, other)?)
+                let made = joined_or(self.alloc, one, other)?;
+                self.routes.push(made)
             }
             RouteAct::AddStar => {
                 let one = take_route(&mut self.routes);
-                self.routes
-                    .push(starred(self.alloc, one, place_of(near.last))?)
+                let made = starred(self.alloc, one, place_of(near.last))?;
+                self.routes.push(made)
             }
         }
     }
