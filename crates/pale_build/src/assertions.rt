@@ -36,30 +36,33 @@ impl Parts {
             ConnectiveAct::JoinIff => {
                 let other = take_assertion(&mut self.assertions);
                 let one = take_assertion(&mut self.assertions);
-                self.assertions.push(equivalent(self.alloc, one, other)?)
+                let made = equivalent(self.alloc, one, other)?;
+                self.assertions.push(made)
             }
             ConnectiveAct::MakeImp => {
                 let other = take_assertion(&mut self.assertions);
                 let one = take_assertion(&mut self.assertions);
                 let place = take_place(&mut self.places);
-                self.assertions
-                    .push(implies(self.alloc, one, place, other)?)
+                let made = implies(self.alloc, one, place, other)?;
+                self.assertions.push(made)
             }
             ConnectiveAct::JoinOr => {
                 let other = take_assertion(&mut self.assertions);
                 let one = take_assertion(&mut self.assertions);
-                self.assertions.push(either(self.alloc, one, other)?)
+                let made = either(self.alloc, one, other)?;
+                self.assertions.push(made)
             }
             ConnectiveAct::JoinAnd => {
                 let other = take_assertion(&mut self.assertions);
                 let one = take_assertion(&mut self.assertions);
-                self.assertions.push(both(self.alloc, one, other)?)
+                let made = both(self.alloc, one, other)?;
+                self.assertions.push(made)
             }
             ConnectiveAct::MakeNot => {
                 let inner = take_assertion(&mut self.assertions);
                 let place = take_place(&mut self.places);
-                self.assertions
-                    .push(not_assertion(self.alloc, place, inner)?)
+                let made = not_assertion(self.alloc, place, inner)?;
+                self.assertions.push(made)
             }
             ConnectiveAct::BeginEx => {
                 let quantifier = begun(self.alloc, QuantifierKind::Ex, place_of(near.last));
@@ -77,14 +80,15 @@ impl Parts {
             ConnectiveAct::AddBound => {
                 let quantifier = take_quantifier(self.alloc, &mut self.quantifiers);
                 let name = take_name(self.alloc, &mut self.names);
-                self.quantifiers.push(binding(quantifier, name)?)
+                let made = binding(quantifier, name)?;
+                self.quantifiers.push(made)
             }
             ConnectiveAct::MakeQuantified => {
                 let quantifier = take_quantifier(self.alloc, &mut self.quantifiers);
                 let ty = take_name(self.alloc, &mut self.names);
                 let inner = take_assertion(&mut self.assertions);
-                self.assertions
-                    .push(quantified(self.alloc, quantifier, ty, inner)?)
+                let made = quantified(self.alloc, quantifier, ty, inner)?;
+                self.assertions.push(made)
             }
             ConnectiveAct::Bracket => {
                 let assertion = take_assertion(&mut self.assertions);

@@ -22,7 +22,10 @@ fn path_alone(alloc: Global, one: Assertion) -> Path
 {
     match one {
         Assertion::Truth(path) => path,
-        _ => pathless(alloc),
+        other => {
+            drop(other);
+            pathless(alloc)
+        }
     }
 }
 
@@ -41,8 +44,8 @@ impl Parts {
                 let alone = take_assertion(&mut self.assertions);
                 let path = path_alone(self.alloc, alone);
                 let field = take_name(self.alloc, &mut self.names);
-                self.assertions
-                    .push(Assertion::Truth(extended(path, field)?))
+                let longer = extended(path, field)?;
+                self.assertions.push(Assertion::Truth(longer))
             }
             AtomAct::TakePathBack => {
                 let alone = take_assertion(&mut self.assertions);

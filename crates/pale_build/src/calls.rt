@@ -39,7 +39,8 @@ impl Parts {
                 Ok(())
             }
             CallAct::SetKeep => {
-                self.keep = Some(take_bracketed(&mut self.brackets));
+                let keep = take_bracketed(&mut self.brackets);
+                drop(mem::replace(&mut self.keep, Some(keep)));
                 Ok(())
             }
             CallAct::MakeCall => {

@@ -1,6 +1,6 @@
 //! Chains of one operator: what comes next goes to the end of a chain, and nothing else is moved.
 
-ghost use Rattle.std.specs.Prelude.{◌≡◌, [], ◌∷◌, IfOk};
+ghost use Rattle.std.specs.Prelude.{◌≡◌, [], ◌∷◌, ◌++◌, IfOk};
 ghost use Rattle.pale_syntax.specs.MakingRoutes.{joined_then, joined_or, starred};
 ghost use Rattle.pale_syntax.specs.MakingConditions.{both_conditions, either_condition};
 ghost use Rattle.pale_syntax.specs.MakingAssertions.{both, either, equivalent};
@@ -10,52 +10,63 @@ use pale_text::Pos;
 use plain_data::{Boxed, Items};
 use std::alloc::{AllocError, Global};
 
-/// The list of one element.
-fn only<T: Drop>(alloc: Global, element: T) -> Result<Items<T>, AllocError>
-    ensures { IfOk result (λ items. items ≡ element ∷ []) }
+/// A chain of two operands: the first, and the others.
+fn chained<T: Drop, U: Drop>(
+    alloc: Global,
+    one: T,
+    other: U,
+) -> Result<(Boxed<T>, Items<U>), AllocError>
+    ensures { IfOk result (λ chain. chain ≡ (one, other ∷ [])) }
 {
-    let mut items = Items::new(alloc);
-    items.push(element)?;
-    Ok(items)
+    let first = Boxed::new(alloc, one)?;
+    let mut others = Items::new(alloc);
+    others.push(other)?;
+    Ok((first, others))
+}
+
+/// The chain with one more operand.
+fn longer<T: Drop, U: Drop>(
+    first: Boxed<T>,
+    mut others: Items<U>,
+    other: U,
+) -> Result<(Boxed<T>, Items<U>), AllocError>
+    ensures { IfOk result (λ chain. chain ≡ (first, others ++ other ∷ [])) }
+{
+    others.push(other)?;
+    Ok((first, others))
 }
 
 /// One route after the other.
 pub fn joined_then(alloc: Global, one: Route, other: Route) -> Result<Route, AllocError>
     ensures { IfOk result (λ route. route ≡ joined_then one other) }
 {
-    match one {
-        Route::Then(first, mut others) => {
-            others.push(other)?;
-            Ok(Route::Then(first, others))
-        }
-        one => Ok(Route::Then(Boxed::new(alloc, one)?, only(alloc, other)?)),
-    }
+    let (first, others) = match one {
+        Route::Then(first, others) => longer(first, others, other),
+        one => chained(alloc, one, other),
+    }?;
+    Ok(Route::Then(first, others))
 }
 
 /// Either route.
 pub fn joined_or(alloc: Global, one: Route, other: Route) -> Result<Route, AllocError>
     ensures { IfOk result (λ route. route ≡ joined_or one other) }
 {
-    match one {
-        Route::Or(first, mut others) => {
-            others.push(other)?;
-            Ok(Route::Or(first, others))
-        }
-        one => Ok(Route::Or(Boxed::new(alloc, one)?, only(alloc, other)?)),
-    }
+    let (first, others) = match one {
+        Route::Or(first, others) => longer(first, others, other),
+        one => chained(alloc, one, other),
+    }?;
+    Ok(Route::Or(first, others))
 }
 
 /// The route with a star behind it.
 pub fn starred(alloc: Global, one: Route, place: Pos) -> Result<Route, AllocError>
     ensures { IfOk result (λ route. route ≡ starred one place) }
 {
-    match one {
-        Route::Star(inner, mut stars) => {
-            stars.push(place)?;
-            Ok(Route::Star(inner, stars))
-        }
-        one => Ok(Route::Star(Boxed::new(alloc, one)?, only(alloc, place)?)),
-    }
+    let (inner, stars) = match one {
+        Route::Star(inner, stars) => longer(inner, stars, place),
+        one => chained(alloc, one, place),
+    }?;
+    Ok(Route::Star(inner, stars))
 }
 
 /// Both conditions.
@@ -66,13 +77,11 @@ pub fn both_conditions(
 ) -> Result<Condition, AllocError>
     ensures { IfOk result (λ condition. condition ≡ both_conditions one other) }
 {
-    match one {
-        Condition::And(first, mut others) => {
-            others.push(other)?;
-            Ok(Condition::And(first, others))
-        }
-        one => Ok(Condition::And(Boxed::new(alloc, one)?, only(alloc, other)?)),
-    }
+    let (first, others) = match one {
+        Condition::And(first, others) => longer(first, others, other),
+        one => chained(alloc, one, other),
+    }?;
+    Ok(Condition::And(first, others))
 }
 
 /// Either condition.
@@ -83,50 +92,42 @@ pub fn either_condition(
 ) -> Result<Condition, AllocError>
     ensures { IfOk result (λ condition. condition ≡ either_condition one other) }
 {
-    match one {
-        Condition::Or(first, mut others) => {
-            others.push(other)?;
-            Ok(Condition::Or(first, others))
-        }
-        one => Ok(Condition::Or(Boxed::new(alloc, one)?, only(alloc, other)?)),
-    }
+    let (first, others) = match one {
+        Condition::Or(first, others) => longer(first, others, other),
+        one => chained(alloc, one, other),
+    }?;
+    Ok(Condition::Or(first, others))
 }
 
 /// Both assertions.
 pub fn both(alloc: Global, one: Assertion, other: Assertion) -> Result<Assertion, AllocError>
     ensures { IfOk result (λ assertion. assertion ≡ both one other) }
 {
-    match one {
-        Assertion::And(first, mut others) => {
-            others.push(other)?;
-            Ok(Assertion::And(first, others))
-        }
-        one => Ok(Assertion::And(Boxed::new(alloc, one)?, only(alloc, other)?)),
-    }
+    let (first, others) = match one {
+        Assertion::And(first, others) => longer(first, others, other),
+        one => chained(alloc, one, other),
+    }?;
+    Ok(Assertion::And(first, others))
 }
 
 /// Either assertion.
 pub fn either(alloc: Global, one: Assertion, other: Assertion) -> Result<Assertion, AllocError>
     ensures { IfOk result (λ assertion. assertion ≡ either one other) }
 {
-    match one {
-        Assertion::Or(first, mut others) => {
-            others.push(other)?;
-            Ok(Assertion::Or(first, others))
-        }
-        one => Ok(Assertion::Or(Boxed::new(alloc, one)?, only(alloc, other)?)),
-    }
+    let (first, others) = match one {
+        Assertion::Or(first, others) => longer(first, others, other),
+        one => chained(alloc, one, other),
+    }?;
+    Ok(Assertion::Or(first, others))
 }
 
 /// The assertions are equivalent.
 pub fn equivalent(alloc: Global, one: Assertion, other: Assertion) -> Result<Assertion, AllocError>
     ensures { IfOk result (λ assertion. assertion ≡ equivalent one other) }
 {
-    match one {
-        Assertion::Iff(first, mut others) => {
-            others.push(other)?;
-            Ok(Assertion::Iff(first, others))
-        }
-        one => Ok(Assertion::Iff(Boxed::new(alloc, one)?, only(alloc, other)?)),
-    }
+    let (first, others) = match one {
+        Assertion::Iff(first, others) => longer(first, others, other),
+        one => chained(alloc, one, other),
+    }?;
+    Ok(Assertion::Iff(first, others))
 }

@@ -19,7 +19,10 @@ fn term_alone(one: Condition) -> Term
 {
     match one {
         Condition::Truth(term) => term,
-        _ => Term::Null(nowhere()),
+        other => {
+            drop(other);
+            Term::Null(nowhere())
+        }
     }
 }
 
@@ -63,20 +66,20 @@ impl Parts {
             ConditionAct::NotCondition => {
                 let place = take_place(&mut self.places);
                 let inner = take_condition(&mut self.conditions);
-                self.conditions
-                    .push(not_condition(self.alloc, place, inner)?)
+                let made = not_condition(self.alloc, place, inner)?;
+                self.conditions.push(made)
             }
             ConditionAct::JoinAndAlso => {
                 let other = take_condition(&mut self.conditions);
                 let one = take_condition(&mut self.conditions);
-                self.conditions
-                    .push(both_conditions(self.alloc, one, other)?)
+                let made = both_conditions(self.alloc, one, other)?;
+                self.conditions.push(made)
             }
             ConditionAct::JoinOrElse => {
                 let other = take_condition(&mut self.conditions);
                 let one = take_condition(&mut self.conditions);
-                self.conditions
-                    .push(either_condition(self.alloc, one, other)?)
+                let made = either_condition(self.alloc, one, other)?;
+                self.conditions.push(made)
             }
         }
     }

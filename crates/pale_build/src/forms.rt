@@ -31,6 +31,15 @@ pub fn not_assertion(alloc: Global, place: Pos, inner: Assertion) -> Result<Asse
     Ok(Assertion::Not(place, Boxed::new(alloc, inner)?))
 }
 
+/// Both in boxes.
+fn boxed<T: Drop>(alloc: Global, one: T, other: T) -> Result<(Boxed<T>, Boxed<T>), AllocError>
+    ensures { IfOk result (λ both. both ≡ (one, other)) }
+{
+    let one = Boxed::new(alloc, one)?;
+    let other = Boxed::new(alloc, other)?;
+    Ok((one, other))
+}
+
 /// One assertion implies the other.
 pub fn implies(
     alloc: Global,
@@ -40,8 +49,7 @@ pub fn implies(
 ) -> Result<Assertion, AllocError>
     ensures { IfOk result (λ assertion. assertion ≡ Assertion.Imp one place other) }
 {
-    let one = Boxed::new(alloc, one)?;
-    let other = Boxed::new(alloc, other)?;
+    let (one, other) = boxed(alloc, one, other)?;
     Ok(Assertion::Imp(one, place, other))
 }
 

@@ -13,6 +13,7 @@ use pale_syntax::{
 use pale_text::Pos;
 use plain_data::{Items, Stack};
 use std::alloc::Global;
+use std::mem;
 
 /// What is made so far, and is not yet part of something larger. `specs/MakingParts.antt` of `pale_syntax` says what each
 /// is.
@@ -88,11 +89,11 @@ pub fn nothing(alloc: Global) -> Parts
 
 impl Parts {
     /// The program of all declarations that are whole. Takes no memory.
-    pub fn into_program(self) -> Program
+    pub fn into_program(mut self) -> Program
         ensures { result ≡ program_in (parts_of self) }
     {
-        Program {
-            declarations: self.declarations,
-        }
+        let declarations = mem::replace(&mut self.declarations, Items::new(self.alloc));
+        drop(self);
+        Program { declarations }
     }
 }

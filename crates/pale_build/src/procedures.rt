@@ -50,11 +50,13 @@ impl Parts {
                 self.logics.push(LogicParameter::Bool(name))
             }
             ProcedureAct::SetPre => {
-                self.pre = Some(take_bracketed(&mut self.brackets));
+                let pre = take_bracketed(&mut self.brackets);
+                drop(mem::replace(&mut self.pre, Some(pre)));
                 Ok(())
             }
             ProcedureAct::SetPost => {
-                self.post = Some(take_bracketed(&mut self.brackets));
+                let post = take_bracketed(&mut self.brackets);
+                drop(mem::replace(&mut self.post, Some(post)));
                 Ok(())
             }
             ProcedureAct::AddProcedure => {

@@ -19,7 +19,10 @@ fn tested_type(alloc: Global, test: Route) -> Name
 {
     match test {
         Route::IsType(name) => name,
-        _ => nameless(alloc),
+        other => {
+            drop(other);
+            nameless(alloc)
+        }
     }
 }
 
@@ -34,7 +37,7 @@ impl Parts {
             }
             RouteAct::UpAny => self.routes.push(Route::UpAny),
             RouteAct::NameUp => {
-                let _any = take_route(&mut self.routes);
+                drop(take_route(&mut self.routes));
                 let name = take_name(self.alloc, &mut self.names);
                 self.routes.push(Route::Up(name))
             }
@@ -61,17 +64,19 @@ impl Parts {
             RouteAct::JoinThen => {
                 let other = take_route(&mut self.routes);
                 let one = take_route(&mut self.routes);
-                self.routes.push(joined_then(self.alloc, one, other)?)
+                let made = joined_then(self.alloc, one, other)?;
+                self.routes.push(made)
             }
             RouteAct::JoinOr => {
                 let other = take_route(&mut self.routes);
                 let one = take_route(&mut self.routes);
-                self.routes.push(joined_or(self.alloc, one, other)?)
+                let made = joined_or(self.alloc, one, other)?;
+                self.routes.push(made)
             }
             RouteAct::AddStar => {
                 let one = take_route(&mut self.routes);
-                self.routes
-                    .push(starred(self.alloc, one, place_of(near.last))?)
+                let made = starred(self.alloc, one, place_of(near.last))?;
+                self.routes.push(made)
             }
         }
     }

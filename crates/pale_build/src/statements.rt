@@ -50,7 +50,7 @@ impl Parts {
             }
             StatementAct::NoElse => self.elses.push(None),
             StatementAct::SetElse => {
-                let _none = take_else(&mut self.elses);
+                drop(take_else(&mut self.elses));
                 let block = take_block(self.alloc, &mut self.blocks);
                 self.elses.push(Some(block))
             }

@@ -19,7 +19,10 @@ impl Parts {
         ensures { OnOk result (parts_of self.new ≡ after_word act (near_of near.entry) (parts_of self.old)) }
     {
         match act {
-            WordAct::PushName => self.names.push(name_of(self.alloc, near.last)?),
+            WordAct::PushName => {
+                let name = name_of(self.alloc, near.last)?;
+                self.names.push(name)
+            }
             WordAct::MarkPlace => self.places.push(place_of(near.last)),
             WordAct::MarkNext => self.places.push(place_of(near.next)),
             WordAct::StartPath => {
@@ -30,7 +33,8 @@ impl Parts {
             WordAct::ExtendPath => {
                 let path = take_path(self.alloc, &mut self.paths);
                 let field = take_name(self.alloc, &mut self.names);
-                self.paths.push(extended(path, field)?)
+                let longer = extended(path, field)?;
+                self.paths.push(longer)
             }
             WordAct::PushNull => self.terms.push(Term::Null(place_of(near.last))),
             WordAct::PathTerm => {
