@@ -1,5 +1,5 @@
 -- On the parts of formulas that are kept as nodes, and on the walk down that meets them.
-use Rattle.std.proofs.Common.{◌≡◌, ◌⊎◌, ℕ, ◌+◌, ◌-◌, ◌<◌, ◌≤◌, List, [], ◌∷◌, ◌++◌, length, map, reverse, slice_get, slice_index_or}
+use Rattle.std.proofs.Common.{◌≡◌, ◌⊎◌, ℕ, ◌-◌, ◌<◌, ◌≤◌, List, [], ◌∷◌, ◌++◌, length, map, reverse, slice_get, slice_index_or}
 use Rattle.std.proofs.Common.{option_map, Option, Some, None, IfSome, All, Contains, AllPairs, refl, sym, ap, subst, ◌∙◌, inl, inr, arith}
 use Rattle.std.proofs.lemmas.Bool.{cases_lt}
 use Rattle.std.proofs.lemmas.Option.{slice_get_past}
@@ -155,7 +155,9 @@ module _ (nodes : List Node) (earlier : (k : ℕ) (node : Node) → slice_get no
       where
         along : (k : ℕ) → IsKnown met waiting k → IsKnown met rest k
         along = known-permuted met waiting rest (λ k waits. elim (waits-cases k waits) as (λ _. IsKnown met rest k) [
-          | inl same ↦ (let is : below ≡ k = omega (arith, same, place-low) in inl (subst (λ j. Contains met (id-of j)) is (h.last (omega (arith, place-low, place-inside)))))
+          | inl same ↦
+              let is : below ≡ k = omega (arith, same, place-low) in
+              inl (subst (λ j. Contains met (id-of j)) is (h.last (omega (arith, place-low, place-inside))))
           | inr in_rest ↦ inr in_rest
         ])
 
@@ -180,7 +182,8 @@ module _ (nodes : List Node) (earlier : (k : ℕ) (node : Node) → slice_get no
       whole_known = along whole h.whole_known;
       closed = λ k other in_met at_k. elim (Contains-append_cases met (id-of place ∷ []) (id-of k) in_met)
           as (λ _. All (IsKnown (met ++ id-of place ∷ []) waiting') (parts_of (form_of other))) [
-            | inl old ↦ All-weaker (IsKnown met waiting) (IsKnown (met ++ id-of place ∷ []) waiting') along (parts_of (form_of other)) (h.closed k other old at_k)
+            | inl old ↦ All-weaker (IsKnown met waiting) (IsKnown (met ++ id-of place ∷ []) waiting') along (parts_of (form_of other))
+                (h.closed k other old at_k)
             | inr new ↦ (let same : node ≡ other = node-same k other new at_k in
                 subst (λ n. All (IsKnown (met ++ id-of place ∷ []) waiting') (parts_of (form_of n))) same
                 (All-from_contains (IsKnown (met ++ id-of place ∷ []) waiting') (parts-of node) (λ p in_parts. inr (part-waits p in_parts))))
@@ -190,14 +193,15 @@ module _ (nodes : List Node) (earlier : (k : ℕ) (node : Node) → slice_get no
           | inl old ↦ h.sound k (inl old)
           | inr new ↦ subst (λ j. (j < length nodes) × IsPartHere j) (number-same k new) (h.sound place (inr place-waits))
         ]
-        | inr waits ↦ elim (Contains-append_cases (parts-of node) rest k (Contains-permutation waiting' (parts-of node ++ rest) k (IsPermutation-sym (parts-of node ++ rest) waiting' order') waits))
+        | inr waits ↦ elim (Contains-append_cases (parts-of node) rest k
+            (Contains-permutation waiting' (parts-of node ++ rest) k (IsPermutation-sym (parts-of node ++ rest) waiting' order') waits))
             as (λ _. (k < length nodes) × IsPartHere k) [
               | inl in_parts ↦ (let lt : k < place = All-contains (λ j. j < place) (parts-of node) k (earlier place node at) in_parts in (
-                  omega (arith, lt, place-inside),
-                  deeper (formula_at (formulas_of nodes) place) (formula_at (formulas_of nodes) k) (h.sound place (inr place-waits)).1
-                  (subst (λ (fs : List Formula). Contains fs (formula_at (formulas_of nodes) k)) (sym (parts-at nodes place node at (earlier place node at)))
-                  (Contains-map (formula_at (formulas_of nodes)) (parts-of node) k in_parts)),
-                ))
+                omega (arith, lt, place-inside),
+                deeper (formula_at (formulas_of nodes) place) (formula_at (formulas_of nodes) k) (h.sound place (inr place-waits)).1
+                    (subst (λ (fs : List Formula). Contains fs (formula_at (formulas_of nodes) k)) (sym (parts-at nodes place node at (earlier place node at)))
+                    (Contains-map (formula_at (formulas_of nodes)) (parts-of node) k in_parts)),
+              ))
               | inr in_rest ↦ h.sound k (inr (rest-waits k in_rest))
             ]
       ];
@@ -229,13 +233,14 @@ module _ (nodes : List Node) (earlier : (k : ℕ) (node : Node) → slice_get no
           ]
         ]
 
-  -- where nothing waits, exactly the parts were met
+  -- where nothing waits, what is known was met
+  met-known : (met : List FormulaId) (k : ℕ) → IsKnown met [] k → Contains met (id-of k)
+  met-known met k known = elim known as (λ _. Contains met (id-of k)) [ inl was ↦ was | inr none ↦ absurd (Contains-none k none) ]
+
+  -- and so exactly the parts were met
   part-met : (met : List FormulaId) → HasMetParts nodes whole met → (f : Formula) → IsPart (formula_at (formulas_of nodes) whole) f →
       (k : ℕ) × (k < length nodes) × (formula_at (formulas_of nodes) k ≡ f) × Contains met (id-of k)
-  part-met met h _ itself = (whole, ((h.1).sound whole (h.1).whole_known).0, refl, met-now whole (h.1).whole_known)
-    where
-      met-now : (k : ℕ) → IsKnown met [] k → Contains met (id-of k)
-      met-now k known = elim known as (λ _. Contains met (id-of k)) [ inl was ↦ was | inr none ↦ absurd (Contains-none k none) ]
+  part-met met h _ itself = (whole, ((h.1).sound whole (h.1).whole_known).0, refl, met-known met whole (h.1).whole_known)
   part-met met h _ (deeper f e part contains) =
       let k = part-met met h f part in
       let node = node-inside nodes k.0 k.1 in
@@ -244,7 +249,7 @@ module _ (nodes : List Node) (earlier : (k : ℕ) (node : Node) → slice_get no
       let p = Contains-mapped (formula_at (formulas_of nodes)) (parts_of (form_of node.0)) e
       (subst (λ (fs : List Formula). Contains fs e) parts contains) in
       let known = All-contains (IsKnown met []) (parts_of (form_of node.0)) p.0 ((h.1).closed k.0 node.0 k.3 node.1) p.1 in
-      (p.0, ((h.1).sound p.0 known).0, p.2, elim known as (λ _. Contains met (id-of p.0)) [ inl was ↦ was | inr none ↦ absurd (Contains-none p.0 none) ])
+      (p.0, ((h.1).sound p.0 known).0, p.2, met-known met p.0 known)
 
   -- turned round they rise
   pub ArePartsOf-met : (met ids : List FormulaId) → IsOnceEach (formulas_of nodes) → HasMetParts nodes whole met → ids ≡ reverse met →
