@@ -1,5 +1,5 @@
 -- On the parts of formulas that are kept as nodes, and on the walk down that meets them.
-use Rattle.std.proofs.Common.{◌≡◌, ◌⊎◌, ℕ, ◌+◌, ◌-◌, ◌<◌, ◌≤◌, List, [], ◌∷◌, ◌++◌, length, map, reverse, slice_get, slice_index_or}
+use Rattle.std.proofs.Common.{◌≡◌, ◌⊎◌, ℕ, ◌-◌, ◌<◌, ◌≤◌, List, [], ◌∷◌, ◌++◌, length, map, reverse, slice_get, slice_index_or}
 use Rattle.std.proofs.Common.{option_map, Option, Some, None, IfSome, All, Contains, AllPairs, refl, sym, ap, subst, ◌∙◌, inl, inr, arith}
 use Rattle.std.proofs.lemmas.Bool.{cases_lt}
 use Rattle.std.proofs.lemmas.Option.{slice_get_past}
@@ -155,8 +155,9 @@ module _ (nodes : List Node) (earlier : (k : ℕ) (node : Node) → slice_get no
       where
         along : (k : ℕ) → IsKnown met waiting k → IsKnown met rest k
         along = known-permuted met waiting rest (λ k waits. elim (waits-cases k waits) as (λ _. IsKnown met rest k) [
-          | inl same ↦ (let is : below ≡ k = omega (arith, same, place-low) in inl
-              (subst (λ j. Contains met (id-of j)) is (h.last (omega (arith, place-low, place-inside)))))
+          | inl same ↦
+              let is : below ≡ k = omega (arith, same, place-low) in
+              inl (subst (λ j. Contains met (id-of j)) is (h.last (omega (arith, place-low, place-inside))))
           | inr in_rest ↦ inr in_rest
         ])
 
@@ -232,13 +233,14 @@ module _ (nodes : List Node) (earlier : (k : ℕ) (node : Node) → slice_get no
           ]
         ]
 
-  -- where nothing waits, exactly the parts were met
+  -- where nothing waits, what is known was met
+  met-known : (met : List FormulaId) (k : ℕ) → IsKnown met [] k → Contains met (id-of k)
+  met-known met k known = elim known as (λ _. Contains met (id-of k)) [ inl was ↦ was | inr none ↦ absurd (Contains-none k none) ]
+
+  -- and so exactly the parts were met
   part-met : (met : List FormulaId) → HasMetParts nodes whole met → (f : Formula) → IsPart (formula_at (formulas_of nodes) whole) f →
       (k : ℕ) × (k < length nodes) × (formula_at (formulas_of nodes) k ≡ f) × Contains met (id-of k)
-  part-met met h _ itself = (whole, ((h.1).sound whole (h.1).whole_known).0, refl, met-now whole (h.1).whole_known)
-    where
-      met-now : (k : ℕ) → IsKnown met [] k → Contains met (id-of k)
-      met-now k known = elim known as (λ _. Contains met (id-of k)) [ inl was ↦ was | inr none ↦ absurd (Contains-none k none) ]
+  part-met met h _ itself = (whole, ((h.1).sound whole (h.1).whole_known).0, refl, met-known met whole (h.1).whole_known)
   part-met met h _ (deeper f e part contains) =
       let k = part-met met h f part in
       let node = node-inside nodes k.0 k.1 in
@@ -247,7 +249,7 @@ module _ (nodes : List Node) (earlier : (k : ℕ) (node : Node) → slice_get no
       let p = Contains-mapped (formula_at (formulas_of nodes)) (parts_of (form_of node.0)) e
       (subst (λ (fs : List Formula). Contains fs e) parts contains) in
       let known = All-contains (IsKnown met []) (parts_of (form_of node.0)) p.0 ((h.1).closed k.0 node.0 k.3 node.1) p.1 in
-      (p.0, ((h.1).sound p.0 known).0, p.2, elim known as (λ _. Contains met (id-of p.0)) [ inl was ↦ was | inr none ↦ absurd (Contains-none p.0 none) ])
+      (p.0, ((h.1).sound p.0 known).0, p.2, met-known met p.0 known)
 
   -- turned round they rise
   pub ArePartsOf-met : (met ids : List FormulaId) → IsOnceEach (formulas_of nodes) → HasMetParts nodes whole met → ids ≡ reverse met →
@@ -256,8 +258,7 @@ module _ (nodes : List Node) (earlier : (k : ℕ) (node : Node) → slice_get no
     rising = AllPairs-reverse (λ p q. q.0 < p.0) (λ p q. p.0 < q.0) (λ p q lt. lt) met (h.1).falling;
     exactly = λ id. (
       (λ inside.
-          let known = (h.1).sound id.0 (inl (Contains-permutation (reverse met) met id (IsPermutation-sym met (reverse met) (IsPermutation-reverse met))
-          inside)) in
+          let known = (h.1).sound id.0 (inl (Contains-permutation (reverse met) met id (IsPermutation-sym met (reverse met) (IsPermutation-reverse met)) inside)) in
           (omega (arith, known.0, length-meanings formula_of_node nodes), known.1)),
       (λ part.
           let k = part-met met h (formula_at (formulas_of nodes) id.0) part.1 in
