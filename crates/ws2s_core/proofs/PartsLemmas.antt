@@ -258,7 +258,8 @@ module _ (nodes : List Node) (earlier : (k : ℕ) (node : Node) → slice_get no
     rising = AllPairs-reverse (λ p q. q.0 < p.0) (λ p q. p.0 < q.0) (λ p q lt. lt) met (h.1).falling;
     exactly = λ id. (
       (λ inside.
-          let known = (h.1).sound id.0 (inl (Contains-permutation (reverse met) met id (IsPermutation-sym met (reverse met) (IsPermutation-reverse met)) inside)) in
+          let known = (h.1).sound id.0 (inl (Contains-permutation (reverse met) met id (IsPermutation-sym met (reverse met) (IsPermutation-reverse met))
+          inside)) in
           (omega (arith, known.0, length-meanings formula_of_node nodes), known.1)),
       (λ part.
           let k = part-met met h (formula_at (formulas_of nodes) id.0) part.1 in
