@@ -48,7 +48,7 @@ fn are(ids: &FormulaIdList, want: &[u32]) -> bool {
             .all(|(id, number)| id.0 == *number)
 }
 
-/// The form of a formula of the family, over the number of the one before, which is its own but one.
+/// The form of the next formula of the family, over the number of the one before.
 fn step(shape: Shape, before: u32) -> Node {
     match shape {
         Shape::Doubled(_) => Node::And(FormulaId(before), FormulaId(before)),
@@ -84,16 +84,19 @@ fn counts(ids: &FormulaIdList) -> bool {
 #[test]
 fn a_formula_of_equal_halves_is_a_graph_of_its_levels(rt: HostRuntime) -> Result<(), Fail> {
     let alloc = rt.alloc();
-    for (shape, last) in [
-        (Shape::Doubled(12), 12),
-        (Shape::Negations(DEEP), DEEP),
-    ] {
+    for (shape, last) in [(Shape::Doubled(12), 12), (Shape::Negations(DEEP), DEEP)] {
         let mut interner = Interner::new(alloc);
         let id = intern(alloc, &mut interner, &formula(alloc, shape)?)?;
-        assert!(rt; id.0 == last && is_ladder(&interner, shape, last), "{shape:?}");
+        assert!(rt;
+            id.0 == last && is_ladder(&interner, shape, last),
+            "{shape:?}"
+        );
         assert!(rt; !knows(&interner, FormulaId(last + 1)));
         let parts = parts_of(alloc, &interner, last)?.ok_or("unknown")?;
-        assert!(rt; parts.len() == last as usize + 1 && counts(&parts), "{shape:?}");
+        assert!(rt;
+            parts.len() == last as usize + 1 && counts(&parts),
+            "{shape:?}"
+        );
     }
     Ok(())
 }
@@ -113,7 +116,10 @@ fn parts_are_met_once_and_no_other_formula(rt: HostRuntime) -> Result<(), Fail> 
         (Node::Not(FormulaId(1)), Some(3)),
         (Node::And(FormulaId(0), FormulaId(7)), None),
     ] {
-        assert!(rt; put(&mut interner, form)?.map(|id| id.0) == want, "{form:?}");
+        assert!(rt;
+            put(&mut interner, form)?.map(|id| id.0) == want,
+            "{form:?}"
+        );
     }
     for (id, want) in [
         (0, &[0][..]),
@@ -128,7 +134,9 @@ fn parts_are_met_once_and_no_other_formula(rt: HostRuntime) -> Result<(), Fail> 
 }
 
 #[test]
-fn a_form_over_numbers_stands_for_more_nodes_than_memory_holds(rt: HostRuntime) -> Result<(), Fail> {
+fn a_form_over_numbers_stands_for_more_nodes_than_memory_holds(
+    rt: HostRuntime,
+) -> Result<(), Fail> {
     let alloc = rt.alloc();
     let mut interner = Interner::new(alloc);
     let mut id = put(&mut interner, Node::Single(Track(0)))?.ok_or("unknown")?;

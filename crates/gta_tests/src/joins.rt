@@ -130,7 +130,10 @@ fn a_join_answers_on_the_leaves_or_on_both_halves(rt: HostRuntime) -> Result<(),
         (&[0, 1], Some(1), [1, 1011, 1, 1011]),
         (&[0, 1, 0], Some(0), [101, 101, 10111, 10111]),
     ] {
-        assert!(rt; joined(alloc, &mut shelf, pair, picks, dropped)? == want, "{picks:?} {dropped:?}");
+        assert!(rt;
+            joined(alloc, &mut shelf, pair, picks, dropped)? == want,
+            "{picks:?} {dropped:?}"
+        );
     }
     Ok(())
 }
@@ -154,7 +157,10 @@ fn tracks_are_fixed(rt: HostRuntime) -> Result<(), Fail> {
         (1, true, [0, 1, 0, 1]),
         (2, true, [0, 0, 0, 1]),
     ] {
-        assert!(rt; fixed(alloc, &mut shelf, track, bit)? == want, "track {track}");
+        assert!(rt;
+            fixed(alloc, &mut shelf, track, bit)? == want,
+            "track {track}"
+        );
     }
     Ok(())
 }
@@ -183,17 +189,23 @@ fn joined_within(
         Err(Stop::Limit) => None,
         Err(stop) => return Err(stop.into()),
     };
-    Ok((given, [states(alloc, shelf, first)?, states(alloc, shelf, second)?]))
+    Ok((
+        given,
+        [states(alloc, shelf, first)?, states(alloc, shelf, second)?],
+    ))
 }
 
 #[test]
 fn a_join_stops_one_node_short(rt: HostRuntime) -> Result<(), Fail> {
     let alloc = rt.alloc();
     let kept = [[0, 1, 0, 1], [0, 0, 1, 1]];
-    for (limit, count, want) in [(3, 3, None), (4, 4, Some([0, 10, 1, 11]))] {
+    for (limit, want) in [(3, None), (4, Some([0, 10, 1, 11]))] {
         let mut shelf = Shelf::open(alloc, limit)?;
-        assert!(rt; joined_within(alloc, &mut shelf)? == (want, kept), "within {limit}");
-        assert!(rt; shelf.count() <= count);
+        assert!(rt;
+            joined_within(alloc, &mut shelf)? == (want, kept),
+            "within {limit}"
+        );
+        assert!(rt; shelf.count() == limit);
     }
     Ok(())
 }

@@ -35,7 +35,7 @@ struct Three {
     some: NodeRef,
 }
 
-fn three(shelf: &mut Shelf) -> Result<Three, Full>
+fn make_three(shelf: &mut Shelf) -> Result<Three, Full>
     ensures second { IfOk result (λ made. IsValid shelf.new made.second) }
     ensures both { IfOk result (λ made. IsValid shelf.new made.both) }
     ensures some { IfOk result (λ made. IsValid shelf.new made.some) }
@@ -64,9 +64,9 @@ fn states_of(alloc: Global, shelf: &Shelf, made: Three) -> Result<[[u32; 4]; 3],
 fn nodes_are_shared(rt: HostRuntime) -> Result<(), Fail> {
     let alloc = rt.alloc();
     let mut shelf = Shelf::open(alloc, 3)?;
-    let made = three(&mut shelf)?;
+    let made = make_three(&mut shelf)?;
     assert!(rt; states_of(alloc, &shelf, made)? == [[0, 0, 1, 1], [0, 0, 0, 1], [0, 1, 1, 1]]);
-    assert!(rt; three(&mut shelf) == Ok(made));
+    assert!(rt; make_three(&mut shelf) == Ok(made));
     assert!(rt; (shelf.count(), shelf.limit()) == (3, 3));
     Ok(())
 }
@@ -87,14 +87,19 @@ fn sides(shelf: &mut Shelf) -> Result<[bool; 3], Full> {
 #[test]
 fn a_full_shelf_finds_what_it_has(rt: HostRuntime) -> Result<(), Fail> {
     let mut shelf = Shelf::open(rt.alloc(), 2)?;
-    assert!(rt; three(&mut shelf) == Err(Full));
+    assert!(rt; make_three(&mut shelf) == Err(Full));
     assert!(rt; sides(&mut shelf)? == [true; 3]);
     assert!(rt; shelf.count() == 2);
     Ok(())
 }
 
 /// A table of two roots.
-fn table(alloc: Global, shelf: &mut Shelf, one: NodeRef, other: NodeRef) -> Result<TableId, AllocError>
+fn table(
+    alloc: Global,
+    shelf: &mut Shelf,
+    one: NodeRef,
+    other: NodeRef,
+) -> Result<TableId, AllocError>
     requires one { IsValid shelf.old one }
     requires other { IsValid shelf.old other }
     ensures there { IfOk result (λ id. IsSome (roots_of shelf.new (number_of id))) }
@@ -119,7 +124,7 @@ fn root_states(
 /// Three tables, of which the last is dropped, beside a node that none holds; and how many nodes there are after a
 /// collection before and after the drop.
 fn collected(alloc: Global, shelf: &mut Shelf) -> Result<([TableId; 3], [u32; 2]), Fail> {
-    let made = three(shelf)?;
+    let made = make_three(shelf)?;
     let _unused = shelf.make(1, Shelf::leaf(1), Shelf::leaf(0))?;
     let first = table(alloc, shelf, made.both, made.second)?;
     let second = table(alloc, shelf, made.second, made.second)?;
@@ -144,7 +149,10 @@ fn tables_outlive_collections(rt: HostRuntime) -> Result<(), Fail> {
         (second, 0, Some([0, 0, 1, 1])),
         (last, 0, None),
     ] {
-        assert!(rt; root_states(alloc, &shelf, table, index)? == want, "at {index}");
+        assert!(rt;
+            root_states(alloc, &shelf, table, index)? == want,
+            "at {index}"
+        );
     }
     assert!(rt; shelf.add_table(Items::new(alloc))? != last);
     Ok(())
