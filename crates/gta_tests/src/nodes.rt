@@ -1,9 +1,11 @@
 //! Shelves of nodes worked by hand.
 
-ghost use Rattle.std.specs.Prelude.{◌≤◌};
-ghost use Rattle.bdd_nodes.specs.Shelf.{IsValid};
+ghost use Rattle.std.specs.Prelude.{◌≤◌, ℕ, Some, IsSome, IfOk};
+ghost use Rattle.bdd_nodes.specs.declared.node_ref.NodeRef.{NodeRef};
+ghost use Rattle.bdd_nodes.specs.Roots.{number_of};
+ghost use Rattle.bdd_nodes.specs.Shelf.{IsValid, roots_of};
 
-use bdd_nodes::{Full, NodeRef, Shelf};
+use bdd_nodes::{Full, NodeRef, Shelf, TableId};
 use plain_data::Items;
 use std::alloc::{AllocError, Global};
 use std::process::Abort;
@@ -25,83 +27,134 @@ pub(crate) fn states(alloc: Global, shelf: &Shelf, n: NodeRef) -> Result<[u32; 4
     ])
 }
 
-#[test]
-fn nodes_are_shared_and_collected(rt: HostRuntime) -> Result<(), Fail> {
-    let alloc = rt.alloc();
-    let mut shelf = Shelf::open(alloc, 3)?;
+/// Three functions of tracks 0 and 1: where track 1 is set, where both are, and where one is at least.
+#[derive(Clone, Copy, Debug, PartialEq, Eq)]
+struct Three {
+    second: NodeRef,
+    both: NodeRef,
+    some: NodeRef,
+}
+
+fn make_three(shelf: &mut Shelf) -> Result<Three, Full>
+    ensures second { IfOk result (λ made. IsValid shelf.new made.second) }
+    ensures both { IfOk result (λ made. IsValid shelf.new made.both) }
+    ensures some { IfOk result (λ made. IsValid shelf.new made.some) }
+{
     let zero = Shelf::leaf(0);
     let one = Shelf::leaf(1);
-    let n1 = shelf.make(1, zero, one)?;
-    let n2 = shelf.make(0, zero, n1)?;
-    let n3 = shelf.make(0, n1, one)?;
-    assert_eq!(rt; shelf.count(), 3);
-    assert_eq!(rt; states(alloc, &shelf, n1)?, [0, 0, 1, 1]);
-    assert_eq!(rt; states(alloc, &shelf, n2)?, [0, 0, 0, 1]);
-    assert_eq!(rt; states(alloc, &shelf, n3)?, [0, 1, 1, 1]);
-    assert_eq!(rt; shelf.make(1, zero, one)?, n1);
+    let second = shelf.make(1, zero, one)?;
+    let both = shelf.make(0, zero, second)?;
+    let some = shelf.make(0, second, one)?;
+    Ok(Three { second, both, some })
+}
 
-    let table = shelf.add_table(Items::from_slice(alloc, &[n2])?)?;
-    shelf.collect();
-    assert_eq!(rt; shelf.count(), 2);
-    let root = shelf.root(table, 0).ok_or("no root")?;
-    assert_eq!(rt; states(alloc, &shelf, root)?, [0, 0, 0, 1]);
-    assert_eq!(rt; shelf.root(table, 1), None);
+fn states_of(alloc: Global, shelf: &Shelf, made: Three) -> Result<[[u32; 4]; 3], AllocError>
+    requires second { IsValid shelf.now made.second }
+    requires both { IsValid shelf.now made.both }
+    requires some { IsValid shelf.now made.some }
+{
+    Ok([
+        states(alloc, shelf, made.second)?,
+        states(alloc, shelf, made.both)?,
+        states(alloc, shelf, made.some)?,
+    ])
+}
+
+#[test]
+fn nodes_are_shared(rt: HostRuntime) -> Result<(), Fail> {
+    let alloc = rt.alloc();
+    let mut shelf = Shelf::open(alloc, 3)?;
+    let made = make_three(&mut shelf)?;
+    assert!(rt; states_of(alloc, &shelf, made)? == [[0, 0, 1, 1], [0, 0, 0, 1], [0, 1, 1, 1]]);
+    assert!(rt; make_three(&mut shelf) == Ok(made));
+    assert!(rt; (shelf.count(), shelf.limit()) == (3, 3));
     Ok(())
+}
+
+/// Whether a node of equal sides is that side, and what a node and a leaf are under their first track.
+fn sides(shelf: &mut Shelf) -> Result<[bool; 3], Full> {
+    let zero = Shelf::leaf(0);
+    let one = Shelf::leaf(1);
+    let second = shelf.make(1, zero, one)?;
+    let both = shelf.make(0, zero, second)?;
+    Ok([
+        shelf.make(0, second, second) == Ok(second),
+        (shelf.top(both), shelf.low(both), shelf.high(both)) == (Some(0), zero, second),
+        (shelf.top(one), shelf.low(one), shelf.high(one)) == (None, one, one),
+    ])
 }
 
 #[test]
 fn a_full_shelf_finds_what_it_has(rt: HostRuntime) -> Result<(), Fail> {
     let mut shelf = Shelf::open(rt.alloc(), 2)?;
-    let zero = Shelf::leaf(0);
-    let one = Shelf::leaf(1);
-    let n1 = shelf.make(1, zero, one)?;
-    let n2 = shelf.make(0, zero, n1)?;
-    assert_eq!(rt; shelf.make(0, n1, one), Err(Full));
-    assert_eq!(rt; shelf.make(1, zero, one), Ok(n1));
-    assert_eq!(rt; shelf.make(0, n1, n1), Ok(n1));
-    assert_eq!(rt;
-        (shelf.top(n2), shelf.low(n2), shelf.high(n2)),
-        (Some(0), zero, n1)
-    );
-    assert_eq!(rt;
-        (shelf.top(one), shelf.low(one), shelf.high(one)),
-        (None, one, one)
-    );
-    assert_eq!(rt; (shelf.count(), shelf.limit()), (2, 2));
+    assert!(rt; make_three(&mut shelf) == Err(Full));
+    assert!(rt; sides(&mut shelf)? == [true; 3]);
+    assert!(rt; shelf.count() == 2);
     Ok(())
 }
 
-/// Three tables share `n1`; one is dropped, and what it alone held goes at the next collection.
+/// A table of two roots.
+fn table(
+    alloc: Global,
+    shelf: &mut Shelf,
+    one: NodeRef,
+    other: NodeRef,
+) -> Result<TableId, AllocError>
+    requires one { IsValid shelf.old one }
+    requires other { IsValid shelf.old other }
+    ensures there { IfOk result (λ id. IsSome (roots_of shelf.new (number_of id))) }
+    ensures kept { (r : NodeRef) → IsValid shelf.old r → IsValid shelf.new r }
+{
+    shelf.add_table(Items::from_slice(alloc, &[one, other])?)
+}
+
+/// The states of a table's root.
+fn root_states(
+    alloc: Global,
+    shelf: &Shelf,
+    table: TableId,
+    index: u32,
+) -> Result<Option<[u32; 4]>, AllocError> {
+    match shelf.root(table, index) {
+        None => Ok(None),
+        Some(root) => Ok(Some(states(alloc, shelf, root)?)),
+    }
+}
+
+/// Three tables, of which the last is dropped, beside a node that none holds; and how many nodes there are after a
+/// collection before and after the drop.
+fn collected(alloc: Global, shelf: &mut Shelf) -> Result<([TableId; 3], [u32; 2]), Fail> {
+    let made = make_three(shelf)?;
+    let _unused = shelf.make(1, Shelf::leaf(1), Shelf::leaf(0))?;
+    let first = table(alloc, shelf, made.both, made.second)?;
+    let second = table(alloc, shelf, made.second, made.second)?;
+    let last = table(alloc, shelf, made.some, made.some)?;
+    shelf.collect();
+    let before = shelf.count();
+    shelf.drop_table(last);
+    shelf.collect();
+    Ok(([first, second, last], [before, shelf.count()]))
+}
+
 #[test]
 fn tables_outlive_collections(rt: HostRuntime) -> Result<(), Fail> {
     let alloc = rt.alloc();
     let mut shelf = Shelf::open(alloc, 10)?;
-    let zero = Shelf::leaf(0);
-    let two = Shelf::leaf(2);
-    let unused = shelf.make(1, two, zero)?;
-    let n1 = shelf.make(1, zero, two)?;
-    let n2 = shelf.make(0, n1, zero)?;
-    let n3 = shelf.make(0, two, n1)?;
-    assert_eq!(rt; states(alloc, &shelf, unused)?, [2, 2, 0, 0]);
-    let first = shelf.add_table(Items::from_slice(alloc, &[n2, n1])?)?;
-    let second = shelf.add_table(Items::from_slice(alloc, &[n3])?)?;
-    let third = shelf.add_table(Items::from_slice(alloc, &[n1])?)?;
-    shelf.collect();
-    assert_eq!(rt; shelf.count(), 3);
-    shelf.drop_table(second);
-    shelf.collect();
-    assert_eq!(rt; shelf.count(), 2);
-    assert_eq!(rt; shelf.root(second, 0), None);
+    let ([first, second, last], counts) = collected(alloc, &mut shelf)?;
+    assert!(rt; counts == [3, 2]);
     for (table, index, want) in [
-        (first, 0, [0, 0, 2, 0]),
-        (first, 1, [0, 0, 2, 2]),
-        (third, 0, [0, 0, 2, 2]),
+        (first, 0, Some([0, 0, 0, 1])),
+        (first, 1, Some([0, 0, 1, 1])),
+        (first, 2, None),
+        (second, 0, Some([0, 0, 1, 1])),
+        (last, 0, None),
     ] {
-        let root = shelf.root(table, index).ok_or("no root")?;
-        assert_eq!(rt; states(alloc, &shelf, root)?, want, "at {index}");
+        assert!(rt;
+            root_states(alloc, &shelf, table, index)? == want,
+            "at {index}"
+        );
     }
-    let fourth = shelf.add_table(Items::new(alloc))?;
-    assert_eq!(rt; fourth == second, false);
+    assert!(rt; shelf.add_table(Items::new(alloc))? != last);
     Ok(())
 }
 
@@ -114,10 +167,9 @@ fn one_node_in(rt: &impl Abort, alloc: Global, limit: u32) -> Result<(), Fail>
     let three = Shelf::leaf(3);
     let last = Shelf::leaf(0x7fff_ffff);
     let made = shelf.make(7, three, last)?;
-    assert_eq!(rt; shelf.high(made).state(), Some(0x7fff_ffff));
-    assert_eq!(rt; made.state(), None);
+    assert!(rt; (shelf.high(made).state(), made.state()) == (Some(0x7fff_ffff), None));
     shelf.collect();
-    assert_eq!(rt; shelf.count(), 0);
+    assert!(rt; shelf.count() == 0);
     Ok(())
 }
 

@@ -15,7 +15,7 @@ use Rattle.ws2s_theory.specs.Atoms.{SubState, inside, outside, is_inside, sub_st
 use Rattle.ws2s_theory.specs.Atoms.{SuccState, neither, child, found, wrong, is_found, succ_step, succ0_automaton, succ1_automaton}
 use Rattle.ws2s_theory.specs.Merging.{merged, Stands}
 use Rattle.ws2s_theory.proofs.AtomsLemmas.{Recognises-Sub, Recognises-Succ0, Recognises-Succ1}
-use Rattle.ws2s_theory.proofs.SingleSizeLemmas.{every_track}
+use Rattle.ws2s_theory.proofs.TestsLemmas.{every_track}
 
 -- an automaton whose states that are met accept alike
 module _ {Q : Type 0} (g : Spaces) (guide : IsGuide g) (A : Automaton Q) (f : Formula) (of_A : Recognises g A f) (is_met : Q → Bool)

@@ -10,7 +10,6 @@ pub mod MergingLemmas
 pub mod PeaksLemmas
 pub mod RenamedLemmas
 pub mod SetsLemmas
-pub mod SingleSizeLemmas
 pub mod SizesLemmas
 pub mod SuccessorsLemmas
 pub mod TablesLemmas

@@ -14,7 +14,7 @@ use Rattle.ws2s_core.specs.Recognising.{Recognises, IsMinimalOf}
 use Rattle.ws2s_core.proofs.RecognisingLemmas.{Recognises-classes}
 use Rattle.ws2s_theory.specs.Merging.{child_space, IsChildTest, is_below, merged, Stands}
 use Rattle.ws2s_theory.proofs.TestsLemmas.{or-cases, or-true}
-use Rattle.ws2s_theory.proofs.SingleSizeLemmas.{Any}
+use Rattle.ws2s_theory.proofs.TestsLemmas.{Any}
 
 module _ (g : Spaces) (guide : IsGuide g) where
   pub child-inside : (letter : Bool) (s : ℕ) → IsSpace g s → IsSpace g (child_space g letter s)

@@ -1,5 +1,5 @@
 -- On formulas with their tracks renamed in order: their Sizes and Peaks are the same.
-use Rattle.std.proofs.Common.{◌≡◌, ℕ, Bool, IsTrue, ◌↔◌, sym, subst}
+use Rattle.std.proofs.Common.{◌≡◌, ℕ, IsTrue, ◌↔◌, sym, subst}
 use Rattle.gta_theory.specs.Guides.{Spaces, IsGuide}
 use Rattle.gta_theory.specs.Automata.{Automaton, Has}
 use Rattle.gta_theory.specs.Renamed.{IsIncreasing, renamed_tracks}

@@ -131,3 +131,11 @@ labels-fail (suc k) test is =
         (l : Label) × (test l ≡ false)
     choose false fails rest unset is_set = let found = unset fails in (with_track found.0 k false, found.1)
     choose true passes rest unset is_set = let found = is_set rest in (with_track found.0 k true, found.1)
+
+-- every track is set
+abbrev pub every_track : Label
+every_track = λ t. true
+
+-- every state is one of the states
+abbrev pub Any : {Q : Type 0} → ℕ → Q → Type 0
+Any s q = Unit {0}

@@ -1,14 +1,16 @@
 -- On the worked Sizes: the minimal automata of the atoms under the plain guide.
-use Rattle.std.proofs.Common.{◌≡◌, ◌≢◌, ℕ, zero, suc, true, [], ◌∷◌, refl, sym, arith}
+use Rattle.std.proofs.Common.{◌≡◌, ◌≢◌, ℕ, zero, suc, ◌+◌, true, [], ◌∷◌, refl, sym, arith}
 use Rattle.labels.specs.Labels.{Label, empty_label, with_track}
 use Rattle.gta_theory.specs.Guides.{Spaces, IsGuide, IsSpace, left, right}
 use Rattle.gta_theory.specs.Automata.{Automaton}
 use Rattle.gta_theory.specs.Constructions.{IsReached}
 use Rattle.gta_theory.specs.Generated.{Generated, starts, steps}
 use Rattle.gta_theory.specs.Minimal.{AreSeparated, at_root, below_left, below_right}
+use Rattle.gta_theory.specs.Renamed.{IsIncreasing}
 use Rattle.gta_theory.specs.Sizes.{SizeOf}
 use Rattle.gta_theory.proofs.GeneratedLemmas.{IsReached-generated, IsValue-generated}
 use Rattle.gta_theory.proofs.MinimalLemmas.{AreToldApart-from_separated}
+use Rattle.gta_theory.proofs.RenamedLemmas.{SizeOf-renamed}
 use Rattle.ws2s_core.specs.declared.track.Track.{Track}
 use Rattle.ws2s_core.specs.declared.formula.Formula.{Formula}
 use Rattle.ws2s_core.specs.declared.formula.Formula.TheVariants.{Sub, Single, Root}
@@ -22,8 +24,8 @@ use Rattle.ws2s_theory.specs.Worked.{plain}
 use Rattle.ws2s_theory.proofs.AtomsLemmas.{Recognises-Sub, Recognises-Single, Recognises-Root}
 use Rattle.ws2s_theory.proofs.FormsLemmas.{all-sub, decide-sub, all-single, decide-single, all-root, decide-root}
 use Rattle.ws2s_theory.proofs.SizesLemmas.{HasMinimalSize-of}
-use Rattle.ws2s_theory.proofs.SingleSizeLemmas.{Any, every_track, size-single}
 use Rattle.ws2s_theory.proofs.TestedSizesLemmas.{SizeOf-tested}
+use Rattle.ws2s_theory.proofs.TestsLemmas.{Any, every_track}
 
 pub plain-guide : IsGuide plain
 plain-guide = record {
@@ -164,7 +166,23 @@ size-root = SizeOf-tested root-number root-once root_1 Any (absent ∷ alone ∷
 pub HasMinimalSize-root : HasMinimalSize plain (Root (track 1)) 10
 HasMinimalSize-root = HasMinimalSize-of plain plain-guide decide-root (Root (track 1)) root_1 Any minimal-root 10 size-root
 
--- `Single x`
+-- `Single 0`
+abbrev single-number : SingleState → ℕ
+single-number nothing = 0
+single-number one = 1
+single-number more = 2
+
+single-once : (p q : SingleState) → single-number p ≡ single-number q → p ≡ q
+single-once nothing nothing e = refl
+single-once one one e = refl
+single-once more more e = refl
+single-once p q e = absurd (omega (arith, e))
+
+size-single_0 : SizeOf plain (single_automaton 0) Any 11
+size-single_0 = SizeOf-tested single-number single-once (single_automaton 0) Any (nothing ∷ one ∷ more ∷ []) (λ q is. all-single q) (λ q h. tt) 1
+    (λ p q l m same i. single_step p q (same 0 (omega arith) i)) ((nothing, nothing, 0, unset) ∷ (one, nothing, 0, unset) ∷ []) refl 11 refl
+
+-- `Single x`, which is that of track 0 with another name
 module _ (x : Track) where
   abbrev One : Automaton SingleState
   One = single_automaton x.0
@@ -199,5 +217,16 @@ module _ (x : Track) where
   pub minimal-single : IsMinimalOf plain One Any (Single x)
   minimal-single = minimal-all One (Single x) (Recognises-Single plain plain-guide x) single-generated single-apart
 
+  abbrev moved : ℕ → ℕ
+  moved zero = x.0
+  moved (suc t) = suc (x.0 + t)
+
+  moved-increasing : IsIncreasing moved
+  moved-increasing zero zero less = absurd (omega arith)
+  moved-increasing zero (suc u) less = omega arith
+  moved-increasing (suc t) zero less = absurd (omega arith)
+  moved-increasing (suc t) (suc u) less = omega arith
+
   pub HasMinimalSize-single : HasMinimalSize plain (Single x) 11
-  HasMinimalSize-single = HasMinimalSize-of plain plain-guide decide-single (Single x) One Any minimal-single 11 (size-single x.0)
+  HasMinimalSize-single = HasMinimalSize-of plain plain-guide decide-single (Single x) One Any minimal-single 11
+      (SizeOf-renamed moved moved-increasing plain (single_automaton 0) Any 11 size-single_0)

@@ -23,7 +23,7 @@ use Rattle.ws2s_theory.proofs.PeaksLemmas.{HasPeak-Sub, HasPeak-Root, HasPeak-An
 use Rattle.ws2s_theory.proofs.SizesLemmas.{HasMinimalSize-of, HasProductSize-of, HasSubsetSize-of}
 use Rattle.ws2s_theory.proofs.TestsLemmas.{all-pass-at}
 use Rattle.ws2s_theory.proofs.TestedSizesLemmas.{SizeOf-tested}
-use Rattle.ws2s_theory.proofs.SingleSizeLemmas.{Any}
+use Rattle.ws2s_theory.proofs.TestsLemmas.{Any}
 use Rattle.ws2s_theory.proofs.WorkedLemmas.{plain-guide, zero-there, at-zero, minimal-all, unset, only, sub_10, minimal-sub, root_1, minimal-root}
 use Rattle.ws2s_theory.proofs.WorkedLemmas.{HasMinimalSize-sub, HasMinimalSize-root, root-number, root-once, sub-number, sub-once}
 

@@ -5,7 +5,7 @@ use Rattle.std.proofs.lemmas.Bool.{ltb-true}
 use Rattle.labels.specs.Labels.{Label, empty_label, with_below}
 use Rattle.labels.proofs.LabelsLemmas.{with_below-under, with_below-from}
 use Rattle.gta_theory.specs.Automata.{Automaton, IsStable}
-use Rattle.gta_theory.specs.Constructions.{pairs, IsReached, IsNaming, IsProduct}
+use Rattle.gta_theory.specs.Constructions.{pairs, IsNaming, IsProduct}
 use Rattle.gta_theory.specs.Generated.{Generated, starts, steps}
 use Rattle.gta_theory.specs.Minimal.{AreSeparated, at_root}
 use Rattle.gta_theory.specs.Renamed.{IsIncreasing}
@@ -25,7 +25,7 @@ use Rattle.ws2s_theory.proofs.PeaksLemmas.{HasPeak-And, HasPeak-Not}
 use Rattle.ws2s_theory.proofs.RenamedLemmas.{IsMinimalOf-renamed, HasMinimalSize-renamed, HasPeak-renamed}
 use Rattle.ws2s_theory.proofs.SizesLemmas.{HasMinimalSize-of, HasProductSize-of}
 use Rattle.ws2s_theory.proofs.TestedSizesLemmas.{Place, function, square, is-tested, SizeOf-tested}
-use Rattle.ws2s_theory.proofs.SingleSizeLemmas.{Any, every_track}
+use Rattle.ws2s_theory.proofs.TestsLemmas.{Any, every_track}
 use Rattle.ws2s_theory.proofs.WorkedLemmas.{plain-guide, zero-there, at-zero, minimal-all, unset}
 use Rattle.ws2s_theory.proofs.WorkedPeakLemmas.{FlagState, missing, present, flag, is_present, Flag, flag-number, flag-number-once}
 use Rattle.ws2s_theory.proofs.WorkedPeakLemmas.{root_within, minimal-flag, decide-flag, all-flag, HasMinimalSize-flag, HasPeak-has_root}

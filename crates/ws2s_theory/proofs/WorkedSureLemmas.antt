@@ -22,7 +22,7 @@ use Rattle.ws2s_theory.proofs.FormsLemmas.{decide-single}
 use Rattle.ws2s_theory.proofs.PeaksLemmas.{HasPeak-Single, HasPeak-And, HasPeak-Ex2}
 use Rattle.ws2s_theory.proofs.SizesLemmas.{HasMinimalSize-of, HasProductSize-of, HasSubsetSize-of}
 use Rattle.ws2s_theory.proofs.TestedSizesLemmas.{SizeOf-tested}
-use Rattle.ws2s_theory.proofs.SingleSizeLemmas.{Any}
+use Rattle.ws2s_theory.proofs.TestsLemmas.{Any}
 use Rattle.ws2s_theory.proofs.WorkedLemmas.{plain-guide, zero-there, at-zero, minimal-all, minimal-single}
 use Rattle.ws2s_theory.proofs.WorkedLemmas.{HasMinimalSize-single}
 
