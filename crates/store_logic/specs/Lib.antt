@@ -1,0 +1,15 @@
+pub mod Dropping
+pub mod Postfix
+pub mod DroppingConds
+pub mod PostfixConds
+pub mod Terms
+pub mod Regions
+pub mod Satisfaction
+pub mod Laws
+pub mod Sizes
+pub mod Filling
+pub mod Expansion
+pub mod Sorts
+pub mod Fits
+pub mod FitsCode
+pub mod Uses
