@@ -5,3 +5,5 @@ pub mod HoldsLemmas
 pub mod SameLemmas
 pub mod NextLemmas
 pub mod RegionLemmas
+pub mod RenamingLemmas
+pub mod RenamedLemmas

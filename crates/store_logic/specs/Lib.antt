@@ -6,6 +6,7 @@ pub mod Terms
 pub mod Regions
 pub mod Satisfaction
 pub mod Laws
+pub mod Renamed
 pub mod Sizes
 pub mod Filling
 pub mod Expansion

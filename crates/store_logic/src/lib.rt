@@ -17,6 +17,7 @@ mod laws;
 mod path;
 mod pred;
 mod region;
+mod renaming;
 mod term;
 
 pub use act::{Act, Rhs};
@@ -30,4 +31,5 @@ pub use laws::{
 pub use path::{Operand, Path};
 pub use pred::{PredDef, Preds};
 pub use region::{Region, VarList};
+pub use renaming::renaming_cells_keeps_satisfaction;
 pub use term::{Base, FieldList, Term};
