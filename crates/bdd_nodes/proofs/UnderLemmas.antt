@@ -215,6 +215,10 @@ module _ (shelf : Contents) (is_shelf : IsShelf shelf) where
   under from r valid (by_low q reached) = under_low_named from q (node_of q) refl valid (under from q valid reached)
   under from r valid (by_high q reached) = under_high_named from q (node_of q) refl valid (under from q valid reached)
 
+  -- what is reached is valid
+  pub IsValid-reached : (from r : NodeRef) → IsValid shelf from → Reaches shelf.nodes from r → IsValid shelf r
+  IsValid-reached from r valid reached = (under from r valid reached).valid
+
   -- what is reached stands for a function under the first one
   pub IsUnder-reached : (from r : NodeRef) → IsValid shelf from → Reaches shelf.nodes from r → IsUnder (state_of shelf from) (state_of shelf r)
   IsUnder-reached from r valid reached =

@@ -2,3 +2,4 @@ pub mod AutoLemmas
 pub mod PlacingLemmas
 pub mod BuiltLemmas
 pub mod AcceptingLemmas
+pub mod SizeLemmas

@@ -3,3 +3,4 @@ pub mod Given
 pub mod Placing
 pub mod Changes
 pub mod Accepting
+pub mod Sizes

@@ -10,8 +10,10 @@ mod auto;
 mod build;
 mod laws;
 mod part;
+mod sizes;
 
 pub use acceptance::accepts;
 pub use auto::{Auto, BoolList, release};
 pub use build::{SpacePart, SpacePartList};
 pub use laws::{automata_outlive_changes, tables_outlive_changes};
+pub use sizes::nodes_fit_in_sizes;
