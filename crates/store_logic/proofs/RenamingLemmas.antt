@@ -12,7 +12,6 @@ use Rattle.store_core.specs.declared.value.Value.TheVariants as value
 use Rattle.store_core.specs.Tables.{TypeEntry, VarEntry}
 use Rattle.store_core.specs.Stores.{StoreMap, CellEntry, IsLive, cell_of, field_value}
 use Rattle.routing_expr.specs.Walks.{IsOfType, IsOfVariant, IsParent, Chain, stay, go}
-use Rattle.routing_expr.specs.Searches.{Lists}
 use Rattle.routing_expr.specs.Regions.{store_on, IsReachedFrom}
 use Rattle.routing_laws.specs.Deciding.{Decided}
 use Rattle.routing_laws.specs.Pairing.{PairsReference, PairsValue, PairsSlot, Pairwise, PairsEntry, ArePaired}
@@ -283,8 +282,7 @@ module _ (R : CellId → CellId → Type 0) (s t : StoreMap) (h : PairsStore R s
 
   pub set_forth : (ty : TypeId) (cells : List CellId) → IsSetOf s ty cells → (others : List CellId) × IsSetOf t ty others × PairsLive R s t cells others
   set_forth ty cells is =
-      let k = listed t (IsPartner R t cells) (decided_partner cells) (λ d p. p.live) in
-      (
+      let k = listed t (IsPartner R t cells) (decided_partner cells) (λ d p. p.live) in (
         k.0,
         record {
           rising = k.1.rising;
@@ -350,7 +348,7 @@ module _ (types : List TypeEntry) (vars : List VarEntry) (R : CellId → CellId 
   chain_to (stay a live) c p = (c, p, stay c (live_forth R s t h a c p live))
   chain_to (go a b last step rest) c p =
       let k = reference_to R (field_value s a step.field) (field_value t c step.field) b
-          (field_paired R (without_variables s) (without_variables t) h.cells a c step.field p) step.leads.value in
+      (field_paired R (without_variables s) (without_variables t) h.cells a c step.field p) step.leads.value in
       let live = live_forth R s t h b k.0 k.1 step.leads.live in
       let more = chain_to rest k.0 k.1 in
       (more.0, more.1, go c k.0 more.0 (record { field = step.field; leads = record { kind = step.leads.kind; value = k.2; live = live } }) more.2)
