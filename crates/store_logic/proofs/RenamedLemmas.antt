@@ -1,5 +1,5 @@
 -- A renaming of cells keeps satisfaction.
-use Rattle.std.proofs.Common.{◌≡◌, ◌↔◌, ◌==◌, IsTrue, ℕ, List, [], ◌∷◌, map, length, reverse, refl, sym, ◌∙◌, subst, Some, Contains}
+use Rattle.std.proofs.Common.{◌↔◌, ◌==◌, IsTrue, ℕ, List, [], ◌∷◌, map, length, reverse, refl, sym, subst, Some, Contains}
 use Rattle.store_core.specs.declared.ids.TypeId.{TypeId}
 use Rattle.store_core.specs.declared.ids.VarId.{VarId}
 use Rattle.store_core.specs.declared.ids.CellId.{CellId}
@@ -7,7 +7,7 @@ use Rattle.store_core.specs.declared.kind.Route.{Route}
 use Rattle.store_core.specs.declared.value.Value.{Value}
 use Rattle.store_core.specs.declared.value.Value.TheVariants as value
 use Rattle.store_core.specs.Tables.{TypeEntry, VarEntry}
-use Rattle.store_core.specs.Stores.{StoreMap, IsLive, cell_of}
+use Rattle.store_core.specs.Stores.{StoreMap, cell_of}
 use Rattle.routing_expr.specs.Walks.{DataAndPointers, IsOfType, Walk}
 use Rattle.routing_expr.specs.Searches.{Lists}
 use Rattle.routing_expr.specs.Regions.{store_on, IsReachedFrom}
@@ -23,8 +23,8 @@ use Rattle.store_logic.specs.declared.assertion.Assertion.{Assertion}
 use Rattle.store_logic.specs.declared.pred.PredDef.{PredDef}
 use Rattle.store_logic.specs.declared.region.Region.{Region}
 use Rattle.store_logic.specs.declared.region.Region.TheVariants as region
-use Rattle.store_logic.specs.Terms.{Environment, under, given, cell_at, truth_at, set_at, arg_value}
-use Rattle.store_logic.specs.Satisfaction.{IsSetOf, Holds, Says, SatAll, Sat}
+use Rattle.store_logic.specs.Terms.{Environment, under, given, cell_at, set_at, arg_value}
+use Rattle.store_logic.specs.Satisfaction.{Holds, Says, SatAll, Sat}
 use Rattle.store_logic.specs.Renamed.{PairsLive, PairsBound, without_variables, PairsStore, PairsEnvironment}
 use Rattle.store_logic.proofs.AssertionLemmas.{assertion-induction}
 use Rattle.store_logic.proofs.HoldsLemmas.{Holds-True, Holds-False, Holds-Truth, Holds-Is, Holds-Same, Holds-Member, Holds-Subset, Holds-Walk}

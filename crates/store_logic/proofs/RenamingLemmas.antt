@@ -12,7 +12,6 @@ use Rattle.store_core.specs.declared.value.Value.TheVariants as value
 use Rattle.store_core.specs.Tables.{TypeEntry, VarEntry}
 use Rattle.store_core.specs.Stores.{StoreMap, CellEntry, IsLive, cell_of, field_value}
 use Rattle.routing_expr.specs.Walks.{IsOfType, IsOfVariant, IsParent, Chain, stay, go}
-use Rattle.routing_expr.specs.Searches.{Lists}
 use Rattle.routing_expr.specs.Regions.{store_on, IsReachedFrom}
 use Rattle.routing_laws.specs.Deciding.{Decided}
 use Rattle.routing_laws.specs.Pairing.{PairsReference, PairsValue, PairsSlot, Pairwise, PairsEntry, ArePaired}
