@@ -126,7 +126,7 @@ pub resolve_formula-returns-in_ok-new-in-Implies-clause-formula : goal.resolve_f
 resolve_formula-returns-in_ok-new-in-Implies-clause-formula t c =
     found-Implies c.args.outer c.args.formula.now _ _ _ _ c.args.names.now _ _ _ _ _ c.in-Implies.is c.get-in-Implies.ensures c.get-in-Implies-2.ensures
     c.in_ok-one-in-Implies.ensures.names_stay c.in_ok-one-in-Implies.ensures.formula c.in_ok-other-in-Implies.ensures.formula
-    c.in_ok-boxed-in-Implies.ensures c.in_ok-new-in-Implies.ensures
+    (c.boxed.view_is ∙ c.in_ok-boxed-in-Implies.ensures) c.in_ok-new-in-Implies.ensures
 
 pub resolve_formula-returns-in_ok-more-in-Chain-clause-formula : goal.resolve_formula-returns-in_ok-more-in-Chain-clause-formula
 resolve_formula-returns-in_ok-more-in-Chain-clause-formula t c =
