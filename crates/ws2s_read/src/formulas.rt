@@ -159,13 +159,15 @@ pub fn resolve_formula(
         }
         SourceFormula::Implies(left, right) => {
             let one = resolve_formula(alloc, names, outer, left.get())?;
+            let boxed = Boxed::new(alloc, one)?;
             let other = resolve_formula(alloc, names, outer, right.get())?;
-            Ok(TextFormula::Implies(Boxed::new(alloc, one)?, Boxed::new(alloc, other)?))
+            Ok(TextFormula::Implies(boxed, Boxed::new(alloc, other)?))
         }
         SourceFormula::Chain(connective, first, others) => {
             let one = resolve_formula(alloc, names, outer, first.get())?;
+            let boxed = Boxed::new(alloc, one)?;
             let more = resolve_others(alloc, names, outer, others.as_slice())?;
-            Ok(TextFormula::Chain(*connective, Boxed::new(alloc, one)?, more))
+            Ok(TextFormula::Chain(*connective, boxed, more))
         }
         SourceFormula::Quantified(quantifier, bound, inner) => {
             let names_bound = bound.as_slice();

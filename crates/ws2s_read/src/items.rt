@@ -106,12 +106,12 @@ fn add_predicate(
     ensures stop { IfErr result (IsStop (with_predicate name.now parameters.now body.now stage.old)) }
 {
     stage.names.check_new(name)?;
-    let body = resolve_body(alloc, &mut stage.names, parameters, body)?;
     let number = number(stage.predicates.len())?;
     let classes = classes_of(alloc, parameters)?;
-    stage.names.add(name, Meaning::Predicate(number, classes))?;
     let params = classes_of(alloc, parameters)?;
+    let body = resolve_body(alloc, &mut stage.names, parameters, body)?;
     stage.predicates.push(Predicate { params, body })?;
+    stage.names.add(name, Meaning::Predicate(number, classes))?;
     Ok(())
 }
 

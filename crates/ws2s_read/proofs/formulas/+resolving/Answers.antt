@@ -122,16 +122,16 @@ resolve_formula-returns-in_ok-new-in-Not-clause-formula t c =
     found-Not c.args.outer c.args.formula.now _ _ c.args.names.now _ _ c.in-Not.is c.get.ensures
     c.in_ok-formula-in-Not.ensures.formula c.in_ok-new-in-Not.ensures
 
-pub resolve_formula-returns-in_ok-new-in-Implies-2-clause-formula : goal.resolve_formula-returns-in_ok-new-in-Implies-2-clause-formula
-resolve_formula-returns-in_ok-new-in-Implies-2-clause-formula t c =
+pub resolve_formula-returns-in_ok-new-in-Implies-clause-formula : goal.resolve_formula-returns-in_ok-new-in-Implies-clause-formula
+resolve_formula-returns-in_ok-new-in-Implies-clause-formula t c =
     found-Implies c.args.outer c.args.formula.now _ _ _ _ c.args.names.now _ _ _ _ _ c.in-Implies.is c.get-in-Implies.ensures c.get-in-Implies-2.ensures
     c.in_ok-one-in-Implies.ensures.names_stay c.in_ok-one-in-Implies.ensures.formula c.in_ok-other-in-Implies.ensures.formula
-    c.in_ok-new-in-Implies.ensures c.in_ok-new-in-Implies-2.ensures
+    (c.boxed.view_is ∙ c.in_ok-boxed-in-Implies.ensures) c.in_ok-new-in-Implies.ensures
 
-pub resolve_formula-returns-in_ok-new-in-Chain-clause-formula : goal.resolve_formula-returns-in_ok-new-in-Chain-clause-formula
-resolve_formula-returns-in_ok-new-in-Chain-clause-formula t c =
+pub resolve_formula-returns-in_ok-more-in-Chain-clause-formula : goal.resolve_formula-returns-in_ok-more-in-Chain-clause-formula
+resolve_formula-returns-in_ok-more-in-Chain-clause-formula t c =
     found-Chain c.args.outer c.args.formula.now _ _ _ _ _ c.args.names.now _ _ _ _ c.in-Chain.is c.get-in-Chain.ensures c.as_slice-in-Chain.ensures
-    c.in_ok-one-in-Chain.ensures.names_stay c.in_ok-one-in-Chain.ensures.formula c.in_ok-more-in-Chain.ensures.formulas c.in_ok-new-in-Chain.ensures
+    c.in_ok-one-in-Chain.ensures.names_stay c.in_ok-one-in-Chain.ensures.formula c.in_ok-more-in-Chain.ensures.formulas c.in_ok-boxed-in-Chain.ensures
 
 pub resolve_formula-returns-in-Quantified-clause-formula : goal.resolve_formula-returns-in-Quantified-clause-formula
 resolve_formula-returns-in-Quantified-clause-formula t c =
