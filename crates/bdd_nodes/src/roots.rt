@@ -1,6 +1,7 @@
 //! Tables of roots.
 
-ghost use Rattle.std.specs.Prelude.{◌≡◌, ◌≢◌, ◌+◌, ◌<◌, ◌≤◌, ℕ, [], ◌∷◌, ◌++◌, length, IfOk, OnErr, IfSome, IfNone, IsSome, None, Some, MatchOption, All, map, vec_len};
+ghost use Rattle.std.specs.Prelude.{◌≡◌, ◌≢◌, ◌+◌, ◌<◌, ◌≤◌, ℕ, [], ◌∷◌, ◌++◌, length, All, map, vec_len};
+ghost use Rattle.std.specs.Prelude.{IfOk, OnErr, IfSome, IfNone, IsSome, None, Some, MatchOption};
 ghost use Rattle.bdd_nodes.specs.Nodes.{node_of, rank};
 ghost use Rattle.bdd_nodes.specs.Collecting.{all_roots, linked_table, IsLinked, MarksList};
 ghost use Rattle.bdd_nodes.specs.Roots.{number_at, number_of, roots_under, root_under, AreNumbered};

@@ -82,7 +82,8 @@ impl Walk for ManyRoots {
 
     ghost weight = { λ walk roots. weight_of roots.items };
 
-    ghost respects = { λ walk shelf. Respects-lists _ (λ roots. roots.items) (λ roots label. asked_by shelf walk.dropped walk.half roots label) (λ a b. same_list a.items b.items) };
+    ghost respects = { λ walk shelf. Respects-lists _ (λ roots. roots.items) (λ roots label. asked_by shelf walk.dropped walk.half roots label)
+        (λ a b. same_list a.items b.items) };
 
     ghost stays_in = { λ walk old new roots keeps inside. many-stays_in old new keeps walk.half roots.items inside };
 

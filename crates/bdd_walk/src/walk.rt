@@ -73,7 +73,8 @@ pub(crate) trait Walk {
 
     ghost stays_in: { (walk : Self) (old new : Contents) (key : Self.Key) → Keeps old new → IsTrue (is_in walk old key) → IsTrue (is_in walk new key) };
 
-    ghost asks_still: { (walk : Self) (old new : Contents) (key : Self.Key) → Keeps old new → IsTrue (is_in walk old key) → AsksSame (asked walk new key) (asked walk old key) };
+    ghost asks_still: { (walk : Self) (old new : Contents) (key : Self.Key) → Keeps old new →
+        IsTrue (is_in walk old key) → AsksSame (asked walk new key) (asked walk old key) };
 }
 
 /// Goes down from a key, unless it has a result.
