@@ -4,7 +4,7 @@ ghost use Rattle.std.specs.Prelude.{◌≡◌, All, IfOk, length};
 ghost use Rattle.bdd_nodes.specs.declared.node_ref.NodeRef.{NodeRef};
 ghost use Rattle.bdd_nodes.specs.Shelf.{IsValid};
 
-use crate::nodes::states;
+use crate::nodes::{decision, states};
 use bdd_nodes::{Full, NodeRef, RefList, Shelf};
 use bdd_walk::{LeafRule, StateList, Stop, join, rename, restrict};
 use plain_data::Items;
@@ -74,10 +74,8 @@ fn pair(shelf: &mut Shelf) -> Result<(NodeRef, NodeRef), Full>
     ensures first { IfOk result (λ made. IsValid shelf.new made.0) }
     ensures second { IfOk result (λ made. IsValid shelf.new made.1) }
 {
-    let zero = Shelf::leaf(0);
-    let one = Shelf::leaf(1);
-    let first = shelf.make(0, zero, one)?;
-    let second = shelf.make(1, zero, one)?;
+    let first = decision(shelf, 0)?;
+    let second = decision(shelf, 1)?;
     Ok((first, second))
 }
 
@@ -140,9 +138,8 @@ fn a_join_answers_on_the_leaves_or_on_both_halves(rt: HostRuntime) -> Result<(),
 
 /// The states of "both tracks are set" with a track fixed.
 fn fixed(alloc: Global, shelf: &mut Shelf, track: u32, bit: bool) -> Result<[u32; 4], Fail> {
-    let zero = Shelf::leaf(0);
-    let second = shelf.make(1, zero, Shelf::leaf(1))?;
-    let both = shelf.make(0, zero, second)?;
+    let second = decision(shelf, 1)?;
+    let both = shelf.make(0, Shelf::leaf(0), second)?;
     let made = restrict(alloc, shelf, both, track, bit)?;
     Ok(states(alloc, shelf, made)?)
 }
@@ -169,7 +166,9 @@ fn tracks_are_fixed(rt: HostRuntime) -> Result<(), Fail> {
 fn leaves_are_replaced(rt: HostRuntime) -> Result<(), Fail> {
     let alloc = rt.alloc();
     let mut shelf = Shelf::open(alloc, 100)?;
-    let root = shelf.make(1, Shelf::leaf(0), Shelf::leaf(1))?;
+    let zero = Shelf::leaf(0);
+    let one = Shelf::leaf(1);
+    let root = shelf.make(1, zero, one)?;
     let numbers = Items::from_slice(alloc, &[5, 3])?;
     let renamed = rename(alloc, &mut shelf, root, &numbers)?;
     assert!(rt; states(alloc, &shelf, renamed)? == [5, 5, 3, 3]);

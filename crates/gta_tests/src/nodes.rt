@@ -3,7 +3,8 @@
 ghost use Rattle.std.specs.Prelude.{◌≤◌, ℕ, Some, IsSome, IfOk};
 ghost use Rattle.bdd_nodes.specs.declared.node_ref.NodeRef.{NodeRef};
 ghost use Rattle.bdd_nodes.specs.Roots.{number_of};
-ghost use Rattle.bdd_nodes.specs.Shelf.{IsValid, roots_of};
+ghost use Rattle.bdd_nodes.specs.Changes.{Keeps};
+ghost use Rattle.bdd_nodes.specs.Shelf.{IsValid, AsksFrom, roots_of};
 
 use bdd_nodes::{Full, NodeRef, Shelf, TableId};
 use plain_data::Items;
@@ -27,6 +28,17 @@ pub(crate) fn states(alloc: Global, shelf: &Shelf, n: NodeRef) -> Result<[u32; 4
     ])
 }
 
+/// The function of one track: state 0 where it is unset, and 1 where it is set.
+pub(crate) fn decision(shelf: &mut Shelf, track: u32) -> Result<NodeRef, Full>
+    ensures valid { IfOk result (IsValid shelf.new) }
+    ensures later { IfOk result (AsksFrom shelf.new track) }
+    ensures kept { Keeps shelf.old shelf.new }
+{
+    let zero = Shelf::leaf(0);
+    let one = Shelf::leaf(1);
+    shelf.make(track, zero, one)
+}
+
 /// Three functions of tracks 0 and 1: where track 1 is set, where both are, and where one is at least.
 #[derive(Clone, Copy, Debug, PartialEq, Eq)]
 struct Three {
@@ -42,7 +54,7 @@ fn make_three(shelf: &mut Shelf) -> Result<Three, Full>
 {
     let zero = Shelf::leaf(0);
     let one = Shelf::leaf(1);
-    let second = shelf.make(1, zero, one)?;
+    let second = decision(shelf, 1)?;
     let both = shelf.make(0, zero, second)?;
     let some = shelf.make(0, second, one)?;
     Ok(Three { second, both, some })
@@ -75,7 +87,7 @@ fn nodes_are_shared(rt: HostRuntime) -> Result<(), Fail> {
 fn sides(shelf: &mut Shelf) -> Result<[bool; 3], Full> {
     let zero = Shelf::leaf(0);
     let one = Shelf::leaf(1);
-    let second = shelf.make(1, zero, one)?;
+    let second = decision(shelf, 1)?;
     let both = shelf.make(0, zero, second)?;
     Ok([
         shelf.make(0, second, second) == Ok(second),
@@ -125,7 +137,7 @@ fn root_states(
 /// collection before and after the drop.
 fn collected(alloc: Global, shelf: &mut Shelf) -> Result<([TableId; 3], [u32; 2]), Fail> {
     let made = make_three(shelf)?;
-    let _unused = shelf.make(1, Shelf::leaf(1), Shelf::leaf(0))?;
+    let _unused = decision(shelf, 2)?;
     let first = table(alloc, shelf, made.both, made.second)?;
     let second = table(alloc, shelf, made.second, made.second)?;
     let last = table(alloc, shelf, made.some, made.some)?;
