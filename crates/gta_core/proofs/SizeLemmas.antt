@@ -1,5 +1,5 @@
 -- The inner nodes under the roots of an automaton's table are no more than its Size.
-use Rattle.std.proofs.Common.{◌≡◌, ◌≢◌, ℕ, zero, suc, ◌+◌, ◌<◌, ◌≤◌, Bool, true, false, List, [], ◌∷◌, ◌++◌, length, Option, Some, None}
+use Rattle.std.proofs.Common.{◌≡◌, ◌≢◌, ℕ, zero, suc, ◌<◌, ◌≤◌, true, false, List, [], ◌∷◌, ◌++◌, length, Option, Some}
 use Rattle.std.proofs.Common.{Contains, AllPairs, get_or, refl, sym, ◌∙◌, ap, subst, inl, inr, arith, length-append}
 use Rattle.std.specs.Prelude.{All, IsSome, is_some, slice_get, option_and_then}
 use Rattle.std.specs.List.{sum_by}
@@ -7,7 +7,7 @@ use Rattle.std.proofs.lemmas.Bool.{cases_lt}
 use Rattle.std.proofs.lemmas.Option.{slice_get-get_or, option_and_then_some}
 use Rattle.std.proofs.lemmas.List.Sums.{sum_by-cons}
 use Rattle.std.proofs.lemmas.List.Elements.{All-contains, Contains-append_left, Contains-append_right}
-use Rattle.labels.specs.Labels.{Label, Function, with_below, with_track, IsUnder}
+use Rattle.labels.specs.Labels.{Function, with_below, with_track}
 use Rattle.bdd_nodes.specs.declared.node_ref.NodeRef.{NodeRef}
 use Rattle.bdd_nodes.specs.Nodes.{node_of}
 use Rattle.bdd_nodes.specs.Shelf.{Contents, IsShelf, IsValid, state_of, roots_of, root_of}
@@ -15,13 +15,13 @@ use Rattle.bdd_nodes.specs.Changes.{IsHeld, CountsHeld}
 use Rattle.bdd_nodes.proofs.CanonicalLemmas.{changes_named}
 use Rattle.bdd_nodes.proofs.SplitLemmas.{same_reference}
 use Rattle.bdd_nodes.proofs.UnderLemmas.{IsUnder-reached, IsValid-reached}
-use Rattle.gta_theory.specs.Guides.{Spaces, IsSpace, left, right}
+use Rattle.gta_theory.specs.Guides.{Spaces, IsSpace}
 use Rattle.gta_theory.specs.Automata.{Automaton}
 use Rattle.gta_theory.specs.Numbered.{Below}
-use Rattle.gta_theory.specs.Sizes.{IsVaried, IsUnderTable, IsPart, SizeIn, sum_below, SizeOf}
+use Rattle.gta_theory.specs.Sizes.{IsPart, sum_below, SizeOf}
 use Rattle.gta_theory.proofs.ListsLemmas.{Contains-none, Contains-first, Contains-later, Contains-cases, All-from_contains}
 use Rattle.gta_theory.proofs.SizesLemmas.{length-partners}
-use Rattle.gta_core.specs.Auto.{AutoView, states_of, place_of, root_at, automaton_of, IsUsed, IsAuto}
+use Rattle.gta_core.specs.Auto.{AutoView, states_of, root_at, automaton_of, IsUsed, IsAuto}
 use Rattle.gta_core.specs.Sizes.{IsNodeOf, CountsNodes, IsSized, IsTableOf}
 use Rattle.gta_core.proofs.AutoLemmas.{step-some}
 
