@@ -191,7 +191,8 @@ module _ (g : Spaces) (shelf : Contents) (is_shelf : IsShelf shelf) (autos : Lis
       let node = held-node r held in
       let of = held-table r held in
       let node_of_auto = subst (λ (table : ℕ). IsNodeOf shelf table r) (sym of.has) node in
-      let is = All-contains (IsSized g shelf) autos of.auto sized of.there in
-      (IsValid-node shelf is_shelf held.number r node,
-      all.every of.auto (state_of shelf r) of.there (IsPart-node g shelf is_shelf (of.auto).0 is.auto r node_of_auto))) in
+      let is = All-contains (IsSized g shelf) autos of.auto sized of.there in (
+        IsValid-node shelf is_shelf held.number r node,
+        all.every of.auto (state_of shelf r) of.there (IsPart-node g shelf is_shelf (of.auto).0 is.auto r node_of_auto),
+      )) in
       omega (arith, fit, all.few, counts.length)
