@@ -2,7 +2,8 @@
 //!
 //! `specs/Auto.antt` says which automaton of `gta_theory` an `Auto` stands for in a shelf (`automaton_of`), and when it is
 //! one there (`IsAuto`); crates above cite these words alone. No crate above looks at how the roots of a table are shared.
-//! The module `laws` has what outlives which change of a shelf: functions with empty bodies.
+//! Functions with empty bodies are laws: `laws` has what outlives which change of a shelf, and `sizes` how many nodes
+//! automata have there.
 #![tactic(auto)]
 
 mod acceptance;
