@@ -5,3 +5,4 @@ pub mod HoldsLemmas
 pub mod SameLemmas
 pub mod NextLemmas
 pub mod RegionLemmas
+pub mod ExpandingForms
