@@ -6,3 +6,5 @@ pub mod SameLemmas
 pub mod NextLemmas
 pub mod RegionLemmas
 pub mod ExpandingForms
+pub mod ExpandingLists
+pub mod ExpandingTerms
