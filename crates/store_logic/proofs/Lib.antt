@@ -8,3 +8,9 @@ pub mod RegionLemmas
 pub mod ExpandingForms
 pub mod ExpandingLists
 pub mod ExpandingTerms
+pub mod ExpandingValues
+pub mod ExpandingFilled
+pub mod ExpandingHolds
+pub mod ExpandingBodies
+pub mod ExpandingTwice
+pub mod ExpandingSizeLemmas
