@@ -25,7 +25,8 @@ use Rattle.store_logic.specs.Uses.{NameUse, arg_names, names_in, uses_in, IsGive
 use Rattle.store_logic.proofs.AssertionLemmas.{assertion-induction}
 use Rattle.store_logic.proofs.HoldsLemmas.{Holds-True, Holds-False, Holds-Truth, Holds-Is, Holds-Same, Holds-Member, Holds-Subset, Holds-Walk, Holds-Pred}
 use Rattle.store_logic.proofs.HoldsLemmas.{Holds-Not, Holds-And, Holds-Or, Holds-Imp, Holds-Iff, Holds-Ex, Holds-All, Holds-ExSet, Holds-AllSet}
-use Rattle.store_logic.proofs.ExpandingForms.{bodies-True, bodies-False, bodies-Truth, bodies-Is, bodies-Same, bodies-Member, bodies-Subset, bodies-Walk, bodies-Pred}
+use Rattle.store_logic.proofs.ExpandingForms.{bodies-True, bodies-False, bodies-Truth, bodies-Is, bodies-Same, bodies-Member, bodies-Subset, bodies-Walk}
+use Rattle.store_logic.proofs.ExpandingForms.{bodies-Pred}
 use Rattle.store_logic.proofs.ExpandingForms.{bodies-Not, bodies-And, bodies-Or, bodies-Imp, bodies-Iff, bodies-Ex, bodies-All, bodies-ExSet, bodies-AllSet}
 use Rattle.store_logic.proofs.ExpandingForms.{uses-True, uses-False, uses-Truth, uses-Is, uses-Same, uses-Member, uses-Subset, uses-Walk, uses-Pred}
 use Rattle.store_logic.proofs.ExpandingForms.{uses-Not, uses-And, uses-Or, uses-Imp, uses-Iff, uses-Ex, uses-All, uses-ExSet, uses-AllSet}
@@ -102,8 +103,8 @@ module _ (preds l : List PredDef) where
       of_Member = λ t set h. ap uses_in (bodies-Member (expanded_bodies l) t set) ∙ uses-Member t set;
       of_Subset = λ set other h. ap uses_in (bodies-Subset (expanded_bodies l) set other) ∙ uses-Subset set other;
       of_Walk = λ t along u h. ap uses_in (bodies-Walk (expanded_bodies l) t along u) ∙ uses-Walk t along u;
-      of_Pred = λ k args h. 
-        let it = put_at k args h in ap uses_in it.at ∙ uses-filled args it.b 0 it.body.none;
+      of_Pred = λ k args h.
+          let it = put_at k args h in ap uses_in it.at ∙ uses-filled args it.b 0 it.body.none;
       of_Not = λ a of_a h. ap uses_in (bodies-Not (expanded_bodies l) a) ∙ uses-Not _ ∙ of_a (right (uses-Not a) h);
       of_And = λ a b of_a of_b h. ap uses_in (bodies-And (expanded_bodies l) a b) ∙ uses-And _ _
           ∙ append-empty _ _ (of_a (first (uses_in a) (uses_in b) (right (uses-And a b) h)))
@@ -268,11 +269,10 @@ module _ (preds : List PredDef) where
   AreFirst-reverse [] rest is = tt
   AreFirst-reverse (p ∷ earlier) rest is =
       let onto : preds ≡ reverse earlier ++ p ∷ rest =
-      is ∙ ap (λ l. l ++ rest) (reverse-append (p ∷ []) earlier) ∙ append_assoc (reverse earlier) (p ∷ []) rest in
-      (
+      is ∙ ap (λ l. l ++ rest) (reverse-append (p ∷ []) earlier) ∙ append_assoc (reverse earlier) (p ∷ []) rest in (
         ap (λ ps. slice_get ps (length earlier)) onto ∙ ap (slice_get (reverse earlier ++ p ∷ rest)) (sym (length-reverse earlier))
-        ∙ slice_get-seam (reverse earlier) p rest,
-        AreFirst-reverse earlier (p ∷ rest) onto
+            ∙ slice_get-seam (reverse earlier) p rest,
+        AreFirst-reverse earlier (p ∷ rest) onto,
       )
 
   module _ (bodies : (k : ℕ) → IfSome (slice_get preds k) (IsBodyAt preds k)) where
@@ -292,8 +292,7 @@ module _ (preds : List PredDef) where
         Found (p ∷ earlier) (length earlier) p
     found_last p earlier known at =
         let is_body = body_at (length earlier) p at in
-        let b = with_bodies (expanded_bodies earlier) p.body in
-        (
+        let b = with_bodies (expanded_bodies earlier) p.body in (
           b,
           ap (slice_get (expanded_bodies earlier ++ b ∷ [])) (sym (length-expanded_bodies earlier)) ∙ slice_get-seam (expanded_bodies earlier) b [],
           record {
@@ -304,7 +303,7 @@ module _ (preds : List PredDef) where
                 (Says types s earlier (length earlier) args) ↔ Holds types s (Says types s []) b (given args))
                 (sym (eq-eqb (length earlier) (length earlier) refl))
                 (turned (Holds-bodies preds earlier known types s p.body (given args) is_body.uses));
-          }
+          },
         )
 
     all_known : (l : List PredDef) → AreFirst l → Known preds l
@@ -321,8 +320,7 @@ module _ (preds : List PredDef) where
             let other : k ≢ length earlier = eqb-false k (length earlier) is in
             let before : k < length earlier = omega arith in
             let own = known k p before at in
-            let inner : k < length (expanded_bodies earlier) = subst (λ (n : ℕ). k < n) (sym (length-expanded_bodies earlier)) before in
-            (
+            let inner : k < length (expanded_bodies earlier) = subst (λ (n : ℕ). k < n) (sym (length-expanded_bodies earlier)) before in (
               own.0,
               slice_get-first (expanded_bodies earlier) (with_bodies (expanded_bodies earlier) q.body ∷ []) k inner ∙ own.1,
               record {
@@ -330,7 +328,7 @@ module _ (preds : List PredDef) where
                 names = own.2.names;
                 says = λ types s args. subst (λ (t : Bool). MatchBool t (Holds types s (Says types s earlier) q.body (given args))
                     (Says types s earlier k args) ↔ Holds types s (Says types s []) own.0 (given args)) (sym is) (own.2.says types s args);
-              }
+              },
             )
 
 -- ---- predicates that can be put in

@@ -9,7 +9,8 @@ use Rattle.store_logic.specs.Filling.{args_for, filled_term, filled_truth, fille
 use Rattle.store_logic.specs.Sizes.{node_count}
 use Rattle.store_logic.specs.Uses.{NameUse, term_names, set_name, arg_names, uses_in}
 use Rattle.store_logic.proofs.AssertionLemmas.{assertion-induction}
-use Rattle.store_logic.proofs.ExpandingForms.{filled-True, filled-False, filled-Truth, filled-Is, filled-Same, filled-Member, filled-Subset, filled-Walk, filled-Pred}
+use Rattle.store_logic.proofs.ExpandingForms.{filled-True, filled-False, filled-Truth, filled-Is, filled-Same, filled-Member, filled-Subset, filled-Walk}
+use Rattle.store_logic.proofs.ExpandingForms.{filled-Pred}
 use Rattle.store_logic.proofs.ExpandingForms.{filled-Not, filled-And, filled-Or, filled-Imp, filled-Iff, filled-Ex, filled-All, filled-ExSet, filled-AllSet}
 use Rattle.store_logic.proofs.ExpandingForms.{uses-True, uses-False, uses-Truth, uses-Is, uses-Same, uses-Member, uses-Subset, uses-Walk, uses-Pred}
 use Rattle.store_logic.proofs.ExpandingForms.{uses-Not, uses-And, uses-Or, uses-Imp, uses-Iff, uses-Ex, uses-All, uses-ExSet, uses-AllSet}
@@ -32,7 +33,8 @@ module _ (args : List Arg) where
   uses-filled = assertion-induction HasNoMore (record {
     of_True = λ d none. ap uses_in (filled-True (args_for args) d) ∙ uses-True;
     of_False = λ d none. ap uses_in (filled-False (args_for args) d) ∙ uses-False;
-    of_Truth = λ t d none. ap uses_in (filled-Truth (args_for args) t d) ∙ ap uses_in (filled_truth-is args t d) ∙ uses-is_true (filled_term (args_for args) d t);
+    of_Truth = λ t d none. ap uses_in (filled-Truth (args_for args) t d) ∙ ap uses_in (filled_truth-is args t d)
+        ∙ uses-is_true (filled_term (args_for args) d t);
     of_Is = λ t v d none. ap uses_in (filled-Is (args_for args) t v d) ∙ uses-Is _ v;
     of_Same = λ t u d none. ap uses_in (filled-Same (args_for args) t u d) ∙ uses-Same _ _;
     of_Member = λ t set d none. ap uses_in (filled-Member (args_for args) t set d) ∙ uses-Member _ _;
@@ -77,14 +79,18 @@ module _ (args : List Arg) where
     of_Walk = λ t along u d. ap node_count (filled-Walk (args_for args) t along u d) ∙ count-Walk _ along _ ∙ sym (count-Walk t along u);
     of_Pred = λ k xs d. ap node_count (filled-Pred (args_for args) k xs d) ∙ count-Pred k _ ∙ sym (count-Pred k xs);
     of_Not = λ a of_a d. ap node_count (filled-Not (args_for args) a d) ∙ count-Not _ ∙ ap (λ n. n + 1) (of_a d) ∙ sym (count-Not a);
-    of_And = λ a b of_a of_b d. ap node_count (filled-And (args_for args) a b d) ∙ count-And _ _ ∙ ap₂ (λ m n. m + n + 1) (of_a d) (of_b d) ∙ sym (count-And a b);
+    of_And = λ a b of_a of_b d. ap node_count (filled-And (args_for args) a b d) ∙ count-And _ _ ∙ ap₂ (λ m n. m + n + 1) (of_a d) (of_b d)
+        ∙ sym (count-And a b);
     of_Or = λ a b of_a of_b d. ap node_count (filled-Or (args_for args) a b d) ∙ count-Or _ _ ∙ ap₂ (λ m n. m + n + 1) (of_a d) (of_b d) ∙ sym (count-Or a b);
-    of_Imp = λ a b of_a of_b d. ap node_count (filled-Imp (args_for args) a b d) ∙ count-Imp _ _ ∙ ap₂ (λ m n. m + n + 1) (of_a d) (of_b d) ∙ sym (count-Imp a b);
-    of_Iff = λ a b of_a of_b d. ap node_count (filled-Iff (args_for args) a b d) ∙ count-Iff _ _ ∙ ap₂ (λ m n. 2 * (m + n) + 1) (of_a d) (of_b d) ∙ sym (count-Iff a b);
+    of_Imp = λ a b of_a of_b d. ap node_count (filled-Imp (args_for args) a b d) ∙ count-Imp _ _ ∙ ap₂ (λ m n. m + n + 1) (of_a d) (of_b d)
+        ∙ sym (count-Imp a b);
+    of_Iff = λ a b of_a of_b d. ap node_count (filled-Iff (args_for args) a b d) ∙ count-Iff _ _ ∙ ap₂ (λ m n. 2 * (m + n) + 1) (of_a d) (of_b d)
+        ∙ sym (count-Iff a b);
     of_Ex = λ ty a of_a d. ap node_count (filled-Ex (args_for args) ty a d) ∙ count-Ex ty _ ∙ ap (λ n. n + 1) (of_a (suc d)) ∙ sym (count-Ex ty a);
     of_All = λ ty a of_a d. ap node_count (filled-All (args_for args) ty a d) ∙ count-All ty _ ∙ ap (λ n. n + 1) (of_a (suc d)) ∙ sym (count-All ty a);
     of_ExSet = λ ty a of_a d. ap node_count (filled-ExSet (args_for args) ty a d) ∙ count-ExSet ty _ ∙ ap (λ n. n + 1) (of_a (suc d)) ∙ sym (count-ExSet ty a);
-    of_AllSet = λ ty a of_a d. ap node_count (filled-AllSet (args_for args) ty a d) ∙ count-AllSet ty _ ∙ ap (λ n. n + 1) (of_a (suc d)) ∙ sym (count-AllSet ty a);
+    of_AllSet = λ ty a of_a d. ap node_count (filled-AllSet (args_for args) ty a d) ∙ count-AllSet ty _ ∙ ap (λ n. n + 1) (of_a (suc d))
+        ∙ sym (count-AllSet ty a);
   })
 
 -- ---- names
@@ -110,8 +116,10 @@ module _ (P : NameUse → Type 0) (stable : IsStable P) (params : ℕ) (args : L
   names-filled = assertion-induction KeepsNames (record {
     of_True = λ d h. as_names (ap (λ z. names_at z (D + d)) (filled-True (args_for args) d) ∙ names-True (D + d)) tt;
     of_False = λ d h. as_names (ap (λ z. names_at z (D + d)) (filled-False (args_for args) d) ∙ names-False (D + d)) tt;
-    of_Truth = λ t d h. as_names (ap (λ z. names_at z (D + d)) (filled-Truth (args_for args) t d)) (names-truth P stable params args D of_args t d (own (names-Truth t d) h));
-    of_Is = λ t v d h. as_names (ap (λ z. names_at z (D + d)) (filled-Is (args_for args) t v d) ∙ names-Is _ v (D + d)) (names-term P stable params args D of_args class.Reference t d (own (names-Is t v d) h));
+    of_Truth = λ t d h. as_names (ap (λ z. names_at z (D + d)) (filled-Truth (args_for args) t d))
+        (names-truth P stable params args D of_args t d (own (names-Truth t d) h));
+    of_Is = λ t v d h. as_names (ap (λ z. names_at z (D + d)) (filled-Is (args_for args) t v d) ∙ names-Is _ v (D + d))
+        (names-term P stable params args D of_args class.Reference t d (own (names-Is t v d) h));
     of_Same = λ t u d h. as_names (ap (λ z. names_at z (D + d)) (filled-Same (args_for args) t u d) ∙ names-Same _ _ (D + d))
         (two (term_names class.Reference t d) (term_names class.Reference u d)
         (term_names class.Reference (filled_term (args_for args) d t) (D + d)) (term_names class.Reference (filled_term (args_for args) d u) (D + d))
@@ -131,7 +139,8 @@ module _ (P : NameUse → Type 0) (stable : IsStable P) (params : ℕ) (args : L
         (term_names class.Reference (filled_term (args_for args) d t) (D + d)) (term_names class.Reference (filled_term (args_for args) d u) (D + d))
         (names-term P stable params args D of_args class.Reference t d) (names-term P stable params args D of_args class.Reference u d)
         (own (names-Walk t along u d) h));
-    of_Pred = λ k xs d h. as_names (ap (λ z. names_at z (D + d)) (filled-Pred (args_for args) k xs d) ∙ names-Pred k _ (D + d)) (names-args P stable params args D of_args xs d (own (names-Pred k xs d) h));
+    of_Pred = λ k xs d h. as_names (ap (λ z. names_at z (D + d)) (filled-Pred (args_for args) k xs d) ∙ names-Pred k _ (D + d))
+        (names-args P stable params args D of_args xs d (own (names-Pred k xs d) h));
     of_Not = λ a of_a d h. as_names (ap (λ z. names_at z (D + d)) (filled-Not (args_for args) a d) ∙ names-Not _ (D + d)) (of_a d (own (names-Not a d) h));
     of_And = λ a b of_a of_b d h. as_names (ap (λ z. names_at z (D + d)) (filled-And (args_for args) a b d) ∙ names-And _ _ (D + d))
         (two (names_at a d) (names_at b d)

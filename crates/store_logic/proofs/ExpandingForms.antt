@@ -46,10 +46,12 @@ module _ (put : Base → Filling) where
   pub filled-Member : (t : Term) (set : Base) (d : ℕ) → filled put (assertion.Member t set) d ≡ assertion.Member (filled_term put d t) (filled_set put d set)
   filled-Member t set d = ap (λ f. f d) (fold-Member (ℕ → Assertion) (filled_node put) t set)
 
-  pub filled-Subset : (set : Base) (other : Base) (d : ℕ) → filled put (assertion.Subset set other) d ≡ assertion.Subset (filled_set put d set) (filled_set put d other)
+  pub filled-Subset : (set : Base) (other : Base) (d : ℕ) → filled put (assertion.Subset set other) d
+      ≡ assertion.Subset (filled_set put d set) (filled_set put d other)
   filled-Subset set other d = ap (λ f. f d) (fold-Subset (ℕ → Assertion) (filled_node put) set other)
 
-  pub filled-Walk : (t : Term) (along : Route) (u : Term) (d : ℕ) → filled put (assertion.Walk t along u) d ≡ assertion.Walk (filled_term put d t) along (filled_term put d u)
+  pub filled-Walk : (t : Term) (along : Route) (u : Term) (d : ℕ) → filled put (assertion.Walk t along u) d
+      ≡ assertion.Walk (filled_term put d t) along (filled_term put d u)
   filled-Walk t along u d = ap (λ f. f d) (fold-Walk (ℕ → Assertion) (filled_node put) t along u)
 
   pub filled-Pred : (k : ℕ) (args : List Arg) (d : ℕ) → filled put (assertion.Pred k args) d ≡ assertion.Pred k (map (filled_arg put d) args)
@@ -106,7 +108,8 @@ module _ where
   pub names-Subset : (set : Base) (other : Base) (d : ℕ) → names_at (assertion.Subset set other) d ≡ set_name set d ++ set_name other d
   names-Subset set other d = ap (λ f. f d) (fold-Subset (ℕ → List NameUse) names_of_node set other)
 
-  pub names-Walk : (t : Term) (along : Route) (u : Term) (d : ℕ) → names_at (assertion.Walk t along u) d ≡ term_names class.Reference t d ++ term_names class.Reference u d
+  pub names-Walk : (t : Term) (along : Route) (u : Term) (d : ℕ) → names_at (assertion.Walk t along u) d
+      ≡ term_names class.Reference t d ++ term_names class.Reference u d
   names-Walk t along u d = ap (λ f. f d) (fold-Walk (ℕ → List NameUse) names_of_node t along u)
 
   pub names-Pred : (k : ℕ) (args : List Arg) (d : ℕ) → names_at (assertion.Pred k args) d ≡ flat_map (λ x. arg_names x d) args
@@ -223,7 +226,8 @@ module _ (bodies : List Assertion) where
   pub bodies-Walk : (t : Term) (along : Route) (u : Term) → with_bodies bodies (assertion.Walk t along u) ≡ assertion.Walk t along u
   bodies-Walk t along u = fold-Walk Assertion (expanded_node bodies) t along u ∙ rolls-Walk t along u
 
-  pub bodies-Pred : (k : ℕ) (args : List Arg) → with_bodies bodies (assertion.Pred k args) ≡ option_map_or (put_in args) (slice_get bodies k) (assertion.Pred k args)
+  pub bodies-Pred : (k : ℕ) (args : List Arg) → with_bodies bodies (assertion.Pred k args)
+      ≡ option_map_or (put_in args) (slice_get bodies k) (assertion.Pred k args)
   bodies-Pred k args = fold-Pred Assertion (expanded_node bodies) k args
 
   pub bodies-Not : (a : Assertion) → with_bodies bodies (assertion.Not a) ≡ assertion.Not (with_bodies bodies a)

@@ -1,5 +1,6 @@
 -- An assertion with a predicate's arguments put in holds where the assertion holds with their values as parameters.
-use Rattle.std.proofs.Common.{◌≡◌, ◌↔◌, ℕ, suc, IsTrue, IsSomeAnd, List, [], ◌∷◌, ◌++◌, length, map, flat_map, Contains, Option, Some, sym, refl, ap, ap₂, ◌∙◌, subst}
+use Rattle.std.proofs.Common.{◌≡◌, ◌↔◌, ℕ, suc, IsTrue, IsSomeAnd, List, [], ◌∷◌, ◌++◌, length, map, flat_map, Contains, Option, Some, sym, refl, ap, ap₂}
+use Rattle.std.proofs.Common.{◌∙◌, subst}
 use Rattle.std.specs.List.{AllByRecursion}
 use Rattle.store_core.specs.declared.ids.CellId.{CellId}
 use Rattle.store_core.specs.declared.value.Class.TheVariants as class
@@ -21,7 +22,8 @@ use Rattle.store_logic.specs.Uses.{NameUse, term_names, set_name, arg_names}
 use Rattle.store_logic.proofs.AssertionLemmas.{assertion-induction}
 use Rattle.store_logic.proofs.HoldsLemmas.{Holds-True, Holds-False, Holds-Truth, Holds-Is, Holds-Same, Holds-Member, Holds-Subset, Holds-Walk, Holds-Pred}
 use Rattle.store_logic.proofs.HoldsLemmas.{Holds-Not, Holds-And, Holds-Or, Holds-Imp, Holds-Iff, Holds-Ex, Holds-All, Holds-ExSet, Holds-AllSet}
-use Rattle.store_logic.proofs.ExpandingForms.{filled-True, filled-False, filled-Truth, filled-Is, filled-Same, filled-Member, filled-Subset, filled-Walk, filled-Pred}
+use Rattle.store_logic.proofs.ExpandingForms.{filled-True, filled-False, filled-Truth, filled-Is, filled-Same, filled-Member, filled-Subset, filled-Walk}
+use Rattle.store_logic.proofs.ExpandingForms.{filled-Pred}
 use Rattle.store_logic.proofs.ExpandingForms.{filled-Not, filled-And, filled-Or, filled-Imp, filled-Iff, filled-Ex, filled-All, filled-ExSet, filled-AllSet}
 use Rattle.store_logic.proofs.ExpandingForms.{names-True, names-False, names-Truth, names-Is, names-Same, names-Member, names-Subset, names-Walk, names-Pred}
 use Rattle.store_logic.proofs.ExpandingForms.{names-Not, names-And, names-Or, names-Imp, names-Iff, names-Ex, names-All, names-ExSet, names-AllSet}
@@ -96,7 +98,8 @@ module _ (types : List TypeEntry) (s : StoreMap) (says : ℕ → List Value → 
           (both (Holds-False types s says (around s args e params bound))
           (itself)
           (Holds-False types s says (in_body s args e params bound)));
-      of_Truth = λ t bound h. chained (Holds-same (filled-Truth (args_for args) t (length bound) ∙ filled_truth-is args t (length bound)) (around s args e params bound))
+      of_Truth = λ t bound h. chained (Holds-same (filled-Truth (args_for args) t (length bound) ∙ filled_truth-is args t (length bound))
+          (around s args e params bound))
           (both (Holds-is_true _ (around s args e params bound))
           (by IsTrue (truths bound t (own (names-Truth t (length bound)) h)))
           (Holds-Truth types s says t (in_body s args e params bound)));
@@ -106,23 +109,29 @@ module _ (types : List TypeEntry) (s : StoreMap) (says : ℕ → List Value → 
           (Holds-Is types s says t v (in_body s args e params bound)));
       of_Same = λ t u bound h. chained (Holds-same (filled-Same (args_for args) t u (length bound)) (around s args e params bound))
           (both (Holds-Same types s says _ _ (around s args e params bound))
-          (by_two (λ (c c' : Option CellId). c ≡ c') (cells bound t (first (term_names class.Reference t (length bound)) (term_names class.Reference u (length bound)) (own (names-Same t u (length bound)) h)))
-          (cells bound u (second (term_names class.Reference t (length bound)) (term_names class.Reference u (length bound)) (own (names-Same t u (length bound)) h))))
+          (by_two (λ (c c' : Option CellId). c ≡ c') (cells bound t
+          (first (term_names class.Reference t (length bound)) (term_names class.Reference u (length bound)) (own (names-Same t u (length bound)) h)))
+          (cells bound u (second (term_names class.Reference t (length bound)) (term_names class.Reference u (length bound))
+          (own (names-Same t u (length bound)) h))))
           (Holds-Same types s says t u (in_body s args e params bound)));
       of_Member = λ t set bound h. chained (Holds-same (filled-Member (args_for args) t set (length bound)) (around s args e params bound))
           (both (Holds-Member types s says _ _ (around s args e params bound))
-          (by_two (λ (c : Option CellId) (cs : List CellId). IsSomeAnd c (Contains cs)) (cells bound t (first (term_names class.Reference t (length bound)) (set_name set (length bound)) (own (names-Member t set (length bound)) h)))
+          (by_two (λ (c : Option CellId) (cs : List CellId). IsSomeAnd c (Contains cs))
+          (cells bound t (first (term_names class.Reference t (length bound)) (set_name set (length bound)) (own (names-Member t set (length bound)) h)))
           (sets bound set (second (term_names class.Reference t (length bound)) (set_name set (length bound)) (own (names-Member t set (length bound)) h))))
           (Holds-Member types s says t set (in_body s args e params bound)));
       of_Subset = λ set other bound h. chained (Holds-same (filled-Subset (args_for args) set other (length bound)) (around s args e params bound))
           (both (Holds-Subset types s says _ _ (around s args e params bound))
           (by_two (λ (cs cs' : List CellId). (c : CellId) → IsLive s c → Contains cs c → Contains cs' c)
-          (sets bound set (first (set_name set (length bound)) (set_name other (length bound)) (own (names-Subset set other (length bound)) h))) (sets bound other (second (set_name set (length bound)) (set_name other (length bound)) (own (names-Subset set other (length bound)) h))))
+          (sets bound set (first (set_name set (length bound)) (set_name other (length bound)) (own (names-Subset set other (length bound)) h)))
+          (sets bound other (second (set_name set (length bound)) (set_name other (length bound)) (own (names-Subset set other (length bound)) h))))
           (Holds-Subset types s says set other (in_body s args e params bound)));
       of_Walk = λ t along u bound h. chained (Holds-same (filled-Walk (args_for args) t along u (length bound)) (around s args e params bound))
           (both (Holds-Walk types s says _ along _ (around s args e params bound))
           (by_two (λ (c c' : Option CellId). IsSomeAnd c (λ from. IsSomeAnd c' (λ to. Walk types s DataAndPointers along from to)))
-          (cells bound t (first (term_names class.Reference t (length bound)) (term_names class.Reference u (length bound)) (own (names-Walk t along u (length bound)) h))) (cells bound u (second (term_names class.Reference t (length bound)) (term_names class.Reference u (length bound)) (own (names-Walk t along u (length bound)) h))))
+          (cells bound t (first (term_names class.Reference t (length bound)) (term_names class.Reference u (length bound))
+          (own (names-Walk t along u (length bound)) h))) (cells bound u
+          (second (term_names class.Reference t (length bound)) (term_names class.Reference u (length bound)) (own (names-Walk t along u (length bound)) h))))
           (Holds-Walk types s says t along u (in_body s args e params bound)));
       of_Pred = λ k xs bound h. chained (Holds-same (filled-Pred (args_for args) k xs (length bound)) (around s args e params bound))
           (both (Holds-Pred types s says k _ (around s args e params bound))

@@ -1,6 +1,6 @@
 -- On lists that are appended: what stands at a place, and what holds of each element.
-use Rattle.std.proofs.Common.{◌≡◌, ℕ, zero, suc, ◌+◌, ◌<◌, List, [], ◌∷◌, ◌++◌, length, flat_map, reverse, Option, Some, None, IsSomeAnd}
-use Rattle.std.proofs.Common.{slice_get, sym, refl, ap, ◌∙◌, subst, arith, append_assoc}
+use Rattle.std.proofs.Common.{◌≡◌, ℕ, zero, suc, ◌+◌, ◌<◌, List, [], ◌∷◌, ◌++◌, length, flat_map, Some}
+use Rattle.std.proofs.Common.{slice_get, refl, ap, ◌∙◌, subst, arith}
 use Rattle.std.specs.List.{AllByRecursion}
 
 -- ---- places
@@ -18,11 +18,6 @@ slice_get-later (x ∷ xs) ys k n is =
 
 pub slice_get-seam : {X : Type 0} (xs : List X) (y : X) (ys : List X) → slice_get (xs ++ y ∷ ys) (length xs) ≡ Some y
 slice_get-seam xs y ys = slice_get-later xs (y ∷ ys) 0 (length xs) (omega arith)
-
--- what is at a place that has something
-pub IsSomeAnd-is : {X : Type 0} (o : Option X) (P : X → Type 0) → IsSomeAnd o P → (x : X) × (o ≡ Some x) × P x
-IsSomeAnd-is None P h = absurd h
-IsSomeAnd-is (Some x) P h = (x, refl, h)
 
 -- ---- empty lists
 

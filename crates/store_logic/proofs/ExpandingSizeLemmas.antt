@@ -67,7 +67,8 @@ module _ (sizes : List ℕ) (times : ℕ) where
 
   pub sized-split : (a : Assertion) →
       times * sized sizes a ≡ times * own_size sizes a + total_size sizes (map (λ b. (b, part_times times a)) (parts_of Assertion (out-Assertion a)))
-  sized-split = ind-Assertion (λ a. times * sized sizes a ≡ split_node (out-Assertion a)) (λ x y is. ap (λ n. times * n) (fold-roll-Assertion ℕ (sized_node sizes) x)
+  sized-split = ind-Assertion (λ a. times * sized sizes a ≡ split_node (out-Assertion a))
+      (λ x y is. ap (λ n. times * n) (fold-roll-Assertion ℕ (sized_node sizes) x)
       ∙ split x ∙ ap split_node (sym (out-roll-Assertion x)))
 
 -- ---- sizes that are capped

@@ -21,7 +21,8 @@ use Rattle.store_logic.specs.Filling.{of_term, arg_term, args_for, shifted_base,
 use Rattle.store_logic.specs.Filling.{is_true, filled_term, filled_truth, filled_set, filled_arg, filled}
 use Rattle.store_logic.specs.Uses.{NameUse, term_names, set_name, arg_names, arg_class, IsGiven}
 use Rattle.store_logic.proofs.AssertionLemmas.{assertion-induction}
-use Rattle.store_logic.proofs.ExpandingForms.{filled-True, filled-False, filled-Truth, filled-Is, filled-Same, filled-Member, filled-Subset, filled-Walk, filled-Pred}
+use Rattle.store_logic.proofs.ExpandingForms.{filled-True, filled-False, filled-Truth, filled-Is, filled-Same, filled-Member, filled-Subset, filled-Walk}
+use Rattle.store_logic.proofs.ExpandingForms.{filled-Pred}
 use Rattle.store_logic.proofs.ExpandingForms.{filled-Not, filled-And, filled-Or, filled-Imp, filled-Iff, filled-Ex, filled-All, filled-ExSet, filled-AllSet}
 use Rattle.store_logic.proofs.ExpandingForms.{names-True, names-False, names-Truth, names-Is, names-Same, names-Member, names-Subset, names-Walk, names-Pred}
 use Rattle.store_logic.proofs.ExpandingForms.{names-Not, names-And, names-Or, names-Imp, names-Iff, names-Ex, names-All, names-ExSet, names-AllSet}
@@ -183,25 +184,32 @@ module _ (args : List Arg) (D : ℕ) (inner : List Arg) where
     of_Truth = λ t d h. ap (λ z. filled (args_for args) z (D + d)) (filled-Truth (args_for inner) t d)
         ∙ truth-twice t d (own (names-Truth t d) h) ∙ sym (filled-Truth (args_for through) t d);
     of_Is = λ t v d h. ap (λ z. filled (args_for args) z (D + d)) (filled-Is (args_for inner) t v d)
-        ∙ filled-Is (args_for args) _ v (D + d) ∙ ap (λ z. assertion.Is z v) (cell-twice t d (own (names-Is t v d) h)) ∙ sym (filled-Is (args_for through) t v d);
+        ∙ filled-Is (args_for args) _ v (D + d) ∙ ap (λ z. assertion.Is z v) (cell-twice t d (own (names-Is t v d) h))
+        ∙ sym (filled-Is (args_for through) t v d);
     of_Same = λ t u d h. ap (λ z. filled (args_for args) z (D + d)) (filled-Same (args_for inner) t u d)
         ∙ filled-Same (args_for args) _ _ (D + d)
-        ∙ ap₂ assertion.Same (cell-twice t d (first (term_names class.Reference t d) (term_names class.Reference u d) (own (names-Same t u d) h))) (cell-twice u d (second (term_names class.Reference t d) (term_names class.Reference u d) (own (names-Same t u d) h)))
+        ∙ ap₂ assertion.Same (cell-twice t d (first (term_names class.Reference t d) (term_names class.Reference u d) (own (names-Same t u d) h)))
+        (cell-twice u d (second (term_names class.Reference t d) (term_names class.Reference u d) (own (names-Same t u d) h)))
         ∙ sym (filled-Same (args_for through) t u d);
     of_Member = λ t set d h. ap (λ z. filled (args_for args) z (D + d)) (filled-Member (args_for inner) t set d)
         ∙ filled-Member (args_for args) _ _ (D + d)
-        ∙ ap₂ assertion.Member (cell-twice t d (first (term_names class.Reference t d) (set_name set d) (own (names-Member t set d) h))) (set-twice set d (second (term_names class.Reference t d) (set_name set d) (own (names-Member t set d) h)))
+        ∙ ap₂ assertion.Member (cell-twice t d (first (term_names class.Reference t d) (set_name set d) (own (names-Member t set d) h)))
+        (set-twice set d (second (term_names class.Reference t d) (set_name set d) (own (names-Member t set d) h)))
         ∙ sym (filled-Member (args_for through) t set d);
     of_Subset = λ set other d h. ap (λ z. filled (args_for args) z (D + d)) (filled-Subset (args_for inner) set other d)
         ∙ filled-Subset (args_for args) _ _ (D + d)
         ∙ ap₂ assertion.Subset (set-twice set d (first (set_name set d) (set_name other d) (own (names-Subset set other d) h)))
-        (set-twice other d (second (set_name set d) (set_name other d) (own (names-Subset set other d) h))) ∙ sym (filled-Subset (args_for through) set other d);
+        (set-twice other d (second (set_name set d) (set_name other d) (own (names-Subset set other d) h)))
+        ∙ sym (filled-Subset (args_for through) set other d);
     of_Walk = λ t along u d h. ap (λ z. filled (args_for args) z (D + d)) (filled-Walk (args_for inner) t along u d)
         ∙ filled-Walk (args_for args) _ along _ (D + d)
-        ∙ ap₂ (λ (y z : Term). assertion.Walk y along z) (cell-twice t d (first (term_names class.Reference t d) (term_names class.Reference u d) (own (names-Walk t along u d) h)))
-        (cell-twice u d (second (term_names class.Reference t d) (term_names class.Reference u d) (own (names-Walk t along u d) h))) ∙ sym (filled-Walk (args_for through) t along u d);
+        ∙ ap₂ (λ (y z : Term). assertion.Walk y along z) (cell-twice t d
+        (first (term_names class.Reference t d) (term_names class.Reference u d) (own (names-Walk t along u d) h)))
+        (cell-twice u d (second (term_names class.Reference t d) (term_names class.Reference u d) (own (names-Walk t along u d) h)))
+        ∙ sym (filled-Walk (args_for through) t along u d);
     of_Pred = λ k xs d h. ap (λ z. filled (args_for args) z (D + d)) (filled-Pred (args_for inner) k xs d)
-        ∙ filled-Pred (args_for args) k _ (D + d) ∙ ap (assertion.Pred k) (args-twice xs d (own (names-Pred k xs d) h)) ∙ sym (filled-Pred (args_for through) k xs d);
+        ∙ filled-Pred (args_for args) k _ (D + d) ∙ ap (assertion.Pred k) (args-twice xs d (own (names-Pred k xs d) h))
+        ∙ sym (filled-Pred (args_for through) k xs d);
     of_Not = λ a of_a d h. ap (λ z. filled (args_for args) z (D + d)) (filled-Not (args_for inner) a d)
         ∙ filled-Not (args_for args) _ (D + d) ∙ ap assertion.Not (of_a d (own (names-Not a d) h)) ∙ sym (filled-Not (args_for through) a d);
     of_And = λ a b of_a of_b d h. ap (λ z. filled (args_for args) z (D + d)) (filled-And (args_for inner) a b d)
@@ -221,11 +229,15 @@ module _ (args : List Arg) (D : ℕ) (inner : List Arg) where
         ∙ ap₂ assertion.Iff (of_a d (first (names_at a d) (names_at b d) (own (names-Iff a b d) h)))
         (of_b d (second (names_at a d) (names_at b d) (own (names-Iff a b d) h))) ∙ sym (filled-Iff (args_for through) a b d);
     of_Ex = λ ty a of_a d h. ap (λ z. filled (args_for args) z (D + d)) (filled-Ex (args_for inner) ty a d)
-        ∙ filled-Ex (args_for args) ty _ (D + d) ∙ ap (assertion.Ex ty) (deeper a d (of_a (suc d) (own (names-Ex ty a d) h))) ∙ sym (filled-Ex (args_for through) ty a d);
+        ∙ filled-Ex (args_for args) ty _ (D + d) ∙ ap (assertion.Ex ty) (deeper a d (of_a (suc d) (own (names-Ex ty a d) h)))
+        ∙ sym (filled-Ex (args_for through) ty a d);
     of_All = λ ty a of_a d h. ap (λ z. filled (args_for args) z (D + d)) (filled-All (args_for inner) ty a d)
-        ∙ filled-All (args_for args) ty _ (D + d) ∙ ap (assertion.All ty) (deeper a d (of_a (suc d) (own (names-All ty a d) h))) ∙ sym (filled-All (args_for through) ty a d);
+        ∙ filled-All (args_for args) ty _ (D + d) ∙ ap (assertion.All ty) (deeper a d (of_a (suc d) (own (names-All ty a d) h)))
+        ∙ sym (filled-All (args_for through) ty a d);
     of_ExSet = λ ty a of_a d h. ap (λ z. filled (args_for args) z (D + d)) (filled-ExSet (args_for inner) ty a d)
-        ∙ filled-ExSet (args_for args) ty _ (D + d) ∙ ap (assertion.ExSet ty) (deeper a d (of_a (suc d) (own (names-ExSet ty a d) h))) ∙ sym (filled-ExSet (args_for through) ty a d);
+        ∙ filled-ExSet (args_for args) ty _ (D + d) ∙ ap (assertion.ExSet ty) (deeper a d (of_a (suc d) (own (names-ExSet ty a d) h)))
+        ∙ sym (filled-ExSet (args_for through) ty a d);
     of_AllSet = λ ty a of_a d h. ap (λ z. filled (args_for args) z (D + d)) (filled-AllSet (args_for inner) ty a d)
-        ∙ filled-AllSet (args_for args) ty _ (D + d) ∙ ap (assertion.AllSet ty) (deeper a d (of_a (suc d) (own (names-AllSet ty a d) h))) ∙ sym (filled-AllSet (args_for through) ty a d);
+        ∙ filled-AllSet (args_for args) ty _ (D + d) ∙ ap (assertion.AllSet ty) (deeper a d (of_a (suc d) (own (names-AllSet ty a d) h)))
+        ∙ sym (filled-AllSet (args_for through) ty a d);
   })
