@@ -1,6 +1,6 @@
 -- Assertions with their predicates put in: they hold where they held, and no predicate stands in them.
-use Rattle.std.proofs.Common.{◌≡◌, ◌↔◌, ◌≢◌, ◌==◌, ℕ, suc, ◌+◌, ◌<◌, Bool, true, false, Option, Some, IsSomeAnd, IfSome, List, [], ◌∷◌, ◌++◌, length}
-use Rattle.std.proofs.Common.{map, flat_map, reverse, slice_get, sym, refl, ap, ◌∙◌, subst, subst₂, arith, append_assoc, append-nil, eqb-true, eq-eqb}
+use Rattle.std.proofs.Common.{◌≡◌, ◌↔◌, ◌≢◌, ◌==◌, ℕ, suc, ◌+◌, ◌<◌, Bool, true, false, Option, Some, IfSome, List, [], ◌∷◌, ◌++◌, length}
+use Rattle.std.proofs.Common.{map, reverse, slice_get, sym, refl, ap, ◌∙◌, subst, subst₂, arith, append_assoc, append-nil, eqb-true, eq-eqb}
 use Rattle.std.proofs.lemmas.Bool.{eqb-false}
 use Rattle.std.specs.Prelude.{MatchBool}
 use Rattle.std.specs.List.{AllByRecursion}
@@ -19,9 +19,9 @@ use Rattle.store_logic.specs.declared.region.Region.{Region}
 use Rattle.store_logic.specs.declared.region.Region.TheVariants as region
 use Rattle.store_logic.specs.Terms.{Environment, given, arg_value}
 use Rattle.store_logic.specs.Satisfaction.{Holds, Says, SatAll, Sat}
-use Rattle.store_logic.specs.Filling.{args_for, filled, put_in}
+use Rattle.store_logic.specs.Filling.{put_in}
 use Rattle.store_logic.specs.Expansion.{with_bodies, expanded_bodies, expansion}
-use Rattle.store_logic.specs.Uses.{NameUse, arg_names, names_in, uses_in, IsGiven, IsOwn, IsRightUse, IsBodyAt, CanExpand}
+use Rattle.store_logic.specs.Uses.{NameUse, names_in, uses_in, IsGiven, IsOwn, IsRightUse, IsBodyAt, CanExpand}
 use Rattle.store_logic.proofs.AssertionLemmas.{assertion-induction}
 use Rattle.store_logic.proofs.HoldsLemmas.{Holds-True, Holds-False, Holds-Truth, Holds-Is, Holds-Same, Holds-Member, Holds-Subset, Holds-Walk, Holds-Pred}
 use Rattle.store_logic.proofs.HoldsLemmas.{Holds-Not, Holds-And, Holds-Or, Holds-Imp, Holds-Iff, Holds-Ex, Holds-All, Holds-ExSet, Holds-AllSet}
@@ -30,7 +30,7 @@ use Rattle.store_logic.proofs.ExpandingForms.{bodies-Pred}
 use Rattle.store_logic.proofs.ExpandingForms.{bodies-Not, bodies-And, bodies-Or, bodies-Imp, bodies-Iff, bodies-Ex, bodies-All, bodies-ExSet, bodies-AllSet}
 use Rattle.store_logic.proofs.ExpandingForms.{uses-True, uses-False, uses-Truth, uses-Is, uses-Same, uses-Member, uses-Subset, uses-Walk, uses-Pred}
 use Rattle.store_logic.proofs.ExpandingForms.{uses-Not, uses-And, uses-Or, uses-Imp, uses-Iff, uses-Ex, uses-All, uses-ExSet, uses-AllSet}
-use Rattle.store_logic.proofs.ExpandingForms.{names-True, names-False, names-Truth, names-Is, names-Same, names-Member, names-Subset, names-Walk, names-Pred}
+use Rattle.store_logic.proofs.ExpandingForms.{names-Pred}
 use Rattle.store_logic.proofs.ExpandingForms.{names-Not, names-And, names-Or, names-Imp, names-Iff, names-Ex, names-All, names-ExSet, names-AllSet}
 use Rattle.store_logic.proofs.ExpandingForms.{names_at}
 use Rattle.store_logic.proofs.ExpandingLists.{slice_get-first, slice_get-seam, append-empty, all-first, all-second, all-append}

@@ -1,22 +1,21 @@
 -- Assertions with a predicate's arguments put in: the predicates and the names in them, and their size.
-use Rattle.std.proofs.Common.{◌≡◌, ◌↔◌, ℕ, suc, ◌+◌, ◌*◌, ◌<◌, List, [], ◌∷◌, ◌++◌, length, map, flat_map, sym, refl, ap, ap₂, ◌∙◌, subst, arith}
+use Rattle.std.proofs.Common.{◌≡◌, ℕ, suc, ◌+◌, ◌*◌, List, [], ◌∷◌, ◌++◌, flat_map, sym, ap, ap₂, ◌∙◌, subst, arith}
 use Rattle.std.specs.List.{AllByRecursion}
 use Rattle.store_core.specs.declared.value.Class.TheVariants as class
 use Rattle.store_logic.specs.declared.arg.Arg.{Arg}
 use Rattle.store_logic.specs.declared.assertion.Assertion.{Assertion}
-use Rattle.store_logic.specs.declared.assertion.Assertion.TheVariants as assertion
-use Rattle.store_logic.specs.Filling.{args_for, filled_term, filled_truth, filled_set, filled_arg, filled}
+use Rattle.store_logic.specs.Filling.{args_for, filled_term, filled_set, filled}
 use Rattle.store_logic.specs.Sizes.{node_count}
 use Rattle.store_logic.specs.Uses.{NameUse, term_names, set_name, arg_names, uses_in}
 use Rattle.store_logic.proofs.AssertionLemmas.{assertion-induction}
 use Rattle.store_logic.proofs.ExpandingForms.{filled-True, filled-False, filled-Truth, filled-Is, filled-Same, filled-Member, filled-Subset, filled-Walk}
 use Rattle.store_logic.proofs.ExpandingForms.{filled-Pred}
 use Rattle.store_logic.proofs.ExpandingForms.{filled-Not, filled-And, filled-Or, filled-Imp, filled-Iff, filled-Ex, filled-All, filled-ExSet, filled-AllSet}
-use Rattle.store_logic.proofs.ExpandingForms.{uses-True, uses-False, uses-Truth, uses-Is, uses-Same, uses-Member, uses-Subset, uses-Walk, uses-Pred}
+use Rattle.store_logic.proofs.ExpandingForms.{uses-True, uses-False, uses-Is, uses-Same, uses-Member, uses-Subset, uses-Walk, uses-Pred}
 use Rattle.store_logic.proofs.ExpandingForms.{uses-Not, uses-And, uses-Or, uses-Imp, uses-Iff, uses-Ex, uses-All, uses-ExSet, uses-AllSet}
 use Rattle.store_logic.proofs.ExpandingForms.{names-True, names-False, names-Truth, names-Is, names-Same, names-Member, names-Subset, names-Walk, names-Pred}
 use Rattle.store_logic.proofs.ExpandingForms.{names-Not, names-And, names-Or, names-Imp, names-Iff, names-Ex, names-All, names-ExSet, names-AllSet}
-use Rattle.store_logic.proofs.ExpandingForms.{count-True, count-False, count-Truth, count-Is, count-Same, count-Member, count-Subset, count-Walk, count-Pred}
+use Rattle.store_logic.proofs.ExpandingForms.{count-Truth, count-Is, count-Same, count-Member, count-Subset, count-Walk, count-Pred}
 use Rattle.store_logic.proofs.ExpandingForms.{count-Not, count-And, count-Or, count-Imp, count-Iff, count-Ex, count-All, count-ExSet, count-AllSet}
 use Rattle.store_logic.proofs.ExpandingForms.{names_at}
 use Rattle.store_logic.proofs.ExpandingLists.{append-empty, first-empty, second-empty, all-first, all-second, all-append}

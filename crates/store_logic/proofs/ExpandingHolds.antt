@@ -1,5 +1,5 @@
 -- An assertion with a predicate's arguments put in holds where the assertion holds with their values as parameters.
-use Rattle.std.proofs.Common.{◌≡◌, ◌↔◌, ℕ, suc, IsTrue, IsSomeAnd, List, [], ◌∷◌, ◌++◌, length, map, flat_map, Contains, Option, Some, sym, refl, ap, ap₂}
+use Rattle.std.proofs.Common.{◌≡◌, ◌↔◌, ℕ, IsTrue, IsSomeAnd, List, ◌∷◌, ◌++◌, length, Contains, Option, Some, sym, ap}
 use Rattle.std.proofs.Common.{◌∙◌, subst}
 use Rattle.std.specs.List.{AllByRecursion}
 use Rattle.store_core.specs.declared.ids.CellId.{CellId}
@@ -14,18 +14,17 @@ use Rattle.store_logic.specs.declared.term.Term.{Term}
 use Rattle.store_logic.specs.declared.term.Term.TheVariants as term
 use Rattle.store_logic.specs.declared.arg.Arg.{Arg}
 use Rattle.store_logic.specs.declared.assertion.Assertion.{Assertion}
-use Rattle.store_logic.specs.declared.assertion.Assertion.TheVariants as assertion
-use Rattle.store_logic.specs.Terms.{Environment, cell_in, truth_in, set_in, cell_at, truth_at, set_at, term_value, base_value}
+use Rattle.store_logic.specs.Terms.{Environment, cell_in, truth_in, set_in, cell_at, truth_at, set_at}
 use Rattle.store_logic.specs.Satisfaction.{Holds}
 use Rattle.store_logic.specs.Filling.{args_for, is_true, filled_term, filled_set, filled}
-use Rattle.store_logic.specs.Uses.{NameUse, term_names, set_name, arg_names}
+use Rattle.store_logic.specs.Uses.{NameUse, term_names, set_name}
 use Rattle.store_logic.proofs.AssertionLemmas.{assertion-induction}
 use Rattle.store_logic.proofs.HoldsLemmas.{Holds-True, Holds-False, Holds-Truth, Holds-Is, Holds-Same, Holds-Member, Holds-Subset, Holds-Walk, Holds-Pred}
 use Rattle.store_logic.proofs.HoldsLemmas.{Holds-Not, Holds-And, Holds-Or, Holds-Imp, Holds-Iff, Holds-Ex, Holds-All, Holds-ExSet, Holds-AllSet}
 use Rattle.store_logic.proofs.ExpandingForms.{filled-True, filled-False, filled-Truth, filled-Is, filled-Same, filled-Member, filled-Subset, filled-Walk}
 use Rattle.store_logic.proofs.ExpandingForms.{filled-Pred}
 use Rattle.store_logic.proofs.ExpandingForms.{filled-Not, filled-And, filled-Or, filled-Imp, filled-Iff, filled-Ex, filled-All, filled-ExSet, filled-AllSet}
-use Rattle.store_logic.proofs.ExpandingForms.{names-True, names-False, names-Truth, names-Is, names-Same, names-Member, names-Subset, names-Walk, names-Pred}
+use Rattle.store_logic.proofs.ExpandingForms.{names-Truth, names-Is, names-Same, names-Member, names-Subset, names-Walk, names-Pred}
 use Rattle.store_logic.proofs.ExpandingForms.{names-Not, names-And, names-Or, names-Imp, names-Iff, names-Ex, names-All, names-ExSet, names-AllSet}
 use Rattle.store_logic.proofs.ExpandingForms.{names_at}
 use Rattle.store_logic.proofs.ExpandingLists.{all-first, all-second}

@@ -1,7 +1,7 @@
 -- How large an assertion becomes with its predicates put in: by how large their bodies become, and form by form.
-use Rattle.std.proofs.Common.{◌≡◌, ℕ, ◌+◌, ◌*◌, ◌≤◌, min, Option, Some, None, unwrap_or, List, [], ◌∷◌, ◌++◌, map, slice_get}
+use Rattle.std.proofs.Common.{◌≡◌, ℕ, ◌+◌, ◌*◌, ◌≤◌, Option, Some, None, unwrap_or, List, [], ◌∷◌, map, slice_get}
 use Rattle.std.proofs.Common.{sym, refl, ap, ap₂, ◌∙◌, subst, arith}
-use Rattle.std.specs.Prelude.{option_map, sum_by}
+use Rattle.std.specs.Prelude.{option_map}
 use Rattle.std.specs.List.{AllByRecursion}
 use Rattle.std.specs.Option.{option_map_or}
 use Rattle.std.proofs.lemmas.Option.{slice_get-map}

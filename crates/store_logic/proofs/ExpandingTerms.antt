@@ -1,5 +1,5 @@
 -- The names in what terms and arguments become with a predicate's arguments put in.
-use Rattle.std.proofs.Common.{◌≡◌, ℕ, suc, ◌+◌, ◌<◌, List, [], ◌∷◌, ◌++◌, map, flat_map, slice_get, Option, Some, None, IsSomeAnd}
+use Rattle.std.proofs.Common.{◌≡◌, ℕ, ◌+◌, ◌<◌, List, [], ◌∷◌, map, flat_map, slice_get, Option, Some, None, IsSomeAnd}
 use Rattle.std.proofs.Common.{sym, refl, ap, ◌∙◌, subst, arith}
 use Rattle.std.specs.List.{AllByRecursion}
 use Rattle.std.specs.Option.{option_map_or}
@@ -14,11 +14,10 @@ use Rattle.store_logic.specs.declared.term.Term.TheVariants as term
 use Rattle.store_logic.specs.declared.arg.Arg.{Arg}
 use Rattle.store_logic.specs.declared.arg.Arg.TheVariants as arg
 use Rattle.store_logic.specs.declared.assertion.Assertion.{Assertion}
-use Rattle.store_logic.specs.declared.assertion.Assertion.TheVariants as assertion
-use Rattle.store_logic.specs.Filling.{Filling, of_term, arg_term, args_for, shifted_base, shifted_term, shifted, put_under, path_from, filled_term}
+use Rattle.store_logic.specs.Filling.{of_term, arg_term, args_for, shifted_base, shifted_term, shifted, path_from, filled_term}
 use Rattle.store_logic.specs.Filling.{is_true, filled_truth, name_in, filled_set, filled_arg, filled}
 use Rattle.store_logic.specs.Sizes.{node_count}
-use Rattle.store_logic.specs.Uses.{NameUse, term_names, set_name, arg_names, uses_in, arg_class, GetsOfClass, IsGiven, IsOwn}
+use Rattle.store_logic.specs.Uses.{NameUse, term_names, set_name, arg_names, uses_in, arg_class, IsGiven, IsOwn}
 use Rattle.store_logic.proofs.ExpandingForms.{names_at, names-False, names-Truth, uses-False, uses-Truth, count-False, count-Truth, filled-False, filled-Truth}
 use Rattle.store_logic.proofs.ExpandingLists.{all-first, all-second, all-append, all-at}
 

@@ -1,6 +1,6 @@
 -- What terms and arguments stand for with a predicate's arguments put in.
-use Rattle.std.proofs.Common.{◌≡◌, ◌==◌, ◌↔◌, ℕ, zero, suc, ◌+◌, ◌<◌, Bool, true, false, List, [], ◌∷◌, ◌++◌, length, map, flat_map, slice_get}
-use Rattle.std.proofs.Common.{Option, Some, None, IsTrue, IsSomeAnd, is_some, unwrap_or, sym, refl, ap, ap₂, ◌∙◌, subst, arith}
+use Rattle.std.proofs.Common.{◌≡◌, ℕ, ◌+◌, ◌<◌, List, [], ◌∷◌, ◌++◌, length, map, flat_map, slice_get}
+use Rattle.std.proofs.Common.{Option, Some, None, IsSomeAnd, is_some, unwrap_or, sym, refl, ap, ap₂, ◌∙◌}
 use Rattle.std.specs.List.{AllByRecursion}
 use Rattle.std.specs.Prelude.{option_map, if◌then◌else◌}
 use Rattle.std.specs.Option.{option_map_or, option_and_then}
@@ -11,7 +11,7 @@ use Rattle.store_core.specs.declared.value.Class.{Class}
 use Rattle.store_core.specs.declared.value.Class.TheVariants as class
 use Rattle.store_core.specs.declared.value.Value.{Value}
 use Rattle.store_core.specs.declared.value.Value.TheVariants as value
-use Rattle.store_core.specs.Stores.{StoreMap, CellEntry, cell_of, field_of, field_value}
+use Rattle.store_core.specs.Stores.{StoreMap, CellEntry, cell_of, field_of}
 use Rattle.store_logic.specs.declared.term.Base.{Base}
 use Rattle.store_logic.specs.declared.term.Base.TheVariants as base
 use Rattle.store_logic.specs.declared.term.Term.{Term}

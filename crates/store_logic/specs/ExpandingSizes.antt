@@ -1,5 +1,5 @@
 -- How large an assertion becomes with its predicates put in, by how large their bodies become.
-use Rattle.std.specs.Prelude.{ℕ, ◌+◌, ◌*◌, ◌≤◌, min, List, map, slice_get, unwrap_or, sum_by}
+use Rattle.std.specs.Prelude.{ℕ, ◌*◌, min, List, slice_get, unwrap_or, sum_by}
 use Rattle.store_logic.specs.declared.assertion.Assertion.{Assertion, out-Assertion}
 use Rattle.store_logic.specs.declared.assertion.Assertion.TheOpen.{Assertion-F}
 use Rattle.store_logic.specs.declared.assertion.Assertion.TheFolds.{fold-Assertion}
