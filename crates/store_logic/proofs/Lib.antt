@@ -7,3 +7,12 @@ pub mod NextLemmas
 pub mod RegionLemmas
 pub mod RenamingLemmas
 pub mod RenamedLemmas
+pub mod ExpandingForms
+pub mod ExpandingLists
+pub mod ExpandingTerms
+pub mod ExpandingValues
+pub mod ExpandingFilled
+pub mod ExpandingHolds
+pub mod ExpandingBodies
+pub mod ExpandingTwice
+pub mod ExpandingSizeLemmas

@@ -14,3 +14,4 @@ pub mod Sorts
 pub mod Fits
 pub mod FitsCode
 pub mod Uses
+pub mod ExpandingSizes

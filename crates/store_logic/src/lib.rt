@@ -13,6 +13,7 @@ mod assertion;
 mod assertion_copy;
 mod cond;
 mod cond_copy;
+mod expanding_laws;
 mod laws;
 mod path;
 mod pred;
@@ -24,6 +25,10 @@ pub use act::{Act, Rhs};
 pub use arg::{Arg, ArgList};
 pub use assertion::Assertion;
 pub use cond::Cond;
+pub use expanding_laws::{
+    arguments_go_into_arguments, arguments_keep_the_size, expansions_keep_satisfaction,
+    expansions_use_no_predicates,
+};
 pub use laws::{
     regions_are_stores_of_their_cells, satisfaction_goes_by_cases,
     satisfaction_ignores_the_next_number,
