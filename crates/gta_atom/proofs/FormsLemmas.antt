@@ -1,0 +1,359 @@
+-- What is kept of each form's states, and their steps, case by case.
+use Rattle.std.proofs.Common.{◌≡◌, ℕ, zero, suc, ◌<◌, Bool, true, false, refl, arith, lit<}
+use Rattle.ws2s_theory.specs.Atoms.{SubState, inside, outside, sub_step, is_inside, SingleState, nothing, one, more, single_step, is_one}
+use Rattle.ws2s_theory.specs.Atoms.{RootState, absent, alone, lower, root_step, is_alone, SuccState, neither, child, found, wrong, succ_step, is_found}
+use Rattle.ws2s_theory.specs.Merging.{sub_class, single_class, root_class, succ_class}
+use Rattle.gta_atom.specs.declared.known.Known.{Known}
+use Rattle.gta_atom.specs.declared.known.Known.TheVariants.{Nothing, Found, Wrong, Half}
+use Rattle.gta_atom.specs.declared.known.Form.TheVariants.{Sub, Single, Root, Succ0, Succ1}
+use Rattle.gta_atom.specs.States.{of_sub, of_single, of_root, of_succ, known_step, known_at_root, beside, is_held, kept_of, keeps_none, number_of, known_of, count_of}
+use Rattle.gta_atom.proofs.NumberedLemmas.{HasState, IsKept}
+
+-- the numbers below small ones
+below-one : (P : ℕ → Type 0) → P 0 → (n : ℕ) → n < 1 → P n
+below-one P a zero less = a
+below-one P a (suc n) less = absurd (omega arith)
+
+below-two : (P : ℕ → Type 0) → P 0 → P 1 → (n : ℕ) → n < 2 → P n
+below-two P a b zero less = a
+below-two P a b (suc n) less = below-one (λ (m : ℕ). P (suc m)) b n (omega arith)
+
+below-three : (P : ℕ → Type 0) → P 0 → P 1 → P 2 → (n : ℕ) → n < 3 → P n
+below-three P a b c zero less = a
+below-three P a b c (suc n) less = below-two (λ (m : ℕ). P (suc m)) b c n (omega arith)
+
+below-four : (P : ℕ → Type 0) → P 0 → P 1 → P 2 → P 3 → (n : ℕ) → n < 4 → P n
+below-four P a b c d zero less = a
+below-four P a b c d (suc n) less = below-three (λ (m : ℕ). P (suc m)) b c d n (omega arith)
+
+each-sub : (P : SubState → Type 0) → P inside → P outside → (q : SubState) → P q
+each-sub P a b inside = a
+each-sub P a b outside = b
+
+each-single : (P : SingleState → Type 0) → P nothing → P one → P more → (q : SingleState) → P q
+each-single P a b c nothing = a
+each-single P a b c one = b
+each-single P a b c more = c
+
+each-root : (P : RootState → Type 0) → P absent → P alone → P lower → (q : RootState) → P q
+each-root P a b c absent = a
+each-root P a b c alone = b
+each-root P a b c lower = c
+
+each-succ : (P : SuccState → Type 0) → P neither → P found → P wrong → P child → (q : SuccState) → P q
+each-succ P a b c d neither = a
+each-succ P a b c d found = b
+each-succ P a b c d wrong = c
+each-succ P a b c d child = d
+
+-- what each form keeps in each kind of space
+pub IsKept-Sub : (b l t : Bool) → IsKept (sub_class b t) of_sub (kept_of Sub b l t)
+IsKept-Sub true l t = record {
+  known = each-sub (λ (q : SubState). known_of (kept_of Sub true l t) (number_of (kept_of Sub true l t) (of_sub q)) ≡ of_sub (sub_class true t q)) refl refl;
+  number = each-sub (λ (q : SubState). number_of (kept_of Sub true l t) (of_sub (sub_class true t q)) ≡ number_of (kept_of Sub true l t) (of_sub q)) refl refl;
+  less = each-sub (λ (q : SubState). number_of (kept_of Sub true l t) (of_sub q) < count_of (kept_of Sub true l t)) (lit< tt) (lit< tt);
+  each = below-two (HasState (sub_class true t) of_sub (kept_of Sub true l t)) (record { state = inside; stands = refl; number = refl }) (record { state = outside; stands = refl; number = refl });
+}
+IsKept-Sub false l true = record {
+  known = each-sub (λ (q : SubState). known_of (kept_of Sub false l true) (number_of (kept_of Sub false l true) (of_sub q)) ≡ of_sub (sub_class false true q)) refl refl;
+  number = each-sub (λ (q : SubState). number_of (kept_of Sub false l true) (of_sub (sub_class false true q)) ≡ number_of (kept_of Sub false l true) (of_sub q)) refl refl;
+  less = each-sub (λ (q : SubState). number_of (kept_of Sub false l true) (of_sub q) < count_of (kept_of Sub false l true)) (lit< tt) (lit< tt);
+  each = below-two (HasState (sub_class false true) of_sub (kept_of Sub false l true)) (record { state = inside; stands = refl; number = refl }) (record { state = outside; stands = refl; number = refl });
+}
+IsKept-Sub false l false = record {
+  known = each-sub (λ (q : SubState). known_of (kept_of Sub false l false) (number_of (kept_of Sub false l false) (of_sub q)) ≡ of_sub (sub_class false false q)) refl refl;
+  number = each-sub (λ (q : SubState). number_of (kept_of Sub false l false) (of_sub (sub_class false false q)) ≡ number_of (kept_of Sub false l false) (of_sub q)) refl refl;
+  less = each-sub (λ (q : SubState). number_of (kept_of Sub false l false) (of_sub q) < count_of (kept_of Sub false l false)) (lit< tt) (lit< tt);
+  each = below-one (HasState (sub_class false false) of_sub (kept_of Sub false l false)) (record { state = inside; stands = refl; number = refl });
+}
+
+pub IsKept-Single : (b l t : Bool) → IsKept (single_class b t) of_single (kept_of Single b l t)
+IsKept-Single true l t = record {
+  known = each-single (λ (q : SingleState). known_of (kept_of Single true l t) (number_of (kept_of Single true l t) (of_single q)) ≡ of_single (single_class true t q)) refl refl refl;
+  number = each-single (λ (q : SingleState). number_of (kept_of Single true l t) (of_single (single_class true t q)) ≡ number_of (kept_of Single true l t) (of_single q)) refl refl refl;
+  less = each-single (λ (q : SingleState). number_of (kept_of Single true l t) (of_single q) < count_of (kept_of Single true l t)) (lit< tt) (lit< tt) (lit< tt);
+  each = below-three (HasState (single_class true t) of_single (kept_of Single true l t)) (record { state = nothing; stands = refl; number = refl }) (record { state = one; stands = refl; number = refl }) (record { state = more; stands = refl; number = refl });
+}
+IsKept-Single false l true = record {
+  known = each-single (λ (q : SingleState). known_of (kept_of Single false l true) (number_of (kept_of Single false l true) (of_single q)) ≡ of_single (single_class false true q)) refl refl refl;
+  number = each-single (λ (q : SingleState). number_of (kept_of Single false l true) (of_single (single_class false true q)) ≡ number_of (kept_of Single false l true) (of_single q)) refl refl refl;
+  less = each-single (λ (q : SingleState). number_of (kept_of Single false l true) (of_single q) < count_of (kept_of Single false l true)) (lit< tt) (lit< tt) (lit< tt);
+  each = below-two (HasState (single_class false true) of_single (kept_of Single false l true)) (record { state = nothing; stands = refl; number = refl }) (record { state = one; stands = refl; number = refl });
+}
+IsKept-Single false l false = record {
+  known = each-single (λ (q : SingleState). known_of (kept_of Single false l false) (number_of (kept_of Single false l false) (of_single q)) ≡ of_single (single_class false false q)) refl refl refl;
+  number = each-single (λ (q : SingleState). number_of (kept_of Single false l false) (of_single (single_class false false q)) ≡ number_of (kept_of Single false l false) (of_single q)) refl refl refl;
+  less = each-single (λ (q : SingleState). number_of (kept_of Single false l false) (of_single q) < count_of (kept_of Single false l false)) (lit< tt) (lit< tt) (lit< tt);
+  each = below-one (HasState (single_class false false) of_single (kept_of Single false l false)) (record { state = nothing; stands = refl; number = refl });
+}
+
+pub IsKept-Root : (b l t : Bool) → IsKept (root_class b t) of_root (kept_of Root b l t)
+IsKept-Root true l true = record {
+  known = each-root (λ (q : RootState). known_of (kept_of Root true l true) (number_of (kept_of Root true l true) (of_root q)) ≡ of_root (root_class true true q)) refl refl refl;
+  number = each-root (λ (q : RootState). number_of (kept_of Root true l true) (of_root (root_class true true q)) ≡ number_of (kept_of Root true l true) (of_root q)) refl refl refl;
+  less = each-root (λ (q : RootState). number_of (kept_of Root true l true) (of_root q) < count_of (kept_of Root true l true)) (lit< tt) (lit< tt) (lit< tt);
+  each = below-three (HasState (root_class true true) of_root (kept_of Root true l true)) (record { state = absent; stands = refl; number = refl }) (record { state = alone; stands = refl; number = refl }) (record { state = lower; stands = refl; number = refl });
+}
+IsKept-Root true l false = record {
+  known = each-root (λ (q : RootState). known_of (kept_of Root true l false) (number_of (kept_of Root true l false) (of_root q)) ≡ of_root (root_class true false q)) refl refl refl;
+  number = each-root (λ (q : RootState). number_of (kept_of Root true l false) (of_root (root_class true false q)) ≡ number_of (kept_of Root true l false) (of_root q)) refl refl refl;
+  less = each-root (λ (q : RootState). number_of (kept_of Root true l false) (of_root q) < count_of (kept_of Root true l false)) (lit< tt) (lit< tt) (lit< tt);
+  each = below-two (HasState (root_class true false) of_root (kept_of Root true l false)) (record { state = absent; stands = refl; number = refl }) (record { state = lower; stands = refl; number = refl });
+}
+IsKept-Root false l true = record {
+  known = each-root (λ (q : RootState). known_of (kept_of Root false l true) (number_of (kept_of Root false l true) (of_root q)) ≡ of_root (root_class false true q)) refl refl refl;
+  number = each-root (λ (q : RootState). number_of (kept_of Root false l true) (of_root (root_class false true q)) ≡ number_of (kept_of Root false l true) (of_root q)) refl refl refl;
+  less = each-root (λ (q : RootState). number_of (kept_of Root false l true) (of_root q) < count_of (kept_of Root false l true)) (lit< tt) (lit< tt) (lit< tt);
+  each = below-two (HasState (root_class false true) of_root (kept_of Root false l true)) (record { state = absent; stands = refl; number = refl }) (record { state = alone; stands = refl; number = refl });
+}
+IsKept-Root false l false = record {
+  known = each-root (λ (q : RootState). known_of (kept_of Root false l false) (number_of (kept_of Root false l false) (of_root q)) ≡ of_root (root_class false false q)) refl refl refl;
+  number = each-root (λ (q : RootState). number_of (kept_of Root false l false) (of_root (root_class false false q)) ≡ number_of (kept_of Root false l false) (of_root q)) refl refl refl;
+  less = each-root (λ (q : RootState). number_of (kept_of Root false l false) (of_root q) < count_of (kept_of Root false l false)) (lit< tt) (lit< tt) (lit< tt);
+  each = below-one (HasState (root_class false false) of_root (kept_of Root false l false)) (record { state = absent; stands = refl; number = refl });
+}
+
+pub IsKept-Succ0 : (b l t : Bool) → IsKept (succ_class b l t) of_succ (kept_of Succ0 b l t)
+IsKept-Succ0 true true t = record {
+  known = each-succ (λ (q : SuccState). known_of (kept_of Succ0 true true t) (number_of (kept_of Succ0 true true t) (of_succ q)) ≡ of_succ (succ_class true true t q)) refl refl refl refl;
+  number = each-succ (λ (q : SuccState). number_of (kept_of Succ0 true true t) (of_succ (succ_class true true t q)) ≡ number_of (kept_of Succ0 true true t) (of_succ q)) refl refl refl refl;
+  less = each-succ (λ (q : SuccState). number_of (kept_of Succ0 true true t) (of_succ q) < count_of (kept_of Succ0 true true t)) (lit< tt) (lit< tt) (lit< tt) (lit< tt);
+  each = below-four (HasState (succ_class true true t) of_succ (kept_of Succ0 true true t)) (record { state = neither; stands = refl; number = refl }) (record { state = found; stands = refl; number = refl }) (record { state = wrong; stands = refl; number = refl }) (record { state = child; stands = refl; number = refl });
+}
+IsKept-Succ0 true false t = record {
+  known = each-succ (λ (q : SuccState). known_of (kept_of Succ0 true false t) (number_of (kept_of Succ0 true false t) (of_succ q)) ≡ of_succ (succ_class true false t q)) refl refl refl refl;
+  number = each-succ (λ (q : SuccState). number_of (kept_of Succ0 true false t) (of_succ (succ_class true false t q)) ≡ number_of (kept_of Succ0 true false t) (of_succ q)) refl refl refl refl;
+  less = each-succ (λ (q : SuccState). number_of (kept_of Succ0 true false t) (of_succ q) < count_of (kept_of Succ0 true false t)) (lit< tt) (lit< tt) (lit< tt) (lit< tt);
+  each = below-three (HasState (succ_class true false t) of_succ (kept_of Succ0 true false t)) (record { state = neither; stands = refl; number = refl }) (record { state = found; stands = refl; number = refl }) (record { state = wrong; stands = refl; number = refl });
+}
+IsKept-Succ0 false l true = record {
+  known = each-succ (λ (q : SuccState). known_of (kept_of Succ0 false l true) (number_of (kept_of Succ0 false l true) (of_succ q)) ≡ of_succ (succ_class false l true q)) refl refl refl refl;
+  number = each-succ (λ (q : SuccState). number_of (kept_of Succ0 false l true) (of_succ (succ_class false l true q)) ≡ number_of (kept_of Succ0 false l true) (of_succ q)) refl refl refl refl;
+  less = each-succ (λ (q : SuccState). number_of (kept_of Succ0 false l true) (of_succ q) < count_of (kept_of Succ0 false l true)) (lit< tt) (lit< tt) (lit< tt) (lit< tt);
+  each = below-two (HasState (succ_class false l true) of_succ (kept_of Succ0 false l true)) (record { state = neither; stands = refl; number = refl }) (record { state = found; stands = refl; number = refl });
+}
+IsKept-Succ0 false l false = record {
+  known = each-succ (λ (q : SuccState). known_of (kept_of Succ0 false l false) (number_of (kept_of Succ0 false l false) (of_succ q)) ≡ of_succ (succ_class false l false q)) refl refl refl refl;
+  number = each-succ (λ (q : SuccState). number_of (kept_of Succ0 false l false) (of_succ (succ_class false l false q)) ≡ number_of (kept_of Succ0 false l false) (of_succ q)) refl refl refl refl;
+  less = each-succ (λ (q : SuccState). number_of (kept_of Succ0 false l false) (of_succ q) < count_of (kept_of Succ0 false l false)) (lit< tt) (lit< tt) (lit< tt) (lit< tt);
+  each = below-one (HasState (succ_class false l false) of_succ (kept_of Succ0 false l false)) (record { state = neither; stands = refl; number = refl });
+}
+
+pub IsKept-Succ1 : (b l t : Bool) → IsKept (succ_class b l t) of_succ (kept_of Succ1 b l t)
+IsKept-Succ1 true true t = record {
+  known = each-succ (λ (q : SuccState). known_of (kept_of Succ1 true true t) (number_of (kept_of Succ1 true true t) (of_succ q)) ≡ of_succ (succ_class true true t q)) refl refl refl refl;
+  number = each-succ (λ (q : SuccState). number_of (kept_of Succ1 true true t) (of_succ (succ_class true true t q)) ≡ number_of (kept_of Succ1 true true t) (of_succ q)) refl refl refl refl;
+  less = each-succ (λ (q : SuccState). number_of (kept_of Succ1 true true t) (of_succ q) < count_of (kept_of Succ1 true true t)) (lit< tt) (lit< tt) (lit< tt) (lit< tt);
+  each = below-four (HasState (succ_class true true t) of_succ (kept_of Succ1 true true t)) (record { state = neither; stands = refl; number = refl }) (record { state = found; stands = refl; number = refl }) (record { state = wrong; stands = refl; number = refl }) (record { state = child; stands = refl; number = refl });
+}
+IsKept-Succ1 true false t = record {
+  known = each-succ (λ (q : SuccState). known_of (kept_of Succ1 true false t) (number_of (kept_of Succ1 true false t) (of_succ q)) ≡ of_succ (succ_class true false t q)) refl refl refl refl;
+  number = each-succ (λ (q : SuccState). number_of (kept_of Succ1 true false t) (of_succ (succ_class true false t q)) ≡ number_of (kept_of Succ1 true false t) (of_succ q)) refl refl refl refl;
+  less = each-succ (λ (q : SuccState). number_of (kept_of Succ1 true false t) (of_succ q) < count_of (kept_of Succ1 true false t)) (lit< tt) (lit< tt) (lit< tt) (lit< tt);
+  each = below-three (HasState (succ_class true false t) of_succ (kept_of Succ1 true false t)) (record { state = neither; stands = refl; number = refl }) (record { state = found; stands = refl; number = refl }) (record { state = wrong; stands = refl; number = refl });
+}
+IsKept-Succ1 false l true = record {
+  known = each-succ (λ (q : SuccState). known_of (kept_of Succ1 false l true) (number_of (kept_of Succ1 false l true) (of_succ q)) ≡ of_succ (succ_class false l true q)) refl refl refl refl;
+  number = each-succ (λ (q : SuccState). number_of (kept_of Succ1 false l true) (of_succ (succ_class false l true q)) ≡ number_of (kept_of Succ1 false l true) (of_succ q)) refl refl refl refl;
+  less = each-succ (λ (q : SuccState). number_of (kept_of Succ1 false l true) (of_succ q) < count_of (kept_of Succ1 false l true)) (lit< tt) (lit< tt) (lit< tt) (lit< tt);
+  each = below-two (HasState (succ_class false l true) of_succ (kept_of Succ1 false l true)) (record { state = neither; stands = refl; number = refl }) (record { state = found; stands = refl; number = refl });
+}
+IsKept-Succ1 false l false = record {
+  known = each-succ (λ (q : SuccState). known_of (kept_of Succ1 false l false) (number_of (kept_of Succ1 false l false) (of_succ q)) ≡ of_succ (succ_class false l false q)) refl refl refl refl;
+  number = each-succ (λ (q : SuccState). number_of (kept_of Succ1 false l false) (of_succ (succ_class false l false q)) ≡ number_of (kept_of Succ1 false l false) (of_succ q)) refl refl refl refl;
+  less = each-succ (λ (q : SuccState). number_of (kept_of Succ1 false l false) (of_succ q) < count_of (kept_of Succ1 false l false)) (lit< tt) (lit< tt) (lit< tt) (lit< tt);
+  each = below-one (HasState (succ_class false l false) of_succ (kept_of Succ1 false l false)) (record { state = neither; stands = refl; number = refl });
+}
+
+-- where one state stands for all
+pub IsKept-sub_none : IsKept (λ (q : SubState). inside) of_sub keeps_none
+IsKept-sub_none = record {
+  known = each-sub (λ (q : SubState). known_of (keeps_none) (number_of (keeps_none) (of_sub q)) ≡ of_sub inside) refl refl;
+  number = each-sub (λ (q : SubState). number_of (keeps_none) (of_sub inside) ≡ number_of (keeps_none) (of_sub q)) refl refl;
+  less = each-sub (λ (q : SubState). number_of (keeps_none) (of_sub q) < count_of (keeps_none)) (lit< tt) (lit< tt);
+  each = below-one (HasState (λ (q : SubState). inside) of_sub (keeps_none)) (record { state = inside; stands = refl; number = refl });
+}
+
+pub IsKept-succ_none : IsKept (λ (q : SuccState). neither) of_succ keeps_none
+IsKept-succ_none = record {
+  known = each-succ (λ (q : SuccState). known_of (keeps_none) (number_of (keeps_none) (of_succ q)) ≡ of_succ neither) refl refl refl refl;
+  number = each-succ (λ (q : SuccState). number_of (keeps_none) (of_succ neither) ≡ number_of (keeps_none) (of_succ q)) refl refl refl refl;
+  less = each-succ (λ (q : SuccState). number_of (keeps_none) (of_succ q) < count_of (keeps_none)) (lit< tt) (lit< tt) (lit< tt) (lit< tt);
+  each = below-one (HasState (λ (q : SuccState). neither) of_succ (keeps_none)) (record { state = neither; stands = refl; number = refl });
+}
+
+-- steps go along
+pub step-Sub : (p q : SubState) (a b : Bool) → known_step Sub (of_sub p) (of_sub q) a b ≡ of_sub (sub_step p q a b)
+step-Sub inside inside a b = refl
+step-Sub inside outside a b = refl
+step-Sub outside inside a b = refl
+step-Sub outside outside a b = refl
+
+pub step-Single : (p q : SingleState) (a b : Bool) → known_step Single (of_single p) (of_single q) a b ≡ of_single (single_step p q a)
+step-Single nothing nothing a b = refl
+step-Single nothing one a b = refl
+step-Single nothing more a b = refl
+step-Single one nothing a b = refl
+step-Single one one a b = refl
+step-Single one more a b = refl
+step-Single more nothing a b = refl
+step-Single more one a b = refl
+step-Single more more a b = refl
+
+pub step-Root : (p q : RootState) (a b : Bool) → known_step Root (of_root p) (of_root q) a b ≡ of_root (root_step p q a)
+step-Root absent absent a b = refl
+step-Root absent alone a b = refl
+step-Root absent lower a b = refl
+step-Root alone absent a b = refl
+step-Root alone alone a b = refl
+step-Root alone lower a b = refl
+step-Root lower absent a b = refl
+step-Root lower alone a b = refl
+step-Root lower lower a b = refl
+
+pub step-Succ0 : (p q : SuccState) (a b : Bool) → known_step Succ0 (of_succ p) (of_succ q) a b ≡ of_succ (succ_step p q a b)
+step-Succ0 neither neither a b = refl
+step-Succ0 neither found a b = refl
+step-Succ0 neither wrong a b = refl
+step-Succ0 neither child a b = refl
+step-Succ0 found neither a b = refl
+step-Succ0 found found a b = refl
+step-Succ0 found wrong a b = refl
+step-Succ0 found child a b = refl
+step-Succ0 wrong neither a b = refl
+step-Succ0 wrong found a b = refl
+step-Succ0 wrong wrong a b = refl
+step-Succ0 wrong child a b = refl
+step-Succ0 child neither a b = refl
+step-Succ0 child found a b = refl
+step-Succ0 child wrong a b = refl
+step-Succ0 child child a b = refl
+
+pub step-Succ1 : (p q : SuccState) (a b : Bool) → known_step Succ1 (of_succ p) (of_succ q) a b ≡ of_succ (succ_step q p a b)
+step-Succ1 p q a b = step-Succ0 q p a b
+
+-- and so does acceptance
+pub held-Sub : (q : SubState) → is_inside q ≡ is_held Sub (of_sub q)
+held-Sub inside = refl
+held-Sub outside = refl
+
+pub held-Single : (q : SingleState) → is_one q ≡ is_held Single (of_single q)
+held-Single nothing = refl
+held-Single one = refl
+held-Single more = refl
+
+pub held-Root : (q : RootState) → is_alone q ≡ is_held Root (of_root q)
+held-Root absent = refl
+held-Root alone = refl
+held-Root lower = refl
+
+pub held-Succ0 : (q : SuccState) → is_found q ≡ is_held Succ0 (of_succ q)
+held-Succ0 neither = refl
+held-Succ0 found = refl
+held-Succ0 wrong = refl
+held-Succ0 child = refl
+
+pub held-Succ1 : (q : SuccState) → is_found q ≡ is_held Succ1 (of_succ q)
+held-Succ1 neither = refl
+held-Succ1 found = refl
+held-Succ1 wrong = refl
+held-Succ1 child = refl
+
+-- what holds for the four pairs of bits
+bits : (P : Bool → Bool → Type 0) → P true true → P true false → P false true → P false false → (a b : Bool) → P a b
+bits P x y z w true true = x
+bits P x y z w true false = y
+bits P x y z w false true = z
+bits P x y z w false false = w
+
+-- two halves come to one beside nothing
+pub beside-Sub : (l r : Known) (a b : Bool) → known_step Sub l r a b ≡ known_at_root Sub (beside l r) a b
+beside-Sub Nothing Nothing = bits (λ (a b : Bool). known_step Sub Nothing Nothing a b ≡ known_at_root Sub (beside Nothing Nothing) a b) refl refl refl refl
+beside-Sub Nothing Found = bits (λ (a b : Bool). known_step Sub Nothing Found a b ≡ known_at_root Sub (beside Nothing Found) a b) refl refl refl refl
+beside-Sub Nothing Wrong = bits (λ (a b : Bool). known_step Sub Nothing Wrong a b ≡ known_at_root Sub (beside Nothing Wrong) a b) refl refl refl refl
+beside-Sub Nothing Half = bits (λ (a b : Bool). known_step Sub Nothing Half a b ≡ known_at_root Sub (beside Nothing Half) a b) refl refl refl refl
+beside-Sub Found Nothing = bits (λ (a b : Bool). known_step Sub Found Nothing a b ≡ known_at_root Sub (beside Found Nothing) a b) refl refl refl refl
+beside-Sub Found Found = bits (λ (a b : Bool). known_step Sub Found Found a b ≡ known_at_root Sub (beside Found Found) a b) refl refl refl refl
+beside-Sub Found Wrong = bits (λ (a b : Bool). known_step Sub Found Wrong a b ≡ known_at_root Sub (beside Found Wrong) a b) refl refl refl refl
+beside-Sub Found Half = bits (λ (a b : Bool). known_step Sub Found Half a b ≡ known_at_root Sub (beside Found Half) a b) refl refl refl refl
+beside-Sub Wrong Nothing = bits (λ (a b : Bool). known_step Sub Wrong Nothing a b ≡ known_at_root Sub (beside Wrong Nothing) a b) refl refl refl refl
+beside-Sub Wrong Found = bits (λ (a b : Bool). known_step Sub Wrong Found a b ≡ known_at_root Sub (beside Wrong Found) a b) refl refl refl refl
+beside-Sub Wrong Wrong = bits (λ (a b : Bool). known_step Sub Wrong Wrong a b ≡ known_at_root Sub (beside Wrong Wrong) a b) refl refl refl refl
+beside-Sub Wrong Half = bits (λ (a b : Bool). known_step Sub Wrong Half a b ≡ known_at_root Sub (beside Wrong Half) a b) refl refl refl refl
+beside-Sub Half Nothing = bits (λ (a b : Bool). known_step Sub Half Nothing a b ≡ known_at_root Sub (beside Half Nothing) a b) refl refl refl refl
+beside-Sub Half Found = bits (λ (a b : Bool). known_step Sub Half Found a b ≡ known_at_root Sub (beside Half Found) a b) refl refl refl refl
+beside-Sub Half Wrong = bits (λ (a b : Bool). known_step Sub Half Wrong a b ≡ known_at_root Sub (beside Half Wrong) a b) refl refl refl refl
+beside-Sub Half Half = bits (λ (a b : Bool). known_step Sub Half Half a b ≡ known_at_root Sub (beside Half Half) a b) refl refl refl refl
+
+pub beside-Single : (l r : Known) (a b : Bool) → known_step Single l r a b ≡ known_at_root Single (beside l r) a b
+beside-Single Nothing Nothing = bits (λ (a b : Bool). known_step Single Nothing Nothing a b ≡ known_at_root Single (beside Nothing Nothing) a b) refl refl refl refl
+beside-Single Nothing Found = bits (λ (a b : Bool). known_step Single Nothing Found a b ≡ known_at_root Single (beside Nothing Found) a b) refl refl refl refl
+beside-Single Nothing Wrong = bits (λ (a b : Bool). known_step Single Nothing Wrong a b ≡ known_at_root Single (beside Nothing Wrong) a b) refl refl refl refl
+beside-Single Nothing Half = bits (λ (a b : Bool). known_step Single Nothing Half a b ≡ known_at_root Single (beside Nothing Half) a b) refl refl refl refl
+beside-Single Found Nothing = bits (λ (a b : Bool). known_step Single Found Nothing a b ≡ known_at_root Single (beside Found Nothing) a b) refl refl refl refl
+beside-Single Found Found = bits (λ (a b : Bool). known_step Single Found Found a b ≡ known_at_root Single (beside Found Found) a b) refl refl refl refl
+beside-Single Found Wrong = bits (λ (a b : Bool). known_step Single Found Wrong a b ≡ known_at_root Single (beside Found Wrong) a b) refl refl refl refl
+beside-Single Found Half = bits (λ (a b : Bool). known_step Single Found Half a b ≡ known_at_root Single (beside Found Half) a b) refl refl refl refl
+beside-Single Wrong Nothing = bits (λ (a b : Bool). known_step Single Wrong Nothing a b ≡ known_at_root Single (beside Wrong Nothing) a b) refl refl refl refl
+beside-Single Wrong Found = bits (λ (a b : Bool). known_step Single Wrong Found a b ≡ known_at_root Single (beside Wrong Found) a b) refl refl refl refl
+beside-Single Wrong Wrong = bits (λ (a b : Bool). known_step Single Wrong Wrong a b ≡ known_at_root Single (beside Wrong Wrong) a b) refl refl refl refl
+beside-Single Wrong Half = bits (λ (a b : Bool). known_step Single Wrong Half a b ≡ known_at_root Single (beside Wrong Half) a b) refl refl refl refl
+beside-Single Half Nothing = bits (λ (a b : Bool). known_step Single Half Nothing a b ≡ known_at_root Single (beside Half Nothing) a b) refl refl refl refl
+beside-Single Half Found = bits (λ (a b : Bool). known_step Single Half Found a b ≡ known_at_root Single (beside Half Found) a b) refl refl refl refl
+beside-Single Half Wrong = bits (λ (a b : Bool). known_step Single Half Wrong a b ≡ known_at_root Single (beside Half Wrong) a b) refl refl refl refl
+beside-Single Half Half = bits (λ (a b : Bool). known_step Single Half Half a b ≡ known_at_root Single (beside Half Half) a b) refl refl refl refl
+
+pub beside-Root : (l r : Known) (a b : Bool) → known_step Root l r a b ≡ known_at_root Root (beside l r) a b
+beside-Root Nothing Nothing = bits (λ (a b : Bool). known_step Root Nothing Nothing a b ≡ known_at_root Root (beside Nothing Nothing) a b) refl refl refl refl
+beside-Root Nothing Found = bits (λ (a b : Bool). known_step Root Nothing Found a b ≡ known_at_root Root (beside Nothing Found) a b) refl refl refl refl
+beside-Root Nothing Wrong = bits (λ (a b : Bool). known_step Root Nothing Wrong a b ≡ known_at_root Root (beside Nothing Wrong) a b) refl refl refl refl
+beside-Root Nothing Half = bits (λ (a b : Bool). known_step Root Nothing Half a b ≡ known_at_root Root (beside Nothing Half) a b) refl refl refl refl
+beside-Root Found Nothing = bits (λ (a b : Bool). known_step Root Found Nothing a b ≡ known_at_root Root (beside Found Nothing) a b) refl refl refl refl
+beside-Root Found Found = bits (λ (a b : Bool). known_step Root Found Found a b ≡ known_at_root Root (beside Found Found) a b) refl refl refl refl
+beside-Root Found Wrong = bits (λ (a b : Bool). known_step Root Found Wrong a b ≡ known_at_root Root (beside Found Wrong) a b) refl refl refl refl
+beside-Root Found Half = bits (λ (a b : Bool). known_step Root Found Half a b ≡ known_at_root Root (beside Found Half) a b) refl refl refl refl
+beside-Root Wrong Nothing = bits (λ (a b : Bool). known_step Root Wrong Nothing a b ≡ known_at_root Root (beside Wrong Nothing) a b) refl refl refl refl
+beside-Root Wrong Found = bits (λ (a b : Bool). known_step Root Wrong Found a b ≡ known_at_root Root (beside Wrong Found) a b) refl refl refl refl
+beside-Root Wrong Wrong = bits (λ (a b : Bool). known_step Root Wrong Wrong a b ≡ known_at_root Root (beside Wrong Wrong) a b) refl refl refl refl
+beside-Root Wrong Half = bits (λ (a b : Bool). known_step Root Wrong Half a b ≡ known_at_root Root (beside Wrong Half) a b) refl refl refl refl
+beside-Root Half Nothing = bits (λ (a b : Bool). known_step Root Half Nothing a b ≡ known_at_root Root (beside Half Nothing) a b) refl refl refl refl
+beside-Root Half Found = bits (λ (a b : Bool). known_step Root Half Found a b ≡ known_at_root Root (beside Half Found) a b) refl refl refl refl
+beside-Root Half Wrong = bits (λ (a b : Bool). known_step Root Half Wrong a b ≡ known_at_root Root (beside Half Wrong) a b) refl refl refl refl
+beside-Root Half Half = bits (λ (a b : Bool). known_step Root Half Half a b ≡ known_at_root Root (beside Half Half) a b) refl refl refl refl
+
+pub beside-Succ0 : (l r : Known) (a b : Bool) → known_step Succ0 l r a b ≡ known_at_root Succ0 (beside l r) a b
+beside-Succ0 Nothing Nothing = bits (λ (a b : Bool). known_step Succ0 Nothing Nothing a b ≡ known_at_root Succ0 (beside Nothing Nothing) a b) refl refl refl refl
+beside-Succ0 Nothing Found = bits (λ (a b : Bool). known_step Succ0 Nothing Found a b ≡ known_at_root Succ0 (beside Nothing Found) a b) refl refl refl refl
+beside-Succ0 Nothing Wrong = bits (λ (a b : Bool). known_step Succ0 Nothing Wrong a b ≡ known_at_root Succ0 (beside Nothing Wrong) a b) refl refl refl refl
+beside-Succ0 Nothing Half = bits (λ (a b : Bool). known_step Succ0 Nothing Half a b ≡ known_at_root Succ0 (beside Nothing Half) a b) refl refl refl refl
+beside-Succ0 Found Nothing = bits (λ (a b : Bool). known_step Succ0 Found Nothing a b ≡ known_at_root Succ0 (beside Found Nothing) a b) refl refl refl refl
+beside-Succ0 Found Found = bits (λ (a b : Bool). known_step Succ0 Found Found a b ≡ known_at_root Succ0 (beside Found Found) a b) refl refl refl refl
+beside-Succ0 Found Wrong = bits (λ (a b : Bool). known_step Succ0 Found Wrong a b ≡ known_at_root Succ0 (beside Found Wrong) a b) refl refl refl refl
+beside-Succ0 Found Half = bits (λ (a b : Bool). known_step Succ0 Found Half a b ≡ known_at_root Succ0 (beside Found Half) a b) refl refl refl refl
+beside-Succ0 Wrong Nothing = bits (λ (a b : Bool). known_step Succ0 Wrong Nothing a b ≡ known_at_root Succ0 (beside Wrong Nothing) a b) refl refl refl refl
+beside-Succ0 Wrong Found = bits (λ (a b : Bool). known_step Succ0 Wrong Found a b ≡ known_at_root Succ0 (beside Wrong Found) a b) refl refl refl refl
+beside-Succ0 Wrong Wrong = bits (λ (a b : Bool). known_step Succ0 Wrong Wrong a b ≡ known_at_root Succ0 (beside Wrong Wrong) a b) refl refl refl refl
+beside-Succ0 Wrong Half = bits (λ (a b : Bool). known_step Succ0 Wrong Half a b ≡ known_at_root Succ0 (beside Wrong Half) a b) refl refl refl refl
+beside-Succ0 Half Nothing = bits (λ (a b : Bool). known_step Succ0 Half Nothing a b ≡ known_at_root Succ0 (beside Half Nothing) a b) refl refl refl refl
+beside-Succ0 Half Found = bits (λ (a b : Bool). known_step Succ0 Half Found a b ≡ known_at_root Succ0 (beside Half Found) a b) refl refl refl refl
+beside-Succ0 Half Wrong = bits (λ (a b : Bool). known_step Succ0 Half Wrong a b ≡ known_at_root Succ0 (beside Half Wrong) a b) refl refl refl refl
+beside-Succ0 Half Half = bits (λ (a b : Bool). known_step Succ0 Half Half a b ≡ known_at_root Succ0 (beside Half Half) a b) refl refl refl refl
+
+pub beside-Succ1 : (l r : Known) (a b : Bool) → known_step Succ1 l r a b ≡ known_at_root Succ1 (beside r l) a b
+beside-Succ1 Nothing Nothing = bits (λ (a b : Bool). known_step Succ1 Nothing Nothing a b ≡ known_at_root Succ1 (beside Nothing Nothing) a b) refl refl refl refl
+beside-Succ1 Nothing Found = bits (λ (a b : Bool). known_step Succ1 Nothing Found a b ≡ known_at_root Succ1 (beside Found Nothing) a b) refl refl refl refl
+beside-Succ1 Nothing Wrong = bits (λ (a b : Bool). known_step Succ1 Nothing Wrong a b ≡ known_at_root Succ1 (beside Wrong Nothing) a b) refl refl refl refl
+beside-Succ1 Nothing Half = bits (λ (a b : Bool). known_step Succ1 Nothing Half a b ≡ known_at_root Succ1 (beside Half Nothing) a b) refl refl refl refl
+beside-Succ1 Found Nothing = bits (λ (a b : Bool). known_step Succ1 Found Nothing a b ≡ known_at_root Succ1 (beside Nothing Found) a b) refl refl refl refl
+beside-Succ1 Found Found = bits (λ (a b : Bool). known_step Succ1 Found Found a b ≡ known_at_root Succ1 (beside Found Found) a b) refl refl refl refl
+beside-Succ1 Found Wrong = bits (λ (a b : Bool). known_step Succ1 Found Wrong a b ≡ known_at_root Succ1 (beside Wrong Found) a b) refl refl refl refl
+beside-Succ1 Found Half = bits (λ (a b : Bool). known_step Succ1 Found Half a b ≡ known_at_root Succ1 (beside Half Found) a b) refl refl refl refl
+beside-Succ1 Wrong Nothing = bits (λ (a b : Bool). known_step Succ1 Wrong Nothing a b ≡ known_at_root Succ1 (beside Nothing Wrong) a b) refl refl refl refl
+beside-Succ1 Wrong Found = bits (λ (a b : Bool). known_step Succ1 Wrong Found a b ≡ known_at_root Succ1 (beside Found Wrong) a b) refl refl refl refl
+beside-Succ1 Wrong Wrong = bits (λ (a b : Bool). known_step Succ1 Wrong Wrong a b ≡ known_at_root Succ1 (beside Wrong Wrong) a b) refl refl refl refl
+beside-Succ1 Wrong Half = bits (λ (a b : Bool). known_step Succ1 Wrong Half a b ≡ known_at_root Succ1 (beside Half Wrong) a b) refl refl refl refl
+beside-Succ1 Half Nothing = bits (λ (a b : Bool). known_step Succ1 Half Nothing a b ≡ known_at_root Succ1 (beside Nothing Half) a b) refl refl refl refl
+beside-Succ1 Half Found = bits (λ (a b : Bool). known_step Succ1 Half Found a b ≡ known_at_root Succ1 (beside Found Half) a b) refl refl refl refl
+beside-Succ1 Half Wrong = bits (λ (a b : Bool). known_step Succ1 Half Wrong a b ≡ known_at_root Succ1 (beside Wrong Half) a b) refl refl refl refl
+beside-Succ1 Half Half = bits (λ (a b : Bool). known_step Succ1 Half Half a b ≡ known_at_root Succ1 (beside Half Half) a b) refl refl refl refl
+
