@@ -3,6 +3,7 @@ use Rattle.std.proofs.Common.{◌≡◌, ◌≢◌, ℕ, zero, suc, ◌+◌, ◌
 use Rattle.std.proofs.Common.{inl, inr, refl, sym, ap, subst, ◌∙◌, arith, get_or-set_other, get_or-set_same, length-append}
 use Rattle.std.proofs.Math.ListN.{set, length-set}
 use Rattle.std.specs.List.{sum_by}
+use Rattle.std.specs.Prelude.{replicate}
 use Rattle.std.proofs.lemmas.Bool.{cases_eq, false≢true}
 use Rattle.std.proofs.lemmas.List.Elements.{Contains-append_left, Contains-append_right, Contains-append_cases}
 use Rattle.std.proofs.lemmas.List.Sums.{sum_by-set}
@@ -114,16 +115,16 @@ module _ (g : Spaces) (guide : IsGuide g) (by_zero by_one met : List Bool) (wait
   r-inside : IsSpace g r
   r-inside = guide.right_inside space turn-inside
 
-  l-met : l < length met
+  pub l-met : l < length met
   l-met = let i : l < length g = l-inside in let m = so_far.mets in omega arith
 
-  r-met : r < length met_left
+  pub r-met : r < length met_left
   r-met = let i : r < length g = r-inside in let m = so_far.mets in omega (arith, length-set met l true)
 
-  l-zero : l < length by_zero
+  pub l-zero : l < length by_zero
   l-zero = let i : l < length g = l-inside in let m = so_far.zeros in omega arith
 
-  r-one : r < length by_one
+  pub r-one : r < length by_one
   r-one = let i : r < length g = r-inside in let m = so_far.ones in omega arith
 
   position : HasPosition g space
@@ -284,3 +285,9 @@ weight-meet met waiting c inside = pick (is_marked met c) refl (sum_by-set unmet
         let f : unmet (get_or met c false) ≡ 2 = ap unmet is in
         let w : waiting_after met waiting c ≡ waiting ++ c ∷ [] = ap (λ (b : Bool). if b then waiting else waiting ++ c ∷ []) is in
         omega (arith, ap (λ (xs : List ℕ). length xs) w, length-append waiting (c ∷ []))
+
+-- no space is marked at the start
+pub none-marked : (n s : ℕ) → is_marked (replicate n false) s ≡ false
+none-marked zero s = refl
+none-marked (suc n) zero = refl
+none-marked (suc n) (suc s) = none-marked n s

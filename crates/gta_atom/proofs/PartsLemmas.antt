@@ -5,13 +5,13 @@ use Rattle.std.specs.Prelude.{All, slice_get, unwrap_or, option_map, option_and_
 use Rattle.std.specs.List.{range_with_len}
 use mathlib.Core.Path.{fun_ext}
 use Rattle.std.proofs.lemmas.Bool.{cases_eq, ltb-true, lt-ltb}
-use Rattle.std.proofs.Math.Nat.{mod-eq_of_lt, mul-add-mod_self_right, mul_comm}
+use Rattle.std.proofs.Math.Nat.{mod-lt, div-lt_iff_lt-mul, mod-eq_of_lt, mul-add-mod_self_right, mul_comm}
 use Rattle.std.proofs.lemmas.Nat.{mul-add-lt, div-mul-add}
 use Rattle.std.proofs.lemmas.Option.{slice_get-map, slice_get-get_or, slice_get_within}
 use Rattle.std.proofs.lemmas.List.FromFn.{get_or-range_with_len, length-range_with_len, length-map-range_with_len}
 use Rattle.labels.specs.Labels.{Label, Function, IsUnder}
 use Rattle.bdd_nodes.specs.declared.node_ref.NodeRef.{NodeRef}
-use Rattle.bdd_nodes.specs.Shelf.{Contents, IsShelf, IsValid, count_of, limit_of, state_of}
+use Rattle.bdd_nodes.specs.Shelf.{Contents, IsValid, state_of}
 use Rattle.bdd_nodes.specs.Changes.{Keeps}
 use Rattle.gta_theory.specs.Guides.{Spaces, IsGuide, IsSpace, left, right}
 use Rattle.gta_theory.specs.Automata.{Automaton}
@@ -30,8 +30,11 @@ use Rattle.gta_core.specs.declared.build.SpacePart.{SpacePart}
 use Rattle.gta_core.specs.Auto.{AutoView, states_of, automaton_of}
 use Rattle.gta_core.specs.Given.{given_states, given_initial, given_root, given_automaton, IsGiven}
 use Rattle.gta_core.proofs.PlacingLemmas.{given_root-known}
+use Rattle.gta_atom.specs.declared.known.Known.{Known}
+use Rattle.gta_atom.specs.declared.kept.Kept.{Kept}
+use Rattle.gta_atom.specs.declared.nodes.Cell.{Cell}
 use Rattle.gta_atom.specs.declared.plan.Plan.{Plan}
-use Rattle.gta_atom.specs.States.{is_held, known_of}
+use Rattle.gta_atom.specs.States.{is_held, count_of, known_of}
 use Rattle.gta_atom.specs.Plans.{IsPlanOf, kept_in}
 use Rattle.gta_atom.specs.Automata.{counts_of, numbered_step, numbered_automaton, are_held, IsUnderSomewhere}
 use Rattle.gta_atom.specs.Cells.{cell_of, cell_function, AreRoots, IsPartIn}
@@ -61,6 +64,50 @@ module _ (g : Spaces) (plan : Plan) (is_child : Bool → ℕ → Bool) where
       states = under.states;
     };
   }
+
+  -- the cell of the n-th pair of child states of a space
+  module _ (s : ℕ) (there : IsSpace g s) (at_left at_right here : Kept) (is_left : at_left ≡ kept_in plan is_child (left g s))
+      (is_right : at_right ≡ kept_in plan is_child (right g s)) (is_here : here ≡ kept_in plan is_child s) (rows columns n : ℕ)
+      (is_rows : rows ≡ count_of at_left) (is_columns : columns ≡ count_of at_right) (inside : n < rows * columns)
+      (l r : Known) (is_l : l ≡ known_of at_left (n / columns)) (is_r : r ≡ known_of at_right (n % columns)) where
+    abbrev pub cell : Cell
+    cell = record { form = plan.form; first = plan.first; second = plan.second; kept = here; left = l; right = r }
+
+    rows-are : rows ≡ counts (left g s)
+    rows-are = is_rows ∙ ap count_of is_left
+
+    columns-are : columns ≡ counts (right g s)
+    columns-are = is_columns ∙ ap count_of is_right
+
+    abbrev i : ℕ
+    i = n / counts (right g s)
+
+    abbrev j : ℕ
+    j = n % counts (right g s)
+
+    cell-is : cell ≡ cell_of g plan is_child s i j
+    cell-is = λ k. record {
+      form = plan.form;
+      first = plan.first;
+      second = plan.second;
+      kept = is_here k;
+      left = (is_l ∙ (λ m. known_of (is_left m) (n / columns-are m))) k;
+      right = (is_r ∙ (λ m. known_of (is_right m) (n % columns-are m))) k;
+    }
+
+    some-columns : 0 < counts (right g s)
+    some-columns = omega arith
+
+    inside-counts : n < counts (left g s) * counts (right g s)
+    inside-counts = subst (λ (c : ℕ). n < counts (left g s) * c) columns-are (subst (λ (w : ℕ). n < w * columns) rows-are inside)
+
+    pub part-cell : (f : Function) → IsUnder (cell_function cell) f → IsUnderSomewhere g D (Below counts) f
+    part-cell f under =
+        IsUnder-cell s i j there ((div-lt_iff_lt-mul some-columns).1 inside-counts) (mod-lt n some-columns) f
+        (subst (λ (c : Cell). IsUnder (cell_function c) f) cell-is under)
+
+    pub states-cell : (label : Label) → cell_function cell label ≡ D.step s (n / counts (right g s)) (n % counts (right g s)) label
+    states-cell label = ap (λ (c : Cell). cell_function c label) cell-is
 
   -- roots stay, and one more may come
   pub AreRoots-none : (shelf : Contents) (s : ℕ) → AreRoots g plan is_child shelf s []

@@ -1,7 +1,7 @@
 //! What the automaton of an atom knows of a tree.
 
 ghost use Rattle.std.specs.Prelude.{◌≡◌};
-ghost use Rattle.gta_atom.specs.States.{known_step, is_held, beside};
+ghost use Rattle.gta_atom.specs.States.{known_step, known_at_root, is_held, beside};
 
 /// What the positions of a tree say of an atom.
 #[derive(Clone, Copy, Debug, PartialEq, Eq)]

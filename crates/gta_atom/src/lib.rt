@@ -5,11 +5,11 @@
 //! where the minimal automaton has one.
 #![tactic(auto)]
 
-mod atom;
 mod child_test;
 mod kept;
 mod known;
+mod making;
 mod nodes;
 mod plan;
 
-pub use atom::atom;
+pub use making::atom;

@@ -4,7 +4,7 @@ use Rattle.gta_atom.specs.Children.{test_of}
 use Rattle.gta_atom.specs.Automata.{counts_of, numbered_automaton, IsUnderSomewhere}
 use Rattle.gta_atom.specs.Cells.{AreRoots}
 use Rattle.gta_atom.specs.Progress.{Adds}
-use Rattle.gta_atom.proofs.atom.part_in.Given as goal
+use Rattle.gta_atom.proofs.making.part_in.Given as goal
 
 abbrev pub invariant-loop-pair : goal.invariant-loop-pair
 invariant-loop-pair l =

@@ -6,7 +6,7 @@ use Rattle.gta_atom.specs.Children.{test_of}
 use Rattle.gta_atom.specs.Automata.{counts_of, numbered_automaton, IsUnderSomewhere}
 use Rattle.gta_atom.specs.Cells.{IsPartIn}
 use Rattle.gta_atom.specs.Progress.{Adds}
-use Rattle.gta_atom.proofs.atom.parts.Given as goal
+use Rattle.gta_atom.proofs.making.parts.Given as goal
 
 abbrev pub invariant-loop-space : goal.invariant-loop-space
 invariant-loop-space l =

@@ -3,7 +3,7 @@ use Rattle.std.specs.List.{range_with_len}
 use Rattle.gta_atom.specs.Children.{test_of}
 use Rattle.gta_atom.specs.States.{is_held, known_of}
 use Rattle.gta_atom.specs.Plans.{kept_in}
-use Rattle.gta_atom.proofs.atom.held.Given as goal
+use Rattle.gta_atom.proofs.making.held.Given as goal
 
 abbrev pub invariant-loop-state : goal.invariant-loop-state
 invariant-loop-state l =
