@@ -10,7 +10,7 @@ use std::test::Fail;
 use ws2s_core::{LabelTree, Track, TreeNode};
 
 /// A root with two children, which have these tracks.
-fn tree(
+pub(crate) fn tree(
     alloc: Global,
     root: &[Track],
     left: &[Track],
