@@ -1,11 +1,11 @@
 -- What an atom's call leaves of the shelf.
-use Rattle.std.proofs.Common.{◌≡◌, ◌≢◌, ◌+◌, ◌<◌, ◌≤◌, ℕ, Bool, List, refl, sym, ap, ◌∙◌, arith, length}
+use Rattle.std.proofs.Common.{◌≡◌, ◌+◌, ◌<◌, ◌≤◌, ℕ, Bool, List, ap, ◌∙◌, arith, length}
 use Rattle.std.specs.Prelude.{Option, is_some}
 use Rattle.bdd_nodes.specs.declared.node.Node.{Node}
 use Rattle.bdd_nodes.specs.declared.node_ref.NodeRef.{NodeRef}
 use Rattle.bdd_nodes.specs.Roots.{Registered, roots_under}
 use Rattle.bdd_nodes.specs.Shelf.{Contents, count_of, limit_of}
-use Rattle.bdd_nodes.specs.Changes.{Keeps, SameTables}
+use Rattle.bdd_nodes.specs.Changes.{Keeps}
 use Rattle.bdd_nodes.proofs.CallerLemmas.{Keeps-trans, Keeps-same}
 use Rattle.gta_theory.specs.Guides.{Spaces, IsGuide}
 use Rattle.gta_theory.specs.Numbered.{Below}

@@ -1,10 +1,10 @@
 -- The function of a cell, with its tracks fixed one after the other.
-use Rattle.std.proofs.Common.{◌≡◌, ◌≢◌, ℕ, suc, ◌<◌, ◌≤◌, min, Bool, true, false, if◌then◌else◌, refl, sym, ap, subst, ◌∙◌, arith, inl, inr}
+use Rattle.std.proofs.Common.{◌≡◌, ◌≢◌, ℕ, suc, ◌<◌, ◌≤◌, Bool, true, false, if◌then◌else◌, sym, ap, subst, ◌∙◌, arith, inl, inr}
 use Rattle.std.proofs.lemmas.Bool.{cases_eq}
 use Rattle.labels.specs.Labels.{Label, Function, IsUnder, empty_label, with_track, with_below}
 use Rattle.labels.proofs.LabelsLemmas.{with_track-same, with_track-other, with_below-from, with_below-at, fixed_with}
 use Rattle.bdd_nodes.specs.declared.node_ref.NodeRef.{NodeRef}
-use Rattle.bdd_nodes.specs.Shelf.{Contents, IsShelf, IsSideFor, IsLeaf, state_of, choice_of}
+use Rattle.bdd_nodes.specs.Shelf.{Contents, IsLeaf, state_of, choice_of}
 use Rattle.gta_atom.specs.declared.nodes.Cell.{Cell}
 use Rattle.gta_atom.specs.Cells.{cell_step, cell_function, lower_track}
 

@@ -3,10 +3,8 @@ use Rattle.std.proofs.Common.{◌≡◌, ℕ, zero, suc, ◌<◌, Bool, true, fa
 use Rattle.ws2s_theory.specs.Atoms.{SubState, inside, outside, sub_step, is_inside, SingleState, nothing, one, more, single_step, is_one}
 use Rattle.ws2s_theory.specs.Atoms.{RootState, absent, alone, lower, root_step, is_alone, SuccState, neither, child, found, wrong, succ_step, is_found}
 use Rattle.ws2s_theory.specs.Merging.{sub_class, single_class, root_class, succ_class}
-use Rattle.gta_atom.specs.declared.known.Known.{Known}
-use Rattle.gta_atom.specs.declared.known.Known.TheVariants.{Nothing, Found, Wrong, Half}
 use Rattle.gta_atom.specs.declared.known.Form.TheVariants.{Sub, Single, Root, Succ0, Succ1}
-use Rattle.gta_atom.specs.States.{of_sub, of_single, of_root, of_succ, known_step, known_at_root, beside, is_held, kept_of, keeps_none, number_of, known_of, count_of}
+use Rattle.gta_atom.specs.States.{of_sub, of_single, of_root, of_succ, known_step, is_held, kept_of, keeps_none, number_of, known_of, count_of}
 use Rattle.gta_atom.proofs.NumberedLemmas.{HasState, IsKept}
 
 -- the numbers below small ones
@@ -258,102 +256,3 @@ held-Succ1 neither = refl
 held-Succ1 found = refl
 held-Succ1 wrong = refl
 held-Succ1 child = refl
-
--- what holds for the four pairs of bits
-bits : (P : Bool → Bool → Type 0) → P true true → P true false → P false true → P false false → (a b : Bool) → P a b
-bits P x y z w true true = x
-bits P x y z w true false = y
-bits P x y z w false true = z
-bits P x y z w false false = w
-
--- two halves come to one beside nothing
-pub beside-Sub : (l r : Known) (a b : Bool) → known_step Sub l r a b ≡ known_at_root Sub (beside l r) a b
-beside-Sub Nothing Nothing = bits (λ (a b : Bool). known_step Sub Nothing Nothing a b ≡ known_at_root Sub (beside Nothing Nothing) a b) refl refl refl refl
-beside-Sub Nothing Found = bits (λ (a b : Bool). known_step Sub Nothing Found a b ≡ known_at_root Sub (beside Nothing Found) a b) refl refl refl refl
-beside-Sub Nothing Wrong = bits (λ (a b : Bool). known_step Sub Nothing Wrong a b ≡ known_at_root Sub (beside Nothing Wrong) a b) refl refl refl refl
-beside-Sub Nothing Half = bits (λ (a b : Bool). known_step Sub Nothing Half a b ≡ known_at_root Sub (beside Nothing Half) a b) refl refl refl refl
-beside-Sub Found Nothing = bits (λ (a b : Bool). known_step Sub Found Nothing a b ≡ known_at_root Sub (beside Found Nothing) a b) refl refl refl refl
-beside-Sub Found Found = bits (λ (a b : Bool). known_step Sub Found Found a b ≡ known_at_root Sub (beside Found Found) a b) refl refl refl refl
-beside-Sub Found Wrong = bits (λ (a b : Bool). known_step Sub Found Wrong a b ≡ known_at_root Sub (beside Found Wrong) a b) refl refl refl refl
-beside-Sub Found Half = bits (λ (a b : Bool). known_step Sub Found Half a b ≡ known_at_root Sub (beside Found Half) a b) refl refl refl refl
-beside-Sub Wrong Nothing = bits (λ (a b : Bool). known_step Sub Wrong Nothing a b ≡ known_at_root Sub (beside Wrong Nothing) a b) refl refl refl refl
-beside-Sub Wrong Found = bits (λ (a b : Bool). known_step Sub Wrong Found a b ≡ known_at_root Sub (beside Wrong Found) a b) refl refl refl refl
-beside-Sub Wrong Wrong = bits (λ (a b : Bool). known_step Sub Wrong Wrong a b ≡ known_at_root Sub (beside Wrong Wrong) a b) refl refl refl refl
-beside-Sub Wrong Half = bits (λ (a b : Bool). known_step Sub Wrong Half a b ≡ known_at_root Sub (beside Wrong Half) a b) refl refl refl refl
-beside-Sub Half Nothing = bits (λ (a b : Bool). known_step Sub Half Nothing a b ≡ known_at_root Sub (beside Half Nothing) a b) refl refl refl refl
-beside-Sub Half Found = bits (λ (a b : Bool). known_step Sub Half Found a b ≡ known_at_root Sub (beside Half Found) a b) refl refl refl refl
-beside-Sub Half Wrong = bits (λ (a b : Bool). known_step Sub Half Wrong a b ≡ known_at_root Sub (beside Half Wrong) a b) refl refl refl refl
-beside-Sub Half Half = bits (λ (a b : Bool). known_step Sub Half Half a b ≡ known_at_root Sub (beside Half Half) a b) refl refl refl refl
-
-pub beside-Single : (l r : Known) (a b : Bool) → known_step Single l r a b ≡ known_at_root Single (beside l r) a b
-beside-Single Nothing Nothing = bits (λ (a b : Bool). known_step Single Nothing Nothing a b ≡ known_at_root Single (beside Nothing Nothing) a b) refl refl refl refl
-beside-Single Nothing Found = bits (λ (a b : Bool). known_step Single Nothing Found a b ≡ known_at_root Single (beside Nothing Found) a b) refl refl refl refl
-beside-Single Nothing Wrong = bits (λ (a b : Bool). known_step Single Nothing Wrong a b ≡ known_at_root Single (beside Nothing Wrong) a b) refl refl refl refl
-beside-Single Nothing Half = bits (λ (a b : Bool). known_step Single Nothing Half a b ≡ known_at_root Single (beside Nothing Half) a b) refl refl refl refl
-beside-Single Found Nothing = bits (λ (a b : Bool). known_step Single Found Nothing a b ≡ known_at_root Single (beside Found Nothing) a b) refl refl refl refl
-beside-Single Found Found = bits (λ (a b : Bool). known_step Single Found Found a b ≡ known_at_root Single (beside Found Found) a b) refl refl refl refl
-beside-Single Found Wrong = bits (λ (a b : Bool). known_step Single Found Wrong a b ≡ known_at_root Single (beside Found Wrong) a b) refl refl refl refl
-beside-Single Found Half = bits (λ (a b : Bool). known_step Single Found Half a b ≡ known_at_root Single (beside Found Half) a b) refl refl refl refl
-beside-Single Wrong Nothing = bits (λ (a b : Bool). known_step Single Wrong Nothing a b ≡ known_at_root Single (beside Wrong Nothing) a b) refl refl refl refl
-beside-Single Wrong Found = bits (λ (a b : Bool). known_step Single Wrong Found a b ≡ known_at_root Single (beside Wrong Found) a b) refl refl refl refl
-beside-Single Wrong Wrong = bits (λ (a b : Bool). known_step Single Wrong Wrong a b ≡ known_at_root Single (beside Wrong Wrong) a b) refl refl refl refl
-beside-Single Wrong Half = bits (λ (a b : Bool). known_step Single Wrong Half a b ≡ known_at_root Single (beside Wrong Half) a b) refl refl refl refl
-beside-Single Half Nothing = bits (λ (a b : Bool). known_step Single Half Nothing a b ≡ known_at_root Single (beside Half Nothing) a b) refl refl refl refl
-beside-Single Half Found = bits (λ (a b : Bool). known_step Single Half Found a b ≡ known_at_root Single (beside Half Found) a b) refl refl refl refl
-beside-Single Half Wrong = bits (λ (a b : Bool). known_step Single Half Wrong a b ≡ known_at_root Single (beside Half Wrong) a b) refl refl refl refl
-beside-Single Half Half = bits (λ (a b : Bool). known_step Single Half Half a b ≡ known_at_root Single (beside Half Half) a b) refl refl refl refl
-
-pub beside-Root : (l r : Known) (a b : Bool) → known_step Root l r a b ≡ known_at_root Root (beside l r) a b
-beside-Root Nothing Nothing = bits (λ (a b : Bool). known_step Root Nothing Nothing a b ≡ known_at_root Root (beside Nothing Nothing) a b) refl refl refl refl
-beside-Root Nothing Found = bits (λ (a b : Bool). known_step Root Nothing Found a b ≡ known_at_root Root (beside Nothing Found) a b) refl refl refl refl
-beside-Root Nothing Wrong = bits (λ (a b : Bool). known_step Root Nothing Wrong a b ≡ known_at_root Root (beside Nothing Wrong) a b) refl refl refl refl
-beside-Root Nothing Half = bits (λ (a b : Bool). known_step Root Nothing Half a b ≡ known_at_root Root (beside Nothing Half) a b) refl refl refl refl
-beside-Root Found Nothing = bits (λ (a b : Bool). known_step Root Found Nothing a b ≡ known_at_root Root (beside Found Nothing) a b) refl refl refl refl
-beside-Root Found Found = bits (λ (a b : Bool). known_step Root Found Found a b ≡ known_at_root Root (beside Found Found) a b) refl refl refl refl
-beside-Root Found Wrong = bits (λ (a b : Bool). known_step Root Found Wrong a b ≡ known_at_root Root (beside Found Wrong) a b) refl refl refl refl
-beside-Root Found Half = bits (λ (a b : Bool). known_step Root Found Half a b ≡ known_at_root Root (beside Found Half) a b) refl refl refl refl
-beside-Root Wrong Nothing = bits (λ (a b : Bool). known_step Root Wrong Nothing a b ≡ known_at_root Root (beside Wrong Nothing) a b) refl refl refl refl
-beside-Root Wrong Found = bits (λ (a b : Bool). known_step Root Wrong Found a b ≡ known_at_root Root (beside Wrong Found) a b) refl refl refl refl
-beside-Root Wrong Wrong = bits (λ (a b : Bool). known_step Root Wrong Wrong a b ≡ known_at_root Root (beside Wrong Wrong) a b) refl refl refl refl
-beside-Root Wrong Half = bits (λ (a b : Bool). known_step Root Wrong Half a b ≡ known_at_root Root (beside Wrong Half) a b) refl refl refl refl
-beside-Root Half Nothing = bits (λ (a b : Bool). known_step Root Half Nothing a b ≡ known_at_root Root (beside Half Nothing) a b) refl refl refl refl
-beside-Root Half Found = bits (λ (a b : Bool). known_step Root Half Found a b ≡ known_at_root Root (beside Half Found) a b) refl refl refl refl
-beside-Root Half Wrong = bits (λ (a b : Bool). known_step Root Half Wrong a b ≡ known_at_root Root (beside Half Wrong) a b) refl refl refl refl
-beside-Root Half Half = bits (λ (a b : Bool). known_step Root Half Half a b ≡ known_at_root Root (beside Half Half) a b) refl refl refl refl
-
-pub beside-Succ0 : (l r : Known) (a b : Bool) → known_step Succ0 l r a b ≡ known_at_root Succ0 (beside l r) a b
-beside-Succ0 Nothing Nothing = bits (λ (a b : Bool). known_step Succ0 Nothing Nothing a b ≡ known_at_root Succ0 (beside Nothing Nothing) a b) refl refl refl refl
-beside-Succ0 Nothing Found = bits (λ (a b : Bool). known_step Succ0 Nothing Found a b ≡ known_at_root Succ0 (beside Nothing Found) a b) refl refl refl refl
-beside-Succ0 Nothing Wrong = bits (λ (a b : Bool). known_step Succ0 Nothing Wrong a b ≡ known_at_root Succ0 (beside Nothing Wrong) a b) refl refl refl refl
-beside-Succ0 Nothing Half = bits (λ (a b : Bool). known_step Succ0 Nothing Half a b ≡ known_at_root Succ0 (beside Nothing Half) a b) refl refl refl refl
-beside-Succ0 Found Nothing = bits (λ (a b : Bool). known_step Succ0 Found Nothing a b ≡ known_at_root Succ0 (beside Found Nothing) a b) refl refl refl refl
-beside-Succ0 Found Found = bits (λ (a b : Bool). known_step Succ0 Found Found a b ≡ known_at_root Succ0 (beside Found Found) a b) refl refl refl refl
-beside-Succ0 Found Wrong = bits (λ (a b : Bool). known_step Succ0 Found Wrong a b ≡ known_at_root Succ0 (beside Found Wrong) a b) refl refl refl refl
-beside-Succ0 Found Half = bits (λ (a b : Bool). known_step Succ0 Found Half a b ≡ known_at_root Succ0 (beside Found Half) a b) refl refl refl refl
-beside-Succ0 Wrong Nothing = bits (λ (a b : Bool). known_step Succ0 Wrong Nothing a b ≡ known_at_root Succ0 (beside Wrong Nothing) a b) refl refl refl refl
-beside-Succ0 Wrong Found = bits (λ (a b : Bool). known_step Succ0 Wrong Found a b ≡ known_at_root Succ0 (beside Wrong Found) a b) refl refl refl refl
-beside-Succ0 Wrong Wrong = bits (λ (a b : Bool). known_step Succ0 Wrong Wrong a b ≡ known_at_root Succ0 (beside Wrong Wrong) a b) refl refl refl refl
-beside-Succ0 Wrong Half = bits (λ (a b : Bool). known_step Succ0 Wrong Half a b ≡ known_at_root Succ0 (beside Wrong Half) a b) refl refl refl refl
-beside-Succ0 Half Nothing = bits (λ (a b : Bool). known_step Succ0 Half Nothing a b ≡ known_at_root Succ0 (beside Half Nothing) a b) refl refl refl refl
-beside-Succ0 Half Found = bits (λ (a b : Bool). known_step Succ0 Half Found a b ≡ known_at_root Succ0 (beside Half Found) a b) refl refl refl refl
-beside-Succ0 Half Wrong = bits (λ (a b : Bool). known_step Succ0 Half Wrong a b ≡ known_at_root Succ0 (beside Half Wrong) a b) refl refl refl refl
-beside-Succ0 Half Half = bits (λ (a b : Bool). known_step Succ0 Half Half a b ≡ known_at_root Succ0 (beside Half Half) a b) refl refl refl refl
-
-pub beside-Succ1 : (l r : Known) (a b : Bool) → known_step Succ1 l r a b ≡ known_at_root Succ1 (beside r l) a b
-beside-Succ1 Nothing Nothing = bits (λ (a b : Bool). known_step Succ1 Nothing Nothing a b ≡ known_at_root Succ1 (beside Nothing Nothing) a b) refl refl refl refl
-beside-Succ1 Nothing Found = bits (λ (a b : Bool). known_step Succ1 Nothing Found a b ≡ known_at_root Succ1 (beside Found Nothing) a b) refl refl refl refl
-beside-Succ1 Nothing Wrong = bits (λ (a b : Bool). known_step Succ1 Nothing Wrong a b ≡ known_at_root Succ1 (beside Wrong Nothing) a b) refl refl refl refl
-beside-Succ1 Nothing Half = bits (λ (a b : Bool). known_step Succ1 Nothing Half a b ≡ known_at_root Succ1 (beside Half Nothing) a b) refl refl refl refl
-beside-Succ1 Found Nothing = bits (λ (a b : Bool). known_step Succ1 Found Nothing a b ≡ known_at_root Succ1 (beside Nothing Found) a b) refl refl refl refl
-beside-Succ1 Found Found = bits (λ (a b : Bool). known_step Succ1 Found Found a b ≡ known_at_root Succ1 (beside Found Found) a b) refl refl refl refl
-beside-Succ1 Found Wrong = bits (λ (a b : Bool). known_step Succ1 Found Wrong a b ≡ known_at_root Succ1 (beside Wrong Found) a b) refl refl refl refl
-beside-Succ1 Found Half = bits (λ (a b : Bool). known_step Succ1 Found Half a b ≡ known_at_root Succ1 (beside Half Found) a b) refl refl refl refl
-beside-Succ1 Wrong Nothing = bits (λ (a b : Bool). known_step Succ1 Wrong Nothing a b ≡ known_at_root Succ1 (beside Nothing Wrong) a b) refl refl refl refl
-beside-Succ1 Wrong Found = bits (λ (a b : Bool). known_step Succ1 Wrong Found a b ≡ known_at_root Succ1 (beside Found Wrong) a b) refl refl refl refl
-beside-Succ1 Wrong Wrong = bits (λ (a b : Bool). known_step Succ1 Wrong Wrong a b ≡ known_at_root Succ1 (beside Wrong Wrong) a b) refl refl refl refl
-beside-Succ1 Wrong Half = bits (λ (a b : Bool). known_step Succ1 Wrong Half a b ≡ known_at_root Succ1 (beside Half Wrong) a b) refl refl refl refl
-beside-Succ1 Half Nothing = bits (λ (a b : Bool). known_step Succ1 Half Nothing a b ≡ known_at_root Succ1 (beside Nothing Half) a b) refl refl refl refl
-beside-Succ1 Half Found = bits (λ (a b : Bool). known_step Succ1 Half Found a b ≡ known_at_root Succ1 (beside Found Half) a b) refl refl refl refl
-beside-Succ1 Half Wrong = bits (λ (a b : Bool). known_step Succ1 Half Wrong a b ≡ known_at_root Succ1 (beside Wrong Half) a b) refl refl refl refl
-beside-Succ1 Half Half = bits (λ (a b : Bool). known_step Succ1 Half Half a b ≡ known_at_root Succ1 (beside Half Half) a b) refl refl refl refl
-

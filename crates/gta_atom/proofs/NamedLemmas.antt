@@ -1,5 +1,5 @@
 -- A minimal automaton with its states named by numbers is minimal, and recognises the same.
-use Rattle.std.proofs.Common.{◌≡◌, ◌≢◌, ℕ, ◌↔◌, true, false, [], ◌∷◌, refl, sym, ap, subst, ◌∙◌}
+use Rattle.std.proofs.Common.{◌≡◌, ℕ, ◌↔◌, true, false, [], ◌∷◌, refl, sym, ap, subst, ◌∙◌}
 use Rattle.gta_theory.specs.Assignments.{Position, Assignment, half, root_label}
 use Rattle.gta_theory.specs.Guides.{Spaces, IsSpace, IsGuide, left, right, space_at}
 use Rattle.gta_theory.specs.Automata.{Automaton}

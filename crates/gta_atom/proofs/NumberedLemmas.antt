@@ -1,8 +1,8 @@
 -- States that stand for themselves, numbered by what is kept in each space.
-use Rattle.std.proofs.Common.{◌≡◌, ℕ, ◌<◌, Bool, IsTrue, nat_lt, refl, sym, ap, subst, ◌∙◌}
+use Rattle.std.proofs.Common.{◌≡◌, ℕ, ◌<◌, Bool, sym, ap, subst, ◌∙◌}
 use Rattle.std.proofs.lemmas.Bool.{ltb-true, lt-ltb}
 use Rattle.labels.specs.Labels.{Label}
-use Rattle.gta_theory.specs.Guides.{Spaces, IsSpace, IsGuide, left, right}
+use Rattle.gta_theory.specs.Guides.{Spaces, IsGuide, left, right}
 use Rattle.gta_theory.specs.Automata.{Automaton}
 use Rattle.gta_theory.specs.Constructions.{IsNaming}
 use Rattle.gta_theory.specs.Numbered.{Below}

@@ -1,7 +1,7 @@
 -- The given parts make the numbered automaton.
-use Rattle.std.proofs.Common.{◌≡◌, ◌≢◌, ℕ, suc, ◌+◌, ◌*◌, ◌/◌, ◌%◌, ◌<◌, ◌≤◌, max, Bool, false, List, [], ◌∷◌, ◌++◌, length, map, get_or, Option, Some, None}
-use Rattle.std.proofs.Common.{refl, sym, ap, subst, ◌∙◌, arith, ◌↔◌, nat_lt, IsTrue, inl, inr}
-use Rattle.std.specs.Prelude.{All, slice_get, unwrap_or, option_map, option_and_then}
+use Rattle.std.proofs.Common.{◌≡◌, ℕ, suc, ◌+◌, ◌*◌, ◌/◌, ◌%◌, ◌<◌, max, Bool, false, List, [], ◌∷◌, ◌++◌, length, get_or, Option, Some, None}
+use Rattle.std.proofs.Common.{refl, sym, ap, subst, ◌∙◌, arith, nat_lt, IsTrue, inl, inr}
+use Rattle.std.specs.Prelude.{slice_get, unwrap_or, option_map, option_and_then}
 use Rattle.std.specs.List.{range_with_len}
 use mathlib.Core.Path.{fun_ext}
 use Rattle.std.proofs.lemmas.Bool.{cases_eq, ltb-true, lt-ltb}
@@ -208,8 +208,12 @@ module _ (g : Spaces) (plan : Plan) (is_child : Bool → ℕ → Bool) where
           ∙ ap (λ (w : ℕ). slice_get (part_at s).roots (i * w + j)) R in
           ap (λ (o : Option NodeRef). unwrap_or (option_map (state_of shelf) o) (λ (l : Label). 0) label) known
           ∙ step-root s i j label (slice_get (part_at s).roots (i * counts (right g s) + j)) there in_right refl
-          (omega (arith, mul-add-lt i (counts (right g s)) j (counts (left g s)) in_left in_right, mul_comm (counts (left g s)) (counts (right g s)),
-          (is_part s there).many))
+          (omega (
+            arith,
+            mul-add-lt i (counts (right g s)) j (counts (left g s)) in_left in_right,
+            mul_comm (counts (left g s)) (counts (right g s)),
+            (is_part s there).many,
+          ))
 
       initial-given : (s : ℕ) → IsSpace g s → G.initial s ≡ 0
       unfolding G given_automaton

@@ -1,8 +1,6 @@
 -- The numbered automaton of a plan is a minimal automaton of its atom.
-use Rattle.std.proofs.Common.{◌≡◌, ◌≢◌, ℕ, Bool, true, false, eqb, refl, sym, ap, subst, ◌∙◌}
-use Rattle.labels.specs.Labels.{Label}
+use Rattle.std.proofs.Common.{◌≡◌, ◌≢◌, ℕ, Bool, true, false, eqb, refl, sym, subst}
 use Rattle.gta_theory.specs.Guides.{Spaces, IsGuide}
-use Rattle.gta_theory.specs.Automata.{Automaton}
 use Rattle.gta_theory.specs.Numbered.{Below}
 use Rattle.ws2s_core.specs.declared.track.Track.{Track}
 use Rattle.ws2s_core.specs.declared.formula.Formula.{Formula}
@@ -13,7 +11,6 @@ use Rattle.ws2s_theory.specs.Merging.{IsChildTest, is_below, sub_classes, single
 use Rattle.ws2s_theory.proofs.EqualTracksLemmas.{IsMinimalOf-Sub_same, IsMinimalOf-Succ0_same, IsMinimalOf-Succ1_same}
 use Rattle.ws2s_theory.proofs.MergedAtomsLemmas.{IsMinimalOf-Sub, IsMinimalOf-Single, IsMinimalOf-Root}
 use Rattle.ws2s_theory.proofs.MergedSuccessorsLemmas.{IsMinimalOf-Succ0, IsMinimalOf-Succ1}
-use Rattle.gta_atom.specs.declared.known.Form.{Form}
 use Rattle.gta_atom.specs.declared.known.Form.TheVariants.{Sub, Single, Root, Succ0, Succ1}
 use Rattle.gta_atom.specs.declared.plan.Plan.{Plan}
 use Rattle.gta_atom.specs.States.{of_sub, of_single, of_root, of_succ}

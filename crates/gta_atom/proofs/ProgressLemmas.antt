@@ -1,7 +1,7 @@
 -- Changes one after the other, and what fits in a Size.
 use Rattle.std.proofs.Common.{◌≡◌, ◌≢◌, ℕ, suc, ◌+◌, ◌<◌, ◌≤◌, Bool, true, false, List, [], ◌∷◌, ◌++◌, map, length, Contains, AllPairs, ◌⊎◌}
 use Rattle.std.proofs.Common.{inl, inr, refl, sym, ap, subst, ◌∙◌, arith, if◌then◌else◌, length-append}
-use Rattle.std.specs.Prelude.{All, Result, Ok, Err, IfOk, OnErr, IsErr, ◌↔◌}
+use Rattle.std.specs.Prelude.{Result, Ok, Err, IfOk, OnErr, IsErr, ◌↔◌}
 use mathlib.Core.Path.{fun_ext}
 use Rattle.std.proofs.lemmas.Bool.{cases_Bool}
 use Rattle.std.proofs.lemmas.List.{length-map}
@@ -12,7 +12,7 @@ use Rattle.labels.proofs.LabelsLemmas.{with_track-same, with_track-later}
 use Rattle.bdd_nodes.specs.declared.node_ref.NodeRef.{NodeRef}
 use Rattle.bdd_nodes.specs.declared.shelf.Full.{Full}
 use Rattle.bdd_nodes.specs.Nodes.{node_of}
-use Rattle.bdd_nodes.specs.Shelf.{Contents, IsShelf, IsValid, IsSideFor, IsFullFor, Has, Splits, count_of, limit_of, state_of, choice_of, low_of, high_of}
+use Rattle.bdd_nodes.specs.Shelf.{Contents, IsShelf, IsValid, IsSideFor, IsFullFor, count_of, limit_of, state_of, choice_of, low_of, high_of}
 use Rattle.bdd_nodes.specs.Changes.{Keeps, SameTables, AddsOnly, is_valid}
 use Rattle.bdd_nodes.proofs.CallerLemmas.{Keeps-refl, Keeps-trans, AddsOnly-cases}
 use Rattle.bdd_nodes.proofs.CanonicalLemmas.{differ_named}
@@ -23,7 +23,7 @@ use Rattle.gta_theory.specs.Automata.{Automaton}
 use Rattle.gta_theory.specs.Sizes.{IsVaried, SizeOf}
 use Rattle.gta_theory.proofs.ListsLemmas.{Contains-first, Contains-later, Contains-cases, Contains-mapped, All-from_contains}
 use Rattle.gta_theory.proofs.SizesLemmas.{length-partners}
-use Rattle.gta_core.proofs.SizeLemmas.{ListsParts, all_parts}
+use Rattle.gta_core.proofs.SizeLemmas.{all_parts}
 use Rattle.gta_atom.specs.Automata.{IsUnderSomewhere}
 use Rattle.gta_atom.specs.Progress.{IsNew, Adds, IsStuck}
 

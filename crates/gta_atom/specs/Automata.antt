@@ -3,9 +3,8 @@ use Rattle.std.specs.Prelude.{ℕ, Bool, List, map}
 use Rattle.std.specs.List.{range_with_len}
 use Rattle.gta_theory.specs.Guides.{Spaces, IsSpace, left, right}
 use Rattle.gta_theory.specs.Automata.{Automaton}
-use Rattle.gta_theory.specs.Numbered.{Below}
 use Rattle.gta_theory.specs.Sizes.{IsUnderTable}
-use Rattle.labels.specs.Labels.{Label, Function}
+use Rattle.labels.specs.Labels.{Function}
 use Rattle.gta_atom.specs.declared.plan.Plan.{Plan}
 use Rattle.gta_atom.specs.States.{known_step, is_held, count_of, number_of, known_of}
 use Rattle.gta_atom.specs.Plans.{kept_in}

@@ -1,5 +1,5 @@
 -- The function of a pair of child states, and the parts of spaces.
-use Rattle.std.specs.Prelude.{◌≡◌, ℕ, ◌*◌, ◌/◌, ◌%◌, ◌<◌, Bool, min, List, length, Some, slice_get}
+use Rattle.std.specs.Prelude.{◌≡◌, ℕ, ◌*◌, ◌/◌, ◌%◌, Bool, min, List, length, Some, slice_get}
 use Rattle.bdd_nodes.specs.declared.node_ref.NodeRef.{NodeRef}
 use Rattle.bdd_nodes.specs.Shelf.{Contents, IsValid, state_of}
 use Rattle.labels.specs.Labels.{Label, Function}

@@ -34,21 +34,9 @@ impl Kept {
     {
         match known {
             Known::Nothing => 0,
-            Known::Found => {
-                if self.found {
-                    1
-                } else {
-                    self.wrong_number()
-                }
-            }
+            Known::Found => { if self.found { 1 } else { self.wrong_number() } }
             Known::Wrong => self.wrong_number(),
-            Known::Half => {
-                if self.half {
-                    3
-                } else {
-                    self.wrong_number()
-                }
-            }
+            Known::Half => { if self.half { 3 } else { self.wrong_number() } }
         }
     }
 

@@ -62,13 +62,7 @@ impl Form {
                     Known::Nothing
                 }
             }
-            Form::Single | Form::Root => {
-                if first {
-                    Known::Found
-                } else {
-                    Known::Nothing
-                }
-            }
+            Form::Single | Form::Root => { if first { Known::Found } else { Known::Nothing } }
             Form::Succ0 | Form::Succ1 => {
                 if first {
                     Known::Wrong
@@ -86,13 +80,7 @@ impl Form {
     {
         match self {
             Form::Sub | Form::Root => Known::Wrong,
-            Form::Single => {
-                if first {
-                    Known::Wrong
-                } else {
-                    Known::Found
-                }
-            }
+            Form::Single => { if first { Known::Wrong } else { Known::Found } }
             Form::Succ0 | Form::Succ1 => {
                 if first || second {
                     Known::Wrong

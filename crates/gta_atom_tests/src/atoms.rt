@@ -1,7 +1,6 @@
 //! The states of the five atoms' automata, space by space.
 
-ghost use Rattle.std.specs.Prelude.{◌≡◌, IfOk};
-ghost use Rattle.gta_theory.specs.Guides.{IsGuide};
+ghost use Rattle.std.specs.Prelude.{◌≤◌};
 ghost use Rattle.gta_atom.specs.Atom.{IsAtom};
 
 use bdd_nodes::Shelf;
@@ -71,12 +70,24 @@ struct Counts {
     nodes: u32,
 }
 
-fn counts(alloc: Global, over: Over, kind: Kind, first: u32, second: u32) -> Result<Counts, Fail> {
+fn counts_of(
+    alloc: Global,
+    over: Over,
+    kind: Kind,
+    first: u32,
+    second: u32,
+) -> Result<Counts, Fail> {
     let g = guide(alloc, over)?;
     let f = formula(kind, first, second);
     let mut shelf = Shelf::open(alloc, 100)?;
     let a = atom(alloc, &g, &f, &mut shelf)?;
-    let states = [a.states(0), a.states(1), a.states(2), a.states(3), a.states(4)];
+    let states = [
+        a.states(0),
+        a.states(1),
+        a.states(2),
+        a.states(3),
+        a.states(4),
+    ];
     Ok(Counts {
         states,
         nodes: shelf.count(),
@@ -104,7 +115,10 @@ fn atoms_have_the_states_that_their_spaces_need(rt: HostRuntime) -> Result<(), F
         (Over::Layout, Kind::Succ1, [two, four, four, three, one]),
         (Over::Layout, Kind::Root, [two, two, two, two, one]),
     ] {
-        assert!(rt; counts(alloc, over, kind, 0, 1)?.states == states, "{kind:?} {over:?}");
+        assert!(rt;
+            counts_of(alloc, over, kind, 0, 1)?.states == states,
+            "{kind:?} {over:?}"
+        );
     }
     Ok(())
 }
@@ -117,7 +131,10 @@ fn atoms_of_one_track_twice_have_one_state_and_no_node(rt: HostRuntime) -> Resul
         nodes: 0,
     };
     for kind in [Kind::Sub, Kind::Succ0, Kind::Succ1] {
-        assert!(rt; counts(alloc, Over::Above, kind, 7, 7)? == want, "{kind:?}");
+        assert!(rt;
+            counts_of(alloc, Over::Above, kind, 7, 7)? == want,
+            "{kind:?}"
+        );
     }
     Ok(())
 }
@@ -134,7 +151,10 @@ fn nodes_are_those_of_the_functions(rt: HostRuntime) -> Result<(), Fail> {
         (Kind::Sub, last, 0, 2),
         (Kind::Single, last, 0, 2),
     ] {
-        assert!(rt; counts(alloc, Over::Plain, kind, first, second)?.nodes == nodes, "{kind:?}");
+        assert!(rt;
+            counts_of(alloc, Over::Plain, kind, first, second)?.nodes == nodes,
+            "{kind:?}"
+        );
     }
     Ok(())
 }

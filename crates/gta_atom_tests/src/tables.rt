@@ -6,9 +6,9 @@ ghost use Rattle.gta_core.specs.Auto.{guide_of, IsAuto};
 
 use crate::accepting::tree;
 use crate::atoms::{Kind, Over, formula, guide};
-use bdd_nodes::Shelf;
+use bdd_nodes::{Shelf, unused_numbers};
 use gta_atom::atom;
-use gta_core::{Auto, accepts, release};
+use gta_core::{Auto, accepts, automata_outlive_changes, release, tables_outlive_changes};
 use plain_data::Items;
 use std::alloc::{AllocError, Global};
 use std::test::Fail;
@@ -36,6 +36,10 @@ fn released(alloc: Global, shelf: &mut Shelf, a: Auto) -> Result<(u32, bool, u32
     requires auto { IsAuto (guide_of a) shelf.old a }
     requires shelf { IsShelf shelf.old }
 {
+    // Only for their clauses.
+    tables_outlive_changes();
+    automata_outlive_changes();
+    unused_numbers();
     let tree = tree(alloc, &[], &[Track(0)], &[])?;
     let copy = a.copy(alloc, shelf)?;
     release(a, shelf);

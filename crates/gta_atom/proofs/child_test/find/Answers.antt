@@ -1,9 +1,9 @@
-use Rattle.std.proofs.Common.{◌≡◌, ◌<◌, ◌≤◌, ℕ, ◌+◌, true, false, Bool, List, [], ◌∷◌, ◌++◌, length, refl, sym, ap, subst, ◌∙◌, arith, vec_len, length-append}
+use Rattle.std.proofs.Common.{◌≡◌, ◌<◌, ◌≤◌, ℕ, true, false, Bool, List, [], ◌∷◌, length, refl, sym, ap, subst, ◌∙◌, arith, length-append}
 use Rattle.std.proofs.Math.ListN.{set, length-set}
-use Rattle.std.proofs.lemmas.List.{get_or-replicate, length-replicate}
-use Rattle.std.specs.Prelude.{slice_get, unwrap_or, Option, replicate}
-use Rattle.gta_theory.specs.Guides.{Spaces, IsGuide, left, right}
-use Rattle.gta_atom.specs.Children.{is_marked, waiting_after, NoneMarked, Finding}
+use Rattle.std.proofs.lemmas.List.{length-replicate}
+use Rattle.std.specs.Prelude.{slice_get, unwrap_or, Option}
+use Rattle.gta_theory.specs.Guides.{Spaces, left, right}
+use Rattle.gta_atom.specs.Children.{is_marked, waiting_after, Finding}
 use Rattle.gta_atom.proofs.ChildrenLemmas.{Finding-start, Finding-turn, IsChildTest-found, weight, weight-meet, l-zero, r-one, l-met, r-met, none-marked}
 use Rattle.gta_atom.proofs.child_test.find.Goals as goal
 

@@ -1,11 +1,8 @@
-use Rattle.std.proofs.Common.{◌≡◌, ◌+◌, ℕ, List, [], ◌∷◌, ◌++◌, length, Some, inl, inr, sym, ap, subst, ◌∙◌, arith, length-append}
+use Rattle.std.proofs.Common.{ℕ, List, [], ◌∷◌, length, inl, inr, sym, ap, subst, ◌∙◌, arith, length-append}
 use Rattle.std.specs.Prelude.{slice_get}
-use Rattle.labels.specs.Labels.{Function}
-use Rattle.gta_theory.specs.Numbered.{Below}
 use Rattle.gta_theory.proofs.ListedLemmas.{slice_get-push}
 use Rattle.gta_core.specs.declared.build.SpacePart.{SpacePart}
 use Rattle.gta_atom.specs.Children.{test_of}
-use Rattle.gta_atom.specs.Automata.{counts_of, numbered_automaton, IsUnderSomewhere}
 use Rattle.gta_atom.specs.Cells.{IsPartIn}
 use Rattle.gta_atom.proofs.ProgressLemmas.{Adds-both}
 use Rattle.gta_atom.proofs.PartsLemmas.{IsPartIn-kept}

@@ -1,6 +1,6 @@
-use Rattle.std.proofs.Common.{◌≡◌, sym, subst}
+use Rattle.std.proofs.Common.{sym, subst}
 use Rattle.ws2s_core.specs.declared.formula.Formula.TheVariants as formula
-use Rattle.gta_atom.specs.declared.known.Form.TheVariants.{Sub, Single, Root, Succ0, Succ1}
+use Rattle.gta_atom.specs.declared.known.Form.TheVariants.{Sub, Succ0, Succ1}
 use Rattle.gta_atom.specs.declared.plan.Plan.{Plan}
 use Rattle.gta_atom.specs.Plans.{IsPlanOf, sub, sub_same, single, succ0, succ0_same, succ1, succ1_same, root}
 use Rattle.gta_atom.proofs.PlanOfLemmas.{IsPlanOf-two}

@@ -1,5 +1,5 @@
-use Rattle.std.proofs.Common.{◌≡◌, ℕ, false, true, sym, ap, subst, ◌∙◌}
-use Rattle.labels.specs.Labels.{Label, Function, IsUnder, with_track}
+use Rattle.std.proofs.Common.{◌≡◌, ℕ, false, sym, ap, subst, ◌∙◌}
+use Rattle.labels.specs.Labels.{Label, IsUnder, with_track}
 use Rattle.bdd_nodes.specs.Shelf.{IsSideFor, state_of, choice_of}
 use Rattle.bdd_nodes.proofs.CallerLemmas.{IsSideFor-kept}
 use Rattle.gta_atom.specs.Cells.{cell_function, lower_track}

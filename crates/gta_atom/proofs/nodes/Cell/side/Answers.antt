@@ -1,4 +1,4 @@
-use Rattle.std.proofs.Common.{◌<◌, ◌≤◌, arith}
+use Rattle.std.proofs.Common.{◌<◌, arith}
 use Rattle.labels.specs.Labels.{IsUnder}
 use Rattle.bdd_nodes.specs.Shelf.{choice_of}
 use Rattle.gta_atom.specs.Cells.{cell_function, lower_track}
