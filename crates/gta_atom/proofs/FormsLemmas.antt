@@ -4,8 +4,8 @@ use Rattle.ws2s_theory.specs.Atoms.{SubState, inside, outside, sub_step, is_insi
 use Rattle.ws2s_theory.specs.Atoms.{RootState, absent, alone, lower, root_step, is_alone, SuccState, neither, child, found, wrong, succ_step, is_found}
 use Rattle.ws2s_theory.specs.Merging.{sub_class, single_class, root_class, succ_class}
 use Rattle.gta_atom.specs.declared.known.Form.TheVariants.{Sub, Single, Root, Succ0, Succ1}
-use Rattle.gta_atom.specs.States.{of_sub, of_single, of_root, of_succ, known_step, is_held, kept_of, keeps_none, number_of, known_of, count_of}
-use Rattle.gta_atom.proofs.NumberedLemmas.{HasState, IsKept}
+use Rattle.gta_atom.specs.States.{of_sub, of_single, of_root, of_succ, known_step, is_held, kept_of, keeps_none}
+use Rattle.gta_atom.proofs.NumberedLemmas.{HasState, IsNumbered, IsKept}
 
 -- the numbers below small ones
 below-one : (P : ℕ → Type 0) → P 0 → (n : ℕ) → n < 1 → P n
@@ -47,137 +47,203 @@ each-succ P a b c d child = d
 -- what each form keeps in each kind of space
 pub IsKept-Sub : (b l t : Bool) → IsKept (sub_class b t) of_sub (kept_of Sub b l t)
 IsKept-Sub true l t = record {
-  known = each-sub (λ (q : SubState). known_of (kept_of Sub true l t) (number_of (kept_of Sub true l t) (of_sub q)) ≡ of_sub (sub_class true t q)) refl refl;
-  number = each-sub (λ (q : SubState). number_of (kept_of Sub true l t) (of_sub (sub_class true t q)) ≡ number_of (kept_of Sub true l t) (of_sub q)) refl refl;
-  less = each-sub (λ (q : SubState). number_of (kept_of Sub true l t) (of_sub q) < count_of (kept_of Sub true l t)) (lit< tt) (lit< tt);
-  each = below-two (HasState (sub_class true t) of_sub (kept_of Sub true l t)) (record { state = inside; stands = refl; number = refl }) (record { state = outside; stands = refl; number = refl });
+  state = each-sub (IsNumbered (sub_class true t) of_sub (kept_of Sub true l t))
+      (record { known = refl; number = refl; less = lit< tt })
+      (record { known = refl; number = refl; less = lit< tt });
+  each = below-two (HasState (sub_class true t) of_sub (kept_of Sub true l t))
+      (record { state = inside; stands = refl; number = refl })
+      (record { state = outside; stands = refl; number = refl });
 }
 IsKept-Sub false l true = record {
-  known = each-sub (λ (q : SubState). known_of (kept_of Sub false l true) (number_of (kept_of Sub false l true) (of_sub q)) ≡ of_sub (sub_class false true q)) refl refl;
-  number = each-sub (λ (q : SubState). number_of (kept_of Sub false l true) (of_sub (sub_class false true q)) ≡ number_of (kept_of Sub false l true) (of_sub q)) refl refl;
-  less = each-sub (λ (q : SubState). number_of (kept_of Sub false l true) (of_sub q) < count_of (kept_of Sub false l true)) (lit< tt) (lit< tt);
-  each = below-two (HasState (sub_class false true) of_sub (kept_of Sub false l true)) (record { state = inside; stands = refl; number = refl }) (record { state = outside; stands = refl; number = refl });
+  state = each-sub (IsNumbered (sub_class false true) of_sub (kept_of Sub false l true))
+      (record { known = refl; number = refl; less = lit< tt })
+      (record { known = refl; number = refl; less = lit< tt });
+  each = below-two (HasState (sub_class false true) of_sub (kept_of Sub false l true))
+      (record { state = inside; stands = refl; number = refl })
+      (record { state = outside; stands = refl; number = refl });
 }
 IsKept-Sub false l false = record {
-  known = each-sub (λ (q : SubState). known_of (kept_of Sub false l false) (number_of (kept_of Sub false l false) (of_sub q)) ≡ of_sub (sub_class false false q)) refl refl;
-  number = each-sub (λ (q : SubState). number_of (kept_of Sub false l false) (of_sub (sub_class false false q)) ≡ number_of (kept_of Sub false l false) (of_sub q)) refl refl;
-  less = each-sub (λ (q : SubState). number_of (kept_of Sub false l false) (of_sub q) < count_of (kept_of Sub false l false)) (lit< tt) (lit< tt);
-  each = below-one (HasState (sub_class false false) of_sub (kept_of Sub false l false)) (record { state = inside; stands = refl; number = refl });
+  state = each-sub (IsNumbered (sub_class false false) of_sub (kept_of Sub false l false))
+      (record { known = refl; number = refl; less = lit< tt })
+      (record { known = refl; number = refl; less = lit< tt });
+  each = below-one (HasState (sub_class false false) of_sub (kept_of Sub false l false))
+      (record { state = inside; stands = refl; number = refl });
 }
 
 pub IsKept-Single : (b l t : Bool) → IsKept (single_class b t) of_single (kept_of Single b l t)
 IsKept-Single true l t = record {
-  known = each-single (λ (q : SingleState). known_of (kept_of Single true l t) (number_of (kept_of Single true l t) (of_single q)) ≡ of_single (single_class true t q)) refl refl refl;
-  number = each-single (λ (q : SingleState). number_of (kept_of Single true l t) (of_single (single_class true t q)) ≡ number_of (kept_of Single true l t) (of_single q)) refl refl refl;
-  less = each-single (λ (q : SingleState). number_of (kept_of Single true l t) (of_single q) < count_of (kept_of Single true l t)) (lit< tt) (lit< tt) (lit< tt);
-  each = below-three (HasState (single_class true t) of_single (kept_of Single true l t)) (record { state = nothing; stands = refl; number = refl }) (record { state = one; stands = refl; number = refl }) (record { state = more; stands = refl; number = refl });
+  state = each-single (IsNumbered (single_class true t) of_single (kept_of Single true l t))
+      (record { known = refl; number = refl; less = lit< tt })
+      (record { known = refl; number = refl; less = lit< tt })
+      (record { known = refl; number = refl; less = lit< tt });
+  each = below-three (HasState (single_class true t) of_single (kept_of Single true l t))
+      (record { state = nothing; stands = refl; number = refl })
+      (record { state = one; stands = refl; number = refl })
+      (record { state = more; stands = refl; number = refl });
 }
 IsKept-Single false l true = record {
-  known = each-single (λ (q : SingleState). known_of (kept_of Single false l true) (number_of (kept_of Single false l true) (of_single q)) ≡ of_single (single_class false true q)) refl refl refl;
-  number = each-single (λ (q : SingleState). number_of (kept_of Single false l true) (of_single (single_class false true q)) ≡ number_of (kept_of Single false l true) (of_single q)) refl refl refl;
-  less = each-single (λ (q : SingleState). number_of (kept_of Single false l true) (of_single q) < count_of (kept_of Single false l true)) (lit< tt) (lit< tt) (lit< tt);
-  each = below-two (HasState (single_class false true) of_single (kept_of Single false l true)) (record { state = nothing; stands = refl; number = refl }) (record { state = one; stands = refl; number = refl });
+  state = each-single (IsNumbered (single_class false true) of_single (kept_of Single false l true))
+      (record { known = refl; number = refl; less = lit< tt })
+      (record { known = refl; number = refl; less = lit< tt })
+      (record { known = refl; number = refl; less = lit< tt });
+  each = below-two (HasState (single_class false true) of_single (kept_of Single false l true))
+      (record { state = nothing; stands = refl; number = refl })
+      (record { state = one; stands = refl; number = refl });
 }
 IsKept-Single false l false = record {
-  known = each-single (λ (q : SingleState). known_of (kept_of Single false l false) (number_of (kept_of Single false l false) (of_single q)) ≡ of_single (single_class false false q)) refl refl refl;
-  number = each-single (λ (q : SingleState). number_of (kept_of Single false l false) (of_single (single_class false false q)) ≡ number_of (kept_of Single false l false) (of_single q)) refl refl refl;
-  less = each-single (λ (q : SingleState). number_of (kept_of Single false l false) (of_single q) < count_of (kept_of Single false l false)) (lit< tt) (lit< tt) (lit< tt);
-  each = below-one (HasState (single_class false false) of_single (kept_of Single false l false)) (record { state = nothing; stands = refl; number = refl });
+  state = each-single (IsNumbered (single_class false false) of_single (kept_of Single false l false))
+      (record { known = refl; number = refl; less = lit< tt })
+      (record { known = refl; number = refl; less = lit< tt })
+      (record { known = refl; number = refl; less = lit< tt });
+  each = below-one (HasState (single_class false false) of_single (kept_of Single false l false))
+      (record { state = nothing; stands = refl; number = refl });
 }
 
 pub IsKept-Root : (b l t : Bool) → IsKept (root_class b t) of_root (kept_of Root b l t)
 IsKept-Root true l true = record {
-  known = each-root (λ (q : RootState). known_of (kept_of Root true l true) (number_of (kept_of Root true l true) (of_root q)) ≡ of_root (root_class true true q)) refl refl refl;
-  number = each-root (λ (q : RootState). number_of (kept_of Root true l true) (of_root (root_class true true q)) ≡ number_of (kept_of Root true l true) (of_root q)) refl refl refl;
-  less = each-root (λ (q : RootState). number_of (kept_of Root true l true) (of_root q) < count_of (kept_of Root true l true)) (lit< tt) (lit< tt) (lit< tt);
-  each = below-three (HasState (root_class true true) of_root (kept_of Root true l true)) (record { state = absent; stands = refl; number = refl }) (record { state = alone; stands = refl; number = refl }) (record { state = lower; stands = refl; number = refl });
+  state = each-root (IsNumbered (root_class true true) of_root (kept_of Root true l true))
+      (record { known = refl; number = refl; less = lit< tt })
+      (record { known = refl; number = refl; less = lit< tt })
+      (record { known = refl; number = refl; less = lit< tt });
+  each = below-three (HasState (root_class true true) of_root (kept_of Root true l true))
+      (record { state = absent; stands = refl; number = refl })
+      (record { state = alone; stands = refl; number = refl })
+      (record { state = lower; stands = refl; number = refl });
 }
 IsKept-Root true l false = record {
-  known = each-root (λ (q : RootState). known_of (kept_of Root true l false) (number_of (kept_of Root true l false) (of_root q)) ≡ of_root (root_class true false q)) refl refl refl;
-  number = each-root (λ (q : RootState). number_of (kept_of Root true l false) (of_root (root_class true false q)) ≡ number_of (kept_of Root true l false) (of_root q)) refl refl refl;
-  less = each-root (λ (q : RootState). number_of (kept_of Root true l false) (of_root q) < count_of (kept_of Root true l false)) (lit< tt) (lit< tt) (lit< tt);
-  each = below-two (HasState (root_class true false) of_root (kept_of Root true l false)) (record { state = absent; stands = refl; number = refl }) (record { state = lower; stands = refl; number = refl });
+  state = each-root (IsNumbered (root_class true false) of_root (kept_of Root true l false))
+      (record { known = refl; number = refl; less = lit< tt })
+      (record { known = refl; number = refl; less = lit< tt })
+      (record { known = refl; number = refl; less = lit< tt });
+  each = below-two (HasState (root_class true false) of_root (kept_of Root true l false))
+      (record { state = absent; stands = refl; number = refl })
+      (record { state = lower; stands = refl; number = refl });
 }
 IsKept-Root false l true = record {
-  known = each-root (λ (q : RootState). known_of (kept_of Root false l true) (number_of (kept_of Root false l true) (of_root q)) ≡ of_root (root_class false true q)) refl refl refl;
-  number = each-root (λ (q : RootState). number_of (kept_of Root false l true) (of_root (root_class false true q)) ≡ number_of (kept_of Root false l true) (of_root q)) refl refl refl;
-  less = each-root (λ (q : RootState). number_of (kept_of Root false l true) (of_root q) < count_of (kept_of Root false l true)) (lit< tt) (lit< tt) (lit< tt);
-  each = below-two (HasState (root_class false true) of_root (kept_of Root false l true)) (record { state = absent; stands = refl; number = refl }) (record { state = alone; stands = refl; number = refl });
+  state = each-root (IsNumbered (root_class false true) of_root (kept_of Root false l true))
+      (record { known = refl; number = refl; less = lit< tt })
+      (record { known = refl; number = refl; less = lit< tt })
+      (record { known = refl; number = refl; less = lit< tt });
+  each = below-two (HasState (root_class false true) of_root (kept_of Root false l true))
+      (record { state = absent; stands = refl; number = refl })
+      (record { state = alone; stands = refl; number = refl });
 }
 IsKept-Root false l false = record {
-  known = each-root (λ (q : RootState). known_of (kept_of Root false l false) (number_of (kept_of Root false l false) (of_root q)) ≡ of_root (root_class false false q)) refl refl refl;
-  number = each-root (λ (q : RootState). number_of (kept_of Root false l false) (of_root (root_class false false q)) ≡ number_of (kept_of Root false l false) (of_root q)) refl refl refl;
-  less = each-root (λ (q : RootState). number_of (kept_of Root false l false) (of_root q) < count_of (kept_of Root false l false)) (lit< tt) (lit< tt) (lit< tt);
-  each = below-one (HasState (root_class false false) of_root (kept_of Root false l false)) (record { state = absent; stands = refl; number = refl });
+  state = each-root (IsNumbered (root_class false false) of_root (kept_of Root false l false))
+      (record { known = refl; number = refl; less = lit< tt })
+      (record { known = refl; number = refl; less = lit< tt })
+      (record { known = refl; number = refl; less = lit< tt });
+  each = below-one (HasState (root_class false false) of_root (kept_of Root false l false))
+      (record { state = absent; stands = refl; number = refl });
 }
 
 pub IsKept-Succ0 : (b l t : Bool) → IsKept (succ_class b l t) of_succ (kept_of Succ0 b l t)
 IsKept-Succ0 true true t = record {
-  known = each-succ (λ (q : SuccState). known_of (kept_of Succ0 true true t) (number_of (kept_of Succ0 true true t) (of_succ q)) ≡ of_succ (succ_class true true t q)) refl refl refl refl;
-  number = each-succ (λ (q : SuccState). number_of (kept_of Succ0 true true t) (of_succ (succ_class true true t q)) ≡ number_of (kept_of Succ0 true true t) (of_succ q)) refl refl refl refl;
-  less = each-succ (λ (q : SuccState). number_of (kept_of Succ0 true true t) (of_succ q) < count_of (kept_of Succ0 true true t)) (lit< tt) (lit< tt) (lit< tt) (lit< tt);
-  each = below-four (HasState (succ_class true true t) of_succ (kept_of Succ0 true true t)) (record { state = neither; stands = refl; number = refl }) (record { state = found; stands = refl; number = refl }) (record { state = wrong; stands = refl; number = refl }) (record { state = child; stands = refl; number = refl });
+  state = each-succ (IsNumbered (succ_class true true t) of_succ (kept_of Succ0 true true t))
+      (record { known = refl; number = refl; less = lit< tt })
+      (record { known = refl; number = refl; less = lit< tt })
+      (record { known = refl; number = refl; less = lit< tt })
+      (record { known = refl; number = refl; less = lit< tt });
+  each = below-four (HasState (succ_class true true t) of_succ (kept_of Succ0 true true t))
+      (record { state = neither; stands = refl; number = refl })
+      (record { state = found; stands = refl; number = refl })
+      (record { state = wrong; stands = refl; number = refl })
+      (record { state = child; stands = refl; number = refl });
 }
 IsKept-Succ0 true false t = record {
-  known = each-succ (λ (q : SuccState). known_of (kept_of Succ0 true false t) (number_of (kept_of Succ0 true false t) (of_succ q)) ≡ of_succ (succ_class true false t q)) refl refl refl refl;
-  number = each-succ (λ (q : SuccState). number_of (kept_of Succ0 true false t) (of_succ (succ_class true false t q)) ≡ number_of (kept_of Succ0 true false t) (of_succ q)) refl refl refl refl;
-  less = each-succ (λ (q : SuccState). number_of (kept_of Succ0 true false t) (of_succ q) < count_of (kept_of Succ0 true false t)) (lit< tt) (lit< tt) (lit< tt) (lit< tt);
-  each = below-three (HasState (succ_class true false t) of_succ (kept_of Succ0 true false t)) (record { state = neither; stands = refl; number = refl }) (record { state = found; stands = refl; number = refl }) (record { state = wrong; stands = refl; number = refl });
+  state = each-succ (IsNumbered (succ_class true false t) of_succ (kept_of Succ0 true false t))
+      (record { known = refl; number = refl; less = lit< tt })
+      (record { known = refl; number = refl; less = lit< tt })
+      (record { known = refl; number = refl; less = lit< tt })
+      (record { known = refl; number = refl; less = lit< tt });
+  each = below-three (HasState (succ_class true false t) of_succ (kept_of Succ0 true false t))
+      (record { state = neither; stands = refl; number = refl })
+      (record { state = found; stands = refl; number = refl })
+      (record { state = wrong; stands = refl; number = refl });
 }
 IsKept-Succ0 false l true = record {
-  known = each-succ (λ (q : SuccState). known_of (kept_of Succ0 false l true) (number_of (kept_of Succ0 false l true) (of_succ q)) ≡ of_succ (succ_class false l true q)) refl refl refl refl;
-  number = each-succ (λ (q : SuccState). number_of (kept_of Succ0 false l true) (of_succ (succ_class false l true q)) ≡ number_of (kept_of Succ0 false l true) (of_succ q)) refl refl refl refl;
-  less = each-succ (λ (q : SuccState). number_of (kept_of Succ0 false l true) (of_succ q) < count_of (kept_of Succ0 false l true)) (lit< tt) (lit< tt) (lit< tt) (lit< tt);
-  each = below-two (HasState (succ_class false l true) of_succ (kept_of Succ0 false l true)) (record { state = neither; stands = refl; number = refl }) (record { state = found; stands = refl; number = refl });
+  state = each-succ (IsNumbered (succ_class false l true) of_succ (kept_of Succ0 false l true))
+      (record { known = refl; number = refl; less = lit< tt })
+      (record { known = refl; number = refl; less = lit< tt })
+      (record { known = refl; number = refl; less = lit< tt })
+      (record { known = refl; number = refl; less = lit< tt });
+  each = below-two (HasState (succ_class false l true) of_succ (kept_of Succ0 false l true))
+      (record { state = neither; stands = refl; number = refl })
+      (record { state = found; stands = refl; number = refl });
 }
 IsKept-Succ0 false l false = record {
-  known = each-succ (λ (q : SuccState). known_of (kept_of Succ0 false l false) (number_of (kept_of Succ0 false l false) (of_succ q)) ≡ of_succ (succ_class false l false q)) refl refl refl refl;
-  number = each-succ (λ (q : SuccState). number_of (kept_of Succ0 false l false) (of_succ (succ_class false l false q)) ≡ number_of (kept_of Succ0 false l false) (of_succ q)) refl refl refl refl;
-  less = each-succ (λ (q : SuccState). number_of (kept_of Succ0 false l false) (of_succ q) < count_of (kept_of Succ0 false l false)) (lit< tt) (lit< tt) (lit< tt) (lit< tt);
-  each = below-one (HasState (succ_class false l false) of_succ (kept_of Succ0 false l false)) (record { state = neither; stands = refl; number = refl });
+  state = each-succ (IsNumbered (succ_class false l false) of_succ (kept_of Succ0 false l false))
+      (record { known = refl; number = refl; less = lit< tt })
+      (record { known = refl; number = refl; less = lit< tt })
+      (record { known = refl; number = refl; less = lit< tt })
+      (record { known = refl; number = refl; less = lit< tt });
+  each = below-one (HasState (succ_class false l false) of_succ (kept_of Succ0 false l false))
+      (record { state = neither; stands = refl; number = refl });
 }
 
 pub IsKept-Succ1 : (b l t : Bool) → IsKept (succ_class b l t) of_succ (kept_of Succ1 b l t)
 IsKept-Succ1 true true t = record {
-  known = each-succ (λ (q : SuccState). known_of (kept_of Succ1 true true t) (number_of (kept_of Succ1 true true t) (of_succ q)) ≡ of_succ (succ_class true true t q)) refl refl refl refl;
-  number = each-succ (λ (q : SuccState). number_of (kept_of Succ1 true true t) (of_succ (succ_class true true t q)) ≡ number_of (kept_of Succ1 true true t) (of_succ q)) refl refl refl refl;
-  less = each-succ (λ (q : SuccState). number_of (kept_of Succ1 true true t) (of_succ q) < count_of (kept_of Succ1 true true t)) (lit< tt) (lit< tt) (lit< tt) (lit< tt);
-  each = below-four (HasState (succ_class true true t) of_succ (kept_of Succ1 true true t)) (record { state = neither; stands = refl; number = refl }) (record { state = found; stands = refl; number = refl }) (record { state = wrong; stands = refl; number = refl }) (record { state = child; stands = refl; number = refl });
+  state = each-succ (IsNumbered (succ_class true true t) of_succ (kept_of Succ1 true true t))
+      (record { known = refl; number = refl; less = lit< tt })
+      (record { known = refl; number = refl; less = lit< tt })
+      (record { known = refl; number = refl; less = lit< tt })
+      (record { known = refl; number = refl; less = lit< tt });
+  each = below-four (HasState (succ_class true true t) of_succ (kept_of Succ1 true true t))
+      (record { state = neither; stands = refl; number = refl })
+      (record { state = found; stands = refl; number = refl })
+      (record { state = wrong; stands = refl; number = refl })
+      (record { state = child; stands = refl; number = refl });
 }
 IsKept-Succ1 true false t = record {
-  known = each-succ (λ (q : SuccState). known_of (kept_of Succ1 true false t) (number_of (kept_of Succ1 true false t) (of_succ q)) ≡ of_succ (succ_class true false t q)) refl refl refl refl;
-  number = each-succ (λ (q : SuccState). number_of (kept_of Succ1 true false t) (of_succ (succ_class true false t q)) ≡ number_of (kept_of Succ1 true false t) (of_succ q)) refl refl refl refl;
-  less = each-succ (λ (q : SuccState). number_of (kept_of Succ1 true false t) (of_succ q) < count_of (kept_of Succ1 true false t)) (lit< tt) (lit< tt) (lit< tt) (lit< tt);
-  each = below-three (HasState (succ_class true false t) of_succ (kept_of Succ1 true false t)) (record { state = neither; stands = refl; number = refl }) (record { state = found; stands = refl; number = refl }) (record { state = wrong; stands = refl; number = refl });
+  state = each-succ (IsNumbered (succ_class true false t) of_succ (kept_of Succ1 true false t))
+      (record { known = refl; number = refl; less = lit< tt })
+      (record { known = refl; number = refl; less = lit< tt })
+      (record { known = refl; number = refl; less = lit< tt })
+      (record { known = refl; number = refl; less = lit< tt });
+  each = below-three (HasState (succ_class true false t) of_succ (kept_of Succ1 true false t))
+      (record { state = neither; stands = refl; number = refl })
+      (record { state = found; stands = refl; number = refl })
+      (record { state = wrong; stands = refl; number = refl });
 }
 IsKept-Succ1 false l true = record {
-  known = each-succ (λ (q : SuccState). known_of (kept_of Succ1 false l true) (number_of (kept_of Succ1 false l true) (of_succ q)) ≡ of_succ (succ_class false l true q)) refl refl refl refl;
-  number = each-succ (λ (q : SuccState). number_of (kept_of Succ1 false l true) (of_succ (succ_class false l true q)) ≡ number_of (kept_of Succ1 false l true) (of_succ q)) refl refl refl refl;
-  less = each-succ (λ (q : SuccState). number_of (kept_of Succ1 false l true) (of_succ q) < count_of (kept_of Succ1 false l true)) (lit< tt) (lit< tt) (lit< tt) (lit< tt);
-  each = below-two (HasState (succ_class false l true) of_succ (kept_of Succ1 false l true)) (record { state = neither; stands = refl; number = refl }) (record { state = found; stands = refl; number = refl });
+  state = each-succ (IsNumbered (succ_class false l true) of_succ (kept_of Succ1 false l true))
+      (record { known = refl; number = refl; less = lit< tt })
+      (record { known = refl; number = refl; less = lit< tt })
+      (record { known = refl; number = refl; less = lit< tt })
+      (record { known = refl; number = refl; less = lit< tt });
+  each = below-two (HasState (succ_class false l true) of_succ (kept_of Succ1 false l true))
+      (record { state = neither; stands = refl; number = refl })
+      (record { state = found; stands = refl; number = refl });
 }
 IsKept-Succ1 false l false = record {
-  known = each-succ (λ (q : SuccState). known_of (kept_of Succ1 false l false) (number_of (kept_of Succ1 false l false) (of_succ q)) ≡ of_succ (succ_class false l false q)) refl refl refl refl;
-  number = each-succ (λ (q : SuccState). number_of (kept_of Succ1 false l false) (of_succ (succ_class false l false q)) ≡ number_of (kept_of Succ1 false l false) (of_succ q)) refl refl refl refl;
-  less = each-succ (λ (q : SuccState). number_of (kept_of Succ1 false l false) (of_succ q) < count_of (kept_of Succ1 false l false)) (lit< tt) (lit< tt) (lit< tt) (lit< tt);
-  each = below-one (HasState (succ_class false l false) of_succ (kept_of Succ1 false l false)) (record { state = neither; stands = refl; number = refl });
+  state = each-succ (IsNumbered (succ_class false l false) of_succ (kept_of Succ1 false l false))
+      (record { known = refl; number = refl; less = lit< tt })
+      (record { known = refl; number = refl; less = lit< tt })
+      (record { known = refl; number = refl; less = lit< tt })
+      (record { known = refl; number = refl; less = lit< tt });
+  each = below-one (HasState (succ_class false l false) of_succ (kept_of Succ1 false l false))
+      (record { state = neither; stands = refl; number = refl });
 }
 
 -- where one state stands for all
 pub IsKept-sub_none : IsKept (λ (q : SubState). inside) of_sub keeps_none
 IsKept-sub_none = record {
-  known = each-sub (λ (q : SubState). known_of (keeps_none) (number_of (keeps_none) (of_sub q)) ≡ of_sub inside) refl refl;
-  number = each-sub (λ (q : SubState). number_of (keeps_none) (of_sub inside) ≡ number_of (keeps_none) (of_sub q)) refl refl;
-  less = each-sub (λ (q : SubState). number_of (keeps_none) (of_sub q) < count_of (keeps_none)) (lit< tt) (lit< tt);
-  each = below-one (HasState (λ (q : SubState). inside) of_sub (keeps_none)) (record { state = inside; stands = refl; number = refl });
+  state = each-sub (IsNumbered (λ (q : SubState). inside) of_sub keeps_none)
+      (record { known = refl; number = refl; less = lit< tt })
+      (record { known = refl; number = refl; less = lit< tt });
+  each = below-one (HasState (λ (q : SubState). inside) of_sub keeps_none)
+      (record { state = inside; stands = refl; number = refl });
 }
 
 pub IsKept-succ_none : IsKept (λ (q : SuccState). neither) of_succ keeps_none
 IsKept-succ_none = record {
-  known = each-succ (λ (q : SuccState). known_of (keeps_none) (number_of (keeps_none) (of_succ q)) ≡ of_succ neither) refl refl refl refl;
-  number = each-succ (λ (q : SuccState). number_of (keeps_none) (of_succ neither) ≡ number_of (keeps_none) (of_succ q)) refl refl refl refl;
-  less = each-succ (λ (q : SuccState). number_of (keeps_none) (of_succ q) < count_of (keeps_none)) (lit< tt) (lit< tt) (lit< tt) (lit< tt);
-  each = below-one (HasState (λ (q : SuccState). neither) of_succ (keeps_none)) (record { state = neither; stands = refl; number = refl });
+  state = each-succ (IsNumbered (λ (q : SuccState). neither) of_succ keeps_none)
+      (record { known = refl; number = refl; less = lit< tt })
+      (record { known = refl; number = refl; less = lit< tt })
+      (record { known = refl; number = refl; less = lit< tt })
+      (record { known = refl; number = refl; less = lit< tt });
+  each = below-one (HasState (λ (q : SuccState). neither) of_succ keeps_none)
+      (record { state = neither; stands = refl; number = refl });
 }
 
 -- steps go along

@@ -24,11 +24,15 @@ pub record HasState {Q : Type 0} (class : Q → Q) (of : Q → Known) (kept : Ke
   pub stands : class state ≡ state
   pub number : number_of kept (of state) ≡ n
 
+-- the state has the number of the one that stands for it
+pub record IsNumbered {Q : Type 0} (class : Q → Q) (of : Q → Known) (kept : Kept) (q : Q) : Type 0 where
+  pub known : known_of kept (number_of kept (of q)) ≡ of (class q)
+  pub number : number_of kept (of (class q)) ≡ number_of kept (of q)
+  pub less : number_of kept (of q) < count_of kept
+
 -- what is kept in a space is what stands for itself, with a number each
 pub record IsKept {Q : Type 0} (class : Q → Q) (of : Q → Known) (kept : Kept) : Type 0 where
-  pub known : (q : Q) → known_of kept (number_of kept (of q)) ≡ of (class q)
-  pub number : (q : Q) → number_of kept (of (class q)) ≡ number_of kept (of q)
-  pub less : (q : Q) → number_of kept (of q) < count_of kept
+  pub state : (q : Q) → IsNumbered class of kept q
   pub each : (n : ℕ) → n < count_of kept → HasState class of kept n
 
 module _ {Q : Type 0} (g : Spaces) (guide : IsGuide g) (plan : Plan) (is_child : Bool → ℕ → Bool) (A : Automaton Q)
@@ -45,13 +49,13 @@ module _ {Q : Type 0} (g : Spaces) (guide : IsGuide g) (plan : Plan) (is_child :
   name s q = number_of (K s) (of q)
 
   named : (s : ℕ) (q : Q) → Stands class s q → known_of (K s) (name s q) ≡ of q
-  named s q stands = (kept s).known q ∙ ap of stands
+  named s q stands = ((kept s).state q).known ∙ ap of stands
 
   naming : IsNaming g (merged class A) (Stands class) (numbered_automaton g plan is_child) name
   naming = record {
-    initial = λ s there. (kept s).number (A.initial s) ∙ ap (number_of (K s)) (initial s);
+    initial = λ s there. ((kept s).state (A.initial s)).number ∙ ap (number_of (K s)) (initial s);
     step = λ s p q label there in_p in_q.
-        (kept s).number (A.step s p q label)
+        ((kept s).state (A.step s p q label)).number
         ∙ ap (number_of (K s)) (sym (step s p q label))
         ∙ (λ i. number_of (K s) (known_step plan.form (sym (named (left g s) p in_p) i) (sym (named (right g s) q in_q) i)
         (label plan.first) (label plan.second)));
@@ -63,5 +67,5 @@ module _ {Q : Type 0} (g : Spaces) (guide : IsGuide g) (plan : Plan) (is_child :
       IsMinimalOf-named g guide (merged class A) (Stands class) f of_A (numbered_automaton g plan is_child) (Below (counts_of plan is_child)) name naming
       (λ s x there. (
         (λ in_M. let h = (kept s).each x (ltb-true x (counts_of plan is_child s) in_M) in (h.state, h.stands, h.number)),
-        (λ h. subst (λ y. Below (counts_of plan is_child) s y) h.2 (lt-ltb (name s h.0) (counts_of plan is_child s) ((kept s).less h.0))),
+        (λ h. subst (λ y. Below (counts_of plan is_child) s y) h.2 (lt-ltb (name s h.0) (counts_of plan is_child s) (((kept s).state h.0).less))),
       ))

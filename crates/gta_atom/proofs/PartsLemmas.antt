@@ -120,7 +120,8 @@ module _ (g : Spaces) (plan : Plan) (is_child : Bool → ℕ → Bool) where
     states = λ n root label at. keeps.states root label (are.valid n root at) ∙ are.states n root label at;
   }
 
-  pub IsPartIn-kept : (old new : Contents) (s : ℕ) (part : SpacePart) → Keeps old new → IsPartIn g plan is_child old s part → IsPartIn g plan is_child new s part
+  pub IsPartIn-kept : (old new : Contents) (s : ℕ) (part : SpacePart) → Keeps old new → IsPartIn g plan is_child old s part →
+      IsPartIn g plan is_child new s part
   IsPartIn-kept old new s part keeps is = record {
     states = is.states;
     initial = is.initial;

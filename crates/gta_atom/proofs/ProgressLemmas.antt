@@ -262,12 +262,13 @@ module _ (IsPart : Function → Type 0) (old new : Contents) (track : ℕ) (low 
     (part : IsPart (choice_of old track low high))
     (value : IfOk {E = Full} result (λ made. (label : Label) → state_of new made label ≡ choice_of old track low high label))
     (valid : IfOk {E = Full} result (IsValid new)) (keeps : Keeps old new) (only : IfOk {E = Full} result (AddsOnly old new))
-    (count : IfOk {E = Full} result (λ made. count_of new ≡ (if is_valid old made then count_of old else count_of old + 1))) (same_limit : limit_of new ≡ limit_of old) (tables : SameTables old new)
-    (now : IsShelf new) (err : OnErr result (new ≡ old)) where
+    (count : IfOk {E = Full} result (λ made. count_of new ≡ (if is_valid old made then count_of old else count_of old + 1)))
+    (same_limit : limit_of new ≡ limit_of old) (tables : SameTables old new) (now : IsShelf new) (err : OnErr result (new ≡ old)) where
   made-part : (made : NodeRef) → result ≡ Ok made → IsPart (state_of new made)
   made-part made is =
       let v : IfOk {E = Full} (Ok made) (λ (r : NodeRef). (label : Label) → state_of new r label ≡ choice_of old track low high label) =
-      subst (λ (o : Result NodeRef Full). IfOk {E = Full} o (λ (r : NodeRef). (label : Label) → state_of new r label ≡ choice_of old track low high label)) is value in
+      subst (λ (o : Result NodeRef Full). IfOk {E = Full} o (λ (r : NodeRef). (label : Label) → state_of new r label ≡ choice_of old track low high label))
+      is value in
       subst IsPart (sym (fun_ext v)) part
 
   only-made : (made : NodeRef) → result ≡ Ok made → AddsOnly old new made
@@ -277,7 +278,9 @@ module _ (IsPart : Function → Type 0) (old new : Contents) (track : ℕ) (low 
   valid-made made is = subst (λ (o : Result NodeRef Full). IfOk {E = Full} o (IsValid new)) is valid
 
   count-made : (made : NodeRef) → result ≡ Ok made → count_of new ≡ (if is_valid old made then count_of old else count_of old + 1)
-  count-made made is = subst (λ (o : Result NodeRef Full). IfOk {E = Full} o (λ r. count_of new ≡ (if is_valid old r then count_of old else count_of old + 1))) is count
+  count-made made is =
+      subst (λ (o : Result NodeRef Full). IfOk {E = Full} o (λ r. count_of new ≡ (if is_valid old r then count_of old else count_of old + 1)))
+      is count
 
   same-err : (why : Full) → result ≡ Err why → new ≡ old
   same-err why is = subst (λ (o : Result NodeRef Full). OnErr o (new ≡ old)) is err
@@ -286,7 +289,8 @@ module _ (IsPart : Function → Type 0) (old new : Contents) (track : ℕ) (low 
   Adds-make = pick result refl
     where
       pick : (o : Result NodeRef Full) → result ≡ o → Adds IsPart old new
-      pick (Ok made) is = Adds-made IsPart old new made now keeps tables same_limit (only-made made is) (valid-made made is) (count-made made is) (made-part made is)
+      pick (Ok made) is = Adds-made IsPart old new made now keeps tables same_limit
+          (only-made made is) (valid-made made is) (count-made made is) (made-part made is)
       pick (Err why) is = subst (Adds IsPart old) (sym (same-err why is)) (Adds-none IsPart old before)
 
   pub IsStuck-make : IsSideFor old track low → IsSideFor old track high → IsErr result ↔ IsFullFor old track low high → OnErr result (IsStuck IsPart new)

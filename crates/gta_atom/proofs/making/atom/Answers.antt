@@ -8,13 +8,15 @@ use Rattle.gta_atom.proofs.making.atom.Goals as goal
 
 pub build-requires : goal.build-requires
 build-requires c =
-    IsGiven-parts c.args.g.now c.plan_of-plan.result (test_of c.in_ok-test.test) c.children.ensures.guide c.in_ok-test.ensures c.args.f.now c.plan_of-plan.ensures
-    c.parts.new.shelf c.in_ok-spaces.spaces c.in_ok-accepting.accepting c.in_ok-spaces.ensures.many c.in_ok-spaces.ensures.parts c.in_ok-accepting.ensures
+    IsGiven-parts c.args.g.now c.plan_of-plan.result (test_of c.in_ok-test.test) c.children.ensures.guide c.in_ok-test.ensures
+    c.args.f.now c.plan_of-plan.ensures c.parts.new.shelf c.in_ok-spaces.spaces c.in_ok-accepting.accepting
+    c.in_ok-spaces.ensures.many c.in_ok-spaces.ensures.parts c.in_ok-accepting.ensures
 
 pub returns-clause-minimal : goal.returns-clause-minimal
 returns-clause-minimal c =
-    IsMinimalOf-built c.args.g.now c.plan_of-plan.result (test_of c.in_ok-test.test) c.children.ensures.guide c.in_ok-test.ensures c.args.f.now c.plan_of-plan.ensures
-    c.parts.new.shelf c.in_ok-spaces.spaces c.in_ok-accepting.accepting c.in_ok-spaces.ensures.many c.in_ok-spaces.ensures.parts c.in_ok-accepting.ensures
+    IsMinimalOf-built c.args.g.now c.plan_of-plan.result (test_of c.in_ok-test.test) c.children.ensures.guide c.in_ok-test.ensures
+    c.args.f.now c.plan_of-plan.ensures c.parts.new.shelf c.in_ok-spaces.spaces c.in_ok-accepting.accepting
+    c.in_ok-spaces.ensures.many c.in_ok-spaces.ensures.parts c.in_ok-accepting.ensures
     c.build.new.shelf c.in_ok-auto.auto c.in_ok-auto.ensures.same c.in_ok-auto.ensures.states
 
 pub returns-clause-table : goal.returns-clause-table
