@@ -45,7 +45,7 @@ module _ {K : Type 0} (eq : K → K → Bool) (asked : K → Asking) (is_in : K 
     works-found r there = record {
       progress = works.progress;
       kept = works.kept;
-      underway = record { focus = asked key; result = works.kept key r there; waits = works.underway.1 };
+      underway = record { focus = asked key; result = (works.kept key r there).stands; waits = works.underway.1 };
     }
 
     given_here : (states : List ℕ) → ((label : Label) → asked key label ≡ states) → IsGiven call.whole states
@@ -71,14 +71,14 @@ module _ {K : Type 0} (eq : K → K → Bool) (asked : K → Asking) (is_in : K 
       }
 
       -- the rule has answered
-      pub works-leaf : (after : Memo K) (made : NodeRef) (answer : ℕ) → Respects eq asked → IsLeaf made answer →
+      pub works-leaf : (after : Memo K) (made : NodeRef) (answer : ℕ) → Respects eq asked is_in → IsLeaf made answer →
           more states ≡ Some answer → Updates eq memo after key (Some made) →
           Works eq asked is_in call shelf more after stack (Done made)
       works-leaf after made answer respects leaf answered updates =
           let stands = Stands-leaf shelf more (asked key) made states answer leaf answered asks in
           record {
             progress = progress-leaf;
-            kept = IsMemo-insert eq asked shelf shelf answers more (Keeps-refl shelf) kept memo after key made respects works.kept stands updates;
+            kept = IsMemo-insert eq asked is_in shelf shelf answers more (Keeps-refl shelf) kept memo after key made respects works.underway.0.inside works.kept stands updates;
             underway = record {
               focus = asked key;
               result = stands;
@@ -94,7 +94,7 @@ module _ {K : Type 0} (eq : K → K → Bool) (asked : K → Asking) (is_in : K 
       kept = works.kept;
       underway = (
         record { inside = step.goes.inside; part = IsPart-same call.whole (asked key) (asked next) step.same works.underway.0.part },
-        AllWait-push asked is_in call.whole shelf answers stack (Skip key) (asked next) step.same works.underway.1,
+        AllWait-push asked is_in call.whole shelf answers stack (Skip key) (asked next) (record { inside = works.underway.0.inside; same = step.same }) works.underway.1,
       );
     }
 
@@ -108,6 +108,7 @@ module _ {K : Type 0} (eq : K → K → Bool) (asked : K → Asking) (is_in : K 
         record { inside = step.low_goes.inside; part = IsPart-low call.whole (asked key) (asked low) (asked high) track step.split works.underway.0.part },
         AllWait-push asked is_in call.whole shelf answers stack (Low key track high) (asked low)
             (record {
+              inside = works.underway.0.inside;
               part = works.underway.0.part;
               due = record {
                 inside = step.high_goes.inside;
@@ -123,9 +124,9 @@ module _ {K : Type 0} (eq : K → K → Bool) (asked : K → Asking) (is_in : K 
 -- the whole is due at the start
 pub works-start : {K : Type 0} (eq : K → K → Bool) (asked : K → Asking) (is_in : K → Bool) (call : Call)
     (memo : Memo K) (key : K) → call.whole ≡ asked key → IsTrue (is_in key) → IsShelf call.shelf →
-    ((other : K) → get eq memo other ≡ None) → Works eq asked is_in call call.shelf call.answers memo [] (Visit key)
-unfolding IsMemo AllWait AsksSame
-works-start eq asked is_in call memo key whole inside is_shelf empty = record {
+    IsMemo eq asked is_in call.shelf call.answers memo → Works eq asked is_in call call.shelf call.answers memo [] (Visit key)
+unfolding AllWait AsksSame
+works-start eq asked is_in call memo key whole inside is_shelf is_memo = record {
   progress = record {
     before = is_shelf;
     now = is_shelf;
@@ -136,7 +137,7 @@ works-start eq asked is_in call memo key whole inside is_shelf empty = record {
     answers_kept = λ states answer was. was;
     only = λ states answer there absent. absurd (let e : None ≡ Some answer = sym absent ∙ there in cc);
   };
-  kept = λ other r there. absurd (let e : None ≡ Some r = sym (empty other) ∙ there in cc);
+  kept = is_memo;
   underway = (
     record { inside = inside; part = subst (IsPart call.whole) whole (IsPart-whole call.whole) },
     λ label. ap (λ (asking : Asking). asking label) whole,
@@ -158,21 +159,21 @@ module _ {K : Type 0} (eq : K → K → Bool) (asked : K → Asking) (is_in : K 
         underway = (
           record { inside = waits.0.due.inside; part = waits.0.due.part },
           AllWait-push asked is_in call.whole shelf answers stack (High key track made) (asked high)
-              (record { part = waits.0.part; side = works.underway.focus; stands = works.underway.result; split = waits.0.split }) waits.1,
+              (record { inside = waits.0.inside; part = waits.0.part; side = works.underway.focus; stands = works.underway.result; split = waits.0.split }) waits.1,
         );
       }
 
   -- the key past a dropped track has its result
-  pub works-past : (key : K) (after : Memo K) → Respects eq asked →
+  pub works-past : (key : K) (after : Memo K) → Respects eq asked is_in →
       Works eq asked is_in call shelf answers memo (stack ++ Skip key ∷ []) (Done made) →
       Updates eq memo after key (Some made) → Works eq asked is_in call shelf answers after stack (Done made)
   works-past key after respects works updates =
       let waits = AllWait-pop asked is_in call.whole shelf answers stack (Skip key) works.underway.focus works.underway.waits in
-      let stands = Stands-same shelf answers (asked key) works.underway.focus made waits.0 works.underway.result in
+      let stands = Stands-same shelf answers (asked key) works.underway.focus made waits.0.same works.underway.result in
       record {
         progress = works.progress;
-        kept = IsMemo-insert eq asked shelf shelf answers answers (Keeps-refl shelf)
-            (λ states answer was. was) memo after key made respects works.kept stands updates;
+        kept = IsMemo-insert eq asked is_in shelf shelf answers answers (Keeps-refl shelf)
+            (λ states answer was. was) memo after key made respects waits.0.inside works.kept stands updates;
         underway = record { focus = asked key; result = stands; waits = waits.1 };
       }
 
@@ -223,11 +224,11 @@ module _ {K : Type 0} (eq : K → K → Bool) (asked : K → Asking) (is_in : K 
         only = works.progress.only;
       }
 
-      pub works-made : (after : Memo K) → Respects eq asked → Updates eq memo after key (Some node) →
+      pub works-made : (after : Memo K) → Respects eq asked is_in → Updates eq memo after key (Some node) →
           Works eq asked is_in call new answers after stack (Done node)
       works-made after respects updates = record {
         progress = progress-made;
-        kept = IsMemo-insert eq asked shelf new answers answers keeps (λ states answer was. was) memo after key node respects works.kept stands updates;
+        kept = IsMemo-insert eq asked is_in shelf new answers answers keeps (λ states answer was. was) memo after key node respects waits_on_top.0.inside works.kept stands updates;
         underway = record {
           focus = asked key;
           result = stands;

@@ -46,5 +46,5 @@ pub record Progress (call : Call) (shelf : Contents) (answers : Answers) : Type 
 pub record Works {K : Type 0} (eq : K → K → Bool) (asked : K → Asking) (is_in : K → Bool) (call : Call)
     (shelf : Contents) (answers : Answers) (memo : Memo K) (stack : List (Frame K)) (turn : Turn K) : Type 0 where
   pub progress : Progress call shelf answers
-  pub kept : IsMemo eq asked shelf answers memo
+  pub kept : IsMemo eq asked is_in shelf answers memo
   pub underway : IsUnderway asked is_in shelf answers call.whole stack turn

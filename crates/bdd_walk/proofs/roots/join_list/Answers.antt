@@ -8,4 +8,4 @@ use Rattle.bdd_walk.proofs.roots.join_list.Goals as goal
 pub returns-clause-limit : goal.returns-clause-limit
 returns-clause-limit g c = λ stopped given completes.
     subst (λ (rs : List NodeRef). Exceeds c.args.shelf.now (λ (label : Label). given (leaves_of c.args.shelf.now rs label))) c.in_ok-all.ensures.items
-    (c.join_from.ensures.limit stopped given completes)
+    (c.join_kept.ensures.limit stopped given completes)

@@ -1,7 +1,9 @@
-use Rattle.std.proofs.Common.{ℕ, Option, sym, subst}
+use Rattle.std.proofs.Common.{ℕ, Option, OnOk, sym, subst}
 use Rattle.labels.specs.Labels.{Label}
 use Rattle.bdd_walk.specs.Asked.{asked_of}
 use Rattle.bdd_walk.specs.Under.{Exceeds}
+use Rattle.bdd_walk.specs.Fits.{FitsMany}
+use Rattle.bdd_walk.proofs.FitsLemmas.{Fits-kept, fits-many}
 use Rattle.bdd_walk.proofs.roots.join_roots.Goals as goal
 
 pub join_dropped-requires-clause-may_ask : goal.join_dropped-requires-clause-may_ask
@@ -27,3 +29,13 @@ returns-in-None-clause-limit g c = λ stopped given completes.
     Exceeds c.args.shelf.now (λ (label : Label).
     given (asked_of c.args.shelf.now c.args.roots.now dropped label))) (sym c.in-None.is)
     (c.join_plain.ensures.limit stopped given completes)
+
+pub returns-in-Some-clause-fits : goal.returns-in-Some-clause-fits
+returns-in-Some-clause-fits g c =
+    let progress = c.join_dropped.ensures.progress in
+    let answers = g.L.LeafRule.answers c.join_dropped.new.rule in
+    let kept = Fits-kept c.args.shelf.now c.join_dropped.new.shelf (g.L.LeafRule.answers c.args.rule.now) answers
+        progress.keeps progress.answers_kept c.args.joiner.now c.args.dropped c.requires.fits in
+    let there = subst (λ (dropped : Option ℕ). OnOk c.join_dropped.result (FitsMany dropped c.join_dropped.new.shelf answers c.join_dropped.new.kept.memo))
+        (sym c.in-Some.is) c.join_dropped.ensures.fits in
+    fits-many c.args.joiner.now c.args.dropped c.join_dropped.new.shelf answers kept c.join_dropped.new.kept c.join_dropped.result there

@@ -1,0 +1,5 @@
+pub mod NumbersLemmas
+pub mod ClassesLemmas
+pub mod ComplementLemmas
+pub mod FillingLemmas
+pub mod JoinsLemmas
