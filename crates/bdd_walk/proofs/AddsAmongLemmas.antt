@@ -72,9 +72,9 @@ module _ (first old : Contents) (before : Keeps first old) (wholes others : List
   pub AddsAmong-more : (new : Contents) → Keeps old new → AddsAmong first old wholes → AddsAmong old new others → AddsAmong first new (others ++ wholes)
   AddsAmong-more new keeps adds more =
       let earlier = λ (x : Function) (came : HasCome first old wholes x).
-          let r : HasCome first new (others ++ wholes) x = record { missing = earlier-missing x came.missing; has = Has-kept old new keeps x came.has } in r in
+      let r : HasCome first new (others ++ wholes) x = record { missing = earlier-missing x came.missing; has = Has-kept old new keeps x came.has } in r in
       let later = λ (y : Function) (came : HasCome old new others y).
-          let r : HasCome first new (others ++ wholes) y = record { missing = later-missing y came.missing; has = came.has } in r in
+      let r : HasCome first new (others ++ wholes) y = record { missing = later-missing y came.missing; has = came.has } in r in
       record {
         parts = adds.parts ++ more.parts;
         came = All-append (HasCome first new (others ++ wholes)) adds.parts more.parts

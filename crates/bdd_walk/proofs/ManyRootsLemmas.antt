@@ -266,9 +266,9 @@ module _ {K : Type 0} (refs : K → List NodeRef) (dropped : Option ℕ) (base n
       let half = half_of (refs key) in
       let step = IsSplit-many refs dropped half base now is_shelf keeps key halved track first low high other low_is high_is in
       let same_low : half ≡ half_of (refs low) =
-          ap (λ (n : ℕ). n / 2) (sym (ap length low_is ∙ length-map (refs key) (side_at now track false))) in
+      ap (λ (n : ℕ). n / 2) (sym (ap length low_is ∙ length-map (refs key) (side_at now track false))) in
       let same_high : half ≡ half_of (refs high) =
-          ap (λ (n : ℕ). n / 2) (sym (ap length high_is ∙ length-map (refs key) (side_at now track true))) in
+      ap (λ (n : ℕ). n / 2) (sym (ap length high_is ∙ length-map (refs key) (side_at now track true))) in
       record {
         low_goes = FallsTo-halved low step.low_goes;
         high_goes = FallsTo-halved high step.high_goes;
@@ -288,7 +288,7 @@ module _ {K : Type 0} (refs : K → List NodeRef) (dropped : Option ℕ) (base n
       let half = half_of (refs key) in
       let step = IsSkip-many refs dropped half base now is_shelf keeps key halved track first next here next_is in
       let same : half ≡ half_of (refs next) = ap (λ (n : ℕ). n / 2)
-          (sym (ap length next_is ∙ length-past (side_at now track false) (side_at now track true) half (refs key))) in
+      (sym (ap length next_is ∙ length-past (side_at now track false) (side_at now track true) half (refs key))) in
       record {
         goes = FallsTo-halved next step.goes;
         same = λ label. step.same label ∙ ap (λ (h : ℕ). asked_by base dropped h (refs next) label) same;

@@ -55,7 +55,7 @@ pub varies-choice : (shelf : Contents) (track : ℕ) (low high : NodeRef) → Is
     IsSideFor shelf track low → IsSideFor shelf track high → low ≢ high → Varies (choice_of shelf track low high)
 varies-choice shelf track low high is_shelf low_side high_side differ =
     let apart = differ_named shelf.nodes is_shelf.canonical (node_of low) (node_of high) low_side.valid high_side.valid
-        (λ same. differ (node_of-injective low high same)) in
+    (λ same. differ (node_of-injective low high same)) in
     record {
       one = with_track apart.0 track false;
       other = with_track apart.0 track true;

@@ -2,7 +2,8 @@
 use Rattle.std.proofs.Common.{◌≡◌, Bool, List, [], ◌∷◌, ◌++◌, reverse, Some, None, IsTrue, cond, sym, ◌∙◌, ap, subst, inl, inr}
 use Rattle.std.proofs.lemmas.Bool.{cases_Bool}
 use Rattle.std.proofs.lemmas.List.{reverse-append}
-use Rattle.std.specs.HashMap.{get, Updates}
+use Rattle.std.specs.HashMap.{get, IsEmpty, Updates}
+use Rattle.std.specs.Map.{lookup}
 use Rattle.bdd_nodes.specs.declared.node_ref.NodeRef.{NodeRef}
 use Rattle.bdd_nodes.specs.Shelf.{Contents}
 use Rattle.bdd_nodes.specs.Changes.{Keeps}
@@ -60,10 +61,11 @@ IsMemo-seen {K} eq asked other is_in in_other old new answers more memo keeps ke
 
 -- an empty memo has no results
 pub IsMemo-none : {K : Type 0} (eq : K → K → Bool) (asked : K → Asking) (is_in : K → Bool) (shelf : Contents)
-    (answers : Answers) (memo : Memo K) → ((key : K) → get eq memo key ≡ None) → IsMemo eq asked is_in shelf answers memo
+    (answers : Answers) (memo : Memo K) → IsEmpty memo → IsMemo eq asked is_in shelf answers memo
 unfolding IsMemo
-IsMemo-none eq asked is_in shelf answers memo empty = λ key r there.
-    absurd (let e : None ≡ Some r = sym (empty key) ∙ there in cc)
+IsMemo-none {K} eq asked is_in shelf answers memo empty = λ key r there.
+    let none : get eq memo key ≡ None = ap (λ (entries : List (K × NodeRef)). lookup (eq key) entries) empty in
+    absurd (let e : None ≡ Some r = sym none ∙ there in cc)
 
 module _ {K : Type 0} (asked : K → Asking) (is_in : K → Bool) (whole : Asking) where
   -- what waits goes on waiting

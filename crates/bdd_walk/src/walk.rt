@@ -212,7 +212,15 @@ pub(crate) fn join_kept<W: Walk, L: LeafRule>(
     let mut turn = Turn::Visit(start);
     loop {
         turn = match turn {
-            Turn::Visit(key) => visit(alloc, walk, shelf, rule, &mut kept.memo, &mut kept.stack, key)?,
+            Turn::Visit(key) => visit(
+                alloc,
+                walk,
+                shelf,
+                rule,
+                &mut kept.memo,
+                &mut kept.stack,
+                key,
+            )?,
             Turn::Done(made) => match kept.stack.pop() {
                 None => return Ok(made),
                 Some(frame) => resume(shelf, &mut kept.memo, &mut kept.stack, frame, made)?,

@@ -3,3 +3,4 @@ pub mod ClassesLemmas
 pub mod ComplementLemmas
 pub mod FillingLemmas
 pub mod JoinsLemmas
+pub mod LimitLemmas

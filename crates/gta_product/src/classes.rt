@@ -16,7 +16,7 @@ pub(crate) struct Classes {
 }
 
 /// The classes of pairs, by the classes of their first states and of their second states.
-pub(crate) fn classes(
+pub(crate) fn classify(
     alloc: Global,
     pairs: &[(u32, u32)],
     left: &[u32],

@@ -2,10 +2,10 @@
 #![tactic(auto)]
 
 mod classes;
-mod complement;
 mod filling;
 mod numbering;
-mod product;
+mod pairing;
+mod turning;
 
-pub use complement::complement;
-pub use product::product;
+pub use pairing::product;
+pub use turning::complement;

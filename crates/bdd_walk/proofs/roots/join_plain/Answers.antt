@@ -54,7 +54,7 @@ returns-in-len1-clause-fits g c =
     let progress = c.join_kept.ensures.progress in
     let answers = g.L.LeafRule.answers c.join_kept.new.rule in
     let kept = Fits-kept c.args.shelf.now c.join_kept.new.shelf (g.L.LeafRule.answers c.args.rule.now) answers
-        progress.keeps progress.answers_kept c.args.joiner.now None c.requires.fits in
+    progress.keeps progress.answers_kept c.args.joiner.now None c.requires.fits in
     fits-one c.args.joiner.now None c.join_kept.new.shelf answers kept c.join_kept.new.kept c.join_kept.result c.join_kept.ensures.fits
 
 pub returns-in-len2-clause-fits : goal.returns-in-len2-clause-fits
@@ -62,7 +62,7 @@ returns-in-len2-clause-fits g c =
     let progress = c.join_kept-in-len2.ensures.progress in
     let answers = g.L.LeafRule.answers c.join_kept-in-len2.new.rule in
     let kept = Fits-kept c.args.shelf.now c.join_kept-in-len2.new.shelf (g.L.LeafRule.answers c.args.rule.now) answers
-        progress.keeps progress.answers_kept c.args.joiner.now None c.requires.fits in
+    progress.keeps progress.answers_kept c.args.joiner.now None c.requires.fits in
     fits-two c.args.joiner.now None c.join_kept-in-len2.new.shelf answers kept c.join_kept-in-len2.new.kept c.join_kept-in-len2.result c.join_kept-in-len2.ensures.fits
 
 pub returns-in_default-clause-fits : goal.returns-in_default-clause-fits
@@ -70,5 +70,5 @@ returns-in_default-clause-fits g c =
     let progress = c.join_list.ensures.progress in
     let answers = g.L.LeafRule.answers c.join_list.new.rule in
     let kept = Fits-kept c.args.shelf.now c.join_list.new.shelf (g.L.LeafRule.answers c.args.rule.now) answers
-        progress.keeps progress.answers_kept c.args.joiner.now None c.requires.fits in
+    progress.keeps progress.answers_kept c.args.joiner.now None c.requires.fits in
     fits-many c.args.joiner.now None c.join_list.new.shelf answers kept c.join_list.new.kept c.join_list.result c.join_list.ensures.fits

@@ -35,7 +35,7 @@ returns-in-Some-clause-fits g c =
     let progress = c.join_dropped.ensures.progress in
     let answers = g.L.LeafRule.answers c.join_dropped.new.rule in
     let kept = Fits-kept c.args.shelf.now c.join_dropped.new.shelf (g.L.LeafRule.answers c.args.rule.now) answers
-        progress.keeps progress.answers_kept c.args.joiner.now c.args.dropped c.requires.fits in
+    progress.keeps progress.answers_kept c.args.joiner.now c.args.dropped c.requires.fits in
     let there = subst (λ (dropped : Option ℕ). OnOk c.join_dropped.result (FitsMany dropped c.join_dropped.new.shelf answers c.join_dropped.new.kept.memo))
-        (sym c.in-Some.is) c.join_dropped.ensures.fits in
+    (sym c.in-Some.is) c.join_dropped.ensures.fits in
     fits-many c.args.joiner.now c.args.dropped c.join_dropped.new.shelf answers kept c.join_dropped.new.kept c.join_dropped.result there

@@ -3,7 +3,7 @@ use Rattle.bdd_nodes.specs.Shelf.{Contents}
 use Rattle.gta_core.specs.Auto.{AutoView, states_of, automaton_of, IsAuto}
 use Rattle.gta_product.specs.Complement.{IsComplement}
 use Rattle.gta_product.proofs.ComplementLemmas.{turned, IsAuto-turned, IsComplement-turned, Accepts-turned}
-use Rattle.gta_product.proofs.complement.complement.Goals as goal
+use Rattle.gta_product.proofs.turning.complement.Goals as goal
 
 pub returns-clause-auto : goal.returns-clause-auto
 returns-clause-auto c = λ g shelf auto. subst (IsAuto g shelf) (sym c.turned_over.ensures.value) (IsAuto-turned c.args.a c.turned_over.ensures.whole g shelf auto)

@@ -1,0 +1,206 @@
+//! The product: pairs of states, as they are reached.
+
+ghost use Rattle.std.specs.Prelude.{◌≡◌, ◌<◌, ◌+◌, ◌^◌, ◌&&◌, ℕ, Bool, List, [], length, map, None, Some, Err, All, IfOk, OnOk, OnErr, slice_get, unwrap_or, ◌↔◌};
+ghost use Rattle.bdd_nodes.specs.Shelf.{Contents, IsShelf, IsValid, count_of, limit_of};
+ghost use Rattle.bdd_nodes.specs.Changes.{Keeps, SameTables};
+ghost use Rattle.gta_theory.specs.Assignments.{Assignment};
+ghost use Rattle.gta_theory.specs.Guides.{Spaces, IsGuide, IsSpace, left, right};
+ghost use Rattle.gta_theory.specs.Automata.{Automaton, Accepts, Has};
+ghost use Rattle.gta_theory.specs.Constructions.{IsProduct, pairs};
+ghost use Rattle.gta_theory.specs.Sizes.{SizeOf};
+ghost use Rattle.gta_core.specs.Auto.{states_of, initial_of, is_accepting, automaton_of, IsAuto};
+ghost use Rattle.gta_core.specs.Changes.{RegistersTable};
+ghost use Rattle.gta_product.specs.Product.{IsProductOf};
+
+use crate::classes::classify;
+use crate::filling::fill;
+use crate::numbering::Numbering;
+use bdd_nodes::{RefList, Shelf};
+use bdd_walk::{Joiner, NoMemory, Stop};
+use gta_core::{Auto, BoolList, Part};
+use plain_data::Items;
+use std::alloc::{AllocError, Global};
+use ws2s_core::Guide;
+
+/// The automaton of pairs of states, which accepts what both accept. Its states are exactly the pairs that are reached.
+///
+/// # Errors
+///
+/// `Limit` only where the nodes at the call and the Size of the product are more than the limit. Want of memory, also
+/// where a space has more pairs than there are state numbers, or the roots are more than a `u32` counts. After a stop no
+/// table is left.
+pub fn product(
+    alloc: Global,
+    g: &Guide,
+    a: &Auto,
+    b: &Auto,
+    shelf: &mut Shelf,
+) -> Result<Auto, Stop>
+    requires first { IsAuto g.now shelf.old a.now }
+    requires second { IsAuto g.now shelf.old b.now }
+
+    // The result.
+    ensures auto { IfOk result (IsAuto g.now shelf.new) }
+    ensures product { IfOk result (λ c. IsProductOf g.now (automaton_of shelf.old a.now) (automaton_of shelf.old b.now)
+        (automaton_of shelf.new c) (states_of c)) }
+    ensures accepts { IfOk result (λ c. (assignment : Assignment) → Accepts g.now (automaton_of shelf.new c) assignment
+        ↔ (Accepts g.now (automaton_of shelf.old a.now) assignment × Accepts g.now (automaton_of shelf.old b.now) assignment)) }
+    ensures table { IfOk result (λ c. RegistersTable shelf.old shelf.new c.table) }
+    ensures limit { result ≡ Err Stop.Limit → (C : Automaton ℕ) (states : ℕ → ℕ → Bool) (pair : ℕ → ℕ → ℕ × ℕ) (size : ℕ) →
+        IsProduct g.now (automaton_of shelf.old a.now) (automaton_of shelf.old b.now) C (Has states) pair →
+        SizeOf g.now C (Has states) size → limit_of shelf.old < count_of shelf.old + size }
+
+    // What the call leaves, whatever it answers.
+    ensures kept { Keeps shelf.old shelf.new }
+    ensures tables { OnErr result (SameTables shelf.old shelf.new) }
+    ensures same_limit { limit_of shelf.new ≡ limit_of shelf.old }
+    ensures shelf { IsShelf shelf.new }
+{
+    let mut numbers = start(alloc, g, a, b)?;
+    let mut joiners = joiners(alloc, g)?;
+    for _ in 0..u64::MAX {
+        let before = counts(alloc, &numbers)?;
+        let mut roots = RefList::new(alloc);
+        let parts = parts_of(alloc, g, a, b, shelf, &mut joiners, &mut numbers, &mut roots)?;
+        if counts(alloc, &numbers)?.as_slice() == before.as_slice() {
+            let accepting = accepting(alloc, a, b, &numbers)?;
+            return Ok(Auto::from_parts(parts, accepting, roots, shelf)?);
+        }
+    }
+    Err(Stop::NoMemory)
+}
+
+/// The initial pair of each space.
+fn start(alloc: Global, g: &Guide, a: &Auto, b: &Auto) -> Result<Vec<Numbering>, NoMemory> {
+    let mut spaces = Vec::new(alloc);
+    for space in 0..g.spaces() {
+        let mut numbers = Numbering::new(alloc);
+        numbers.number((initial(a, space), initial(b, space)))?;
+        spaces.push(numbers)?;
+    }
+    Ok(spaces)
+}
+
+/// The initial state of a space; 0 for an unknown one.
+fn initial(a: &Auto, space: u32) -> u32
+    ensures { result ≡ initial_of a.now space }
+{
+    match a.parts().get(space as usize) {
+        Some(part) => part.initial,
+        None => 0,
+    }
+}
+
+/// A joiner for each space.
+fn joiners(alloc: Global, g: &Guide) -> Result<Vec<Joiner>, NoMemory> {
+    let mut joiners = Vec::new(alloc);
+    for _ in 0..g.spaces() {
+        joiners.push(Joiner::new(alloc))?;
+    }
+    Ok(joiners)
+}
+
+/// How many pairs each space has.
+fn counts(alloc: Global, spaces: &Vec<Numbering>) -> Result<Items<u64>, NoMemory> {
+    let mut counts = Items::new(alloc);
+    for numbers in spaces {
+        counts.push(numbers.len() as u64)?;
+    }
+    Ok(counts)
+}
+
+/// Which pairs of space 0 are accepting: those of two accepting states.
+fn accepting(
+    alloc: Global,
+    a: &Auto,
+    b: &Auto,
+    spaces: &Vec<Numbering>,
+) -> Result<BoolList, NoMemory> {
+    let mut accepting = BoolList::new(alloc);
+    for pair in spaces[0].as_slice() {
+        let both = a.accepting(pair.0).unwrap_or(false) && b.accepting(pair.1).unwrap_or(false);
+        accepting.push(both)?;
+    }
+    Ok(accepting)
+}
+
+/// The parts of all spaces, for the pairs so far.
+#[allow(clippy::too_many_arguments)]
+fn parts_of(
+    alloc: Global,
+    g: &Guide,
+    a: &Auto,
+    b: &Auto,
+    shelf: &mut Shelf,
+    joiners: &mut Vec<Joiner>,
+    numbers: &mut Vec<Numbering>,
+    roots: &mut RefList,
+) -> Result<Items<Part>, Stop> {
+    let mut parts = Items::new(alloc);
+    for space in 0..g.spaces() {
+        let part = part_of(alloc, g, a, b, shelf, space, joiners, numbers, roots)?;
+        parts.push(part)?;
+    }
+    Ok(parts)
+}
+
+/// The part of a space, for the pairs of its children so far.
+#[allow(clippy::too_many_arguments)]
+fn part_of(
+    alloc: Global,
+    g: &Guide,
+    a: &Auto,
+    b: &Auto,
+    shelf: &mut Shelf,
+    space: u32,
+    joiners: &mut Vec<Joiner>,
+    numbers: &mut Vec<Numbering>,
+    roots: &mut RefList,
+) -> Result<Part, Stop> {
+    let at = space as usize;
+    let children = g.children(space).unwrap_or((0, 0));
+    let (first, second) = (&a.parts()[at], &b.parts()[at]);
+    let lefts = numbers[children.0 as usize].as_slice();
+    let rows = classify(alloc, lefts, first.rows.as_slice(), second.rows.as_slice())?;
+    let rights = numbers[children.1 as usize].as_slice();
+    let columns = classify(alloc, rights, first.columns.as_slice(), second.columns.as_slice())?;
+    if roots.len() > u32::MAX as usize {
+        return Err(Stop::NoMemory);
+    }
+    let start = roots.len() as u32;
+    fill(
+        alloc,
+        a,
+        b,
+        shelf,
+        space,
+        rows.ones.as_slice(),
+        columns.ones.as_slice(),
+        &mut joiners[at],
+        &mut numbers[at],
+        roots,
+    )?;
+    let many = roots.len() - start as usize;
+    Ok(Part {
+        states: numbers[at].len() as u32,
+        initial: 0,
+        children,
+        first: start,
+        rows: rows.of,
+        columns: columns.of,
+        width: columns.ones.len() as u32,
+        cells: count_up(alloc, many)?,
+    })
+}
+
+/// The numbers below.
+fn count_up(alloc: Global, many: usize) -> Result<Items<u32>, NoMemory> {
+    if many > u32::MAX as usize {
+        return Err(AllocError);
+    }
+    let mut numbers = Items::new(alloc);
+    for number in 0..many as u32 {
+        numbers.push(number)?;
+    }
+    Ok(numbers)
+}
