@@ -3,3 +3,4 @@ pub mod PlacingLemmas
 pub mod BuiltLemmas
 pub mod AcceptingLemmas
 pub mod SizeLemmas
+pub mod FlipLemmas

@@ -240,11 +240,12 @@ impl Auto {
 fn flipped(flags: BoolList) -> BoolList
     ensures { result ≡ map not flags }
 {
-    let mut flags = flags.into_vec();
-    for flag in flags.iter_mut() {
-        *flag = !*flag;
+    let mut turned = flags;
+    for place in 0..turned.len() {
+        let flag = turned.as_slice()[place];
+        turned.set(place, !flag);
     }
-    Items::from_vec(flags)
+    turned
 }
 
 /// The roots of a table; none for an unknown one.

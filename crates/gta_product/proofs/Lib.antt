@@ -4,3 +4,5 @@ pub mod ComplementLemmas
 pub mod FillingLemmas
 pub mod JoinsLemmas
 pub mod LimitLemmas
+pub mod CellsLemmas
+pub mod FinalLemmas

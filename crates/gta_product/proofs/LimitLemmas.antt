@@ -14,15 +14,10 @@ use Rattle.gta_theory.specs.Constructions.{pairs, IsProduct}
 use Rattle.gta_theory.specs.Generated.{Generated, starts, steps}
 use Rattle.gta_theory.specs.Sizes.{IsPart, sum_below, SizeOf}
 use Rattle.gta_theory.proofs.AutomataLemmas.{IsClosed-values, IsStable-product}
+use Rattle.gta_theory.proofs.ListsLemmas.{Contains-map}
 use Rattle.gta_theory.proofs.SizesLemmas.{length-partners}
 use Rattle.gta_product.specs.Filling.{asked_at}
 use Rattle.gta_product.specs.Building.{IsStepFunction, ExceedsSteps}
-
-Contains-over : {X Y : Type 0} (f : X → Y) (xs : List X) (x : X) → Contains xs x → Contains (map f xs) (f x)
-Contains-over f [] x there = absurd (let below = there.1 in omega arith)
-Contains-over f (y ∷ ys) x (zero, below, same) = (zero, omega arith, ap f same)
-Contains-over f (y ∷ ys) x (suc k, below, same) = let rest = Contains-over f ys x (k, omega arith, same) in
-    (suc rest.0, (let within = rest.1 in omega arith), rest.2)
 
 -- the parts of the spaces below a number, each with its space
 record ListsSpaces (g : Spaces) (C : Automaton ℕ) (has : ℕ → ℕ → Type 0) (below count : ℕ) : Type 0 where
@@ -44,7 +39,7 @@ module _ (g : Spaces) (C : Automaton ℕ) (has : ℕ → ℕ → Type 0) (n : �
           | inr last ↦ (let same : s ≡ m = omega arith in
               subst (λ (k : ℕ). Contains (before.parts ++ map tag here.parts) (k, f)) (sym same)
               (Contains-append_right before.parts (map tag here.parts) (m, f)
-              (Contains-over tag here.parts f ((here.all_parts).every f (subst (λ (k : ℕ). IsPart g C has k f) same part)))))
+              (Contains-map tag here.parts f ((here.all_parts).every f (subst (λ (k : ℕ). IsPart g C has k f) same part)))))
         ];
         few = omega (arith, length-append before.parts (map tag here.parts), length-map here.parts tag, before.few, here.is_sum);
       }

@@ -1,5 +1,6 @@
 //! The product: pairs of states, as they are reached.
 
+ghost use Rattle.std.specs.List.{range_with_len};
 ghost use Rattle.std.specs.Prelude.{◌≡◌, ◌<◌, ◌+◌, ◌^◌, ◌&&◌, ℕ, Bool, List, [], length, map, None, Some, Err, All, IfOk, OnOk, OnErr, slice_get, unwrap_or, ◌↔◌};
 ghost use Rattle.bdd_nodes.specs.Shelf.{Contents, IsShelf, IsValid, count_of, limit_of};
 ghost use Rattle.bdd_nodes.specs.Changes.{Keeps, SameTables};
@@ -10,7 +11,9 @@ ghost use Rattle.gta_theory.specs.Constructions.{IsProduct, pairs};
 ghost use Rattle.gta_theory.specs.Sizes.{SizeOf};
 ghost use Rattle.gta_core.specs.Auto.{states_of, initial_of, is_accepting, automaton_of, IsAuto};
 ghost use Rattle.gta_core.specs.Changes.{RegistersTable};
+ghost use Rattle.gta_core.specs.Placing.{Grows};
 ghost use Rattle.gta_product.specs.Product.{IsProductOf};
+ghost use Rattle.gta_product.specs.Building.{AreSpaces, FitAll, ExtendAll, Building, CompleteAll, ExceedsSteps, IsPartOf, AreParts};
 
 use crate::classes::classify;
 use crate::filling::fill;
@@ -63,7 +66,7 @@ pub fn product(
         let mut roots = RefList::new(alloc);
         let parts = parts_of(alloc, g, a, b, shelf, &mut joiners, &mut numbers, &mut roots)?;
         if counts(alloc, &numbers)?.as_slice() == before.as_slice() {
-            let accepting = accepting(alloc, a, b, &numbers)?;
+            let accepting = accepting(alloc, a, b, numbers[0].as_slice())?;
             return Ok(Auto::from_parts(parts, accepting, roots, shelf)?);
         }
     }
@@ -71,7 +74,10 @@ pub fn product(
 }
 
 /// The initial pair of each space.
-fn start(alloc: Global, g: &Guide, a: &Auto, b: &Auto) -> Result<Vec<Numbering>, NoMemory> {
+fn start(alloc: Global, g: &Guide, a: &Auto, b: &Auto) -> Result<Vec<Numbering>, NoMemory>
+    ensures { IfOk result (λ spaces. (shelf : Contents) →
+        AreSpaces g.now (pairs (automaton_of shelf a.now) (automaton_of shelf b.now)) spaces.items) }
+{
     let mut spaces = Vec::new(alloc);
     for space in 0..g.spaces() {
         let mut numbers = Numbering::new(alloc);
@@ -92,7 +98,10 @@ fn initial(a: &Auto, space: u32) -> u32
 }
 
 /// A joiner for each space.
-fn joiners(alloc: Global, g: &Guide) -> Result<Vec<Joiner>, NoMemory> {
+fn joiners(alloc: Global, g: &Guide) -> Result<Vec<Joiner>, NoMemory>
+    ensures { IfOk result (λ joiners. (shelf : Contents) (spaces : List (List (ℕ × ℕ))) → length spaces ≡ length g.now →
+        FitAll shelf joiners.items spaces) }
+{
     let mut joiners = Vec::new(alloc);
     for _ in 0..g.spaces() {
         joiners.push(Joiner::new(alloc))?;
@@ -101,7 +110,9 @@ fn joiners(alloc: Global, g: &Guide) -> Result<Vec<Joiner>, NoMemory> {
 }
 
 /// How many pairs each space has.
-fn counts(alloc: Global, spaces: &Vec<Numbering>) -> Result<Items<u64>, NoMemory> {
+fn counts(alloc: Global, spaces: &Vec<Numbering>) -> Result<Items<u64>, NoMemory>
+    ensures { IfOk result (λ counts. counts ≡ map length spaces.now.items) }
+{
     let mut counts = Items::new(alloc);
     for numbers in spaces {
         counts.push(numbers.len() as u64)?;
@@ -114,10 +125,12 @@ fn accepting(
     alloc: Global,
     a: &Auto,
     b: &Auto,
-    spaces: &Vec<Numbering>,
-) -> Result<BoolList, NoMemory> {
+    pairs: &[(u32, u32)],
+) -> Result<BoolList, NoMemory>
+    ensures { IfOk result (λ flags. flags ≡ map (λ pair. is_accepting a.now pair.0 && is_accepting b.now pair.1) pairs.now) }
+{
     let mut accepting = BoolList::new(alloc);
-    for pair in spaces[0].as_slice() {
+    for pair in pairs {
         let both = a.accepting(pair.0).unwrap_or(false) && b.accepting(pair.1).unwrap_or(false);
         accepting.push(both)?;
     }
@@ -135,7 +148,27 @@ fn parts_of(
     joiners: &mut Vec<Joiner>,
     numbers: &mut Vec<Numbering>,
     roots: &mut RefList,
-) -> Result<Items<Part>, Stop> {
+) -> Result<Items<Part>, Stop>
+    requires first { IsAuto g.now shelf.old a.now }
+    requires second { IsAuto g.now shelf.old b.now }
+    requires spaces { AreSpaces g.now (pairs (automaton_of shelf.old a.now) (automaton_of shelf.old b.now)) numbers.old.items }
+    requires fits { FitAll shelf.old joiners.old.items numbers.old.items }
+    requires none { roots.old ≡ [] }
+    ensures extends { ExtendAll numbers.old.items numbers.new.items }
+    ensures kept { Keeps shelf.old shelf.new }
+    ensures tables { SameTables shelf.old shelf.new }
+    ensures building { (start : Contents) → Building g.now (pairs (automaton_of shelf.old a.now) (automaton_of shelf.old b.now))
+        start shelf.old numbers.old.items
+        → Building g.now (pairs (automaton_of shelf.old a.now) (automaton_of shelf.old b.now)) start shelf.new numbers.new.items }
+    ensures limit { result ≡ Err Stop.Limit → (start : Contents) → Building g.now (pairs (automaton_of shelf.old a.now) (automaton_of shelf.old b.now))
+        start shelf.old numbers.old.items → (given : ℕ → List ℕ → ℕ) → CompleteAll g.now (pairs (automaton_of shelf.old a.now) (automaton_of shelf.old b.now)) numbers.new.items given
+        → ExceedsSteps g.now (pairs (automaton_of shelf.old a.now) (automaton_of shelf.old b.now)) start given }
+    ensures fits { OnOk result (FitAll shelf.new joiners.new.items numbers.new.items) }
+    ensures valid { OnOk result (All (IsValid shelf.new) roots.new) }
+    ensures many { IfOk result (λ parts. length parts ≡ length g.now) }
+    ensures parts { IfOk result (AreParts g.now (pairs (automaton_of shelf.old a.now) (automaton_of shelf.old b.now)) a.now b.now
+        numbers.old.items numbers.new.items shelf.new roots.new) }
+{
     let mut parts = Items::new(alloc);
     for space in 0..g.spaces() {
         let part = part_of(alloc, g, a, b, shelf, space, joiners, numbers, roots)?;
@@ -156,7 +189,29 @@ fn part_of(
     joiners: &mut Vec<Joiner>,
     numbers: &mut Vec<Numbering>,
     roots: &mut RefList,
-) -> Result<Part, Stop> {
+) -> Result<Part, Stop>
+    requires first { IsAuto g.now shelf.old a.now }
+    requires second { IsAuto g.now shelf.old b.now }
+    requires spaces { AreSpaces g.now (pairs (automaton_of shelf.old a.now) (automaton_of shelf.old b.now)) numbers.old.items }
+    requires fits { FitAll shelf.old joiners.old.items numbers.old.items }
+    requires inside { space < length g.now }
+    requires valid { All (IsValid shelf.old) roots.old }
+    ensures extends { ExtendAll numbers.old.items numbers.new.items }
+    ensures kept { Keeps shelf.old shelf.new }
+    ensures tables { SameTables shelf.old shelf.new }
+    ensures building { (start : Contents) → Building g.now (pairs (automaton_of shelf.old a.now) (automaton_of shelf.old b.now))
+        start shelf.old numbers.old.items
+        → Building g.now (pairs (automaton_of shelf.old a.now) (automaton_of shelf.old b.now)) start shelf.new numbers.new.items }
+    ensures limit { result ≡ Err Stop.Limit → (start : Contents) → Building g.now (pairs (automaton_of shelf.old a.now) (automaton_of shelf.old b.now))
+        start shelf.old numbers.old.items → (given : ℕ → List ℕ → ℕ) → CompleteAll g.now (pairs (automaton_of shelf.old a.now) (automaton_of shelf.old b.now)) numbers.new.items given
+        → ExceedsSteps g.now (pairs (automaton_of shelf.old a.now) (automaton_of shelf.old b.now)) start given }
+    ensures fits { OnOk result (FitAll shelf.new joiners.new.items numbers.new.items) }
+    ensures valid { OnOk result (All (IsValid shelf.new) roots.new) }
+    ensures grown { OnOk result (Grows roots.old roots.new) }
+    ensures part { IfOk result (IsPartOf g.now (pairs (automaton_of shelf.old a.now) (automaton_of shelf.old b.now)) a.now b.now
+        numbers.old.items numbers.new.items shelf.new roots.new space) }
+    ensures start { IfOk result (λ part. (part.first ≡ length roots.old) × (length roots.new ≡ length roots.old + length part.cells)) }
+{
     let at = space as usize;
     let children = g.children(space).unwrap_or((0, 0));
     let (first, second) = (&a.parts()[at], &b.parts()[at]);
@@ -194,7 +249,9 @@ fn part_of(
 }
 
 /// The numbers below.
-fn count_up(alloc: Global, many: usize) -> Result<Items<u32>, NoMemory> {
+fn count_up(alloc: Global, many: usize) -> Result<Items<u32>, NoMemory>
+    ensures { IfOk result (λ numbers. numbers ≡ range_with_len 0 many) }
+{
     if many > u32::MAX as usize {
         return Err(AllocError);
     }
