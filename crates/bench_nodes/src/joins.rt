@@ -12,20 +12,23 @@ use bdd_nodes::{Full, NodeRef, RefList, Shelf};
 use bdd_walk::{Joiner, LeafRule, StateList, Stop, join};
 use std::alloc::{AllocError, Global};
 
-/// The states' number: its digits to the base 16 are the states.
+/// The states' number: its digits to the base are the states.
 #[derive(Clone, Copy, Debug)]
-struct Digits;
+struct Digits {
+    base: u32,
+}
 
 impl LeafRule for Digits {
     ghost use Rattle.bench_nodes.specs.Digits.{digits};
 
-    ghost answers = { λ rule. digits };
+    ghost answers = { λ rule. digits rule.base };
 
     ghost may_ask = { λ rule states. Unit {0} };
 
     fn leaf(&mut self, states: &StateList) -> Result<u32, AllocError> {
+        let base = self.base;
         let number = states.as_slice().iter().fold(0u32, |number, state| {
-            number.wrapping_mul(16).wrapping_add(*state)
+            number.wrapping_mul(base).wrapping_add(*state)
         });
         Ok(number % 0x8000_0000)
     }
@@ -42,7 +45,7 @@ fn join_rounds(
     requires { All (IsValid shelf.old) roots.now }
 {
     for _round in 0..rounds {
-        join(alloc, shelf, roots, dropped, &mut Digits)?;
+        join(alloc, shelf, roots, dropped, &mut Digits { base: 16 })?;
     }
     Ok(())
 }
@@ -145,15 +148,15 @@ fn join_with_each(
 ) -> Result<(), Stop>
     requires root { IsValid shelf.old root }
     requires others { All (IsValid shelf.old) others.now }
-    requires fits { Fits joiner.old None shelf.old digits }
+    requires fits { Fits joiner.old None shelf.old (digits 16) }
     ensures kept { Keeps shelf.old shelf.new }
-    ensures fits { OnOk result (Fits joiner.new None shelf.new digits) }
+    ensures fits { OnOk result (Fits joiner.new None shelf.new (digits 16)) }
 {
     for other in others {
         if !is_kept {
             *joiner = Joiner::new(alloc);
         }
-        joiner.join(alloc, shelf, &[root, *other], None, &mut Digits)?;
+        joiner.join(alloc, shelf, &[root, *other], None, &mut Digits { base: 16 })?;
     }
     Ok(())
 }

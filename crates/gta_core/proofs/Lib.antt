@@ -4,3 +4,4 @@ pub mod BuiltLemmas
 pub mod AcceptingLemmas
 pub mod SizeLemmas
 pub mod FlipLemmas
+pub mod KeptLemmas

@@ -6,3 +6,6 @@ pub mod JoinsLemmas
 pub mod LimitLemmas
 pub mod CellsLemmas
 pub mod FinalLemmas
+pub mod ShelfLemmas
+pub mod BuildingLemmas
+pub mod StartLemmas

@@ -61,7 +61,7 @@ pub fn product(
 {
     let mut numbers = start(alloc, g, a, b)?;
     let mut joiners = joiners(alloc, g)?;
-    for _ in 0..u64::MAX {
+    for _round in 0..u64::MAX {
         let before = counts(alloc, &numbers)?;
         let mut roots = RefList::new(alloc);
         let parts = parts_of(alloc, g, a, b, shelf, &mut joiners, &mut numbers, &mut roots)?;
@@ -103,7 +103,7 @@ fn joiners(alloc: Global, g: &Guide) -> Result<Vec<Joiner>, NoMemory>
         FitAll shelf joiners.items spaces) }
 {
     let mut joiners = Vec::new(alloc);
-    for _ in 0..g.spaces() {
+    for _space in 0..g.spaces() {
         joiners.push(Joiner::new(alloc))?;
     }
     Ok(joiners)
