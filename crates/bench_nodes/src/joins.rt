@@ -137,6 +137,29 @@ pub fn join_three(
     Ok(shelf.count())
 }
 
+/// Joins two roots, through the joiner as it is or anew.
+fn join_two_roots(
+    alloc: Global,
+    shelf: &mut Shelf,
+    joiner: &mut Joiner,
+    roots: &[NodeRef; 2],
+    is_kept: bool,
+) -> Result<(), Stop>
+    requires roots { All (IsValid shelf.old) roots.now }
+    requires fits { Fits joiner.old None shelf.old (digits 16) }
+    ensures kept { Keeps shelf.old shelf.new }
+    ensures fits { OnOk result (Fits joiner.new None shelf.new (digits 16)) }
+{
+    if is_kept {
+        joiner.join(alloc, shelf, roots, None, &mut Digits { base: 16 })?;
+        return Ok(());
+    }
+    let mut rule = Digits { base: 16 };
+    *joiner = Joiner::new(alloc);
+    joiner.join(alloc, shelf, roots, None, &mut rule)?;
+    Ok(())
+}
+
 /// Joins the root with each of the others: through one joiner, or each through one that is made anew.
 fn join_with_each(
     alloc: Global,
@@ -153,10 +176,7 @@ fn join_with_each(
     ensures fits { OnOk result (Fits joiner.new None shelf.new (digits 16)) }
 {
     for other in others {
-        if !is_kept {
-            *joiner = Joiner::new(alloc);
-        }
-        joiner.join(alloc, shelf, &[root, *other], None, &mut Digits { base: 16 })?;
+        join_two_roots(alloc, shelf, joiner, &[root, *other], is_kept)?;
     }
     Ok(())
 }

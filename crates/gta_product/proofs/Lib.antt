@@ -7,5 +7,7 @@ pub mod LimitLemmas
 pub mod CellsLemmas
 pub mod FinalLemmas
 pub mod ShelfLemmas
+pub mod NextLemmas
 pub mod BuildingLemmas
 pub mod StartLemmas
+pub mod PartLemmas

@@ -131,10 +131,29 @@ fn accepting(
 {
     let mut accepting = BoolList::new(alloc);
     for pair in pairs {
-        let both = a.accepting(pair.0).unwrap_or(false) && b.accepting(pair.1).unwrap_or(false);
-        accepting.push(both)?;
+        accepting.push(are_accepting(a, b, *pair))?;
     }
     Ok(accepting)
+}
+
+/// Whether both states of a pair are accepting.
+fn are_accepting(a: &Auto, b: &Auto, pair: (u32, u32)) -> bool
+    ensures { result ≡ (is_accepting a.now pair.0 && is_accepting b.now pair.1) }
+{
+    if is_accepting_in(a, pair.0) {
+        return is_accepting_in(b, pair.1);
+    }
+    false
+}
+
+/// Whether a state of space 0 is accepting; an unknown one isn't.
+fn is_accepting_in(a: &Auto, state: u32) -> bool
+    ensures { result ≡ is_accepting a.now state }
+{
+    match a.accepting(state) {
+        Some(flag) => flag,
+        None => false,
+    }
 }
 
 /// The parts of all spaces, for the pairs so far.
