@@ -14,21 +14,18 @@ use std::alloc::{AllocError, Global};
 
 /// The states' number: its digits to the base are the states.
 #[derive(Clone, Copy, Debug)]
-struct Digits {
-    base: u32,
-}
+struct Digits<const BASE: u32>;
 
-impl LeafRule for Digits {
+impl<const BASE: u32> LeafRule for Digits<BASE> {
     ghost use Rattle.bench_nodes.specs.Digits.{digits};
 
-    ghost answers = { λ rule. digits rule.base };
+    ghost answers = { λ rule. digits BASE };
 
     ghost may_ask = { λ rule states. Unit {0} };
 
     fn leaf(&mut self, states: &StateList) -> Result<u32, AllocError> {
-        let base = self.base;
         let number = states.as_slice().iter().fold(0u32, |number, state| {
-            number.wrapping_mul(base).wrapping_add(*state)
+            number.wrapping_mul(BASE).wrapping_add(*state)
         });
         Ok(number % 0x8000_0000)
     }
@@ -45,7 +42,7 @@ fn join_rounds(
     requires { All (IsValid shelf.old) roots.now }
 {
     for _round in 0..rounds {
-        join(alloc, shelf, roots, dropped, &mut Digits { base: 16 })?;
+        join(alloc, shelf, roots, dropped, &mut Digits::<16>)?;
     }
     Ok(())
 }
@@ -151,10 +148,10 @@ fn join_two_roots(
     ensures fits { OnOk result (Fits joiner.new None shelf.new (digits 16)) }
 {
     if is_kept {
-        joiner.join(alloc, shelf, roots, None, &mut Digits { base: 16 })?;
+        joiner.join(alloc, shelf, roots, None, &mut Digits::<16>)?;
         return Ok(());
     }
-    let mut rule = Digits { base: 16 };
+    let mut rule = Digits::<16>;
     *joiner = Joiner::new(alloc);
     joiner.join(alloc, shelf, roots, None, &mut rule)?;
     Ok(())

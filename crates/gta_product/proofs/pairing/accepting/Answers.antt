@@ -11,5 +11,5 @@ loop-pair-preserved c =
     c.in_ok-push.ensures.ok
     ∙ ap (λ (flags : List Bool). flags ++ c.are_accepting.result ∷ []) c.loop-pair.invariant
     ∙ ap (λ (flag : Bool). map f (take i pairs) ++ flag ∷ []) c.are_accepting.ensures
-    ∙ sym (map-append (take i pairs) (get_or pairs i (0, 0) ∷ []) f)
+    ∙ sym (map-append f (take i pairs) (get_or pairs i (0, 0) ∷ []))
     ∙ ap (map f) (sym (take_more pairs i (0, 0) (omega arith)))
