@@ -191,11 +191,12 @@ pub fn join_small(
     requires small { limit ≤ 16000000 }
 {
     let mut shelf = Shelf::open(alloc, limit)?;
-    let tops = make_all(alloc, &mut shelf, 16, width, 3)?;
+    let made = make_all(alloc, &mut shelf, 16, width, 3)?;
+    let tops = made.as_slice();
     for _round in 0..rounds {
         let mut joiner = Joiner::new(alloc);
-        for top in tops.as_slice() {
-            join_with_each(alloc, &mut shelf, &mut joiner, *top, tops.as_slice(), is_kept)?;
+        for top in tops {
+            join_with_each(alloc, &mut shelf, &mut joiner, *top, tops, is_kept)?;
         }
     }
     Ok(shelf.count())
