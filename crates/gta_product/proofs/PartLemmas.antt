@@ -1,10 +1,10 @@
 -- The part of a space, and joiners that go on fitting.
-use Rattle.std.proofs.Common.{◌≡◌, ◌≢◌, ℕ, zero, suc, ◌+◌, ◌*◌, ◌<◌, ◌≤◌, List, [], ◌∷◌, length, Option, Some, None, Contains, slice_get, refl, sym, ◌∙◌, ap, subst, inl, inr, arith, ◌⊎◌}
+use Rattle.std.proofs.Common.{◌≡◌, ◌≢◌, ℕ, zero, suc, ◌+◌, ◌*◌, ◌<◌, ◌≤◌, List, [], ◌∷◌, length, Option, Some, None, Contains, get_or, slice_get, refl, sym, ◌∙◌, ap, subst, inl, inr, arith, ◌⊎◌}
 use Rattle.std.specs.Prelude.{All, slice_set, IsSome, is_some, unwrap_or, option_map}
 use Rattle.std.specs.List.{range_with_len}
 use Rattle.std.proofs.lemmas.Bool.{ltb-true}
 use Rattle.std.proofs.lemmas.Bool.Decides.{eqb_tells}
-use Rattle.std.proofs.lemmas.Option.{slice_get_within}
+use Rattle.std.proofs.lemmas.Option.{slice_get_within, slice_get-get_or}
 use Rattle.bdd_nodes.specs.declared.node_ref.NodeRef.{NodeRef}
 use Rattle.bdd_nodes.specs.Shelf.{Contents}
 use Rattle.bdd_nodes.specs.Changes.{Keeps}
@@ -82,34 +82,35 @@ parts-length g shelf a auto = sym (length-guide a.parts) ∙ ap (λ (spaces : Sp
 
 -- the rows and the columns of a space have roots in both
 module _ (g : Spaces) (guide : IsGuide g) (shelf : Contents) (a b : AutoView) (auto_a : IsAuto g shelf a) (auto_b : IsAuto g shelf b)
-    (spaces : List (List (ℕ × ℕ))) (are : AreSpaces g (pairs (automaton_of shelf a) (automaton_of shelf b)) spaces) (s : ℕ) (inside : IsSpace g s)
-    (part_a part_b : Part) (in_a : slice_get a.parts s ≡ Some part_a) (in_b : slice_get b.parts s ≡ Some part_b)
-    (lefts rights : List (ℕ × ℕ)) (at_left : slice_get spaces (left g s) ≡ Some lefts) (at_right : slice_get spaces (right g s) ≡ Some rights) where
-  left-below : (k : ℕ) (p : ℕ × ℕ) → slice_get lefts k ≡ Some p → AreBelow a b (left g s) p
-  left-below k p there = generated-below g shelf a b auto_a auto_b (left g s) p ((are.each (left g s) lefts at_left).generated k p there)
+    (spaces : List (List (ℕ × ℕ))) (are : AreSpaces g (pairs (automaton_of shelf a) (automaton_of shelf b)) spaces) (s : ℕ) (inside : IsSpace g s) where
+  below-at : (child : ℕ) (list : List (ℕ × ℕ)) → slice_get spaces child ≡ Some list → (k : ℕ) (p : ℕ × ℕ) → slice_get list k ≡ Some p → AreBelow a b child p
+  below-at child list is k p there = generated-below g shelf a b auto_a auto_b child p ((are.each child list is).generated k p there)
 
-  right-below : (k : ℕ) (p : ℕ × ℕ) → slice_get rights k ≡ Some p → AreBelow a b (right g s) p
-  right-below k p there = generated-below g shelf a b auto_a auto_b (right g s) p ((are.each (right g s) rights at_right).generated k p there)
+  module _ (part_a part_b : Part) (in_a : slice_get a.parts s ≡ Some part_a) (in_b : slice_get b.parts s ≡ Some part_b) where
+    pub row-inside : (lefts : List (ℕ × ℕ)) → slice_get spaces (left g s) ≡ Some lefts → (k : ℕ) (p : ℕ × ℕ) → slice_get lefts k ≡ Some p →
+        (p.0 < length part_a.rows) × (p.1 < length part_b.rows)
+    row-inside lefts at_left k p there =
+        let below = below-at (left g s) lefts at_left k p there in (
+          row-within g guide shelf a auto_a s inside part_a in_a p.0 below.first,
+          row-within g guide shelf b auto_b s inside part_b in_b p.1 below.second,
+        )
 
-  pub row-inside : (k : ℕ) (p : ℕ × ℕ) → slice_get lefts k ≡ Some p → (p.0 < length part_a.rows) × (p.1 < length part_b.rows)
-  row-inside k p there =
-      let below = left-below k p there in (
-        row-within g guide shelf a auto_a s inside part_a in_a p.0 below.first,
-        row-within g guide shelf b auto_b s inside part_b in_b p.1 below.second,
-      )
+    pub column-inside : (rights : List (ℕ × ℕ)) → slice_get spaces (right g s) ≡ Some rights → (k : ℕ) (p : ℕ × ℕ) → slice_get rights k ≡ Some p →
+        (p.0 < length part_a.columns) × (p.1 < length part_b.columns)
+    column-inside rights at_right k p there =
+        let below = below-at (right g s) rights at_right k p there in (
+          column-within g guide shelf a auto_a s inside part_a in_a p.0 below.first,
+          column-within g guide shelf b auto_b s inside part_b in_b p.1 below.second,
+        )
 
-  pub column-inside : (k : ℕ) (p : ℕ × ℕ) → slice_get rights k ≡ Some p → (p.0 < length part_a.columns) × (p.1 < length part_b.columns)
-  column-inside k p there =
-      let below = right-below k p there in (
-        column-within g guide shelf a auto_a s inside part_a in_a p.0 below.first,
-        column-within g guide shelf b auto_b s inside part_b in_b p.1 below.second,
-      )
+  module _ (lefts rights : List (ℕ × ℕ)) (at_left : slice_get spaces (left g s) ≡ Some lefts) (at_right : slice_get spaces (right g s) ≡ Some rights) where
+    pub first-known : (j k : ℕ) (p q : ℕ × ℕ) → slice_get lefts j ≡ Some p → slice_get rights k ≡ Some q → IsSome (root_at shelf a s p.0 q.0)
+    first-known j k p q at_p at_q =
+        (auto_a.complete s p.0 q.0).1 (inside, ((below-at (left g s) lefts at_left j p at_p).first, (below-at (right g s) rights at_right k q at_q).first))
 
-  pub first-known : (j k : ℕ) (p q : ℕ × ℕ) → slice_get lefts j ≡ Some p → slice_get rights k ≡ Some q → IsSome (root_at shelf a s p.0 q.0)
-  first-known j k p q at_p at_q = (auto_a.complete s p.0 q.0).1 (inside, ((left-below j p at_p).first, (right-below k q at_q).first))
-
-  pub second-known : (j k : ℕ) (p q : ℕ × ℕ) → slice_get lefts j ≡ Some p → slice_get rights k ≡ Some q → IsSome (root_at shelf b s p.1 q.1)
-  second-known j k p q at_p at_q = (auto_b.complete s p.1 q.1).1 (inside, ((left-below j p at_p).second, (right-below k q at_q).second))
+    pub second-known : (j k : ℕ) (p q : ℕ × ℕ) → slice_get lefts j ≡ Some p → slice_get rights k ≡ Some q → IsSome (root_at shelf b s p.1 q.1)
+    second-known j k p q at_p at_q =
+        (auto_b.complete s p.1 q.1).1 (inside, ((below-at (left g s) lefts at_left j p at_p).second, (below-at (right g s) rights at_right k q at_q).second))
 
 -- each class has a pair of the list
 pub ones-inside : (pairs : List (ℕ × ℕ)) (first second : List ℕ) (classes : Classes) → AreClasses pairs first second classes →
@@ -143,3 +144,19 @@ IsBuilt-made g AB s lefts rights numbers first second shelf old new rows columns
       cell = λ i j row column root at_row at_column there. filled.cell i j row column root at_row at_column
           (ap (λ (n : ℕ). slice_get new (n + (i * length columns.ones + j))) (sym start) ∙ there);
     }
+
+pub get-at : {X : Type 0} (xs : List X) (i : ℕ) (x : X) → i < length xs → x ≡ get_or xs i x → slice_get xs i ≡ Some x
+get-at {X} xs i x within is = slice_get-get_or xs i x within ∙ ap (λ (y : X). let o : Option X = Some y in o) (sym is)
+
+-- the pairs of a child
+pub at-child : (g : Spaces) (AB : Automaton (ℕ × ℕ)) (spaces : List (List (ℕ × ℕ))) → AreSpaces g AB spaces → (child : ℕ) → IsSpace g child →
+    (index : ℕ) → index ≡ child → (held slice : List (ℕ × ℕ)) → held ≡ get_or spaces index held → slice ≡ held → slice_get spaces child ≡ Some slice
+at-child g AB spaces are child inside index same held slice is lent =
+    ap (slice_get spaces) (sym same) ∙ get-at spaces index held (omega (arith, are.many, same, inside)) is
+    ∙ ap (λ (ps : List (ℕ × ℕ)). let o : Option (List (ℕ × ℕ)) = Some ps in o) (sym lent)
+
+-- the part of a space
+pub part-at : (g : Spaces) (shelf : Contents) (a : AutoView) → IsAuto g shelf a → (s : ℕ) → IsSpace g s → (slice : List Part) (part : Part) →
+    slice ≡ a.parts → part ≡ get_or slice s part → slice_get a.parts s ≡ Some part
+part-at g shelf a auto s inside slice part lent is =
+    get-at a.parts s part (omega (arith, parts-length g shelf a auto, inside)) (is ∙ ap (λ (ps : List Part). get_or ps s part) lent)

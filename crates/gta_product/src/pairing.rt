@@ -185,8 +185,9 @@ fn parts_of(
     ensures fits { OnOk result (FitAll shelf.new joiners.new.items numbers.new.items) }
     ensures valid { OnOk result (All (IsValid shelf.new) roots.new) }
     ensures many { IfOk result (λ parts. length parts ≡ length g.now) }
-    ensures parts { IfOk result (AreParts g.now (pairs (automaton_of shelf.old a.now) (automaton_of shelf.old b.now)) a.now b.now
-        numbers.old.items numbers.new.items shelf.new roots.new) }
+    ensures parts { IfOk result (λ parts. numbers.new.items ≡ numbers.old.items →
+        AreParts g.now (pairs (automaton_of shelf.old a.now) (automaton_of shelf.old b.now)) a.now b.now
+        numbers.old.items numbers.old.items shelf.new roots.new parts) }
 {
     let mut parts = Items::new(alloc);
     for space in 0..g.spaces() {

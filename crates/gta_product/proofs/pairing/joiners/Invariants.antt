@@ -7,7 +7,7 @@ use Rattle.gta_product.proofs.pairing.joiners.Given as goal
 
 abbrev pub invariant-loop-space : goal.invariant-loop-space
 invariant-loop-space l = record {
-  many : length l.joiners.items ≡ l.space;
+  many : length l.joiners.items ≡ l._space;
   each : (s : ℕ) (joiner : Joiner) → slice_get l.joiners.items s ≡ Some joiner → (dropped : Option ℕ) (shelf : Contents) (answers : Answers) →
       Fits joiner dropped shelf answers;
 }
