@@ -12,20 +12,20 @@ use bdd_nodes::{Full, NodeRef, RefList, Shelf};
 use bdd_walk::{Joiner, LeafRule, StateList, Stop, join};
 use std::alloc::{AllocError, Global};
 
-/// The states' number: its digits to the base are the states.
+/// The states' number: its digits to the base 16 are the states.
 #[derive(Clone, Copy, Debug)]
-struct Digits<const BASE: u32>;
+struct Digits;
 
-impl<const BASE: u32> LeafRule for Digits<BASE> {
+impl LeafRule for Digits {
     ghost use Rattle.bench_nodes.specs.Digits.{digits};
 
-    ghost answers = { λ rule. digits BASE };
+    ghost answers = { λ rule. digits };
 
     ghost may_ask = { λ rule states. Unit {0} };
 
     fn leaf(&mut self, states: &StateList) -> Result<u32, AllocError> {
         let number = states.as_slice().iter().fold(0u32, |number, state| {
-            number.wrapping_mul(BASE).wrapping_add(*state)
+            number.wrapping_mul(16).wrapping_add(*state)
         });
         Ok(number % 0x8000_0000)
     }
@@ -42,7 +42,7 @@ fn join_rounds(
     requires { All (IsValid shelf.old) roots.now }
 {
     for _round in 0..rounds {
-        join(alloc, shelf, roots, dropped, &mut Digits::<16>)?;
+        join(alloc, shelf, roots, dropped, &mut Digits)?;
     }
     Ok(())
 }
@@ -143,15 +143,15 @@ fn join_two_roots(
     is_kept: bool,
 ) -> Result<(), Stop>
     requires roots { All (IsValid shelf.old) roots.now }
-    requires fits { Fits joiner.old None shelf.old (digits 16) }
+    requires fits { Fits joiner.old None shelf.old digits }
     ensures kept { Keeps shelf.old shelf.new }
-    ensures fits { OnOk result (Fits joiner.new None shelf.new (digits 16)) }
+    ensures fits { OnOk result (Fits joiner.new None shelf.new digits) }
 {
     if is_kept {
-        joiner.join(alloc, shelf, roots, None, &mut Digits::<16>)?;
+        joiner.join(alloc, shelf, roots, None, &mut Digits)?;
         return Ok(());
     }
-    let mut rule = Digits::<16>;
+    let mut rule = Digits;
     *joiner = Joiner::new(alloc);
     joiner.join(alloc, shelf, roots, None, &mut rule)?;
     Ok(())
@@ -168,9 +168,9 @@ fn join_with_each(
 ) -> Result<(), Stop>
     requires root { IsValid shelf.old root }
     requires others { All (IsValid shelf.old) others.now }
-    requires fits { Fits joiner.old None shelf.old (digits 16) }
+    requires fits { Fits joiner.old None shelf.old digits }
     ensures kept { Keeps shelf.old shelf.new }
-    ensures fits { OnOk result (Fits joiner.new None shelf.new (digits 16)) }
+    ensures fits { OnOk result (Fits joiner.new None shelf.new digits) }
 {
     for other in others {
         join_two_roots(alloc, shelf, joiner, &[root, *other], is_kept)?;

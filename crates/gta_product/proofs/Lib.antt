@@ -11,3 +11,5 @@ pub mod NextLemmas
 pub mod BuildingLemmas
 pub mod StartLemmas
 pub mod PartLemmas
+pub mod SameLemmas
+pub mod ProductLemmas

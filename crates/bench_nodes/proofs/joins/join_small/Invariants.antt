@@ -10,5 +10,5 @@ invariant-loop-round l = All (IsValid l.shelf) l.tops
 abbrev pub invariant-loop-top : goal.invariant-loop-top
 invariant-loop-top l = record {
   tops : All (IsValid l.shelf) l.tops;
-  fits : Fits l.joiner None l.shelf (digits 16);
+  fits : Fits l.joiner None l.shelf digits;
 }
