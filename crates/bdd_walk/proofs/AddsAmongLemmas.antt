@@ -1,10 +1,10 @@
 -- Joins one after the other: what came adds up.
-use Rattle.std.proofs.Common.{◌≡◌, ◌≢◌, ℕ, ◌+◌, ◌<◌, List, [], ◌∷◌, ◌++◌, length, length-append, ◌∙◌, ap, refl, subst, sym, arith}
+use Rattle.std.proofs.Common.{◌≡◌, ◌≢◌, List, [], ◌∷◌, ◌++◌, length-append, ◌∙◌, refl, subst, arith}
 use Rattle.std.specs.List.{All, AllPairs}
 use Rattle.std.proofs.lemmas.List.Elements.{All-cons, Contains-append_left, Contains-append_right}
 use Rattle.std.proofs.lemmas.List.Kept.{AllPairs-cons}
 use Rattle.labels.specs.Labels.{Function}
-use Rattle.bdd_nodes.specs.Shelf.{Contents, Has, count_of, limit_of}
+use Rattle.bdd_nodes.specs.Shelf.{Contents, Has, limit_of}
 use Rattle.bdd_nodes.specs.Changes.{Keeps}
 use Rattle.bdd_walk.specs.Under.{IsMissing, IsMissingAmong, HasCome, AddsAmong, Exceeds, ExceedsAmong}
 use Rattle.bdd_walk.proofs.AddsLemmas.{All-weaker, All-head, All-tail, AllPairs-head, AllPairs-tail}

@@ -1,9 +1,8 @@
 -- From the walk to the calls.
 use Rattle.std.proofs.Common.{◌≡◌, ℕ, suc, zero, ◌+◌, ◌/◌, ◌<◌, ◌≤◌, true, false, List, [], ◌∷◌, ◌++◌, drop, length, length-append, get_or, Option, Some}
-use Rattle.std.proofs.Common.{None, IsTrue, ◌&&◌, sym, ◌∙◌, ap, refl, subst, arith}
-use Rattle.std.specs.Prelude.{nat_le, slice_get, slice_index, unwrap_or}
+use Rattle.std.proofs.Common.{None, IsTrue, sym, ◌∙◌, ap, refl, subst, arith}
+use Rattle.std.specs.Prelude.{slice_get, slice_index, unwrap_or}
 use Rattle.std.specs.List.{All, list_all}
-use Rattle.std.proofs.lemmas.Bool.{le-leb}
 use Rattle.std.proofs.Math.Path.{fun_ext}
 use Rattle.std.proofs.Math.Seq.{drop-append_seam, take-append_seam}
 use Rattle.bdd_nodes.specs.declared.node_ref.NodeRef.{NodeRef}

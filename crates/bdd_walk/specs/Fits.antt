@@ -1,5 +1,5 @@
 -- When the results that a joiner keeps are right for a shelf and a rule's answers.
-use Rattle.std.specs.Prelude.{◌≡◌, ℕ, Bool, List, [], ◌∷◌, Option, nat_eq, ◌&&◌, Vec}
+use Rattle.std.specs.Prelude.{ℕ, List, [], ◌∷◌, Option, nat_eq, ◌&&◌, Vec}
 use Rattle.std.specs.List.{list_all}
 use Rattle.std.specs.Cmp.Lexicographic.{pointwise}
 use Rattle.std.proofs.Common.{Global}
@@ -11,7 +11,6 @@ use Rattle.bdd_walk.specs.declared.joiner.Joiner.{Joiner}
 use Rattle.bdd_walk.specs.Answers.{Answers}
 use Rattle.bdd_walk.specs.Asked.{leaves_of}
 use Rattle.bdd_walk.specs.Sides.{asked_by, half_of}
-use Rattle.bdd_walk.specs.Stands.{Asking}
 use Rattle.bdd_walk.specs.Waits.{Memo, IsMemo}
 
 -- the references of a key of two

@@ -1,5 +1,5 @@
 -- The laws of lists of references as keys.
-use Rattle.std.specs.Prelude.{◌≡◌, ℕ, Bool, true, false, List, [], ◌∷◌, ◌++◌, take, drop, Option, Some, None, IsTrue, ◌&&◌, nat_eq}
+use Rattle.std.specs.Prelude.{◌≡◌, ℕ, Bool, true, false, List, [], ◌∷◌, ◌++◌, take, drop, Option, Some, None, IsTrue, nat_eq}
 use Rattle.std.specs.List.{list_all}
 use Rattle.std.specs.Cmp.Lexicographic.{pointwise}
 use Rattle.std.proofs.Common.{◌∙◌, ap, refl, subst, zero, suc}
@@ -12,7 +12,7 @@ use Rattle.bdd_walk.specs.Asked.{leaves_of}
 use Rattle.bdd_walk.specs.Stands.{Asking, AsksSame}
 use Rattle.bdd_walk.specs.Waits.{Respects}
 use Rattle.bdd_walk.specs.Sides.{asked_by}
-use Rattle.bdd_walk.specs.Laws.{and-left, and-right, and-both, same_word, valid-kept, leaves-kept}
+use Rattle.bdd_walk.specs.Laws.{and-left, and-right, and-both, same_word, leaves-kept}
 
 -- the front and the rest of valid references are valid
 pub valid-take : (shelf : Contents) (n : ℕ) (rs : List NodeRef) → IsTrue (list_all (is_valid shelf) rs) → IsTrue (list_all (is_valid shelf) (take n rs))

@@ -1,5 +1,5 @@
 -- Flags that are turned over one after the other.
-use Rattle.std.proofs.Common.{◌≡◌, ℕ, zero, suc, ◌+◌, ◌<◌, Bool, not, List, [], ◌∷◌, ◌++◌, map, take, drop, length, get_or, refl, sym, ◌∙◌, ap, arith}
+use Rattle.std.proofs.Common.{◌≡◌, ℕ, zero, suc, ◌<◌, Bool, not, List, [], ◌∷◌, ◌++◌, map, take, drop, length, get_or, refl, ap, arith}
 use Rattle.std.specs.Prelude.{slice_set}
 
 pub length-flip : (xs : List Bool) (i : ℕ) → length (map not (take i xs) ++ drop i xs) ≡ length xs

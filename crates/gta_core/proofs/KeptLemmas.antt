@@ -1,13 +1,13 @@
 -- Tables over joins.
-use Rattle.std.proofs.Common.{◌≡◌, ℕ, List, Option, Some, None, refl, sym, ◌∙◌, ap, subst}
-use Rattle.std.specs.Prelude.{IsSome, is_some, slice_get, option_map, option_and_then}
+use Rattle.std.proofs.Common.{◌≡◌, ℕ, Option, Some, None, refl, sym, ◌∙◌, ap, subst}
+use Rattle.std.specs.Prelude.{IsSome, option_map}
 use mathlib.Core.Path.{fun_ext}
 use Rattle.labels.specs.Labels.{Label, Function}
 use Rattle.bdd_nodes.specs.Roots.{Registered, roots_under, root_under}
 use Rattle.bdd_nodes.specs.declared.node_ref.NodeRef.{NodeRef}
-use Rattle.bdd_nodes.specs.Shelf.{Contents, IsShelf, IsValid, state_of, roots_of, root_of}
+use Rattle.bdd_nodes.specs.Shelf.{Contents, IsShelf, state_of, root_of}
 use Rattle.bdd_nodes.specs.Changes.{Keeps, SameTables}
-use Rattle.gta_core.specs.Changes.{function_of, KeepsTable}
+use Rattle.gta_core.specs.Changes.{KeepsTable}
 
 pub KeepsTable-joins : (old new : Contents) (number : ℕ) → IsShelf old → Keeps old new → SameTables old new → KeepsTable old new number
 KeepsTable-joins old new number is_shelf keeps tables = record {

@@ -1,20 +1,17 @@
 -- A space is filled: the product goes on being built.
-use Rattle.std.proofs.Common.{◌≡◌, ◌≢◌, ℕ, zero, suc, ◌+◌, ◌<◌, List, [], ◌∷◌, ◌++◌, length, Option, Some, None, Contains, slice_get, eqb, refl, sym, ◌∙◌, ap, subst, inl, inr, arith, ◌⊎◌}
-use Rattle.std.specs.Prelude.{slice_set, IsTrue}
-use Rattle.std.specs.List.{All}
+use Rattle.std.proofs.Common.{◌≡◌, ◌≢◌, ℕ, List, ◌++◌, length, Option, Some, Contains, slice_get, sym, ◌∙◌, ap, subst, inl, inr}
 use Rattle.std.proofs.lemmas.Bool.Decides.{eqb_tells}
-use Rattle.std.proofs.lemmas.Option.{slice_get_within}
-use Rattle.labels.specs.Labels.{Label, Function}
+use Rattle.labels.specs.Labels.{Function}
 use Rattle.bdd_nodes.specs.Shelf.{Contents}
 use Rattle.bdd_nodes.proofs.CallerLemmas.{Keeps-trans}
 use Rattle.bdd_walk.specs.Answers.{Completes}
-use Rattle.bdd_walk.proofs.AddsAmongLemmas.{AddsAmong-none, AddsAmong-more, ExceedsAmong-more}
+use Rattle.bdd_walk.proofs.AddsAmongLemmas.{AddsAmong-more, ExceedsAmong-more}
 use Rattle.gta_theory.specs.Guides.{Spaces, IsSpace, left, right}
 use Rattle.gta_theory.specs.Automata.{Automaton}
-use Rattle.gta_theory.specs.Generated.{Generated, starts, steps}
+use Rattle.gta_theory.specs.Generated.{Generated, steps}
 use Rattle.gta_product.specs.Numbers.{numbered, AreNumbers, Extends}
-use Rattle.gta_product.specs.Filling.{IsMade, IsCellFunction, Joins, ExceedsCells}
-use Rattle.gta_product.specs.Building.{IsSpaceOf, AreSpaces, IsStepFunction, CompleteAll, AddsSteps, ExceedsSteps, Building, ExtendAll}
+use Rattle.gta_product.specs.Filling.{IsCellFunction, Joins, ExceedsCells}
+use Rattle.gta_product.specs.Building.{IsSpaceOf, AreSpaces, IsStepFunction, CompleteAll, ExceedsSteps, Building, ExtendAll}
 use Rattle.gta_product.proofs.NumbersLemmas.{Extends-refl, Completes-extends}
 use Rattle.gta_product.proofs.JoinsLemmas.{All-append, All-weaker}
 

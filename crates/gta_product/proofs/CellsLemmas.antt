@@ -1,20 +1,18 @@
 -- The roots of a part that is built, for states of its children.
-use Rattle.std.proofs.Common.{◌≡◌, ℕ, zero, suc, ◌+◌, ◌*◌, ◌/◌, ◌%◌, ◌-◌, ◌<◌, ◌≤◌, List, [], ◌∷◌, length, get_or, Option, Some, None, slice_get, refl, sym, ◌∙◌, ap, subst, arith, suc-mul, mul-le-mul_right, div-add-mod', div-lt_iff_lt-mul, mod-lt}
-use Rattle.std.specs.Prelude.{option_map, option_and_then, unwrap_or, IsSome, is_some}
+use Rattle.std.proofs.Common.{◌≡◌, ℕ, zero, suc, ◌+◌, ◌*◌, ◌/◌, ◌%◌, ◌-◌, ◌<◌, ◌≤◌, List, [], ◌∷◌, length, Option, Some, slice_get, refl, sym, ◌∙◌, ap, subst, arith, suc-mul, mul-le-mul_right, div-add-mod', div-lt_iff_lt-mul, mod-lt}
+use Rattle.std.specs.Prelude.{option_map, option_and_then, unwrap_or}
 use Rattle.std.specs.List.{range_with_len}
 use Rattle.std.proofs.lemmas.Option.{slice_get_within, slice_get-get_or}
 use Rattle.std.proofs.lemmas.List.FromFn.{length-range_with_len, get_or-range_with_len}
-use Rattle.std.proofs.Math.Path.{fun_ext}
 use Rattle.labels.specs.Labels.{Label}
 use Rattle.bdd_nodes.specs.declared.node_ref.NodeRef.{NodeRef}
 use Rattle.bdd_nodes.specs.Shelf.{Contents, state_of, root_of}
 use Rattle.gta_theory.specs.Guides.{Spaces}
-use Rattle.gta_theory.specs.Automata.{Automaton}
 use Rattle.gta_theory.specs.Constructions.{pairs}
 use Rattle.gta_core.specs.declared.part.Part.{Part}
-use Rattle.gta_core.specs.Auto.{AutoView, place_in, place_of, root_at, automaton_of}
+use Rattle.gta_core.specs.Auto.{AutoView, place_in, root_at, automaton_of}
 use Rattle.gta_product.specs.Numbers.{number_in}
-use Rattle.gta_product.specs.Classes.{HaveClasses, IsClassed, IsClass}
+use Rattle.gta_product.specs.Classes.{IsClassed}
 use Rattle.gta_product.specs.Filling.{IsCell}
 use Rattle.gta_product.specs.Building.{IsBuilt}
 

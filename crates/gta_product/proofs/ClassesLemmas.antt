@@ -1,8 +1,8 @@
 -- Classes, one pair after the other.
-use Rattle.std.proofs.Common.{◌≡◌, ◌≢◌, ℕ, zero, suc, ◌+◌, ◌^◌, ◌<◌, ◌≤◌, List, [], ◌∷◌, ◌++◌, length, length-append, Option, Some, None, slice_get, slice_index, sym, ◌∙◌, ap, refl, subst, inl, inr, arith, ◌⊎◌}
+use Rattle.std.proofs.Common.{◌≡◌, ℕ, zero, suc, ◌<◌, List, [], ◌∷◌, ◌++◌, length, length-append, Option, Some, None, slice_get, slice_index, sym, ◌∙◌, ap, refl, subst, inl, inr, arith}
 use Rattle.std.proofs.lemmas.Option.{slice_get_within}
 use Rattle.gta_product.specs.Numbers.{number_in, AreNumbers, Grows, stays, comes}
-use Rattle.gta_product.specs.Classes.{HaveClasses, IsClassed, IsClass, AreClasses, Notes, known, fresh, AreKeyed}
+use Rattle.gta_product.specs.Classes.{HaveClasses, IsClassed, IsClass, Notes, known, fresh, AreKeyed}
 use Rattle.gta_product.proofs.NumbersLemmas.{number_in-get, number_in-last, get-snoc, get-kept, get-last}
 
 pub get-index : {X : Type 0} (d : X) (xs : List X) (k : ℕ) → k < length xs → (x : X) × (slice_get xs k ≡ Some x)

@@ -1,15 +1,15 @@
 -- The automaton with the other states accepting.
-use Rattle.std.proofs.Common.{◌≡◌, ℕ, zero, suc, ◌<◌, Bool, false, not, List, [], ◌∷◌, map, length, slice_get, IsTrue, ◌↔◌, refl, sym, ◌∙◌, ap, subst, arith}
+use Rattle.std.proofs.Common.{◌≡◌, ℕ, zero, suc, ◌<◌, Bool, false, not, List, [], ◌∷◌, map, length, slice_get, ◌↔◌, refl, subst, arith}
 use Rattle.std.specs.Prelude.{unwrap_or}
 use Rattle.std.proofs.lemmas.Bool.{ltb-true}
 use Rattle.bdd_nodes.specs.Shelf.{Contents}
 use Rattle.gta_theory.specs.Assignments.{Assignment, Covers}
 use Rattle.gta_theory.specs.Guides.{Spaces, IsGuide}
-use Rattle.gta_theory.specs.Automata.{Automaton, Accepts}
-use Rattle.gta_theory.specs.Constructions.{complement, IsClosed, IsNaming}
+use Rattle.gta_theory.specs.Automata.{Accepts}
+use Rattle.gta_theory.specs.Constructions.{complement, IsClosed}
 use Rattle.gta_theory.specs.Numbered.{Below}
 use Rattle.gta_theory.proofs.AutomataLemmas.{Accepts-named, Accepts-complement}
-use Rattle.gta_core.specs.Auto.{AutoView, states_of, guide_of, root_at, automaton_of, IsAuto, IsWhole}
+use Rattle.gta_core.specs.Auto.{AutoView, states_of, root_at, automaton_of, IsAuto, IsWhole}
 use Rattle.gta_product.specs.Complement.{IsComplement}
 
 accepting-not : (xs : List Bool) (q : ℕ) → q < length xs → unwrap_or (slice_get (map not xs) q) false ≡ not (unwrap_or (slice_get xs q) false)

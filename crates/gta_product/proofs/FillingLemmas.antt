@@ -1,5 +1,5 @@
 -- Joins of rows and columns.
-use Rattle.std.proofs.Common.{◌≡◌, ℕ, suc, ◌+◌, ◌<◌, List, [], ◌∷◌, ◌++◌, length, Option, Some, None, Contains, slice_get, sym, ◌∙◌, ap, refl, subst, inl, inr, arith, ◌⊎◌, IfOk}
+use Rattle.std.proofs.Common.{◌≡◌, ℕ, List, [], ◌∷◌, Option, Some, None, Contains, slice_get, sym, ◌∙◌, ap, refl, subst, inl, inr, arith, ◌⊎◌}
 use Rattle.std.specs.List.{All}
 use Rattle.std.proofs.Math.Path.{fun_ext}
 use Rattle.std.proofs.lemmas.List.Elements.{All-cons}
@@ -15,8 +15,8 @@ use Rattle.gta_theory.specs.Automata.{Automaton}
 use Rattle.gta_theory.specs.Constructions.{pairs}
 use Rattle.gta_core.specs.Auto.{AutoView, root_at, automaton_of}
 use Rattle.gta_core.proofs.AutoLemmas.{step-some}
-use Rattle.gta_product.specs.Numbers.{number_in, numbered, AreNumbers, Extends}
-use Rattle.gta_product.specs.Filling.{asked_at, IsCell, IsMade, IsCellFunction, AddsCells, ExceedsCells, Joins}
+use Rattle.gta_product.specs.Numbers.{number_in, numbered, AreNumbers}
+use Rattle.gta_product.specs.Filling.{asked_at, IsCell, IsCellFunction, ExceedsCells, Joins}
 use Rattle.gta_product.proofs.NumbersLemmas.{number_in-get, Extends-answers}
 
 cases_number : (o : Option ℕ) → (o ≡ None) ⊎ ((n : ℕ) × (o ≡ Some n))

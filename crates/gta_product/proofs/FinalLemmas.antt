@@ -1,6 +1,6 @@
 -- Parts for all spaces, of pairs that stay as they are, are the product.
-use Rattle.std.proofs.Common.{◌≡◌, ℕ, zero, suc, ◌+◌, ◌*◌, ◌^◌, ◌<◌, ◌≤◌, Bool, false, ◌&&◌, List, [], ◌∷◌, map, length, Option, Some, None, slice_get, ◌↔◌, IsTrue, refl, sym, ◌∙◌, ap, subst, inl, inr, arith, ◌⊎◌}
-use Rattle.std.specs.Prelude.{All, IsSome, is_some, unwrap_or, option_map, option_and_then}
+use Rattle.std.proofs.Common.{◌≡◌, ℕ, zero, suc, ◌+◌, ◌*◌, ◌^◌, ◌<◌, ◌≤◌, Bool, false, ◌&&◌, List, [], ◌∷◌, map, length, Option, Some, None, slice_get, ◌↔◌, refl, sym, ◌∙◌, ap, subst, arith}
+use Rattle.std.specs.Prelude.{IsSome, is_some, unwrap_or, option_map, option_and_then}
 use Rattle.std.proofs.lemmas.Bool.{false≢true, lt-ltb, ltb-true}
 use Rattle.std.proofs.lemmas.List.{length-map}
 use Rattle.std.proofs.lemmas.Option.{slice_get-map, slice_get_past, slice_get_within}
@@ -8,10 +8,10 @@ use Rattle.labels.specs.Labels.{Label}
 use Rattle.bdd_nodes.specs.declared.node.Node.{Node}
 use Rattle.bdd_nodes.specs.declared.node_ref.NodeRef.{NodeRef}
 use Rattle.bdd_nodes.specs.Nodes.{node_of, state_named}
-use Rattle.bdd_nodes.specs.Shelf.{Contents, IsShelf, state_of, root_of, roots_of}
+use Rattle.bdd_nodes.specs.Shelf.{Contents, state_of, root_of}
 use Rattle.bdd_nodes.specs.Changes.{AddsTable}
 use Rattle.gta_theory.specs.Guides.{Spaces, IsGuide, IsSpace, left, right}
-use Rattle.gta_theory.specs.Automata.{Automaton, IsStable}
+use Rattle.gta_theory.specs.Automata.{Automaton}
 use Rattle.gta_theory.specs.Constructions.{pairs, IsClosed, IsNaming, IsOnce, IsProduct}
 use Rattle.gta_theory.specs.Generated.{Generated, starts, steps, IsGenerated}
 use Rattle.gta_theory.specs.Numbered.{Below}
@@ -19,13 +19,13 @@ use Rattle.gta_theory.specs.Sizes.{IsChildPair}
 use Rattle.gta_theory.proofs.AutomataLemmas.{IsStable-pairs}
 use Rattle.gta_theory.proofs.GeneratedLemmas.{IsStable-closed, IsProduct-generated}
 use Rattle.gta_core.specs.declared.part.Part.{Part}
-use Rattle.gta_core.specs.Auto.{AutoView, states_of, initial_of, is_accepting, guide_of, place_in, place_of, root_at, automaton_of, IsUsed, IsAuto, IsWhole}
+use Rattle.gta_core.specs.Auto.{AutoView, states_of, is_accepting, guide_of, place_in, place_of, root_at, automaton_of, IsUsed, IsAuto, IsWhole}
 use Rattle.gta_core.proofs.AutoLemmas.{past-none, step-some}
-use Rattle.gta_product.specs.Numbers.{number_in, AreNumbers, Extends}
+use Rattle.gta_product.specs.Numbers.{number_in, Extends}
 use Rattle.gta_product.specs.Filling.{IsCell}
-use Rattle.gta_product.specs.Building.{IsSpaceOf, AreSpaces, IsBuilt, IsPartOf, IsPlaceOf, AreParts, ExtendAll}
+use Rattle.gta_product.specs.Building.{AreSpaces, IsPartOf, AreParts, ExtendAll}
 use Rattle.gta_product.proofs.NumbersLemmas.{number_in-get}
-use Rattle.gta_product.proofs.CellsLemmas.{get-index, HasRoot, has-root, is-place}
+use Rattle.gta_product.proofs.CellsLemmas.{get-index, has-root, is-place}
 
 -- lists with the same elements are the same
 ext : {X : Type 0} (xs ys : List X) → ((i : ℕ) → slice_get xs i ≡ slice_get ys i) → xs ≡ ys

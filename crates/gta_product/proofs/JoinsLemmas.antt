@@ -1,20 +1,19 @@
 -- Joins of a space, one after the other.
-use Rattle.std.proofs.Common.{◌≡◌, ℕ, zero, suc, ◌+◌, ◌*◌, ◌<◌, ◌≤◌, List, [], ◌∷◌, ◌++◌, length, length-append, Option, Some, None, Contains, slice_get, sym, ◌∙◌, ap, refl, subst, inl, inr, arith, ◌⊎◌, suc-mul, mul-le-mul_right}
+use Rattle.std.proofs.Common.{◌≡◌, ℕ, zero, suc, ◌+◌, ◌*◌, ◌<◌, List, [], ◌∷◌, ◌++◌, length, length-append, Option, Some, None, Contains, slice_get, sym, ◌∙◌, ap, refl, subst, inl, inr, arith, suc-mul, mul-le-mul_right}
 use Rattle.std.specs.List.{All}
 use Rattle.std.proofs.lemmas.Option.{slice_get_within}
 use Rattle.std.proofs.lemmas.List.Elements.{All-cons}
-use Rattle.labels.specs.Labels.{Label, Function}
+use Rattle.labels.specs.Labels.{Function}
 use Rattle.bdd_nodes.specs.declared.node_ref.NodeRef.{NodeRef}
-use Rattle.bdd_nodes.specs.Shelf.{Contents, IsShelf, IsValid}
+use Rattle.bdd_nodes.specs.Shelf.{Contents, IsShelf}
 use Rattle.bdd_nodes.specs.Changes.{Keeps}
 use Rattle.bdd_nodes.proofs.CallerLemmas.{Keeps-refl, Keeps-trans}
 use Rattle.bdd_walk.specs.Answers.{Completes}
 use Rattle.bdd_walk.proofs.AddsAmongLemmas.{AddsAmong-none, AddsAmong-more, ExceedsAmong-more}
 use Rattle.gta_theory.specs.Automata.{Automaton}
-use Rattle.gta_core.specs.Placing.{Grows}
 use Rattle.gta_product.specs.Numbers.{numbered, AreNumbers, Extends}
-use Rattle.gta_product.specs.Filling.{IsCell, IsMade, IsCellFunction, AddsCells, ExceedsCells, Joins, IsRow, AreCells}
-use Rattle.gta_product.proofs.NumbersLemmas.{Extends-refl, Extends-trans, Completes-extends, number_in-extends, get-snoc, get-kept, get-last}
+use Rattle.gta_product.specs.Filling.{IsCell, IsMade, IsCellFunction, ExceedsCells, Joins, IsRow, AreCells}
+use Rattle.gta_product.proofs.NumbersLemmas.{Extends-refl, Extends-trans, Completes-extends, number_in-extends, get-snoc, get-last}
 
 pub All-tail : {X : Type 0} (P : X → Type 0) (x : X) (xs : List X) → All P (x ∷ xs) → All P xs
 All-tail P x xs all = λ k d within. all (suc k) d (omega arith)

@@ -16,7 +16,6 @@ use Rattle.gta_theory.specs.Sizes.{IsPart, sum_below, SizeOf}
 use Rattle.gta_theory.proofs.AutomataLemmas.{IsClosed-values, IsStable-product}
 use Rattle.gta_theory.proofs.ListsLemmas.{Contains-map}
 use Rattle.gta_theory.proofs.SizesLemmas.{length-partners}
-use Rattle.gta_product.specs.Filling.{asked_at}
 use Rattle.gta_product.specs.Building.{IsStepFunction, ExceedsSteps}
 
 -- the parts of the spaces below a number, each with its space

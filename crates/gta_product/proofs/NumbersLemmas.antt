@@ -1,9 +1,8 @@
 -- Numbers for pairs.
-use Rattle.std.proofs.Common.{◌≡◌, ℕ, zero, suc, ◌+◌, ◌<◌, ◌≤◌, ◌^◌, Bool, true, false, ◌&&◌, ◌||◌, if◌then◌else◌, List, [], ◌∷◌, ◌++◌, length, length-append}
+use Rattle.std.proofs.Common.{◌≡◌, ℕ, zero, suc, ◌<◌, ◌^◌, Bool, true, false, ◌||◌, if◌then◌else◌, List, [], ◌∷◌, ◌++◌, length, length-append}
 use Rattle.std.proofs.Common.{Option, Some, None, option_map, slice_get, slice_index, nat_eq, sym, ◌∙◌, ap, refl, subst, inl, inr, arith, ◌⊎◌}
 use Rattle.std.specs.List.{list_any}
 use Rattle.std.proofs.lemmas.Bool.{cases_Bool, eqb-true, eq-eqb, false≢true}
-use Rattle.std.proofs.lemmas.Option.{slice_get_within}
 use Rattle.bdd_walk.specs.Laws.{and-left, and-right, and-both}
 use Rattle.bdd_walk.specs.Answers.{KeepsAnswers, AnswersOnly, Completes}
 use Rattle.gta_product.specs.Numbers.{is_pair, number_in, numbered, AreNumbers, Extends, Grows, stays, comes}

@@ -1,8 +1,7 @@
 -- The part of a space, and joiners that go on fitting.
-use Rattle.std.proofs.Common.{◌≡◌, ◌≢◌, ℕ, zero, suc, ◌+◌, ◌*◌, ◌<◌, ◌≤◌, List, [], ◌∷◌, length, Option, Some, None, Contains, get_or, slice_get, refl, sym, ◌∙◌, ap, subst, inl, inr, arith, ◌⊎◌}
-use Rattle.std.specs.Prelude.{All, slice_set, IsSome, is_some, unwrap_or, option_map}
+use Rattle.std.proofs.Common.{◌≡◌, ◌≢◌, ℕ, zero, suc, ◌+◌, ◌*◌, ◌<◌, List, [], ◌∷◌, length, Option, Some, None, Contains, get_or, slice_get, refl, sym, ◌∙◌, ap, subst, inl, inr, arith}
+use Rattle.std.specs.Prelude.{slice_set, IsSome}
 use Rattle.std.specs.List.{range_with_len}
-use Rattle.std.proofs.lemmas.Bool.{ltb-true}
 use Rattle.std.proofs.lemmas.Bool.Decides.{eqb_tells}
 use Rattle.std.proofs.lemmas.Option.{slice_get_within, slice_get-get_or}
 use Rattle.bdd_nodes.specs.declared.node_ref.NodeRef.{NodeRef}
@@ -17,7 +16,7 @@ use Rattle.gta_theory.specs.Constructions.{pairs}
 use Rattle.gta_core.specs.declared.part.Part.{Part}
 use Rattle.gta_core.specs.Auto.{AutoView, guide_of, root_at, automaton_of, IsAuto}
 use Rattle.gta_product.specs.declared.classes.Classes.{Classes}
-use Rattle.gta_product.specs.Numbers.{numbered, AreNumbers}
+use Rattle.gta_product.specs.Numbers.{numbered}
 use Rattle.gta_product.specs.Classes.{AreClasses}
 use Rattle.gta_product.specs.Filling.{AreCells}
 use Rattle.gta_product.specs.Building.{AreSpaces, IsBuilt, FitAll}

@@ -1,10 +1,9 @@
 -- The product at the start, at its end, and where there was no room.
-use Rattle.std.proofs.Common.{◌≡◌, ◌≢◌, ℕ, ◌+◌, ◌<◌, Bool, List, [], ◌∷◌, Option, Some, Result, Ok, Err, OnErr, slice_get, refl, sym, ◌∙◌, ap, subst, arith}
-use Rattle.std.specs.Prelude.{unwrap_or, IsSome, is_some}
-use Rattle.std.specs.List.{All}
+use Rattle.std.proofs.Common.{ℕ, ◌+◌, ◌<◌, Bool, List, [], Option, Result, Ok, Err, OnErr, slice_get, refl, sym, ◌∙◌, ap, subst, arith}
+use Rattle.std.specs.Prelude.{unwrap_or, is_some}
 use Rattle.bdd_nodes.specs.Roots.{Registered, roots_under}
 use Rattle.bdd_nodes.specs.declared.node_ref.NodeRef.{NodeRef}
-use Rattle.bdd_nodes.specs.Shelf.{Contents, IsShelf, count_of, limit_of, roots_of, tables_added}
+use Rattle.bdd_nodes.specs.Shelf.{Contents, IsShelf, count_of, limit_of}
 use Rattle.bdd_nodes.specs.Changes.{SameTables, AddsTable}
 use Rattle.bdd_nodes.proofs.CallerLemmas.{Keeps-refl}
 use Rattle.bdd_walk.specs.Answers.{Completes}

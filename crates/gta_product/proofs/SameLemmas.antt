@@ -1,7 +1,7 @@
 -- Spaces that stay as they are, and parts that outlive joins.
-use Rattle.std.proofs.Common.{◌≡◌, ℕ, zero, suc, ◌+◌, ◌*◌, ◌<◌, ◌≤◌, List, [], ◌∷◌, ◌++◌, length, length-append, Option, Some, None, slice_get, sym, ◌∙◌, ap, subst, refl, inl, inr, arith, ◌⊎◌}
+use Rattle.std.proofs.Common.{◌≡◌, ℕ, suc, ◌+◌, ◌*◌, List, [], ◌∷◌, ◌++◌, length, Option, Some, None, slice_get, sym, ◌∙◌, ap, subst, refl, inl, inr, arith}
 use Rattle.std.proofs.lemmas.Bool.{cases_lt}
-use Rattle.std.proofs.lemmas.Option.{slice_get_past, slice_get_within}
+use Rattle.std.proofs.lemmas.Option.{slice_get_within}
 use Rattle.bdd_nodes.specs.declared.node_ref.NodeRef.{NodeRef}
 use Rattle.bdd_nodes.specs.Shelf.{Contents}
 use Rattle.bdd_nodes.specs.Changes.{Keeps}
@@ -12,7 +12,7 @@ use Rattle.gta_core.specs.Auto.{AutoView}
 use Rattle.gta_core.specs.Placing.{Grows}
 use Rattle.gta_core.proofs.AutoLemmas.{past-none}
 use Rattle.gta_product.specs.Numbers.{AreNumbers, Extends}
-use Rattle.gta_product.specs.Building.{AreSpaces, IsBuilt, IsPartOf, IsPlaceOf, AreParts, ExtendAll}
+use Rattle.gta_product.specs.Building.{AreSpaces, IsBuilt, IsPartOf, AreParts, ExtendAll}
 use Rattle.gta_product.proofs.NumbersLemmas.{Extends-refl, Extends-trans, get-snoc, get-kept, get-last}
 use Rattle.gta_product.proofs.CellsLemmas.{cell-inside, get-index}
 use Rattle.gta_product.proofs.JoinsLemmas.{IsCell-kept}

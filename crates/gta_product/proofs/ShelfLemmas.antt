@@ -1,5 +1,5 @@
 -- Automata over joins of their shelf, and what their parts have.
-use Rattle.std.proofs.Common.{◌≡◌, ℕ, zero, suc, ◌+◌, ◌*◌, ◌<◌, List, [], ◌∷◌, length, Option, Some, None, Contains, slice_get, refl, sym, ◌∙◌, ap, subst, arith}
+use Rattle.std.proofs.Common.{◌≡◌, ℕ, zero, suc, ◌+◌, ◌*◌, ◌<◌, List, [], ◌∷◌, length, Option, Some, None, Contains, slice_get, refl, ◌∙◌, ap, subst, arith}
 use Rattle.std.specs.Prelude.{IsSome, option_map, option_and_then}
 use Rattle.std.proofs.lemmas.Bool.{false≢true}
 use Rattle.std.proofs.lemmas.Option.{slice_get-get_or}
@@ -8,12 +8,11 @@ use Rattle.bdd_nodes.specs.Shelf.{Contents, IsShelf, root_of}
 use Rattle.bdd_nodes.specs.Changes.{Keeps, SameTables}
 use Rattle.gta_theory.specs.Guides.{Spaces, IsGuide, IsSpace, left, right}
 use Rattle.gta_theory.specs.Automata.{Automaton}
-use Rattle.gta_theory.specs.Constructions.{pairs, IsClosed}
+use Rattle.gta_theory.specs.Constructions.{pairs}
 use Rattle.gta_theory.specs.Generated.{Generated, starts, steps}
 use Rattle.gta_theory.specs.Numbered.{Below}
 use Rattle.gta_core.specs.declared.part.Part.{Part}
 use Rattle.gta_core.specs.Auto.{AutoView, states_of, initial_of, place_in, place_of, root_at, automaton_of, IsAuto}
-use Rattle.gta_core.specs.Changes.{KeepsTable, function_of}
 use Rattle.gta_core.proofs.AutoLemmas.{automaton_of-kept, IsAuto-kept}
 use Rattle.gta_core.proofs.KeptLemmas.{KeepsTable-joins}
 

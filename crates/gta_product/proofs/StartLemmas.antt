@@ -1,8 +1,7 @@
 -- The start: each space has its initial pair.
-use Rattle.std.proofs.Common.{◌≡◌, ℕ, zero, suc, ◌<◌, List, [], ◌∷◌, ◌++◌, length, Option, Some, None, slice_get, refl, sym, ◌∙◌, ap, subst, arith}
+use Rattle.std.proofs.Common.{◌≡◌, ℕ, zero, suc, ◌<◌, List, [], ◌∷◌, length, Option, Some, None, slice_get, refl, sym, ◌∙◌, ap, subst, arith}
 use Rattle.bdd_nodes.specs.Shelf.{Contents}
 use Rattle.gta_theory.specs.Guides.{Spaces, IsSpace}
-use Rattle.gta_theory.specs.Automata.{Automaton}
 use Rattle.gta_theory.specs.Constructions.{pairs}
 use Rattle.gta_theory.specs.Generated.{Generated, starts}
 use Rattle.gta_core.specs.Auto.{AutoView, initial_of, automaton_of}

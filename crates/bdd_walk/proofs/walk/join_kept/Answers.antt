@@ -1,6 +1,5 @@
 -- Turn after turn the walk is at work for the call.
 use Rattle.std.proofs.Common.{◌≡◌, ◌<◌, ◌+◌, ◌-◌, ℕ, List, [], ◌++◌, length, take, refl, sym, ◌∙◌, ap, subst, arith}
-use Rattle.bdd_nodes.specs.declared.node_ref.NodeRef.{NodeRef}
 use Rattle.bdd_walk.specs.declared.walk.Frame.{Frame}
 use Rattle.bdd_walk.specs.declared.walk.Turn.{Turn}
 use Rattle.bdd_walk.specs.declared.walk.Turn.TheVariants.{Visit, Done}

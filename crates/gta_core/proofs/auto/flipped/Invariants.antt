@@ -1,4 +1,4 @@
-use Rattle.std.proofs.Common.{◌≡◌, ◌++◌, take, drop, map, not, length}
+use Rattle.std.proofs.Common.{◌≡◌, ◌++◌, take, drop, map, not}
 use Rattle.gta_core.proofs.auto.flipped.Given as goal
 
 abbrev pub invariant-loop-place : goal.invariant-loop-place

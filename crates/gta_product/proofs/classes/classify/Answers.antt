@@ -1,7 +1,7 @@
 use Rattle.std.proofs.Common.{◌+◌, ℕ, List, [], ◌∷◌, ◌++◌, take, get_or, sym, subst, arith}
 use Rattle.std.proofs.lemmas.List.{take_more}
 use Rattle.gta_product.specs.Classes.{AreKeyed}
-use Rattle.gta_product.proofs.ClassesLemmas.{AreKeyed-none, AreKeyed-more}
+use Rattle.gta_product.proofs.ClassesLemmas.{AreKeyed-more}
 use Rattle.gta_product.proofs.classes.classify.Goals as goal
 
 pub loop-pair-preserved : goal.loop-pair-preserved

@@ -1,5 +1,4 @@
 use Rattle.std.proofs.Common.{take}
-use Rattle.gta_product.specs.Numbers.{AreNumbers}
 use Rattle.gta_product.specs.Classes.{AreKeyed}
 use Rattle.gta_product.proofs.classes.classify.Given as goal
 

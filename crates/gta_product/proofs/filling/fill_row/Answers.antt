@@ -1,16 +1,15 @@
 -- A row is joined with one column after the other.
-use Rattle.std.proofs.Common.{◌≡◌, ◌+◌, ℕ, List, Option, [], ◌∷◌, ◌++◌, take, get_or, IsSome, Contains, All, sym, ◌∙◌, subst, arith}
+use Rattle.std.proofs.Common.{◌+◌, ℕ, List, Option, [], ◌∷◌, ◌++◌, take, get_or, IsSome, All, sym, ◌∙◌, subst, arith}
 use Rattle.std.proofs.lemmas.List.{take_more}
 use Rattle.std.proofs.lemmas.List.Elements.{Contains-get_or}
 use Rattle.bdd_nodes.specs.declared.node_ref.NodeRef.{NodeRef}
 use Rattle.bdd_nodes.specs.Shelf.{IsValid}
-use Rattle.bdd_walk.specs.Fits.{Fits}
 use Rattle.gta_theory.specs.Automata.{Automaton}
 use Rattle.gta_theory.specs.Constructions.{pairs}
 use Rattle.gta_core.specs.Auto.{automaton_of}
 use Rattle.gta_product.specs.Filling.{IsCell, IsRow}
 use Rattle.gta_product.proofs.ShelfLemmas.{root_at-kept}
-use Rattle.gta_product.proofs.JoinsLemmas.{Joins-none, IsRow-none, IsRow-more}
+use Rattle.gta_product.proofs.JoinsLemmas.{IsRow-more}
 use Rattle.gta_product.proofs.NextLemmas.{same-both, Joins-next, ExceedsCells-next, valid-more, in-alone}
 use Rattle.gta_product.proofs.filling.fill_row.Goals as goal
 

@@ -1,4 +1,4 @@
-use Rattle.std.proofs.Common.{◌≡◌, ℕ, List, [], ◌∷◌, None, All, take}
+use Rattle.std.proofs.Common.{[], ◌∷◌, None, All, take}
 use Rattle.bdd_nodes.specs.Shelf.{IsValid}
 use Rattle.bdd_walk.specs.Fits.{Fits}
 use Rattle.gta_theory.specs.Constructions.{pairs}

@@ -1,5 +1,4 @@
-use Rattle.std.proofs.Common.{◌≡◌, ℕ, List, [], ◌∷◌, ◌++◌, length, length-append, Option, Some, None, slice_get, sym, ◌∙◌, ap, subst, inl, inr, arith, ◌⊎◌}
-use Rattle.std.proofs.lemmas.Option.{slice_get_within}
+use Rattle.std.proofs.Common.{◌≡◌, List, [], ◌∷◌, length, length-append, Option, Some, None, slice_get, sym, ◌∙◌, ap, subst, inl, inr, arith}
 use Rattle.bdd_walk.specs.declared.joiner.Joiner.{Joiner}
 use Rattle.bdd_walk.specs.Fits.{Fits}
 use Rattle.gta_product.specs.Numbers.{numbered}

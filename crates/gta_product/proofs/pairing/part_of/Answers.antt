@@ -1,11 +1,9 @@
 -- The part of a space is filled.
-use Rattle.std.proofs.Common.{◌≡◌, ◌*◌, ◌-◌, ◌+◌, ℕ, List, Option, Some, None, Contains, length, get_or, slice_get, refl, sym, ◌∙◌, ap, subst, arith}
+use Rattle.std.proofs.Common.{◌≡◌, ◌-◌, ℕ, List, Option, Some, Contains, length, get_or, slice_get, refl, sym, ◌∙◌, ap, subst, arith}
 use Rattle.std.specs.Prelude.{unwrap_or, slice_set}
 use Rattle.std.specs.List.{range_with_len}
 use Rattle.std.proofs.lemmas.Option.{slice_get-get_or}
 use Rattle.std.proofs.lemmas.List.FromFn.{length-range_with_len}
-use Rattle.bdd_nodes.specs.declared.node_ref.NodeRef.{NodeRef}
-use Rattle.bdd_walk.specs.declared.joiner.Joiner.{Joiner}
 use Rattle.gta_theory.specs.Guides.{left, right}
 use Rattle.gta_theory.specs.Constructions.{pairs}
 use Rattle.gta_core.specs.Auto.{automaton_of}
@@ -13,7 +11,7 @@ use Rattle.gta_core.proofs.PlacingLemmas.{unwrap-inside}
 use Rattle.gta_product.specs.Classes.{AreClasses}
 use Rattle.gta_product.specs.Filling.{AreCells}
 use Rattle.gta_product.proofs.BuildingLemmas.{ExtendAll-set, AreSpaces-set, Building-set, ExceedsSteps-set}
-use Rattle.gta_product.proofs.PartLemmas.{get-at, get-set, at-child, part-at, parts-length, length-set_at, SetsSpace-at, FitAll-set, ones-inside, row-inside, column-inside, first-known, second-known, IsBuilt-made}
+use Rattle.gta_product.proofs.PartLemmas.{get-at, get-set, at-child, part-at, length-set_at, SetsSpace-at, FitAll-set, ones-inside, row-inside, column-inside, first-known, second-known, IsBuilt-made}
 use Rattle.gta_product.proofs.pairing.part_of.Goals as goal
 
 same_list : (a b : List (ℕ × ℕ)) → ◌≡◌ {A = Option (List (ℕ × ℕ))} (Some a) (Some b) → a ≡ b

@@ -1,4 +1,4 @@
-use Rattle.std.proofs.Common.{◌≡◌, ℕ, List, length, All}
+use Rattle.std.proofs.Common.{◌≡◌, length, All}
 use Rattle.bdd_nodes.specs.Shelf.{Contents, IsValid}
 use Rattle.bdd_nodes.specs.Changes.{Keeps, SameTables}
 use Rattle.gta_theory.specs.Constructions.{pairs}

@@ -6,7 +6,6 @@ use Rattle.bdd_nodes.proofs.CallerLemmas.{Keeps-trans, Keeps-same}
 use Rattle.gta_theory.specs.Automata.{Accepts}
 use Rattle.gta_theory.specs.Constructions.{pairs}
 use Rattle.gta_theory.proofs.AutomataLemmas.{Accepts-product}
-use Rattle.gta_theory.specs.Numbered.{Below}
 use Rattle.gta_core.specs.Auto.{AutoView, states_of, is_accepting, automaton_of, IsAuto, IsWhole}
 use Rattle.gta_product.specs.Product.{IsProductOf}
 use Rattle.gta_product.proofs.PartLemmas.{get-at}

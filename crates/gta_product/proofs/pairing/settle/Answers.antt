@@ -1,7 +1,5 @@
 -- Round after round the product is built, until no pair comes.
-use Rattle.std.proofs.Common.{◌≡◌, ℕ, List, length, map, All, sym, ◌∙◌, ap, subst, arith}
-use Rattle.bdd_nodes.specs.declared.node_ref.NodeRef.{NodeRef}
-use Rattle.bdd_nodes.specs.Shelf.{Contents}
+use Rattle.std.proofs.Common.{◌≡◌, ℕ, List, sym, ◌∙◌, subst}
 use Rattle.gta_theory.specs.Automata.{Automaton}
 use Rattle.gta_theory.specs.Constructions.{pairs}
 use Rattle.gta_core.specs.Auto.{automaton_of}

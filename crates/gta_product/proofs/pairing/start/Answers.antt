@@ -1,5 +1,4 @@
-use Rattle.std.proofs.Common.{◌≡◌, ◌<◌, ℕ, List, [], ◌∷◌, ◌++◌, length, length-append, Some, slice_get, sym, ◌∙◌, ap, subst, inl, inr, arith, ◌⊎◌}
-use Rattle.bdd_nodes.specs.Shelf.{Contents}
+use Rattle.std.proofs.Common.{◌<◌, ℕ, List, [], ◌∷◌, length, length-append, slice_get, sym, ◌∙◌, ap, subst, inl, inr, arith}
 use Rattle.gta_theory.specs.Constructions.{pairs}
 use Rattle.gta_core.specs.Auto.{initial_of, automaton_of}
 use Rattle.gta_product.specs.Numbers.{Grows}

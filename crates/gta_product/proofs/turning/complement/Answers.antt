@@ -1,8 +1,7 @@
-use Rattle.std.proofs.Common.{refl, sym, subst}
-use Rattle.bdd_nodes.specs.Shelf.{Contents}
+use Rattle.std.proofs.Common.{sym, subst}
 use Rattle.gta_core.specs.Auto.{AutoView, states_of, automaton_of, IsAuto}
 use Rattle.gta_product.specs.Complement.{IsComplement}
-use Rattle.gta_product.proofs.ComplementLemmas.{turned, IsAuto-turned, IsComplement-turned, Accepts-turned}
+use Rattle.gta_product.proofs.ComplementLemmas.{IsAuto-turned, IsComplement-turned, Accepts-turned}
 use Rattle.gta_product.proofs.turning.complement.Goals as goal
 
 pub returns-clause-auto : goal.returns-clause-auto

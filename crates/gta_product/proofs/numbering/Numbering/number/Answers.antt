@@ -1,5 +1,5 @@
 use Rattle.std.proofs.Common.{ℕ, List, Option, Some, sym, ◌∙◌, ap, subst, arith}
-use Rattle.gta_product.specs.Numbers.{AreNumbers, Grows}
+use Rattle.gta_product.specs.Numbers.{Grows}
 use Rattle.gta_product.proofs.NumbersLemmas.{is_pair-true, Grows-insert, AreNumbers-grows}
 use Rattle.gta_product.proofs.numbering.Numbering.number.Goals as goal
 
