@@ -12,23 +12,20 @@ use bdd_nodes::{Full, NodeRef, RefList, Shelf};
 use bdd_walk::{Joiner, LeafRule, StateList, Stop, join};
 use std::alloc::{AllocError, Global};
 
-/// The states' number: its digits to the base are the states.
+/// The states' number: its digits to the base 16 are the states.
 #[derive(Clone, Copy, Debug)]
-struct Digits {
-    base: u32,
-}
+struct Digits;
 
 impl LeafRule for Digits {
     ghost use Rattle.bench_nodes.specs.Digits.{digits};
 
-    ghost answers = { λ rule. digits rule.base };
+    ghost answers = { λ rule. digits };
 
     ghost may_ask = { λ rule states. Unit {0} };
 
     fn leaf(&mut self, states: &StateList) -> Result<u32, AllocError> {
-        let base = self.base;
         let number = states.as_slice().iter().fold(0u32, |number, state| {
-            number.wrapping_mul(base).wrapping_add(*state)
+            number.wrapping_mul(16).wrapping_add(*state)
         });
         Ok(number % 0x8000_0000)
     }
@@ -45,7 +42,7 @@ fn join_rounds(
     requires { All (IsValid shelf.old) roots.now }
 {
     for _round in 0..rounds {
-        join(alloc, shelf, roots, dropped, &mut Digits { base: 16 })?;
+        join(alloc, shelf, roots, dropped, &mut Digits)?;
     }
     Ok(())
 }
@@ -137,6 +134,29 @@ pub fn join_three(
     Ok(shelf.count())
 }
 
+/// Joins two roots, through the joiner as it is or anew.
+fn join_two_roots(
+    alloc: Global,
+    shelf: &mut Shelf,
+    joiner: &mut Joiner,
+    roots: &[NodeRef; 2],
+    is_kept: bool,
+) -> Result<(), Stop>
+    requires roots { All (IsValid shelf.old) roots.now }
+    requires fits { Fits joiner.old None shelf.old digits }
+    ensures kept { Keeps shelf.old shelf.new }
+    ensures fits { OnOk result (Fits joiner.new None shelf.new digits) }
+{
+    if is_kept {
+        joiner.join(alloc, shelf, roots, None, &mut Digits)?;
+        return Ok(());
+    }
+    let mut rule = Digits;
+    *joiner = Joiner::new(alloc);
+    joiner.join(alloc, shelf, roots, None, &mut rule)?;
+    Ok(())
+}
+
 /// Joins the root with each of the others: through one joiner, or each through one that is made anew.
 fn join_with_each(
     alloc: Global,
@@ -148,15 +168,12 @@ fn join_with_each(
 ) -> Result<(), Stop>
     requires root { IsValid shelf.old root }
     requires others { All (IsValid shelf.old) others.now }
-    requires fits { Fits joiner.old None shelf.old (digits 16) }
+    requires fits { Fits joiner.old None shelf.old digits }
     ensures kept { Keeps shelf.old shelf.new }
-    ensures fits { OnOk result (Fits joiner.new None shelf.new (digits 16)) }
+    ensures fits { OnOk result (Fits joiner.new None shelf.new digits) }
 {
     for other in others {
-        if !is_kept {
-            *joiner = Joiner::new(alloc);
-        }
-        joiner.join(alloc, shelf, &[root, *other], None, &mut Digits { base: 16 })?;
+        join_two_roots(alloc, shelf, joiner, &[root, *other], is_kept)?;
     }
     Ok(())
 }
@@ -174,11 +191,12 @@ pub fn join_small(
     requires small { limit ≤ 16000000 }
 {
     let mut shelf = Shelf::open(alloc, limit)?;
-    let tops = make_all(alloc, &mut shelf, 16, width, 3)?;
+    let made = make_all(alloc, &mut shelf, 16, width, 3)?;
+    let tops = made.as_slice();
     for _round in 0..rounds {
         let mut joiner = Joiner::new(alloc);
-        for top in tops.as_slice() {
-            join_with_each(alloc, &mut shelf, &mut joiner, *top, tops.as_slice(), is_kept)?;
+        for top in tops {
+            join_with_each(alloc, &mut shelf, &mut joiner, *top, tops, is_kept)?;
         }
     }
     Ok(shelf.count())

@@ -45,7 +45,7 @@ module _ (old new : List (List (ℕ × ℕ))) (s : ℕ) (before after : List (�
 
 module _ (g : Spaces) (AB : Automaton (ℕ × ℕ)) where
   pub AreSpaces-building : (first shelf : Contents) (spaces : List (List (ℕ × ℕ))) → Building g AB first shelf spaces → AreSpaces g AB spaces
-  AreSpaces-building first shelf spaces building = building.spaces
+  AreSpaces-building first shelf spaces building = building.are
 
   module _ (s : ℕ) (inside : IsSpace g s) (old new : List (List (ℕ × ℕ))) (lefts rights before after : List (ℕ × ℕ))
       (are : AreSpaces g AB old) (sets : SetsSpace old new s before after)
@@ -108,7 +108,7 @@ module _ (g : Spaces) (AB : Automaton (ℕ × ℕ)) where
         same_limit = joins.same_limit ∙ building.same_limit;
         tables = joins.tables ∙ building.tables;
         shelf = joins.shelf;
-        spaces = AreSpaces-set;
+        are = AreSpaces-set;
         counted = λ given completes.
             let earlier = building.counted given (completes-before given completes) in
             let later = joins.counted (given s) (completes s after sets.is) in

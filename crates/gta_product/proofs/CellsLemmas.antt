@@ -144,8 +144,8 @@ module _ (g : Spaces) (first : Contents) (a b : AutoView) (s : ℕ) (lefts right
       let w = suc v in
       let i = k / w in
       let j = k % w in
-      let below : i < height = (div-lt_iff_lt-mul {suc v} {k} {height} (omega arith)).1 less in
-      let within : j < w = mod-lt k {suc v} (omega arith) in
+      let below : i < height = (div-lt_iff_lt-mul {k = suc v} {x = k} {y = height} (omega arith)).1 less in
+      let within : j < w = mod-lt k {m = suc v} (omega arith) in
       let row = built.row_classes.used i below in
       let column = built.column_classes.used j (subst (λ (n : ℕ). j < n) is within) in
       let whole : i * w + j ≡ k = div-add-mod' k w in

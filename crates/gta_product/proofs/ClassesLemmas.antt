@@ -1,5 +1,5 @@
 -- Classes, one pair after the other.
-use Rattle.std.proofs.Common.{◌≡◌, ◌≢◌, ℕ, zero, suc, ◌+◌, ◌<◌, ◌≤◌, List, [], ◌∷◌, ◌++◌, length, length-append, Option, Some, None, slice_get, slice_index, sym, ◌∙◌, ap, refl, subst, inl, inr, arith, ◌⊎◌}
+use Rattle.std.proofs.Common.{◌≡◌, ◌≢◌, ℕ, zero, suc, ◌+◌, ◌^◌, ◌<◌, ◌≤◌, List, [], ◌∷◌, ◌++◌, length, length-append, Option, Some, None, slice_get, slice_index, sym, ◌∙◌, ap, refl, subst, inl, inr, arith, ◌⊎◌}
 use Rattle.std.proofs.lemmas.Option.{slice_get_within}
 use Rattle.gta_product.specs.Numbers.{number_in, AreNumbers, Grows, stays, comes}
 use Rattle.gta_product.specs.Classes.{HaveClasses, IsClassed, IsClass, AreClasses, Notes, known, fresh, AreKeyed}
@@ -29,6 +29,7 @@ AreKeyed-none left right = record {
     used = λ class within. absurd (omega arith);
   };
   many = refl;
+  few = omega arith;
   key = λ class one e. absurd (let f : ◌≡◌ {A = Option (ℕ × ℕ)} None (Some one) = e in cc);
   inside = λ class one e. absurd (let f : ◌≡◌ {A = Option (ℕ × ℕ)} None (Some one) = e in cc);
 }
@@ -121,6 +122,12 @@ module _ (pairs : List (ℕ × ℕ)) (left right of : List ℕ) (ones keys ones_
           let a = ap length ones_is ∙ length-append ones (pair ∷ []) in
           let b = ap length keys_is ∙ length-append keys ((slice_index left pair.0, slice_index right pair.1) ∷ []) in
           omega arith;
+      few =
+          let e = keyed.many in
+          let a = ap length ones_is ∙ length-append ones (pair ∷ []) in
+          let b = ap length keys_is ∙ length-append keys ((slice_index left pair.0, slice_index right pair.1) ∷ []) in
+          let f = numbers.few in
+          omega arith;
       key = λ k one there. elim (get-snoc ones pair one k (subst (λ (xs : List (ℕ × ℕ)). slice_get xs k ≡ Some one) ones_is there)) [
         | inl before ↦ subst (λ (xs : List (ℕ × ℕ)). slice_get xs k ≡ Some (slice_index left one.0, slice_index right one.1)) (sym keys_is)
             (get-kept keys ((slice_index left pair.0, slice_index right pair.1) ∷ []) (slice_index left one.0, slice_index right one.1) k (keyed.key k one before))
@@ -175,6 +182,7 @@ module _ (pairs : List (ℕ × ℕ)) (left right of : List ℕ) (ones keys ones_
             used-class kept_known k one.0 one.1 (keyed.classes.used k below);
       };
       many = let e = keyed.many in let a = ap length ones_is in let b = ap length keys_is in omega arith;
+      few = let f = keyed.few in let a = ap length ones_is in omega arith;
       key = λ k one there. subst (λ (xs : List (ℕ × ℕ)). slice_get xs k ≡ Some (slice_index left one.0, slice_index right one.1)) (sym keys_is)
           (keyed.key k one (subst (λ (xs : List (ℕ × ℕ)). slice_get xs k ≡ Some one) ones_is there));
       inside = λ k one there. keyed.inside k one (subst (λ (xs : List (ℕ × ℕ)). slice_get xs k ≡ Some one) ones_is there);

@@ -7,5 +7,9 @@ pub mod LimitLemmas
 pub mod CellsLemmas
 pub mod FinalLemmas
 pub mod ShelfLemmas
+pub mod NextLemmas
 pub mod BuildingLemmas
 pub mod StartLemmas
+pub mod PartLemmas
+pub mod SameLemmas
+pub mod ProductLemmas

@@ -1,6 +1,6 @@
 -- Numbers for pairs.
 use Rattle.std.proofs.Common.{◌≡◌, ℕ, zero, suc, ◌+◌, ◌<◌, ◌≤◌, ◌^◌, Bool, true, false, ◌&&◌, ◌||◌, if◌then◌else◌, List, [], ◌∷◌, ◌++◌, length, length-append}
-use Rattle.std.proofs.Common.{Option, Some, None, option_map, slice_get, nat_eq, sym, ◌∙◌, ap, refl, subst, inl, inr, arith, ◌⊎◌}
+use Rattle.std.proofs.Common.{Option, Some, None, option_map, slice_get, slice_index, nat_eq, sym, ◌∙◌, ap, refl, subst, inl, inr, arith, ◌⊎◌}
 use Rattle.std.specs.List.{list_any}
 use Rattle.std.proofs.lemmas.Bool.{cases_Bool, eqb-true, eq-eqb, false≢true}
 use Rattle.std.proofs.lemmas.Option.{slice_get_within}
@@ -184,3 +184,10 @@ pub Completes-extends : (old new : List (ℕ × ℕ)) (given : List ℕ → ℕ)
     Completes (numbered new) given → Completes (numbered old) given
 Completes-extends old new given numbers extends completes = λ states n there.
     completes states n (KeepsAnswers-extends old new numbers extends states n there)
+
+-- a list of two
+pub two-of : (xs : List ℕ) → length xs ≡ 2 → slice_index xs 0 ∷ slice_index xs 1 ∷ [] ≡ xs
+two-of [] is = absurd (omega arith)
+two-of (x ∷ []) is = absurd (omega arith)
+two-of (x ∷ y ∷ []) is = refl
+two-of (x ∷ y ∷ z ∷ xs) is = absurd (omega arith)

@@ -62,7 +62,7 @@ module _ (g : Spaces) (AB : Automaton (ℕ × ℕ)) where
     pub same_limit : limit_of now ≡ limit_of first
     pub tables : SameTables first now
     pub shelf : IsShelf now
-    pub spaces : AreSpaces spaces
+    pub are : AreSpaces spaces
     pub counted : (given : ℕ → List ℕ → ℕ) → CompleteAll spaces given → AddsSteps first now given
 
   -- the part of a space has a root for each pair of classes of its children's pairs

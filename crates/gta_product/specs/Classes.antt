@@ -1,5 +1,5 @@
 -- Classes of pairs of states: pairs of a class have the same roots in both automata.
-use Rattle.std.specs.Prelude.{◌≡◌, ◌≢◌, ℕ, ◌<◌, List, [], ◌∷◌, ◌++◌, length, Some, slice_get, slice_index}
+use Rattle.std.specs.Prelude.{◌≡◌, ◌≢◌, ℕ, ◌^◌, ◌<◌, ◌≤◌, List, [], ◌∷◌, ◌++◌, length, Some, slice_get, slice_index}
 use Rattle.gta_product.specs.declared.classes.Classes.{Classes}
 
 -- both states have the classes that two states of the other pair have
@@ -37,6 +37,7 @@ pub data Notes (class : ℕ) (pair : ℕ × ℕ) (old new : List (ℕ × ℕ)) :
 pub record AreKeyed (pairs : List (ℕ × ℕ)) (left right : List ℕ) (of : List ℕ) (ones keys : List (ℕ × ℕ)) : Type 0 where
   pub classes : AreClasses pairs left right (record { of = of; ones = ones })
   pub many : length keys ≡ length ones
+  pub few : length ones ≤ 2 ^ 31
   pub key : (class : ℕ) (one : ℕ × ℕ) → slice_get ones class ≡ Some one →
       slice_get keys class ≡ Some (slice_index left one.0, slice_index right one.1)
   pub inside : (class : ℕ) (one : ℕ × ℕ) → slice_get ones class ≡ Some one → (one.0 < length left) × (one.1 < length right)

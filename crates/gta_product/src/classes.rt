@@ -1,6 +1,6 @@
 //! Classes of pairs of states.
 
-ghost use Rattle.std.specs.Prelude.{◌<◌, length, All, IfOk, OnOk};
+ghost use Rattle.std.specs.Prelude.{◌<◌, ◌≤◌, ◌^◌, length, All, IfOk, OnOk};
 ghost use Rattle.gta_product.specs.Classes.{AreClasses, Notes};
 
 use crate::numbering::Numbering;
@@ -23,7 +23,8 @@ pub(crate) fn classify(
     right: &[u32],
 ) -> Result<Classes, NoMemory>
     requires { All (λ pair. (pair.0 < length left.now) × (pair.1 < length right.now)) pairs.now }
-    ensures { IfOk result (AreClasses pairs.now left.now right.now) }
+    ensures classes { IfOk result (AreClasses pairs.now left.now right.now) }
+    ensures few { IfOk result (λ classes. length classes.ones ≤ 2 ^ 31) }
 {
     let mut keys = Numbering::new(alloc);
     let mut of = Items::new(alloc);

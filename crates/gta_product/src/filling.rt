@@ -6,7 +6,7 @@ ghost use Rattle.bdd_walk.specs.Fits.{Fits};
 ghost use Rattle.bdd_nodes.specs.Shelf.{IsValid};
 ghost use Rattle.gta_theory.specs.Constructions.{pairs};
 ghost use Rattle.gta_core.specs.Auto.{root_at, automaton_of};
-ghost use Rattle.gta_product.specs.Numbers.{numbered};
+ghost use Rattle.gta_product.specs.Numbers.{numbered, AreNumbers};
 ghost use Rattle.gta_product.specs.Filling.{IsCell, Joins, ExceedsCells, IsRow, AreCells};
 
 use crate::numbering::Numbering;
@@ -37,6 +37,7 @@ pub(crate) fn join_cell(
     ensures limit { result ≡ Err Stop.Limit → (given : List ℕ → ℕ) → Completes (numbered numbers.new) given →
         ExceedsCells (pairs (automaton_of shelf.old a.now) (automaton_of shelf.old b.now)) space (left ∷ []) (right ∷ []) shelf.old given }
     ensures fits { OnOk result (Fits joiner.new None shelf.new (numbered numbers.new)) }
+    ensures numbers { AreNumbers numbers.new }
 {
     let Some(first) = a.root(shelf, space, left.0, right.0) else {
         unreachable!()
@@ -44,9 +45,11 @@ pub(crate) fn join_cell(
     let Some(second) = b.root(shelf, space, left.1, right.1) else {
         unreachable!()
     };
-    // Only for its clause `numbers`.
+    // Only for their clauses `numbers`.
     let _ = numbers.len();
-    let made = joiner.join(alloc, shelf, &[first, second], None, numbers)?;
+    let joined = joiner.join(alloc, shelf, &[first, second], None, numbers);
+    let _ = numbers.len();
+    let made = joined?;
     Ok(made)
 }
 
@@ -76,6 +79,7 @@ fn fill_row(
     ensures limit { result ≡ Err Stop.Limit → (given : List ℕ → ℕ) → Completes (numbered numbers.new) given →
         ExceedsCells (pairs (automaton_of shelf.old a.now) (automaton_of shelf.old b.now)) space (row ∷ []) columns.now shelf.old given }
     ensures fits { OnOk result (Fits joiner.new None shelf.new (numbered numbers.new)) }
+    ensures numbers { AreNumbers numbers.new }
 {
     // Only for their clauses `shelf` and `numbers`.
     let _ = (shelf.count(), numbers.len());
@@ -112,6 +116,7 @@ pub(crate) fn fill(
     ensures limit { result ≡ Err Stop.Limit → (given : List ℕ → ℕ) → Completes (numbered numbers.new) given →
         ExceedsCells (pairs (automaton_of shelf.old a.now) (automaton_of shelf.old b.now)) space rows.now columns.now shelf.old given }
     ensures fits { OnOk result (Fits joiner.new None shelf.new (numbered numbers.new)) }
+    ensures numbers { AreNumbers numbers.new }
 {
     // Only for their clauses `shelf` and `numbers`.
     let _ = (shelf.count(), numbers.len());

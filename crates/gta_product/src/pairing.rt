@@ -131,10 +131,29 @@ fn accepting(
 {
     let mut accepting = BoolList::new(alloc);
     for pair in pairs {
-        let both = a.accepting(pair.0).unwrap_or(false) && b.accepting(pair.1).unwrap_or(false);
-        accepting.push(both)?;
+        accepting.push(are_accepting(a, b, *pair))?;
     }
     Ok(accepting)
+}
+
+/// Whether both states of a pair are accepting.
+fn are_accepting(a: &Auto, b: &Auto, pair: (u32, u32)) -> bool
+    ensures { result ≡ (is_accepting a.now pair.0 && is_accepting b.now pair.1) }
+{
+    if is_accepting_in(a, pair.0) {
+        return is_accepting_in(b, pair.1);
+    }
+    false
+}
+
+/// Whether a state of space 0 is accepting; an unknown one isn't.
+fn is_accepting_in(a: &Auto, state: u32) -> bool
+    ensures { result ≡ is_accepting a.now state }
+{
+    match a.accepting(state) {
+        Some(flag) => flag,
+        None => false,
+    }
 }
 
 /// The parts of all spaces, for the pairs so far.
@@ -166,8 +185,9 @@ fn parts_of(
     ensures fits { OnOk result (FitAll shelf.new joiners.new.items numbers.new.items) }
     ensures valid { OnOk result (All (IsValid shelf.new) roots.new) }
     ensures many { IfOk result (λ parts. length parts ≡ length g.now) }
-    ensures parts { IfOk result (AreParts g.now (pairs (automaton_of shelf.old a.now) (automaton_of shelf.old b.now)) a.now b.now
-        numbers.old.items numbers.new.items shelf.new roots.new) }
+    ensures parts { IfOk result (λ parts. numbers.new.items ≡ numbers.old.items →
+        AreParts g.now (pairs (automaton_of shelf.old a.now) (automaton_of shelf.old b.now)) a.now b.now
+        numbers.old.items numbers.old.items shelf.new roots.new parts) }
 {
     let mut parts = Items::new(alloc);
     for space in 0..g.spaces() {

@@ -9,6 +9,6 @@ abbrev pub invariant-loop-other : goal.invariant-loop-other
 invariant-loop-other l = record {
   root : IsValid l.shelf l.root;
   others : All (IsValid l.shelf) l.others;
-  fits : Fits l.joiner None l.shelf (digits 16);
+  fits : Fits l.joiner None l.shelf digits;
   kept : Keeps l.fn.shelf l.shelf;
 }
