@@ -44,6 +44,8 @@ fn main(rt: HostRuntime) -> Result<()> {
     )?;
     let anew_nodes = joins::join_small(rt.alloc(), limit, width, anew, false)?;
     let kept_nodes = joins::join_small(rt.alloc(), limit, width, kept, true)?;
-    println!(rt; "{anew_nodes} nodes with small joins, {kept_nodes} through a joiner that is kept")?;
+    println!(rt;
+        "{anew_nodes} nodes with small joins, {kept_nodes} through a joiner that is kept"
+    )?;
     Ok(())
 }

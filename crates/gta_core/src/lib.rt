@@ -16,6 +16,6 @@ mod sizes;
 pub use acceptance::accepts;
 pub use auto::{Auto, BoolList, release};
 pub use build::{SpacePart, SpacePartList};
-pub use part::Part;
 pub use laws::{automata_outlive_changes, tables_outlive_changes};
+pub use part::Part;
 pub use sizes::nodes_fit_in_sizes;

@@ -100,11 +100,11 @@ module _ (g : Spaces) (first : Contents) (a b : AutoView) (s : ℕ) (lefts right
         ≡ (pairs (automaton_of first a) (automaton_of first b)).step s p q label
     same-step label =
         let of_a = step-at first a s ((row-of).one).0 p.0 ((column-of).one).0 q.0 label
-            (root_at-classes first a s part_a ((row-of).one).0 p.0 ((column-of).one).0 q.0 in_a
-            (sym (row-of).same.first) (sym (column-of).same.first)) in
+        (root_at-classes first a s part_a ((row-of).one).0 p.0 ((column-of).one).0 q.0 in_a
+        (sym (row-of).same.first) (sym (column-of).same.first)) in
         let of_b = step-at first b s ((row-of).one).1 p.1 ((column-of).one).1 q.1 label
-            (root_at-classes first b s part_b ((row-of).one).1 p.1 ((column-of).one).1 q.1 in_b
-            (sym (row-of).same.second) (sym (column-of).same.second)) in
+        (root_at-classes first b s part_b ((row-of).one).1 p.1 ((column-of).one).1 q.1 in_b
+        (sym (row-of).same.second) (sym (column-of).same.second)) in
         ap (λ (n : ℕ). let x : ℕ × ℕ = (n, (automaton_of first b).step s ((row-of).one).1 ((column-of).one).1 label) in x) of_a
         ∙ ap (λ (n : ℕ). let x : ℕ × ℕ = ((automaton_of first a).step s p.0 q.0 label, n) in x) of_b
 

@@ -155,7 +155,7 @@ module _ (pairs : List (ℕ × ℕ)) (left right of : List ℕ) (ones keys ones_
         let one = get-index (0, 0) ones class class_within in
         let key_one = keyed.key class one.0 one.1 in
         let key_pair = subst (λ (xs : List (ℕ × ℕ)). slice_get xs class ≡ Some (slice_index left pair.0, slice_index right pair.1)) keys_is
-            (number_in-get keys_after (slice_index left pair.0, slice_index right pair.1) class value) in
+        (number_in-get keys_after (slice_index left pair.0, slice_index right pair.1) class value) in
         let within = keyed.inside class one.0 one.1 in
         record {
           class = class;

@@ -50,12 +50,12 @@ module _ (a : AutoView) (whole : IsWhole a) where
       let guide : IsGuide g = subst IsGuide auto.over whole.guide in
       let is = IsComplement-turned shelf in
       let named : Accepts g (automaton_of shelf turned) x ↔ Accepts g (complement (automaton_of shelf a)) x =
-          Accepts-named g guide (automaton_of shelf turned) (Below (states_of a)) (complement (automaton_of shelf a)) (λ s q. q)
-          (IsClosed-turned g shelf auto)
-          (record {
-            initial = λ s inside. is.initial s;
-            step = λ s p q label inside in_left in_right. is.step s p q label;
-            accepting = λ q there. is.accepting q (ltb-true q (states_of a 0) there);
-          }) x in
+      Accepts-named g guide (automaton_of shelf turned) (Below (states_of a)) (complement (automaton_of shelf a)) (λ s q. q)
+      (IsClosed-turned g shelf auto)
+      (record {
+        initial = λ s inside. is.initial s;
+        step = λ s p q label inside in_left in_right. is.step s p q label;
+        accepting = λ q there. is.accepting q (ltb-true q (states_of a 0) there);
+      }) x in
       let others = Accepts-complement g guide (automaton_of shelf a) auto.stable depth x covers in
       (λ accepted. others.0 (named.0 accepted), λ refused. named.1 (others.1 refused))

@@ -155,8 +155,8 @@ module _ (g : Spaces) (guide : IsGuide g) (first now : Contents) (a b : AutoView
         let here = at s inside in
         let of = here.of in
         let root = has-root g first a b s of.lefts of.rights of.pairs of.first of.second of.in_first of.in_second now roots here.part of.built l r p q
-            (ap (λ (ps : List (ℕ × ℕ)). slice_get ps l) (same_pairs _ _ (sym of.at_left ∙ is_left)) ∙ at_l)
-            (ap (λ (ps : List (ℕ × ℕ)). slice_get ps r) (same_pairs _ _ (sym of.at_right ∙ is_right)) ∙ at_r) in
+        (ap (λ (ps : List (ℕ × ℕ)). slice_get ps l) (same_pairs _ _ (sym of.at_left ∙ is_left)) ∙ at_l)
+        (ap (λ (ps : List (ℕ × ℕ)). slice_get ps r) (same_pairs _ _ (sym of.at_right ∙ is_right)) ∙ at_r) in
         record {
           numbers = of.pairs;
           is = of.at;
@@ -369,6 +369,6 @@ same-spaces old new extends counts = ext old new (λ s. pick s (slice_get old s)
     pick s (Some pairs) None there gone = absurd (omega (arith, past-none new s gone, slice_get_within old s pairs there, extends.many))
     pick s (Some pairs) (Some more) was is =
         let counted : ◌≡◌ {A = Option ℕ} (Some (length pairs)) (Some (length more)) =
-            ap (option_map (λ (ps : List (ℕ × ℕ)). length ps)) (sym was) ∙ count-at s ∙ ap (option_map (λ (ps : List (ℕ × ℕ)). length ps)) is in
+        ap (option_map (λ (ps : List (ℕ × ℕ)). length ps)) (sym was) ∙ count-at s ∙ ap (option_map (λ (ps : List (ℕ × ℕ)). length ps)) is in
         was ∙ ap (λ (ps : List (ℕ × ℕ)). let o : Option (List (ℕ × ℕ)) = Some ps in o)
         (same-list pairs more (extends.each s pairs more was is) (same_number (length pairs) (length more) counted)) ∙ sym is

@@ -221,7 +221,7 @@ module _ (AB : Automaton (ℕ × ℕ)) (s : ℕ) where
             IsCell-kept pairs more x c shelf after root keeps numbers extends (are.cell i j x c root early at_column there)
         | inr last ↦
             let place : length old + (i * length columns + j) ≡ length middle + j =
-                ap (λ (n : ℕ). length old + (n * length columns + j)) last.0 ∙ (let e = are.many in omega arith) in
+            ap (λ (n : ℕ). length old + (n * length columns + j)) last.0 ∙ (let e = are.many in omega arith) in
             subst (λ (y : ℕ × ℕ). IsCell AB s more y c after root) (sym last.1)
             (is.cell j c root at_column (ap (slice_get new) (sym place) ∙ at))
       ];

@@ -109,14 +109,14 @@ module _ (g : Spaces) (guide : IsGuide g) (A B C : Automaton ℕ) (of_A : IsStab
           let s = step.space in
           let part : Function = λ label. C.step s x.name y.name (with_below under.below under.fixed label) in
           let names = λ (label : Label).
-              let r : pair s (part label) ≡ (pairs A B).step s step.at_left step.at_right (with_below under.below under.fixed label) =
-                  product.naming.step s x.name y.name (with_below under.below under.fixed label) step.inside x.there y.there
-                  ∙ ap (λ (u : ℕ × ℕ). (pairs A B).step s u (pair (right g s) y.name) (with_below under.below under.fixed label)) x.is
-                  ∙ ap (λ (v : ℕ × ℕ). (pairs A B).step s step.at_left v (with_below under.below under.fixed label)) y.is in r in
+          let r : pair s (part label) ≡ (pairs A B).step s step.at_left step.at_right (with_below under.below under.fixed label) =
+          product.naming.step s x.name y.name (with_below under.below under.fixed label) step.inside x.there y.there
+          ∙ ap (λ (u : ℕ × ℕ). (pairs A B).step s u (pair (right g s) y.name) (with_below under.below under.fixed label)) x.is
+          ∙ ap (λ (v : ℕ × ℕ). (pairs A B).step s step.at_left v (with_below under.below under.fixed label)) y.is in r in
           let sees = λ (label : Label).
-              let r : f label ≡ given s ((pair s (part label)).0 ∷ (pair s (part label)).1 ∷ []) =
-                  under.states label ∙ step.states (with_below under.below under.fixed label)
-                  ∙ ap (λ (p : ℕ × ℕ). given s (p.0 ∷ p.1 ∷ [])) (sym (names label)) in r in
+          let r : f label ≡ given s ((pair s (part label)).0 ∷ (pair s (part label)).1 ∷ []) =
+          under.states label ∙ step.states (with_below under.below under.fixed label)
+          ∙ ap (λ (p : ℕ × ℕ). given s (p.0 ∷ p.1 ∷ [])) (sym (names label)) in r in
           record {
             space = s;
             part = part;
@@ -146,8 +146,8 @@ module _ (g : Spaces) (guide : IsGuide g) (A B C : Automaton ℕ) (of_A : IsStab
       missing-le n size parts distinct missing =
           let all = all_spaces g C (Has states) n size in
           let fit = length-partners (λ x y. x ≢ y) IsSeen one-seen parts all.parts distinct (λ f there.
-              let has = part-of f (All-contains (IsMissingAmong shelf wholes) parts f missing there) in
-              ((has.space, has.part), all.every has.space has.part has.inside has.is_part, has.is_seen)) in
+          let has = part-of f (All-contains (IsMissingAmong shelf wholes) parts f missing there) in
+          ((has.space, has.part), all.every has.space has.part has.inside has.is_part, has.is_seen)) in
           omega (arith, fit, all.few)
 
     -- where there is no room, the limit is below the count and the Size

@@ -1,5 +1,5 @@
 -- The product at the start, at its end, and where there was no room.
-use Rattle.std.proofs.Common.{◌≡◌, ◌≢◌, ℕ, ◌+◌, ◌<◌, Bool, List, [], ◌∷◌, Option, Some, slice_get, refl, sym, ◌∙◌, ap, subst, arith}
+use Rattle.std.proofs.Common.{◌≡◌, ◌≢◌, ℕ, ◌+◌, ◌<◌, Bool, List, [], ◌∷◌, Option, Some, Result, Ok, Err, OnErr, slice_get, refl, sym, ◌∙◌, ap, subst, arith}
 use Rattle.std.specs.Prelude.{unwrap_or, IsSome, is_some}
 use Rattle.std.specs.List.{All}
 use Rattle.bdd_nodes.specs.Roots.{Registered, roots_under}
@@ -16,7 +16,7 @@ use Rattle.gta_theory.specs.Constructions.{pairs, IsProduct}
 use Rattle.gta_theory.specs.Sizes.{SizeOf}
 use Rattle.gta_core.specs.Changes.{RegistersTable}
 use Rattle.gta_product.specs.Numbers.{numbered}
-use Rattle.gta_product.specs.Building.{AreSpaces, CompleteAll, ExceedsSteps, Building}
+use Rattle.gta_product.specs.Building.{AreSpaces, CompleteAll, ExceedsSteps, Building, Leaves}
 use Rattle.gta_product.proofs.LimitLemmas.{limit-below}
 
 pub Building-start : (g : Spaces) (AB : Automaton (ℕ × ℕ)) (shelf : Contents) (spaces : List (List (ℕ × ℕ))) → IsShelf shelf → AreSpaces g AB spaces →
@@ -54,3 +54,19 @@ RegistersTable-after first now new table roots tables adds = record {
   registered = ap (λ (o : Option (List NodeRef)). is_some o) adds.roots;
   others = λ other apart. adds.others other apart ∙ ap (λ (r : Registered). roots_under r.tables other) tables;
 }
+
+pub Leaves-building : (g : Spaces) (AB : Automaton (ℕ × ℕ)) (first now : Contents) (spaces : List (List (ℕ × ℕ))) → Building g AB first now spaces → Leaves first now
+Leaves-building g AB first now spaces building = record {
+  keeps = building.keeps;
+  same_limit = building.same_limit;
+  tables = building.tables;
+  shelf = building.shelf;
+}
+
+pub Leaves-none : (shelf : Contents) → IsShelf shelf → Leaves shelf shelf
+Leaves-none shelf is_shelf = record { keeps = Keeps-refl shelf; same_limit = refl; tables = refl; shelf = is_shelf }
+
+-- what holds holds where there is a stop
+pub on-err : {T E P : Type 0} (r : Result T E) → P → OnErr r P
+on-err (Ok x) holds = tt
+on-err (Err e) holds = holds

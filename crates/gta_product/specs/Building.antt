@@ -65,6 +65,11 @@ module _ (g : Spaces) (AB : Automaton (ℕ × ℕ)) where
     pub are : AreSpaces spaces
     pub counted : (given : ℕ → List ℕ → ℕ) → CompleteAll spaces given → AddsSteps first now given
 
+  -- there is less room than the product of these spaces has missing functions
+  pub record Exceeded (first : Contents) : Type 0 where
+    pub spaces : List (List (ℕ × ℕ))
+    pub exceeds : (given : ℕ → List ℕ → ℕ) → CompleteAll spaces given → ExceedsSteps first given
+
   -- the part of a space has a root for each pair of classes of its children's pairs
   pub record IsBuilt (s : ℕ) (lefts rights pairs : List (ℕ × ℕ)) (first second : Part) (shelf : Contents) (roots : List NodeRef)
       (part : Part) : Type 0 where
@@ -119,3 +124,10 @@ pub record FitAll (shelf : Contents) (joiners : List Joiner) (spaces : List (Lis
   pub many : length joiners ≡ length spaces
   pub each : (s : ℕ) (joiner : Joiner) (pairs : List (ℕ × ℕ)) → slice_get joiners s ≡ Some joiner → slice_get spaces s ≡ Some pairs →
       Fits joiner None shelf (numbered pairs)
+
+-- what joins leave of a shelf
+pub record Leaves (old new : Contents) : Type 0 where
+  pub keeps : Keeps old new
+  pub same_limit : limit_of new ≡ limit_of old
+  pub tables : SameTables old new
+  pub shelf : IsShelf new

@@ -4,3 +4,4 @@ pub mod Classes
 pub mod Filling
 pub mod Building
 pub mod Product
+pub mod Settled

@@ -121,7 +121,9 @@ pub(crate) fn fill(
     // Only for their clauses `shelf` and `numbers`.
     let _ = (shelf.count(), numbers.len());
     for row in rows {
-        fill_row(alloc, a, b, shelf, space, *row, columns, joiner, numbers, roots)?;
+        fill_row(
+            alloc, a, b, shelf, space, *row, columns, joiner, numbers, roots,
+        )?;
     }
     Ok(())
 }

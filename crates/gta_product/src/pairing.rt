@@ -1,7 +1,7 @@
 //! The product: pairs of states, as they are reached.
 
 ghost use Rattle.std.specs.List.{range_with_len};
-ghost use Rattle.std.specs.Prelude.{◌≡◌, ◌<◌, ◌+◌, ◌^◌, ◌&&◌, ℕ, Bool, List, [], length, map, None, Some, Err, All, IfOk, OnOk, OnErr, slice_get, unwrap_or, ◌↔◌};
+ghost use Rattle.std.specs.Prelude.{◌≡◌, ◌<◌, ◌+◌, ◌^◌, ◌&&◌, ℕ, Bool, List, [], length, map, None, Some, Err, All, IfOk, OnOk, OnErr, IsTrue, ◌↔◌};
 ghost use Rattle.bdd_nodes.specs.Shelf.{Contents, IsShelf, IsValid, count_of, limit_of};
 ghost use Rattle.bdd_nodes.specs.Changes.{Keeps, SameTables};
 ghost use Rattle.gta_theory.specs.Assignments.{Assignment};
@@ -13,7 +13,8 @@ ghost use Rattle.gta_core.specs.Auto.{states_of, initial_of, is_accepting, autom
 ghost use Rattle.gta_core.specs.Changes.{RegistersTable};
 ghost use Rattle.gta_core.specs.Placing.{Grows};
 ghost use Rattle.gta_product.specs.Product.{IsProductOf};
-ghost use Rattle.gta_product.specs.Building.{AreSpaces, FitAll, ExtendAll, Building, CompleteAll, ExceedsSteps, IsPartOf, AreParts};
+ghost use Rattle.gta_product.specs.Building.{AreSpaces, FitAll, ExtendAll, Building, CompleteAll, ExceedsSteps, IsPartOf, AreParts, Leaves, Exceeded};
+ghost use Rattle.gta_product.specs.Settled.{IsSettled};
 
 use crate::classes::classify;
 use crate::filling::fill;
@@ -59,18 +60,70 @@ pub fn product(
     ensures same_limit { limit_of shelf.new ≡ limit_of shelf.old }
     ensures shelf { IsShelf shelf.new }
 {
+    // Only for their clauses `shelf` and `guide`.
+    let _ = (shelf.count(), g.spaces());
+    let settled = settle(alloc, g, a, b, shelf)?;
+    let Settled {
+        numbers,
+        parts,
+        roots,
+    } = settled;
+    let accepting = accepting(alloc, a, b, numbers[0].as_slice())?;
+    let made = Auto::from_parts(parts, accepting, roots, shelf)?;
+    Ok(made)
+}
+
+/// The pairs of all spaces, of which no more come, and the parts and roots for them.
+#[derive(Drop)]
+pub(crate) struct Settled {
+    pub(crate) numbers: Vec<Numbering>,
+    pub(crate) parts: Items<Part>,
+    pub(crate) roots: RefList,
+}
+
+/// Joins for all pairs in rounds, until no pair comes.
+fn settle(alloc: Global, g: &Guide, a: &Auto, b: &Auto, shelf: &mut Shelf) -> Result<Settled, Stop>
+    requires first { IsAuto g.now shelf.old a.now }
+    requires second { IsAuto g.now shelf.old b.now }
+    ensures leaves { Leaves shelf.old shelf.new }
+    ensures limit { result ≡ Err Stop.Limit →
+        Exceeded g.now (pairs (automaton_of shelf.old a.now) (automaton_of shelf.old b.now)) shelf.old }
+    ensures settled { IfOk result (IsSettled g.now (pairs (automaton_of shelf.old a.now) (automaton_of shelf.old b.now)) a.now b.now shelf.old shelf.new) }
+{
+    // Only for its clause `shelf`.
+    let _ = shelf.count();
     let mut numbers = start(alloc, g, a, b)?;
     let mut joiners = joiners(alloc, g)?;
     for _round in 0..u64::MAX {
         let before = counts(alloc, &numbers)?;
         let mut roots = RefList::new(alloc);
-        let parts = parts_of(alloc, g, a, b, shelf, &mut joiners, &mut numbers, &mut roots)?;
-        if counts(alloc, &numbers)?.as_slice() == before.as_slice() {
-            let accepting = accepting(alloc, a, b, numbers[0].as_slice())?;
-            return Ok(Auto::from_parts(parts, accepting, roots, shelf)?);
+        let parts = parts_of(
+            alloc,
+            g,
+            a,
+            b,
+            shelf,
+            &mut joiners,
+            &mut numbers,
+            &mut roots,
+        )?;
+        let after = counts(alloc, &numbers)?;
+        if are_same(&before, &after) {
+            return Ok(Settled {
+                numbers,
+                parts,
+                roots,
+            });
         }
     }
     Err(Stop::NoMemory)
+}
+
+/// Whether the counts are the same.
+fn are_same(one: &Items<u64>, other: &Items<u64>) -> bool
+    ensures { IsTrue result → other.now ≡ one.now }
+{
+    one.as_slice() == other.as_slice()
 }
 
 /// The initial pair of each space.
@@ -121,12 +174,7 @@ fn counts(alloc: Global, spaces: &Vec<Numbering>) -> Result<Items<u64>, NoMemory
 }
 
 /// Which pairs of space 0 are accepting: those of two accepting states.
-fn accepting(
-    alloc: Global,
-    a: &Auto,
-    b: &Auto,
-    pairs: &[(u32, u32)],
-) -> Result<BoolList, NoMemory>
+fn accepting(alloc: Global, a: &Auto, b: &Auto, pairs: &[(u32, u32)]) -> Result<BoolList, NoMemory>
     ensures { IfOk result (λ flags. flags ≡ map (λ pair. is_accepting a.now pair.0 && is_accepting b.now pair.1) pairs.now) }
 {
     let mut accepting = BoolList::new(alloc);
@@ -189,6 +237,8 @@ fn parts_of(
         AreParts g.now (pairs (automaton_of shelf.old a.now) (automaton_of shelf.old b.now)) a.now b.now
         numbers.old.items numbers.old.items shelf.new roots.new parts) }
 {
+    // Only for its clause `shelf`.
+    let _ = shelf.count();
     let mut parts = Items::new(alloc);
     for space in 0..g.spaces() {
         let part = part_of(alloc, g, a, b, shelf, space, joiners, numbers, roots)?;
@@ -228,6 +278,7 @@ fn part_of(
     ensures fits { OnOk result (FitAll shelf.new joiners.new.items numbers.new.items) }
     ensures valid { OnOk result (All (IsValid shelf.new) roots.new) }
     ensures grown { OnOk result (Grows roots.old roots.new) }
+    ensures spaces { OnOk result (AreSpaces g.now (pairs (automaton_of shelf.old a.now) (automaton_of shelf.old b.now)) numbers.new.items) }
     ensures part { IfOk result (IsPartOf g.now (pairs (automaton_of shelf.old a.now) (automaton_of shelf.old b.now)) a.now b.now
         numbers.old.items numbers.new.items shelf.new roots.new space) }
     ensures start { IfOk result (λ part. (part.first ≡ length roots.old) × (length roots.new ≡ length roots.old + length part.cells)) }
@@ -238,7 +289,12 @@ fn part_of(
     let lefts = numbers[children.0 as usize].as_slice();
     let rows = classify(alloc, lefts, first.rows.as_slice(), second.rows.as_slice())?;
     let rights = numbers[children.1 as usize].as_slice();
-    let columns = classify(alloc, rights, first.columns.as_slice(), second.columns.as_slice())?;
+    let columns = classify(
+        alloc,
+        rights,
+        first.columns.as_slice(),
+        second.columns.as_slice(),
+    )?;
     if roots.len() > u32::MAX as usize {
         return Err(Stop::NoMemory);
     }

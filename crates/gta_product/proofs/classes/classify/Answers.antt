@@ -11,7 +11,7 @@ loop-pair-preserved c =
     let within = c.requires i (0, 0) (omega arith) in
     let e = c.in_ok-class.ensures in
     let more = AreKeyed-more (take i pairs) c.args.left.now c.args.right.now c.loop-pair.of c.loop-pair.ones c.loop-pair.keys c.note.new.ones c.number.new.self
-        (get_or pairs i (0, 0)) c.in_ok-class.class c.loop-pair.invariant within.0 within.1 e.numbers e.value e.place e.grows c.in_ok-note.ensures in
+    (get_or pairs i (0, 0)) c.in_ok-class.class c.loop-pair.invariant within.0 within.1 e.numbers e.value e.place e.grows c.in_ok-note.ensures in
     subst (λ (of : List ℕ). AreKeyed (take (i + 1) pairs) c.args.left.now c.args.right.now of c.note.new.ones c.number.new.self) (sym c.in_ok-push.ensures.ok)
     (subst (λ (ps : List (ℕ × ℕ)). AreKeyed ps c.args.left.now c.args.right.now (c.loop-pair.of ++ c.in_ok-class.class ∷ []) c.note.new.ones c.number.new.self)
     (sym (take_more pairs i (0, 0) (omega arith))) more)

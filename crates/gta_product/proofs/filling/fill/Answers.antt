@@ -60,12 +60,12 @@ loop-row-preserved c =
     let in_rows = in-alone rows row (Contains-get_or rows i (0, 0) (omega arith)) in
     let step = c.fill_row.ensures.joins in
     let same = same-both c.args.a.now c.args.b.now c.args.space rows columns (row ∷ []) columns in_rows (λ x there. there)
-        c.args.shelf.now c.loop-row.shelf c.fill_row.new.shelf c.args.numbers.now c.loop-row.numbers c.fill_row.new.numbers c.count.ensures.shelf
-        invariant.joins c.fill_row.ensures.numbers in
+    c.args.shelf.now c.loop-row.shelf c.fill_row.new.shelf c.args.numbers.now c.loop-row.numbers c.fill_row.new.numbers c.count.ensures.shelf
+    invariant.joins c.fill_row.ensures.numbers in
     let is = subst (λ (AB : Automaton (ℕ × ℕ)). IsRow AB c.args.space row columns c.fill_row.new.numbers c.fill_row.new.shelf c.loop-row.roots c.fill_row.new.roots)
-        same c.in_ok-fill_row.ensures.cells in
+    same c.in_ok-fill_row.ensures.cells in
     let cells = AreCells-more both c.args.space (take i rows) columns row c.loop-row.numbers c.fill_row.new.numbers c.loop-row.shelf c.fill_row.new.shelf
-        c.args.roots.now c.loop-row.roots c.fill_row.new.roots step.keeps c.fill_row.ensures.numbers step.extends invariant.cells is in
+    c.args.roots.now c.loop-row.roots c.fill_row.new.roots step.keeps c.fill_row.ensures.numbers step.extends invariant.cells is in
     record {
       joins = Joins-next c.args.a.now c.args.b.now c.args.space rows columns (row ∷ []) columns in_rows (λ x there. there)
           c.args.shelf.now c.loop-row.shelf c.fill_row.new.shelf c.args.numbers.now c.loop-row.numbers c.fill_row.new.numbers c.count.ensures.shelf

@@ -70,12 +70,12 @@ loop-column-preserved c =
     let in_columns = in-alone columns column (Contains-get_or columns i (0, 0) (omega arith)) in
     let step = c.join_cell.ensures.joins in
     let same = same-both c.args.a.now c.args.b.now c.args.space (c.args.row ∷ []) columns (c.args.row ∷ []) (column ∷ []) (λ x there. there) in_columns
-        c.args.shelf.now c.loop-column.shelf c.join_cell.new.shelf c.args.numbers.now c.loop-column.numbers c.join_cell.new.numbers c.count.ensures.shelf
-        invariant.joins c.join_cell.ensures.numbers in
+    c.args.shelf.now c.loop-column.shelf c.join_cell.new.shelf c.args.numbers.now c.loop-column.numbers c.join_cell.new.numbers c.count.ensures.shelf
+    invariant.joins c.join_cell.ensures.numbers in
     let cell = subst (λ (AB : Automaton (ℕ × ℕ)). IsCell AB c.args.space c.join_cell.new.numbers c.args.row column c.join_cell.new.shelf c.in_ok-root.root)
-        same c.in_ok-root.ensures.cell in
+    same c.in_ok-root.ensures.cell in
     let row = IsRow-more both c.args.space c.args.row (take i columns) column c.loop-column.numbers c.join_cell.new.numbers c.loop-column.shelf c.join_cell.new.shelf
-        c.args.roots.now c.loop-column.roots c.in_ok-root.root step.keeps c.join_cell.ensures.numbers step.extends invariant.row cell in
+    c.args.roots.now c.loop-column.roots c.in_ok-root.root step.keeps c.join_cell.ensures.numbers step.extends invariant.row cell in
     let valid = valid-more c.loop-column.shelf c.join_cell.new.shelf c.loop-column.roots c.in_ok-root.root step.keeps invariant.valid cell.valid in
     record {
       joins = Joins-next c.args.a.now c.args.b.now c.args.space (c.args.row ∷ []) columns (c.args.row ∷ []) (column ∷ []) (λ x there. there) in_columns

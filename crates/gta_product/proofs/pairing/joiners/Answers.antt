@@ -24,9 +24,9 @@ loop-space-preserved c = record {
       omega arith;
   each = λ s joiner there dropped shelf answers. elim (get-snoc c.loop-space.joiners.items c.new.result joiner s
       (ap (λ (js : List Joiner). slice_get js s) (sym c.in_ok-push.ensures.items) ∙ there)) [
-    | inl before ↦ c.loop-space.invariant.each s joiner before dropped shelf answers
-    | inr last ↦ subst (λ (j : Joiner). Fits j dropped shelf answers) (sym last.1) (c.new.ensures dropped shelf answers)
-  ];
+        | inl before ↦ c.loop-space.invariant.each s joiner before dropped shelf answers
+        | inr last ↦ subst (λ (j : Joiner). Fits j dropped shelf answers) (sym last.1) (c.new.ensures dropped shelf answers)
+      ];
 }
 
 pub returns : goal.returns

@@ -12,7 +12,7 @@ use Rattle.gta_core.specs.Auto.{automaton_of}
 use Rattle.gta_core.proofs.PlacingLemmas.{unwrap-inside}
 use Rattle.gta_product.specs.Classes.{AreClasses}
 use Rattle.gta_product.specs.Filling.{AreCells}
-use Rattle.gta_product.proofs.BuildingLemmas.{ExtendAll-set, Building-set, ExceedsSteps-set}
+use Rattle.gta_product.proofs.BuildingLemmas.{ExtendAll-set, AreSpaces-set, Building-set, ExceedsSteps-set}
 use Rattle.gta_product.proofs.PartLemmas.{get-at, get-set, at-child, part-at, parts-length, length-set_at, SetsSpace-at, FitAll-set, ones-inside, row-inside, column-inside, first-known, second-known, IsBuilt-made}
 use Rattle.gta_product.proofs.pairing.part_of.Goals as goal
 
@@ -35,11 +35,11 @@ classify-requires c = λ k d within.
     let in_b = part-at g shelf b c.requires.second s inside c.parts-2.result.now c.index-parts-at-2.result c.parts-2.ensures.parts c.index-parts-at-2.is in
     let lefts = c.as_slice-lefts.result.now in
     let at_left = at-child g AB items c.requires.spaces (left g s) (guide.left_inside s inside) (c.unwrap_or-children.result).0
-        (ap (λ (p : ℕ × ℕ). p.0) child) c.index.result.now lefts c.index.ensures c.as_slice-lefts.ensures.pairs in
+    (ap (λ (p : ℕ × ℕ). p.0) child) c.index.result.now lefts c.index.ensures c.as_slice-lefts.ensures.pairs in
     let p = get_or lefts k d in
     let right_space = guide.right_inside s inside in
     let row = row-inside g guide shelf a b c.requires.first c.requires.second items c.requires.spaces s inside c.index-parts-at.result c.index-parts-at-2.result in_a in_b
-        lefts at_left k p (slice_get-get_or lefts k d within) in
+    lefts at_left k p (slice_get-get_or lefts k d within) in
     (omega (arith, row.0, ap (λ (xs : List ℕ). length xs) c.as_slice.ensures), omega (arith, row.1, ap (λ (xs : List ℕ). length xs) c.as_slice-2.ensures))
 
 pub classify-requires-2 : goal.classify-requires-2
@@ -58,13 +58,13 @@ classify-requires-2 c = λ k d within.
     let in_b = part-at g shelf b c.requires.second s inside c.parts-2.result.now c.index-parts-at-2.result c.parts-2.ensures.parts c.index-parts-at-2.is in
     let lefts = c.as_slice-lefts.result.now in
     let at_left = at-child g AB items c.requires.spaces (left g s) (guide.left_inside s inside) (c.unwrap_or-children.result).0
-        (ap (λ (p : ℕ × ℕ). p.0) child) c.index.result.now lefts c.index.ensures c.as_slice-lefts.ensures.pairs in
+    (ap (λ (p : ℕ × ℕ). p.0) child) c.index.result.now lefts c.index.ensures c.as_slice-lefts.ensures.pairs in
     let rights = c.as_slice-rights.result.now in
     let at_right = at-child g AB items c.requires.spaces (right g s) (guide.right_inside s inside) (c.unwrap_or-children.result).1
-        (ap (λ (p : ℕ × ℕ). p.1) child) c.index-2.result.now rights c.index-2.ensures c.as_slice-rights.ensures.pairs in
+    (ap (λ (p : ℕ × ℕ). p.1) child) c.index-2.result.now rights c.index-2.ensures c.as_slice-rights.ensures.pairs in
     let p = get_or rights k d in
     let column = column-inside g guide shelf a b c.requires.first c.requires.second items c.requires.spaces s inside c.index-parts-at.result c.index-parts-at-2.result in_a in_b
-        rights at_right k p (slice_get-get_or rights k d within) in
+    rights at_right k p (slice_get-get_or rights k d within) in
     (omega (arith, column.0, ap (λ (xs : List ℕ). length xs) c.as_slice-3.ensures), omega (arith, column.1, ap (λ (xs : List ℕ). length xs) c.as_slice-4.ensures))
 
 pub fill-requires-clause-first : goal.fill-requires-clause-first
@@ -83,16 +83,16 @@ fill-requires-clause-first c = λ l r in_l in_r.
     let in_b = part-at g shelf b c.requires.second s inside c.parts-2.result.now c.index-parts-at-2.result c.parts-2.ensures.parts c.index-parts-at-2.is in
     let lefts = c.as_slice-lefts.result.now in
     let at_left = at-child g AB items c.requires.spaces (left g s) (guide.left_inside s inside) (c.unwrap_or-children.result).0
-        (ap (λ (p : ℕ × ℕ). p.0) child) c.index.result.now lefts c.index.ensures c.as_slice-lefts.ensures.pairs in
+    (ap (λ (p : ℕ × ℕ). p.0) child) c.index.result.now lefts c.index.ensures c.as_slice-lefts.ensures.pairs in
     let rights = c.as_slice-rights.result.now in
     let at_right = at-child g AB items c.requires.spaces (right g s) (guide.right_inside s inside) (c.unwrap_or-children.result).1
-        (ap (λ (p : ℕ × ℕ). p.1) child) c.index-2.result.now rights c.index-2.ensures c.as_slice-rights.ensures.pairs in
+    (ap (λ (p : ℕ × ℕ). p.1) child) c.index-2.result.now rights c.index-2.ensures c.as_slice-rights.ensures.pairs in
     let in_rows = λ (x : ℕ × ℕ) (there : Contains c.as_slice-5.result.now x).
-        let r : (k : ℕ) × (slice_get lefts k ≡ Some x) = ones-inside lefts c.as_slice.result.now c.as_slice-2.result.now c.in_ok-rows.rows c.in_ok-rows.ensures.classes x
-            (subst (λ (ps : List (ℕ × ℕ)). Contains ps x) c.as_slice-5.ensures there) in r in
+    let r : (k : ℕ) × (slice_get lefts k ≡ Some x) = ones-inside lefts c.as_slice.result.now c.as_slice-2.result.now c.in_ok-rows.rows c.in_ok-rows.ensures.classes x
+    (subst (λ (ps : List (ℕ × ℕ)). Contains ps x) c.as_slice-5.ensures there) in r in
     let in_columns = λ (x : ℕ × ℕ) (there : Contains c.as_slice-6.result.now x).
-        let r : (k : ℕ) × (slice_get rights k ≡ Some x) = ones-inside rights c.as_slice-3.result.now c.as_slice-4.result.now c.in_ok-columns.columns c.in_ok-columns.ensures.classes x
-            (subst (λ (ps : List (ℕ × ℕ)). Contains ps x) c.as_slice-6.ensures there) in r in
+    let r : (k : ℕ) × (slice_get rights k ≡ Some x) = ones-inside rights c.as_slice-3.result.now c.as_slice-4.result.now c.in_ok-columns.columns c.in_ok-columns.ensures.classes x
+    (subst (λ (ps : List (ℕ × ℕ)). Contains ps x) c.as_slice-6.ensures there) in r in
     let row = in_rows l in_l in
     let column = in_columns r in_r in
     first-known g guide shelf a b c.requires.first c.requires.second items c.requires.spaces s inside lefts rights at_left at_right row.0 column.0 l r row.1 column.1
@@ -113,16 +113,16 @@ fill-requires-clause-second c = λ l r in_l in_r.
     let in_b = part-at g shelf b c.requires.second s inside c.parts-2.result.now c.index-parts-at-2.result c.parts-2.ensures.parts c.index-parts-at-2.is in
     let lefts = c.as_slice-lefts.result.now in
     let at_left = at-child g AB items c.requires.spaces (left g s) (guide.left_inside s inside) (c.unwrap_or-children.result).0
-        (ap (λ (p : ℕ × ℕ). p.0) child) c.index.result.now lefts c.index.ensures c.as_slice-lefts.ensures.pairs in
+    (ap (λ (p : ℕ × ℕ). p.0) child) c.index.result.now lefts c.index.ensures c.as_slice-lefts.ensures.pairs in
     let rights = c.as_slice-rights.result.now in
     let at_right = at-child g AB items c.requires.spaces (right g s) (guide.right_inside s inside) (c.unwrap_or-children.result).1
-        (ap (λ (p : ℕ × ℕ). p.1) child) c.index-2.result.now rights c.index-2.ensures c.as_slice-rights.ensures.pairs in
+    (ap (λ (p : ℕ × ℕ). p.1) child) c.index-2.result.now rights c.index-2.ensures c.as_slice-rights.ensures.pairs in
     let in_rows = λ (x : ℕ × ℕ) (there : Contains c.as_slice-5.result.now x).
-        let r : (k : ℕ) × (slice_get lefts k ≡ Some x) = ones-inside lefts c.as_slice.result.now c.as_slice-2.result.now c.in_ok-rows.rows c.in_ok-rows.ensures.classes x
-            (subst (λ (ps : List (ℕ × ℕ)). Contains ps x) c.as_slice-5.ensures there) in r in
+    let r : (k : ℕ) × (slice_get lefts k ≡ Some x) = ones-inside lefts c.as_slice.result.now c.as_slice-2.result.now c.in_ok-rows.rows c.in_ok-rows.ensures.classes x
+    (subst (λ (ps : List (ℕ × ℕ)). Contains ps x) c.as_slice-5.ensures there) in r in
     let in_columns = λ (x : ℕ × ℕ) (there : Contains c.as_slice-6.result.now x).
-        let r : (k : ℕ) × (slice_get rights k ≡ Some x) = ones-inside rights c.as_slice-3.result.now c.as_slice-4.result.now c.in_ok-columns.columns c.in_ok-columns.ensures.classes x
-            (subst (λ (ps : List (ℕ × ℕ)). Contains ps x) c.as_slice-6.ensures there) in r in
+    let r : (k : ℕ) × (slice_get rights k ≡ Some x) = ones-inside rights c.as_slice-3.result.now c.as_slice-4.result.now c.in_ok-columns.columns c.in_ok-columns.ensures.classes x
+    (subst (λ (ps : List (ℕ × ℕ)). Contains ps x) c.as_slice-6.ensures there) in r in
     let row = in_rows l in_l in
     let column = in_columns r in_r in
     second-known g guide shelf a b c.requires.first c.requires.second items c.requires.spaces s inside lefts rights at_left at_right row.0 column.0 l r row.1 column.1
@@ -160,16 +160,16 @@ returns-in_err-fill-clause-building c = λ start building.
     let in_b = part-at g shelf b c.requires.second s inside c.parts-2.result.now c.index-parts-at-2.result c.parts-2.ensures.parts c.index-parts-at-2.is in
     let lefts = c.as_slice-lefts.result.now in
     let at_left = at-child g AB items c.requires.spaces (left g s) (guide.left_inside s inside) (c.unwrap_or-children.result).0
-        (ap (λ (p : ℕ × ℕ). p.0) child) c.index.result.now lefts c.index.ensures c.as_slice-lefts.ensures.pairs in
+    (ap (λ (p : ℕ × ℕ). p.0) child) c.index.result.now lefts c.index.ensures c.as_slice-lefts.ensures.pairs in
     let rights = c.as_slice-rights.result.now in
     let at_right = at-child g AB items c.requires.spaces (right g s) (guide.right_inside s inside) (c.unwrap_or-children.result).1
-        (ap (λ (p : ℕ × ℕ). p.1) child) c.index-2.result.now rights c.index-2.ensures c.as_slice-rights.ensures.pairs in
+    (ap (λ (p : ℕ × ℕ). p.1) child) c.index-2.result.now rights c.index-2.ensures c.as_slice-rights.ensures.pairs in
     let in_rows = λ (x : ℕ × ℕ) (there : Contains c.as_slice-5.result.now x).
-        let r : (k : ℕ) × (slice_get lefts k ≡ Some x) = ones-inside lefts c.as_slice.result.now c.as_slice-2.result.now c.in_ok-rows.rows c.in_ok-rows.ensures.classes x
-            (subst (λ (ps : List (ℕ × ℕ)). Contains ps x) c.as_slice-5.ensures there) in r in
+    let r : (k : ℕ) × (slice_get lefts k ≡ Some x) = ones-inside lefts c.as_slice.result.now c.as_slice-2.result.now c.in_ok-rows.rows c.in_ok-rows.ensures.classes x
+    (subst (λ (ps : List (ℕ × ℕ)). Contains ps x) c.as_slice-5.ensures there) in r in
     let in_columns = λ (x : ℕ × ℕ) (there : Contains c.as_slice-6.result.now x).
-        let r : (k : ℕ) × (slice_get rights k ≡ Some x) = ones-inside rights c.as_slice-3.result.now c.as_slice-4.result.now c.in_ok-columns.columns c.in_ok-columns.ensures.classes x
-            (subst (λ (ps : List (ℕ × ℕ)). Contains ps x) c.as_slice-6.ensures there) in r in
+    let r : (k : ℕ) × (slice_get rights k ≡ Some x) = ones-inside rights c.as_slice-3.result.now c.as_slice-4.result.now c.in_ok-columns.columns c.in_ok-columns.ensures.classes x
+    (subst (λ (ps : List (ℕ × ℕ)). Contains ps x) c.as_slice-6.ensures there) in r in
     let before = c.index_mut-2.result.now in
     let after = c.fill.new.numbers in
     let was = get-at items s before (omega (arith, c.requires.spaces.many, inside)) c.index_mut-2.ensures.value in
@@ -201,16 +201,16 @@ returns-in_err-count_up-clause-building c = λ start building.
     let in_b = part-at g shelf b c.requires.second s inside c.parts-2.result.now c.index-parts-at-2.result c.parts-2.ensures.parts c.index-parts-at-2.is in
     let lefts = c.as_slice-lefts.result.now in
     let at_left = at-child g AB items c.requires.spaces (left g s) (guide.left_inside s inside) (c.unwrap_or-children.result).0
-        (ap (λ (p : ℕ × ℕ). p.0) child) c.index.result.now lefts c.index.ensures c.as_slice-lefts.ensures.pairs in
+    (ap (λ (p : ℕ × ℕ). p.0) child) c.index.result.now lefts c.index.ensures c.as_slice-lefts.ensures.pairs in
     let rights = c.as_slice-rights.result.now in
     let at_right = at-child g AB items c.requires.spaces (right g s) (guide.right_inside s inside) (c.unwrap_or-children.result).1
-        (ap (λ (p : ℕ × ℕ). p.1) child) c.index-2.result.now rights c.index-2.ensures c.as_slice-rights.ensures.pairs in
+    (ap (λ (p : ℕ × ℕ). p.1) child) c.index-2.result.now rights c.index-2.ensures c.as_slice-rights.ensures.pairs in
     let in_rows = λ (x : ℕ × ℕ) (there : Contains c.as_slice-5.result.now x).
-        let r : (k : ℕ) × (slice_get lefts k ≡ Some x) = ones-inside lefts c.as_slice.result.now c.as_slice-2.result.now c.in_ok-rows.rows c.in_ok-rows.ensures.classes x
-            (subst (λ (ps : List (ℕ × ℕ)). Contains ps x) c.as_slice-5.ensures there) in r in
+    let r : (k : ℕ) × (slice_get lefts k ≡ Some x) = ones-inside lefts c.as_slice.result.now c.as_slice-2.result.now c.in_ok-rows.rows c.in_ok-rows.ensures.classes x
+    (subst (λ (ps : List (ℕ × ℕ)). Contains ps x) c.as_slice-5.ensures there) in r in
     let in_columns = λ (x : ℕ × ℕ) (there : Contains c.as_slice-6.result.now x).
-        let r : (k : ℕ) × (slice_get rights k ≡ Some x) = ones-inside rights c.as_slice-3.result.now c.as_slice-4.result.now c.in_ok-columns.columns c.in_ok-columns.ensures.classes x
-            (subst (λ (ps : List (ℕ × ℕ)). Contains ps x) c.as_slice-6.ensures there) in r in
+    let r : (k : ℕ) × (slice_get rights k ≡ Some x) = ones-inside rights c.as_slice-3.result.now c.as_slice-4.result.now c.in_ok-columns.columns c.in_ok-columns.ensures.classes x
+    (subst (λ (ps : List (ℕ × ℕ)). Contains ps x) c.as_slice-6.ensures there) in r in
     let before = c.index_mut-2.result.now in
     let after = c.fill.new.numbers in
     let was = get-at items s before (omega (arith, c.requires.spaces.many, inside)) c.index_mut-2.ensures.value in
@@ -242,16 +242,16 @@ returns-clause-building c = λ start building.
     let in_b = part-at g shelf b c.requires.second s inside c.parts-2.result.now c.index-parts-at-2.result c.parts-2.ensures.parts c.index-parts-at-2.is in
     let lefts = c.as_slice-lefts.result.now in
     let at_left = at-child g AB items c.requires.spaces (left g s) (guide.left_inside s inside) (c.unwrap_or-children.result).0
-        (ap (λ (p : ℕ × ℕ). p.0) child) c.index.result.now lefts c.index.ensures c.as_slice-lefts.ensures.pairs in
+    (ap (λ (p : ℕ × ℕ). p.0) child) c.index.result.now lefts c.index.ensures c.as_slice-lefts.ensures.pairs in
     let rights = c.as_slice-rights.result.now in
     let at_right = at-child g AB items c.requires.spaces (right g s) (guide.right_inside s inside) (c.unwrap_or-children.result).1
-        (ap (λ (p : ℕ × ℕ). p.1) child) c.index-2.result.now rights c.index-2.ensures c.as_slice-rights.ensures.pairs in
+    (ap (λ (p : ℕ × ℕ). p.1) child) c.index-2.result.now rights c.index-2.ensures c.as_slice-rights.ensures.pairs in
     let in_rows = λ (x : ℕ × ℕ) (there : Contains c.as_slice-5.result.now x).
-        let r : (k : ℕ) × (slice_get lefts k ≡ Some x) = ones-inside lefts c.as_slice.result.now c.as_slice-2.result.now c.in_ok-rows.rows c.in_ok-rows.ensures.classes x
-            (subst (λ (ps : List (ℕ × ℕ)). Contains ps x) c.as_slice-5.ensures there) in r in
+    let r : (k : ℕ) × (slice_get lefts k ≡ Some x) = ones-inside lefts c.as_slice.result.now c.as_slice-2.result.now c.in_ok-rows.rows c.in_ok-rows.ensures.classes x
+    (subst (λ (ps : List (ℕ × ℕ)). Contains ps x) c.as_slice-5.ensures there) in r in
     let in_columns = λ (x : ℕ × ℕ) (there : Contains c.as_slice-6.result.now x).
-        let r : (k : ℕ) × (slice_get rights k ≡ Some x) = ones-inside rights c.as_slice-3.result.now c.as_slice-4.result.now c.in_ok-columns.columns c.in_ok-columns.ensures.classes x
-            (subst (λ (ps : List (ℕ × ℕ)). Contains ps x) c.as_slice-6.ensures there) in r in
+    let r : (k : ℕ) × (slice_get rights k ≡ Some x) = ones-inside rights c.as_slice-3.result.now c.as_slice-4.result.now c.in_ok-columns.columns c.in_ok-columns.ensures.classes x
+    (subst (λ (ps : List (ℕ × ℕ)). Contains ps x) c.as_slice-6.ensures there) in r in
     let before = c.index_mut-2.result.now in
     let after = c.fill.new.numbers in
     let was = get-at items s before (omega (arith, c.requires.spaces.many, inside)) c.index_mut-2.ensures.value in
@@ -275,16 +275,16 @@ returns-in_err-fill-clause-limit c = λ stopped start building given completes.
     let in_b = part-at g shelf b c.requires.second s inside c.parts-2.result.now c.index-parts-at-2.result c.parts-2.ensures.parts c.index-parts-at-2.is in
     let lefts = c.as_slice-lefts.result.now in
     let at_left = at-child g AB items c.requires.spaces (left g s) (guide.left_inside s inside) (c.unwrap_or-children.result).0
-        (ap (λ (p : ℕ × ℕ). p.0) child) c.index.result.now lefts c.index.ensures c.as_slice-lefts.ensures.pairs in
+    (ap (λ (p : ℕ × ℕ). p.0) child) c.index.result.now lefts c.index.ensures c.as_slice-lefts.ensures.pairs in
     let rights = c.as_slice-rights.result.now in
     let at_right = at-child g AB items c.requires.spaces (right g s) (guide.right_inside s inside) (c.unwrap_or-children.result).1
-        (ap (λ (p : ℕ × ℕ). p.1) child) c.index-2.result.now rights c.index-2.ensures c.as_slice-rights.ensures.pairs in
+    (ap (λ (p : ℕ × ℕ). p.1) child) c.index-2.result.now rights c.index-2.ensures c.as_slice-rights.ensures.pairs in
     let in_rows = λ (x : ℕ × ℕ) (there : Contains c.as_slice-5.result.now x).
-        let r : (k : ℕ) × (slice_get lefts k ≡ Some x) = ones-inside lefts c.as_slice.result.now c.as_slice-2.result.now c.in_ok-rows.rows c.in_ok-rows.ensures.classes x
-            (subst (λ (ps : List (ℕ × ℕ)). Contains ps x) c.as_slice-5.ensures there) in r in
+    let r : (k : ℕ) × (slice_get lefts k ≡ Some x) = ones-inside lefts c.as_slice.result.now c.as_slice-2.result.now c.in_ok-rows.rows c.in_ok-rows.ensures.classes x
+    (subst (λ (ps : List (ℕ × ℕ)). Contains ps x) c.as_slice-5.ensures there) in r in
     let in_columns = λ (x : ℕ × ℕ) (there : Contains c.as_slice-6.result.now x).
-        let r : (k : ℕ) × (slice_get rights k ≡ Some x) = ones-inside rights c.as_slice-3.result.now c.as_slice-4.result.now c.in_ok-columns.columns c.in_ok-columns.ensures.classes x
-            (subst (λ (ps : List (ℕ × ℕ)). Contains ps x) c.as_slice-6.ensures there) in r in
+    let r : (k : ℕ) × (slice_get rights k ≡ Some x) = ones-inside rights c.as_slice-3.result.now c.as_slice-4.result.now c.in_ok-columns.columns c.in_ok-columns.ensures.classes x
+    (subst (λ (ps : List (ℕ × ℕ)). Contains ps x) c.as_slice-6.ensures there) in r in
     let before = c.index_mut-2.result.now in
     let after = c.fill.new.numbers in
     let was = get-at items s before (omega (arith, c.requires.spaces.many, inside)) c.index_mut-2.ensures.value in
@@ -319,16 +319,16 @@ returns-clause-part c =
     let in_b = part-at g shelf b c.requires.second s inside c.parts-2.result.now c.index-parts-at-2.result c.parts-2.ensures.parts c.index-parts-at-2.is in
     let lefts = c.as_slice-lefts.result.now in
     let at_left = at-child g AB items c.requires.spaces (left g s) (guide.left_inside s inside) (c.unwrap_or-children.result).0
-        (ap (λ (p : ℕ × ℕ). p.0) child) c.index.result.now lefts c.index.ensures c.as_slice-lefts.ensures.pairs in
+    (ap (λ (p : ℕ × ℕ). p.0) child) c.index.result.now lefts c.index.ensures c.as_slice-lefts.ensures.pairs in
     let rights = c.as_slice-rights.result.now in
     let at_right = at-child g AB items c.requires.spaces (right g s) (guide.right_inside s inside) (c.unwrap_or-children.result).1
-        (ap (λ (p : ℕ × ℕ). p.1) child) c.index-2.result.now rights c.index-2.ensures c.as_slice-rights.ensures.pairs in
+    (ap (λ (p : ℕ × ℕ). p.1) child) c.index-2.result.now rights c.index-2.ensures c.as_slice-rights.ensures.pairs in
     let in_rows = λ (x : ℕ × ℕ) (there : Contains c.as_slice-5.result.now x).
-        let r : (k : ℕ) × (slice_get lefts k ≡ Some x) = ones-inside lefts c.as_slice.result.now c.as_slice-2.result.now c.in_ok-rows.rows c.in_ok-rows.ensures.classes x
-            (subst (λ (ps : List (ℕ × ℕ)). Contains ps x) c.as_slice-5.ensures there) in r in
+    let r : (k : ℕ) × (slice_get lefts k ≡ Some x) = ones-inside lefts c.as_slice.result.now c.as_slice-2.result.now c.in_ok-rows.rows c.in_ok-rows.ensures.classes x
+    (subst (λ (ps : List (ℕ × ℕ)). Contains ps x) c.as_slice-5.ensures there) in r in
     let in_columns = λ (x : ℕ × ℕ) (there : Contains c.as_slice-6.result.now x).
-        let r : (k : ℕ) × (slice_get rights k ≡ Some x) = ones-inside rights c.as_slice-3.result.now c.as_slice-4.result.now c.in_ok-columns.columns c.in_ok-columns.ensures.classes x
-            (subst (λ (ps : List (ℕ × ℕ)). Contains ps x) c.as_slice-6.ensures there) in r in
+    let r : (k : ℕ) × (slice_get rights k ≡ Some x) = ones-inside rights c.as_slice-3.result.now c.as_slice-4.result.now c.in_ok-columns.columns c.in_ok-columns.ensures.classes x
+    (subst (λ (ps : List (ℕ × ℕ)). Contains ps x) c.as_slice-6.ensures there) in r in
     let before = c.index_mut-2.result.now in
     let after = c.fill.new.numbers in
     let was = get-at items s before (omega (arith, c.requires.spaces.many, inside)) c.index_mut-2.ensures.value in
@@ -338,7 +338,7 @@ returns-clause-part c =
     let at = get-set items s after (omega (arith, c.requires.spaces.many, inside)) in
     let held = get-at (slice_set items s after) s c.index-3.result.now (omega (arith, length-set_at items s after, c.requires.spaces.many, inside)) c.index-3.ensures in
     let filled = subst (λ (ps : List (ℕ × ℕ)). AreCells AB s ps columns.ones after c.fill.new.shelf c.args.roots.now c.fill.new.roots) c.as_slice-5.ensures
-        (subst (λ (ps : List (ℕ × ℕ)). AreCells AB s c.as_slice-5.result.now ps after c.fill.new.shelf c.args.roots.now c.fill.new.roots) c.as_slice-6.ensures c.in_ok-fill.ensures.cells) in
+    (subst (λ (ps : List (ℕ × ℕ)). AreCells AB s c.as_slice-5.result.now ps after c.fill.new.shelf c.args.roots.now c.fill.new.roots) c.as_slice-6.ensures c.in_ok-fill.ensures.cells) in
     record {
       lefts = lefts;
       rights = rights;
@@ -372,3 +372,36 @@ returns-clause-start c =
     let range = length-range_with_len 0 (c.len-2.result - c.len-start.result) in
     let filled = c.in_ok-fill.ensures.cells.many in
     (c.len-start.ensures, omega (arith, many, range, filled, c.len-2.ensures, c.len-start.ensures))
+
+pub returns-clause-spaces : goal.returns-clause-spaces
+returns-clause-spaces c =
+    let g = c.args.g.now in
+    let s = c.args.space in
+    let guide = c.children.ensures.guide in
+    let items = c.args.numbers.now.items in
+    let shelf = c.args.shelf.now in
+    let a = c.args.a.now in
+    let b = c.args.b.now in
+    let AB = pairs (automaton_of shelf a) (automaton_of shelf b) in
+    let inside = c.requires.inside in
+    let child = c.unwrap_or-children.ensures ∙ ap (λ (o : Option (ℕ × ℕ)). unwrap_or o (0, 0)) c.children.ensures.value in
+    let in_a = part-at g shelf a c.requires.first s inside c.parts.result.now c.index-parts-at.result c.parts.ensures.parts c.index-parts-at.is in
+    let in_b = part-at g shelf b c.requires.second s inside c.parts-2.result.now c.index-parts-at-2.result c.parts-2.ensures.parts c.index-parts-at-2.is in
+    let lefts = c.as_slice-lefts.result.now in
+    let at_left = at-child g AB items c.requires.spaces (left g s) (guide.left_inside s inside) (c.unwrap_or-children.result).0
+    (ap (λ (p : ℕ × ℕ). p.0) child) c.index.result.now lefts c.index.ensures c.as_slice-lefts.ensures.pairs in
+    let rights = c.as_slice-rights.result.now in
+    let at_right = at-child g AB items c.requires.spaces (right g s) (guide.right_inside s inside) (c.unwrap_or-children.result).1
+    (ap (λ (p : ℕ × ℕ). p.1) child) c.index-2.result.now rights c.index-2.ensures c.as_slice-rights.ensures.pairs in
+    let in_rows = λ (x : ℕ × ℕ) (there : Contains c.as_slice-5.result.now x).
+    let r : (k : ℕ) × (slice_get lefts k ≡ Some x) = ones-inside lefts c.as_slice.result.now c.as_slice-2.result.now c.in_ok-rows.rows c.in_ok-rows.ensures.classes x
+    (subst (λ (ps : List (ℕ × ℕ)). Contains ps x) c.as_slice-5.ensures there) in r in
+    let in_columns = λ (x : ℕ × ℕ) (there : Contains c.as_slice-6.result.now x).
+    let r : (k : ℕ) × (slice_get rights k ≡ Some x) = ones-inside rights c.as_slice-3.result.now c.as_slice-4.result.now c.in_ok-columns.columns c.in_ok-columns.ensures.classes x
+    (subst (λ (ps : List (ℕ × ℕ)). Contains ps x) c.as_slice-6.ensures there) in r in
+    let before = c.index_mut-2.result.now in
+    let after = c.fill.new.numbers in
+    let was = get-at items s before (omega (arith, c.requires.spaces.many, inside)) c.index_mut-2.ensures.value in
+    let sets = SetsSpace-at items s before after was in
+    AreSpaces-set g AB s inside items (slice_set items s after) lefts rights before after c.requires.spaces sets at_left at_right
+    c.as_slice-5.result.now c.as_slice-6.result.now in_rows in_columns shelf c.fill.new.shelf c.fill.ensures.joins c.fill.ensures.numbers

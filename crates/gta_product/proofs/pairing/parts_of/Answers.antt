@@ -123,11 +123,11 @@ loop-space-preserved c =
           omega arith;
       parts = λ is.
           let between : c.loop-space.numbers.items ≡ first = sym (both-spaces first c.loop-space.numbers.items inv.extends
-              (subst (λ (ss : List (List (ℕ × ℕ))). ExtendAll c.loop-space.numbers.items ss) is call.extends)) in
+          (subst (λ (ss : List (List (ℕ × ℕ))). ExtendAll c.loop-space.numbers.items ss) is call.extends)) in
           let here = subst (λ (X : Automaton (ℕ × ℕ)). IsPartOf g X c.args.a.now c.args.b.now c.loop-space.numbers.items c.part_of.new.numbers.items
-              c.part_of.new.shelf c.part_of.new.roots c.loop-space.space part) same e.part in
+          c.part_of.new.shelf c.part_of.new.roots c.loop-space.space part) same e.part in
           let at_first = subst (λ (ss : List (List (ℕ × ℕ))). IsPartOf g AB c.args.a.now c.args.b.now ss first c.part_of.new.shelf c.part_of.new.roots c.loop-space.space part) between
-              (subst (λ (ss : List (List (ℕ × ℕ))). IsPartOf g AB c.args.a.now c.args.b.now c.loop-space.numbers.items ss c.part_of.new.shelf c.part_of.new.roots c.loop-space.space part) is here) in
+          (subst (λ (ss : List (List (ℕ × ℕ))). IsPartOf g AB c.args.a.now c.args.b.now c.loop-space.numbers.items ss c.part_of.new.shelf c.part_of.new.roots c.loop-space.space part) is here) in
           subst (λ (ps : List Part). AreParts g AB c.args.a.now c.args.b.now first first c.part_of.new.shelf c.part_of.new.roots ps) (sym c.in_ok-push.ensures.ok)
           (AreParts-more g AB c.args.a.now c.args.b.now first c.requires.spaces c.loop-space.shelf c.part_of.new.shelf call.kept c.loop-space.roots c.part_of.new.roots e.grown
           c.loop-space.parts part (inv.parts between)

@@ -15,9 +15,9 @@ loop-space-preserved c =
     let old = c.loop-space.spaces.items in
     let new = c.number.new.self in
     let grows = subst (λ (ps : List (ℕ × ℕ)). Grows ps new (initial_of c.args.a.now s, initial_of c.args.b.now s)) c.new-numbers.ensures
-        (subst (λ (p : ℕ × ℕ). Grows c.new-numbers.result new p)
-        (ap (λ (n : ℕ). let p : ℕ × ℕ = (n, c.initial-in-loop-space.result) in p) c.initial.ensures
-        ∙ ap (λ (n : ℕ). let p : ℕ × ℕ = (initial_of c.args.a.now s, n) in p) c.initial-in-loop-space.ensures) e.grows) in
+    (subst (λ (p : ℕ × ℕ). Grows c.new-numbers.result new p)
+    (ap (λ (n : ℕ). let p : ℕ × ℕ = (n, c.initial-in-loop-space.result) in p) c.initial.ensures
+    ∙ ap (λ (n : ℕ). let p : ℕ × ℕ = (initial_of c.args.a.now s, n) in p) c.initial-in-loop-space.ensures) e.grows) in
     record {
       many =
           let a = ap (λ (ss : List (List (ℕ × ℕ))). length ss) c.in_ok-push.ensures.items in

@@ -10,7 +10,7 @@ invariant_of-self-2 c = AreNumbers-grows c.self.inside.pairs.keys c.insert_full.
 pub returns-clause-value : goal.returns-clause-value
 returns-clause-value c =
     let numbers = AreNumbers-grows c.self.inside.pairs.keys c.insert_full.new.self.keys c.args.pair c.self.invariant (omega arith)
-        (Grows-insert c.self.inside.pairs.keys c.insert_full.new.self.keys c.args.pair c.in_ok-place.ensures.keys) in
+    (Grows-insert c.self.inside.pairs.keys c.insert_full.new.self.keys c.args.pair c.in_ok-place.ensures.keys) in
     let stored = c.in_ok-place.ensures.stored in
     numbers.found c.in_ok-place.place c.args.pair
     (stored.1 ∙ ap (λ (p : ℕ × ℕ). let o : Option (ℕ × ℕ) = Some p in o) (sym (is_pair-true c.args.pair stored.0 stored.2)))
