@@ -29,7 +29,6 @@ Progress-none call is_shelf = record {
   tables = refl;
   adds = AddsNew-none call;
   answers_kept = λ states answer was. was;
-  only = λ states answer there absent. absurd (let e : None ≡ Some answer = sym absent ∙ there in cc);
 }
 
 pub valid-all : (shelf : Contents) (rs : List NodeRef) → All (IsValid shelf) rs → IsTrue (list_all (is_valid shelf) rs)

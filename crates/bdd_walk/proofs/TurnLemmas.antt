@@ -27,14 +27,32 @@ cases_answer : (o : Option ℕ) → (o ≡ None) ⊎ ((answer : ℕ) × (o ≡ S
 cases_answer None = inl refl
 cases_answer (Some answer) = inr (answer, refl)
 
--- one list was asked, which some label gives
-AnswersOnly-asked : (whole : Asking) (first answers more : Answers) (asked : List ℕ) → IsGiven whole asked →
-    AnswersOnly (IsGiven whole) first answers → AnswersOnly (λ states. states ≡ asked) answers more →
-    AnswersOnly (IsGiven whole) first more
-AnswersOnly-asked whole first answers more asked is_given before only = λ states answer there absent. elim (cases_answer (answers states)) [
-  | inl none ↦ subst (IsGiven whole) (sym (only states answer there none)) is_given
+-- no answer is new
+pub AnswersOnly-none : (IsAsked : List ℕ → Type 0) (answers : Answers) → AnswersOnly IsAsked answers answers
+AnswersOnly-none IsAsked answers = λ states answer there absent. absurd (let e : None ≡ Some answer = sym absent ∙ there in cc)
+
+-- one answer after the other
+pub AnswersOnly-trans : (IsAsked : List ℕ → Type 0) (first answers more : Answers) → AnswersOnly IsAsked first answers →
+    AnswersOnly IsAsked answers more → AnswersOnly IsAsked first more
+AnswersOnly-trans IsAsked first answers more before only = λ states answer there absent. elim (cases_answer (answers states)) [
+  | inl none ↦ only states answer there none
   | inr some ↦ before states some.0 some.1 absent
 ]
+
+-- what a leaf asks, its key asks
+pub AnswersOnly-leaf : (like : List ℕ → List ℕ → Type 0) (asking : Asking) (asked : List ℕ) (answers more : Answers) →
+    ((label : Label) → asking label ≡ asked) → AnswersOnly (like asked) answers more → AnswersOnly (IsGiven like asking) answers more
+unfolding IsGiven
+AnswersOnly-leaf like asking asked answers more asks only = λ states answer there absent.
+    (λ u. false, subst (λ (list : List ℕ). like list states) (sym (asks (λ u. false))) (only states answer there absent))
+
+-- what a part asks, the whole asks
+pub AnswersOnly-part : (like : List ℕ → List ℕ → Type 0) (whole asking other : Asking) (answers more : Answers) → IsPart whole asking →
+    AsksSame other asking → AnswersOnly (IsGiven like other) answers more → AnswersOnly (IsGiven like whole) answers more
+unfolding IsGiven AsksSame
+AnswersOnly-part like whole asking other answers more part same only = λ states answer there absent.
+    let given = only states answer there absent in
+    (with_below part.below part.fixed given.0, subst (λ (list : List ℕ). like list states) (same given.0 ∙ part.asks given.0) given.1)
 
 module _ {K : Type 0} (eq : K → K → Bool) (asked : K → Asking) (is_in : K → Bool) (call : Call) (shelf : Contents)
     (answers : Answers) (memo : Memo K) (stack : List (Frame K)) where
@@ -48,15 +66,7 @@ module _ {K : Type 0} (eq : K → K → Bool) (asked : K → Asking) (is_in : K 
       underway = record { focus = asked key; result = (works.kept key r there).stands; waits = works.underway.1 };
     }
 
-    given_here : (states : List ℕ) → ((label : Label) → asked key label ≡ states) → IsGiven call.whole states
-    unfolding IsGiven
-    given_here states asks =
-        let part = works.underway.0.part in
-        (with_below part.below part.fixed (λ u. false), sym (part.asks (λ u. false)) ∙ asks (λ u. false))
-
-    module _ (more : Answers) (states : List ℕ) (kept : KeepsAnswers answers more)
-        (only : AnswersOnly (λ list. list ≡ states) answers more) (asks : (label : Label) → asked key label
-        ≡ states) where
+    module _ (more : Answers) (kept : KeepsAnswers answers more) where
       -- the rule was asked
       pub progress-leaf : Progress call shelf more
       progress-leaf = record {
@@ -67,14 +77,13 @@ module _ {K : Type 0} (eq : K → K → Bool) (asked : K → Asking) (is_in : K 
         tables = works.progress.tables;
         adds = AddsNew-answers call shelf answers more kept works.progress.adds;
         answers_kept = KeepsAnswers-trans call.answers answers more works.progress.answers_kept kept;
-        only = AnswersOnly-asked call.whole call.answers answers more states (given_here states asks) works.progress.only only;
       }
 
       -- the rule has answered
-      pub works-leaf : (after : Memo K) (made : NodeRef) (answer : ℕ) → Respects eq asked is_in → IsLeaf made answer →
-          more states ≡ Some answer → Updates eq memo after key (Some made) →
-          Works eq asked is_in call shelf more after stack (Done made)
-      works-leaf after made answer respects leaf answered updates =
+      pub works-leaf : (states : List ℕ) → ((label : Label) → asked key label ≡ states) → (after : Memo K) (made : NodeRef)
+          (answer : ℕ) → Respects eq asked is_in → IsLeaf made answer → more states ≡ Some answer →
+          Updates eq memo after key (Some made) → Works eq asked is_in call shelf more after stack (Done made)
+      works-leaf states asks after made answer respects leaf answered updates =
           let stands = Stands-leaf shelf more (asked key) made states answer leaf answered asks in
           record {
             progress = progress-leaf;
@@ -135,7 +144,6 @@ works-start eq asked is_in call memo key whole inside is_shelf is_memo = record 
     tables = refl;
     adds = AddsNew-none call;
     answers_kept = λ states answer was. was;
-    only = λ states answer there absent. absurd (let e : None ≡ Some answer = sym absent ∙ there in cc);
   };
   kept = is_memo;
   underway = (
@@ -221,7 +229,6 @@ module _ {K : Type 0} (eq : K → K → Bool) (asked : K → Asking) (is_in : K 
         tables = tables ∙ works.progress.tables;
         adds = AddsNew-made call shelf new answers node (asked key) works.progress.keeps keeps only count waits_on_top.0.part stands works.progress.adds;
         answers_kept = works.progress.answers_kept;
-        only = works.progress.only;
       }
 
       pub works-made : (after : Memo K) → Respects eq asked is_in → Updates eq memo after key (Some node) →

@@ -71,7 +71,7 @@ impl Joiner {
         ensures tables { SameTables shelf.old shelf.new }
         ensures shelf { IsShelf shelf.new }
         ensures answers { KeepsAnswers (L.answers rule.old) (L.answers rule.new) }
-        ensures only { AnswersOnly (IsGiven (asked_of shelf.old roots.now dropped)) (L.answers rule.old) (L.answers rule.new) }
+        ensures only { AnswersOnly (IsGiven L.like (asked_of shelf.old roots.now dropped)) (L.answers rule.old) (L.answers rule.new) }
         ensures may_ask_still { (asked : List ℕ) → L.may_ask rule.old asked → L.may_ask rule.new asked }
     {
         let made = join_roots(alloc, shelf, self, roots, dropped, rule)?;

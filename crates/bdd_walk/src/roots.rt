@@ -5,8 +5,8 @@ ghost use Rattle.std.specs.List.{list_all};
 ghost use Rattle.labels.specs.Labels.{Label};
 ghost use Rattle.bdd_nodes.specs.Changes.{is_valid};
 ghost use Rattle.bdd_nodes.specs.Shelf.{IsShelf};
-ghost use Rattle.bdd_walk.specs.Answers.{Completes};
-ghost use Rattle.bdd_walk.specs.Asked.{leaves_of, asked_of};
+ghost use Rattle.bdd_walk.specs.Answers.{AnswersOnly, Completes};
+ghost use Rattle.bdd_walk.specs.Asked.{leaves_of, asked_of, IsGiven};
 ghost use Rattle.bdd_walk.specs.Under.{Exceeds};
 ghost use Rattle.bdd_walk.specs.Stands.{Stands};
 ghost use Rattle.bdd_walk.specs.Progress.{Progress};
@@ -49,6 +49,7 @@ fn join_dropped<L: LeafRule>(
     ensures stands { IfOk result (Stands shelf.new (L.answers rule.new) (asked_of shelf.old roots.now (Some track))) }
     ensures limit { result ≡ Err Stop.Limit → (given : List ℕ → ℕ) → Completes (L.answers rule.new) given
         → Exceeds shelf.old (λ label. given (asked_of shelf.old roots.now (Some track) label)) }
+    ensures only { AnswersOnly (IsGiven L.like (asked_of shelf.old roots.now (Some track))) (L.answers rule.old) (L.answers rule.new) }
     ensures fits { OnOk result (FitsMany (Some track) shelf.new (L.answers rule.new) kept.new.memo) }
     ensures may_ask_still { (asked : List ℕ) → L.may_ask rule.old asked → L.may_ask rule.new asked }
 {
@@ -76,6 +77,7 @@ fn join_list<L: LeafRule>(
     ensures stands { IfOk result (Stands shelf.new (L.answers rule.new) (leaves_of shelf.old roots.now)) }
     ensures limit { result ≡ Err Stop.Limit → (given : List ℕ → ℕ) → Completes (L.answers rule.new) given
         → Exceeds shelf.old (λ label. given (leaves_of shelf.old roots.now label)) }
+    ensures only { AnswersOnly (IsGiven L.like (leaves_of shelf.old roots.now)) (L.answers rule.old) (L.answers rule.new) }
     ensures fits { OnOk result (FitsMany None shelf.new (L.answers rule.new) kept.new.memo) }
     ensures may_ask_still { (asked : List ℕ) → L.may_ask rule.old asked → L.may_ask rule.new asked }
 {
@@ -100,6 +102,7 @@ fn join_plain<L: LeafRule>(
     ensures stands { IfOk result (Stands shelf.new (L.answers rule.new) (leaves_of shelf.old roots.now)) }
     ensures limit { result ≡ Err Stop.Limit → (given : List ℕ → ℕ) → Completes (L.answers rule.new) given
         → Exceeds shelf.old (λ label. given (leaves_of shelf.old roots.now label)) }
+    ensures only { AnswersOnly (IsGiven L.like (leaves_of shelf.old roots.now)) (L.answers rule.old) (L.answers rule.new) }
     ensures fits { OnOk result (Fits joiner.new None shelf.new (L.answers rule.new)) }
     ensures may_ask_still { (asked : List ℕ) → L.may_ask rule.old asked → L.may_ask rule.new asked }
 {
@@ -140,6 +143,7 @@ pub(crate) fn join_roots<L: LeafRule>(
     ensures stands { IfOk result (Stands shelf.new (L.answers rule.new) (asked_of shelf.old roots.now dropped)) }
     ensures limit { result ≡ Err Stop.Limit → (given : List ℕ → ℕ) → Completes (L.answers rule.new) given
         → Exceeds shelf.old (λ label. given (asked_of shelf.old roots.now dropped label)) }
+    ensures only { AnswersOnly (IsGiven L.like (asked_of shelf.old roots.now dropped)) (L.answers rule.old) (L.answers rule.new) }
     ensures fits { OnOk result (Fits joiner.new dropped shelf.new (L.answers rule.new)) }
     ensures may_ask_still { (asked : List ℕ) → L.may_ask rule.old asked → L.may_ask rule.new asked }
 {

@@ -119,6 +119,7 @@ fn visit<W: Walk, L: LeafRule>(
         shelf.now (L.answers rule.new) memo.new stack.new.items) }
     ensures cost { IfOk result (λ turn. turn_cost (W.weight walk.now) turn + stack_cost (W.weight walk.now) stack.new.items
         < visit_cost (W.weight walk.now) key + stack_cost (W.weight walk.now) stack.old.items) }
+    ensures only { AnswersOnly (IsGiven L.like (W.asked walk.now shelf.now key)) (L.answers rule.old) (L.answers rule.new) }
     ensures not_full { result ≢ Err Stop.Limit }
     ensures may_ask_still { (asked : List ℕ) → L.may_ask rule.old asked → L.may_ask rule.new asked }
 {
@@ -203,6 +204,7 @@ pub(crate) fn join_kept<W: Walk, L: LeafRule>(
     ensures stands { IfOk result (Stands shelf.new (L.answers rule.new) (W.asked walk.now shelf.old start)) }
     ensures limit { result ≡ Err Stop.Limit → (given : List ℕ → ℕ) → Completes (L.answers rule.new) given
         → Exceeds shelf.old (λ label. given (W.asked walk.now shelf.old start label)) }
+    ensures only { AnswersOnly (IsGiven L.like (W.asked walk.now shelf.old start)) (L.answers rule.old) (L.answers rule.new) }
     ensures may_ask_still { (asked : List ℕ) → L.may_ask rule.old asked → L.may_ask rule.new asked }
     ensures fits { OnOk result (IsMemo W.Key.eq (W.asked walk.now shelf.new) (W.is_in walk.now shelf.new) shelf.new (L.answers rule.new) kept.new.memo) }
 {
@@ -244,6 +246,7 @@ pub(crate) fn join_from<W: Walk, L: LeafRule>(
     ensures stands { IfOk result (Stands shelf.new (L.answers rule.new) (W.asked walk.now shelf.old start)) }
     ensures limit { result ≡ Err Stop.Limit → (given : List ℕ → ℕ) → Completes (L.answers rule.new) given
         → Exceeds shelf.old (λ label. given (W.asked walk.now shelf.old start label)) }
+    ensures only { AnswersOnly (IsGiven L.like (W.asked walk.now shelf.old start)) (L.answers rule.old) (L.answers rule.new) }
     ensures may_ask_still { (asked : List ℕ) → L.may_ask rule.old asked → L.may_ask rule.new asked }
 {
     let mut kept = Kept::new(alloc);

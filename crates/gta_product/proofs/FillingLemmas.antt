@@ -53,7 +53,7 @@ module _ (a b : AutoView) (s : ℕ) (l r : ℕ × ℕ) (old new : Contents) (fir
 
   pub Joins-one : Keeps old new → limit_of new ≡ limit_of old → SameTables old new → IsShelf new →
       KeepsAnswers (numbered before) (numbered after) →
-      AnswersOnly (IsGiven (asked_of old (first ∷ second ∷ []) None)) (numbered before) (numbered after) →
+      AnswersOnly (IsGiven (λ one other. other ≡ one) (asked_of old (first ∷ second ∷ []) None)) (numbered before) (numbered after) →
       ((given : List ℕ → ℕ) → Completes (numbered after) given → Adds old new (λ label. given (asked_of old (first ∷ second ∷ []) None label))) →
       Joins both s (l ∷ []) (r ∷ []) old new before after
   unfolding IsGiven
@@ -69,7 +69,7 @@ module _ (a b : AutoView) (s : ℕ) (l r : ℕ × ℕ) (old new : Contents) (fir
           | inr was ↦ (let same : was.0 ≡ k = same_number was.0 k (sym (kept (pair.0 ∷ pair.1 ∷ []) was.0 was.1) ∙ number) in
               inl (subst (λ (n : ℕ). slice_get before n ≡ Some pair) same (number_in-get before pair was.0 was.1)))
           | inl none ↦ (let given = only (pair.0 ∷ pair.1 ∷ []) k number none in
-              let gives : asked_at both s l r given.0 ≡ pair.0 ∷ pair.1 ∷ [] = sym (asked-step given.0) ∙ given.1 in
+              let gives : asked_at both s l r given.0 ≡ pair.0 ∷ pair.1 ∷ [] = sym (asked-step given.0) ∙ sym given.1 in
               inr (record {
                 row = l;
                 column = r;

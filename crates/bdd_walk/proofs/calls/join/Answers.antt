@@ -33,7 +33,7 @@ returns-in_err-made-clause-adds g c = λ given completes.
 
 pub returns-in_err-made-clause-only : goal.returns-in_err-made-clause-only
 returns-in_err-made-clause-only g c =
-    subst (λ (rs : List NodeRef). AnswersOnly (IsGiven (asked_of c.args.shelf.now rs c.args.dropped))
+    subst (λ (rs : List NodeRef). AnswersOnly (IsGiven g.L.LeafRule.like (asked_of c.args.shelf.now rs c.args.dropped))
     (g.L.LeafRule.answers c.args.rule.now) (g.L.LeafRule.answers c.join.new.rule)) c.as_slice.ensures c.join.ensures.only
 
 pub returns-clause-parts : goal.returns-clause-parts
@@ -50,5 +50,5 @@ returns-clause-adds g c = λ given completes.
 
 pub returns-clause-only : goal.returns-clause-only
 returns-clause-only g c =
-    subst (λ (rs : List NodeRef). AnswersOnly (IsGiven (asked_of c.args.shelf.now rs c.args.dropped))
+    subst (λ (rs : List NodeRef). AnswersOnly (IsGiven g.L.LeafRule.like (asked_of c.args.shelf.now rs c.args.dropped))
     (g.L.LeafRule.answers c.args.rule.now) (g.L.LeafRule.answers c.join.new.rule)) c.as_slice.ensures c.join.ensures.only

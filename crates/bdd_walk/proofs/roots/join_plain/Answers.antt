@@ -1,7 +1,8 @@
 use Rattle.std.proofs.Common.{List, None, arith, sym, subst}
 use Rattle.bdd_nodes.specs.declared.node_ref.NodeRef.{NodeRef}
 use Rattle.labels.specs.Labels.{Label}
-use Rattle.bdd_walk.specs.Asked.{leaves_of}
+use Rattle.bdd_walk.specs.Answers.{AnswersOnly}
+use Rattle.bdd_walk.specs.Asked.{leaves_of, IsGiven}
 use Rattle.bdd_walk.specs.Under.{Exceeds}
 use Rattle.bdd_walk.specs.Progress.{Progress}
 use Rattle.bdd_walk.proofs.CallLemmas.{one-list, two-list}
@@ -72,3 +73,13 @@ returns-in_default-clause-fits g c =
     let kept = Fits-kept c.args.shelf.now c.join_list.new.shelf (g.L.LeafRule.answers c.args.rule.now) answers
     progress.keeps progress.answers_kept c.args.joiner.now None c.requires.fits in
     fits-many c.args.joiner.now None c.join_list.new.shelf answers kept c.join_list.new.kept c.join_list.result c.join_list.ensures.fits
+
+pub returns-in-len1-clause-only : goal.returns-in-len1-clause-only
+returns-in-len1-clause-only g c =
+    subst (λ (rs : List NodeRef). AnswersOnly (IsGiven g.L.LeafRule.like (leaves_of c.args.shelf.now rs)) (g.L.LeafRule.answers c.args.rule.now)
+    (g.L.LeafRule.answers c.join_kept.new.rule)) (one-list c.args.roots.now (record { word = 0 }) (omega arith) (omega arith)) c.join_kept.ensures.only
+
+pub returns-in-len2-clause-only : goal.returns-in-len2-clause-only
+returns-in-len2-clause-only g c =
+    subst (λ (rs : List NodeRef). AnswersOnly (IsGiven g.L.LeafRule.like (leaves_of c.args.shelf.now rs)) (g.L.LeafRule.answers c.args.rule.now)
+    (g.L.LeafRule.answers c.join_kept-in-len2.new.rule)) (two-list c.args.roots.now (record { word = 0 }) (omega arith) (omega arith)) c.join_kept-in-len2.ensures.only

@@ -8,7 +8,7 @@ use Rattle.bdd_walk.specs.Progress.{Call, Works}
 use Rattle.bdd_nodes.proofs.CallerLemmas.{Keeps-refl}
 use Rattle.bdd_walk.proofs.WaitsLemmas.{IsMemo-seen}
 use Rattle.bdd_walk.proofs.CostLemmas.{stack_cost-push}
-use Rattle.bdd_walk.proofs.TurnLemmas.{works-start, stands-whole, whole-asked, FitsFrame-works}
+use Rattle.bdd_walk.proofs.TurnLemmas.{AnswersOnly-none, AnswersOnly-trans, AnswersOnly-part, works-start, stands-whole, whole-asked, FitsFrame-works}
 use Rattle.bdd_walk.proofs.walk.join_kept.Goals as goal
 
 smaller : (left below turn stack : ℕ) → left < below → stack ≡ below → turn ≡ 0 → left < turn + stack
@@ -29,6 +29,7 @@ loop-turn-init g c =
           (g.L.LeafRule.answers c.args.rule.now) c.args.kept.now.memo stack (Visit c.args.start))
           (sym c.clear.ensures.items)
           (works-start g.W.Key.PartialEq.eq asked is_in call c.args.kept.now.memo c.args.start refl c.requires.is_in c.count.ensures.shelf c.requires.fits);
+      only = AnswersOnly-none _ _;
       may_ask = λ states may. may;
     }
 
@@ -153,6 +154,11 @@ loop-turn-preserved-in_ok-turn-in-Visit g c =
     c.loop-turn.invariant.works in
     record {
       works = c.in_ok-turn-in-Visit.ensures.works call works;
+      only = AnswersOnly-trans _ (g.L.LeafRule.answers c.args.rule.now) (g.L.LeafRule.answers c.loop-turn.rule) (g.L.LeafRule.answers c.visit.new.rule) c.loop-turn.invariant.only
+          (AnswersOnly-part g.L.LeafRule.like call.whole (g.W.Walk.asked c.args.walk.now call.shelf c.in-Visit.key)
+          (g.W.Walk.asked c.args.walk.now c.loop-turn.shelf c.in-Visit.key) _ _ works.underway.0.part
+          (g.met.W.Walk.asks_still c.args.walk.now call.shelf c.loop-turn.shelf c.in-Visit.key works.progress.keeps works.underway.0.inside)
+          c.visit.ensures.only);
       may_ask = λ states may. c.visit.ensures.may_ask_still states (c.loop-turn.invariant.may_ask states may);
     }
 
@@ -185,6 +191,7 @@ loop-turn-preserved g c =
     record {
       works = c.in_ok-turn-in-Some.ensures.works asked is_in call (g.L.LeafRule.answers c.loop-turn.rule)
           (g.met.W.Walk.respects c.args.walk.now call.shelf) top;
+      only = c.loop-turn.invariant.only;
       may_ask = c.loop-turn.invariant.may_ask;
     }
 
@@ -200,3 +207,21 @@ returns-in-None-clause-fits g c =
     (λ key inside. g.met.W.Walk.stays_in c.args.walk.now call.shelf c.loop-turn.shelf key works.progress.keeps inside)
     (λ key inside. g.met.W.Walk.asks_still c.args.walk.now call.shelf c.loop-turn.shelf key works.progress.keeps inside)
     works.kept
+
+pub returns-in_err-turn-in-Visit-clause-only : goal.returns-in_err-turn-in-Visit-clause-only
+returns-in_err-turn-in-Visit-clause-only g c =
+    let call : Call = record {
+      shelf = c.args.shelf.now;
+      answers = g.L.LeafRule.answers c.args.rule.now;
+      whole = g.W.Walk.asked c.args.walk.now c.args.shelf.now c.args.start;
+    } in
+    let works = subst (λ (turn : Turn g.row.W-Key.Denot).
+    Works g.W.Key.PartialEq.eq (g.W.Walk.asked c.args.walk.now call.shelf)
+    (g.W.Walk.is_in c.args.walk.now call.shelf) call c.loop-turn.shelf
+    (g.L.LeafRule.answers c.loop-turn.rule) c.loop-turn.kept.memo c.loop-turn.kept.stack.items turn) c.in-Visit.is
+    c.loop-turn.invariant.works in
+    AnswersOnly-trans _ (g.L.LeafRule.answers c.args.rule.now) (g.L.LeafRule.answers c.loop-turn.rule) (g.L.LeafRule.answers c.visit.new.rule) c.loop-turn.invariant.only
+    (AnswersOnly-part g.L.LeafRule.like call.whole (g.W.Walk.asked c.args.walk.now call.shelf c.in-Visit.key)
+    (g.W.Walk.asked c.args.walk.now c.loop-turn.shelf c.in-Visit.key) _ _ works.underway.0.part
+    (g.met.W.Walk.asks_still c.args.walk.now call.shelf c.loop-turn.shelf c.in-Visit.key works.progress.keeps works.underway.0.inside)
+    c.visit.ensures.only)
