@@ -182,7 +182,8 @@ module _ (call : Call) (shelf : Contents) (answers : Answers) (given : List ℕ 
   unfolding whole_given
   Adds-new = record {
     parts = map (state_of shelf) progress.adds.nodes;
-    came = All-over_map (IsNew call shelf answers) (HasCome call.shelf shelf (whole_given ∷ [])) (state_of shelf) new-came progress.adds.nodes progress.adds.each;
+    came = All-over_map (IsNew call shelf answers) (HasCome call.shelf shelf (whole_given ∷ [])) (state_of shelf) new-came progress.adds.nodes
+        progress.adds.each;
     distinct = AllPairs-over_map (IsNew call shelf answers) (state_of shelf) new-apart progress.adds.nodes progress.adds.each progress.adds.distinct;
     count =
         let mapped = length-map progress.adds.nodes (state_of shelf) in

@@ -87,7 +87,8 @@ module _ {K : Type 0} (eq : K → K → Bool) (asked : K → Asking) (is_in : K 
           let stands = Stands-leaf shelf more (asked key) made states answer leaf answered asks in
           record {
             progress = progress-leaf;
-            kept = IsMemo-insert eq asked is_in shelf shelf answers more (Keeps-refl shelf) kept memo after key made respects works.underway.0.inside works.kept stands updates;
+            kept = IsMemo-insert eq asked is_in shelf shelf answers more (Keeps-refl shelf) kept memo after key made respects
+                works.underway.0.inside works.kept stands updates;
             underway = record {
               focus = asked key;
               result = stands;
@@ -103,7 +104,11 @@ module _ {K : Type 0} (eq : K → K → Bool) (asked : K → Asking) (is_in : K 
       kept = works.kept;
       underway = (
         record { inside = step.goes.inside; part = IsPart-same call.whole (asked key) (asked next) step.same works.underway.0.part },
-        AllWait-push asked is_in call.whole shelf answers stack (Skip key) (asked next) (record { inside = works.underway.0.inside; same = step.same }) works.underway.1,
+        AllWait-push asked is_in call.whole shelf answers stack (Skip key) (asked next) (record {
+          inside = works.underway.0.inside;
+          same =
+              step.same;
+        }) works.underway.1,
       );
     }
 
@@ -167,7 +172,14 @@ module _ {K : Type 0} (eq : K → K → Bool) (asked : K → Asking) (is_in : K 
         underway = (
           record { inside = waits.0.due.inside; part = waits.0.due.part },
           AllWait-push asked is_in call.whole shelf answers stack (High key track made) (asked high)
-              (record { inside = waits.0.inside; part = waits.0.part; side = works.underway.focus; stands = works.underway.result; split = waits.0.split }) waits.1,
+              (record {
+                inside = waits.0.inside;
+                part = waits.0.part;
+                side = works.underway.focus;
+                stands = works.underway.result;
+                split =
+                    waits.0.split;
+              }) waits.1,
         );
       }
 
@@ -235,7 +247,8 @@ module _ {K : Type 0} (eq : K → K → Bool) (asked : K → Asking) (is_in : K 
           Works eq asked is_in call new answers after stack (Done node)
       works-made after respects updates = record {
         progress = progress-made;
-        kept = IsMemo-insert eq asked is_in shelf new answers answers keeps (λ states answer was. was) memo after key node respects waits_on_top.0.inside works.kept stands updates;
+        kept = IsMemo-insert eq asked is_in shelf new answers answers keeps (λ states answer was. was) memo after key node respects
+            waits_on_top.0.inside works.kept stands updates;
         underway = record {
           focus = asked key;
           result = stands;

@@ -112,7 +112,8 @@ module _ (g : Spaces) (AB : Automaton (ℕ × ℕ)) where
             record {
               wholes = later.wholes ++ earlier.wholes;
               each = All-append (IsStepFunction g AB given) later.wholes earlier.wholes
-                  (All-weaker (IsCellFunction AB s rows columns (given s)) (IsStepFunction g AB given) (step-function given) later.wholes later.each) earlier.each;
+                  (All-weaker (IsCellFunction AB s rows columns (given s)) (IsStepFunction g AB given) (step-function given) later.wholes
+                  later.each) earlier.each;
               adds = AddsAmong-more first shelf building.keeps earlier.wholes later.wholes now joins.keeps earlier.adds later.adds;
             };
       }
@@ -124,6 +125,7 @@ module _ (g : Spaces) (AB : Automaton (ℕ × ℕ)) where
           record {
             wholes = exceeds.wholes ++ earlier.wholes;
             each = All-append (IsStepFunction g AB given) exceeds.wholes earlier.wholes
-                (All-weaker (IsCellFunction AB s rows columns (given s)) (IsStepFunction g AB given) (step-function given) exceeds.wholes exceeds.each) earlier.each;
+                (All-weaker (IsCellFunction AB s rows columns (given s)) (IsStepFunction g AB given) (step-function given) exceeds.wholes
+                exceeds.each) earlier.each;
             exceeds = ExceedsAmong-more first shelf building.keeps earlier.wholes exceeds.wholes building.same_limit earlier.adds exceeds.exceeds;
           }

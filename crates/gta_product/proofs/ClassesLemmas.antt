@@ -1,5 +1,6 @@
 -- Classes, one pair after the other.
-use Rattle.std.proofs.Common.{◌≡◌, ℕ, zero, suc, ◌<◌, List, [], ◌∷◌, ◌++◌, length, length-append, Option, Some, None, slice_get, slice_index, sym, ◌∙◌, ap, refl, subst, inl, inr, arith}
+use Rattle.std.proofs.Common.{◌≡◌, ℕ, zero, suc, ◌<◌, List, [], ◌∷◌, ◌++◌, length, length-append, Option, Some, None, slice_get}
+use Rattle.std.proofs.Common.{slice_index, sym, ◌∙◌, ap, refl, subst, inl, inr, arith}
 use Rattle.std.proofs.lemmas.Option.{slice_get_within}
 use Rattle.gta_product.specs.Numbers.{number_in, AreNumbers, Grows, stays, comes}
 use Rattle.gta_product.specs.Classes.{HaveClasses, IsClassed, IsClass, Notes, known, fresh, AreKeyed}
@@ -130,7 +131,8 @@ module _ (pairs : List (ℕ × ℕ)) (left right of : List ℕ) (ones keys ones_
           omega arith;
       key = λ k one there. elim (get-snoc ones pair one k (subst (λ (xs : List (ℕ × ℕ)). slice_get xs k ≡ Some one) ones_is there)) [
         | inl before ↦ subst (λ (xs : List (ℕ × ℕ)). slice_get xs k ≡ Some (slice_index left one.0, slice_index right one.1)) (sym keys_is)
-            (get-kept keys ((slice_index left pair.0, slice_index right pair.1) ∷ []) (slice_index left one.0, slice_index right one.1) k (keyed.key k one before))
+            (get-kept keys ((slice_index left pair.0, slice_index right pair.1) ∷ []) (slice_index left one.0, slice_index right one.1) k
+            (keyed.key k one before))
         | inr last ↦ subst (λ (p : ℕ × ℕ). slice_get keys_after k ≡ Some (slice_index left p.0, slice_index right p.1)) (sym last.1)
             (subst (λ (xs : List (ℕ × ℕ)). slice_get xs k ≡ Some (slice_index left pair.0, slice_index right pair.1)) (sym keys_is)
             (ap (slice_get (keys ++ (slice_index left pair.0, slice_index right pair.1) ∷ [])) (last.0 ∙ sym keyed.many)

@@ -45,7 +45,8 @@ module _ (a b : AutoView) (s : ℕ) (l r : ℕ × ℕ) (old new : Contents) (fir
       ∙ ap (λ (n : ℕ). (automaton_of old a).step s l.0 r.0 label ∷ n ∷ []) (step-some old b s l.1 r.1 label second second_at)
 
   -- the functions of the join by a way of giving numbers
-  given-step : (given : List ℕ → ℕ) → ◌≡◌ {A = Function} (λ label. given (asked_of old (first ∷ second ∷ []) None label)) (λ label. given (asked_at both s l r label))
+  given-step : (given : List ℕ → ℕ) → ◌≡◌ {A = Function} (λ label. given (asked_of old (first ∷ second ∷ []) None label)) (λ label. given (asked_at
+      both s l r label))
   given-step given = fun_ext (λ (label : Label). ap given (asked-step label))
 
   cell-function : (given : List ℕ → ℕ) → IsCellFunction both s (l ∷ []) (r ∷ []) given (λ label. given (asked_at both s l r label))

@@ -1,5 +1,6 @@
 -- Parts for all spaces, of pairs that stay as they are, are the product.
-use Rattle.std.proofs.Common.{◌≡◌, ℕ, zero, suc, ◌+◌, ◌*◌, ◌^◌, ◌<◌, ◌≤◌, Bool, false, ◌&&◌, List, [], ◌∷◌, map, length, Option, Some, None, slice_get, ◌↔◌, refl, sym, ◌∙◌, ap, subst, arith}
+use Rattle.std.proofs.Common.{◌≡◌, ℕ, zero, suc, ◌+◌, ◌*◌, ◌^◌, ◌<◌, ◌≤◌, Bool, false, ◌&&◌, List, [], ◌∷◌, map, length, Option, Some, None}
+use Rattle.std.proofs.Common.{slice_get, ◌↔◌, refl, sym, ◌∙◌, ap, subst, arith}
 use Rattle.std.specs.Prelude.{IsSome, is_some, unwrap_or, option_map, option_and_then}
 use Rattle.std.proofs.lemmas.Bool.{false≢true, lt-ltb, ltb-true}
 use Rattle.std.proofs.lemmas.List.{length-map}
@@ -328,7 +329,8 @@ module _ (g : Spaces) (guide : IsGuide g) (first now : Contents) (a b : AutoView
         let at_place = subst (λ (o : Option (List NodeRef)). IsSome (option_and_then (λ (rs : List NodeRef). slice_get rs place) o)) adds.roots some in
         let u = built.used place (within-some roots place at_place) in
         let of = built.each u.space u.part u.at in
-        let is = is-place g first a b u.space of.lefts of.rights of.pairs of.first of.second of.in_first of.in_second now roots u.part of.built place u.from u.to in
+        let is = is-place g first a b u.space of.lefts of.rights of.pairs of.first of.second of.in_first of.in_second now roots u.part of.built
+        place u.from u.to in
         record {
           space = u.space;
           left = is.left;
@@ -359,7 +361,8 @@ pub same-spaces : (old new : List (List (ℕ × ℕ))) → ExtendAll old new →
     map (λ (pairs : List (ℕ × ℕ)). length pairs) old ≡ map (λ (pairs : List (ℕ × ℕ)). length pairs) new → old ≡ new
 same-spaces old new extends counts = ext old new (λ s. pick s (slice_get old s) (slice_get new s) refl refl)
   where
-    count-at : (s : ℕ) → option_map (λ (pairs : List (ℕ × ℕ)). length pairs) (slice_get old s) ≡ option_map (λ (pairs : List (ℕ × ℕ)). length pairs) (slice_get new s)
+    count-at : (s : ℕ) → option_map (λ (pairs : List (ℕ × ℕ)). length pairs) (slice_get old s) ≡ option_map (λ (pairs : List (ℕ × ℕ)). length
+        pairs) (slice_get new s)
     count-at s = sym (slice_get-map (λ (pairs : List (ℕ × ℕ)). length pairs) old s)
         ∙ ap (λ (ns : List ℕ). slice_get ns s) counts ∙ slice_get-map (λ (pairs : List (ℕ × ℕ)). length pairs) new s
 

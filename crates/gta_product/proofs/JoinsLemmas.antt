@@ -1,5 +1,6 @@
 -- Joins of a space, one after the other.
-use Rattle.std.proofs.Common.{◌≡◌, ℕ, zero, suc, ◌+◌, ◌*◌, ◌<◌, List, [], ◌∷◌, ◌++◌, length, length-append, Option, Some, None, Contains, slice_get, sym, ◌∙◌, ap, refl, subst, inl, inr, arith, suc-mul, mul-le-mul_right}
+use Rattle.std.proofs.Common.{◌≡◌, ℕ, zero, suc, ◌+◌, ◌*◌, ◌<◌, List, [], ◌∷◌, ◌++◌, length, length-append, Option, Some, None, Contains}
+use Rattle.std.proofs.Common.{slice_get, sym, ◌∙◌, ap, refl, subst, inl, inr, arith, suc-mul, mul-le-mul_right}
 use Rattle.std.specs.List.{All}
 use Rattle.std.proofs.lemmas.Option.{slice_get_within}
 use Rattle.std.proofs.lemmas.List.Elements.{All-cons}
@@ -79,7 +80,8 @@ module _ (AB : Automaton (ℕ × ℕ)) (s : ℕ) where
           let adds = joins.counted given completes in
           record {
             wholes = adds.wholes;
-            each = All-weaker (IsCellFunction AB s rows columns given) (IsCellFunction AB s more_rows more_columns given) (wider-cell given) adds.wholes adds.each;
+            each = All-weaker (IsCellFunction AB s rows columns given) (IsCellFunction AB s more_rows more_columns given) (wider-cell given)
+                adds.wholes adds.each;
             adds = adds.adds;
           };
     }
@@ -88,7 +90,8 @@ module _ (AB : Automaton (ℕ × ℕ)) (s : ℕ) where
         ExceedsCells AB s more_rows more_columns shelf given
     ExceedsCells-wider shelf given exceeds = record {
       wholes = exceeds.wholes;
-      each = All-weaker (IsCellFunction AB s rows columns given) (IsCellFunction AB s more_rows more_columns given) (wider-cell given) exceeds.wholes exceeds.each;
+      each = All-weaker (IsCellFunction AB s rows columns given) (IsCellFunction AB s more_rows more_columns given) (wider-cell given)
+          exceeds.wholes exceeds.each;
       exceeds = exceeds.exceeds;
     }
 

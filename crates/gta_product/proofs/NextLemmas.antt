@@ -35,14 +35,16 @@ module _ (a b : AutoView) (s : ℕ) (rows columns fewer_rows fewer_columns : Lis
         ExceedsCells (pairs (automaton_of now a) (automaton_of now b)) s fewer_rows fewer_columns now given →
         ExceedsCells (pairs (automaton_of start a) (automaton_of start b)) s rows columns start given
     ExceedsCells-next given completes exceeds =
-        ExceedsCells-after (pairs (automaton_of start a) (automaton_of start b)) s rows columns start now before between after given numbers step.extends completes joins
+        ExceedsCells-after (pairs (automaton_of start a) (automaton_of start b)) s rows columns start now before between after given numbers
+        step.extends completes joins
         (ExceedsCells-wider (pairs (automaton_of start a) (automaton_of start b)) s fewer_rows fewer_columns rows columns in_rows in_columns now given
         (subst (λ (AB : Automaton (ℕ × ℕ)). ExceedsCells AB s fewer_rows fewer_columns now given) same-both exceeds))
 
 pub valid-more : (old new : Contents) (roots : List NodeRef) (root : NodeRef) → Keeps old new → All (IsValid old) roots → IsValid new root →
     All (IsValid new) (roots ++ root ∷ [])
 valid-more old new roots root keeps valid made =
-    All-append (IsValid new) roots (root ∷ []) (All-weaker (IsValid old) (IsValid new) (λ r is. keeps.valid r is) roots valid) (All-alone (IsValid new) root made)
+    All-append (IsValid new) roots (root ∷ []) (All-weaker (IsValid old) (IsValid new) (λ r is. keeps.valid r is) roots valid) (All-alone (IsValid
+    new) root made)
 
 -- what is in a list of one
 pub in-alone : (xs : List (ℕ × ℕ)) (y : ℕ × ℕ) → Contains xs y → (x : ℕ × ℕ) → Contains (y ∷ []) x → Contains xs x

@@ -47,7 +47,8 @@ number_in-get (p ∷ ps) pair n e = elim (pick (is_pair pair p) (number_in ps pa
 pub number_in-append : (xs ys : List (ℕ × ℕ)) (pair : ℕ × ℕ) (n : ℕ) → number_in xs pair ≡ Some n → number_in (xs ++ ys) pair ≡ Some n
 number_in-append [] ys pair n e = absurd (let f : ◌≡◌ {A = Option ℕ} None (Some n) = e in cc)
 number_in-append (x ∷ xs) ys pair n e = elim (pick (is_pair pair x) (number_in xs pair) n e) [
-  | inl found ↦ ap (λ (b : Bool). if b then Some 0 else option_map suc (number_in (xs ++ ys) pair)) found.0 ∙ ap (λ (k : ℕ). let o : Option ℕ = Some k in o) (sym found.1)
+  | inl found ↦ ap (λ (b : Bool). if b then Some 0 else option_map suc (number_in (xs ++ ys) pair)) found.0 ∙ ap (λ (k : ℕ). let o : Option ℕ =
+      Some k in o) (sym found.1)
   | inr later ↦ ap (λ (b : Bool). if b then Some 0 else option_map suc (number_in (xs ++ ys) pair)) later.0
       ∙ ap (option_map suc) (number_in-append xs ys pair (later.1).0 (later.1).1) ∙ ap (λ (k : ℕ). let o : Option ℕ = Some k in o) (sym (later.1).2)
 ]

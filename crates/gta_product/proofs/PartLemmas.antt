@@ -1,5 +1,6 @@
 -- The part of a space, and joiners that go on fitting.
-use Rattle.std.proofs.Common.{◌≡◌, ◌≢◌, ℕ, zero, suc, ◌+◌, ◌*◌, ◌<◌, List, [], ◌∷◌, length, Option, Some, None, Contains, get_or, slice_get, refl, sym, ◌∙◌, ap, subst, inl, inr, arith}
+use Rattle.std.proofs.Common.{◌≡◌, ◌≢◌, ℕ, zero, suc, ◌+◌, ◌*◌, ◌<◌, List, [], ◌∷◌, length, Option, Some, None, Contains, get_or, slice_get}
+use Rattle.std.proofs.Common.{refl, sym, ◌∙◌, ap, subst, inl, inr, arith}
 use Rattle.std.specs.Prelude.{slice_set, IsSome}
 use Rattle.std.specs.List.{range_with_len}
 use Rattle.std.proofs.lemmas.Bool.Decides.{eqb_tells}
@@ -126,7 +127,8 @@ pub IsBuilt-made : (g : Spaces) (AB : Automaton (ℕ × ℕ)) (s : ℕ) (lefts r
     part.cells ≡ range_with_len 0 (length rows.ones * length columns.ones) → AreClasses lefts first.rows second.rows rows →
     AreClasses rights first.columns second.columns columns → AreCells AB s rows.ones columns.ones numbers shelf old new →
     IsBuilt g AB s lefts rights numbers first second shelf new part
-IsBuilt-made g AB s lefts rights numbers first second shelf old new rows columns part children states initial start is_rows is_columns width cells row_classes column_classes filled =
+IsBuilt-made g AB s lefts rights numbers first second shelf old new rows columns part children states initial start is_rows is_columns width cells
+    row_classes column_classes filled =
     record {
       children = children;
       states = states;

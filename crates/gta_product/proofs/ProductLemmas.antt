@@ -42,7 +42,8 @@ pub limit-product : (g : Spaces) → IsGuide g → (A B : Automaton ℕ) → IsS
     (C : Automaton ℕ) (states : ℕ → ℕ → Bool) (pair : ℕ → ℕ → ℕ × ℕ) (size : ℕ) → IsProduct g A B C (Has states) pair → SizeOf g C (Has states) size →
     limit_of first < count_of first + size
 limit-product g guide A B of_A of_B first spaces exceeds C states pair size product sized =
-    limit-below g guide A B C of_A of_B states pair product (given_in spaces) first size sized (exceeds (given_in spaces) (CompleteAll-given_in g (pairs A B) spaces))
+    limit-below g guide A B C of_A of_B states pair product (given_in spaces) first size sized (exceeds (given_in spaces) (CompleteAll-given_in g
+    (pairs A B) spaces))
 
 -- one table is registered after joins
 pub RegistersTable-after : (first now new : Contents) (table : ℕ) (roots : List NodeRef) → SameTables first now → AddsTable now new table roots →
@@ -54,7 +55,8 @@ RegistersTable-after first now new table roots tables adds = record {
   others = λ other apart. adds.others other apart ∙ ap (λ (r : Registered). roots_under r.tables other) tables;
 }
 
-pub Leaves-building : (g : Spaces) (AB : Automaton (ℕ × ℕ)) (first now : Contents) (spaces : List (List (ℕ × ℕ))) → Building g AB first now spaces → Leaves first now
+pub Leaves-building : (g : Spaces) (AB : Automaton (ℕ × ℕ)) (first now : Contents) (spaces : List (List (ℕ × ℕ))) → Building g AB first now spaces
+    → Leaves first now
 Leaves-building g AB first now spaces building = record {
   keeps = building.keeps;
   same_limit = building.same_limit;

@@ -60,7 +60,8 @@ both-spaces old new there back = ext old new (λ s. pick s (slice_get old s) (sl
     pick s None (Some more) none is = absurd (omega (arith, past-none old s none, slice_get_within new s more is, there.many))
     pick s (Some pairs) None was gone = absurd (omega (arith, past-none new s gone, slice_get_within old s pairs was, there.many))
     pick s (Some pairs) (Some more) was is = was
-        ∙ ap (λ (ps : List (ℕ × ℕ)). let o : Option (List (ℕ × ℕ)) = Some ps in o) (both-lists pairs more (there.each s pairs more was is) (back.each s more pairs is was))
+        ∙ ap (λ (ps : List (ℕ × ℕ)). let o : Option (List (ℕ × ℕ)) = Some ps in o) (both-lists pairs more (there.each s pairs more was is)
+        (back.each s more pairs is was))
         ∙ sym is
 
 module _ (g : Spaces) (AB : Automaton (ℕ × ℕ)) (a b : AutoView) (spaces : List (List (ℕ × ℕ))) (are : AreSpaces g AB spaces)
@@ -79,7 +80,8 @@ module _ (g : Spaces) (AB : Automaton (ℕ × ℕ)) (a b : AutoView) (spaces : L
     cells = built.cells;
     within = omega (arith, built.within, grown.longer);
     cell = λ i j row column root at_row at_column there.
-        let inside = cell-inside (length built.rows) (length built.columns) i j (slice_get_within built.rows i row at_row) (slice_get_within built.columns j column at_column) in
+        let inside = cell-inside (length built.rows) (length built.columns) i j (slice_get_within built.rows i row at_row) (slice_get_within
+        built.columns j column at_column) in
         IsCell-kept AB s pairs pairs row column shelf now root keeps numbers (Extends-refl pairs)
         (built.cell i j row column root at_row at_column
         (sym (grown.kept (part.first + (i * length built.columns + j)) (omega (arith, inside, built.within))) ∙ there));

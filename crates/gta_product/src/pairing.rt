@@ -228,7 +228,8 @@ fn parts_of(
         start shelf.old numbers.old.items
         → Building g.now (pairs (automaton_of shelf.old a.now) (automaton_of shelf.old b.now)) start shelf.new numbers.new.items }
     ensures limit { result ≡ Err Stop.Limit → (start : Contents) → Building g.now (pairs (automaton_of shelf.old a.now) (automaton_of shelf.old b.now))
-        start shelf.old numbers.old.items → (given : ℕ → List ℕ → ℕ) → CompleteAll g.now (pairs (automaton_of shelf.old a.now) (automaton_of shelf.old b.now)) numbers.new.items given
+        start shelf.old numbers.old.items → (given : ℕ → List ℕ → ℕ) → CompleteAll g.now (pairs (automaton_of shelf.old a.now) (automaton_of
+        shelf.old b.now)) numbers.new.items given
         → ExceedsSteps g.now (pairs (automaton_of shelf.old a.now) (automaton_of shelf.old b.now)) start given }
     ensures fits { OnOk result (FitAll shelf.new joiners.new.items numbers.new.items) }
     ensures valid { OnOk result (All (IsValid shelf.new) roots.new) }
@@ -273,7 +274,8 @@ fn part_of(
         start shelf.old numbers.old.items
         → Building g.now (pairs (automaton_of shelf.old a.now) (automaton_of shelf.old b.now)) start shelf.new numbers.new.items }
     ensures limit { result ≡ Err Stop.Limit → (start : Contents) → Building g.now (pairs (automaton_of shelf.old a.now) (automaton_of shelf.old b.now))
-        start shelf.old numbers.old.items → (given : ℕ → List ℕ → ℕ) → CompleteAll g.now (pairs (automaton_of shelf.old a.now) (automaton_of shelf.old b.now)) numbers.new.items given
+        start shelf.old numbers.old.items → (given : ℕ → List ℕ → ℕ) → CompleteAll g.now (pairs (automaton_of shelf.old a.now) (automaton_of
+        shelf.old b.now)) numbers.new.items given
         → ExceedsSteps g.now (pairs (automaton_of shelf.old a.now) (automaton_of shelf.old b.now)) start given }
     ensures fits { OnOk result (FitAll shelf.new joiners.new.items numbers.new.items) }
     ensures valid { OnOk result (All (IsValid shelf.new) roots.new) }

@@ -23,7 +23,8 @@ returns-clause-progress g c =
 
 pub returns-clause-only : goal.returns-clause-only
 returns-clause-only g c =
-    subst (λ (asking : Asking). AnswersOnly (IsGiven g.L.LeafRule.like asking) (g.L.LeafRule.answers c.args.rule.now) (g.L.LeafRule.answers c.join_kept.new.rule))
+    subst (λ (asking : Asking). AnswersOnly (IsGiven g.L.LeafRule.like asking) (g.L.LeafRule.answers c.args.rule.now) (g.L.LeafRule.answers
+    c.join_kept.new.rule))
     (sym (twice-asked c.args.shelf.now c.args.roots.now c.in_ok-all.all.items c.args.track c.in_ok-all.ensures)) c.join_kept.ensures.only
 
 pub returns-in_err-all-clause-only : goal.returns-in_err-all-clause-only

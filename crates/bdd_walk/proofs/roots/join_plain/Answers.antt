@@ -64,7 +64,8 @@ returns-in-len2-clause-fits g c =
     let answers = g.L.LeafRule.answers c.join_kept-in-len2.new.rule in
     let kept = Fits-kept c.args.shelf.now c.join_kept-in-len2.new.shelf (g.L.LeafRule.answers c.args.rule.now) answers
     progress.keeps progress.answers_kept c.args.joiner.now None c.requires.fits in
-    fits-two c.args.joiner.now None c.join_kept-in-len2.new.shelf answers kept c.join_kept-in-len2.new.kept c.join_kept-in-len2.result c.join_kept-in-len2.ensures.fits
+    fits-two c.args.joiner.now None c.join_kept-in-len2.new.shelf answers kept c.join_kept-in-len2.new.kept c.join_kept-in-len2.result
+    c.join_kept-in-len2.ensures.fits
 
 pub returns-in_default-clause-fits : goal.returns-in_default-clause-fits
 returns-in_default-clause-fits g c =
@@ -82,4 +83,5 @@ returns-in-len1-clause-only g c =
 pub returns-in-len2-clause-only : goal.returns-in-len2-clause-only
 returns-in-len2-clause-only g c =
     subst (λ (rs : List NodeRef). AnswersOnly (IsGiven g.L.LeafRule.like (leaves_of c.args.shelf.now rs)) (g.L.LeafRule.answers c.args.rule.now)
-    (g.L.LeafRule.answers c.join_kept-in-len2.new.rule)) (two-list c.args.roots.now (record { word = 0 }) (omega arith) (omega arith)) c.join_kept-in-len2.ensures.only
+    (g.L.LeafRule.answers c.join_kept-in-len2.new.rule)) (two-list c.args.roots.now (record { word = 0 }) (omega arith) (omega arith))
+    c.join_kept-in-len2.ensures.only

@@ -154,7 +154,8 @@ loop-turn-preserved-in_ok-turn-in-Visit g c =
     c.loop-turn.invariant.works in
     record {
       works = c.in_ok-turn-in-Visit.ensures.works call works;
-      only = AnswersOnly-trans _ (g.L.LeafRule.answers c.args.rule.now) (g.L.LeafRule.answers c.loop-turn.rule) (g.L.LeafRule.answers c.visit.new.rule) c.loop-turn.invariant.only
+      only = AnswersOnly-trans _ (g.L.LeafRule.answers c.args.rule.now) (g.L.LeafRule.answers c.loop-turn.rule) (g.L.LeafRule.answers
+          c.visit.new.rule) c.loop-turn.invariant.only
           (AnswersOnly-part g.L.LeafRule.like call.whole (g.W.Walk.asked c.args.walk.now call.shelf c.in-Visit.key)
           (g.W.Walk.asked c.args.walk.now c.loop-turn.shelf c.in-Visit.key) _ _ works.underway.0.part
           (g.met.W.Walk.asks_still c.args.walk.now call.shelf c.loop-turn.shelf c.in-Visit.key works.progress.keeps works.underway.0.inside)
@@ -220,7 +221,8 @@ returns-in_err-turn-in-Visit-clause-only g c =
     (g.W.Walk.is_in c.args.walk.now call.shelf) call c.loop-turn.shelf
     (g.L.LeafRule.answers c.loop-turn.rule) c.loop-turn.kept.memo c.loop-turn.kept.stack.items turn) c.in-Visit.is
     c.loop-turn.invariant.works in
-    AnswersOnly-trans _ (g.L.LeafRule.answers c.args.rule.now) (g.L.LeafRule.answers c.loop-turn.rule) (g.L.LeafRule.answers c.visit.new.rule) c.loop-turn.invariant.only
+    AnswersOnly-trans _ (g.L.LeafRule.answers c.args.rule.now) (g.L.LeafRule.answers c.loop-turn.rule) (g.L.LeafRule.answers c.visit.new.rule)
+    c.loop-turn.invariant.only
     (AnswersOnly-part g.L.LeafRule.like call.whole (g.W.Walk.asked c.args.walk.now call.shelf c.in-Visit.key)
     (g.W.Walk.asked c.args.walk.now c.loop-turn.shelf c.in-Visit.key) _ _ works.underway.0.part
     (g.met.W.Walk.asks_still c.args.walk.now call.shelf c.loop-turn.shelf c.in-Visit.key works.progress.keeps works.underway.0.inside)

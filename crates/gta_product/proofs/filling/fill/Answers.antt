@@ -62,7 +62,8 @@ loop-row-preserved c =
     let same = same-both c.args.a.now c.args.b.now c.args.space rows columns (row ∷ []) columns in_rows (λ x there. there)
     c.args.shelf.now c.loop-row.shelf c.fill_row.new.shelf c.args.numbers.now c.loop-row.numbers c.fill_row.new.numbers c.count.ensures.shelf
     invariant.joins c.fill_row.ensures.numbers in
-    let is = subst (λ (AB : Automaton (ℕ × ℕ)). IsRow AB c.args.space row columns c.fill_row.new.numbers c.fill_row.new.shelf c.loop-row.roots c.fill_row.new.roots)
+    let is = subst (λ (AB : Automaton (ℕ × ℕ)). IsRow AB c.args.space row columns c.fill_row.new.numbers c.fill_row.new.shelf c.loop-row.roots
+    c.fill_row.new.roots)
     same c.in_ok-fill_row.ensures.cells in
     let cells = AreCells-more both c.args.space (take i rows) columns row c.loop-row.numbers c.fill_row.new.numbers c.loop-row.shelf c.fill_row.new.shelf
     c.args.roots.now c.loop-row.roots c.fill_row.new.roots step.keeps c.fill_row.ensures.numbers step.extends invariant.cells is in
@@ -70,7 +71,8 @@ loop-row-preserved c =
       joins = Joins-next c.args.a.now c.args.b.now c.args.space rows columns (row ∷ []) columns in_rows (λ x there. there)
           c.args.shelf.now c.loop-row.shelf c.fill_row.new.shelf c.args.numbers.now c.loop-row.numbers c.fill_row.new.numbers c.count.ensures.shelf
           invariant.joins c.fill_row.ensures.numbers step;
-      cells = subst (λ (ps : List (ℕ × ℕ)). AreCells both c.args.space ps columns c.fill_row.new.numbers c.fill_row.new.shelf c.args.roots.now c.fill_row.new.roots)
+      cells = subst (λ (ps : List (ℕ × ℕ)). AreCells both c.args.space ps columns c.fill_row.new.numbers c.fill_row.new.shelf c.args.roots.now
+          c.fill_row.new.roots)
           (sym (take_more rows i (0, 0) (omega arith))) cells;
       valid = c.in_ok-fill_row.ensures.valid;
       fits = c.in_ok-fill_row.ensures.fits;

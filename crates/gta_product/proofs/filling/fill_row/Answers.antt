@@ -73,16 +73,19 @@ loop-column-preserved c =
     invariant.joins c.join_cell.ensures.numbers in
     let cell = subst (λ (AB : Automaton (ℕ × ℕ)). IsCell AB c.args.space c.join_cell.new.numbers c.args.row column c.join_cell.new.shelf c.in_ok-root.root)
     same c.in_ok-root.ensures.cell in
-    let row = IsRow-more both c.args.space c.args.row (take i columns) column c.loop-column.numbers c.join_cell.new.numbers c.loop-column.shelf c.join_cell.new.shelf
+    let row = IsRow-more both c.args.space c.args.row (take i columns) column c.loop-column.numbers c.join_cell.new.numbers c.loop-column.shelf
+    c.join_cell.new.shelf
     c.args.roots.now c.loop-column.roots c.in_ok-root.root step.keeps c.join_cell.ensures.numbers step.extends invariant.row cell in
     let valid = valid-more c.loop-column.shelf c.join_cell.new.shelf c.loop-column.roots c.in_ok-root.root step.keeps invariant.valid cell.valid in
     record {
       joins = Joins-next c.args.a.now c.args.b.now c.args.space (c.args.row ∷ []) columns (c.args.row ∷ []) (column ∷ []) (λ x there. there) in_columns
           c.args.shelf.now c.loop-column.shelf c.join_cell.new.shelf c.args.numbers.now c.loop-column.numbers c.join_cell.new.numbers c.count.ensures.shelf
           invariant.joins c.join_cell.ensures.numbers step;
-      row = subst (λ (roots : List NodeRef). IsRow both c.args.space c.args.row (take (i + 1) columns) c.join_cell.new.numbers c.join_cell.new.shelf c.args.roots.now roots)
+      row = subst (λ (roots : List NodeRef). IsRow both c.args.space c.args.row (take (i + 1) columns) c.join_cell.new.numbers
+          c.join_cell.new.shelf c.args.roots.now roots)
           (sym c.in_ok-push.ensures.ok)
-          (subst (λ (ps : List (ℕ × ℕ)). IsRow both c.args.space c.args.row ps c.join_cell.new.numbers c.join_cell.new.shelf c.args.roots.now (c.loop-column.roots ++ c.in_ok-root.root ∷ []))
+          (subst (λ (ps : List (ℕ × ℕ)). IsRow both c.args.space c.args.row ps c.join_cell.new.numbers c.join_cell.new.shelf c.args.roots.now
+          (c.loop-column.roots ++ c.in_ok-root.root ∷ []))
           (sym (take_more columns i (0, 0) (omega arith))) row);
       valid = subst (λ (roots : List NodeRef). All (IsValid c.join_cell.new.shelf) roots) (sym c.in_ok-push.ensures.ok) valid;
       fits = c.in_ok-root.ensures.fits;

@@ -12,8 +12,10 @@ returns-in_err-made-clause-joins c =
 
 pub returns-in_err-made-clause-limit : goal.returns-in_err-made-clause-limit
 returns-in_err-made-clause-limit c = λ stopped given completes.
-    ExceedsCells-one c.args.a.now c.args.b.now c.args.space c.args.left c.args.right c.args.shelf.now c.join-joined.new.shelf c.in-Some.first c.in-Some-root.second
-    (sym c.in-Some.ensures.value) (sym c.in-Some-root.ensures.value) c.args.numbers.now c.join-joined.new.rule c.len.ensures.numbers c.len-2.ensures.numbers given
+    ExceedsCells-one c.args.a.now c.args.b.now c.args.space c.args.left c.args.right c.args.shelf.now c.join-joined.new.shelf c.in-Some.first
+    c.in-Some-root.second
+    (sym c.in-Some.ensures.value) (sym c.in-Some-root.ensures.value) c.args.numbers.now c.join-joined.new.rule c.len.ensures.numbers
+    c.len-2.ensures.numbers given
     (c.join-joined.ensures.limit (let why = rw stopped at c.from_residual.ensures in c.in_err-made.was ∙ (let is = why.1 in cc)) given completes)
 
 pub returns-clause-joins : goal.returns-clause-joins

@@ -11,7 +11,8 @@ use Rattle.gta_core.proofs.PlacingLemmas.{unwrap-inside}
 use Rattle.gta_product.specs.Classes.{AreClasses}
 use Rattle.gta_product.specs.Filling.{AreCells}
 use Rattle.gta_product.proofs.BuildingLemmas.{ExtendAll-set, AreSpaces-set, Building-set, ExceedsSteps-set}
-use Rattle.gta_product.proofs.PartLemmas.{get-at, get-set, at-child, part-at, length-set_at, SetsSpace-at, FitAll-set, ones-inside, row-inside, column-inside, first-known, second-known, IsBuilt-made}
+use Rattle.gta_product.proofs.PartLemmas.{get-at, get-set, at-child, part-at, length-set_at, SetsSpace-at, FitAll-set, ones-inside}
+use Rattle.gta_product.proofs.PartLemmas.{row-inside, column-inside, first-known, second-known, IsBuilt-made}
 use Rattle.gta_product.proofs.pairing.part_of.Goals as goal
 
 same_list : (a b : List (ℕ × ℕ)) → ◌≡◌ {A = Option (List (ℕ × ℕ))} (Some a) (Some b) → a ≡ b
@@ -36,7 +37,8 @@ classify-requires c = λ k d within.
     (ap (λ (p : ℕ × ℕ). p.0) child) c.index.result.now lefts c.index.ensures c.as_slice-lefts.ensures.pairs in
     let p = get_or lefts k d in
     let right_space = guide.right_inside s inside in
-    let row = row-inside g guide shelf a b c.requires.first c.requires.second items c.requires.spaces s inside c.index-parts-at.result c.index-parts-at-2.result in_a in_b
+    let row = row-inside g guide shelf a b c.requires.first c.requires.second items c.requires.spaces s inside c.index-parts-at.result
+    c.index-parts-at-2.result in_a in_b
     lefts at_left k p (slice_get-get_or lefts k d within) in
     (omega (arith, row.0, ap (λ (xs : List ℕ). length xs) c.as_slice.ensures), omega (arith, row.1, ap (λ (xs : List ℕ). length xs) c.as_slice-2.ensures))
 
@@ -61,9 +63,17 @@ classify-requires-2 c = λ k d within.
     let at_right = at-child g AB items c.requires.spaces (right g s) (guide.right_inside s inside) (c.unwrap_or-children.result).1
     (ap (λ (p : ℕ × ℕ). p.1) child) c.index-2.result.now rights c.index-2.ensures c.as_slice-rights.ensures.pairs in
     let p = get_or rights k d in
-    let column = column-inside g guide shelf a b c.requires.first c.requires.second items c.requires.spaces s inside c.index-parts-at.result c.index-parts-at-2.result in_a in_b
-    rights at_right k p (slice_get-get_or rights k d within) in
-    (omega (arith, column.0, ap (λ (xs : List ℕ). length xs) c.as_slice-3.ensures), omega (arith, column.1, ap (λ (xs : List ℕ). length xs) c.as_slice-4.ensures))
+    let column = column-inside g guide shelf a b c.requires.first c.requires.second items c.requires.spaces s inside c.index-parts-at.result
+    c.index-parts-at-2.result in_a in_b
+    rights at_right k p (slice_get-get_or rights k d within) in (
+      omega (arith, column.0, ap (λ (xs : List ℕ). length xs) c.as_slice-3.ensures),
+      omega (
+        arith,
+        column.1,
+        ap (λ (xs : List ℕ). length xs)
+            c.as_slice-4.ensures,
+      ),
+    )
 
 pub fill-requires-clause-first : goal.fill-requires-clause-first
 fill-requires-clause-first c = λ l r in_l in_r.
@@ -86,14 +96,17 @@ fill-requires-clause-first c = λ l r in_l in_r.
     let at_right = at-child g AB items c.requires.spaces (right g s) (guide.right_inside s inside) (c.unwrap_or-children.result).1
     (ap (λ (p : ℕ × ℕ). p.1) child) c.index-2.result.now rights c.index-2.ensures c.as_slice-rights.ensures.pairs in
     let in_rows = λ (x : ℕ × ℕ) (there : Contains c.as_slice-5.result.now x).
-    let r : (k : ℕ) × (slice_get lefts k ≡ Some x) = ones-inside lefts c.as_slice.result.now c.as_slice-2.result.now c.in_ok-rows.rows c.in_ok-rows.ensures.classes x
+    let r : (k : ℕ) × (slice_get lefts k ≡ Some x) = ones-inside lefts c.as_slice.result.now c.as_slice-2.result.now c.in_ok-rows.rows
+    c.in_ok-rows.ensures.classes x
     (subst (λ (ps : List (ℕ × ℕ)). Contains ps x) c.as_slice-5.ensures there) in r in
     let in_columns = λ (x : ℕ × ℕ) (there : Contains c.as_slice-6.result.now x).
-    let r : (k : ℕ) × (slice_get rights k ≡ Some x) = ones-inside rights c.as_slice-3.result.now c.as_slice-4.result.now c.in_ok-columns.columns c.in_ok-columns.ensures.classes x
+    let r : (k : ℕ) × (slice_get rights k ≡ Some x) = ones-inside rights c.as_slice-3.result.now c.as_slice-4.result.now c.in_ok-columns.columns
+    c.in_ok-columns.ensures.classes x
     (subst (λ (ps : List (ℕ × ℕ)). Contains ps x) c.as_slice-6.ensures there) in r in
     let row = in_rows l in_l in
     let column = in_columns r in_r in
-    first-known g guide shelf a b c.requires.first c.requires.second items c.requires.spaces s inside lefts rights at_left at_right row.0 column.0 l r row.1 column.1
+    first-known g guide shelf a b c.requires.first c.requires.second items c.requires.spaces s inside lefts rights at_left at_right row.0 column.0
+    l r row.1 column.1
 
 pub fill-requires-clause-second : goal.fill-requires-clause-second
 fill-requires-clause-second c = λ l r in_l in_r.
@@ -116,14 +129,17 @@ fill-requires-clause-second c = λ l r in_l in_r.
     let at_right = at-child g AB items c.requires.spaces (right g s) (guide.right_inside s inside) (c.unwrap_or-children.result).1
     (ap (λ (p : ℕ × ℕ). p.1) child) c.index-2.result.now rights c.index-2.ensures c.as_slice-rights.ensures.pairs in
     let in_rows = λ (x : ℕ × ℕ) (there : Contains c.as_slice-5.result.now x).
-    let r : (k : ℕ) × (slice_get lefts k ≡ Some x) = ones-inside lefts c.as_slice.result.now c.as_slice-2.result.now c.in_ok-rows.rows c.in_ok-rows.ensures.classes x
+    let r : (k : ℕ) × (slice_get lefts k ≡ Some x) = ones-inside lefts c.as_slice.result.now c.as_slice-2.result.now c.in_ok-rows.rows
+    c.in_ok-rows.ensures.classes x
     (subst (λ (ps : List (ℕ × ℕ)). Contains ps x) c.as_slice-5.ensures there) in r in
     let in_columns = λ (x : ℕ × ℕ) (there : Contains c.as_slice-6.result.now x).
-    let r : (k : ℕ) × (slice_get rights k ≡ Some x) = ones-inside rights c.as_slice-3.result.now c.as_slice-4.result.now c.in_ok-columns.columns c.in_ok-columns.ensures.classes x
+    let r : (k : ℕ) × (slice_get rights k ≡ Some x) = ones-inside rights c.as_slice-3.result.now c.as_slice-4.result.now c.in_ok-columns.columns
+    c.in_ok-columns.ensures.classes x
     (subst (λ (ps : List (ℕ × ℕ)). Contains ps x) c.as_slice-6.ensures there) in r in
     let row = in_rows l in_l in
     let column = in_columns r in_r in
-    second-known g guide shelf a b c.requires.first c.requires.second items c.requires.spaces s inside lefts rights at_left at_right row.0 column.0 l r row.1 column.1
+    second-known g guide shelf a b c.requires.first c.requires.second items c.requires.spaces s inside lefts rights at_left at_right row.0 column.0
+    l r row.1 column.1
 
 pub fill-requires-clause-fits : goal.fill-requires-clause-fits
 fill-requires-clause-fits c =
@@ -140,7 +156,8 @@ returns-in_err-fill-clause-extends c =
     let s = c.args.space in
     let before = c.index_mut-2.result.now in
     let was = get-at items s before (omega (arith, c.requires.spaces.many, c.requires.inside)) c.index_mut-2.ensures.value in
-    ExtendAll-set items (slice_set items s c.fill.new.numbers) s before c.fill.new.numbers (SetsSpace-at items s before c.fill.new.numbers was) c.fill.ensures.joins.extends
+    ExtendAll-set items (slice_set items s c.fill.new.numbers) s before c.fill.new.numbers (SetsSpace-at items s before c.fill.new.numbers was)
+    c.fill.ensures.joins.extends
 
 pub returns-in_err-fill-clause-building : goal.returns-in_err-fill-clause-building
 returns-in_err-fill-clause-building c = λ start building.
@@ -163,10 +180,12 @@ returns-in_err-fill-clause-building c = λ start building.
     let at_right = at-child g AB items c.requires.spaces (right g s) (guide.right_inside s inside) (c.unwrap_or-children.result).1
     (ap (λ (p : ℕ × ℕ). p.1) child) c.index-2.result.now rights c.index-2.ensures c.as_slice-rights.ensures.pairs in
     let in_rows = λ (x : ℕ × ℕ) (there : Contains c.as_slice-5.result.now x).
-    let r : (k : ℕ) × (slice_get lefts k ≡ Some x) = ones-inside lefts c.as_slice.result.now c.as_slice-2.result.now c.in_ok-rows.rows c.in_ok-rows.ensures.classes x
+    let r : (k : ℕ) × (slice_get lefts k ≡ Some x) = ones-inside lefts c.as_slice.result.now c.as_slice-2.result.now c.in_ok-rows.rows
+    c.in_ok-rows.ensures.classes x
     (subst (λ (ps : List (ℕ × ℕ)). Contains ps x) c.as_slice-5.ensures there) in r in
     let in_columns = λ (x : ℕ × ℕ) (there : Contains c.as_slice-6.result.now x).
-    let r : (k : ℕ) × (slice_get rights k ≡ Some x) = ones-inside rights c.as_slice-3.result.now c.as_slice-4.result.now c.in_ok-columns.columns c.in_ok-columns.ensures.classes x
+    let r : (k : ℕ) × (slice_get rights k ≡ Some x) = ones-inside rights c.as_slice-3.result.now c.as_slice-4.result.now c.in_ok-columns.columns
+    c.in_ok-columns.ensures.classes x
     (subst (λ (ps : List (ℕ × ℕ)). Contains ps x) c.as_slice-6.ensures there) in r in
     let before = c.index_mut-2.result.now in
     let after = c.fill.new.numbers in
@@ -181,7 +200,8 @@ returns-in_err-count_up-clause-extends c =
     let s = c.args.space in
     let before = c.index_mut-2.result.now in
     let was = get-at items s before (omega (arith, c.requires.spaces.many, c.requires.inside)) c.index_mut-2.ensures.value in
-    ExtendAll-set items (slice_set items s c.fill.new.numbers) s before c.fill.new.numbers (SetsSpace-at items s before c.fill.new.numbers was) c.fill.ensures.joins.extends
+    ExtendAll-set items (slice_set items s c.fill.new.numbers) s before c.fill.new.numbers (SetsSpace-at items s before c.fill.new.numbers was)
+    c.fill.ensures.joins.extends
 
 pub returns-in_err-count_up-clause-building : goal.returns-in_err-count_up-clause-building
 returns-in_err-count_up-clause-building c = λ start building.
@@ -204,10 +224,12 @@ returns-in_err-count_up-clause-building c = λ start building.
     let at_right = at-child g AB items c.requires.spaces (right g s) (guide.right_inside s inside) (c.unwrap_or-children.result).1
     (ap (λ (p : ℕ × ℕ). p.1) child) c.index-2.result.now rights c.index-2.ensures c.as_slice-rights.ensures.pairs in
     let in_rows = λ (x : ℕ × ℕ) (there : Contains c.as_slice-5.result.now x).
-    let r : (k : ℕ) × (slice_get lefts k ≡ Some x) = ones-inside lefts c.as_slice.result.now c.as_slice-2.result.now c.in_ok-rows.rows c.in_ok-rows.ensures.classes x
+    let r : (k : ℕ) × (slice_get lefts k ≡ Some x) = ones-inside lefts c.as_slice.result.now c.as_slice-2.result.now c.in_ok-rows.rows
+    c.in_ok-rows.ensures.classes x
     (subst (λ (ps : List (ℕ × ℕ)). Contains ps x) c.as_slice-5.ensures there) in r in
     let in_columns = λ (x : ℕ × ℕ) (there : Contains c.as_slice-6.result.now x).
-    let r : (k : ℕ) × (slice_get rights k ≡ Some x) = ones-inside rights c.as_slice-3.result.now c.as_slice-4.result.now c.in_ok-columns.columns c.in_ok-columns.ensures.classes x
+    let r : (k : ℕ) × (slice_get rights k ≡ Some x) = ones-inside rights c.as_slice-3.result.now c.as_slice-4.result.now c.in_ok-columns.columns
+    c.in_ok-columns.ensures.classes x
     (subst (λ (ps : List (ℕ × ℕ)). Contains ps x) c.as_slice-6.ensures there) in r in
     let before = c.index_mut-2.result.now in
     let after = c.fill.new.numbers in
@@ -222,7 +244,8 @@ returns-clause-extends c =
     let s = c.args.space in
     let before = c.index_mut-2.result.now in
     let was = get-at items s before (omega (arith, c.requires.spaces.many, c.requires.inside)) c.index_mut-2.ensures.value in
-    ExtendAll-set items (slice_set items s c.fill.new.numbers) s before c.fill.new.numbers (SetsSpace-at items s before c.fill.new.numbers was) c.fill.ensures.joins.extends
+    ExtendAll-set items (slice_set items s c.fill.new.numbers) s before c.fill.new.numbers (SetsSpace-at items s before c.fill.new.numbers was)
+    c.fill.ensures.joins.extends
 
 pub returns-clause-building : goal.returns-clause-building
 returns-clause-building c = λ start building.
@@ -245,10 +268,12 @@ returns-clause-building c = λ start building.
     let at_right = at-child g AB items c.requires.spaces (right g s) (guide.right_inside s inside) (c.unwrap_or-children.result).1
     (ap (λ (p : ℕ × ℕ). p.1) child) c.index-2.result.now rights c.index-2.ensures c.as_slice-rights.ensures.pairs in
     let in_rows = λ (x : ℕ × ℕ) (there : Contains c.as_slice-5.result.now x).
-    let r : (k : ℕ) × (slice_get lefts k ≡ Some x) = ones-inside lefts c.as_slice.result.now c.as_slice-2.result.now c.in_ok-rows.rows c.in_ok-rows.ensures.classes x
+    let r : (k : ℕ) × (slice_get lefts k ≡ Some x) = ones-inside lefts c.as_slice.result.now c.as_slice-2.result.now c.in_ok-rows.rows
+    c.in_ok-rows.ensures.classes x
     (subst (λ (ps : List (ℕ × ℕ)). Contains ps x) c.as_slice-5.ensures there) in r in
     let in_columns = λ (x : ℕ × ℕ) (there : Contains c.as_slice-6.result.now x).
-    let r : (k : ℕ) × (slice_get rights k ≡ Some x) = ones-inside rights c.as_slice-3.result.now c.as_slice-4.result.now c.in_ok-columns.columns c.in_ok-columns.ensures.classes x
+    let r : (k : ℕ) × (slice_get rights k ≡ Some x) = ones-inside rights c.as_slice-3.result.now c.as_slice-4.result.now c.in_ok-columns.columns
+    c.in_ok-columns.ensures.classes x
     (subst (λ (ps : List (ℕ × ℕ)). Contains ps x) c.as_slice-6.ensures there) in r in
     let before = c.index_mut-2.result.now in
     let after = c.fill.new.numbers in
@@ -278,18 +303,22 @@ returns-in_err-fill-clause-limit c = λ stopped start building given completes.
     let at_right = at-child g AB items c.requires.spaces (right g s) (guide.right_inside s inside) (c.unwrap_or-children.result).1
     (ap (λ (p : ℕ × ℕ). p.1) child) c.index-2.result.now rights c.index-2.ensures c.as_slice-rights.ensures.pairs in
     let in_rows = λ (x : ℕ × ℕ) (there : Contains c.as_slice-5.result.now x).
-    let r : (k : ℕ) × (slice_get lefts k ≡ Some x) = ones-inside lefts c.as_slice.result.now c.as_slice-2.result.now c.in_ok-rows.rows c.in_ok-rows.ensures.classes x
+    let r : (k : ℕ) × (slice_get lefts k ≡ Some x) = ones-inside lefts c.as_slice.result.now c.as_slice-2.result.now c.in_ok-rows.rows
+    c.in_ok-rows.ensures.classes x
     (subst (λ (ps : List (ℕ × ℕ)). Contains ps x) c.as_slice-5.ensures there) in r in
     let in_columns = λ (x : ℕ × ℕ) (there : Contains c.as_slice-6.result.now x).
-    let r : (k : ℕ) × (slice_get rights k ≡ Some x) = ones-inside rights c.as_slice-3.result.now c.as_slice-4.result.now c.in_ok-columns.columns c.in_ok-columns.ensures.classes x
+    let r : (k : ℕ) × (slice_get rights k ≡ Some x) = ones-inside rights c.as_slice-3.result.now c.as_slice-4.result.now c.in_ok-columns.columns
+    c.in_ok-columns.ensures.classes x
     (subst (λ (ps : List (ℕ × ℕ)). Contains ps x) c.as_slice-6.ensures there) in r in
     let before = c.index_mut-2.result.now in
     let after = c.fill.new.numbers in
     let was = get-at items s before (omega (arith, c.requires.spaces.many, inside)) c.index_mut-2.ensures.value in
     let sets = SetsSpace-at items s before after was in
     ExceedsSteps-set g AB s inside items (slice_set items s after) lefts rights before after c.requires.spaces sets at_left at_right
-    c.as_slice-5.result.now c.as_slice-6.result.now in_rows in_columns shelf c.fill.new.shelf c.fill.ensures.joins c.fill.ensures.numbers start building given completes
-    (c.fill.ensures.limit (let why = rw stopped at c.from_residual-in_err-fill.ensures in c.in_err-fill.was ∙ (let is = why.1 in cc)) (given s) (completes s after sets.is))
+    c.as_slice-5.result.now c.as_slice-6.result.now in_rows in_columns shelf c.fill.new.shelf c.fill.ensures.joins c.fill.ensures.numbers start
+    building given completes
+    (c.fill.ensures.limit (let why = rw stopped at c.from_residual-in_err-fill.ensures in c.in_err-fill.was ∙ (let is = why.1 in cc)) (given s)
+    (completes s after sets.is))
 
 pub returns-clause-fits : goal.returns-clause-fits
 returns-clause-fits c =
@@ -297,7 +326,8 @@ returns-clause-fits c =
     let s = c.args.space in
     let before = c.index_mut-2.result.now in
     let was = get-at items s before (omega (arith, c.requires.spaces.many, c.requires.inside)) c.index_mut-2.ensures.value in
-    FitAll-set c.args.shelf.now c.fill.new.shelf c.args.joiners.now.items items (slice_set items s c.fill.new.numbers) s c.fill.new.joiner before c.fill.new.numbers
+    FitAll-set c.args.shelf.now c.fill.new.shelf c.args.joiners.now.items items (slice_set items s c.fill.new.numbers) s c.fill.new.joiner before
+    c.fill.new.numbers
     c.fill.ensures.joins.keeps (omega (arith, c.requires.fits.many, c.requires.spaces.many, c.requires.inside)) c.requires.fits
     (SetsSpace-at items s before c.fill.new.numbers was) c.in_ok-fill.ensures.fits
 
@@ -322,10 +352,12 @@ returns-clause-part c =
     let at_right = at-child g AB items c.requires.spaces (right g s) (guide.right_inside s inside) (c.unwrap_or-children.result).1
     (ap (λ (p : ℕ × ℕ). p.1) child) c.index-2.result.now rights c.index-2.ensures c.as_slice-rights.ensures.pairs in
     let in_rows = λ (x : ℕ × ℕ) (there : Contains c.as_slice-5.result.now x).
-    let r : (k : ℕ) × (slice_get lefts k ≡ Some x) = ones-inside lefts c.as_slice.result.now c.as_slice-2.result.now c.in_ok-rows.rows c.in_ok-rows.ensures.classes x
+    let r : (k : ℕ) × (slice_get lefts k ≡ Some x) = ones-inside lefts c.as_slice.result.now c.as_slice-2.result.now c.in_ok-rows.rows
+    c.in_ok-rows.ensures.classes x
     (subst (λ (ps : List (ℕ × ℕ)). Contains ps x) c.as_slice-5.ensures there) in r in
     let in_columns = λ (x : ℕ × ℕ) (there : Contains c.as_slice-6.result.now x).
-    let r : (k : ℕ) × (slice_get rights k ≡ Some x) = ones-inside rights c.as_slice-3.result.now c.as_slice-4.result.now c.in_ok-columns.columns c.in_ok-columns.ensures.classes x
+    let r : (k : ℕ) × (slice_get rights k ≡ Some x) = ones-inside rights c.as_slice-3.result.now c.as_slice-4.result.now c.in_ok-columns.columns
+    c.in_ok-columns.ensures.classes x
     (subst (λ (ps : List (ℕ × ℕ)). Contains ps x) c.as_slice-6.ensures there) in r in
     let before = c.index_mut-2.result.now in
     let after = c.fill.new.numbers in
@@ -334,9 +366,11 @@ returns-clause-part c =
     let rows = c.in_ok-rows.rows in
     let columns = c.in_ok-columns.columns in
     let at = get-set items s after (omega (arith, c.requires.spaces.many, inside)) in
-    let held = get-at (slice_set items s after) s c.index-3.result.now (omega (arith, length-set_at items s after, c.requires.spaces.many, inside)) c.index-3.ensures in
+    let held = get-at (slice_set items s after) s c.index-3.result.now (omega (arith, length-set_at items s after, c.requires.spaces.many, inside))
+    c.index-3.ensures in
     let filled = subst (λ (ps : List (ℕ × ℕ)). AreCells AB s ps columns.ones after c.fill.new.shelf c.args.roots.now c.fill.new.roots) c.as_slice-5.ensures
-    (subst (λ (ps : List (ℕ × ℕ)). AreCells AB s c.as_slice-5.result.now ps after c.fill.new.shelf c.args.roots.now c.fill.new.roots) c.as_slice-6.ensures c.in_ok-fill.ensures.cells) in
+    (subst (λ (ps : List (ℕ × ℕ)). AreCells AB s c.as_slice-5.result.now ps after c.fill.new.shelf c.args.roots.now c.fill.new.roots)
+    c.as_slice-6.ensures c.in_ok-fill.ensures.cells) in
     record {
       lefts = lefts;
       rights = rights;
@@ -348,7 +382,8 @@ returns-clause-part c =
       at = at;
       in_first = in_a;
       in_second = in_b;
-      built = IsBuilt-made g AB s lefts rights after c.index-parts-at.result c.index-parts-at-2.result c.fill.new.shelf c.args.roots.now c.fill.new.roots rows columns _
+      built = IsBuilt-made g AB s lefts rights after c.index-parts-at.result c.index-parts-at-2.result c.fill.new.shelf c.args.roots.now
+          c.fill.new.roots rows columns _
           (unwrap-inside g s (0, 0) inside ∙ ap (λ (p : ℕ × ℕ). let o : Option (ℕ × ℕ) = Some p in o) (sym child))
           (c.len-3.ensures.value ∙ ap (λ (ps : List (ℕ × ℕ)). length ps) (same_list _ _ (sym held ∙ at)))
           refl
@@ -392,10 +427,12 @@ returns-clause-spaces c =
     let at_right = at-child g AB items c.requires.spaces (right g s) (guide.right_inside s inside) (c.unwrap_or-children.result).1
     (ap (λ (p : ℕ × ℕ). p.1) child) c.index-2.result.now rights c.index-2.ensures c.as_slice-rights.ensures.pairs in
     let in_rows = λ (x : ℕ × ℕ) (there : Contains c.as_slice-5.result.now x).
-    let r : (k : ℕ) × (slice_get lefts k ≡ Some x) = ones-inside lefts c.as_slice.result.now c.as_slice-2.result.now c.in_ok-rows.rows c.in_ok-rows.ensures.classes x
+    let r : (k : ℕ) × (slice_get lefts k ≡ Some x) = ones-inside lefts c.as_slice.result.now c.as_slice-2.result.now c.in_ok-rows.rows
+    c.in_ok-rows.ensures.classes x
     (subst (λ (ps : List (ℕ × ℕ)). Contains ps x) c.as_slice-5.ensures there) in r in
     let in_columns = λ (x : ℕ × ℕ) (there : Contains c.as_slice-6.result.now x).
-    let r : (k : ℕ) × (slice_get rights k ≡ Some x) = ones-inside rights c.as_slice-3.result.now c.as_slice-4.result.now c.in_ok-columns.columns c.in_ok-columns.ensures.classes x
+    let r : (k : ℕ) × (slice_get rights k ≡ Some x) = ones-inside rights c.as_slice-3.result.now c.as_slice-4.result.now c.in_ok-columns.columns
+    c.in_ok-columns.ensures.classes x
     (subst (λ (ps : List (ℕ × ℕ)). Contains ps x) c.as_slice-6.ensures there) in r in
     let before = c.index_mut-2.result.now in
     let after = c.fill.new.numbers in

@@ -21,7 +21,8 @@ loop-space-init c = record {
   fits = c.requires.fits;
   valid = λ k d within. absurd (omega (arith, within, ap (λ (rs : List NodeRef). length rs) c.requires.none));
   many = ap (λ (ps : List Part). length ps) c.new-parts.ensures;
-  parts = λ same. subst (λ (ps : List Part). AreParts c.args.g.now (pairs (automaton_of c.args.shelf.now c.args.a.now) (automaton_of c.args.shelf.now c.args.b.now))
+  parts = λ same. subst (λ (ps : List Part). AreParts c.args.g.now (pairs (automaton_of c.args.shelf.now c.args.a.now) (automaton_of
+      c.args.shelf.now c.args.b.now))
       c.args.a.now c.args.b.now c.args.numbers.now.items c.args.numbers.now.items c.args.shelf.now c.args.roots.now ps) (sym c.new-parts.ensures)
       (AreParts-none _ _ _ _ _ _ c.args.roots.now c.requires.none);
 }
@@ -46,7 +47,8 @@ part_of-requires-clause-spaces c =
     subst (λ (X : Automaton (ℕ × ℕ)). AreSpaces g X c.loop-space.numbers.items) (sym same) inv.are
 
 pub returns-in_err-part-clause-extends : goal.returns-in_err-part-clause-extends
-returns-in_err-part-clause-extends c = ExtendAll-trans c.args.numbers.now.items c.loop-space.numbers.items c.part_of.new.numbers.items c.loop-space.invariant.extends c.part_of.ensures.extends
+returns-in_err-part-clause-extends c = ExtendAll-trans c.args.numbers.now.items c.loop-space.numbers.items c.part_of.new.numbers.items
+    c.loop-space.invariant.extends c.part_of.ensures.extends
 
 pub returns-in_err-part-clause-kept : goal.returns-in_err-part-clause-kept
 returns-in_err-part-clause-kept c = Keeps-trans c.args.shelf.now c.loop-space.shelf c.part_of.new.shelf c.loop-space.invariant.keeps c.part_of.ensures.kept
@@ -62,10 +64,12 @@ returns-in_err-part-clause-building c = λ start building.
     let AB = pairs (automaton_of start_shelf c.args.a.now) (automaton_of start_shelf c.args.b.now) in
     let same = both-kept start_shelf c.loop-space.shelf c.count.ensures.shelf inv.keeps inv.tables c.args.a.now c.args.b.now in
     subst (λ (X : Automaton (ℕ × ℕ)). Building g X start c.part_of.new.shelf c.part_of.new.numbers.items) same
-    (c.part_of.ensures.building start (subst (λ (X : Automaton (ℕ × ℕ)). Building g X start c.loop-space.shelf c.loop-space.numbers.items) (sym same) (inv.building start building)))
+    (c.part_of.ensures.building start (subst (λ (X : Automaton (ℕ × ℕ)). Building g X start c.loop-space.shelf c.loop-space.numbers.items) (sym
+    same) (inv.building start building)))
 
 pub returns-in_err-push-clause-extends : goal.returns-in_err-push-clause-extends
-returns-in_err-push-clause-extends c = ExtendAll-trans c.args.numbers.now.items c.loop-space.numbers.items c.part_of.new.numbers.items c.loop-space.invariant.extends c.part_of.ensures.extends
+returns-in_err-push-clause-extends c = ExtendAll-trans c.args.numbers.now.items c.loop-space.numbers.items c.part_of.new.numbers.items
+    c.loop-space.invariant.extends c.part_of.ensures.extends
 
 pub returns-in_err-push-clause-kept : goal.returns-in_err-push-clause-kept
 returns-in_err-push-clause-kept c = Keeps-trans c.args.shelf.now c.loop-space.shelf c.part_of.new.shelf c.loop-space.invariant.keeps c.part_of.ensures.kept
@@ -81,7 +85,8 @@ returns-in_err-push-clause-building c = λ start building.
     let AB = pairs (automaton_of start_shelf c.args.a.now) (automaton_of start_shelf c.args.b.now) in
     let same = both-kept start_shelf c.loop-space.shelf c.count.ensures.shelf inv.keeps inv.tables c.args.a.now c.args.b.now in
     subst (λ (X : Automaton (ℕ × ℕ)). Building g X start c.part_of.new.shelf c.part_of.new.numbers.items) same
-    (c.part_of.ensures.building start (subst (λ (X : Automaton (ℕ × ℕ)). Building g X start c.loop-space.shelf c.loop-space.numbers.items) (sym same) (inv.building start building)))
+    (c.part_of.ensures.building start (subst (λ (X : Automaton (ℕ × ℕ)). Building g X start c.loop-space.shelf c.loop-space.numbers.items) (sym
+    same) (inv.building start building)))
 
 pub returns-in_err-part-clause-limit : goal.returns-in_err-part-clause-limit
 returns-in_err-part-clause-limit c = λ stopped start building given completes.
@@ -92,7 +97,8 @@ returns-in_err-part-clause-limit c = λ stopped start building given completes.
     let same = both-kept start_shelf c.loop-space.shelf c.count.ensures.shelf inv.keeps inv.tables c.args.a.now c.args.b.now in
     subst (λ (X : Automaton (ℕ × ℕ)). ExceedsSteps g X start given) same
     (c.part_of.ensures.limit (let why = rw stopped at c.from_residual.ensures in c.in_err-part.was ∙ (let is = why.1 in cc)) start
-    (subst (λ (X : Automaton (ℕ × ℕ)). Building g X start c.loop-space.shelf c.loop-space.numbers.items) (sym same) (inv.building start building)) given completes)
+    (subst (λ (X : Automaton (ℕ × ℕ)). Building g X start c.loop-space.shelf c.loop-space.numbers.items) (sym same) (inv.building start building))
+    given completes)
 
 pub loop-space-preserved : goal.loop-space-preserved
 loop-space-preserved c =
@@ -112,7 +118,8 @@ loop-space-preserved c =
       are = subst (λ (X : Automaton (ℕ × ℕ)). AreSpaces g X c.part_of.new.numbers.items) same e.spaces;
       extends = extends;
       building = λ start building. subst (λ (X : Automaton (ℕ × ℕ)). Building g X start c.part_of.new.shelf c.part_of.new.numbers.items) same
-          (call.building start (subst (λ (X : Automaton (ℕ × ℕ)). Building g X start c.loop-space.shelf c.loop-space.numbers.items) (sym same) (inv.building start building)));
+          (call.building start (subst (λ (X : Automaton (ℕ × ℕ)). Building g X start c.loop-space.shelf c.loop-space.numbers.items) (sym same)
+          (inv.building start building)));
       fits = e.fits;
       valid = e.valid;
       many =
@@ -125,10 +132,14 @@ loop-space-preserved c =
           (subst (λ (ss : List (List (ℕ × ℕ))). ExtendAll c.loop-space.numbers.items ss) is call.extends)) in
           let here = subst (λ (X : Automaton (ℕ × ℕ)). IsPartOf g X c.args.a.now c.args.b.now c.loop-space.numbers.items c.part_of.new.numbers.items
           c.part_of.new.shelf c.part_of.new.roots c.loop-space.space part) same e.part in
-          let at_first = subst (λ (ss : List (List (ℕ × ℕ))). IsPartOf g AB c.args.a.now c.args.b.now ss first c.part_of.new.shelf c.part_of.new.roots c.loop-space.space part) between
-          (subst (λ (ss : List (List (ℕ × ℕ))). IsPartOf g AB c.args.a.now c.args.b.now c.loop-space.numbers.items ss c.part_of.new.shelf c.part_of.new.roots c.loop-space.space part) is here) in
-          subst (λ (ps : List Part). AreParts g AB c.args.a.now c.args.b.now first first c.part_of.new.shelf c.part_of.new.roots ps) (sym c.in_ok-push.ensures.ok)
-          (AreParts-more g AB c.args.a.now c.args.b.now first c.requires.spaces c.loop-space.shelf c.part_of.new.shelf call.kept c.loop-space.roots c.part_of.new.roots e.grown
+          let at_first = subst (λ (ss : List (List (ℕ × ℕ))). IsPartOf g AB c.args.a.now c.args.b.now ss first c.part_of.new.shelf
+          c.part_of.new.roots c.loop-space.space part) between
+          (subst (λ (ss : List (List (ℕ × ℕ))). IsPartOf g AB c.args.a.now c.args.b.now c.loop-space.numbers.items ss c.part_of.new.shelf
+          c.part_of.new.roots c.loop-space.space part) is here) in
+          subst (λ (ps : List Part). AreParts g AB c.args.a.now c.args.b.now first first c.part_of.new.shelf c.part_of.new.roots ps) (sym
+          c.in_ok-push.ensures.ok)
+          (AreParts-more g AB c.args.a.now c.args.b.now first c.requires.spaces c.loop-space.shelf c.part_of.new.shelf call.kept c.loop-space.roots
+          c.part_of.new.roots e.grown
           c.loop-space.parts part (inv.parts between)
           (subst (λ (n : ℕ). IsPartOf g AB c.args.a.now c.args.b.now first first c.part_of.new.shelf c.part_of.new.roots n part) (sym inv.many) at_first)
           e.start.0 e.start.1);

@@ -24,7 +24,8 @@ from_parts-requires-clause-whole c = λ table.
     let now = c.settle.new.shelf in
     let numbers = c.in_ok-settled.settled.numbers.items in
     let at_root = get-at numbers 0 c.index.result.now (omega (arith, settled.building.are.many, guide.not_empty)) c.index.ensures in
-    let flags = c.in_ok-accepting.ensures ∙ ap (map (λ (pair : ℕ × ℕ). is_accepting c.args.a.now pair.0 && is_accepting c.args.b.now pair.1)) c.as_slice.ensures.pairs in
+    let flags = c.in_ok-accepting.ensures ∙ ap (map (λ (pair : ℕ × ℕ). is_accepting c.args.a.now pair.0 && is_accepting c.args.b.now pair.1))
+    c.as_slice.ensures.pairs in
     subst (λ (fs : List Bool). IsWhole (record { table = table; parts = c.in_ok-settled.settled.parts; accepting = fs })) (sym flags)
     (IsWhole-made c.args.g.now guide c.args.shelf.now now c.args.a.now c.args.b.now c.requires.first c.requires.second numbers settled.building.are
     c.in_ok-settled.settled.parts settled.many c.in_ok-settled.settled.roots settled.parts table c.index.result.now at_root)
@@ -43,15 +44,22 @@ returns-clause-auto c =
     let now = c.settle.new.shelf in
     let numbers = c.in_ok-settled.settled.numbers.items in
     let at_root = get-at numbers 0 c.index.result.now (omega (arith, settled.building.are.many, guide.not_empty)) c.index.ensures in
-    let flags = c.in_ok-accepting.ensures ∙ ap (map (λ (pair : ℕ × ℕ). is_accepting c.args.a.now pair.0 && is_accepting c.args.b.now pair.1)) c.as_slice.ensures.pairs in
+    let flags = c.in_ok-accepting.ensures ∙ ap (map (λ (pair : ℕ × ℕ). is_accepting c.args.a.now pair.0 && is_accepting c.args.b.now pair.1))
+    c.as_slice.ensures.pairs in
     let e = c.in_ok-made.ensures in
     let auto = c.in_ok-made.made in
-    let is : auto ≡ record { table = tables_added now; parts = c.in_ok-settled.settled.parts; accepting = map (λ pair. is_accepting c.args.a.now pair.0 && is_accepting c.args.b.now pair.1) c.index.result.now } =
+    let is : auto ≡ record {
+      table = tables_added now;
+      parts = c.in_ok-settled.settled.parts;
+      accepting = map (λ pair. is_accepting c.args.a.now
+          pair.0 && is_accepting c.args.b.now pair.1) c.index.result.now;
+    } =
     e.ok ∙ ap (λ (fs : List Bool). let v : AutoView = record { table = tables_added now; parts = c.in_ok-settled.settled.parts; accepting = fs } in v) flags in
     let adds = subst (λ (table : ℕ). AddsTable now c.from_parts.new.shelf table c.in_ok-settled.settled.roots) (ap (λ (v : AutoView). v.table) is) e.table in
     subst (λ (v : AutoView). IsAuto c.args.g.now c.from_parts.new.shelf v) (sym is)
     (IsAuto-made c.args.g.now guide c.args.shelf.now now c.args.a.now c.args.b.now c.requires.first c.requires.second numbers settled.building.are
-    c.in_ok-settled.settled.parts settled.many c.in_ok-settled.settled.roots settled.parts (tables_added now) c.index.result.now at_root c.from_parts.new.shelf adds)
+    c.in_ok-settled.settled.parts settled.many c.in_ok-settled.settled.roots settled.parts (tables_added now) c.index.result.now at_root
+    c.from_parts.new.shelf adds)
 
 pub returns-clause-product : goal.returns-clause-product
 returns-clause-product c =
@@ -61,10 +69,16 @@ returns-clause-product c =
     let now = c.settle.new.shelf in
     let numbers = c.in_ok-settled.settled.numbers.items in
     let at_root = get-at numbers 0 c.index.result.now (omega (arith, settled.building.are.many, guide.not_empty)) c.index.ensures in
-    let flags = c.in_ok-accepting.ensures ∙ ap (map (λ (pair : ℕ × ℕ). is_accepting c.args.a.now pair.0 && is_accepting c.args.b.now pair.1)) c.as_slice.ensures.pairs in
+    let flags = c.in_ok-accepting.ensures ∙ ap (map (λ (pair : ℕ × ℕ). is_accepting c.args.a.now pair.0 && is_accepting c.args.b.now pair.1))
+    c.as_slice.ensures.pairs in
     let e = c.in_ok-made.ensures in
     let auto = c.in_ok-made.made in
-    let is : auto ≡ record { table = tables_added now; parts = c.in_ok-settled.settled.parts; accepting = map (λ pair. is_accepting c.args.a.now pair.0 && is_accepting c.args.b.now pair.1) c.index.result.now } =
+    let is : auto ≡ record {
+      table = tables_added now;
+      parts = c.in_ok-settled.settled.parts;
+      accepting = map (λ pair. is_accepting c.args.a.now
+          pair.0 && is_accepting c.args.b.now pair.1) c.index.result.now;
+    } =
     e.ok ∙ ap (λ (fs : List Bool). let v : AutoView = record { table = tables_added now; parts = c.in_ok-settled.settled.parts; accepting = fs } in v) flags in
     let adds = subst (λ (table : ℕ). AddsTable now c.from_parts.new.shelf table c.in_ok-settled.settled.roots) (ap (λ (v : AutoView). v.table) is) e.table in
     subst (λ (v : AutoView). IsProductOf c.args.g.now (automaton_of c.args.shelf.now c.args.a.now) (automaton_of c.args.shelf.now c.args.b.now)
@@ -73,7 +87,8 @@ returns-clause-product c =
       pair = pair_of c.args.g.now guide c.args.shelf.now now c.args.a.now c.args.b.now c.requires.first c.requires.second numbers settled.building.are
           c.in_ok-settled.settled.parts settled.many c.in_ok-settled.settled.roots settled.parts (tables_added now) c.index.result.now at_root;
       product = IsProduct-made c.args.g.now guide c.args.shelf.now now c.args.a.now c.args.b.now c.requires.first c.requires.second numbers settled.building.are
-          c.in_ok-settled.settled.parts settled.many c.in_ok-settled.settled.roots settled.parts (tables_added now) c.index.result.now at_root c.from_parts.new.shelf adds;
+          c.in_ok-settled.settled.parts settled.many c.in_ok-settled.settled.roots settled.parts (tables_added now) c.index.result.now at_root
+          c.from_parts.new.shelf adds;
     })
 
 pub returns-clause-accepts : goal.returns-clause-accepts
@@ -84,17 +99,26 @@ returns-clause-accepts c = λ assignment.
     let now = c.settle.new.shelf in
     let numbers = c.in_ok-settled.settled.numbers.items in
     let at_root = get-at numbers 0 c.index.result.now (omega (arith, settled.building.are.many, guide.not_empty)) c.index.ensures in
-    let flags = c.in_ok-accepting.ensures ∙ ap (map (λ (pair : ℕ × ℕ). is_accepting c.args.a.now pair.0 && is_accepting c.args.b.now pair.1)) c.as_slice.ensures.pairs in
+    let flags = c.in_ok-accepting.ensures ∙ ap (map (λ (pair : ℕ × ℕ). is_accepting c.args.a.now pair.0 && is_accepting c.args.b.now pair.1))
+    c.as_slice.ensures.pairs in
     let e = c.in_ok-made.ensures in
     let auto = c.in_ok-made.made in
-    let is : auto ≡ record { table = tables_added now; parts = c.in_ok-settled.settled.parts; accepting = map (λ pair. is_accepting c.args.a.now pair.0 && is_accepting c.args.b.now pair.1) c.index.result.now } =
+    let is : auto ≡ record {
+      table = tables_added now;
+      parts = c.in_ok-settled.settled.parts;
+      accepting = map (λ pair. is_accepting c.args.a.now
+          pair.0 && is_accepting c.args.b.now pair.1) c.index.result.now;
+    } =
     e.ok ∙ ap (λ (fs : List Bool). let v : AutoView = record { table = tables_added now; parts = c.in_ok-settled.settled.parts; accepting = fs } in v) flags in
     let adds = subst (λ (table : ℕ). AddsTable now c.from_parts.new.shelf table c.in_ok-settled.settled.roots) (ap (λ (v : AutoView). v.table) is) e.table in
     subst (λ (v : AutoView). Accepts c.args.g.now (automaton_of c.from_parts.new.shelf v) assignment
-    ↔ (Accepts c.args.g.now (automaton_of c.args.shelf.now c.args.a.now) assignment × Accepts c.args.g.now (automaton_of c.args.shelf.now c.args.b.now) assignment)) (sym is)
-    (Accepts-product c.args.g.now guide (automaton_of c.args.shelf.now c.args.a.now) (automaton_of c.args.shelf.now c.args.b.now) c.requires.first.stable c.requires.second.stable
+    ↔ (Accepts c.args.g.now (automaton_of c.args.shelf.now c.args.a.now) assignment × Accepts c.args.g.now (automaton_of c.args.shelf.now
+    c.args.b.now) assignment)) (sym is)
+    (Accepts-product c.args.g.now guide (automaton_of c.args.shelf.now c.args.a.now) (automaton_of c.args.shelf.now c.args.b.now)
+    c.requires.first.stable c.requires.second.stable
     _ _ _ (IsProduct-made c.args.g.now guide c.args.shelf.now now c.args.a.now c.args.b.now c.requires.first c.requires.second numbers settled.building.are
-    c.in_ok-settled.settled.parts settled.many c.in_ok-settled.settled.roots settled.parts (tables_added now) c.index.result.now at_root c.from_parts.new.shelf adds) assignment)
+    c.in_ok-settled.settled.parts settled.many c.in_ok-settled.settled.roots settled.parts (tables_added now) c.index.result.now at_root
+    c.from_parts.new.shelf adds) assignment)
 
 pub returns-clause-table : goal.returns-clause-table
 returns-clause-table c = RegistersTable-after c.args.shelf.now c.settle.new.shelf c.from_parts.new.shelf c.in_ok-made.made.table c.in_ok-settled.settled.roots

@@ -50,7 +50,8 @@ returns-in_err-parts-clause-leaves c =
     let inv = c.loop-round.invariant in
     let same = both-kept c.args.shelf.now c.loop-round.shelf c.count.ensures.shelf inv.building.keeps inv.building.tables c.args.a.now c.args.b.now in
     let next = subst (λ (X : Automaton (ℕ × ℕ)). Building c.args.g.now X c.args.shelf.now c.parts_of.new.shelf c.parts_of.new.numbers.items) same
-    (c.parts_of.ensures.building c.args.shelf.now (subst (λ (X : Automaton (ℕ × ℕ)). Building c.args.g.now X c.args.shelf.now c.loop-round.shelf c.loop-round.numbers.items) (sym same) inv.building)) in
+    (c.parts_of.ensures.building c.args.shelf.now (subst (λ (X : Automaton (ℕ × ℕ)). Building c.args.g.now X c.args.shelf.now c.loop-round.shelf
+    c.loop-round.numbers.items) (sym same) inv.building)) in
     Leaves-building c.args.g.now AB c.args.shelf.now c.parts_of.new.shelf c.parts_of.new.numbers.items next
 
 pub returns-in_err-parts-clause-limit : goal.returns-in_err-parts-clause-limit
@@ -58,11 +59,13 @@ returns-in_err-parts-clause-limit c = λ stopped.
     let AB = pairs (automaton_of c.args.shelf.now c.args.a.now) (automaton_of c.args.shelf.now c.args.b.now) in
     let inv = c.loop-round.invariant in
     let same = both-kept c.args.shelf.now c.loop-round.shelf c.count.ensures.shelf inv.building.keeps inv.building.tables c.args.a.now c.args.b.now in
-    let was = subst (λ (X : Automaton (ℕ × ℕ)). Building c.args.g.now X c.args.shelf.now c.loop-round.shelf c.loop-round.numbers.items) (sym same) inv.building in
+    let was = subst (λ (X : Automaton (ℕ × ℕ)). Building c.args.g.now X c.args.shelf.now c.loop-round.shelf c.loop-round.numbers.items) (sym same)
+    inv.building in
     record {
       spaces = c.parts_of.new.numbers.items;
       exceeds = λ given completes. subst (λ (X : Automaton (ℕ × ℕ)). ExceedsSteps c.args.g.now X c.args.shelf.now given) same
-          (c.parts_of.ensures.limit (let why = rw stopped at c.from_residual-in_err-parts.ensures in c.in_err-parts.was ∙ (let is = why.1 in cc)) c.args.shelf.now was given completes);
+          (c.parts_of.ensures.limit (let why = rw stopped at c.from_residual-in_err-parts.ensures in c.in_err-parts.was ∙ (let is = why.1 in cc))
+          c.args.shelf.now was given completes);
     }
 
 pub returns-in_err-after-clause-leaves : goal.returns-in_err-after-clause-leaves
@@ -71,7 +74,8 @@ returns-in_err-after-clause-leaves c =
     let inv = c.loop-round.invariant in
     let same = both-kept c.args.shelf.now c.loop-round.shelf c.count.ensures.shelf inv.building.keeps inv.building.tables c.args.a.now c.args.b.now in
     let next = subst (λ (X : Automaton (ℕ × ℕ)). Building c.args.g.now X c.args.shelf.now c.parts_of.new.shelf c.parts_of.new.numbers.items) same
-    (c.parts_of.ensures.building c.args.shelf.now (subst (λ (X : Automaton (ℕ × ℕ)). Building c.args.g.now X c.args.shelf.now c.loop-round.shelf c.loop-round.numbers.items) (sym same) inv.building)) in
+    (c.parts_of.ensures.building c.args.shelf.now (subst (λ (X : Automaton (ℕ × ℕ)). Building c.args.g.now X c.args.shelf.now c.loop-round.shelf
+    c.loop-round.numbers.items) (sym same) inv.building)) in
     Leaves-building c.args.g.now AB c.args.shelf.now c.parts_of.new.shelf c.parts_of.new.numbers.items next
 
 pub returns-then-are_same-clause-leaves : goal.returns-then-are_same-clause-leaves
@@ -80,7 +84,8 @@ returns-then-are_same-clause-leaves c =
     let inv = c.loop-round.invariant in
     let same = both-kept c.args.shelf.now c.loop-round.shelf c.count.ensures.shelf inv.building.keeps inv.building.tables c.args.a.now c.args.b.now in
     let next = subst (λ (X : Automaton (ℕ × ℕ)). Building c.args.g.now X c.args.shelf.now c.parts_of.new.shelf c.parts_of.new.numbers.items) same
-    (c.parts_of.ensures.building c.args.shelf.now (subst (λ (X : Automaton (ℕ × ℕ)). Building c.args.g.now X c.args.shelf.now c.loop-round.shelf c.loop-round.numbers.items) (sym same) inv.building)) in
+    (c.parts_of.ensures.building c.args.shelf.now (subst (λ (X : Automaton (ℕ × ℕ)). Building c.args.g.now X c.args.shelf.now c.loop-round.shelf
+    c.loop-round.numbers.items) (sym same) inv.building)) in
     Leaves-building c.args.g.now AB c.args.shelf.now c.parts_of.new.shelf c.parts_of.new.numbers.items next
 
 pub returns-then-are_same-clause-settled : goal.returns-then-are_same-clause-settled
@@ -89,15 +94,18 @@ returns-then-are_same-clause-settled c =
     let inv = c.loop-round.invariant in
     let same = both-kept c.args.shelf.now c.loop-round.shelf c.count.ensures.shelf inv.building.keeps inv.building.tables c.args.a.now c.args.b.now in
     let next = subst (λ (X : Automaton (ℕ × ℕ)). Building c.args.g.now X c.args.shelf.now c.parts_of.new.shelf c.parts_of.new.numbers.items) same
-    (c.parts_of.ensures.building c.args.shelf.now (subst (λ (X : Automaton (ℕ × ℕ)). Building c.args.g.now X c.args.shelf.now c.loop-round.shelf c.loop-round.numbers.items) (sym same) inv.building)) in
+    (c.parts_of.ensures.building c.args.shelf.now (subst (λ (X : Automaton (ℕ × ℕ)). Building c.args.g.now X c.args.shelf.now c.loop-round.shelf
+    c.loop-round.numbers.items) (sym same) inv.building)) in
     let counted = sym c.in_ok-before.ensures ∙ sym (c.are_same.ensures c.if-are_same.true) ∙ c.in_ok-after.ensures in
-    let is : c.loop-round.numbers.items ≡ c.parts_of.new.numbers.items = same-spaces c.loop-round.numbers.items c.parts_of.new.numbers.items c.parts_of.ensures.extends counted in
+    let is : c.loop-round.numbers.items ≡ c.parts_of.new.numbers.items = same-spaces c.loop-round.numbers.items c.parts_of.new.numbers.items
+    c.parts_of.ensures.extends counted in
     let parts = subst (λ (X : Automaton (ℕ × ℕ)). AreParts c.args.g.now X c.args.a.now c.args.b.now c.loop-round.numbers.items c.loop-round.numbers.items
     c.parts_of.new.shelf c.parts_of.new.roots c.in_ok-parts.parts) same (c.in_ok-parts.ensures.parts (sym is)) in
     record {
       building = next;
       many = c.in_ok-parts.ensures.many;
-      parts = subst (λ (ss : List (List (ℕ × ℕ))). AreParts c.args.g.now AB c.args.a.now c.args.b.now ss ss c.parts_of.new.shelf c.parts_of.new.roots c.in_ok-parts.parts) is parts;
+      parts = subst (λ (ss : List (List (ℕ × ℕ))). AreParts c.args.g.now AB c.args.a.now c.args.b.now ss ss c.parts_of.new.shelf
+          c.parts_of.new.roots c.in_ok-parts.parts) is parts;
       valid = c.in_ok-parts.ensures.valid;
     }
 
@@ -107,7 +115,8 @@ loop-round-preserved c =
     let inv = c.loop-round.invariant in
     let same = both-kept c.args.shelf.now c.loop-round.shelf c.count.ensures.shelf inv.building.keeps inv.building.tables c.args.a.now c.args.b.now in
     let next = subst (λ (X : Automaton (ℕ × ℕ)). Building c.args.g.now X c.args.shelf.now c.parts_of.new.shelf c.parts_of.new.numbers.items) same
-    (c.parts_of.ensures.building c.args.shelf.now (subst (λ (X : Automaton (ℕ × ℕ)). Building c.args.g.now X c.args.shelf.now c.loop-round.shelf c.loop-round.numbers.items) (sym same) inv.building)) in
+    (c.parts_of.ensures.building c.args.shelf.now (subst (λ (X : Automaton (ℕ × ℕ)). Building c.args.g.now X c.args.shelf.now c.loop-round.shelf
+    c.loop-round.numbers.items) (sym same) inv.building)) in
     record { building = next; fits = c.in_ok-parts.ensures.fits }
 
 pub returns-clause-leaves : goal.returns-clause-leaves

@@ -23,15 +23,18 @@ loop-space-preserved c =
           let b = length-append old (new ∷ []) in
           let m = c.loop-space.invariant.many in
           omega arith;
-      each = λ shelf t numbers there. elim (get-snoc old new numbers t (ap (λ (ss : List (List (ℕ × ℕ))). slice_get ss t) (sym c.in_ok-push.ensures.items) ∙ there)) [
-        | inl before ↦ c.loop-space.invariant.each shelf t numbers before
-        | inr last ↦
-            let is_space = let m = c.loop-space.invariant.many in let n = c.spaces-space-end.ensures.value in let r : s < length c.args.g.now = omega arith in r in
-            let of = IsSpaceOf-start c.args.g.now s is_space shelf c.args.a.now c.args.b.now new c.in_ok-number.field-0 e.numbers grows e.place in
-            subst (λ (n : ℕ). IsSpaceOf c.args.g.now (pairs (automaton_of shelf c.args.a.now) (automaton_of shelf c.args.b.now)) n numbers)
-            (sym (last.0 ∙ c.loop-space.invariant.many))
-            (subst (λ (ps : List (ℕ × ℕ)). IsSpaceOf c.args.g.now (pairs (automaton_of shelf c.args.a.now) (automaton_of shelf c.args.b.now)) s ps) (sym last.1) of)
-      ];
+      each = λ shelf t numbers there. elim (get-snoc old new numbers t (ap (λ (ss : List (List (ℕ × ℕ))). slice_get ss t) (sym
+          c.in_ok-push.ensures.items) ∙ there)) [
+            | inl before ↦ c.loop-space.invariant.each shelf t numbers before
+            | inr last ↦
+                let is_space = let m = c.loop-space.invariant.many in let n = c.spaces-space-end.ensures.value in let r : s < length c.args.g.now =
+                omega arith in r in
+                let of = IsSpaceOf-start c.args.g.now s is_space shelf c.args.a.now c.args.b.now new c.in_ok-number.field-0 e.numbers grows e.place in
+                subst (λ (n : ℕ). IsSpaceOf c.args.g.now (pairs (automaton_of shelf c.args.a.now) (automaton_of shelf c.args.b.now)) n numbers)
+                (sym (last.0 ∙ c.loop-space.invariant.many))
+                (subst (λ (ps : List (ℕ × ℕ)). IsSpaceOf c.args.g.now (pairs (automaton_of shelf c.args.a.now) (automaton_of shelf c.args.b.now)) s ps)
+                (sym last.1) of)
+          ];
     }
 
 pub returns : goal.returns

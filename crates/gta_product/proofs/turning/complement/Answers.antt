@@ -5,7 +5,8 @@ use Rattle.gta_product.proofs.ComplementLemmas.{IsAuto-turned, IsComplement-turn
 use Rattle.gta_product.proofs.turning.complement.Goals as goal
 
 pub returns-clause-auto : goal.returns-clause-auto
-returns-clause-auto c = λ g shelf auto. subst (IsAuto g shelf) (sym c.turned_over.ensures.value) (IsAuto-turned c.args.a c.turned_over.ensures.whole g shelf auto)
+returns-clause-auto c = λ g shelf auto. subst (IsAuto g shelf) (sym c.turned_over.ensures.value) (IsAuto-turned c.args.a
+    c.turned_over.ensures.whole g shelf auto)
 
 pub returns-clause-complement : goal.returns-clause-complement
 returns-clause-complement c = λ shelf.
