@@ -4,3 +4,5 @@ pub mod BuiltLemmas
 pub mod AcceptingLemmas
 pub mod SizeLemmas
 pub mod FactoredLemmas
+pub mod FlipLemmas
+pub mod KeptLemmas

@@ -19,4 +19,5 @@ pub use auto::{Auto, BoolList, release};
 pub use build::{SpacePart, SpacePartList};
 pub use factored::FactoredPart;
 pub use laws::{automata_outlive_changes, tables_outlive_changes};
+pub use part::Part;
 pub use sizes::nodes_fit_in_sizes;
