@@ -1,5 +1,5 @@
 -- What a step keeps.
-use Rattle.std.proofs.Common.{◌≡◌, ◌↔◌, ◌⊎◌, inl, inr, ◌<◌, ◌+◌, ℕ, Bool, true, false, IsTrue, List, [], ◌∷◌, refl, sym, ap, ◌∙◌, subst, arith}
+use Rattle.std.proofs.Common.{◌≡◌, ◌↔◌, ◌⊎◌, inl, inr, ◌<◌, ◌+◌, ℕ, Bool, true, false, IsTrue, List, [], ◌∷◌, map, refl, sym, ap, ◌∙◌, subst, arith}
 use Rattle.std.specs.Prelude.{not}
 use Rattle.std.specs.List.{AllByRecursion}
 use Rattle.std.specs.FinMap.{keys}
@@ -8,11 +8,15 @@ use Rattle.plain_data.specs.Stacks.{rest}
 use Rattle.store_core.specs.declared.value.Value.{Value}
 use Rattle.store_core.specs.Tables.{TypeEntry}
 use Rattle.store_core.specs.Stores.{StoreMap}
+use Rattle.store_logic.specs.declared.assertion.Assertion.{Assertion}
+use Rattle.store_logic.specs.Terms.{outside}
+use Rattle.store_logic.specs.Satisfaction.{SatAll}
 use Rattle.store_logic.proofs.SameLemmas.{itself, not-both, and-both, or-both, then-both, iff-both}
 use Rattle.store_sat.specs.declared.task.Join.{Join}
 use Rattle.store_sat.specs.declared.task.Join.TheVariants as join
-use Rattle.store_sat.specs.Tasks.{Question, known, whole, cells, sets, Surround, negated, outer, joined, Spot, Holds, Joined, Whole}
-use Rattle.store_sat.specs.Steps.{far_for, far_around, IsOrdered, IsOrderedIn, Steps, with_frame, inside, left_by_true}
+use Rattle.store_sat.specs.declared.task.Frame.{Frame}
+use Rattle.store_sat.specs.Tasks.{Question, known, whole, cells, sets, Surround, negated, outer, joined, Spot, Holds, Joined, Whole, surround_of}
+use Rattle.store_sat.specs.Steps.{far_for, far_around, IsOrdered, IsOrderedIn, Stands, Steps, with_frame, inside, left_by_true}
 
 joined-both : (j : Join) {P Q : Type 0} (R : Type 0) → P ↔ Q → Joined j P R ↔ Joined j Q R
 joined-both join.And R h = and-both h itself
@@ -137,3 +141,30 @@ module _ (types : List TypeEntry) (s : StoreMap) where
       close_true join.Or = close_Or-true
       close_true join.Imp = close_Imp-true
       close_true join.Iff = close_Iff-true
+
+-- the frames of a spine
+abbrev pub spot_with : StoreMap → List Frame → List Value → Spot
+spot_with s frames bound = record { frames = map (surround_of s) frames; bound = bound }
+
+module _ (types : List TypeEntry) (s : StoreMap) (A : Type 0) where
+  -- what the whole is stays the same over a step
+  pub stands_next : (before after : Spot) (q next : Question) → Steps types s before q after next →
+      Stands types s before q ↔ A → Stands types s after next ↔ A
+  stands_next before after q next step h = (λ x. h.0 (step.same.0 x), λ a. step.same.1 (h.1 a))
+
+  -- outside of all frames the answer is that to the whole
+  pub stands_last : (frames : List Frame) (bound : List Value) (q : Question) (truth : Bool) → q ≡ known truth → frames ≡ [] →
+      Stands types s (spot_with s frames bound) q ↔ A → IsTrue truth ↔ A
+  stands_last frames bound q truth is none h =
+      subst (λ (p : Question). Stands types s (spot_with s [] bound) p ↔ A) is
+      (subst (λ (fs : List Frame). Stands types s (spot_with s fs bound) q ↔ A) none h)
+
+-- so it does at the start
+pub stands_first : (types : List TypeEntry) (s : StoreMap) (a : Assertion) (frames : List Frame) (bound : List Value) → frames ≡ [] → bound ≡ [] →
+    Stands types s (spot_with s frames bound) (whole a) ↔ SatAll types [] s outside a
+stands_first types s a frames bound no_frames no_bound =
+    subst (λ (b : List Value). Stands types s (spot_with s frames b) (whole a) ↔ SatAll types [] s outside a) (sym no_bound)
+    (subst (λ (fs : List Frame). Stands types s (spot_with s fs []) (whole a) ↔ SatAll types [] s outside a) (sym no_frames) itself)
+
+pub ready_first : (s : StoreMap) (frames : List Frame) → frames ≡ [] → AllByRecursion IsOrderedIn (map (surround_of s) frames)
+ready_first s frames none = subst (λ (fs : List Frame). AllByRecursion IsOrderedIn (map (surround_of s) fs)) (sym none) tt

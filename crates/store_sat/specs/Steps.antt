@@ -1,5 +1,5 @@
 -- What a step keeps, and how far it is to the answer.
-use Rattle.std.specs.Prelude.{true, ◌↔◌, ◌<◌, ◌+◌, ◌*◌, ℕ, List, [], ◌∷◌, ◌++◌}
+use Rattle.std.specs.Prelude.{true, ◌≡◌, ◌↔◌, ◌<◌, ◌+◌, ◌*◌, ℕ, List, [], ◌∷◌, ◌++◌}
 use Rattle.std.specs.List.{AllByRecursion}
 use Rattle.std.specs.FinMap.{keys}
 use Rattle.store_core.specs.declared.ids.CellId.{CellId}
@@ -13,6 +13,8 @@ use Rattle.store_sat.specs.Tasks.{numbered, Question, known, whole, cells, sets,
 use Rattle.store_sat.specs.declared.task.Join.{Join}
 use Rattle.store_sat.specs.declared.task.Join.TheVariants as join
 use Rattle.store_sat.specs.declared.task.Task.{Task}
+use Rattle.store_sat.specs.declared.task.Turn.{Turn}
+use Rattle.store_sat.specs.declared.task.Turn.TheVariants as turn
 use Rattle.store_sat.specs.declared.spine.Spine.{Spine}
 
 -- ---- how far
@@ -119,6 +121,11 @@ IsReady s spine q = AreOrdered (spot_of s spine).frames q
 
 abbrev pub StepsTo : List TypeEntry → StoreMap → Spine → Question → Spine → Task → Type 0
 StepsTo types s before q after next = Steps types s (spot_of s before) q (spot_of s after) (question_of s next)
+
+-- a step, or the answer to the whole, where no frame is around it
+abbrev pub TurnsTo : List TypeEntry → StoreMap → Spine → Question → Spine → Turn → Type 0
+TurnsTo types s before q after (turn.On next) = StepsTo types s before q after next
+TurnsTo types s before q after (turn.Done truth) = (q ≡ known truth) × (before.frames ≡ [])
 
 -- what is left of a join where the answer to its first part is yes
 abbrev pub left_by_true : Join → Question → Question

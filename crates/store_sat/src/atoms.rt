@@ -57,14 +57,7 @@ impl Place<'_> {
         ensures { IsTrue result ↔ ((c : CellId) → IsLive self.now.store.now c → Contains (set_at self.now.store.now (around self.now.bound.now) set) c
             → Contains (set_at self.now.store.now (around self.now.bound.now) other) c) }
     {
-        let cells = self.set(set);
-        let others = self.set(other);
-        for cell in cells {
-            if !is_covered(self.store, others, *cell) {
-                return false;
-            }
-        }
-        true
+        are_covered(self.store, self.set(set), self.set(other))
     }
 }
 
@@ -77,6 +70,19 @@ fn is_covered(store: &Store, others: &[CellId], cell: CellId) -> bool
         Some(_) => has(others, cell),
         None => true,
     }
+}
+
+/// Whether each of the cells is dead or one of the others.
+fn are_covered(store: &Store, cells: &[CellId], others: &[CellId]) -> bool
+    requires { AreRising others.now }
+    ensures { IsTrue result ↔ ((c : CellId) → IsLive store.now c → Contains cells.now c → Contains others.now c) }
+{
+    for cell in cells {
+        if !is_covered(store, others, *cell) {
+            return false;
+        }
+    }
+    true
 }
 
 /// Whether a walk of the route leads from the one term to the other.

@@ -5,12 +5,12 @@ ghost use Rattle.store_logic.specs.Terms.{outside};
 ghost use Rattle.store_logic.specs.Satisfaction.{SatAll};
 ghost use Rattle.store_sat.specs.Tasks.{known, whole, joined, question_of, surround_of, spot_of, cells_from, sets_from};
 ghost use Rattle.store_sat.specs.WalksKept.{ground};
-ghost use Rattle.store_sat.specs.Steps.{left_by_true, AreOrdered, IsReady, Steps, StepsTo, with_frame, inside};
+ghost use Rattle.store_sat.specs.Steps.{left_by_true, AreOrdered, IsReady, Steps, StepsTo, TurnsTo, with_frame, inside};
 
 use crate::atoms::{is_of_type, is_walk};
 use crate::bound::Bound;
 use crate::spine::Spine;
-use crate::task::{Frame, Join, Quantifier, Task};
+use crate::task::{Frame, Join, Quantifier, Task, Turn};
 use crate::terms::Place;
 use crate::walks::Walks;
 use plain_data::{Boxed, Stack};
@@ -265,6 +265,41 @@ impl<'a> Judge<'a> {
         }
     }
 
+    /// The answer to the task in the nearest frame, if there is one around it.
+    fn back(&self, spine: &mut Spine<'a>, truth: bool) -> Result<Turn<'a>, AllocError>
+        requires { IsReady self.now.store.now spine.old (known truth) }
+        ensures { IfOk result (TurnsTo self.now.types.now self.now.store.now spine.old (known truth) spine.new) }
+    {
+        let Some(frame) = spine.frames.pop() else {
+            return Ok(Turn::Done(truth));
+        };
+        let next = self.close(spine, truth, frame)?;
+        Ok(Turn::On(next))
+    }
+
+    /// What is to be judged after a task.
+    fn turn(
+        &self,
+        spine: &mut Spine<'a>,
+        walks: &mut Walks<'a>,
+        task: Task<'a>,
+    ) -> Result<Turn<'a>, AllocError>
+        requires ready { IsReady self.now.store.now spine.old (question_of self.now.store.now task) }
+        requires ground { walks.old ≡ ground self.now.types.now self.now.store.now }
+        ensures kept { walks.new ≡ walks.old }
+        ensures turns { IfOk result (TurnsTo self.now.types.now self.now.store.now spine.old (question_of self.now.store.now task.entry) spine.new) }
+    {
+        let next = match task {
+            Task::Known(truth) => return self.back(spine, truth),
+            Task::Whole(assertion) => self.open(spine, walks, assertion)?,
+            Task::Cells(quantifier, place) => self.next_cell(spine, quantifier, place)?,
+            Task::Sets(quantifier, chosen, place) => self.next_set(
+                spine, quantifier, chosen, place,
+            )?,
+        };
+        Ok(Turn::On(next))
+    }
+
     /// Whether the store satisfies the assertion on all its cells.
     pub(crate) fn judge(&self, assertion: &'a Assertion) -> Result<bool, AllocError>
         ensures { IfOk result (λ truth. IsTrue truth ↔ SatAll self.now.types.now [] self.now.store.now outside assertion.now) }
@@ -276,17 +311,10 @@ impl<'a> Judge<'a> {
         let mut walks = Walks::new(self.alloc, self.types, self.store);
         let mut task = Task::Whole(assertion);
         loop {
-            task = match task {
-                Task::Whole(assertion) => self.open(&mut spine, &mut walks, assertion)?,
-                Task::Cells(quantifier, place) => self.next_cell(&mut spine, quantifier, place)?,
-                Task::Sets(quantifier, chosen, place) => self.next_set(
-                    &mut spine, quantifier, chosen, place,
-                )?,
-                Task::Known(truth) => match spine.frames.pop() {
-                    Some(frame) => self.close(&mut spine, truth, frame)?,
-                    None => return Ok(truth),
-                },
-            };
+            match self.turn(&mut spine, &mut walks, task)? {
+                Turn::On(next) => task = next,
+                Turn::Done(truth) => return Ok(truth),
+            }
         }
     }
 }

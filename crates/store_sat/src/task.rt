@@ -46,6 +46,14 @@ pub(crate) enum Frame<'a> {
     With(Join, Task<'a>),
 }
 
+/// What comes after a task.
+#[derive(Drop)]
+pub(crate) enum Turn<'a> {
+    On(Task<'a>),
+    /// The answer to the whole.
+    Done(bool),
+}
+
 impl Quantifier<'_> {
     /// How the answer for one goes with that for the others.
     pub(crate) fn join(&self) -> Join

@@ -4,7 +4,6 @@ ghost use Rattle.std.specs.Prelude.{◌≡◌, ◌↔◌, ◌<◌, IfOk, IfSome,
 ghost use Rattle.std.specs.List.{AllByRecursion};
 ghost use Rattle.routing_expr.specs.Walks.{Walk};
 ghost use Rattle.routing_expr.specs.Searches.{Ground, Lists};
-ghost use Rattle.store_sat.specs.declared.walks.Kept.{Kept as KeptEnds};
 ghost use Rattle.store_sat.specs.WalksKept.{AreEnds, ground};
 
 use crate::same_route::are_same_routes;
@@ -90,7 +89,8 @@ fn keep<'a>(
     kept: &mut Vec<Kept<'a>>,
     search: Kept<'a>,
 ) -> Result<(), AllocError>
-    ensures { (Is : KeptEnds → Type 0) → Is search → AllByRecursion Is kept.old.items → AllByRecursion Is kept.new.items }
+    ensures { (ground : Ground) → AreEnds ground search.entry → AllByRecursion (AreEnds ground) kept.old.items →
+        AllByRecursion (AreEnds ground) kept.new.items }
 {
     match place_of(alloc, kept, search.route)? {
         Some(place) => kept[place] = search,

@@ -29,19 +29,26 @@ rest_is types vars s roots cells rest part is = record {
 
 pub returns-in_ok-truth-in-Part : goal.returns-in_ok-truth-in-Part
 returns-in_ok-truth-in-Part c = λ vars table fits.
+    let types = c.args.types.now in
+    let s = c.args.store.now in
     let roots = c.in-Part.roots in
+    let cells = c.in_ok-cells-in-Part.cells in
     let known : AllByRecursion (IsKnownDataVar vars) roots = subst (RegionFits vars) c.in-Part.is fits in
-    let part : IsPart c.args.types.now vars c.args.store.now roots _ = subst (λ (rs : List VarId). IsPart c.args.types.now vars c.args.store.now rs _)
-    c.as_slice-in-Part.ensures (c.in_ok-cells-in-Part.ensures vars table (subst (AllByRecursion (IsKnownDataVar vars)) (sym c.as_slice-in-Part.ensures) known)) in
-    subst (λ (r : Region). IsTrue _ ↔ Sat c.args.types.now vars [] c.args.store.now r outside c.args.assertion.now) (sym c.in-Part.is)
-    (linked c.in_ok-truth-in-Part.ensures (Sat-on c.args.types.now vars [] c.args.store.now outside c.args.assertion.now (region.Part roots) _ part))
+    let part : IsPart types vars s roots cells = subst (λ (rs : List VarId). IsPart types vars s rs cells) c.as_slice.ensures
+        (c.in_ok-cells-in-Part.ensures vars table (subst (AllByRecursion (IsKnownDataVar vars)) (sym c.as_slice.ensures) known)) in
+    subst (λ (r : Region). IsTrue c.in_ok-truth-in-Part.truth ↔ Sat types vars [] s r outside c.args.assertion.now) (sym c.in-Part.is)
+    (linked c.in_ok-truth-in-Part.ensures (Sat-on types vars [] s outside c.args.assertion.now (region.Part roots) cells part))
 
 pub returns-in_ok-truth-in-Rest : goal.returns-in_ok-truth-in-Rest
 returns-in_ok-truth-in-Rest c = λ vars table fits.
+    let types = c.args.types.now in
+    let s = c.args.store.now in
     let roots = c.in-Rest.roots in
+    let cells = c.in_ok-cells-in-Rest.cells in
+    let rest = c.in_ok-rest-in-Rest.rest in
     let known : AllByRecursion (IsKnownDataVar vars) roots = subst (RegionFits vars) c.in-Rest.is fits in
-    let part : IsPart c.args.types.now vars c.args.store.now roots _ = subst (λ (rs : List VarId). IsPart c.args.types.now vars c.args.store.now rs _)
-    c.as_slice-in-Rest.ensures (c.in_ok-cells-in-Rest.ensures vars table (subst (AllByRecursion (IsKnownDataVar vars)) (sym c.as_slice-in-Rest.ensures) known)) in
-    subst (λ (r : Region). IsTrue _ ↔ Sat c.args.types.now vars [] c.args.store.now r outside c.args.assertion.now) (sym c.in-Rest.is)
-    (linked c.in_ok-truth-in-Rest.ensures (Sat-on c.args.types.now vars [] c.args.store.now outside c.args.assertion.now (region.Rest roots) _
-    (rest_is c.args.types.now vars c.args.store.now roots _ _ part c.in_ok-rest-in-Rest.ensures)))
+    let part : IsPart types vars s roots cells = subst (λ (rs : List VarId). IsPart types vars s rs cells) c.as_slice-in-Rest.ensures
+        (c.in_ok-cells-in-Rest.ensures vars table (subst (AllByRecursion (IsKnownDataVar vars)) (sym c.as_slice-in-Rest.ensures) known)) in
+    subst (λ (r : Region). IsTrue c.in_ok-truth-in-Rest.truth ↔ Sat types vars [] s r outside c.args.assertion.now) (sym c.in-Rest.is)
+    (linked c.in_ok-truth-in-Rest.ensures (Sat-on types vars [] s outside c.args.assertion.now (region.Rest roots) rest
+    (rest_is types vars s roots cells rest part c.in_ok-rest-in-Rest.ensures)))
