@@ -35,11 +35,7 @@ pub fn all_members(alloc: Global) -> Result<Assertion, AllocError> {
 
 /// `x<next*>y`
 pub fn walk_to_last(alloc: Global) -> Result<Assertion, AllocError> {
-    Ok(Assertion::Walk(
-        name(alloc, X),
-        along(alloc)?,
-        name(alloc, Y),
-    ))
+    Ok(Assertion::Walk(name(alloc, X), along(alloc)?, name(alloc, Y)))
 }
 
 /// `c.next = null`

@@ -27,6 +27,9 @@ fn main(rt: HostRuntime) -> Result<()> {
     };
     ensure!(0 < cells && cells <= 1_000_000, "{cells} cells");
     let report = run(rt.alloc(), cells, rounds)?;
-    println!(rt; "{} members, {} walks, {} ends", report.members, report.walks, report.ends)?;
+    println!(rt;
+        "{} members, {} walks, {} ends",
+        report.members, report.walks, report.ends
+    )?;
     Ok(())
 }

@@ -9,7 +9,8 @@ use store_core::{Store, TypeTable};
 use store_logic::{Assertion, Region};
 use store_sat::sat;
 
-const LINES: &str = "var x null\nvar y null\nvar p null\nvar t null\nvar q null\nvar S {}\nvar U {}\nvar b false\nvar v false\n";
+const LINES: &str =
+    "var x null\nvar y null\nvar p null\nvar t null\nvar q null\nvar S {}\nvar U {}\nvar b false\nvar v false\n";
 
 /// So many negations one under the other, of true.
 fn negated(alloc: Global, count: u32) -> Result<Assertion, AllocError> {

@@ -16,7 +16,10 @@ const OTHERS: &str =
 /// The lists of no cells to four cells.
 static LISTS: &[(&str, bool)] = &[
     ("var x null\n", true),
-    ("var x 1\ncell 1 Node next=null prev=null mark=false\n", false),
+    (
+        "var x 1\ncell 1 Node next=null prev=null mark=false\n",
+        false,
+    ),
     (
         "var x 1\ncell 1 Node next=2 prev=null mark=false\ncell 2 Node next=null prev=1 mark=false\n",
         true,

@@ -259,8 +259,22 @@ impl Reading {
     /// What a word makes of what was read.
     fn read(&mut self, word: &[u8]) -> Result<(), AllocError> {
         match word.split_first() {
-            Some((b'-' | b'x' | b'y' | b'p' | b't' | b'q' | b'S' | b'U' | b'b' | b'v' | b'0'..=b'9', _)) =>
-                self.terms.push(term_of(self.alloc, word)?)?,
+            Some(
+                (
+                    b'-'
+                    | b'x'
+                    | b'y'
+                    | b'p'
+                    | b't'
+                    | b'q'
+                    | b'S'
+                    | b'U'
+                    | b'b'
+                    | b'v'
+                    | b'0'..=b'9',
+                    _,
+                ),
+            ) => self.terms.push(term_of(self.alloc, word)?)?,
             Some((sign, rest)) => {
                 let assertion = self.assertion(*sign, rest)?;
                 self.assertions.push(assertion)?;

@@ -97,12 +97,7 @@ fn add_data(types: &mut TypeTable, owner: Owner, name: &str) -> Result<(), Fail>
 }
 
 /// A pointer field to cells of the owner's type.
-fn add_pointer(
-    types: &mut TypeTable,
-    owner: Owner,
-    name: &str,
-    along: Route,
-) -> Result<(), Fail>
+fn add_pointer(types: &mut TypeTable, owner: Owner, name: &str, along: Route) -> Result<(), Fail>
     requires { (types : List TypeEntry) → KnowsRoute types along }
 {
     let ty = type_of(owner);

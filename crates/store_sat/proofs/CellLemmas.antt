@@ -1,5 +1,5 @@
 -- Some cell, and each cell, of the live ones.
-use Rattle.std.proofs.Common.{◌≡◌, ◌↔◌, ◌⊎◌, inl, inr, ℕ, zero, suc, List, [], ◌∷◌, slice_get, Some, refl, sym, ap, subst}
+use Rattle.std.proofs.Common.{◌≡◌, ◌↔◌, inl, inr, ℕ, zero, suc, List, [], ◌∷◌, slice_get, Some, subst}
 use Rattle.std.specs.FinMap.{keys}
 use Rattle.store_core.specs.declared.ids.TypeId.{TypeId}
 use Rattle.store_core.specs.declared.ids.CellId.{CellId}

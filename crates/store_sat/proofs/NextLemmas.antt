@@ -1,8 +1,7 @@
 -- The steps through the cells, and the sets of cells, that are left for a quantifier.
-use Rattle.std.proofs.Common.{◌≡◌, ◌↔◌, ◌⊎◌, inl, inr, ◌<◌, ◌≤◌, ◌+◌, ℕ, zero, suc, Bool, true, false, IsTrue, List, [], ◌∷◌, ◌++◌, drop, length, slice_get, Option, Some, None, refl, sym, ap, subst, arith, add-one}
+use Rattle.std.proofs.Common.{◌≡◌, inl, inr, ◌≤◌, ◌+◌, ℕ, zero, suc, Bool, true, false, List, [], ◌∷◌, ◌++◌, drop, length, slice_get, Some, refl, sym, ap, subst, arith, add-one}
 use Rattle.std.specs.Prelude.{not, option_map, if◌then◌else◌}
 use Rattle.std.specs.List.{AllByRecursion}
-use Rattle.std.specs.FinMap.{keys}
 use Rattle.std.proofs.lemmas.Bool.{false≢true}
 use Rattle.store_core.specs.declared.ids.TypeId.{TypeId}
 use Rattle.store_core.specs.declared.ids.CellId.{CellId}
@@ -14,7 +13,7 @@ use Rattle.store_logic.specs.declared.assertion.Assertion.{Assertion}
 use Rattle.store_logic.proofs.SameLemmas.{itself}
 use Rattle.store_sat.specs.declared.task.Join.{Join}
 use Rattle.store_sat.specs.declared.task.Join.TheVariants as join
-use Rattle.store_sat.specs.Tasks.{Question, known, whole, cells, sets, joined, Spot, numbered}
+use Rattle.store_sat.specs.Tasks.{known, whole, cells, sets, joined, Spot, numbered}
 use Rattle.store_sat.specs.Steps.{IsOrderedIn, StayRising, Steps, with_frame, inside}
 use Rattle.store_sat.proofs.StepLemmas.{step_on, step_inside, step_joined, step_joined_inside}
 
@@ -83,9 +82,10 @@ module _ (types : List TypeEntry) (s : StoreMap) (spot : Spot) (ready : AllByRec
       pub sets_take : (some : Bool) → IsOfType s ty (numbered n) → Steps types s spot (sets some ty a chosen (n ∷ numbers))
           (with_frame (joined (join_for some) (sets some ty a (chosen ++ numbered n ∷ []) numbers)) spot) (sets some ty a chosen numbers)
       sets_take true of = step_joined types s spot ready (sets true ty a chosen (n ∷ numbers)) (sets true ty a chosen numbers) rising.1
-          join.Or (sets true ty a (chosen ++ numbered n ∷ []) numbers) rising.2
-          (λ h. elim h [ inl without ↦ inl without | inr with_it ↦ inr (of, with_it) ],
-          λ h. elim h [ inl without ↦ inl without | inr with_it ↦ inr with_it.1 ]) (omega arith)
+          join.Or (sets true ty a (chosen ++ numbered n ∷ []) numbers) rising.2 (
+            λ h. elim h [ inl without ↦ inl without | inr with_it ↦ inr (of, with_it) ],
+            λ h. elim h [ inl without ↦ inl without | inr with_it ↦ inr with_it.1 ],
+          ) (omega arith)
       sets_take false of = step_joined types s spot ready (sets false ty a chosen (n ∷ numbers)) (sets false ty a chosen numbers) rising.1
           join.And (sets false ty a (chosen ++ numbered n ∷ []) numbers) rising.2
           (λ h. (h.0, (λ again. h.1)), λ h. (h.0, h.1 of)) (omega arith)

@@ -1,5 +1,5 @@
 -- The first step for each form of assertion.
-use Rattle.std.proofs.Common.{◌≡◌, ◌↔◌, ◌<◌, ℕ, Bool, true, false, IsTrue, List, [], ◌∷◌, reverse, sym, subst, arith}
+use Rattle.std.proofs.Common.{◌≡◌, ◌↔◌, ◌<◌, ℕ, Bool, true, false, IsTrue, List, [], reverse, sym, subst, arith}
 use Rattle.std.specs.List.{AllByRecursion}
 use Rattle.std.specs.FinMap.{keys}
 use Rattle.store_core.specs.declared.ids.TypeId.{TypeId}
@@ -14,7 +14,7 @@ use Rattle.store_logic.proofs.AssertionLemmas.{fold-Pred, fold-Not, fold-And, fo
 use Rattle.store_logic.proofs.HoldsLemmas.{Holds-Not, Holds-And, Holds-Or, Holds-Imp, Holds-Iff, Holds-Ex, Holds-All, Holds-ExSet, Holds-AllSet}
 use Rattle.store_logic.proofs.SameLemmas.{turned}
 use Rattle.store_sat.specs.declared.task.Join.TheVariants as join
-use Rattle.store_sat.specs.Tasks.{Question, known, whole, cells, sets, negated, joined, Spot, around}
+use Rattle.store_sat.specs.Tasks.{known, whole, cells, sets, negated, joined, Spot, around}
 use Rattle.store_sat.specs.Steps.{far_of_node, far_for_whole, IsOrderedIn, Steps, with_frame}
 use Rattle.store_sat.proofs.StepLemmas.{step_on, step_negated, step_joined}
 use Rattle.store_sat.proofs.CellLemmas.{SomeCell-all, EachCell-all}

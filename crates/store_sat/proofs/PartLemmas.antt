@@ -1,14 +1,13 @@
 -- The cells that are reached from data variables, by another table in which these are data variables.
-use Rattle.std.proofs.Common.{◌≡◌, ◌↔◌, ℕ, zero, suc, ◌<◌, ◌≤◌, ◌+◌, List, [], ◌∷◌, length, slice_get, Option, Some, None, IsSome, IsSomeAnd, refl, sym, ap, ◌∙◌, subst, arith, Contains, inl, inr}
+use Rattle.std.proofs.Common.{◌≡◌, ℕ, zero, suc, ◌<◌, ◌≤◌, ◌+◌, List, [], ◌∷◌, length, slice_get, Some, IsSome, IsSomeAnd, refl, sym, ap, ◌∙◌, subst, arith, Contains, inl, inr}
 use Rattle.std.specs.List.{AllByRecursion}
 use Rattle.std.proofs.lemmas.Bool.{cases_lt}
 use Rattle.std.proofs.lemmas.Option.{slice_get-get_or, slice_get_within, same_Some}
 use Rattle.store_core.specs.declared.ids.VarId.{VarId}
 use Rattle.store_core.specs.declared.ids.CellId.{CellId}
-use Rattle.store_core.specs.Tables.{TypeEntry, VarEntry, IsVarTable, var_at}
+use Rattle.store_core.specs.Tables.{TypeEntry, VarEntry, IsVarTable}
 use Rattle.store_core.specs.Stores.{StoreMap, var_value}
 use Rattle.store_core.proofs.Bodies.{AllByRecursion-at}
-use Rattle.routing_expr.specs.Searches.{Lists}
 use Rattle.routing_expr.specs.WellFormed.{IsDataVar}
 use Rattle.routing_expr.specs.Regions.{IsReachedFrom, IsPart}
 use Rattle.routing_expr.proofs.ReachLemmas.{known_within}

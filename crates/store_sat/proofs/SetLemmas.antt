@@ -78,8 +78,11 @@ module _ (s : StoreMap) (ty : TypeId) where
     some_to : (chosen : List CellId) (numbers : List ℕ) (set : List CellId) → IsChoice numbers set → Is (chosen ++ set) → SomeSet s ty Is chosen numbers
     some_to chosen [] set none is = subst Is (ap (λ xs. chosen ++ xs) none ∙ append-nil chosen) is
     some_to chosen (n ∷ numbers) set (inl c) is = inl (some_to chosen numbers set c is)
-    some_to chosen (n ∷ numbers) set (inr c) is = inr (c.2, some_to (chosen ++ numbered n ∷ []) numbers c.0 c.3
-        (subst Is (ap (λ xs. chosen ++ xs) c.1 ∙ sym (append_assoc chosen (numbered n ∷ []) c.0)) is))
+    some_to chosen (n ∷ numbers) set (inr c) is = inr (
+      c.2,
+      some_to (chosen ++ numbered n ∷ []) numbers c.0 c.3
+          (subst Is (ap (λ xs. chosen ++ xs) c.1 ∙ sym (append_assoc chosen (numbered n ∷ []) c.0)) is),
+    )
 
     each_from : (chosen : List CellId) (numbers : List ℕ) → ((set : List CellId) → IsChoice numbers set → Is (chosen ++ set)) → EachSet s ty Is chosen numbers
     each_from chosen [] h = subst Is (append-nil chosen) (h [] refl)
@@ -148,8 +151,12 @@ module _ (s : StoreMap) (ty : TypeId) where
   choice_of numbers rise [] rising of among = choice_none numbers
   choice_of [] rise (c ∷ set) rising of among = absurd among.0
   choice_of (n ∷ numbers) rise (c ∷ set) rising of among = elim among.0 [
-    | inl same ↦ inr (set, ap (λ (k : ℕ). numbered k ∷ set) (sym same), subst (λ (k : ℕ). IsOfType s ty (numbered k)) (sym same) of.0,
-        choice_of numbers rise.1 set rising.1 of.1 (narrowed n numbers c.0 (omega (arith, same)) set rising.0 among.1))
+    | inl same ↦ inr (
+      set,
+      ap (λ (k : ℕ). numbered k ∷ set) (sym same),
+      subst (λ (k : ℕ). IsOfType s ty (numbered k)) (sym same) of.0,
+      choice_of numbers rise.1 set rising.1 of.1 (narrowed n numbers c.0 (omega (arith, same)) set rising.0 among.1),
+    )
     | inr later ↦ let above : n < c.0 = among_above n numbers c rise.0 later in
         inl (choice_of numbers rise.1 (c ∷ set) rising of (later, narrowed n numbers c.0 (omega (arith, above)) set rising.0 among.1))
   ]

@@ -1,5 +1,5 @@
 -- What a step keeps.
-use Rattle.std.proofs.Common.{◌≡◌, ◌↔◌, ◌⊎◌, inl, inr, ◌<◌, ◌+◌, ℕ, Bool, true, false, IsTrue, List, [], ◌∷◌, map, refl, sym, ap, ◌∙◌, subst, arith}
+use Rattle.std.proofs.Common.{◌≡◌, ◌↔◌, inl, inr, ◌<◌, ◌+◌, ℕ, Bool, true, false, IsTrue, List, [], ◌∷◌, map, refl, sym, subst, arith}
 use Rattle.std.specs.Prelude.{not}
 use Rattle.std.specs.List.{AllByRecursion}
 use Rattle.std.specs.FinMap.{keys}
@@ -15,7 +15,7 @@ use Rattle.store_logic.proofs.SameLemmas.{itself, not-both, and-both, or-both, t
 use Rattle.store_sat.specs.declared.task.Join.{Join}
 use Rattle.store_sat.specs.declared.task.Join.TheVariants as join
 use Rattle.store_sat.specs.declared.task.Frame.{Frame}
-use Rattle.store_sat.specs.Tasks.{Question, known, whole, cells, sets, Surround, negated, outer, joined, Spot, Holds, Joined, Whole, surround_of}
+use Rattle.store_sat.specs.Tasks.{Question, known, whole, Surround, negated, outer, joined, Spot, Holds, Joined, Whole, surround_of}
 use Rattle.store_sat.specs.Steps.{far_for, far_around, IsOrdered, IsOrderedIn, Stands, Steps, with_frame, inside, left_by_true}
 
 joined-both : (j : Join) {P Q : Type 0} (R : Type 0) → P ↔ Q → Joined j P R ↔ Joined j Q R

@@ -19,7 +19,6 @@ impl Model for Bound {
     ghost use Rattle.std.specs.Prelude.{List, reverse};
     ghost use Rattle.store_core.specs.declared.value.Value.{Value as StoreValue};
 
-
     ghost Value = { List StoreValue };
 
     ghost view = { λ b. reverse b.values.items };

@@ -26,8 +26,8 @@ fn are_same_steps(one: &Route, other: &Route) -> bool
         (Route::Leaf, Route::Leaf) => true,
         (Route::IsType(one), Route::IsType(other)) => *one == *other,
         (Route::IsVariant(one), Route::IsVariant(other)) => *one == *other,
-        (Route::IsBool(one, held), Route::IsBool(other, hold)) =>
-            *held == *hold && one.as_slice() == other.as_slice(),
+        (Route::IsBool(one, held), Route::IsBool(other, hold)) => *held == *hold
+            && one.as_slice() == other.as_slice(),
         _ => false,
     }
 }
@@ -42,17 +42,32 @@ fn push_parts<'a>(
 {
     match (pair.one, pair.other) {
         (Route::Then(one, next), Route::Then(other, after)) => {
-            pending.push(RoutePair { one: one.get(), other: other.get() })?;
-            pending.push(RoutePair { one: next.get(), other: after.get() })?;
+            pending.push(RoutePair {
+                one: one.get(),
+                other: other.get(),
+            })?;
+            pending.push(RoutePair {
+                one: next.get(),
+                other: after.get(),
+            })?;
             Ok(true)
         }
         (Route::Or(one, next), Route::Or(other, after)) => {
-            pending.push(RoutePair { one: one.get(), other: other.get() })?;
-            pending.push(RoutePair { one: next.get(), other: after.get() })?;
+            pending.push(RoutePair {
+                one: one.get(),
+                other: other.get(),
+            })?;
+            pending.push(RoutePair {
+                one: next.get(),
+                other: after.get(),
+            })?;
             Ok(true)
         }
         (Route::Star(one), Route::Star(other)) => {
-            pending.push(RoutePair { one: one.get(), other: other.get() })?;
+            pending.push(RoutePair {
+                one: one.get(),
+                other: other.get(),
+            })?;
             Ok(true)
         }
         _ => Ok(are_same_steps(pair.one, pair.other)),

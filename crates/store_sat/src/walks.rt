@@ -84,11 +84,7 @@ fn kept_ends<'k>(
 }
 
 /// Keeps these ends, in place of those that are kept for the route.
-fn keep<'a>(
-    alloc: Global,
-    kept: &mut Vec<Kept<'a>>,
-    search: Kept<'a>,
-) -> Result<(), AllocError>
+fn keep<'a>(alloc: Global, kept: &mut Vec<Kept<'a>>, search: Kept<'a>) -> Result<(), AllocError>
     ensures { (ground : Ground) → AreEnds ground search.entry → AllByRecursion (AreEnds ground) kept.old.items →
         AllByRecursion (AreEnds ground) kept.new.items }
 {

@@ -1,4 +1,4 @@
-use Rattle.std.proofs.Common.{◌<◌, get_or, Contains, refl, sym, ◌∙◌, arith}
+use Rattle.std.proofs.Common.{get_or, Contains, refl, sym, ◌∙◌, arith}
 use Rattle.std.proofs.lemmas.Bool.{false≢true}
 use Rattle.std.proofs.lemmas.Option.{slice_get-get_or}
 use Rattle.store_core.specs.declared.ids.CellId.{CellId}

@@ -1,4 +1,4 @@
-use Rattle.std.proofs.Common.{◌↔◌, [], List, IsTrue, sym, subst, Contains}
+use Rattle.std.proofs.Common.{◌↔◌, [], List, IsTrue, sym, subst}
 use Rattle.std.specs.List.{AllByRecursion}
 use Rattle.store_core.specs.declared.ids.VarId.{VarId}
 use Rattle.store_core.specs.declared.ids.CellId.{CellId}
@@ -35,7 +35,7 @@ returns-in_ok-truth-in-Part c = λ vars table fits.
     let cells = c.in_ok-cells-in-Part.cells in
     let known : AllByRecursion (IsKnownDataVar vars) roots = subst (RegionFits vars) c.in-Part.is fits in
     let part : IsPart types vars s roots cells = subst (λ (rs : List VarId). IsPart types vars s rs cells) c.as_slice.ensures
-        (c.in_ok-cells-in-Part.ensures vars table (subst (AllByRecursion (IsKnownDataVar vars)) (sym c.as_slice.ensures) known)) in
+    (c.in_ok-cells-in-Part.ensures vars table (subst (AllByRecursion (IsKnownDataVar vars)) (sym c.as_slice.ensures) known)) in
     subst (λ (r : Region). IsTrue c.in_ok-truth-in-Part.truth ↔ Sat types vars [] s r outside c.args.assertion.now) (sym c.in-Part.is)
     (linked c.in_ok-truth-in-Part.ensures (Sat-on types vars [] s outside c.args.assertion.now (region.Part roots) cells part))
 
@@ -48,7 +48,7 @@ returns-in_ok-truth-in-Rest c = λ vars table fits.
     let rest = c.in_ok-rest-in-Rest.rest in
     let known : AllByRecursion (IsKnownDataVar vars) roots = subst (RegionFits vars) c.in-Rest.is fits in
     let part : IsPart types vars s roots cells = subst (λ (rs : List VarId). IsPart types vars s rs cells) c.as_slice-in-Rest.ensures
-        (c.in_ok-cells-in-Rest.ensures vars table (subst (AllByRecursion (IsKnownDataVar vars)) (sym c.as_slice-in-Rest.ensures) known)) in
+    (c.in_ok-cells-in-Rest.ensures vars table (subst (AllByRecursion (IsKnownDataVar vars)) (sym c.as_slice-in-Rest.ensures) known)) in
     subst (λ (r : Region). IsTrue c.in_ok-truth-in-Rest.truth ↔ Sat types vars [] s r outside c.args.assertion.now) (sym c.in-Rest.is)
     (linked c.in_ok-truth-in-Rest.ensures (Sat-on types vars [] s outside c.args.assertion.now (region.Rest roots) rest
     (rest_is types vars s roots cells rest part c.in_ok-rest-in-Rest.ensures)))

@@ -1,7 +1,7 @@
 use Rattle.std.proofs.Common.{Bool, true, false, map, refl, sym, ap, subst}
 use Rattle.store_sat.specs.declared.task.Join.{Join}
 use Rattle.store_sat.specs.declared.task.Join.TheVariants as join
-use Rattle.store_sat.specs.Tasks.{known, joined, negated, Spot, question_of, surround_of, spot_of}
+use Rattle.store_sat.specs.Tasks.{known, joined, negated, question_of, surround_of, spot_of}
 use Rattle.store_sat.specs.Steps.{Steps, with_frame}
 use Rattle.store_sat.proofs.StepLemmas.{steps_as, close_true, close_And-false, close_Or-false, close_Imp-false, close_Iff-false}
 use Rattle.store_sat.proofs.judge.Judge.close_with.Goals as goal

@@ -17,7 +17,7 @@ loop-walks-preserved c =
     let s = c.args.self.now.store.now in
     let q = question_of s c.loop-walks.task in
     let step : StepsTo types s c.loop-walks.spine q c.turn.new.spine c.in-On.next =
-        subst (TurnsTo types s c.loop-walks.spine q c.turn.new.spine) c.in-On.is c.in_ok-next.ensures.turns in
+    subst (TurnsTo types s c.loop-walks.spine q c.turn.new.spine) c.in-On.is c.in_ok-next.ensures.turns in
     record {
       same = stands_next types s _ (spot_of s c.loop-walks.spine) (spot_of s c.turn.new.spine) q (question_of s c.in-On.next) step c.loop-walks.invariant.same;
       ready = step.ordered;
@@ -30,7 +30,7 @@ loop-walks-smaller c =
     let s = c.args.self.now.store.now in
     let q = question_of s c.loop-walks.task in
     let step : StepsTo types s c.loop-walks.spine q c.turn.new.spine c.in-On.next =
-        subst (TurnsTo types s c.loop-walks.spine q c.turn.new.spine) c.in-On.is c.in_ok-next.ensures.turns in
+    subst (TurnsTo types s c.loop-walks.spine q c.turn.new.spine) c.in-On.is c.in_ok-next.ensures.turns in
     step.nearer
 
 pub returns-in-Done : goal.returns-in-Done
@@ -39,5 +39,5 @@ returns-in-Done c =
     let s = c.args.self.now.store.now in
     let q = question_of s c.loop-walks.task in
     let last : (q ≡ known c.in-Done.truth) × (c.loop-walks.spine.frames ≡ []) =
-        subst (TurnsTo types s c.loop-walks.spine q c.turn.new.spine) c.in-Done.is c.in_ok-next.ensures.turns in
+    subst (TurnsTo types s c.loop-walks.spine q c.turn.new.spine) c.in-Done.is c.in_ok-next.ensures.turns in
     stands_last types s _ c.loop-walks.spine.frames c.loop-walks.spine.bound q c.in-Done.truth last.0 last.1 c.loop-walks.invariant.same

@@ -25,7 +25,7 @@ returns-then-not-is_of_type c =
     let spot = spot_of s c.args.spine.now in
     let q = c.args.quantifier in
     let next : drop c.args.place (keys s.cells) ≡ c.in-Some.cell.0 ∷ drop (c.args.place + 1) (keys s.cells) =
-        drop-some (keys s.cells) c.args.place c.in-Some.cell (sym c.in-Some.ensures) in
+    drop-some (keys s.cells) c.args.place c.in-Some.cell (sym c.in-Some.ensures) in
     steps_as types s spot spot spot _ _ _ _ (ap (cells q.some q.ty q.body.now) next) refl refl
     (cells_skip types s spot c.requires.1 q.ty q.body.now c.in-Some.cell.0 (drop (c.args.place + 1) (keys s.cells)) q.some
     (λ of. false≢true (sym c.if-not-is_of_type.true ∙ c.is_of_type.ensures.1 of)))
@@ -37,7 +37,7 @@ returns c =
     let spot = spot_of s c.args.spine.now in
     let q = c.args.quantifier in
     let next : drop c.args.place (keys s.cells) ≡ c.in-Some.cell.0 ∷ drop (c.args.place + 1) (keys s.cells) =
-        drop-some (keys s.cells) c.args.place c.in-Some.cell (sym c.in-Some.ensures) in
+    drop-some (keys s.cells) c.args.place c.in-Some.cell (sym c.in-Some.ensures) in
     let others = cells_from s q (c.args.place + 1) in
     steps_as types s spot _ _ _ _ _ _ (ap (cells q.some q.ty q.body.now) next)
     (c.in_ok-body.ensures.spot ∙ ap (inside (value.Cell (Some c.in-Some.cell))) ((λ i. record { frames = map (surround_of s) (c.in_ok-push.ensures.ok i); bound = c.args.spine.now.bound }) ∙ ap (λ (j : Join). with_frame (joined j others) spot) c.join.ensures))

@@ -5,10 +5,10 @@ use Rattle.store_logic.specs.declared.assertion.Assertion.TheVariants as asserti
 use Rattle.std.specs.Prelude.{IsSomeAnd}
 use Rattle.routing_expr.specs.Walks.{Walk}
 use Rattle.routing_expr.specs.Searches.{Ground}
-use Rattle.store_logic.specs.Terms.{truth_at, cell_at}
+use Rattle.store_logic.specs.Terms.{cell_at}
 use Rattle.store_logic.specs.Satisfaction.{Says}
 use Rattle.store_logic.proofs.HoldsLemmas.{Holds-True, Holds-False, Holds-Truth, Holds-Is, Holds-Same, Holds-Member, Holds-Subset, Holds-Walk, Holds-Pred}
-use Rattle.store_logic.proofs.SameLemmas.{turned, itself}
+use Rattle.store_logic.proofs.SameLemmas.{itself}
 use Rattle.store_sat.specs.Tasks.{around, whole, cells, sets, spot_of, surround_of}
 use Rattle.store_sat.proofs.StepLemmas.{steps_as}
 use Rattle.store_sat.proofs.OpenLemmas.{linked, known_as, open_Not, open_And, open_Or, open_Imp, open_Iff, open_Ex, open_All, open_ExSet, open_AllSet}
@@ -196,4 +196,3 @@ returns-in-AllSet-clause-steps c =
     let says = Says types s (reverse []) in
     steps_as types s spot _ _ _ _ _ _ (ap whole c.in-AllSet.is) refl
     (λ i. sets false c.in-AllSet.ty (c.get-body-in-AllSet.ensures i) (c.new-in-AllSet.ensures i) (keys s.cells)) (open_AllSet types s spot c.requires.ready.1 c.in-AllSet.ty c.in-AllSet.body)
-

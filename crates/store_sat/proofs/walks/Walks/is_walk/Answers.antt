@@ -21,21 +21,25 @@ returns-in-Some-clause-value c =
     let g : Ground = c.args.self.now in
     let Ends = Walk g.types g.store g.fields c.args.route.now c.args.from in
     let all : AllByRecursion (AreEnds g) c.deref.result.now = subst (λ (xs : List Kept). AllByRecursion (AreEnds g) xs) (sym c.deref.ensures.value)
-        (subst (λ (h : Ground). AllByRecursion (AreEnds h) c.self.inside.kept.items) c.self.view_is c.self.invariant.1) in
+    (subst (λ (h : Ground). AllByRecursion (AreEnds h) c.self.inside.kept.items) c.self.view_is c.self.invariant.1) in
     let found : Lists Ends c.in-Some.ends.now =
-        subst (λ (o : Option (Bor CellList)). IfSome o (λ ends. Lists Ends ends.now)) c.in-Some.is (c.in_ok-ends.ensures g all) in
+    subst (λ (o : Option (Bor CellList)). IfSome o (λ ends. Lists Ends ends.now)) c.in-Some.is (c.in_ok-ends.ensures g all) in
     looked_for Ends c.as_slice.result.now c.in-Some.ends.now c.as_slice.ensures.value c.args.to c.has.result c.has.ensures found
 
 pub invariant_of-self : goal.invariant_of-self
 invariant_of-self c =
-    let g = ground c.self-2.inside.types.now c.self-2.inside.store.now in
-    (c.self-2.invariant.0, c.keep.ensures g
-    (subst (λ (h : Ground). Lists (Walk h.types h.store h.fields c.args.route.now c.args.from) c.in_ok-ends-2.ends)
-    (sym (c.self-2.view_is ∙ c.in_ok-ends-2.ensures.kept)) c.in_ok-ends-2.ensures.value) c.self-2.invariant.1)
+    let g = ground c.self-2.inside.types.now c.self-2.inside.store.now in (
+      c.self-2.invariant.0,
+      c.keep.ensures g
+          (subst (λ (h : Ground). Lists (Walk h.types h.store h.fields c.args.route.now c.args.from) c.in_ok-ends-2.ends)
+          (sym (c.self-2.view_is ∙ c.in_ok-ends-2.ensures.kept)) c.in_ok-ends-2.ensures.value) c.self-2.invariant.1,
+    )
 
 pub invariant_of-self-2 : goal.invariant_of-self-2
 invariant_of-self-2 c =
-    let g = ground c.self-2.inside.types.now c.self-2.inside.store.now in
-    (c.self-2.invariant.0, c.keep.ensures g
-    (subst (λ (h : Ground). Lists (Walk h.types h.store h.fields c.args.route.now c.args.from) c.in_ok-ends-2.ends)
-    (sym (c.self-2.view_is ∙ c.in_ok-ends-2.ensures.kept)) c.in_ok-ends-2.ensures.value) c.self-2.invariant.1)
+    let g = ground c.self-2.inside.types.now c.self-2.inside.store.now in (
+      c.self-2.invariant.0,
+      c.keep.ensures g
+          (subst (λ (h : Ground). Lists (Walk h.types h.store h.fields c.args.route.now c.args.from) c.in_ok-ends-2.ends)
+          (sym (c.self-2.view_is ∙ c.in_ok-ends-2.ensures.kept)) c.in_ok-ends-2.ensures.value) c.self-2.invariant.1,
+    )
