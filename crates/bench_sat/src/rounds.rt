@@ -72,7 +72,7 @@ fn ask_ends(
     ask(alloc, types, store, &assertion, rounds)
 }
 
-fn report(
+fn ask_all(
     alloc: Global,
     types: &TypeTable,
     store: &Store,
@@ -98,7 +98,7 @@ fn report_of(
 ) -> Result<Report> {
     ensure!(text.len() < 4_294_967_295, "{} bytes", text.len());
     let store = read_store(alloc, types, vars, text)?;
-    Ok(report(alloc, types, &store, rounds)?)
+    Ok(ask_all(alloc, types, &store, rounds)?)
 }
 
 /// Reads a list from its text, and asks of it.
