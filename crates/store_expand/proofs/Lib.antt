@@ -1,0 +1,4 @@
+pub mod ReadingLemmas
+pub mod SpotLemmas
+pub mod OpeningLemmas
+pub mod StepLemmas

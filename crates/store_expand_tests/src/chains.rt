@@ -1,0 +1,95 @@
+//! Predicates that each use the one before.
+
+ghost use Rattle.std.specs.Prelude.{◌≡◌, ◌+◌, ◌<◌, [], length, IfOk};
+ghost use Rattle.store_expand_tests.specs.Chains.{IsLink, IsChain};
+
+use crate::made::{and, not};
+use std::alloc::{AllocError, Global};
+use std::test::Fail;
+use store_expand::{ExpandFault, expand};
+use store_logic::{ArgList, Assertion, PredDef, Preds};
+
+/// A predicate without arguments.
+fn call(alloc: Global, k: u32) -> Assertion
+    ensures { result ≡ Assertion.Pred k [] }
+{
+    Assertion::Pred(k, ArgList::new(alloc))
+}
+
+/// That the last predicate holds, or that it doesn't.
+fn used(alloc: Global, last: u32, twice: bool) -> Result<PredDef, AllocError>
+    ensures { IfOk result (IsLink (last + 1)) }
+{
+    let used = call(alloc, last);
+    let body = if twice {
+        and(alloc, used, call(alloc, last))?
+    } else {
+        not(alloc, used)?
+    };
+    Ok(PredDef { params: 0, body })
+}
+
+/// A predicate that holds, and so many more that each use the one before.
+fn chain(alloc: Global, more: u32, twice: bool) -> Result<Preds, AllocError>
+    ensures links { IfOk result IsChain }
+    ensures long { IfOk result (λ preds. length preds ≡ more + 1) }
+{
+    let mut preds = Preds::new(alloc);
+    preds.push(PredDef {
+        params: 0,
+        body: Assertion::True,
+    })?;
+    for last in 0..more {
+        preds.push(used(alloc, last, twice)?)?;
+    }
+    Ok(preds)
+}
+
+/// The last predicate of such a chain, put in.
+fn expanded(alloc: Global, more: u32, twice: bool) -> Result<Assertion, ExpandFault> {
+    let preds = chain(alloc, more, twice)?;
+    let last = call(alloc, more);
+    expand(alloc, &preds, &last)
+}
+
+/// How many times the assertion says that the rest doesn't hold.
+fn nots(assertion: &Assertion) -> u32 {
+    let mut rest = assertion;
+    let mut count = 0u32;
+    while let Assertion::Not(inner) = rest {
+        rest = inner.get();
+        count = count.saturating_add(1);
+    }
+    count
+}
+
+fn is_built(alloc: Global, more: u32, twice: bool) -> bool {
+    match expanded(alloc, more, twice) {
+        Ok(_assertion) => true,
+        Err(_fault) => false,
+    }
+}
+
+fn is_too_big(alloc: Global, more: u32, twice: bool) -> bool {
+    match expanded(alloc, more, twice) {
+        Ok(_assertion) => false,
+        Err(fault) => fault == ExpandFault::TooBig,
+    }
+}
+
+#[test]
+fn bodies_that_double_are_refused_at_once(rt: HostRuntime) -> Result<(), Fail> {
+    let alloc = rt.alloc();
+    assert!(rt; is_built(alloc, 15, true));
+    assert!(rt; is_too_big(alloc, 16, true));
+    assert!(rt; is_too_big(alloc, 39, true));
+    Ok(())
+}
+
+#[test]
+fn the_most_nodes_stand_one_under_the_other(rt: HostRuntime) -> Result<(), Fail> {
+    let alloc = rt.alloc();
+    assert!(rt; nots(&expanded(alloc, 65_535, false)?) == 65_535);
+    assert!(rt; is_too_big(alloc, 65_536, false));
+    Ok(())
+}
