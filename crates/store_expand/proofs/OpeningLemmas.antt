@@ -58,11 +58,12 @@ module _ (preds : List PredDef) (bodies : List Assertion) (ends : (k : ℕ) → 
   onto : (a b c : Assertion) → with_bodies bodies a ≡ b → put_whole w b ≡ c → put_whole w (with_bodies bodies a) ≡ c
   onto a b c is then = ap (put_whole w) is ∙ then
 
-  no_body : (k : ℕ) (xs : List Arg) → option_map (λ p. (p.body, in_body (put_args w xs))) (slice_get preds k) ≡ None → with_bodies bodies (assertion.Pred k xs) ≡ assertion.Pred k xs
+  no_body : (k : ℕ) (xs : List Arg) → option_map {U = Spot} (λ p. (p.body, in_body (put_args w xs))) (slice_get preds k) ≡ None →
+      with_bodies bodies (assertion.Pred k xs) ≡ assertion.Pred k xs
   no_body k xs none = bodies-Pred bodies k xs
       ∙ ap (λ (o : Option Assertion). option_map_or (put_in xs) o (assertion.Pred k xs)) (ends k (of (slice_get preds k) none))
     where
-      of : (found : Option PredDef) → option_map (λ p. (p.body, in_body (put_args w xs))) found ≡ None → found ≡ None
+      of : (found : Option PredDef) → option_map {U = Spot} (λ p. (p.body, in_body (put_args w xs))) found ≡ None → found ≡ None
       of None e = refl
       of (Some p) e = absurd cc
 
@@ -103,18 +104,18 @@ module _ (preds : List PredDef) where
   abbrev pub Right : Assertion → Type 0
   Right a = AllByRecursion (IsRightUse preds (length preds)) (uses_in a)
 
-  as : {us vs : List (ℕ × List Arg)} → us ≡ vs → AllByRecursion (IsRightUse preds (length preds)) us → AllByRecursion (IsRightUse preds (length preds)) vs
-  as same h = subst (AllByRecursion (IsRightUse preds (length preds))) same h
+  own : {us vs : List (ℕ × List Arg)} → us ≡ vs → AllByRecursion (IsRightUse preds (length preds)) us → AllByRecursion (IsRightUse preds (length preds)) vs
+  own same h = subst (AllByRecursion (IsRightUse preds (length preds))) same h
 
   -- the uses of one part, and of two
   one : (a c : Assertion) (x : Assertion-F Assertion) → roll-Assertion x ≡ c → uses_in c ≡ uses_in a → Right (roll-Assertion x) → Right a × Unit {0}
-  one a c x rolls is h = (as (ap uses_in rolls ∙ is) h, tt)
+  one a c x rolls is h = (own (ap uses_in rolls ∙ is) h, tt)
 
   two : (a b c : Assertion) (x : Assertion-F Assertion) → roll-Assertion x ≡ c → uses_in c ≡ uses_in a ++ uses_in b → Right (roll-Assertion x) →
       Right a × (Right b × Unit {0})
   two a b c x rolls is h = (
-    all-first (IsRightUse preds (length preds)) (uses_in a) (uses_in b) (as (ap uses_in rolls ∙ is) h),
-    (all-second (IsRightUse preds (length preds)) (uses_in a) (uses_in b) (as (ap uses_in rolls ∙ is) h), tt),
+    all-first (IsRightUse preds (length preds)) (uses_in a) (uses_in b) (own (ap uses_in rolls ∙ is) h),
+    (all-second (IsRightUse preds (length preds)) (uses_in a) (uses_in b) (own (ap uses_in rolls ∙ is) h), tt),
   )
 
   right-node : (x : Assertion-F Assertion) → Right (roll-Assertion x) → AllByRecursion Right (parts_of Assertion x)
@@ -277,11 +278,12 @@ module _ (preds : List PredDef) (whole : Assertion) (can : CanExpand preds whole
     opens-node (Assertion-F.Walk t along u) h e = no e
     opens-node (Assertion-F.Pred k xs) h e = of (slice_get preds k) refl e
       where
-        of : (found : Option PredDef) → slice_get preds k ≡ found → option_map (λ p. (p.body, in_body (put_args (stands o d) xs))) found ≡ Some body →
+        of : (found : Option PredDef) → slice_get preds k ≡ found → option_map {U = Spot} (λ p. (p.body, in_body (put_args (stands o d) xs))) found ≡ Some body →
             Opens (roll-Assertion (Assertion-F.Pred k xs)) (stands o d) body
         of None at e = no e
         of (Some p) at e =
-            let is : (p.body, in_body (put_args (stands o d) xs)) ≡ body = cc in
+            let it : Spot = (p.body, in_body (put_args (stands o d) xs)) in
+            let is : it ≡ body = cc in
             subst (λ (a : Assertion). Opens a (stands o d) body) (sym (rolls-Pred k xs))
             (subst (Opens (assertion.Pred k xs) (stands o d)) is
             (opens-use o d k xs p at (subst (AllByRecursion (IsRightUse preds (length preds))) (ap uses_in (rolls-Pred k xs) ∙ uses-Pred k xs) h).0))

@@ -37,17 +37,17 @@ module _ {X : Type 0} (use_of : Option X → ℕ → List Arg → X) (plain : As
     abbrev IsSame : Assertion → Type 0
     IsSame a = Uses (uses_in a) → read xs a ≡ read ys a
 
-    as : {us vs : List (ℕ × List Arg)} → us ≡ vs → Uses us → Uses vs
-    as same h = subst Uses same h
+    own : {us vs : List (ℕ × List Arg)} → us ≡ vs → Uses us → Uses vs
+    own same h = subst Uses same h
 
     one : (make : X → Assertion-F X) (a : Assertion) (us : List (ℕ × List Arg)) → us ≡ uses_in a → IsSame a → Uses us →
         plain (make (read xs a)) ≡ plain (make (read ys a))
-    one make a us same of_a h = ap (λ z. plain (make z)) (of_a (as same h))
+    one make a us same of_a h = ap (λ z. plain (make z)) (of_a (own same h))
 
     two : (make : X → X → Assertion-F X) (a b : Assertion) (us : List (ℕ × List Arg)) → us ≡ uses_in a ++ uses_in b → IsSame a → IsSame b → Uses us →
         plain (make (read xs a) (read xs b)) ≡ plain (make (read ys a) (read ys b))
-    two make a b us same of_a of_b h = ap₂ (λ y z. plain (make y z)) (of_a (all-first (IsBefore n) (uses_in a) (uses_in b) (as same h)))
-        (of_b (all-second (IsBefore n) (uses_in a) (uses_in b) (as same h)))
+    two make a b us same of_a of_b h = ap₂ (λ y z. plain (make y z)) (of_a (all-first (IsBefore n) (uses_in a) (uses_in b) (own same h)))
+        (of_b (all-second (IsBefore n) (uses_in a) (uses_in b) (own same h)))
 
     abbrev sx : Assertion-F X → X
     sx = read_node xs
@@ -65,7 +65,7 @@ module _ {X : Type 0} (use_of : Option X → ℕ → List Arg → X) (plain : As
       of_Member = λ t set h. fold-Member X sx t set ∙ sym (fold-Member X sy t set);
       of_Subset = λ set other h. fold-Subset X sx set other ∙ sym (fold-Subset X sy set other);
       of_Walk = λ t along u h. fold-Walk X sx t along u ∙ sym (fold-Walk X sy t along u);
-      of_Pred = λ k args h. fold-Pred X sx k args ∙ ap (λ o. use_of o k args) (agree k (as (uses-Pred k args) h).0) ∙ sym (fold-Pred X sy k args);
+      of_Pred = λ k args h. fold-Pred X sx k args ∙ ap (λ o. use_of o k args) (agree k (own (uses-Pred k args) h).0) ∙ sym (fold-Pred X sy k args);
       of_Not = λ a of_a h. fold-Not X sx a ∙ one Assertion-F.Not a (uses_in (assertion.Not a)) (uses-Not a) of_a h ∙ sym (fold-Not X sy a);
       of_And = λ a b of_a of_b h.
           fold-And X sx a b ∙ two Assertion-F.And a b (uses_in (assertion.And a b)) (uses-And a b) of_a of_b h ∙ sym (fold-And X sy a b);
@@ -123,14 +123,11 @@ module _ {X : Type 0} (use_of : Option X → ℕ → List Arg → X) (plain : As
 
     read-first : (l : List PredDef) → AreFirst l → (k : ℕ) (p : PredDef) → k < length l → slice_get preds k ≡ Some p → IsRead l k p
     read-first [] are k p inside at = absurd (omega arith)
-    read-first (q ∷ earlier) are k p inside at = of (k == length earlier) refl
+    read-first (q ∷ earlier) are k p inside at = of (λ below. read-first earlier are.1 k p below at) (k == length earlier) refl
       where
-        x : X
-        x = read (bodies earlier) q.body
-
-        of : (same : Bool) → (k == length earlier) ≡ same → slice_get (bodies earlier ++ read (bodies earlier) q.body ∷ []) k
+        of : (k < length earlier → IsRead earlier k p) → (same : Bool) → (k == length earlier) ≡ same → slice_get (bodies earlier ++ read (bodies earlier) q.body ∷ []) k
             ≡ Some (read (bodies earlier ++ read (bodies earlier) q.body ∷ []) p.body)
-        of true is =
+        of rest true is =
             let place : k ≡ length earlier = eqb-true k (length earlier) is in
             let there : slice_get preds k ≡ Some q = ap (slice_get preds) place ∙ are.0 in
             let same : q ≡ p = cc in
@@ -139,13 +136,13 @@ module _ {X : Type 0} (use_of : Option X → ℕ → List Arg → X) (plain : As
             ∙ slice_get-seam (bodies earlier) (read (bodies earlier) q.body) []
             ∙ ap Some (longer earlier (read (bodies earlier) q.body) k within q.body (before k q there)
             ∙ ap (λ (r : PredDef). read (bodies earlier ++ read (bodies earlier) q.body ∷ []) r.body) same)
-        of false is =
+        of rest false is =
             let other : k ≢ length earlier = eqb-false k (length earlier) is in
             let below : k < length earlier = omega arith in
             let within : k ≤ length earlier = omega arith in
             slice_get-first (bodies earlier) (read (bodies earlier) q.body ∷ []) k
             (let inner : k < length (bodies earlier) = omega (arith, length-bodies earlier) in inner)
-            ∙ read-first earlier are.1 k p below at
+            ∙ rest below
             ∙ ap Some (longer earlier (read (bodies earlier) q.body) k within p.body (before k p at))
 
     some-inside : {Y : Type 0} (ys : List Y) (k : ℕ) (y : Y) → slice_get ys k ≡ Some y → k < length ys

@@ -1,20 +1,22 @@
 -- One step of the walk through what predicates are put into: it keeps the forms of the whole, and lowers the steps that are left.
 use Rattle.std.proofs.Common.{◌≡◌, ℕ, ◌+◌, ◌<◌, List, [], ◌∷◌, ◌++◌, length, map, flat_map, reverse, Option, Some, None}
-use Rattle.std.proofs.Common.{sym, refl, ap, ap₂, ◌∙◌, subst, arith, append_assoc, append-nil}
+use Rattle.std.proofs.Common.{sym, refl, ap, ap₂, ◌∙◌, subst, subst₂, arith, append_assoc, append-nil}
 use Rattle.std.specs.Prelude.{sum_by}
 use Rattle.std.specs.Option.{option_map_or}
 use Rattle.std.specs.List.{AllByRecursion}
 use Rattle.std.proofs.lemmas.Grind.{flat_map-append}
 use Rattle.std.proofs.lemmas.List.{map-append, map_push, reverse-append}
-use Rattle.std.proofs.lemmas.List.Sums.{sum_by-append, sum_by_push}
+use Rattle.std.proofs.lemmas.List.Sums.{sum_by-append, sum_by-cons, sum_by_push}
 use Rattle.store_logic.specs.declared.assertion.Assertion.{Assertion, out-Assertion}
 use Rattle.store_logic.specs.declared.pred.PredDef.{PredDef}
 use Rattle.store_logic.specs.Expansion.{expanded_bodies}
 use Rattle.store_logic.specs.Postfix.{Form, parts_of, postfix_of}
 use Rattle.store_logic.specs.Uses.{CanExpand}
-use Rattle.store_logic.proofs.ExpandingLists.{all-append}
+use Rattle.store_logic.proofs.ExpandingLists.{all-append, all-first, all-second}
 use Rattle.store_expand.specs.Standing.{Standing}
 use Rattle.store_expand.specs.Opening.{Spot, expanded_at, body_there, inside, parts_there, form_at, stepped, steps_with, body_steps, steps}
+use Rattle.store_expand.specs.declared.places.Place.{Place}
+use Rattle.store_expand.specs.Places.{spot, form_there}
 use Rattle.store_expand.proofs.OpeningLemmas.{Right, forms-split, parts-right, parts-steps, Opens, opens, ends}
 
 module _ (preds : List PredDef) where
@@ -34,7 +36,8 @@ module _ (preds : List PredDef) where
 
   steps-there : (v : Standing) (parts : List Assertion) → steps_left (map (λ part. (part, v)) parts) ≡ sum_by (steps preds) parts
   steps-there v [] = refl
-  steps-there v (a ∷ parts) = ap (λ (n : ℕ). steps preds a + n) (steps-there v parts)
+  steps-there v (a ∷ parts) = sum_by-cons (λ at. steps preds at.0) (a, v) (map (λ part. (part, v)) parts)
+      ∙ ap (λ (n : ℕ). steps preds a + n) (steps-there v parts) ∙ sym (sum_by-cons (steps preds) a parts)
 
   -- what a step does
   pub record IsStep (next : Spot) (pending forms : List Spot) (after : List Spot × List Spot) : Type 0 where
@@ -92,3 +95,35 @@ module _ (preds : List PredDef) where
         of : (found : Option Spot) → body_there preds next ≡ found → IsStep next pending forms (of_body found)
         of None e = parts e
         of (Some body) e = use_of body (opens preds whole can next.1.args next.1.depth body next.0 right e)
+
+-- ---- a step of the code
+
+module _ (preds : List PredDef) (whole : Assertion) (can : CanExpand preds whole) where
+  -- what a step does to the places
+  pub record Steps (pending places pending_after places_after : List Place) : Type 0 where
+    pub same : forms_of preds (map spot pending_after) ++ reverse (map form_at (map spot places_after))
+        ≡ forms_of preds (map spot pending) ++ reverse (map form_at (map spot places))
+    pub right : AllRight preds (map spot pending_after)
+    pub less : steps_left preds (map spot pending_after) < steps_left preds (map spot pending)
+
+  pub steps-on : (pending popped places pending_after places_after : List Place) (next : Place) → pending ≡ popped ++ next ∷ [] →
+      (map spot pending_after, map spot places_after) ≡ stepped preds (spot next) (map spot popped) (map spot places) →
+      AllRight preds (map spot pending) → Steps pending places pending_after places_after
+  steps-on pending popped places pending_after places_after next is after right =
+      let spots : map spot pending ≡ map spot popped ++ spot next ∷ [] = ap (map spot) is ∙ map_push spot popped next in
+      let own = subst (AllRight preds) spots right in
+      let step = is_step preds whole can (spot next) (map spot popped) (map spot places)
+      (all-second (λ at. Right preds at.0) (map spot popped) (spot next ∷ []) own).0 in
+      let pendings = ap (λ (l : List Spot × List Spot). l.0) after in
+      let all = ap (λ (l : List Spot × List Spot). l.1) after in
+      record {
+        same = ap₂ (λ (l r : List Spot). forms_of preds l ++ reverse (map form_at r)) pendings all ∙ step.same
+            ∙ ap (λ (l : List Spot). forms_of preds l ++ reverse (map form_at (map spot places))) (sym spots);
+        right = subst (AllRight preds) (sym pendings) (step.right (all-first (λ at. Right preds at.0) (map spot popped) (spot next ∷ []) own));
+        less = subst₂ (λ (l r : List Spot). steps_left preds l < steps_left preds r) (sym pendings) (sym spots) step.less;
+      }
+
+-- the forms of places
+pub forms-there : (places : List Place) → map form_there places ≡ map form_at (map spot places)
+forms-there [] = refl
+forms-there (place ∷ places) = ap (λ (l : List Form). form_there place ∷ l) (forms-there places)

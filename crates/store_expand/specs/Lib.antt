@@ -1,3 +1,4 @@
+pub mod Counting
 pub mod Standing
 pub mod Opening
 pub mod Places

@@ -1,13 +1,13 @@
 //! How large assertions become with their predicates put in, found before anything is put in.
 
-ghost use Rattle.std.specs.Prelude.{◌≡◌, ◌+◌, ◌*◌, ◌≤◌, List, [], ◌∷◌, ◌++◌, map, reverse, IfOk, OnOk};
+ghost use Rattle.std.specs.Prelude.{◌≡◌, ◌≤◌, [], ◌∷◌, ◌++◌, map, reverse, IfOk, OnOk};
 ghost use Rattle.std.specs.List.{AllByRecursion};
-ghost use Rattle.store_logic.specs.declared.assertion.Assertion.{Assertion, out-Assertion};
-ghost use Rattle.store_logic.specs.Postfix.{parts_of};
 ghost use Rattle.store_logic.specs.Sizes.{node_count};
 ghost use Rattle.store_logic.specs.Expansion.{expanded_bodies};
-ghost use Rattle.store_logic.specs.ExpandingSizes.{sized, capped, own_size, part_times};
+ghost use Rattle.store_logic.specs.ExpandingSizes.{sized, capped, own_size};
+ghost use Rattle.store_expand.specs.Counting.{counted, counted_parts};
 
+use plain_data::at;
 use std::alloc::{AllocError, Global};
 use store_logic::{Assertion, PredDef};
 
@@ -66,7 +66,7 @@ fn size_of_form(sizes: &[u64], assertion: &Assertion) -> u64
     ensures { result ≡ own_size sizes.now assertion.now }
 {
     match assertion {
-        Assertion::Pred(k, _) => match sizes.get(*k as usize) {
+        Assertion::Pred(k, _) => match at(sizes, *k as usize) {
             Some(size) => *size,
             None => 1,
         },
@@ -81,9 +81,7 @@ fn push_uncounted_parts<'a>(
     times: u64,
 ) -> Result<(), AllocError>
     requires { times ≤ 131072 }
-    ensures { OnOk result (map (λ part. (part.assertion.now, part.times)) pending.new.items
-        ≡ map (λ part. (part.assertion.now, part.times)) pending.old.items
-        ++ map (λ part. (part, part_times times assertion.now)) (parts_of Assertion (out-Assertion assertion.now))) }
+    ensures { OnOk result (map counted pending.new.items ≡ map counted pending.old.items ++ counted_parts times assertion.now) }
 {
     match assertion {
         Assertion::Iff(left, right) => push_both(pending, left.get(), right.get(), 2 * times),
@@ -105,8 +103,7 @@ fn push_both<'a>(
     right: &'a Assertion,
     times: u64,
 ) -> Result<(), AllocError>
-    ensures { OnOk result (map (λ part. (part.assertion.now, part.times)) pending.new.items
-        ≡ map (λ part. (part.assertion.now, part.times)) pending.old.items ++ (left.now, times) ∷ (right.now, times) ∷ []) }
+    ensures { OnOk result (map counted pending.new.items ≡ map counted pending.old.items ++ (left.now, times) ∷ (right.now, times) ∷ []) }
 {
     push_uncounted(pending, left, times)?;
     push_uncounted(pending, right, times)
@@ -117,8 +114,7 @@ fn push_uncounted<'a>(
     assertion: &'a Assertion,
     times: u64,
 ) -> Result<(), AllocError>
-    ensures { OnOk result (map (λ part. (part.assertion.now, part.times)) pending.new.items
-        ≡ map (λ part. (part.assertion.now, part.times)) pending.old.items ++ (assertion.now, times) ∷ []) }
+    ensures { OnOk result (map counted pending.new.items ≡ map counted pending.old.items ++ (assertion.now, times) ∷ []) }
 {
     pending.push(Uncounted { assertion, times })?;
     Ok(())
