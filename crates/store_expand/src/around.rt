@@ -118,9 +118,6 @@ fn under(args: &Option<Rc<ArgList>>, depth: u32) -> Result<Around, AllocError>
             args: Some(shared.clone()?),
             depth,
         }),
-        None => Ok(Around {
-            args: None,
-            depth,
-        }),
+        None => Ok(Around { args: None, depth }),
     }
 }

@@ -90,11 +90,7 @@ fn make(
 }
 
 /// The assertion, which has no parts, with the arguments put in.
-fn make_leaf(
-    alloc: Global,
-    assertion: &Assertion,
-    around: &Around,
-) -> Result<Assertion, AllocError>
+fn make_leaf(alloc: Global, assertion: &Assertion, around: &Around) -> Result<Assertion, AllocError>
     requires { parts_of Assertion (out-Assertion assertion.now) ≡ [] }
     ensures { IfOk result (λ leaf. (before : List Assertion) →
         applied (form_at (assertion.now, standing around.now)) before ≡ Some (leaf ∷ before)) }

@@ -85,9 +85,8 @@ fn push_uncounted_parts<'a>(
 {
     match assertion {
         Assertion::Iff(left, right) => push_both(pending, left.get(), right.get(), 2 * times),
-        Assertion::And(left, right)
-        | Assertion::Or(left, right)
-        | Assertion::Imp(left, right) => push_both(pending, left.get(), right.get(), times),
+        Assertion::And(left, right) | Assertion::Or(left, right) | Assertion::Imp(left, right) =>
+            push_both(pending, left.get(), right.get(), times),
         Assertion::Not(inner)
         | Assertion::Ex(_, inner)
         | Assertion::All(_, inner)

@@ -45,7 +45,12 @@ fn quantified(alloc: Global, inner: Assertion) -> Result<Assertion, AllocError>
 fn used(alloc: Global, cell: Term, truth: Term) -> Result<Assertion, AllocError>
     ensures { IfOk result (λ a. a ≡ used_of cell truth) }
 {
-    let args = three(alloc, Arg::Cell(cell), Arg::Set(Base::Bound(0)), Arg::Truth(truth))?;
+    let args = three(
+        alloc,
+        Arg::Cell(cell),
+        Arg::Set(Base::Bound(0)),
+        Arg::Truth(truth),
+    )?;
     quantified(alloc, Assertion::Pred(0, args))
 }
 
@@ -87,6 +92,14 @@ fn names_bound_outside_count_the_quantifiers_of_the_body(rt: HostRuntime) -> Res
 
 #[test]
 fn paths_from_null_are_null_and_false(rt: HostRuntime) -> Result<(), Fail> {
-    assert!(rt; becomes(rt.alloc(), Term::Null, Term::Null, Term::Null, Assertion::False)?);
+    assert!(rt;
+        becomes(
+            rt.alloc(),
+            Term::Null,
+            Term::Null,
+            Term::Null,
+            Assertion::False
+        )?
+    );
     Ok(())
 }

@@ -10,7 +10,7 @@ use Rattle.store_expand.proofs.places.in_postfix.Given as goal
 abbrev pub invariant-loop-next : goal.invariant-loop-next
 invariant-loop-next l = record {
   whole : forms_of l.preds (map spot l.pending.items) ++ reverse (map form_at (map spot l.places.items)) ≡ postfix_of (expansion l.preds l.assertion);
-  right : AllRight l.preds (map spot l.pending.items)
+  right : AllRight l.preds (map spot l.pending.items);
 }
 
 abbrev pub decreases-loop-next : goal.decreases-loop-next

@@ -12,7 +12,7 @@ abbrev pub invariant-loop-next : goal.invariant-loop-next
 invariant-loop-next l = record {
   whole : l.size + total_size l.sizes (map counted l.pending.items) ≡ sized l.sizes l.assertion;
   small : l.size ≤ 65536;
-  often : AllByRecursion CountsOften (map counted l.pending.items)
+  often : AllByRecursion CountsOften (map counted l.pending.items);
 }
 
 abbrev pub decreases-loop-next : goal.decreases-loop-next
