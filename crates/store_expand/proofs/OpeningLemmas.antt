@@ -1,6 +1,6 @@
 -- What stands in the place of an assertion: a use's body expands to what the use does, and any other form is made of its parts.
-use Rattle.std.proofs.Common.{◌≡◌, ℕ, zero, suc, ◌+◌, ◌<◌, ◌≤◌, List, [], ◌∷◌, ◌++◌, length, map, flat_map, reverse, slice_get, Option, Some, None}
-use Rattle.std.proofs.Common.{IfSome, IsSomeAnd, unwrap_or, sym, refl, ap, ap₂, ◌∙◌, subst, arith}
+use Rattle.std.proofs.Common.{◌≡◌, ℕ, zero, suc, ◌+◌, ◌<◌, List, [], ◌∷◌, ◌++◌, length, map, flat_map, reverse, slice_get, Option, Some, None}
+use Rattle.std.proofs.Common.{IfSome, IsSomeAnd, unwrap_or, sym, refl, ap, ◌∙◌, subst, arith}
 use Rattle.std.specs.Prelude.{option_map, sum_by}
 use Rattle.std.specs.Option.{option_map_or}
 use Rattle.std.specs.List.{AllByRecursion}
@@ -14,10 +14,10 @@ use Rattle.store_logic.specs.declared.assertion.Assertion.TheVariants.{rolls-Ex,
 use Rattle.store_logic.specs.declared.assertion.Assertion.TheOpen.{Assertion-F}
 use Rattle.store_logic.specs.declared.assertion.Assertion.TheFolds.{ind-Assertion, map-Assertion, fold-roll-Assertion}
 use Rattle.store_logic.specs.declared.pred.PredDef.{PredDef}
-use Rattle.store_logic.specs.Filling.{args_for, filled_arg, filled, put_in}
+use Rattle.store_logic.specs.Filling.{args_for, filled, put_in}
 use Rattle.store_logic.specs.Expansion.{with_bodies, expanded_bodies}
 use Rattle.store_logic.specs.Postfix.{Form, parts_of, postfix_of, postfix_of_node, form_count_of_node}
-use Rattle.store_logic.specs.Uses.{NameUse, names_in, uses_in, IsGiven, IsRightUse, IsBodyAt, CanExpand}
+use Rattle.store_logic.specs.Uses.{names_in, uses_in, IsGiven, IsRightUse, IsBodyAt, CanExpand}
 use Rattle.store_logic.proofs.AssertionLemmas.{fold-True, fold-False, fold-Is, fold-Same, fold-Member, fold-Subset, fold-Walk, fold-Pred}
 use Rattle.store_logic.proofs.AssertionLemmas.{fold-Not, fold-And, fold-Or, fold-Imp, fold-Iff, fold-Ex, fold-All, fold-ExSet, fold-AllSet}
 use Rattle.store_logic.proofs.ExpandingForms.{bodies-True, bodies-False, bodies-Truth, bodies-Is, bodies-Same, bodies-Member, bodies-Subset, bodies-Walk}
@@ -29,7 +29,7 @@ use Rattle.store_logic.proofs.ExpandingTerms.{IsBoth}
 use Rattle.store_logic.proofs.ExpandingTwice.{through, filled-twice}
 use Rattle.store_logic.proofs.ExpandingBodies.{known-of}
 use Rattle.store_expand.specs.Standing.{Standing, in_body, put_args, put_whole}
-use Rattle.store_expand.specs.Opening.{Spot, expanded_at, body_of_node, body_there, inside, parts_there, form_of_node, form_at, steps_of_node, steps_with, body_steps, steps}
+use Rattle.store_expand.specs.Opening.{Spot, expanded_at, body_of_node, inside, form_of_node, steps_of_node, steps_with, body_steps}
 use Rattle.store_expand.proofs.ReadingLemmas.{IsBefore, read-at, length-bodies}
 use Rattle.store_expand.proofs.SpotLemmas.{stands, put_args-none, put_args-some, leaf-put_truth}
 use Rattle.store_expand.proofs.SpotLemmas.{put-True, put-False, put-Truth, put-Is, put-Same, put-Member, put-Subset, put-Walk, put-Pred}
@@ -72,7 +72,8 @@ module _ (preds : List PredDef) (bodies : List Assertion) (ends : (k : ℕ) → 
   split Assertion-F.False none = from _ _ _ rolls-False (onto _ _ _ (bodies-False bodies) (put-False o d)) (fold-False (List Form) postfix_of_node)
   split (Assertion-F.Truth t) none = from _ _ _ (rolls-Truth t) (onto _ _ _ (bodies-Truth bodies t) (put-Truth o d t)) (leaf-put_truth o d t).0
   split (Assertion-F.Is t v) none = from _ _ _ (rolls-Is t v) (onto _ _ _ (bodies-Is bodies t v) (put-Is o d t v)) (fold-Is (List Form) postfix_of_node _ v)
-  split (Assertion-F.Same t u) none = from _ _ _ (rolls-Same t u) (onto _ _ _ (bodies-Same bodies t u) (put-Same o d t u)) (fold-Same (List Form) postfix_of_node _ _)
+  split (Assertion-F.Same t u) none =
+      from _ _ _ (rolls-Same t u) (onto _ _ _ (bodies-Same bodies t u) (put-Same o d t u)) (fold-Same (List Form) postfix_of_node _ _)
   split (Assertion-F.Member t set) none =
       from _ _ _ (rolls-Member t set) (onto _ _ _ (bodies-Member bodies t set) (put-Member o d t set)) (fold-Member (List Form) postfix_of_node _ _)
   split (Assertion-F.Subset set other) none =
@@ -82,12 +83,17 @@ module _ (preds : List PredDef) (bodies : List Assertion) (ends : (k : ℕ) → 
   split (Assertion-F.Pred k xs) none =
       from _ _ _ (rolls-Pred k xs) (onto _ _ _ (no_body k xs none) (put-Pred o d k xs)) (fold-Pred (List Form) postfix_of_node k _)
   split (Assertion-F.Not a) none = from _ _ _ (rolls-Not a) (onto _ _ _ (bodies-Not bodies a) (put-Not o d _)) (fold-Not (List Form) postfix_of_node _)
-  split (Assertion-F.And a b) none = from _ _ _ (rolls-And a b) (onto _ _ _ (bodies-And bodies a b) (put-And o d _ _)) (fold-And (List Form) postfix_of_node _ _)
+  split (Assertion-F.And a b) none =
+      from _ _ _ (rolls-And a b) (onto _ _ _ (bodies-And bodies a b) (put-And o d _ _)) (fold-And (List Form) postfix_of_node _ _)
   split (Assertion-F.Or a b) none = from _ _ _ (rolls-Or a b) (onto _ _ _ (bodies-Or bodies a b) (put-Or o d _ _)) (fold-Or (List Form) postfix_of_node _ _)
-  split (Assertion-F.Imp a b) none = from _ _ _ (rolls-Imp a b) (onto _ _ _ (bodies-Imp bodies a b) (put-Imp o d _ _)) (fold-Imp (List Form) postfix_of_node _ _)
-  split (Assertion-F.Iff a b) none = from _ _ _ (rolls-Iff a b) (onto _ _ _ (bodies-Iff bodies a b) (put-Iff o d _ _)) (fold-Iff (List Form) postfix_of_node _ _)
-  split (Assertion-F.Ex ty a) none = from _ _ _ (rolls-Ex ty a) (onto _ _ _ (bodies-Ex bodies ty a) (put-Ex o d ty _)) (fold-Ex (List Form) postfix_of_node ty _)
-  split (Assertion-F.All ty a) none = from _ _ _ (rolls-All ty a) (onto _ _ _ (bodies-All bodies ty a) (put-All o d ty _)) (fold-All (List Form) postfix_of_node ty _)
+  split (Assertion-F.Imp a b) none =
+      from _ _ _ (rolls-Imp a b) (onto _ _ _ (bodies-Imp bodies a b) (put-Imp o d _ _)) (fold-Imp (List Form) postfix_of_node _ _)
+  split (Assertion-F.Iff a b) none =
+      from _ _ _ (rolls-Iff a b) (onto _ _ _ (bodies-Iff bodies a b) (put-Iff o d _ _)) (fold-Iff (List Form) postfix_of_node _ _)
+  split (Assertion-F.Ex ty a) none =
+      from _ _ _ (rolls-Ex ty a) (onto _ _ _ (bodies-Ex bodies ty a) (put-Ex o d ty _)) (fold-Ex (List Form) postfix_of_node ty _)
+  split (Assertion-F.All ty a) none =
+      from _ _ _ (rolls-All ty a) (onto _ _ _ (bodies-All bodies ty a) (put-All o d ty _)) (fold-All (List Form) postfix_of_node ty _)
   split (Assertion-F.ExSet ty a) none =
       from _ _ _ (rolls-ExSet ty a) (onto _ _ _ (bodies-ExSet bodies ty a) (put-ExSet o d ty _)) (fold-ExSet (List Form) postfix_of_node ty _)
   split (Assertion-F.AllSet ty a) none =
@@ -278,7 +284,8 @@ module _ (preds : List PredDef) (whole : Assertion) (can : CanExpand preds whole
     opens-node (Assertion-F.Walk t along u) h e = no e
     opens-node (Assertion-F.Pred k xs) h e = of (slice_get preds k) refl e
       where
-        of : (found : Option PredDef) → slice_get preds k ≡ found → option_map {U = Spot} (λ p. (p.body, in_body (put_args (stands o d) xs))) found ≡ Some body →
+        of : (found : Option PredDef) → slice_get preds k ≡ found →
+            option_map {U = Spot} (λ p. (p.body, in_body (put_args (stands o d) xs))) found ≡ Some body →
             Opens (roll-Assertion (Assertion-F.Pred k xs)) (stands o d) body
         of None at e = no e
         of (Some p) at e =

@@ -1,6 +1,6 @@
 -- Folds over assertions that read a list at the uses of predicates: they need no more of the list than the assertion uses, so the
 -- body of each predicate of a list is read alike by the list up to it and by the whole.
-use Rattle.std.proofs.Common.{◌≡◌, ◌≢◌, ◌==◌, ℕ, ◌+◌, zero, suc, ◌<◌, ◌≤◌, Bool, true, false, Option, Some, None, List, [], ◌∷◌, ◌++◌, length, reverse, slice_get}
+use Rattle.std.proofs.Common.{◌≡◌, ◌≢◌, ◌==◌, ℕ, zero, suc, ◌<◌, ◌≤◌, Bool, true, false, Option, Some, List, [], ◌∷◌, ◌++◌, length, reverse, slice_get}
 use Rattle.std.proofs.Common.{sym, refl, ap, ap₂, ◌∙◌, subst, arith, append_assoc, append-nil, eqb-true}
 use Rattle.std.specs.List.{AllByRecursion}
 use Rattle.std.proofs.lemmas.Bool.{eqb-false}
@@ -125,7 +125,8 @@ module _ {X : Type 0} (use_of : Option X → ℕ → List Arg → X) (plain : As
     read-first [] are k p inside at = absurd (omega arith)
     read-first (q ∷ earlier) are k p inside at = of (λ below. read-first earlier are.1 k p below at) (k == length earlier) refl
       where
-        of : (k < length earlier → IsRead earlier k p) → (same : Bool) → (k == length earlier) ≡ same → slice_get (bodies earlier ++ read (bodies earlier) q.body ∷ []) k
+        of : (k < length earlier → IsRead earlier k p) → (same : Bool) → (k == length earlier) ≡ same →
+            slice_get (bodies earlier ++ read (bodies earlier) q.body ∷ []) k
             ≡ Some (read (bodies earlier ++ read (bodies earlier) q.body ∷ []) p.body)
         of rest true is =
             let place : k ≡ length earlier = eqb-true k (length earlier) is in

@@ -1,5 +1,6 @@
 -- The loop that counts an assertion.
-use Rattle.std.proofs.Common.{◌≡◌, ℕ, zero, suc, ◌+◌, ◌*◌, ◌<◌, ◌≤◌, lit≤, unwrap_or, slice_get, List, [], ◌∷◌, ◌++◌, length, map, reverse, take, get_or, sym, refl, ap, ap₂, ◌∙◌, subst, subst₂, arith}
+use Rattle.std.proofs.Common.{◌≡◌, ℕ, zero, suc, ◌+◌, ◌*◌, ◌<◌, ◌≤◌, lit≤, unwrap_or, slice_get}
+use Rattle.std.proofs.Common.{List, [], ◌∷◌, ◌++◌, length, map, reverse, take, get_or, sym, refl, ap, ap₂, ◌∙◌, subst, subst₂, arith}
 use Rattle.std.specs.Prelude.{sum_by}
 use Rattle.std.specs.List.{AllByRecursion}
 use Rattle.std.proofs.lemmas.List.{take_more, reverse-append, map_push}

@@ -1,11 +1,11 @@
 -- One step of the walk through what predicates are put into: it keeps the forms of the whole, and lowers the steps that are left.
-use Rattle.std.proofs.Common.{◌≡◌, ℕ, ◌+◌, ◌<◌, List, [], ◌∷◌, ◌++◌, length, map, flat_map, reverse, Option, Some, None}
+use Rattle.std.proofs.Common.{◌≡◌, ℕ, ◌+◌, ◌<◌, List, [], ◌∷◌, ◌++◌, map, flat_map, reverse, Option, Some, None}
 use Rattle.std.proofs.Common.{sym, refl, ap, ap₂, ◌∙◌, subst, subst₂, arith, append_assoc, append-nil}
 use Rattle.std.specs.Prelude.{sum_by}
 use Rattle.std.specs.Option.{option_map_or}
 use Rattle.std.specs.List.{AllByRecursion}
 use Rattle.std.proofs.lemmas.Grind.{flat_map-append}
-use Rattle.std.proofs.lemmas.List.{map-append, map_push, reverse-append}
+use Rattle.std.proofs.lemmas.List.{map_push, reverse-append}
 use Rattle.std.proofs.lemmas.List.Sums.{sum_by-append, sum_by-cons, sum_by_push}
 use Rattle.store_logic.specs.declared.assertion.Assertion.{Assertion, out-Assertion}
 use Rattle.store_logic.specs.declared.pred.PredDef.{PredDef}
@@ -14,7 +14,7 @@ use Rattle.store_logic.specs.Postfix.{Form, parts_of, postfix_of}
 use Rattle.store_logic.specs.Uses.{CanExpand}
 use Rattle.store_logic.proofs.ExpandingLists.{all-append, all-first, all-second}
 use Rattle.store_expand.specs.Standing.{Standing}
-use Rattle.store_expand.specs.Opening.{Spot, expanded_at, body_there, inside, parts_there, form_at, stepped, steps_with, body_steps, steps}
+use Rattle.store_expand.specs.Opening.{Spot, expanded_at, body_there, inside, parts_there, form_at, stepped, body_steps, steps}
 use Rattle.store_expand.specs.declared.places.Place.{Place}
 use Rattle.store_expand.specs.Places.{spot, form_there}
 use Rattle.store_expand.proofs.OpeningLemmas.{Right, forms-split, parts-right, parts-steps, Opens, opens, ends}
@@ -57,7 +57,8 @@ module _ (preds : List PredDef) where
 
     parts : body_there preds next ≡ None → IsStep next pending forms (pending ++ parts_there next, forms ++ next ∷ [])
     parts none = record {
-      same = ap₂ (λ (l r : List Form). l ++ r) (flat_map-append (λ at. postfix_of (expanded_at (expanded_bodies (reverse preds)) at)) pending (parts_there next))
+      same = ap₂ (λ (l r : List Form). l ++ r)
+          (flat_map-append (λ at. postfix_of (expanded_at (expanded_bodies (reverse preds)) at)) pending (parts_there next))
           (ap reverse (map_push form_at forms next) ∙ reverse-append (map form_at forms) (form_at next ∷ []))
           ∙ joined (forms_of pending) (forms_of (parts_there next)) (form_at next) (reverse (map form_at forms))
           (postfix_of (expanded_at (expanded_bodies (reverse preds)) next))

@@ -1,6 +1,6 @@
 -- What stands in the place of an assertion while predicates are put in: for a predicate's use its body, for any other form the
 -- form with the arguments put in, after its parts.
-use Rattle.std.specs.Prelude.{ℕ, ◌+◌, List, [], ◌∷◌, ◌++◌, map, slice_get, Option, Some, None, option_map, unwrap_or, sum_by, reverse}
+use Rattle.std.specs.Prelude.{ℕ, ◌+◌, List, [], ◌∷◌, ◌++◌, map, slice_get, Option, None, option_map, unwrap_or, reverse}
 use Rattle.std.specs.Option.{option_map_or}
 use Rattle.store_logic.specs.declared.assertion.Assertion.{Assertion, out-Assertion}
 use Rattle.store_logic.specs.declared.assertion.Assertion.TheOpen.{Assertion-F}

@@ -1,5 +1,5 @@
 -- The places of the code as contracts see them.
-use Rattle.std.specs.Prelude.{List, option_map}
+use Rattle.std.specs.Prelude.{option_map}
 use Rattle.store_logic.specs.Postfix.{Form}
 use Rattle.store_expand.specs.declared.around.Around.{Around}
 use Rattle.store_expand.specs.declared.places.Place.{Place}

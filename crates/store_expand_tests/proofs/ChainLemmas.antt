@@ -7,49 +7,8 @@ use Rattle.store_logic.specs.declared.assertion.Assertion.{Assertion}
 use Rattle.store_logic.specs.declared.assertion.Assertion.TheVariants as assertion
 use Rattle.store_logic.specs.declared.pred.PredDef.{PredDef}
 use Rattle.store_logic.specs.Uses.{NameUse, names_in, uses_in, IsGiven, IsOwn, IsRightUse, IsBodyAt, CanExpand}
-use Rattle.store_logic.proofs.ExpandingForms.{names-True, names-Pred, names-Not, names-And, uses-True, uses-Pred, uses-Not, uses-And}
+use Rattle.store_logic.proofs.ExpandingForms.{uses-Pred}
 use Rattle.store_expand_tests.specs.Chains.{UsesBefore, IsLink, IsChain}
-
--- ---- links
-
-pub link-True : IsLink 0 (record { params = 0; body = assertion.True })
-link-True = record { params = refl; names = names-True 0; uses = subst (AllByRecursion (UsesBefore 0)) (sym uses-True) tt }
-
-pub link-Not : (k : ℕ) → IsLink (k + 1) (record { params = 0; body = assertion.Not (assertion.Pred k []) })
-link-Not k = record {
-  params = refl;
-  names = names-Not (assertion.Pred k []) 0 ∙ names-Pred k [] 0;
-  uses = subst (AllByRecursion (UsesBefore (k + 1))) (sym (uses-Not (assertion.Pred k []) ∙ uses-Pred k [])) ((omega arith, refl), tt);
-}
-
-pub link-And : (k : ℕ) → IsLink (k + 1) (record { params = 0; body = assertion.And (assertion.Pred k []) (assertion.Pred k []) })
-link-And k = record {
-  params = refl;
-  names = names-And (assertion.Pred k []) (assertion.Pred k []) 0
-      ∙ ap (λ (l : List NameUse). l ++ l) (names-Pred k [] 0);
-  uses = subst (AllByRecursion (UsesBefore (k + 1))) (sym (uses-And (assertion.Pred k []) (assertion.Pred k [])
-      ∙ ap (λ (l : List (ℕ × List Arg)). l ++ l) (uses-Pred k []))) ((omega arith, refl), ((omega arith, refl), tt));
-}
-
--- ---- chains
-
-pub chain-none : IsChain []
-chain-none k = tt
-
--- one link more
-pub chain-push : (preds : List PredDef) (p : PredDef) → IsChain preds → IsLink (length preds) p → IsChain (preds ++ p ∷ [])
-chain-push preds p chain link k = of preds 0 k (λ j. chain j) link
-  where
-    -- links that begin at a place
-    of : (l : List PredDef) (from k : ℕ) → ((j : ℕ) → IfSome (slice_get l j) (IsLink (from + j))) → IsLink (from + length l) p →
-        IfSome (slice_get (l ++ p ∷ []) k) (IsLink (from + k))
-    of [] from zero all last = last
-    of [] from (suc k) all last = tt
-    of (q ∷ l) from zero all last = all 0
-    of (q ∷ l) from (suc k) all last =
-        subst (λ (n : ℕ). IfSome (slice_get (l ++ p ∷ []) k) (IsLink n)) (let same : suc from + k ≡ from + suc k = omega arith in same)
-        (of l (suc from) k (λ j. subst (λ (n : ℕ). IfSome (slice_get l j) (IsLink n)) (let same : from + suc j ≡ suc from + j = omega arith in same) (all (suc j)))
-        (subst (λ (n : ℕ). IsLink n p) (let same : from + suc (length l) ≡ suc from + length l = omega arith in same) last))
 
 module _ (preds : List PredDef) (chain : IsChain preds) where
   found : (k : ℕ) → k < length preds → (p : PredDef) × (slice_get preds k ≡ Some p)

@@ -12,22 +12,21 @@ use Rattle.store_logic.specs.declared.pred.PredDef.{PredDef}
 use Rattle.store_logic.specs.Uses.{NameUse, term_names, set_name, names_in, uses_in, IsGiven, IsOwn, IsRightUse, IsBodyAt, CanExpand}
 use Rattle.store_logic.proofs.ExpandingForms.{names-Ex, names-All, names-And, names-Same, names-Member, names-Truth}
 use Rattle.store_logic.proofs.ExpandingForms.{uses-Ex, uses-ExSet, uses-All, uses-And, uses-Same, uses-Member, uses-Truth, uses-Pred}
-use Rattle.store_expand_tests.specs.declared.TheConstants.{NODE, NEXT}
-use Rattle.store_expand_tests.specs.Uses.{related_def, used_of}
+use Rattle.store_expand_tests.specs.Uses.{node, next, related_def, used_of}
 
 abbrev own_names : List NameUse
 own_names =
-    ((term_names class.Reference (term.At (base.Param 0) (NEXT ∷ [])) 2 ++ term_names class.Reference (term.At (base.Bound 1) []) 2)
+    ((term_names class.Reference (term.At (base.Param 0) (next ∷ [])) 2 ++ term_names class.Reference (term.At (base.Bound 1) []) 2)
     ++ (term_names class.Reference (term.At (base.Bound 0) []) 2 ++ set_name (base.Param 1) 2))
     ++ term_names class.Truth (term.At (base.Param 2) []) 2
 
 names-related : names_in related_def.body ≡ own_names
-names-related = names-Ex NODE _ 0 ∙ names-All NODE _ 1 ∙ names-And _ _ 2
+names-related = names-Ex node _ 0 ∙ names-All node _ 1 ∙ names-And _ _ 2
     ∙ ap₂ (λ (l r : List NameUse). l ++ r) (names-And _ _ 2 ∙ ap₂ (λ (l r : List NameUse). l ++ r) (names-Same _ _ 2) (names-Member _ _ 2))
     (names-Truth _ 2)
 
 uses-related : uses_in related_def.body ≡ []
-uses-related = uses-Ex NODE _ ∙ uses-All NODE _ ∙ uses-And _ _
+uses-related = uses-Ex node _ ∙ uses-All node _ ∙ uses-And _ _
     ∙ ap₂ (λ (l r : List (ℕ × List Arg)). l ++ r) (uses-And _ _ ∙ ap₂ (λ (l r : List (ℕ × List Arg)). l ++ r) (uses-Same _ _) (uses-Member _ _))
     (uses-Truth _)
 
@@ -52,6 +51,6 @@ module _ (cell truth : Term) where
   pub can-relate : CanExpand (related_def ∷ []) (used_of cell truth)
   can-relate = record {
     bodies = bodies;
-    uses = subst (AllByRecursion (IsRightUse (related_def ∷ []) 1)) (sym (uses-Ex NODE _ ∙ uses-ExSet NODE _ ∙ uses-Pred 0 args))
+    uses = subst (AllByRecursion (IsRightUse (related_def ∷ []) 1)) (sym (uses-Ex node _ ∙ uses-ExSet node _ ∙ uses-Pred 0 args))
         (record { among = omega arith; args = (refl, subst (AllByRecursion (IsGiven args)) (sym names-related) related-given) }, tt);
   }

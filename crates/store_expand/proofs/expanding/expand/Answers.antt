@@ -1,11 +1,7 @@
 use Rattle.std.proofs.Common.{◌≡◌, ℕ, ◌≤◌, ◌↔◌, List, [], map, reverse, sym, ap, ◌∙◌, subst, arith}
 use Rattle.std.specs.List.{AllByRecursion}
-use Rattle.store_core.specs.Tables.{TypeEntry, VarEntry}
-use Rattle.store_core.specs.Stores.{StoreMap}
 use Rattle.store_logic.specs.declared.assertion.Assertion.{Assertion}
 use Rattle.store_logic.specs.declared.pred.PredDef.{PredDef}
-use Rattle.store_logic.specs.declared.region.Region.{Region}
-use Rattle.store_logic.specs.Terms.{Environment}
 use Rattle.store_logic.specs.Satisfaction.{Sat}
 use Rattle.store_logic.specs.Sizes.{node_count}
 use Rattle.store_logic.specs.Expansion.{expanded_bodies, expansion}
@@ -44,12 +40,15 @@ returns-clause-small c =
     (c.as_slice-2.ensures.value ∙ c.in_ok-sizes.ensures ∙ ap sizes_of c.as_slice.ensures) c.in_ok-size_with.ensures in
     let small : node_count (expansion c.args.preds.now c.args.assertion.now) ≤ 65536 = omega (arith, is, c.if-branch-gt-MAX_NODES.false) in
     subst (λ (a : Assertion). node_count a ≤ 65536)
-    (sym (expanded-is c.as_slice-3.result.now c.args.preds.now c.args.assertion.now c.in_ok-expanded.expanded c.as_slice-3.ensures c.in_ok-expanded.ensures)) small
+    (sym (expanded-is c.as_slice-3.result.now c.args.preds.now c.args.assertion.now c.in_ok-expanded.expanded c.as_slice-3.ensures
+    c.in_ok-expanded.ensures))
+    small
 
 pub returns-clause-sound : goal.returns-clause-sound
 returns-clause-sound c = λ types vars s on e.
     subst (λ (a : Assertion). Sat types vars c.args.preds.now s on e c.args.assertion.now ↔ Sat types vars [] s on e a)
-    (sym (expanded-is c.as_slice-3.result.now c.args.preds.now c.args.assertion.now c.in_ok-expanded.expanded c.as_slice-3.ensures c.in_ok-expanded.ensures))
+    (sym (expanded-is c.as_slice-3.result.now c.args.preds.now c.args.assertion.now c.in_ok-expanded.expanded c.as_slice-3.ensures
+    c.in_ok-expanded.ensures))
     (Sat-expansion types vars c.args.preds.now s on e c.args.assertion.now c.requires)
 
 pub returns-clause-whole : goal.returns-clause-whole

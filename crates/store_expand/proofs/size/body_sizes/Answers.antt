@@ -1,4 +1,4 @@
-use Rattle.std.proofs.Common.{◌≡◌, ◌≤◌, ◌∷◌, [], ◌++◌, map, reverse, take, sym, ap, ◌∙◌, subst, List, ℕ}
+use Rattle.std.proofs.Common.{◌≤◌, reverse, take, sym, ap, ◌∙◌, subst, List, ℕ}
 use Rattle.std.specs.List.{AllByRecursion}
 use Rattle.store_logic.specs.Expansion.{expanded_bodies}
 use Rattle.store_logic.specs.ExpandingSizes.{sized, capped}

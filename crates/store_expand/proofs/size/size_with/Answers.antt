@@ -1,4 +1,4 @@
-use Rattle.std.proofs.Common.{◌≡◌, ◌≤◌, ◌+◌, ◌*◌, ◌∙◌, arith}
+use Rattle.std.proofs.Common.{◌∙◌, arith}
 use Rattle.store_expand.proofs.SizeLemmas.{often-last, adds-fits, whole-more, counts}
 use Rattle.store_expand.proofs.size.size_with.Goals as goal
 

@@ -1,7 +1,5 @@
 use Rattle.std.proofs.Common.{◌≡◌, ◌+◌, ◌≤◌, map}
-use Rattle.std.specs.Prelude.{sum_by}
 use Rattle.std.specs.List.{AllByRecursion}
-use Rattle.store_logic.specs.Postfix.{form_count}
 use Rattle.store_logic.specs.ExpandingSizes.{sized, total_size}
 use Rattle.store_expand.specs.Counting.{counted}
 use Rattle.store_expand.proofs.SizeLemmas.{CountsOften, forms_left}
