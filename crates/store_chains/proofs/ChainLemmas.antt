@@ -1,12 +1,11 @@
 -- Predicates of chains can be put in.
-use Rattle.std.proofs.Common.{◌≡◌, ℕ, zero, suc, ◌+◌, ◌<◌, ◌≤◌, List, [], ◌∷◌, ◌++◌, length, slice_get, Option, Some, None, IfSome, IsSomeAnd}
+use Rattle.std.proofs.Common.{◌≡◌, ℕ, zero, suc, ◌<◌, ◌≤◌, List, [], ◌∷◌, length, slice_get, Option, Some, None, IfSome, IsSomeAnd}
 use Rattle.std.proofs.Common.{sym, refl, ap, ◌∙◌, subst, arith}
 use Rattle.std.specs.List.{AllByRecursion}
 use Rattle.store_logic.specs.declared.arg.Arg.{Arg}
-use Rattle.store_logic.specs.declared.assertion.Assertion.{Assertion}
 use Rattle.store_logic.specs.declared.assertion.Assertion.TheVariants as assertion
 use Rattle.store_logic.specs.declared.pred.PredDef.{PredDef}
-use Rattle.store_logic.specs.Uses.{NameUse, names_in, uses_in, IsGiven, IsOwn, IsRightUse, IsBodyAt, CanExpand}
+use Rattle.store_logic.specs.Uses.{names_in, uses_in, IsGiven, IsOwn, IsRightUse, IsBodyAt, CanExpand}
 use Rattle.store_logic.proofs.ExpandingForms.{uses-Pred}
 use Rattle.store_chains.specs.Chains.{UsesBefore, IsLink, IsChain}
 

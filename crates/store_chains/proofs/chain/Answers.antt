@@ -1,4 +1,4 @@
-use Rattle.std.proofs.Common.{◌≡◌, ◌<◌, length, arith}
+use Rattle.std.proofs.Common.{◌<◌, length, arith}
 use Rattle.store_chains.proofs.ChainLemmas.{can-expand}
 use Rattle.store_chains.proofs.chain.Goals as goal
 
