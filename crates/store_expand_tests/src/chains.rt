@@ -1,54 +1,15 @@
 //! Predicates that each use the one before.
 
-ghost use Rattle.std.specs.Prelude.{◌≡◌, ◌+◌, ◌<◌, [], length, IfOk};
-ghost use Rattle.store_expand_tests.specs.Chains.{IsLink, IsChain};
-
-use crate::made::{and, not};
-use std::alloc::{AllocError, Global};
+use std::alloc::Global;
 use std::test::Fail;
+use store_chains::{chain, used};
 use store_expand::{ExpandFault, expand};
-use store_logic::{ArgList, Assertion, PredDef, Preds};
-
-/// A predicate without arguments.
-fn call(alloc: Global, k: u32) -> Assertion
-    ensures { result ≡ Assertion.Pred k [] }
-{
-    Assertion::Pred(k, ArgList::new(alloc))
-}
-
-/// That the last predicate holds, or that it doesn't.
-fn used(alloc: Global, last: u32, twice: bool) -> Result<PredDef, AllocError>
-    ensures { IfOk result (IsLink (last + 1)) }
-{
-    let used = call(alloc, last);
-    let body = if twice {
-        and(alloc, used, call(alloc, last))?
-    } else {
-        not(alloc, used)?
-    };
-    Ok(PredDef { params: 0, body })
-}
-
-/// A predicate that holds, and so many more that each use the one before.
-fn chain(alloc: Global, more: u32, twice: bool) -> Result<Preds, AllocError>
-    ensures links { IfOk result IsChain }
-    ensures long { IfOk result (λ preds. length preds ≡ more + 1) }
-{
-    let mut preds = Preds::new(alloc);
-    preds.push(PredDef {
-        params: 0,
-        body: Assertion::True,
-    })?;
-    for last in 0..more {
-        preds.push(used(alloc, last, twice)?)?;
-    }
-    Ok(preds)
-}
+use store_logic::Assertion;
 
 /// The last predicate of such a chain, put in.
 fn expanded(alloc: Global, more: u32, twice: bool) -> Result<Assertion, ExpandFault> {
     let preds = chain(alloc, more, twice)?;
-    let last = call(alloc, more);
+    let last = used(alloc, more);
     expand(alloc, &preds, &last)
 }
 

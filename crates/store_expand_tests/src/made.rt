@@ -1,7 +1,6 @@
 //! Assertions made by hand.
 
 ghost use Rattle.std.specs.Prelude.{◌≡◌, [], ◌∷◌, IfOk};
-ghost use Rattle.store_logic.specs.declared.assertion.Assertion.{Assertion};
 
 use plain_data::Boxed;
 use std::alloc::{AllocError, Global};
@@ -26,12 +25,6 @@ pub(crate) fn field(alloc: Global, base: Base, field: FieldId) -> Result<Term, A
     ensures { IfOk result (λ term. term ≡ Term.At base (field ∷ [])) }
 {
     Ok(Term::At(base, FieldList::from_slice(alloc, &[field])?))
-}
-
-pub(crate) fn not(alloc: Global, inner: Assertion) -> Result<Assertion, AllocError>
-    ensures { IfOk result (λ a. a ≡ Assertion.Not inner) }
-{
-    Ok(Assertion::Not(Boxed::new(alloc, inner)?))
 }
 
 pub(crate) fn and(alloc: Global, left: Assertion, right: Assertion) -> Result<Assertion, AllocError>
