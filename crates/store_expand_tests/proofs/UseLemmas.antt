@@ -1,5 +1,5 @@
 -- The predicate of a cell, a set and a truth value can be put into its use.
-use Rattle.std.proofs.Common.{◌≡◌, ℕ, zero, suc, ◌<◌, List, [], ◌∷◌, ◌++◌, sym, refl, ap₂, ◌∙◌, subst, arith, slice_get, IfSome}
+use Rattle.std.proofs.Common.{◌≡◌, ℕ, zero, suc, List, [], ◌∷◌, ◌++◌, sym, refl, ap₂, ◌∙◌, subst, arith, slice_get, IfSome}
 use Rattle.std.specs.List.{AllByRecursion}
 use Rattle.store_core.specs.declared.value.Class.TheVariants as class
 use Rattle.store_logic.specs.declared.term.Base.TheVariants as base
@@ -7,8 +7,6 @@ use Rattle.store_logic.specs.declared.term.Term.{Term}
 use Rattle.store_logic.specs.declared.term.Term.TheVariants as term
 use Rattle.store_logic.specs.declared.arg.Arg.{Arg}
 use Rattle.store_logic.specs.declared.arg.Arg.TheVariants as arg
-use Rattle.store_logic.specs.declared.assertion.Assertion.TheVariants as assertion
-use Rattle.store_logic.specs.declared.pred.PredDef.{PredDef}
 use Rattle.store_logic.specs.Uses.{NameUse, term_names, set_name, names_in, uses_in, IsGiven, IsOwn, IsRightUse, IsBodyAt, CanExpand}
 use Rattle.store_logic.proofs.ExpandingForms.{names-Ex, names-All, names-And, names-Same, names-Member, names-Truth}
 use Rattle.store_logic.proofs.ExpandingForms.{uses-Ex, uses-ExSet, uses-All, uses-And, uses-Same, uses-Member, uses-Truth, uses-Pred}

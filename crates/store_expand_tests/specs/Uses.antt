@@ -1,5 +1,5 @@
 -- A predicate of a cell, a set and a truth value, and a use of it.
-use Rattle.std.specs.Prelude.{List, [], ◌∷◌}
+use Rattle.std.specs.Prelude.{[], ◌∷◌}
 use Rattle.store_core.specs.declared.ids.TypeId.{TypeId}
 use Rattle.store_core.specs.declared.ids.FieldId.{FieldId}
 use Rattle.store_logic.specs.declared.term.Base.{Base}
