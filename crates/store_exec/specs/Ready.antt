@@ -1,0 +1,33 @@
+-- When an act can be executed: what it names is known, what it writes is of the class of the place, and there is room for its
+-- new cells.
+use Rattle.std.specs.Prelude.{◌≡◌, ◌+◌, ◌<◌, ◌≤◌, ℕ, List, [], ◌∷◌, sum_by, IfSome, IsSomeAnd, Result, Ok, Err, Some, MatchResult}
+use Rattle.store_core.specs.declared.ids.VarId.{VarId}
+use Rattle.store_core.specs.declared.ids.FieldId.{FieldId}
+use Rattle.store_core.specs.declared.value.Value.{Value}
+use Rattle.store_core.specs.Tables.{TypeEntry, VarEntry, KnowsVariant}
+use Rattle.store_core.specs.Stores.{StoreMap, Fits, IsFresh, class_of, field_value, var_value}
+use Rattle.store_logic.specs.declared.path.Path.{Path}
+use Rattle.store_logic.specs.declared.act.Rhs.{Rhs}
+use Rattle.store_logic.specs.declared.act.Rhs.TheVariants as rhs
+use Rattle.store_logic.specs.declared.act.Act.{Act}
+use Rattle.store_logic.specs.declared.act.Act.TheVariants as act
+use Rattle.store_logic.specs.Terms.{cell_in}
+use Rattle.store_exec.specs.Steps.{evaluated, variable, last_step}
+
+-- a new cell is of a known variant, and its number is one that a u32 counts past
+abbrev pub IsKnownRhs : List TypeEntry → StoreMap → Rhs → Type 0
+IsKnownRhs types s (rhs.Cell p) = Unit {0}
+IsKnownRhs types s (rhs.New v) = KnowsVariant types v × (s.next < 4294967295)
+IsKnownRhs types s (rhs.Truth c) = Unit {0}
+
+-- what is assigned is of the class of what stands at the place before
+abbrev pub TakesClassAt : List TypeEntry → StoreMap → VarId → List FieldId → Rhs → Type 0
+TakesClassAt types s v [] x =
+    (t : StoreMap) (y : Value) → evaluated types s x ≡ Ok (t, y) → IsSomeAnd (var_value t v) (λ old. class_of y ≡ class_of old)
+TakesClassAt types s v (f ∷ fields) x =
+    (t : StoreMap) (y : Value) → evaluated types s x ≡ Ok (t, y) → (through : Value) (last : FieldId) →
+    last_step s (variable s v) f fields ≡ Ok (through, last) →
+    IfSome (cell_in through) (λ c. IfSome (field_value t c last) (λ old. class_of y ≡ class_of old))
+
+abbrev pub TakesClass : List TypeEntry → StoreMap → Path → Rhs → Type 0
+TakesClass types s p x = TakesClassAt types s p.var p.fields x

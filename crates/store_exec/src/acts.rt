@@ -1,0 +1,94 @@
+//! Acts on a store.
+
+ghost use Rattle.std.specs.Prelude.{◌≡◌, ◌<◌, ◌+◌, ℕ, IfSome, OnOk, Some, Contains};
+ghost use Rattle.store_core.specs.declared.ids.CellId.{CellId};
+ghost use Rattle.store_core.specs.declared.value.Value.{Value};
+ghost use Rattle.store_core.specs.declared.value.Value.TheVariants as value;
+ghost use Rattle.store_core.specs.Stores.{class_of, field_value, var_value};
+ghost use Rattle.store_logic.specs.Terms.{null, cell_in};
+ghost use Rattle.store_exec.specs.Steps as steps;
+ghost use Rattle.store_exec.specs.Steps.{assigned, variable, Step};
+ghost use Rattle.store_exec.specs.Conditions.{IsToldBy, Leads};
+ghost use Rattle.store_exec.specs.Ready.{IsKnownRhs, TakesClass};
+
+use crate::cause::Cause;
+use crate::halt::Halt;
+use crate::reading::{cell_through, operand_value, read_along, variable};
+use crate::truth::{cell_of, truth};
+use std::alloc::Global;
+use store_core::{CellId, FieldId, Store, TypeTable, Value};
+use store_logic::{Act, Path, Rhs};
+
+/// The value of what is assigned. A new cell is made in the store.
+fn evaluate(
+    alloc: Global,
+    types: &TypeTable,
+    nothing: &Value,
+    rhs: &Rhs,
+    store: &mut Store,
+) -> Result<Value, Halt>
+    requires nothing { nothing.now ≡ null }
+    requires known { IsKnownRhs types.now store.old rhs.now }
+    ensures { IsToldBy (λ x. (store.new, x)) (steps.evaluated types.now store.old rhs.now) result }
+{
+    match rhs {
+        Rhs::Cell(operand) => Ok(operand_value(store, nothing, operand)?.copy(alloc)?),
+        Rhs::New(variant) => Ok(Value::Cell(Some(store.put_cell(types, *variant)?))),
+        Rhs::Truth(cond) => Ok(Value::Bool(truth(alloc, store, nothing, cond)?)),
+    }
+}
+
+/// Stores a value in a field of what is written through, which has a field of its class or none.
+fn write(store: &mut Store, through: Option<CellId>, field: FieldId, value: Value) -> Result<(), Halt>
+    requires { IfSome through (λ c. IfSome (field_value store.old c field) (λ old. class_of value ≡ class_of old)) }
+    ensures { Leads store.new (steps.written store.old (value.Cell through) field value) result }
+{
+    let cell = cell_through(store, &Value::Cell(through))?;
+    if store.field(cell, field).is_none() {
+        return Err(Halt::Fails(Cause::Variant));
+    }
+    store.set_field(cell, field, value);
+    Ok(())
+}
+
+/// Assigns to a place: its cells but the last step are read, then what is assigned, and then the place is written.
+fn assign(
+    alloc: Global,
+    types: &TypeTable,
+    nothing: &Value,
+    place: &Path,
+    rhs: &Rhs,
+    store: &mut Store,
+) -> Result<(), Halt>
+    requires nothing { nothing.now ≡ null }
+    requires known { IsKnownRhs types.now store.old rhs.now }
+    requires class { TakesClass types.now store.old place.now rhs.now }
+    ensures { Leads store.new (assigned types.now store.old place.now.var place.now.fields rhs.now) result }
+{
+    match place.fields.as_slice().split_last() {
+        None => {
+            let value = evaluate(alloc, types, nothing, rhs, store)?;
+            store.set_var(place.var, value);
+            Ok(())
+        }
+        Some((last, before)) => {
+            let through = cell_of(read_along(store, variable(store, nothing, place.var), before)?);
+            let value = evaluate(alloc, types, nothing, rhs, store)?;
+            write(store, through, *last, value)
+        }
+    }
+}
+
+/// Frees the cell that a value is.
+fn free(store: &mut Store, value: Option<CellId>) -> Result<(), Halt>
+    ensures { Leads store.new (steps.freed store.old (value.Cell value)) result }
+{
+    let Some(cell) = value else {
+        return Err(Halt::Fails(Cause::Null));
+    };
+    if store.type_of(cell).is_none() {
+        return Err(Halt::Fails(Cause::DoubleFree));
+    }
+    store.remove(cell);
+    Ok(())
+}

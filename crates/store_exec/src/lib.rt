@@ -1,0 +1,21 @@
+//! Execution of loop-free code on stores, what holds at a cut point, and which stores meet a triple.
+//!
+//! `specs/Steps.antt` says what one act does to a store, `specs/Runs.antt` where a code leads, `specs/Cuts.antt` which cause a cut
+//! has, and `specs/Failing.antt` which stores meet a triple and how they fail.
+#![tactic(auto)]
+
+mod acts;
+mod cause;
+mod code;
+mod halt;
+mod laws;
+mod outcome;
+mod reading;
+mod triple;
+mod truth;
+
+pub use cause::Cause;
+pub use code::{Code, Item, ItemList, Tail};
+pub use laws::acts_keep_stores_fitting;
+pub use outcome::Outcome;
+pub use triple::{Claim, ClaimList, Cut, CutList, Start, Triple};
