@@ -1,3 +1,4 @@
 pub mod SortLemmas
 pub mod KeepLemmas
 pub mod TruthLemmas
+pub mod PlaceLemmas

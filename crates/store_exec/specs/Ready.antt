@@ -4,6 +4,7 @@ use Rattle.std.specs.Prelude.{◌≡◌, ◌+◌, ◌<◌, ◌≤◌, ℕ, List,
 use Rattle.store_core.specs.declared.ids.VarId.{VarId}
 use Rattle.store_core.specs.declared.ids.FieldId.{FieldId}
 use Rattle.store_core.specs.declared.value.Value.{Value}
+use Rattle.store_core.specs.declared.value.Value.TheVariants as value
 use Rattle.store_core.specs.Tables.{TypeEntry, VarEntry, KnowsVariant}
 use Rattle.store_core.specs.Stores.{StoreMap, Fits, IsFresh, class_of, field_value, var_value}
 use Rattle.store_logic.specs.declared.path.Path.{Path}
@@ -12,7 +13,8 @@ use Rattle.store_logic.specs.declared.act.Rhs.TheVariants as rhs
 use Rattle.store_logic.specs.declared.act.Act.{Act}
 use Rattle.store_logic.specs.declared.act.Act.TheVariants as act
 use Rattle.store_logic.specs.Terms.{cell_in}
-use Rattle.store_exec.specs.Steps.{evaluated, variable, last_step}
+use Rattle.store_exec.specs.declared.cause.Cause.{Cause}
+use Rattle.store_exec.specs.Steps.{and_then, made_of, read_along, evaluated, variable, written, last_step}
 
 -- a new cell is of a known variant, and its number is one that a u32 counts past
 abbrev pub IsKnownRhs : List TypeEntry → StoreMap → Rhs → Type 0
@@ -31,3 +33,16 @@ TakesClassAt types s v (f ∷ fields) x =
 
 abbrev pub TakesClass : List TypeEntry → StoreMap → Path → Rhs → Type 0
 TakesClass types s p x = TakesClassAt types s p.var p.fields x
+
+-- ---- assignments to a field, by the fields before it and the last
+
+-- the store after an assignment to the last field of what the fields before it lead to
+abbrev pub field_assigned : List TypeEntry → StoreMap → VarId → List FieldId → FieldId → Rhs → Result StoreMap Cause
+field_assigned types s v before last x = and_then (λ through. and_then (λ got. written got.0 through last got.1) (evaluated types s x))
+    (made_of (λ y. value.Cell (cell_in y)) (read_along s (variable s v) before))
+
+-- what is assigned is of the class of what stands in the field before
+abbrev pub TakesFieldClass : List TypeEntry → StoreMap → VarId → List FieldId → FieldId → Rhs → Type 0
+TakesFieldClass types s v before last x =
+    (t : StoreMap) (y : Value) → evaluated types s x ≡ Ok (t, y) → (through : Value) → read_along s (variable s v) before ≡ Ok through →
+    IfSome (cell_in through) (λ c. IfSome (field_value t c last) (λ old. class_of y ≡ class_of old))
