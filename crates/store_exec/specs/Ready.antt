@@ -13,8 +13,11 @@ use Rattle.store_logic.specs.declared.act.Rhs.TheVariants as rhs
 use Rattle.store_logic.specs.declared.act.Act.{Act}
 use Rattle.store_logic.specs.declared.act.Act.TheVariants as act
 use Rattle.store_logic.specs.Terms.{cell_in}
+use Rattle.store_logic.specs.declared.assertion.Assertion.{Assertion}
 use Rattle.store_exec.specs.declared.cause.Cause.{Cause}
-use Rattle.store_exec.specs.Steps.{and_then, made_of, read_along, evaluated, variable, written, last_step}
+use Rattle.store_exec.specs.declared.halt.Halt.{Halt}
+use Rattle.store_exec.specs.declared.halt.Halt.TheVariants as halt
+use Rattle.store_exec.specs.Steps.{and_then, made_of, read_along, evaluated, variable, written, last_step, Asserted, Step}
 
 -- a new cell is of a known variant, and its number is one that a u32 counts past
 abbrev pub IsKnownRhs : List TypeEntry → StoreMap → Rhs → Type 0
@@ -33,6 +36,26 @@ TakesClassAt types s v (f ∷ fields) x =
 
 abbrev pub TakesClass : List TypeEntry → StoreMap → Path → Rhs → Type 0
 TakesClass types s p x = TakesClassAt types s p.var p.fields x
+
+-- an act that can be executed
+abbrev pub IsReady : List TypeEntry → StoreMap → Act → Type 0
+IsReady types s (act.Assign p x) = IsKnownRhs types s x × TakesClass types s p x
+IsReady types s (act.Free v) = Unit {0}
+IsReady types s (act.Assert a) = Unit {0}
+
+-- ---- what is done with an act
+
+-- the act leads to the store, or is stopped by the cause, or want of memory stopped it
+abbrev pub Steps : List TypeEntry → StoreMap → Act → StoreMap → Result (Unit {0}) Halt → Type 0
+Steps types s a after (Ok done) = Step types s a (Ok after)
+Steps types s a after (Err (halt.Fails why)) = Step types s a (Err why)
+Steps types s a after (Err halt.NoMemory) = Unit {0}
+
+-- the same of an assertion
+abbrev pub Asserts : List TypeEntry → StoreMap → Assertion → Result (Unit {0}) Halt → Type 0
+Asserts types s a (Ok done) = Asserted types s a (Ok s)
+Asserts types s a (Err (halt.Fails why)) = Asserted types s a (Err why)
+Asserts types s a (Err halt.NoMemory) = Unit {0}
 
 -- ---- assignments to a field, by the fields before it and the last
 

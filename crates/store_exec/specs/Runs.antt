@@ -4,15 +4,11 @@ use Rattle.store_core.specs.Tables.{TypeEntry}
 use Rattle.store_core.specs.Stores.{StoreMap}
 use Rattle.store_logic.specs.declared.act.Act.{Act}
 use Rattle.store_exec.specs.declared.cause.Cause.{Cause}
+use Rattle.store_exec.specs.declared.fault.Fault.{Fault}
 use Rattle.store_exec.specs.declared.code.Item.{Item}
 use Rattle.store_exec.specs.declared.code.Item.TheOpen.{Item-F}
 use Rattle.store_exec.specs.declared.code.Item.TheFolds.{rec-Item}
 use Rattle.store_exec.specs.Steps.{truth_of, Step}
-
--- a cause, and the line where it comes
-pub record Fault : Type 0 where
-  pub cause : Cause
-  pub line : ℕ
 
 -- the store where items end, or the fault that stops them
 abbrev pub Ending : Type 0

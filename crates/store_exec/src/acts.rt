@@ -9,7 +9,7 @@ ghost use Rattle.store_logic.specs.Terms.{null, cell_in};
 ghost use Rattle.store_exec.specs.Steps as steps;
 ghost use Rattle.store_exec.specs.Steps.{assigned, made_of, Step};
 ghost use Rattle.store_exec.specs.Conditions.{IsTold, IsToldBy, Leads};
-ghost use Rattle.store_exec.specs.Ready.{IsKnownRhs, TakesClass, TakesFieldClass, field_assigned};
+ghost use Rattle.store_exec.specs.Ready.{IsKnownRhs, TakesClass, TakesFieldClass, field_assigned, IsReady, Steps, Asserts};
 
 use crate::cause::Cause;
 use crate::halt::Halt;
@@ -17,7 +17,8 @@ use crate::reading::{cell_through, operand_value, read_along, variable};
 use crate::truth::{cell_of, truth};
 use std::alloc::Global;
 use store_core::{CellId, FieldId, Store, TypeTable, Value, VarId};
-use store_logic::{Act, Path, Rhs};
+use store_logic::{Act, Assertion, Path, Region, Rhs};
+use store_sat::sat;
 
 /// The value of what is assigned. A new cell is made in the store.
 fn evaluate(
@@ -131,4 +132,34 @@ fn free(store: &mut Store, freed: Option<CellId>) -> Result<(), Halt>
     }
     store.remove(cell);
     Ok(())
+}
+
+/// Executes an act on a store.
+pub(crate) fn step(
+    alloc: Global,
+    types: &TypeTable,
+    nothing: &Value,
+    act: &Act,
+    store: &mut Store,
+) -> Result<(), Halt>
+    requires nothing { nothing.now ≡ null }
+    requires ready { IsReady types.now store.old act.now }
+    ensures { Steps types.now store.old act.now store.new result }
+{
+    match act {
+        Act::Assign(place, rhs) => assign(alloc, types, nothing, place, rhs, store),
+        Act::Free(var) => free(store, cell_of(variable(store, nothing, *var))),
+        Act::Assert(assertion) => check(alloc, types, assertion, store),
+    }
+}
+
+/// Stops where an assertion is false.
+fn check(alloc: Global, types: &TypeTable, assertion: &Assertion, store: &Store) -> Result<(), Halt>
+    ensures { Asserts types.now store.now assertion.now result }
+{
+    if sat(alloc, types, store, &Region::All, assertion)? {
+        Ok(())
+    } else {
+        Err(Halt::Fails(Cause::Assert))
+    }
 }

@@ -7,15 +7,20 @@
 mod acts;
 mod cause;
 mod code;
+mod fault;
 mod halt;
+mod items;
 mod laws;
 mod outcome;
 mod reading;
+mod run;
 mod triple;
 mod truth;
 
 pub use cause::Cause;
 pub use code::{Code, Item, ItemList, Tail};
+pub use fault::Fault;
 pub use laws::acts_keep_stores_fitting;
 pub use outcome::Outcome;
+pub use run::run;
 pub use triple::{Claim, ClaimList, Cut, CutList, Start, Triple};

@@ -1,0 +1,79 @@
+//! Items of code, one after the other.
+
+ghost use Rattle.std.specs.Prelude.{◌≡◌, ◌+◌, ◌<◌, Ok, Err, IfOk, [], ◌∷◌};
+ghost use Rattle.store_exec.specs.declared.code.Item.{Item};
+ghost use Rattle.store_logic.specs.Terms.{null};
+ghost use Rattle.store_exec.specs.Runs.{RunsItems};
+ghost use Rattle.store_exec.specs.Going.{IsEnded, Enters, CanRun, left_over, weight_of, ending_of, Ending};
+
+use crate::acts::step;
+use crate::code::Item;
+use crate::fault::Fault;
+use crate::halt::Halt;
+use crate::truth::truth;
+use plain_data::Stack;
+use std::alloc::{AllocError, Global};
+use store_core::{Store, TypeTable, Value};
+
+/// What is done, with the line where it stops.
+fn at_line<T>(line: u32, done: Result<T, Halt>) -> Result<Result<T, Fault>, AllocError> {
+    match done {
+        Ok(value) => Ok(Ok(value)),
+        Err(Halt::Fails(cause)) => Ok(Err(Fault { cause, line })),
+        Err(Halt::NoMemory) => Err(AllocError),
+    }
+}
+
+/// Executes an item, or what of it comes first: an act, or the choice of a list. Gives the items that come next; those behind a
+/// chosen list wait on the stack.
+fn enter<'a>(
+    alloc: Global,
+    types: &TypeTable,
+    nothing: &Value,
+    item: &'a Item,
+    more: &'a [Item],
+    waiting: &mut Stack<&'a [Item]>,
+    store: &mut Store,
+) -> Result<Result<&'a [Item], Fault>, AllocError>
+{
+    match item {
+        Item::Do(line, act) => match at_line(*line, step(alloc, types, nothing, act, store))? {
+            Ok(()) => Ok(Ok(more)),
+            Err(fault) => Ok(Err(fault)),
+        },
+        Item::If(line, cond, yes, no) => match at_line(*line, truth(alloc, store, nothing, cond))? {
+            Ok(truth) => {
+                waiting.push(more)?;
+                Ok(Ok(if truth { yes.as_slice() } else { no.as_slice() }))
+            }
+            Err(fault) => Ok(Err(fault)),
+        },
+    }
+}
+
+/// Executes items on a store, one after the other. Nested lists wait on a stack.
+pub(crate) fn run_items(
+    alloc: Global,
+    types: &TypeTable,
+    nothing: &Value,
+    items: &[Item],
+    store: &mut Store,
+) -> Result<Result<(), Fault>, AllocError>
+{
+    let mut waiting = Stack::new(alloc);
+    let mut rest = items;
+    loop {
+        match rest.split_first() {
+            Some((item, more)) => {
+                match enter(alloc, types, nothing, item, more, &mut waiting, store)? {
+                    Ok(next) => rest = next,
+                    Err(fault) => return Ok(Err(fault)),
+                }
+            }
+            None => match waiting.pop() {
+                Some(next) => rest = next,
+                None => return Ok(Ok(())),
+            },
+        }
+    }
+}
