@@ -30,6 +30,15 @@ IsLink types s fields link = Leads types s fields link.field link.parent link.ch
 abbrev pub IsIndexed : Search → Type 0
 IsIndexed search = HasAll search.links.links.items (IsLink search.types.now search.store.now (fields_in search.followed))
 
+-- what walks are looked for in: the store, and the fields that are followed
+pub record Ground : Type 0 where
+  pub types : List TypeEntry
+  pub store : StoreMap
+  pub fields : Fields
+
+abbrev pub ground_of : Search → Ground
+ground_of search = record { types = search.types.now; store = search.store.now; fields = fields_in search.followed }
+
 -- the cell is of the type, where there is one
 abbrev pub IsWanted : StoreMap → Option TypeId → CellId → Type 0
 IsWanted s None c = Unit {0}

@@ -7,6 +7,7 @@ ghost use Rattle.routing_expr.specs.Searches.{Lists, fields_in};
 
 use crate::followed::Followed;
 use crate::search::Search;
+use crate::walker::Walker;
 use std::alloc::{AllocError, Global};
 use store_core::{CellId, CellList, Route, Store, TypeId, TypeTable};
 
@@ -38,6 +39,6 @@ pub fn ends(
 ) -> Result<CellList, AllocError>
     ensures { IfOk result (Lists (Walk types.now store.now (fields_in followed) route.now from)) }
 {
-    let search = Search::new(alloc, types, store, followed)?;
-    search.ends(route, from)
+    let walker = Walker::new(alloc, types, store, followed)?;
+    walker.ends(route, from)
 }

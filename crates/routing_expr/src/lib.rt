@@ -26,6 +26,7 @@ mod region;
 mod search;
 mod shared;
 mod steps;
+mod walker;
 mod wrong_field;
 
 pub use calls::{destinations, ends};
@@ -39,3 +40,4 @@ pub use laws::{
 };
 pub use reach::reached;
 pub use region::{ends_on, store_on};
+pub use walker::Walker;

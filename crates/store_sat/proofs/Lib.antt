@@ -1,0 +1,9 @@
+pub mod StepLemmas
+pub mod CellLemmas
+pub mod SetLemmas
+pub mod HasLemmas
+pub mod PartLemmas
+pub mod NameLemmas
+pub mod OpenLemmas
+pub mod NextLemmas
+pub mod BelowLemmas

@@ -1,0 +1,5 @@
+pub mod Tasks
+pub mod Steps
+pub mod RootTables
+pub mod RoutePairs
+pub mod WalksKept
