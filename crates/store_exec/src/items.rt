@@ -1,10 +1,8 @@
 //! Items of code, one after the other.
 
-ghost use Rattle.std.specs.Prelude.{◌≡◌, ◌+◌, ◌<◌, Ok, Err, IfOk, [], ◌∷◌};
-ghost use Rattle.store_exec.specs.declared.code.Item.{Item};
+ghost use Rattle.std.specs.Prelude.{◌≡◌, ◌∷◌, ◌++◌};
 ghost use Rattle.store_logic.specs.Terms.{null};
-ghost use Rattle.store_exec.specs.Runs.{RunsItems};
-ghost use Rattle.store_exec.specs.Going.{IsEnded, Enters, CanRun, left_over, weight_of, ending_of, Ending};
+ghost use Rattle.store_exec.specs.Going.{IsEnded, Enters, CanRun, AtLine, left_over, weight_left};
 
 use crate::acts::step;
 use crate::code::Item;
@@ -16,7 +14,9 @@ use std::alloc::{AllocError, Global};
 use store_core::{Store, TypeTable, Value};
 
 /// What is done, with the line where it stops.
-fn at_line<T>(line: u32, done: Result<T, Halt>) -> Result<Result<T, Fault>, AllocError> {
+fn at_line<T>(line: u32, done: Result<T, Halt>) -> Result<Result<T, Fault>, AllocError>
+    ensures { AtLine line done result }
+{
     match done {
         Ok(value) => Ok(Ok(value)),
         Err(Halt::Fails(cause)) => Ok(Err(Fault { cause, line })),
@@ -35,6 +35,9 @@ fn enter<'a>(
     waiting: &mut Stack<&'a [Item]>,
     store: &mut Store,
 ) -> Result<Result<&'a [Item], Fault>, AllocError>
+    requires nothing { nothing.now ≡ null }
+    requires can { CanRun types.now store.old (item.now ∷ left_over more.now waiting.old) }
+    ensures { Enters types.now (item.now ∷ left_over more.now waiting.old) store.old (weight_left (item.now ∷ more.now) waiting.old) store.new waiting.new result }
 {
     match item {
         Item::Do(line, act) => match at_line(*line, step(alloc, types, nothing, act, store))? {
@@ -59,6 +62,9 @@ pub(crate) fn run_items(
     items: &[Item],
     store: &mut Store,
 ) -> Result<Result<(), Fault>, AllocError>
+    requires nothing { nothing.now ≡ null }
+    requires can { CanRun types.now store.old items.now }
+    ensures { IsEnded types.now items.now store.old store.new result }
 {
     let mut waiting = Stack::new(alloc);
     let mut rest = items;

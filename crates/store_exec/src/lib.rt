@@ -13,7 +13,6 @@ mod items;
 mod laws;
 mod outcome;
 mod reading;
-mod run;
 mod triple;
 mod truth;
 
@@ -22,5 +21,4 @@ pub use code::{Code, Item, ItemList, Tail};
 pub use fault::Fault;
 pub use laws::acts_keep_stores_fitting;
 pub use outcome::Outcome;
-pub use run::run;
 pub use triple::{Claim, ClaimList, Cut, CutList, Start, Triple};
