@@ -2,3 +2,5 @@ pub mod SortLemmas
 pub mod KeepLemmas
 pub mod TruthLemmas
 pub mod PlaceLemmas
+pub mod RunLemmas
+pub mod GoingLemmas

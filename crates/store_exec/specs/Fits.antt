@@ -24,7 +24,7 @@ use Rattle.store_exec.specs.Cuts.{IsPointerVar}
 -- one item fits where its parts do
 abbrev pub ItemFitsNode : List TypeEntry → List VarEntry → (Part : Type 0) → (Part → Item) → (Part → Type 0) → Item-F Part → Type 0
 ItemFitsNode types vars Part whole fits (Item-F.Do line a) = ActFits types vars a
-ItemFitsNode types vars Part whole fits (Item-F.If line c yes no) = CondFits types vars c × AllByRecursion fits yes × AllByRecursion fits no
+ItemFitsNode types vars Part whole fits (Item-F.If line c taken other) = CondFits types vars c × AllByRecursion fits taken × AllByRecursion fits other
 
 abbrev pub ItemFits : List TypeEntry → List VarEntry → Item → Type 0
 ItemFits types vars = rec-Item (Type 0) (ItemFitsNode types vars)
@@ -46,7 +46,7 @@ news_of_act (act.Assert a) = 0
 
 abbrev pub news_node : Item-F ℕ → ℕ
 news_node (Item-F.Do line a) = news_of_act a
-news_node (Item-F.If line c yes no) = sum_by (λ n. n) yes + sum_by (λ n. n) no
+news_node (Item-F.If line c taken other) = sum_by (λ n. n) taken + sum_by (λ n. n) other
 
 -- how many `new` stand in an item, in all its parts
 abbrev pub news_of_item : Item → ℕ

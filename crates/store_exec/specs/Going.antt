@@ -1,14 +1,17 @@
 -- How items are gone through one by one.
-use Rattle.std.specs.Prelude.{◌≡◌, ◌+◌, ◌<◌, ℕ, List, [], ◌∷◌, ◌++◌, flat_map, sum_by, Result, Ok, Err}
-use Rattle.std.specs.Bor.{Bor}
+use Rattle.std.specs.Prelude.{◌≡◌, ◌+◌, ◌<◌, ℕ, List, [], ◌∷◌, ◌++◌, flat_map, sum_by, Bool, if◌then◌else◌, Result, Ok, Err}
+use Rattle.std.specs.Borrow.{Bor}
 use Rattle.store_core.specs.Tables.{TypeEntry, VarEntry}
 use Rattle.store_core.specs.Stores.{StoreMap, Fits, IsFresh}
+use Rattle.store_logic.specs.declared.act.Act.{Act}
+use Rattle.store_logic.specs.declared.cond.Cond.{Cond}
 use Rattle.store_exec.specs.declared.fault.Fault.{Fault}
 use Rattle.store_exec.specs.declared.halt.Halt.{Halt}
 use Rattle.store_exec.specs.declared.halt.Halt.TheVariants as halt
 use Rattle.store_exec.specs.declared.code.Item.{Item}
 use Rattle.store_exec.specs.declared.code.Item.TheOpen.{Item-F}
 use Rattle.store_exec.specs.declared.code.Item.TheFolds.{fold-Item}
+use Rattle.store_exec.specs.Steps.{truth_of, Step}
 use Rattle.store_exec.specs.Runs.{Ending, RunsItems}
 use Rattle.store_exec.specs.Fits.{ItemsFit, news_of}
 
@@ -27,7 +30,7 @@ left_over rest waiting = rest ++ flat_map (λ w. w.now) waiting
 -- how much is to be done with an item
 abbrev pub weight_node : Item-F ℕ → ℕ
 weight_node (Item-F.Do line a) = 1
-weight_node (Item-F.If line c yes no) = sum_by (λ n. n) yes + sum_by (λ n. n) no + 2
+weight_node (Item-F.If line c taken other) = sum_by (λ n. n) taken + sum_by (λ n. n) other + 2
 
 abbrev pub weight_of_items : List Item → ℕ
 weight_of_items = sum_by (fold-Item ℕ weight_node)
@@ -59,3 +62,16 @@ abbrev pub AtLine : {X E : Type 0} → ℕ → Result X Halt → Result (Result 
 AtLine line done (Ok (Ok x)) = done ≡ Ok x
 AtLine line done (Ok (Err fault)) = (done ≡ Err (halt.Fails fault.cause)) × (fault.line ≡ line)
 AtLine line done (Err e) = Unit {0}
+
+-- the act led to the store, or a fault at its line stopped it
+abbrev pub IsDone : {E : Type 0} → List TypeEntry → StoreMap → ℕ → Act → StoreMap → Result (Result (Unit {0}) Fault) E → Type 0
+IsDone types s line a after (Ok (Ok done)) = Step types s a (Ok after)
+IsDone types s line a after (Ok (Err fault)) = Step types s a (Err fault.cause) × (fault.line ≡ line)
+IsDone types s line a after (Err e) = Unit {0}
+
+-- the one list where the condition is true, the other where it is false, or a fault at its line
+abbrev pub IsChosen : {E : Type 0} → StoreMap → ℕ → Cond → List Item → List Item → Result (Result (Bor (List Item)) Fault) E → Type 0
+IsChosen s line c taken other (Ok (Ok chosen)) =
+    (truth : Bool) × (truth_of s c ≡ Ok truth) × (chosen.now ≡ (if truth then taken else other))
+IsChosen s line c taken other (Ok (Err fault)) = (truth_of s c ≡ Err fault.cause) × (fault.line ≡ line)
+IsChosen s line c taken other (Err e) = Unit {0}

@@ -28,16 +28,16 @@ Does types line s a (Err fault) = Step types s a (Err fault.cause) × (fault.lin
 
 -- the one where the condition is true, the other where it is false; a condition that can't be read stops at its line
 abbrev pub ByTruth : ℕ → Result Bool Cause → (Ending → Type 0) → (Ending → Type 0) → Ending → Type 0
-ByTruth line (Ok true) yes no end = yes end
-ByTruth line (Ok false) yes no end = no end
-ByTruth line (Err why) yes no end = end ≡ Err (record { cause = why; line = line })
+ByTruth line (Ok true) Taken Other end = Taken end
+ByTruth line (Ok false) Taken Other end = Other end
+ByTruth line (Err why) Taken Other end = end ≡ Err (record { cause = why; line = line })
 
 -- where one item ends, by where its parts do
 abbrev pub RunsNode : List TypeEntry → (Part : Type 0) → (Part → Item) → (Part → StoreMap → Ending → Type 0) →
     Item-F Part → StoreMap → Ending → Type 0
 RunsNode types Part whole runs (Item-F.Do line a) s end = Does types line s a end
-RunsNode types Part whole runs (Item-F.If line c yes no) s end =
-    ByTruth line (truth_of s c) (InOrder runs yes s) (InOrder runs no s) end
+RunsNode types Part whole runs (Item-F.If line c taken other) s end =
+    ByTruth line (truth_of s c) (InOrder runs taken s) (InOrder runs other s) end
 
 -- where an item ends
 abbrev pub RunsItem : List TypeEntry → Item → StoreMap → Ending → Type 0

@@ -2,7 +2,8 @@
 
 ghost use Rattle.std.specs.Prelude.{◌≡◌, ◌∷◌, ◌++◌};
 ghost use Rattle.store_logic.specs.Terms.{null};
-ghost use Rattle.store_exec.specs.Going.{IsEnded, Enters, CanRun, AtLine, left_over, weight_left};
+ghost use Rattle.store_exec.specs.Ready.{IsReady};
+ghost use Rattle.store_exec.specs.Going.{IsEnded, Enters, CanRun, AtLine, IsDone, IsChosen, left_over, weight_left};
 
 use crate::acts::step;
 use crate::code::Item;
@@ -12,6 +13,7 @@ use crate::truth::truth;
 use plain_data::Stack;
 use std::alloc::{AllocError, Global};
 use store_core::{Store, TypeTable, Value};
+use store_logic::{Act, Cond};
 
 /// What is done, with the line where it stops.
 fn at_line<T>(line: u32, done: Result<T, Halt>) -> Result<Result<T, Fault>, AllocError>
@@ -21,6 +23,42 @@ fn at_line<T>(line: u32, done: Result<T, Halt>) -> Result<Result<T, Fault>, Allo
         Ok(value) => Ok(Ok(value)),
         Err(Halt::Fails(cause)) => Ok(Err(Fault { cause, line })),
         Err(Halt::NoMemory) => Err(AllocError),
+    }
+}
+
+/// Executes an act, with the line where it stops.
+fn do_act(
+    alloc: Global,
+    types: &TypeTable,
+    nothing: &Value,
+    line: u32,
+    act: &Act,
+    store: &mut Store,
+) -> Result<Result<(), Fault>, AllocError>
+    requires nothing { nothing.now ≡ null }
+    requires ready { IsReady types.now store.old act.now }
+    ensures { IsDone types.now store.old line act.now store.new result }
+{
+    at_line(line, step(alloc, types, nothing, act, store))
+}
+
+/// The items that the truth of a condition chooses, with the line where that can't be told.
+fn choose<'a>(
+    alloc: Global,
+    store: &Store,
+    nothing: &Value,
+    line: u32,
+    cond: &Cond,
+    taken: &'a [Item],
+    other: &'a [Item],
+) -> Result<Result<&'a [Item], Fault>, AllocError>
+    requires { nothing.now ≡ null }
+    ensures { IsChosen store.now line cond.now taken.now other.now result }
+{
+    match at_line(line, truth(alloc, store, nothing, cond))? {
+        Ok(true) => Ok(Ok(taken)),
+        Ok(false) => Ok(Ok(other)),
+        Err(fault) => Ok(Err(fault)),
     }
 }
 
@@ -40,17 +78,14 @@ fn enter<'a>(
     ensures { Enters types.now (item.now ∷ left_over more.now waiting.old) store.old (weight_left (item.now ∷ more.now) waiting.old) store.new waiting.new result }
 {
     match item {
-        Item::Do(line, act) => match at_line(*line, step(alloc, types, nothing, act, store))? {
+        Item::Do(line, act) => match do_act(alloc, types, nothing, *line, act, store)? {
             Ok(()) => Ok(Ok(more)),
             Err(fault) => Ok(Err(fault)),
         },
-        Item::If(line, cond, yes, no) => match at_line(*line, truth(alloc, store, nothing, cond))? {
-            Ok(truth) => {
-                waiting.push(more)?;
-                Ok(Ok(if truth { yes.as_slice() } else { no.as_slice() }))
-            }
-            Err(fault) => Ok(Err(fault)),
-        },
+        Item::If(line, cond, taken, other) => {
+            waiting.push(more)?;
+            choose(alloc, store, nothing, *line, cond, taken.as_slice(), other.as_slice())
+        }
     }
 }
 

@@ -19,6 +19,6 @@ mod truth;
 pub use cause::Cause;
 pub use code::{Code, Item, ItemList, Tail};
 pub use fault::Fault;
-pub use laws::acts_keep_stores_fitting;
+pub use laws::{acts_keep_stores_fitting, runs_go_by_cases};
 pub use outcome::Outcome;
 pub use triple::{Claim, ClaimList, Cut, CutList, Start, Triple};
