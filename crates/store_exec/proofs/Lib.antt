@@ -4,3 +4,5 @@ pub mod TruthLemmas
 pub mod PlaceLemmas
 pub mod RunLemmas
 pub mod GoingLemmas
+pub mod CodeLemmas
+pub mod ItemsKeepLemmas

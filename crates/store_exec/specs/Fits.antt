@@ -14,6 +14,10 @@ use Rattle.store_logic.specs.FitsCode.{CondFits, ActFits}
 use Rattle.store_exec.specs.declared.code.Item.{Item}
 use Rattle.store_exec.specs.declared.code.Item.TheOpen.{Item-F}
 use Rattle.store_exec.specs.declared.code.Item.TheFolds.{rec-Item, fold-Item}
+use Rattle.store_exec.specs.declared.code.Tail.{Tail}
+use Rattle.store_exec.specs.declared.code.Tail.TheOpen.{Tail-F, Code-F}
+use Rattle.store_exec.specs.declared.code.Tail.TheFolds.{rec-Code, fold-Code}
+use Rattle.store_exec.specs.declared.code.Code.{Code}
 use Rattle.store_exec.specs.declared.triple.Claim.{Claim}
 use Rattle.store_exec.specs.declared.triple.Cut.{Cut}
 use Rattle.store_exec.specs.declared.triple.Start.{Start}
@@ -54,6 +58,27 @@ news_of_item = fold-Item ℕ news_node
 
 abbrev pub news_of : List Item → ℕ
 news_of = sum_by news_of_item
+
+-- ---- whole codes
+
+abbrev pub TailFitsNode : List TypeEntry → List VarEntry → (T C : Type 0) → (T → Tail) → (C → Code) → (T → Type 0) → (C → Type 0) → Tail-F T C → Type 0
+TailFitsNode types vars T C tail code tails codes (Tail-F.Cut place) = Unit {0}
+TailFitsNode types vars T C tail code tails codes (Tail-F.Branch line c taken other) = CondFits types vars c × codes taken × codes other
+
+abbrev pub CodeFitsNode : List TypeEntry → List VarEntry → (T C : Type 0) → (T → Tail) → (C → Code) → (T → Type 0) → (C → Type 0) → Code-F T C → Type 0
+CodeFitsNode types vars T C tail code tails codes x = ItemsFit types vars x.items × tails x.tail
+
+-- the items of a code, its conditions and the codes behind it fit
+abbrev pub CodeFits : List TypeEntry → List VarEntry → Code → Type 0
+CodeFits types vars = rec-Code (Type 0) (Type 0) (TailFitsNode types vars) (CodeFitsNode types vars)
+
+abbrev pub news_of_tail : Tail-F ℕ ℕ → ℕ
+news_of_tail (Tail-F.Cut place) = 0
+news_of_tail (Tail-F.Branch line c taken other) = taken + other
+
+-- how many `new` stand in a code, in all its parts
+abbrev pub news_of_code : Code → ℕ
+news_of_code = fold-Code ℕ ℕ news_of_tail (λ x. news_of x.items + x.tail)
 
 -- ---- cuts and starts
 

@@ -16,7 +16,7 @@ use store_core::{Store, TypeTable, Value};
 use store_logic::{Act, Cond};
 
 /// What is done, with the line where it stops.
-fn at_line<T>(line: u32, done: Result<T, Halt>) -> Result<Result<T, Fault>, AllocError>
+pub(crate) fn at_line<T>(line: u32, done: Result<T, Halt>) -> Result<Result<T, Fault>, AllocError>
     ensures { AtLine line done result }
 {
     match done {

@@ -13,6 +13,7 @@ mod items;
 mod laws;
 mod outcome;
 mod reading;
+mod running;
 mod triple;
 mod truth;
 
@@ -21,4 +22,5 @@ pub use code::{Code, Item, ItemList, Tail};
 pub use fault::Fault;
 pub use laws::{acts_keep_stores_fitting, runs_go_by_cases};
 pub use outcome::Outcome;
+pub use running::run;
 pub use triple::{Claim, ClaimList, Cut, CutList, Start, Triple};
