@@ -6,3 +6,5 @@ pub mod RunLemmas
 pub mod GoingLemmas
 pub mod CodeLemmas
 pub mod ItemsKeepLemmas
+pub mod CanRunLemmas
+pub mod AnswerLemmas

@@ -44,8 +44,9 @@ pub fn run(
     let mut at = store;
     let mut rest = code;
     loop {
-        if let Err(fault) = run_items(alloc, types, &nothing, rest.items.as_slice(), &mut at)? {
-            return Ok(Outcome::Fail(fault.cause, fault.line));
+        match run_items(alloc, types, &nothing, rest.items.as_slice(), &mut at)? {
+            Ok(()) => {}
+            Err(fault) => return Ok(Outcome::Fail(fault.cause, fault.line)),
         }
         match &rest.tail {
             Tail::Cut(place) => return Ok(Outcome::End(*place, at)),

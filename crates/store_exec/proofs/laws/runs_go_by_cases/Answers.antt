@@ -1,5 +1,4 @@
-use Rattle.store_exec.proofs.CodeLemmas.{RunsCode-is}
-use Rattle.store_exec.proofs.ItemsKeepLemmas.{items-keep}
+use Rattle.store_exec.proofs.CanRunLemmas.{items-can}
 use Rattle.store_exec.proofs.RunLemmas.{RunsItem-Do, RunsItem-If}
 use Rattle.store_exec.proofs.laws.runs_go_by_cases.Goals as goal
 
