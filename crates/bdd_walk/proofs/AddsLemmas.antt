@@ -11,7 +11,7 @@ use Rattle.bdd_nodes.specs.Shelf.{Contents, IsValid, IsSideFor, IsFullFor, Has, 
 use Rattle.bdd_nodes.specs.Changes.{Keeps, AddsOnly, is_valid}
 use Rattle.bdd_nodes.proofs.SplitLemmas.{same_reference, is_valid-true, is_valid-false}
 use Rattle.bdd_walk.specs.Answers.{Answers, KeepsAnswers, Completes}
-use Rattle.bdd_walk.specs.Under.{IsMissing, Exceeds, AddsParts}
+use Rattle.bdd_walk.specs.Under.{IsMissing, HasCome, Adds, Exceeds, AddsParts}
 use Rattle.bdd_walk.specs.Stands.{Asking, Stands, IsPart}
 use Rattle.bdd_walk.specs.Progress.{Call, IsNew, AddsNew, Progress}
 use Rattle.bdd_walk.proofs.ShelfLemmas.{varies-of_absent, varies-choice}
@@ -19,7 +19,7 @@ use Rattle.bdd_walk.proofs.StandsLemmas.{Stands-kept, IsUnder-part}
 use Rattle.bdd_nodes.proofs.CallerLemmas.{Keeps-refl}
 
 -- what holds of all holds of all in another way
-All-weaker : {X : Type 0} (P Q : X → Type 0) → ((x : X) → P x → Q x) → (xs : List X) → All P xs → All Q xs
+pub All-weaker : {X : Type 0} (P Q : X → Type 0) → ((x : X) → P x → Q x) → (xs : List X) → All P xs → All Q xs
 All-weaker P Q weaker xs all = λ k d within. weaker (get_or xs k d) (all k d within)
 
 Contains-head : (r : NodeRef) (rs : List NodeRef) → Contains (r ∷ rs) r
@@ -28,16 +28,16 @@ Contains-head r rs = (0, omega arith, refl)
 Contains-tail : (r s : NodeRef) (rs : List NodeRef) → Contains rs s → Contains (r ∷ rs) s
 Contains-tail r s rs is_there = (suc is_there.0, (let below = is_there.1 in omega arith), is_there.2)
 
-All-tail : {X : Type 0} (P : X → Type 0) (x : X) (xs : List X) → All P (x ∷ xs) → All P xs
+pub All-tail : {X : Type 0} (P : X → Type 0) (x : X) (xs : List X) → All P (x ∷ xs) → All P xs
 All-tail P x xs all = λ k d within. all (suc k) d (omega arith)
 
-All-head : {X : Type 0} (P : X → Type 0) (x : X) (xs : List X) → All P (x ∷ xs) → P x
+pub All-head : {X : Type 0} (P : X → Type 0) (x : X) (xs : List X) → All P (x ∷ xs) → P x
 All-head P x xs all = all 0 x (omega arith)
 
-AllPairs-tail : {X : Type 0} (R : X → X → Type 0) (x : X) (xs : List X) → AllPairs R (x ∷ xs) → AllPairs R xs
+pub AllPairs-tail : {X : Type 0} (R : X → X → Type 0) (x : X) (xs : List X) → AllPairs R (x ∷ xs) → AllPairs R xs
 AllPairs-tail R x xs all = λ i j d below within. all (suc i) (suc j) d (omega arith) (omega arith)
 
-AllPairs-head : {X : Type 0} (R : X → X → Type 0) (x : X) (xs : List X) → AllPairs R (x ∷ xs) → All (R x) xs
+pub AllPairs-head : {X : Type 0} (R : X → X → Type 0) (x : X) (xs : List X) → AllPairs R (x ∷ xs) → All (R x) xs
 AllPairs-head R x xs all = λ k d within. all 0 (suc k) d (omega arith) (omega arith)
 
 -- what holds of the elements of a list holds of a map of it
@@ -143,12 +143,9 @@ AddsParts-new call shelf answers given completes adds = λ r valid. elim (adds.o
       IsUnder-part answers call.whole is_new.asking (state_of shelf r) given completes is_new.part is_new.stands.states)
 ]
 
--- where there is no room for a node, the new ones and this one are more than there was room for
+-- what the new nodes stand for
 module _ (call : Call) (shelf : Contents) (answers : Answers) (given : List ℕ →
-    ℕ) (completes : Completes answers given) (progress : Progress call shelf answers) (track : ℕ) (low high : NodeRef)
-    (low_side : IsSideFor shelf track low) (high_side : IsSideFor shelf track high) (full : IsFullFor shelf track low high)
-    (asking : Asking) (part : IsPart call.whole asking) (answered : (label : Label) → answers (asking label)
-    ≡ Some (choice_of shelf track low high label)) where
+    ℕ) (completes : Completes answers given) (progress : Progress call shelf answers) where
   whole_given : Function
   whole_given = λ label. given (call.whole label)
 
@@ -170,38 +167,62 @@ module _ (call : Call) (shelf : Contents) (answers : Answers) (given : List ℕ 
         has.valid);
   }
 
-  choice-missing : IsMissing call.shelf whole_given (choice_of shelf track low high)
-  unfolding whole_given
-  choice-missing = record {
-    under = IsUnder-part answers call.whole asking (choice_of shelf track low high) given completes part answered;
-    varies = varies-choice shelf track low high progress.now low_side high_side full.differ;
-    absent = λ has. full.absent (has_now (choice_of shelf track low high) has);
-  }
-
   new-apart : (r s : NodeRef) → IsNew call shelf answers r → IsNew call shelf answers s → r ≢ s → state_of shelf r ≢ state_of shelf s
   new-apart r s r_new s_new apart same =
       apart (same_reference shelf r s progress.now r_new.stands.valid s_new.stands.valid (λ label. ap (λ (f : Function). f label) same))
 
-  choice-apart : (r : NodeRef) → IsNew call shelf answers r → choice_of shelf track low high ≢ state_of shelf r
-  choice-apart r r_new same = full.absent (record { at = r; valid = r_new.stands.valid; states = λ label. ap (λ (f : Function). f label) (sym same) })
+  new-came : (r : NodeRef) → IsNew call shelf answers r → HasCome call.shelf shelf (whole_given ∷ []) (state_of shelf r)
+  new-came r is_new = record {
+    missing = record { whole = whole_given; among = (0, omega arith, refl); missing = new-missing r is_new };
+    has = record { at = r; valid = is_new.stands.valid; states = λ label. refl };
+  }
 
-  parts : List Function
-  parts = choice_of shelf track low high ∷ map (state_of shelf) progress.adds.nodes
-
-  pub Exceeds-full : Exceeds call.shelf (λ label. given (call.whole label))
-  unfolding whole_given parts
-  Exceeds-full = record {
-    parts = parts;
-    missing = All-cons (IsMissing call.shelf whole_given) (choice_of shelf track low high) (map (state_of shelf) progress.adds.nodes) choice-missing
-        (All-over_map (IsNew call shelf answers) (IsMissing call.shelf whole_given) (state_of shelf) new-missing progress.adds.nodes progress.adds.each);
-    distinct = AllPairs-cons (λ (f g : Function). f ≢ g) (choice_of shelf track low high) (map (state_of shelf) progress.adds.nodes)
-        (All-over_map (IsNew call shelf answers) (λ (f : Function). choice_of shelf track low high ≢ f)
-        (state_of shelf) choice-apart progress.adds.nodes progress.adds.each)
-        (AllPairs-over_map (IsNew call shelf answers) (state_of shelf) new-apart progress.adds.nodes progress.adds.each progress.adds.distinct);
-    more =
+  -- each new node stands for a function that was missing
+  pub Adds-new : Adds call.shelf shelf (λ label. given (call.whole label))
+  unfolding whole_given
+  Adds-new = record {
+    parts = map (state_of shelf) progress.adds.nodes;
+    came = All-over_map (IsNew call shelf answers) (HasCome call.shelf shelf (whole_given ∷ [])) (state_of shelf) new-came progress.adds.nodes
+        progress.adds.each;
+    distinct = AllPairs-over_map (IsNew call shelf answers) (state_of shelf) new-apart progress.adds.nodes progress.adds.each progress.adds.distinct;
+    count =
         let mapped = length-map progress.adds.nodes (state_of shelf) in
         let count = progress.adds.count in
-        let limit = progress.same_limit in
-        let fills = full.full in
         omega arith;
   }
+
+  -- where there is no room for a node, the new ones and this one are more than there was room for
+  module _ (track : ℕ) (low high : NodeRef) (low_side : IsSideFor shelf track low) (high_side : IsSideFor shelf track high)
+      (full : IsFullFor shelf track low high) (asking : Asking) (part : IsPart call.whole asking)
+      (answered : (label : Label) → answers (asking label) ≡ Some (choice_of shelf track low high label)) where
+    choice-missing : IsMissing call.shelf whole_given (choice_of shelf track low high)
+    unfolding whole_given
+    choice-missing = record {
+      under = IsUnder-part answers call.whole asking (choice_of shelf track low high) given completes part answered;
+      varies = varies-choice shelf track low high progress.now low_side high_side full.differ;
+      absent = λ has. full.absent (has_now (choice_of shelf track low high) has);
+    }
+
+    choice-apart : (r : NodeRef) → IsNew call shelf answers r → choice_of shelf track low high ≢ state_of shelf r
+    choice-apart r r_new same = full.absent (record { at = r; valid = r_new.stands.valid; states = λ label. ap (λ (f : Function). f label) (sym same) })
+
+    parts : List Function
+    parts = choice_of shelf track low high ∷ map (state_of shelf) progress.adds.nodes
+
+    pub Exceeds-full : Exceeds call.shelf (λ label. given (call.whole label))
+    unfolding whole_given parts
+    Exceeds-full = record {
+      parts = parts;
+      missing = All-cons (IsMissing call.shelf whole_given) (choice_of shelf track low high) (map (state_of shelf) progress.adds.nodes) choice-missing
+          (All-over_map (IsNew call shelf answers) (IsMissing call.shelf whole_given) (state_of shelf) new-missing progress.adds.nodes progress.adds.each);
+      distinct = AllPairs-cons (λ (f g : Function). f ≢ g) (choice_of shelf track low high) (map (state_of shelf) progress.adds.nodes)
+          (All-over_map (IsNew call shelf answers) (λ (f : Function). choice_of shelf track low high ≢ f)
+          (state_of shelf) choice-apart progress.adds.nodes progress.adds.each)
+          (AllPairs-over_map (IsNew call shelf answers) (state_of shelf) new-apart progress.adds.nodes progress.adds.each progress.adds.distinct);
+      more =
+          let mapped = length-map progress.adds.nodes (state_of shelf) in
+          let count = progress.adds.count in
+          let limit = progress.same_limit in
+          let fills = full.full in
+          omega arith;
+    }

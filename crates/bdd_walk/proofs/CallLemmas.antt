@@ -1,9 +1,8 @@
 -- From the walk to the calls.
-use Rattle.std.proofs.Common.{◌≡◌, ℕ, suc, zero, ◌<◌, ◌≤◌, true, false, List, [], ◌∷◌, ◌++◌, drop, length, get_or, Option, Some}
-use Rattle.std.proofs.Common.{None, IsTrue, ◌&&◌, sym, ◌∙◌, ap, refl, subst, arith}
-use Rattle.std.specs.Prelude.{nat_le, slice_get, slice_index, unwrap_or}
+use Rattle.std.proofs.Common.{◌≡◌, ℕ, suc, zero, ◌+◌, ◌/◌, ◌<◌, ◌≤◌, true, false, List, [], ◌∷◌, ◌++◌, drop, length, length-append, get_or, Option, Some}
+use Rattle.std.proofs.Common.{None, IsTrue, sym, ◌∙◌, ap, refl, subst, arith}
+use Rattle.std.specs.Prelude.{slice_get, slice_index, unwrap_or}
 use Rattle.std.specs.List.{All, list_all}
-use Rattle.std.proofs.lemmas.Bool.{le-leb}
 use Rattle.std.proofs.Math.Path.{fun_ext}
 use Rattle.std.proofs.Math.Seq.{drop-append_seam, take-append_seam}
 use Rattle.bdd_nodes.specs.declared.node_ref.NodeRef.{NodeRef}
@@ -13,7 +12,7 @@ use Rattle.bdd_nodes.specs.Changes.{is_valid}
 use Rattle.bdd_nodes.proofs.SplitLemmas.{is_valid-IsValid}
 use Rattle.bdd_walk.specs.Answers.{Answers, KeepsAnswers, Completes}
 use Rattle.bdd_walk.specs.Asked.{leaves_of, asked_of}
-use Rattle.bdd_walk.specs.Sides.{asked_by}
+use Rattle.bdd_walk.specs.Sides.{asked_by, half_of}
 use Rattle.bdd_walk.specs.Rules.{itself_of, renamed_by, first_state}
 use Rattle.bdd_walk.specs.Progress.{Call, Progress}
 use Rattle.bdd_walk.specs.Laws.{and-left, and-right, and-both}
@@ -30,7 +29,6 @@ Progress-none call is_shelf = record {
   tables = refl;
   adds = AddsNew-none call;
   answers_kept = λ states answer was. was;
-  only = λ states answer there absent. absurd (let e : None ≡ Some answer = sym absent ∙ there in cc);
 }
 
 pub valid-all : (shelf : Contents) (rs : List NodeRef) → All (IsValid shelf) rs → IsTrue (list_all (is_valid shelf) rs)
@@ -46,26 +44,23 @@ valid-append shelf (x ∷ xs) ys xs_valid ys_valid =
     and-both (is_valid shelf x) (list_all (is_valid shelf) (xs ++ ys)) (and-left (is_valid shelf x) (list_all (is_valid shelf) xs) xs_valid)
     (valid-append shelf xs ys (and-right (is_valid shelf x) (list_all (is_valid shelf) xs) xs_valid) ys_valid)
 
-length-twice : (rs more : List NodeRef) → length rs ≤ length (rs ++ more)
-length-twice [] more = omega arith
-length-twice (r ∷ rs) more = let rest = length-twice rs more in omega arith
-
 -- the start of a join with a dropped track
-pub twice-in : (shelf : Contents) (rs all : List NodeRef) → all ≡ rs ++ rs → IsTrue (list_all (is_valid shelf) rs) →
-    IsTrue (list_all (is_valid shelf) all && nat_le (length rs) (length all))
-twice-in shelf rs all is valid = subst (λ (ss : List NodeRef). IsTrue (list_all (is_valid shelf) ss && nat_le (length rs) (length ss))) (sym is)
-    (and-both (list_all (is_valid shelf) (rs ++ rs)) (nat_le (length rs) (length (rs ++ rs))) (valid-append shelf rs rs valid valid)
-    (le-leb (length rs) (length (rs ++ rs)) (length-twice rs rs)))
+half-twice : (rs all : List NodeRef) → all ≡ rs ++ rs → half_of all ≡ length rs
+half-twice rs all is = ap half_of is ∙ ap (λ (n : ℕ). n / 2) (length-append rs rs) ∙ half_double (length rs)
+  where
+    half_double : (n : ℕ) → (n + n) / 2 ≡ n
+    half_double n = omega arith
 
 pub twice-asked : (shelf : Contents) (rs all : List NodeRef) (t : ℕ) → all ≡ rs ++ rs → asked_of shelf rs (Some t)
-    ≡ (λ (label : Label). asked_by shelf (Some t) (length rs) all label)
+    ≡ (λ (label : Label). asked_by shelf (Some t) (half_of all) all label)
 twice-asked shelf rs all t is =
-    subst (λ (ss : List NodeRef). asked_of shelf rs (Some t)
+    subst (λ (h : ℕ). asked_of shelf rs (Some t) ≡ (λ (label : Label). asked_by shelf (Some t) h all label)) (sym (half-twice rs all is))
+    (subst (λ (ss : List NodeRef). asked_of shelf rs (Some t)
     ≡ (λ (label : Label). asked_by shelf (Some t) (length rs) ss label)) (sym is)
     (fun_ext (λ (label : Label). sym (
     ap (λ (ss : List NodeRef). leaves_of shelf ss (with_track label t false)
     ++ leaves_of shelf (drop (length rs) (rs ++ rs)) (with_track label t true)) (take-append_seam rs rs)
-    ∙ ap (λ (ss : List NodeRef). leaves_of shelf rs (with_track label t false) ++ leaves_of shelf ss (with_track label t true)) (drop-append_seam rs rs))))
+    ∙ ap (λ (ss : List NodeRef). leaves_of shelf rs (with_track label t false) ++ leaves_of shelf ss (with_track label t true)) (drop-append_seam rs rs)))))
 
 -- the answers of the rules of this crate
 pub Completes-itself : Completes itself_of first_state

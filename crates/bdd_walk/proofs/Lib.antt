@@ -10,3 +10,5 @@ pub mod KeysLemmas
 pub mod OneRootLemmas
 pub mod ManyRootsLemmas
 pub mod CallLemmas
+pub mod FitsLemmas
+pub mod AddsAmongLemmas

@@ -1,5 +1,5 @@
 -- The steps from a list of references.
-use Rattle.std.proofs.Common.{◌≡◌, ℕ, suc, zero, ◌<◌, ◌≤◌, Bool, true, false, List, [], ◌∷◌, ◌++◌, map, take, drop, length}
+use Rattle.std.proofs.Common.{◌≡◌, ℕ, suc, zero, ◌/◌, ◌<◌, ◌≤◌, Bool, true, false, List, [], ◌∷◌, ◌++◌, map, take, drop, length}
 use Rattle.std.proofs.Common.{Option, Some, None, ◌&&◌, IsTrue, sym, ◌∙◌, ap, refl, subst, inl, inr, arith}
 use Rattle.std.specs.Prelude.{nat_le}
 use Rattle.std.specs.List.{list_all, AllByRecursion}
@@ -12,8 +12,8 @@ use Rattle.bdd_nodes.specs.Changes.{Keeps, is_valid}
 use Rattle.bdd_nodes.proofs.SplitLemmas.{is_valid-true, is_valid-IsValid}
 use Rattle.bdd_walk.specs.Asked.{leaves_of}
 use Rattle.bdd_walk.specs.Stands.{AsksSame}
-use Rattle.bdd_walk.specs.Steps.{IsSplitBy, IsSkip, IsSplit}
-use Rattle.bdd_walk.specs.Sides.{is_first, side_at, SomeAsks, AskFirst, weight_of, asked_by}
+use Rattle.bdd_walk.specs.Steps.{IsSplitBy, FallsTo, IsSkip, IsSplit}
+use Rattle.bdd_walk.specs.Sides.{is_first, side_at, SomeAsks, AskFirst, weight_of, asked_by, half_of}
 use Rattle.bdd_walk.specs.Laws.{and-left, and-right, and-both}
 use Rattle.bdd_walk.specs.ManyLaws.{valid-take, valid-drop}
 use Rattle.labels.proofs.LabelsLemmas.{with_track-same}
@@ -187,7 +187,7 @@ module _ {K : Type 0} (refs : K → List NodeRef) (dropped : Option ℕ) (half :
     (is_shelf : IsShelf base) (keeps : Keeps base now) (key : K)
     (inside : IsTrue (list_all (is_valid base) (refs key) && nat_le half (length (refs key)))) (track : ℕ)
     (first : AskFirst now track (refs key)) where
-  pub IsSplit-many : (low high : K) → is_first dropped track ≡ false →
+  IsSplit-many : (low high : K) → is_first dropped track ≡ false →
       refs low ≡ map (side_at now track false) (refs key) → refs high ≡ map (side_at now track true) (refs key)
       → IsSplit (λ (k : K). λ (label : Label). asked_by base dropped half (refs k) label)
       (λ (k : K). list_all (is_valid base) (refs k) && nat_le half (length (refs k)))
@@ -218,7 +218,7 @@ module _ {K : Type 0} (refs : K → List NodeRef) (dropped : Option ℕ) (half :
         (split_by dropped half base now is_shelf keeps (refs key) inside track first dropped other));
   }
 
-  pub IsSkip-many : (next : K) → is_first dropped track ≡ true → refs next ≡ past_of now track half (refs key)
+  IsSkip-many : (next : K) → is_first dropped track ≡ true → refs next ≡ past_of now track half (refs key)
       → IsSkip (λ (k : K). λ (label : Label). asked_by base dropped half (refs k) label)
       (λ (k : K). list_all (is_valid base) (refs k) && nat_le half (length (refs k)))
       (λ (k : K). weight_of (refs k)) key next
@@ -236,4 +236,60 @@ module _ {K : Type 0} (refs : K → List NodeRef) (dropped : Option ℕ) (half :
         };
         same = λ label. past_same dropped half base now is_shelf keeps (refs key) inside track first dropped here label
             ∙ ap (λ (rs : List NodeRef). asked_by base dropped half rs label) (sym is);
+      }
+
+half_within : (rs : List NodeRef) → IsTrue (nat_le (half_of rs) (length rs))
+half_within rs = le-leb (half_of rs) (length rs) (omega arith)
+
+-- the steps of a key whose references are halved
+module _ {K : Type 0} (refs : K → List NodeRef) (dropped : Option ℕ) (base now : Contents) (is_shelf : IsShelf base)
+    (keeps : Keeps base now) (key : K) (valid : IsTrue (list_all (is_valid base) (refs key))) (track : ℕ)
+    (first : AskFirst now track (refs key)) where
+  halved : IsTrue (list_all (is_valid base) (refs key) && nat_le (half_of (refs key)) (length (refs key)))
+  halved = and-both (list_all (is_valid base) (refs key)) (nat_le (half_of (refs key)) (length (refs key))) valid (half_within (refs key))
+
+  -- a key with as many references, whose half was taken for that of this one
+  FallsTo-halved : (next : K) → FallsTo (λ (k : K). λ (label : Label). asked_by base dropped (half_of (refs key)) (refs k) label)
+      (λ (k : K). list_all (is_valid base) (refs k) && nat_le (half_of (refs key)) (length (refs k))) (λ (k : K). weight_of (refs k)) key next →
+      FallsTo (λ (k : K). λ (label : Label). asked_by base dropped (half_of (refs k)) (refs k) label)
+      (λ (k : K). list_all (is_valid base) (refs k)) (λ (k : K). weight_of (refs k)) key next
+  FallsTo-halved next goes = record {
+    inside = and-left (list_all (is_valid base) (refs next)) (nat_le (half_of (refs key)) (length (refs next))) goes.inside;
+    falls = goes.falls;
+  }
+
+  pub IsSplit-halved : (low high : K) → is_first dropped track ≡ false →
+      refs low ≡ map (side_at now track false) (refs key) → refs high ≡ map (side_at now track true) (refs key)
+      → IsSplit (λ (k : K). λ (label : Label). asked_by base dropped (half_of (refs k)) (refs k) label)
+      (λ (k : K). list_all (is_valid base) (refs k)) (λ (k : K). weight_of (refs k)) key track low high
+  IsSplit-halved low high other low_is high_is =
+      let half = half_of (refs key) in
+      let step = IsSplit-many refs dropped half base now is_shelf keeps key halved track first low high other low_is high_is in
+      let same_low : half ≡ half_of (refs low) =
+      ap (λ (n : ℕ). n / 2) (sym (ap length low_is ∙ length-map (refs key) (side_at now track false))) in
+      let same_high : half ≡ half_of (refs high) =
+      ap (λ (n : ℕ). n / 2) (sym (ap length high_is ∙ length-map (refs key) (side_at now track true))) in
+      record {
+        low_goes = FallsTo-halved low step.low_goes;
+        high_goes = FallsTo-halved high step.high_goes;
+        split = subst (λ (h : ℕ). IsSplitBy track (λ (label : Label). asked_by base dropped half (refs key) label)
+            (λ (label : Label). asked_by base dropped h (refs low) label)
+            (λ (label : Label). asked_by base dropped (half_of (refs high)) (refs high) label)) same_low
+            (subst (λ (h : ℕ). IsSplitBy track (λ (label : Label). asked_by base dropped half (refs key) label)
+            (λ (label : Label). asked_by base dropped half (refs low) label)
+            (λ (label : Label). asked_by base dropped h (refs high) label)) same_high step.split);
+      }
+
+  pub IsSkip-halved : (next : K) → is_first dropped track ≡ true → refs next ≡ past_of now track (half_of (refs key)) (refs key)
+      → IsSkip (λ (k : K). λ (label : Label). asked_by base dropped (half_of (refs k)) (refs k) label)
+      (λ (k : K). list_all (is_valid base) (refs k)) (λ (k : K). weight_of (refs k)) key next
+  unfolding AsksSame
+  IsSkip-halved next here next_is =
+      let half = half_of (refs key) in
+      let step = IsSkip-many refs dropped half base now is_shelf keeps key halved track first next here next_is in
+      let same : half ≡ half_of (refs next) = ap (λ (n : ℕ). n / 2)
+      (sym (ap length next_is ∙ length-past (side_at now track false) (side_at now track true) half (refs key))) in
+      record {
+        goes = FallsTo-halved next step.goes;
+        same = λ label. step.same label ∙ ap (λ (h : ℕ). asked_by base dropped h (refs next) label) same;
       }

@@ -5,7 +5,10 @@ use Rattle.bdd_nodes.specs.declared.node_ref.NodeRef.{NodeRef}
 use Rattle.labels.specs.Labels.{Label, with_track}
 use Rattle.bdd_nodes.specs.Shelf.{Contents, IsShelf, IsValid, IsSideFor, AsksFrom, state_of, choice_of, low_of, high_of}
 use Rattle.bdd_nodes.proofs.SplitLemmas.{same_reference, unasked, is_leaf, splits, cases_of}
-use Rattle.bdd_walk.specs.Under.{IsConstant}
+use Rattle.bdd_walk.specs.Under.{Varies}
+use Rattle.bdd_nodes.specs.Nodes.{node_of}
+use Rattle.bdd_nodes.proofs.RefLemmas.{node_of-injective}
+use Rattle.bdd_nodes.proofs.CanonicalLemmas.{differ_named}
 use Rattle.labels.proofs.LabelsLemmas.{with_track-same, with_track-later}
 
 -- a side is what the choice is where the track is fixed
@@ -47,17 +50,28 @@ AsksFrom-of_function shelf r t is_shelf valid depends = elim (cases_of shelf r i
   ]
 ]
 
--- a reference that isn't valid everywhere has a function that isn't constant
-pub varies-of_absent : (shelf other : Contents) (r : NodeRef) → IsShelf shelf → IsValid shelf r → (IsValid other r → ⊥) → IsConstant (state_of shelf r) → ⊥
-varies-of_absent shelf other r is_shelf valid absent constant = elim (cases_of shelf r is_shelf valid) [
-  | is_leaf top others asks ↦ absent (others other)
-  | splits track top split asks_to asks_of ↦ split.differ (choice-same_sides shelf is_shelf track (low_of shelf r) (high_of shelf r) split.low split.high
-      (λ label. sym (split.states (with_track label track false)) ∙ constant _ _ ∙ split.states (with_track label track true)))
-]
-
 -- a choice between two references that differ isn't constant
 pub varies-choice : (shelf : Contents) (track : ℕ) (low high : NodeRef) → IsShelf shelf →
-    IsSideFor shelf track low → IsSideFor shelf track high → low ≢ high →
-    IsConstant (choice_of shelf track low high) → ⊥
-varies-choice shelf track low high is_shelf low_side high_side differ constant =
-    differ (choice-same_sides shelf is_shelf track low high low_side high_side (λ label. constant (with_track label track false) (with_track label track true)))
+    IsSideFor shelf track low → IsSideFor shelf track high → low ≢ high → Varies (choice_of shelf track low high)
+varies-choice shelf track low high is_shelf low_side high_side differ =
+    let apart = differ_named shelf.nodes is_shelf.canonical (node_of low) (node_of high) low_side.valid high_side.valid
+    (λ same. differ (node_of-injective low high same)) in
+    record {
+      one = with_track apart.0 track false;
+      other = with_track apart.0 track true;
+      differs = λ same. apart.1 (low_is_choice shelf is_shelf track low high low_side high_side apart.0 ∙ same
+          ∙ sym (high_is_choice shelf is_shelf track low high low_side high_side apart.0));
+    }
+
+-- a reference that isn't valid everywhere has a function that isn't constant
+pub varies-of_absent : (shelf other : Contents) (r : NodeRef) → IsShelf shelf → IsValid shelf r → (IsValid other r → ⊥) → Varies (state_of shelf r)
+varies-of_absent shelf other r is_shelf valid absent = elim (cases_of shelf r is_shelf valid) [
+  | is_leaf top others asks ↦ absurd (absent (others other))
+  | splits track top split asks_to asks_of ↦
+      let varies = varies-choice shelf track (low_of shelf r) (high_of shelf r) is_shelf split.low split.high split.differ in
+      record {
+        one = varies.one;
+        other = varies.other;
+        differs = λ same. varies.differs (sym (split.states varies.one) ∙ same ∙ split.states varies.other);
+      }
+]

@@ -27,14 +27,32 @@ cases_answer : (o : Option ℕ) → (o ≡ None) ⊎ ((answer : ℕ) × (o ≡ S
 cases_answer None = inl refl
 cases_answer (Some answer) = inr (answer, refl)
 
--- one list was asked, which some label gives
-AnswersOnly-asked : (whole : Asking) (first answers more : Answers) (asked : List ℕ) → IsGiven whole asked →
-    AnswersOnly (IsGiven whole) first answers → AnswersOnly (λ states. states ≡ asked) answers more →
-    AnswersOnly (IsGiven whole) first more
-AnswersOnly-asked whole first answers more asked is_given before only = λ states answer there absent. elim (cases_answer (answers states)) [
-  | inl none ↦ subst (IsGiven whole) (sym (only states answer there none)) is_given
+-- no answer is new
+pub AnswersOnly-none : (IsAsked : List ℕ → Type 0) (answers : Answers) → AnswersOnly IsAsked answers answers
+AnswersOnly-none IsAsked answers = λ states answer there absent. absurd (let e : None ≡ Some answer = sym absent ∙ there in cc)
+
+-- one answer after the other
+pub AnswersOnly-trans : (IsAsked : List ℕ → Type 0) (first answers more : Answers) → AnswersOnly IsAsked first answers →
+    AnswersOnly IsAsked answers more → AnswersOnly IsAsked first more
+AnswersOnly-trans IsAsked first answers more before only = λ states answer there absent. elim (cases_answer (answers states)) [
+  | inl none ↦ only states answer there none
   | inr some ↦ before states some.0 some.1 absent
 ]
+
+-- what a leaf asks, its key asks
+pub AnswersOnly-leaf : (like : List ℕ → List ℕ → Type 0) (asking : Asking) (asked : List ℕ) (answers more : Answers) →
+    ((label : Label) → asking label ≡ asked) → AnswersOnly (like asked) answers more → AnswersOnly (IsGiven like asking) answers more
+unfolding IsGiven
+AnswersOnly-leaf like asking asked answers more asks only = λ states answer there absent.
+    (λ u. false, subst (λ (list : List ℕ). like list states) (sym (asks (λ u. false))) (only states answer there absent))
+
+-- what a part asks, the whole asks
+pub AnswersOnly-part : (like : List ℕ → List ℕ → Type 0) (whole asking other : Asking) (answers more : Answers) → IsPart whole asking →
+    AsksSame other asking → AnswersOnly (IsGiven like other) answers more → AnswersOnly (IsGiven like whole) answers more
+unfolding IsGiven AsksSame
+AnswersOnly-part like whole asking other answers more part same only = λ states answer there absent.
+    let given = only states answer there absent in
+    (with_below part.below part.fixed given.0, subst (λ (list : List ℕ). like list states) (same given.0 ∙ part.asks given.0) given.1)
 
 module _ {K : Type 0} (eq : K → K → Bool) (asked : K → Asking) (is_in : K → Bool) (call : Call) (shelf : Contents)
     (answers : Answers) (memo : Memo K) (stack : List (Frame K)) where
@@ -45,18 +63,10 @@ module _ {K : Type 0} (eq : K → K → Bool) (asked : K → Asking) (is_in : K 
     works-found r there = record {
       progress = works.progress;
       kept = works.kept;
-      underway = record { focus = asked key; result = works.kept key r there; waits = works.underway.1 };
+      underway = record { focus = asked key; result = (works.kept key r there).stands; waits = works.underway.1 };
     }
 
-    given_here : (states : List ℕ) → ((label : Label) → asked key label ≡ states) → IsGiven call.whole states
-    unfolding IsGiven
-    given_here states asks =
-        let part = works.underway.0.part in
-        (with_below part.below part.fixed (λ u. false), sym (part.asks (λ u. false)) ∙ asks (λ u. false))
-
-    module _ (more : Answers) (states : List ℕ) (kept : KeepsAnswers answers more)
-        (only : AnswersOnly (λ list. list ≡ states) answers more) (asks : (label : Label) → asked key label
-        ≡ states) where
+    module _ (more : Answers) (kept : KeepsAnswers answers more) where
       -- the rule was asked
       pub progress-leaf : Progress call shelf more
       progress-leaf = record {
@@ -67,18 +77,18 @@ module _ {K : Type 0} (eq : K → K → Bool) (asked : K → Asking) (is_in : K 
         tables = works.progress.tables;
         adds = AddsNew-answers call shelf answers more kept works.progress.adds;
         answers_kept = KeepsAnswers-trans call.answers answers more works.progress.answers_kept kept;
-        only = AnswersOnly-asked call.whole call.answers answers more states (given_here states asks) works.progress.only only;
       }
 
       -- the rule has answered
-      pub works-leaf : (after : Memo K) (made : NodeRef) (answer : ℕ) → Respects eq asked → IsLeaf made answer →
-          more states ≡ Some answer → Updates eq memo after key (Some made) →
-          Works eq asked is_in call shelf more after stack (Done made)
-      works-leaf after made answer respects leaf answered updates =
+      pub works-leaf : (states : List ℕ) → ((label : Label) → asked key label ≡ states) → (after : Memo K) (made : NodeRef)
+          (answer : ℕ) → Respects eq asked is_in → IsLeaf made answer → more states ≡ Some answer →
+          Updates eq memo after key (Some made) → Works eq asked is_in call shelf more after stack (Done made)
+      works-leaf states asks after made answer respects leaf answered updates =
           let stands = Stands-leaf shelf more (asked key) made states answer leaf answered asks in
           record {
             progress = progress-leaf;
-            kept = IsMemo-insert eq asked shelf shelf answers more (Keeps-refl shelf) kept memo after key made respects works.kept stands updates;
+            kept = IsMemo-insert eq asked is_in shelf shelf answers more (Keeps-refl shelf) kept memo after key made respects
+                works.underway.0.inside works.kept stands updates;
             underway = record {
               focus = asked key;
               result = stands;
@@ -94,7 +104,11 @@ module _ {K : Type 0} (eq : K → K → Bool) (asked : K → Asking) (is_in : K 
       kept = works.kept;
       underway = (
         record { inside = step.goes.inside; part = IsPart-same call.whole (asked key) (asked next) step.same works.underway.0.part },
-        AllWait-push asked is_in call.whole shelf answers stack (Skip key) (asked next) step.same works.underway.1,
+        AllWait-push asked is_in call.whole shelf answers stack (Skip key) (asked next) (record {
+          inside = works.underway.0.inside;
+          same =
+              step.same;
+        }) works.underway.1,
       );
     }
 
@@ -108,6 +122,7 @@ module _ {K : Type 0} (eq : K → K → Bool) (asked : K → Asking) (is_in : K 
         record { inside = step.low_goes.inside; part = IsPart-low call.whole (asked key) (asked low) (asked high) track step.split works.underway.0.part },
         AllWait-push asked is_in call.whole shelf answers stack (Low key track high) (asked low)
             (record {
+              inside = works.underway.0.inside;
               part = works.underway.0.part;
               due = record {
                 inside = step.high_goes.inside;
@@ -123,9 +138,9 @@ module _ {K : Type 0} (eq : K → K → Bool) (asked : K → Asking) (is_in : K 
 -- the whole is due at the start
 pub works-start : {K : Type 0} (eq : K → K → Bool) (asked : K → Asking) (is_in : K → Bool) (call : Call)
     (memo : Memo K) (key : K) → call.whole ≡ asked key → IsTrue (is_in key) → IsShelf call.shelf →
-    ((other : K) → get eq memo other ≡ None) → Works eq asked is_in call call.shelf call.answers memo [] (Visit key)
-unfolding IsMemo AllWait AsksSame
-works-start eq asked is_in call memo key whole inside is_shelf empty = record {
+    IsMemo eq asked is_in call.shelf call.answers memo → Works eq asked is_in call call.shelf call.answers memo [] (Visit key)
+unfolding AllWait AsksSame
+works-start eq asked is_in call memo key whole inside is_shelf is_memo = record {
   progress = record {
     before = is_shelf;
     now = is_shelf;
@@ -134,9 +149,8 @@ works-start eq asked is_in call memo key whole inside is_shelf empty = record {
     tables = refl;
     adds = AddsNew-none call;
     answers_kept = λ states answer was. was;
-    only = λ states answer there absent. absurd (let e : None ≡ Some answer = sym absent ∙ there in cc);
   };
-  kept = λ other r there. absurd (let e : None ≡ Some r = sym (empty other) ∙ there in cc);
+  kept = is_memo;
   underway = (
     record { inside = inside; part = subst (IsPart call.whole) whole (IsPart-whole call.whole) },
     λ label. ap (λ (asking : Asking). asking label) whole,
@@ -158,21 +172,28 @@ module _ {K : Type 0} (eq : K → K → Bool) (asked : K → Asking) (is_in : K 
         underway = (
           record { inside = waits.0.due.inside; part = waits.0.due.part },
           AllWait-push asked is_in call.whole shelf answers stack (High key track made) (asked high)
-              (record { part = waits.0.part; side = works.underway.focus; stands = works.underway.result; split = waits.0.split }) waits.1,
+              (record {
+                inside = waits.0.inside;
+                part = waits.0.part;
+                side = works.underway.focus;
+                stands = works.underway.result;
+                split =
+                    waits.0.split;
+              }) waits.1,
         );
       }
 
   -- the key past a dropped track has its result
-  pub works-past : (key : K) (after : Memo K) → Respects eq asked →
+  pub works-past : (key : K) (after : Memo K) → Respects eq asked is_in →
       Works eq asked is_in call shelf answers memo (stack ++ Skip key ∷ []) (Done made) →
       Updates eq memo after key (Some made) → Works eq asked is_in call shelf answers after stack (Done made)
   works-past key after respects works updates =
       let waits = AllWait-pop asked is_in call.whole shelf answers stack (Skip key) works.underway.focus works.underway.waits in
-      let stands = Stands-same shelf answers (asked key) works.underway.focus made waits.0 works.underway.result in
+      let stands = Stands-same shelf answers (asked key) works.underway.focus made waits.0.same works.underway.result in
       record {
         progress = works.progress;
-        kept = IsMemo-insert eq asked shelf shelf answers answers (Keeps-refl shelf)
-            (λ states answer was. was) memo after key made respects works.kept stands updates;
+        kept = IsMemo-insert eq asked is_in shelf shelf answers answers (Keeps-refl shelf)
+            (λ states answer was. was) memo after key made respects waits.0.inside works.kept stands updates;
         underway = record { focus = asked key; result = stands; waits = waits.1 };
       }
 
@@ -220,14 +241,14 @@ module _ {K : Type 0} (eq : K → K → Bool) (asked : K → Asking) (is_in : K 
         tables = tables ∙ works.progress.tables;
         adds = AddsNew-made call shelf new answers node (asked key) works.progress.keeps keeps only count waits_on_top.0.part stands works.progress.adds;
         answers_kept = works.progress.answers_kept;
-        only = works.progress.only;
       }
 
-      pub works-made : (after : Memo K) → Respects eq asked → Updates eq memo after key (Some node) →
+      pub works-made : (after : Memo K) → Respects eq asked is_in → Updates eq memo after key (Some node) →
           Works eq asked is_in call new answers after stack (Done node)
       works-made after respects updates = record {
         progress = progress-made;
-        kept = IsMemo-insert eq asked shelf new answers answers keeps (λ states answer was. was) memo after key node respects works.kept stands updates;
+        kept = IsMemo-insert eq asked is_in shelf new answers answers keeps (λ states answer was. was) memo after key node respects
+            waits_on_top.0.inside works.kept stands updates;
         underway = record {
           focus = asked key;
           result = stands;

@@ -13,6 +13,6 @@ abbrev pub asked_of : Contents → List NodeRef → Option ℕ → Label → Lis
 asked_of shelf roots None label = leaves_of shelf roots label
 asked_of shelf roots (Some t) label = leaves_of shelf roots (with_track label t false) ++ leaves_of shelf roots (with_track label t true)
 
--- some label gives the list
-unfoldable pub IsGiven : (Label → List ℕ) → List ℕ → Type 0
-IsGiven asked states = (label : Label) × (asked label ≡ states)
+-- the list is like one that some label gives
+unfoldable pub IsGiven : (List ℕ → List ℕ → Type 0) → (Label → List ℕ) → List ℕ → Type 0
+IsGiven like asked states = (label : Label) × like (asked label) states

@@ -1,7 +1,7 @@
 -- The laws of the kinds of keys: equal keys ask the same, and a shelf that keeps its references keeps what keys ask.
 use Rattle.std.specs.Prelude.{◌≡◌, ℕ, Bool, true, false, List, [], ◌∷◌, IsTrue, ◌&&◌, nat_eq}
 use Rattle.std.specs.List.{list_all}
-use Rattle.std.proofs.Common.{◌∙◌, ap, refl}
+use Rattle.std.proofs.Common.{◌∙◌, ap, refl, subst}
 use Rattle.std.proofs.lemmas.Bool.{eqb-true, false≢true}
 use Rattle.bdd_nodes.specs.declared.node_ref.NodeRef.{NodeRef}
 use Rattle.labels.specs.Labels.{Label}
@@ -45,9 +45,13 @@ pub same_word : (a b : NodeRef) → nat_eq a.word b.word ≡ true → a ≡ b
 same_word a b e = ap (λ (w : ℕ). let r : NodeRef = record { word = w } in r) (eqb-true a.word b.word e)
 
 -- keys that are equal where a test says so
-pub Respects-equal : {K : Type 0} (eq : K → K → Bool) (asked : K → Asking) → ((a b : K) → eq a b ≡ true → a ≡ b) → Respects eq asked
-unfolding Respects AsksSame
-Respects-equal {K} eq asked equal = λ a b e label. ap (λ (key : K). asked key label) (equal a b e)
+pub Respects-equal : {K : Type 0} (eq : K → K → Bool) (asked : K → Asking) (is_in : K → Bool) →
+    ((a b : K) → eq a b ≡ true → a ≡ b) → Respects eq asked is_in
+unfolding AsksSame
+Respects-equal {K} eq asked is_in equal = record {
+  asks = λ a b e label. ap (λ (key : K). asked key label) (equal a b e);
+  inside = λ a b e inside. subst (λ (key : K). IsTrue (is_in key)) (equal a b e) inside;
+}
 
 -- one reference
 pub one-stays_in : (old new : Contents) (r : NodeRef) → Keeps old new → IsTrue (is_valid old r) → IsTrue (is_valid new r)

@@ -10,3 +10,4 @@ pub mod Laws
 pub mod PairLaws
 pub mod ManyLaws
 pub mod Rules
+pub mod Fits

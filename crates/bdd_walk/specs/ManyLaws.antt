@@ -1,8 +1,8 @@
 -- The laws of lists of references as keys.
-use Rattle.std.specs.Prelude.{◌≡◌, ℕ, Bool, true, false, List, [], ◌∷◌, ◌++◌, take, drop, length, Option, Some, None, IsTrue, ◌&&◌, nat_eq, nat_le}
+use Rattle.std.specs.Prelude.{◌≡◌, ℕ, Bool, true, false, List, [], ◌∷◌, ◌++◌, take, drop, Option, Some, None, IsTrue, nat_eq}
 use Rattle.std.specs.List.{list_all}
 use Rattle.std.specs.Cmp.Lexicographic.{pointwise}
-use Rattle.std.proofs.Common.{◌∙◌, ap, refl, zero, suc}
+use Rattle.std.proofs.Common.{◌∙◌, ap, refl, subst, zero, suc}
 use Rattle.std.proofs.lemmas.Bool.{false≢true}
 use Rattle.bdd_nodes.specs.declared.node_ref.NodeRef.{NodeRef}
 use Rattle.bdd_nodes.specs.Shelf.{Contents}
@@ -12,7 +12,7 @@ use Rattle.bdd_walk.specs.Asked.{leaves_of}
 use Rattle.bdd_walk.specs.Stands.{Asking, AsksSame}
 use Rattle.bdd_walk.specs.Waits.{Respects}
 use Rattle.bdd_walk.specs.Sides.{asked_by}
-use Rattle.bdd_walk.specs.Laws.{and-left, and-right, and-both, same_word, valid-kept, leaves-kept}
+use Rattle.bdd_walk.specs.Laws.{and-left, and-right, and-both, same_word, leaves-kept}
 
 -- the front and the rest of valid references are valid
 pub valid-take : (shelf : Contents) (n : ℕ) (rs : List NodeRef) → IsTrue (list_all (is_valid shelf) rs) → IsTrue (list_all (is_valid shelf) (take n rs))
@@ -36,27 +36,20 @@ same_list (x ∷ xs) (y ∷ ys) e =
     ap (λ (r : NodeRef). r ∷ xs) (same_word x y (and-left (nat_eq x.word y.word) (pointwise (λ a b. nat_eq a.word b.word) xs ys) e))
     ∙ ap (λ (rs : List NodeRef). y ∷ rs) (same_list xs ys (and-right (nat_eq x.word y.word) (pointwise (λ a b. nat_eq a.word b.word) xs ys) e))
 
-pub Respects-lists : {K : Type 0} (eq : K → K → Bool) (refs : K → List NodeRef) (asked : List NodeRef → Asking) →
-    ((a b : K) → eq a b ≡ true → refs a ≡ refs b) → Respects eq (λ key. asked (refs key))
-unfolding Respects AsksSame
-Respects-lists {K} eq refs asked equal = λ a b e label. ap (λ (rs : List NodeRef). asked rs label) (equal a b e)
-
-pub many-stays_in : (old new : Contents) → Keeps old new → (half : ℕ) (rs : List NodeRef) →
-    IsTrue (list_all (is_valid old) rs && nat_le half (length rs)) →
-    IsTrue (list_all (is_valid new) rs && nat_le half (length rs))
-many-stays_in old new keeps half rs inside =
-    and-both (list_all (is_valid new) rs) (nat_le half (length rs))
-    (valid-kept old new keeps rs (and-left (list_all (is_valid old) rs) (nat_le half (length rs)) inside))
-    (and-right (list_all (is_valid old) rs) (nat_le half (length rs)) inside)
+pub Respects-lists : {K : Type 0} (eq : K → K → Bool) (refs : K → List NodeRef) (asked : List NodeRef → Asking) (is_in : List NodeRef → Bool) →
+    ((a b : K) → eq a b ≡ true → refs a ≡ refs b) → Respects eq (λ key. asked (refs key)) (λ key. is_in (refs key))
+unfolding AsksSame
+Respects-lists {K} eq refs asked is_in equal = record {
+  asks = λ a b e label. ap (λ (rs : List NodeRef). asked rs label) (equal a b e);
+  inside = λ a b e inside. subst (λ (rs : List NodeRef). IsTrue (is_in rs)) (equal a b e) inside;
+}
 
 pub many-asks_still : (old new : Contents) → Keeps old new → (dropped : Option ℕ) (half : ℕ) (rs : List NodeRef) →
-    IsTrue (list_all (is_valid old) rs && nat_le half (length rs)) →
+    IsTrue (list_all (is_valid old) rs) →
     AsksSame (λ label. asked_by new dropped half rs label) (λ label. asked_by old dropped half rs label)
 unfolding AsksSame
-many-asks_still old new keeps None half rs inside =
-    λ label. leaves-kept old new keeps rs label (and-left (list_all (is_valid old) rs) (nat_le half (length rs)) inside)
-many-asks_still old new keeps (Some t) half rs inside = λ label.
-    let valid = and-left (list_all (is_valid old) rs) (nat_le half (length rs)) inside in
+many-asks_still old new keeps None half rs valid = λ label. leaves-kept old new keeps rs label valid
+many-asks_still old new keeps (Some t) half rs valid = λ label.
     ap (λ (states : List ℕ). states ++ leaves_of new (drop half rs) (with_track label t true))
     (leaves-kept old new keeps (take half rs) (with_track label t false) (valid-take old half rs valid))
     ∙ ap (λ (states : List ℕ). leaves_of old (take half rs) (with_track label t false) ++ states)

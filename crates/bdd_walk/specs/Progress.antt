@@ -3,8 +3,7 @@ use Rattle.std.specs.Prelude.{◌≡◌, ◌≢◌, ◌+◌, List, length, All, 
 use Rattle.bdd_nodes.specs.declared.node_ref.NodeRef.{NodeRef}
 use Rattle.bdd_nodes.specs.Shelf.{Contents, IsShelf, IsValid, count_of, limit_of}
 use Rattle.bdd_nodes.specs.Changes.{Keeps, SameTables}
-use Rattle.bdd_walk.specs.Answers.{Answers, KeepsAnswers, AnswersOnly}
-use Rattle.bdd_walk.specs.Asked.{IsGiven}
+use Rattle.bdd_walk.specs.Answers.{Answers, KeepsAnswers}
 use Rattle.bdd_walk.specs.declared.walk.Frame.{Frame}
 use Rattle.bdd_walk.specs.declared.walk.Turn.{Turn}
 use Rattle.bdd_walk.specs.Stands.{Asking, IsPart, Stands}
@@ -40,11 +39,10 @@ pub record Progress (call : Call) (shelf : Contents) (answers : Answers) : Type 
   pub tables : SameTables call.shelf shelf
   pub adds : AddsNew call shelf answers
   pub answers_kept : KeepsAnswers call.answers answers
-  pub only : AnswersOnly (IsGiven call.whole) call.answers answers
 
 -- a walk at work: what it has changed so far, the results that it keeps, and what waits for what is worked on
 pub record Works {K : Type 0} (eq : K → K → Bool) (asked : K → Asking) (is_in : K → Bool) (call : Call)
     (shelf : Contents) (answers : Answers) (memo : Memo K) (stack : List (Frame K)) (turn : Turn K) : Type 0 where
   pub progress : Progress call shelf answers
-  pub kept : IsMemo eq asked shelf answers memo
+  pub kept : IsMemo eq asked is_in shelf answers memo
   pub underway : IsUnderway asked is_in shelf answers call.whole stack turn

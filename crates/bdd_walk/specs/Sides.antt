@@ -1,5 +1,5 @@
 -- What a step takes of the references: their sides under a track, and the track that is asked first.
-use Rattle.std.specs.Prelude.{◌≡◌, ◌+◌, ℕ, Bool, true, false, List, [], ◌∷◌, ◌++◌, take, drop, min, Option, Some, None, nat_eq, if◌then◌else◌, ◌⊎◌}
+use Rattle.std.specs.Prelude.{◌≡◌, ◌+◌, ◌/◌, ℕ, Bool, true, false, List, [], ◌∷◌, ◌++◌, take, drop, length, min, Option, Some, None, nat_eq, if◌then◌else◌, ◌⊎◌}
 use Rattle.std.specs.List.{AllByRecursion}
 use Rattle.bdd_nodes.specs.declared.node_ref.NodeRef.{NodeRef}
 use Rattle.labels.specs.Labels.{Label, with_track}
@@ -47,6 +47,10 @@ IsFirstOf shelf rs (Some track) = AskFirst shelf track rs
 abbrev pub weight_of : List NodeRef → ℕ
 weight_of [] = 0
 weight_of (r ∷ rs) = rank_of r + weight_of rs
+
+-- half of the length
+abbrev pub half_of : List NodeRef → ℕ
+half_of rs = length rs / 2
 
 -- of a dropped track the references before the half have it unset, and those behind it set
 abbrev pub asked_by : Contents → Option ℕ → ℕ → List NodeRef → Asking

@@ -17,13 +17,21 @@ use Rattle.bdd_walk.specs.Steps.{IsSplitBy}
 abbrev pub Memo : Type 0 → Type 0
 Memo K = HashMap K NodeRef (BuildHasherDefault FoldHasher)
 
--- equal keys ask the same
-unfoldable pub Respects : {K : Type 0} → (K → K → Bool) → (K → Asking) → Type 0
-Respects {K} eq asked = (a b : K) → eq a b ≡ true → AsksSame (asked a) (asked b)
+-- equal keys ask the same, and are in together
+pub record Respects {K : Type 0} (eq : K → K → Bool) (asked : K → Asking) (is_in : K → Bool) : Type 0 where
+  pub asks : (a b : K) → eq a b ≡ true → AsksSame (asked a) (asked b)
+  pub inside : (a b : K) → eq a b ≡ true → IsTrue (is_in a) → IsTrue (is_in b)
 
--- each result stands for what its key asks
-unfoldable pub IsMemo : {K : Type 0} → (K → K → Bool) → (K → Asking) → Contents → Answers → Memo K → Type 0
-IsMemo {K} eq asked shelf answers memo = (key : K) (r : NodeRef) → get eq memo key ≡ Some r → Stands shelf answers (asked key) r
+-- a key that stands for valid references, and a reference that stands for what it asks
+pub record IsResult {K : Type 0} (asked : K → Asking) (is_in : K → Bool) (shelf : Contents) (answers : Answers)
+    (key : K) (r : NodeRef) : Type 0 where
+  pub inside : IsTrue (is_in key)
+  pub stands : Stands shelf answers (asked key) r
+
+-- each result is that of its key
+unfoldable pub IsMemo : {K : Type 0} → (K → K → Bool) → (K → Asking) → (K → Bool) → Contents → Answers → Memo K → Type 0
+IsMemo {K} eq asked is_in shelf answers memo =
+    (key : K) (r : NodeRef) → get eq memo key ≡ Some r → IsResult asked is_in shelf answers key r
 
 module _ {K : Type 0} where
   -- the key that waits
@@ -40,22 +48,29 @@ module _ {K : Type 0} where
 
     -- its low side is worked on, and its high side is still due
     pub record WaitsLow (key : K) (track : ℕ) (high : K) (focus : Asking) : Type 0 where
+      pub inside : IsTrue (is_in key)
       pub part : IsPart whole (asked key)
       pub due : IsDue high
       pub split : IsSplitBy track (asked key) focus (asked high)
 
     -- its low side has a result, and its high side is worked on
     pub record WaitsHigh (key : K) (track : ℕ) (low : NodeRef) (focus : Asking) : Type 0 where
+      pub inside : IsTrue (is_in key)
       pub part : IsPart whole (asked key)
       pub side : Asking
       pub stands : Stands shelf answers side low
       pub split : IsSplitBy track (asked key) side focus
 
+    -- what is worked on has its result
+    pub record WaitsPast (key : K) (focus : Asking) : Type 0 where
+      pub inside : IsTrue (is_in key)
+      pub same : AsksSame (asked key) focus
+
     -- it has the result of what is worked on
     abbrev pub WaitsFor : Frame K → Asking → Type 0
     WaitsFor (Low key track high) focus = WaitsLow key track high focus
     WaitsFor (High key track low) focus = WaitsHigh key track low focus
-    WaitsFor (Skip key) focus = AsksSame (asked key) focus
+    WaitsFor (Skip key) focus = WaitsPast key focus
 
     -- each key waits for the one above it, and the lowest is the whole; the top of the stack comes first
     unfoldable pub AllWait : List (Frame K) → Asking → Type 0

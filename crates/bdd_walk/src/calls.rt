@@ -6,10 +6,10 @@ ghost use Rattle.bdd_nodes.specs.Shelf.{IsShelf, IsValid, state_of, limit_of};
 ghost use Rattle.bdd_nodes.specs.Changes.{Keeps, SameTables};
 ghost use Rattle.bdd_walk.specs.Answers.{Answers, KeepsAnswers, AnswersOnly, Completes};
 ghost use Rattle.bdd_walk.specs.Asked.{asked_of, IsGiven};
-ghost use Rattle.bdd_walk.specs.Under.{Exceeds, AddsParts, AddsUnder};
+ghost use Rattle.bdd_walk.specs.Under.{Exceeds, Adds, AddsParts, AddsUnder};
 
+use crate::joiner::Joiner;
 use crate::one_root::{FixedTrack, OneRoot};
-use crate::roots::join_roots;
 use crate::rule::LeafRule;
 use crate::rules::{Renaming, SameState};
 use crate::stop::Stop;
@@ -49,14 +49,17 @@ pub fn join<L: LeafRule>(
     ensures kept { Keeps shelf.old shelf.new }
     ensures parts { (given : List ℕ → ℕ) → Completes (L.answers rule.new) given
         → AddsParts shelf.old shelf.new (λ label. given (asked_of shelf.old roots.now dropped label)) }
+    ensures adds { (given : List ℕ → ℕ) → Completes (L.answers rule.new) given
+        → Adds shelf.old shelf.new (λ label. given (asked_of shelf.old roots.now dropped label)) }
     ensures same_limit { limit_of shelf.new ≡ limit_of shelf.old }
     ensures tables { SameTables shelf.old shelf.new }
     ensures shelf { IsShelf shelf.new }
     ensures answers { KeepsAnswers (L.answers rule.old) (L.answers rule.new) }
-    ensures only { AnswersOnly (IsGiven (asked_of shelf.old roots.now dropped)) (L.answers rule.old) (L.answers rule.new) }
+    ensures only { AnswersOnly (IsGiven L.like (asked_of shelf.old roots.now dropped)) (L.answers rule.old) (L.answers rule.new) }
     ensures may_ask_still { (asked : List ℕ) → L.may_ask rule.old asked → L.may_ask rule.new asked }
 {
-    let made = join_roots(alloc, shelf, roots.as_slice(), dropped, rule)?;
+    let mut joiner = Joiner::new(alloc);
+    let made = joiner.join(alloc, shelf, roots.as_slice(), dropped, rule)?;
     Ok(made)
 }
 
@@ -82,6 +85,7 @@ pub fn rename(
     // What the call leaves, whatever it answers.
     ensures kept { Keeps shelf.old shelf.new }
     ensures parts { AddsParts shelf.old shelf.new (λ label. slice_index states.now (state_of shelf.old root label)) }
+    ensures adds { Adds shelf.old shelf.new (λ label. slice_index states.now (state_of shelf.old root label)) }
     ensures same_limit { limit_of shelf.new ≡ limit_of shelf.old }
     ensures tables { SameTables shelf.old shelf.new }
     ensures shelf { IsShelf shelf.new }
@@ -112,6 +116,7 @@ pub fn restrict(
     // What the call leaves, whatever it answers.
     ensures kept { Keeps shelf.old shelf.new }
     ensures parts { AddsParts shelf.old shelf.new (λ label. state_of shelf.old root (with_track label track bit)) }
+    ensures adds { Adds shelf.old shelf.new (λ label. state_of shelf.old root (with_track label track bit)) }
     ensures same_limit { limit_of shelf.new ≡ limit_of shelf.old }
     ensures tables { SameTables shelf.old shelf.new }
     ensures shelf { IsShelf shelf.new }

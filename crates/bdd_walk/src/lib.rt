@@ -5,6 +5,8 @@
 #![tactic(auto)]
 
 mod calls;
+mod joiner;
+mod laws;
 mod many_roots;
 mod one_root;
 mod roots;
@@ -16,5 +18,7 @@ mod two_roots;
 mod walk;
 
 pub use calls::{StateMap, join, rename, restrict};
+pub use joiner::Joiner;
+pub use laws::{a_joiner_fits_what_goes_on, joins_add_up};
 pub use rule::{LeafRule, StateList};
 pub use stop::{NoMemory, Stop};

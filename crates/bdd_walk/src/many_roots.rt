@@ -1,6 +1,6 @@
 //! Going down from a list of references.
 
-ghost use Rattle.std.specs.Prelude.{◌≡◌, ◌≤◌, ◌++◌, ◌&&◌, true, false, map, take, drop, length, nat_le, IfOk, IsTrue};
+ghost use Rattle.std.specs.Prelude.{◌≡◌, ◌≤◌, ◌++◌, true, false, map, take, drop, length, IfOk, IsTrue};
 ghost use Rattle.std.specs.List.{list_all};
 ghost use Rattle.bdd_nodes.specs.Changes.{is_valid};
 ghost use Rattle.bdd_walk.specs.Sides.{side_at};
@@ -10,12 +10,11 @@ use crate::walk::{Step, Walk};
 use bdd_nodes::{NodeRef, Shelf};
 use std::alloc::{AllocError, Global};
 
-/// Keys that are a list of references. Of a dropped track the references before the half are the sides with it unset,
-/// and those behind it the sides with it set.
+/// Keys that are a list of references. Of a dropped track the references in the first half of the list are the sides
+/// with it unset, and those in the second half the sides with it set.
 #[derive(Clone, Copy, Debug)]
 pub(crate) struct ManyRoots {
     pub(crate) dropped: Option<u32>,
-    pub(crate) half: usize,
 }
 
 /// The sides of all references.
@@ -71,23 +70,24 @@ impl ManyRoots {
 }
 
 impl Walk for ManyRoots {
-    ghost use Rattle.bdd_walk.specs.Sides.{asked_by, weight_of};
-    ghost use Rattle.bdd_walk.specs.ManyLaws.{Respects-lists, same_list, many-stays_in, many-asks_still};
+    ghost use Rattle.bdd_walk.specs.Sides.{asked_by, half_of, weight_of};
+    ghost use Rattle.bdd_walk.specs.ManyLaws.{Respects-lists, same_list, many-asks_still};
+    ghost use Rattle.bdd_walk.specs.Laws.{valid-kept};
 
     type Key = Vec<NodeRef>;
 
-    ghost asked = { λ walk shelf roots label. asked_by shelf walk.dropped walk.half roots.items label };
+    ghost asked = { λ walk shelf roots label. asked_by shelf walk.dropped (half_of roots.items) roots.items label };
 
-    ghost is_in = { λ walk shelf roots. list_all (is_valid shelf) roots.items && nat_le walk.half (length roots.items) };
+    ghost is_in = { λ walk shelf roots. list_all (is_valid shelf) roots.items };
 
     ghost weight = { λ walk roots. weight_of roots.items };
 
-    ghost respects = { λ walk shelf. Respects-lists _ (λ roots. roots.items) (λ roots label. asked_by shelf walk.dropped walk.half roots label)
-        (λ a b. same_list a.items b.items) };
+    ghost respects = { λ walk shelf. Respects-lists _ (λ roots. roots.items)
+        (λ roots label. asked_by shelf walk.dropped (half_of roots) roots label) (list_all (is_valid shelf)) (λ a b. same_list a.items b.items) };
 
-    ghost stays_in = { λ walk old new roots keeps inside. many-stays_in old new keeps walk.half roots.items inside };
+    ghost stays_in = { λ walk old new roots keeps inside. valid-kept old new keeps roots.items inside };
 
-    ghost asks_still = { λ walk old new roots keeps inside. many-asks_still old new keeps walk.dropped walk.half roots.items inside };
+    ghost asks_still = { λ walk old new roots keeps inside. many-asks_still old new keeps walk.dropped (half_of roots.items) roots.items inside };
 
     fn step(
         &self,
@@ -100,7 +100,7 @@ impl Walk for ManyRoots {
             return Ok(Step::Leaf(states_of(alloc, shelf, roots)?));
         };
         if self.drops(track) {
-            return Ok(Step::Skip(past(alloc, shelf, roots, track, self.half)?));
+            return Ok(Step::Skip(past(alloc, shelf, roots, track, roots.len() / 2)?));
         }
         let low = all_sides(alloc, shelf, roots, track, false)?;
         let high = all_sides(alloc, shelf, roots, track, true)?;

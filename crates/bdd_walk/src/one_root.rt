@@ -50,7 +50,7 @@ impl Walk for OneRoot {
 
     ghost weight = { λ walk root. rank_of root };
 
-    ghost respects = { λ walk shelf. Respects-equal _ (λ root label. leaves_of shelf (root ∷ []) (fixed_label walk.fixed label)) same_word };
+    ghost respects = { λ walk shelf. Respects-equal _ (λ root label. leaves_of shelf (root ∷ []) (fixed_label walk.fixed label)) (is_valid shelf) same_word };
 
     ghost stays_in = { λ walk. one-stays_in };
 

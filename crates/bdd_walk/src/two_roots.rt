@@ -86,7 +86,8 @@ impl Walk for TwoRoots {
 
     ghost weight = { λ walk pair. weight_of (pair.left ∷ pair.right ∷ []) };
 
-    ghost respects = { λ walk shelf. Respects-equal _ (λ pair label. leaves_of shelf (pair.left ∷ pair.right ∷ []) label) same_pair };
+    ghost respects = { λ walk shelf. Respects-equal _ (λ pair label. leaves_of shelf (pair.left ∷ pair.right ∷ []) label)
+        (λ pair. list_all (is_valid shelf) (pair.left ∷ pair.right ∷ [])) same_pair };
 
     ghost stays_in = { λ walk old new pair keeps inside. valid-kept old new keeps (pair.left ∷ pair.right ∷ []) inside };
 

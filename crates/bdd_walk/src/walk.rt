@@ -1,7 +1,8 @@
 //! Going down from a key to its leaves, and up again: each key's sides are joined before it, so that only the result's
 //! nodes are made, and each key once. A stack keeps the keys that wait, so that no call goes deep.
 
-ghost use Rattle.std.specs.Prelude.{◌≡◌, ◌≢◌, ◌+◌, ◌<◌, ℕ, Bool, List, [], ◌∷◌, ◌++◌, Err, IfOk, OnErr, IsTrue};
+ghost use Rattle.std.specs.Prelude.{◌≡◌, ◌≢◌, ◌+◌, ◌<◌, ℕ, Bool, List, [], ◌∷◌, ◌++◌, Err, IfOk, OnOk, OnErr, IsTrue};
+ghost use Rattle.std.specs.HashMap.{IsEmpty};
 ghost use Rattle.labels.specs.Labels.{Label};
 ghost use Rattle.bdd_nodes.specs.Shelf.{Contents, IsShelf, IsValid, IsSideFor, limit_of};
 ghost use Rattle.bdd_nodes.specs.Changes.{Keeps};
@@ -10,7 +11,7 @@ ghost use Rattle.bdd_walk.specs.Asked.{IsGiven};
 ghost use Rattle.bdd_walk.specs.Under.{Exceeds};
 ghost use Rattle.bdd_walk.specs.Stands.{Asking, Stands, AsksSame};
 ghost use Rattle.bdd_walk.specs.Steps.{IsStep};
-ghost use Rattle.bdd_walk.specs.Waits.{Respects, FitsFrame, visit_cost, turn_cost, stack_cost, frame_cost};
+ghost use Rattle.bdd_walk.specs.Waits.{Respects, IsMemo, FitsFrame, visit_cost, turn_cost, stack_cost, frame_cost};
 ghost use Rattle.bdd_walk.specs.Progress.{Call, Progress, Works};
 
 use crate::rule::{LeafRule, StateList};
@@ -46,6 +47,25 @@ pub(crate) enum Turn<K> {
     Done(NodeRef),
 }
 
+/// The results of joins, by key, and the keys that wait for one.
+#[derive(Drop)]
+pub(crate) struct Kept<K: Eq + Hash> {
+    pub(crate) memo: HashMap<K, NodeRef>,
+    pub(crate) stack: Vec<Frame<K>>,
+}
+
+impl<K: Eq + Hash + Drop> Kept<K> {
+    /// No results yet. Takes no memory.
+    pub(crate) fn new(alloc: Global) -> Kept<K>
+        ensures { IsEmpty result.memo }
+    {
+        Kept {
+            memo: HashMap::new(alloc),
+            stack: Vec::new(alloc),
+        }
+    }
+}
+
 /// A kind of keys, which name what is to be joined.
 pub(crate) trait Walk {
     type Key: Eq + Hash + Drop;
@@ -69,7 +89,7 @@ pub(crate) trait Walk {
         ensures { (before : Contents) → IsShelf before → Keeps before shelf.now → IsTrue (is_in self.now before key.now)
             → IfOk result (IsStep (asked self.now before) (is_in self.now before) (weight self.now) key.now) };
 
-    ghost respects: { (walk : Self) (shelf : Contents) → Respects Self.Key.eq (asked walk shelf) };
+    ghost respects: { (walk : Self) (shelf : Contents) → Respects Self.Key.eq (asked walk shelf) (is_in walk shelf) };
 
     ghost stays_in: { (walk : Self) (old new : Contents) (key : Self.Key) → Keeps old new → IsTrue (is_in walk old key) → IsTrue (is_in walk new key) };
 
@@ -99,6 +119,7 @@ fn visit<W: Walk, L: LeafRule>(
         shelf.now (L.answers rule.new) memo.new stack.new.items) }
     ensures cost { IfOk result (λ turn. turn_cost (W.weight walk.now) turn + stack_cost (W.weight walk.now) stack.new.items
         < visit_cost (W.weight walk.now) key + stack_cost (W.weight walk.now) stack.old.items) }
+    ensures only { AnswersOnly (IsGiven L.like (W.asked walk.now shelf.now key)) (L.answers rule.old) (L.answers rule.new) }
     ensures not_full { result ≢ Err Stop.Limit }
     ensures may_ask_still { (asked : List ℕ) → L.may_ask rule.old asked → L.may_ask rule.new asked }
 {
@@ -131,13 +152,13 @@ fn resume<K: Eq + Hash + Drop>(
     made: NodeRef,
 ) -> Result<Turn<K>, Stop>
     requires { FitsFrame shelf.old frame made }
-    ensures progress { (asked : K → Asking) (is_in : K → Bool) (call : Call) (answers : Answers) → Respects K.eq asked
+    ensures progress { (asked : K → Asking) (is_in : K → Bool) (call : Call) (answers : Answers) → Respects K.eq asked is_in
         → Works K.eq asked is_in call shelf.old answers memo.old (stack.old.items ++ frame ∷ []) (Turn.Done made)
         → Progress call shelf.new answers }
-    ensures works { (asked : K → Asking) (is_in : K → Bool) (call : Call) (answers : Answers) → Respects K.eq asked
+    ensures works { (asked : K → Asking) (is_in : K → Bool) (call : Call) (answers : Answers) → Respects K.eq asked is_in
         → Works K.eq asked is_in call shelf.old answers memo.old (stack.old.items ++ frame ∷ []) (Turn.Done made)
         → IfOk result (Works K.eq asked is_in call shelf.new answers memo.new stack.new.items) }
-    ensures limit { (asked : K → Asking) (is_in : K → Bool) (call : Call) (answers : Answers) → Respects K.eq asked
+    ensures limit { (asked : K → Asking) (is_in : K → Bool) (call : Call) (answers : Answers) → Respects K.eq asked is_in
         → Works K.eq asked is_in call shelf.old answers memo.old (stack.old.items ++ frame ∷ []) (Turn.Done made)
         → result ≡ Err Stop.Limit
         → (given : List ℕ → ℕ) → Completes answers given → Exceeds call.shelf (λ label. given (call.whole label)) }
@@ -165,6 +186,51 @@ fn resume<K: Eq + Hash + Drop>(
     }
 }
 
+/// Joins what the key names, with the results that are kept: for each label the rule's answer on the list that the key
+/// asks.
+pub(crate) fn join_kept<W: Walk, L: LeafRule>(
+    alloc: Global,
+    walk: &W,
+    shelf: &mut Shelf,
+    kept: &mut Kept<W::Key>,
+    start: W::Key,
+    rule: &mut L,
+) -> Result<NodeRef, Stop>
+    requires is_in { IsTrue (W.is_in walk.now shelf.old start) }
+    requires may_ask { (label : Label) → L.may_ask rule.old (W.asked walk.now shelf.old start label) }
+    requires fits { IsMemo W.Key.eq (W.asked walk.now shelf.old) (W.is_in walk.now shelf.old) shelf.old (L.answers rule.old) kept.old.memo }
+    ensures progress { Progress (record { shelf = shelf.old; answers = L.answers rule.old; whole = W.asked walk.now shelf.old start })
+        shelf.new (L.answers rule.new) }
+    ensures stands { IfOk result (Stands shelf.new (L.answers rule.new) (W.asked walk.now shelf.old start)) }
+    ensures limit { result ≡ Err Stop.Limit → (given : List ℕ → ℕ) → Completes (L.answers rule.new) given
+        → Exceeds shelf.old (λ label. given (W.asked walk.now shelf.old start label)) }
+    ensures only { AnswersOnly (IsGiven L.like (W.asked walk.now shelf.old start)) (L.answers rule.old) (L.answers rule.new) }
+    ensures may_ask_still { (asked : List ℕ) → L.may_ask rule.old asked → L.may_ask rule.new asked }
+    ensures fits { OnOk result (IsMemo W.Key.eq (W.asked walk.now shelf.new) (W.is_in walk.now shelf.new) shelf.new (L.answers rule.new) kept.new.memo) }
+{
+    // Only for its clause `shelf`.
+    let _ = shelf.count();
+    kept.stack.clear();
+    let mut turn = Turn::Visit(start);
+    loop {
+        turn = match turn {
+            Turn::Visit(key) => visit(
+                alloc,
+                walk,
+                shelf,
+                rule,
+                &mut kept.memo,
+                &mut kept.stack,
+                key,
+            )?,
+            Turn::Done(made) => match kept.stack.pop() {
+                None => return Ok(made),
+                Some(frame) => resume(shelf, &mut kept.memo, &mut kept.stack, frame, made)?,
+            },
+        };
+    }
+}
+
 /// Joins what the key names: for each label the rule's answer on the list that the key asks.
 pub(crate) fn join_from<W: Walk, L: LeafRule>(
     alloc: Global,
@@ -180,20 +246,9 @@ pub(crate) fn join_from<W: Walk, L: LeafRule>(
     ensures stands { IfOk result (Stands shelf.new (L.answers rule.new) (W.asked walk.now shelf.old start)) }
     ensures limit { result ≡ Err Stop.Limit → (given : List ℕ → ℕ) → Completes (L.answers rule.new) given
         → Exceeds shelf.old (λ label. given (W.asked walk.now shelf.old start label)) }
+    ensures only { AnswersOnly (IsGiven L.like (W.asked walk.now shelf.old start)) (L.answers rule.old) (L.answers rule.new) }
     ensures may_ask_still { (asked : List ℕ) → L.may_ask rule.old asked → L.may_ask rule.new asked }
 {
-    // Only for its clause `shelf`.
-    let _ = shelf.count();
-    let mut memo = HashMap::new(alloc);
-    let mut stack = Vec::new(alloc);
-    let mut turn = Turn::Visit(start);
-    loop {
-        turn = match turn {
-            Turn::Visit(key) => visit(alloc, walk, shelf, rule, &mut memo, &mut stack, key)?,
-            Turn::Done(made) => match stack.pop() {
-                None => return Ok(made),
-                Some(frame) => resume(shelf, &mut memo, &mut stack, frame, made)?,
-            },
-        };
-    }
+    let mut kept = Kept::new(alloc);
+    join_kept(alloc, walk, shelf, &mut kept, start, rule)
 }

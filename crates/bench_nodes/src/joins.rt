@@ -1,13 +1,15 @@
 //! Joins of parities and of random functions.
 
-ghost use Rattle.std.specs.Prelude.{◌≡◌, ◌<◌, ◌≤◌, All, IfOk};
+ghost use Rattle.std.specs.Prelude.{◌≡◌, ◌<◌, ◌≤◌, None, All, IfOk, OnOk};
+ghost use Rattle.bdd_walk.specs.Fits.{Fits};
 ghost use Rattle.bdd_nodes.specs.Shelf.{IsValid, IsSideFor};
 ghost use Rattle.bdd_nodes.specs.Changes.{Keeps};
 ghost use Rattle.bench_nodes.specs.Levels.{IsFrom};
+ghost use Rattle.bench_nodes.specs.Digits.{digits};
 
 use crate::levels::make_all;
 use bdd_nodes::{Full, NodeRef, RefList, Shelf};
-use bdd_walk::{LeafRule, StateList, Stop, join};
+use bdd_walk::{Joiner, LeafRule, StateList, Stop, join};
 use std::alloc::{AllocError, Global};
 
 /// The states' number: its digits to the base 16 are the states.
@@ -15,9 +17,9 @@ use std::alloc::{AllocError, Global};
 struct Digits;
 
 impl LeafRule for Digits {
-    ghost use Rattle.std.specs.Prelude.{◌+◌, ◌*◌, ◌%◌, ◌^◌, Some, fold};
+    ghost use Rattle.bench_nodes.specs.Digits.{digits};
 
-    ghost answers = { λ rule states. Some (fold (λ number state. ((number * 16) % 2 ^ 32 + state) % 2 ^ 32) 0 states % 2 ^ 31) };
+    ghost answers = { λ rule. digits };
 
     ghost may_ask = { λ rule states. Unit {0} };
 
@@ -129,5 +131,73 @@ pub fn join_three(
     let tops = make_all(alloc, &mut shelf, 16, width, levels)?;
     let roots = RefList::from_slice(alloc, &[tops[0], tops[1], tops[2]])?;
     join_rounds(alloc, &mut shelf, &roots, Some(0), rounds)?;
+    Ok(shelf.count())
+}
+
+/// Joins two roots, through the joiner as it is or anew.
+fn join_two_roots(
+    alloc: Global,
+    shelf: &mut Shelf,
+    joiner: &mut Joiner,
+    roots: &[NodeRef; 2],
+    is_kept: bool,
+) -> Result<(), Stop>
+    requires roots { All (IsValid shelf.old) roots.now }
+    requires fits { Fits joiner.old None shelf.old digits }
+    ensures kept { Keeps shelf.old shelf.new }
+    ensures fits { OnOk result (Fits joiner.new None shelf.new digits) }
+{
+    if is_kept {
+        joiner.join(alloc, shelf, roots, None, &mut Digits)?;
+        return Ok(());
+    }
+    let mut rule = Digits;
+    *joiner = Joiner::new(alloc);
+    joiner.join(alloc, shelf, roots, None, &mut rule)?;
+    Ok(())
+}
+
+/// Joins the root with each of the others: through one joiner, or each through one that is made anew.
+fn join_with_each(
+    alloc: Global,
+    shelf: &mut Shelf,
+    joiner: &mut Joiner,
+    root: NodeRef,
+    others: &[NodeRef],
+    is_kept: bool,
+) -> Result<(), Stop>
+    requires root { IsValid shelf.old root }
+    requires others { All (IsValid shelf.old) others.now }
+    requires fits { Fits joiner.old None shelf.old digits }
+    ensures kept { Keeps shelf.old shelf.new }
+    ensures fits { OnOk result (Fits joiner.new None shelf.new digits) }
+{
+    for other in others {
+        join_two_roots(alloc, shelf, joiner, &[root, *other], is_kept)?;
+    }
+    Ok(())
+}
+
+/// Joins each two of many random functions of up to seven nodes, again and again. How many nodes there are in the end.
+pub fn join_small(
+    alloc: Global,
+    limit: u32,
+    width: u32,
+    rounds: u32,
+    is_kept: bool,
+) -> Result<u32, Stop>
+    requires some { 3 ≤ width }
+    requires room { 1 ≤ limit }
+    requires small { limit ≤ 16000000 }
+{
+    let mut shelf = Shelf::open(alloc, limit)?;
+    let made = make_all(alloc, &mut shelf, 16, width, 3)?;
+    let tops = made.as_slice();
+    for _round in 0..rounds {
+        let mut joiner = Joiner::new(alloc);
+        for top in tops {
+            join_with_each(alloc, &mut shelf, &mut joiner, *top, tops, is_kept)?;
+        }
+    }
     Ok(shelf.count())
 }

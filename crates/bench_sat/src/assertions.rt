@@ -27,15 +27,25 @@ fn along(alloc: Global) -> Result<Route, AllocError> {
     Ok(Route::Star(Boxed::new(alloc, round)?))
 }
 
+fn boxed(alloc: Global, assertion: Assertion) -> Result<Boxed<Assertion>, AllocError> {
+    Boxed::new(alloc, assertion)
+}
+
 /// `all c: Node: c in S`
 pub fn all_members(alloc: Global) -> Result<Assertion, AllocError> {
-    let member = Assertion::Member(name(alloc, C), S);
-    Ok(Assertion::All(NODE, Boxed::new(alloc, member)?))
+    let member = boxed(alloc, Assertion::Member(name(alloc, C), S))?;
+    Ok(Assertion::All(NODE, member))
+}
+
+/// `x<next*>` to what the name stands for.
+fn walk_to(alloc: Global, to: Base) -> Result<Assertion, AllocError> {
+    let route = along(alloc)?;
+    Ok(Assertion::Walk(name(alloc, X), route, name(alloc, to)))
 }
 
 /// `x<next*>y`
 pub fn walk_to_last(alloc: Global) -> Result<Assertion, AllocError> {
-    Ok(Assertion::Walk(name(alloc, X), along(alloc)?, name(alloc, Y)))
+    walk_to(alloc, Y)
 }
 
 /// `c.next = null`
@@ -44,11 +54,15 @@ fn is_last(alloc: Global) -> Result<Assertion, AllocError> {
     Ok(Assertion::Same(Term::At(C, fields), Term::Null))
 }
 
+/// `x<next*>c & c.next = null`
+fn is_end(alloc: Global) -> Result<Assertion, AllocError> {
+    let walk = boxed(alloc, walk_to(alloc, C)?)?;
+    let last = boxed(alloc, is_last(alloc)?)?;
+    Ok(Assertion::And(walk, last))
+}
+
 /// `ex c: Node: x<next*>c & c.next = null`
 pub fn some_end(alloc: Global) -> Result<Assertion, AllocError> {
-    let walk = Assertion::Walk(name(alloc, X), along(alloc)?, name(alloc, C));
-    let walk = Boxed::new(alloc, walk)?;
-    let last = Boxed::new(alloc, is_last(alloc)?)?;
-    let both = Assertion::And(walk, last);
-    Ok(Assertion::Ex(NODE, Boxed::new(alloc, both)?))
+    let end = boxed(alloc, is_end(alloc)?)?;
+    Ok(Assertion::Ex(NODE, end))
 }

@@ -9,7 +9,7 @@ use Rattle.bdd_nodes.specs.declared.node.Node.{Node}
 use Rattle.bdd_nodes.specs.declared.node_ref.NodeRef.{NodeRef}
 use Rattle.bdd_nodes.specs.Nodes.{node_of, state_named}
 use Rattle.bdd_nodes.specs.Shelf.{Contents, IsShelf, IsValid, state_of, roots_of, root_of}
-use Rattle.bdd_nodes.specs.Changes.{SameNodes, AddsTable, MovesRoots, IsMoved}
+use Rattle.bdd_nodes.specs.Changes.{Keeps, SameNodes, AddsTable, MovesRoots, IsMoved}
 use Rattle.bdd_nodes.proofs.TablesLemmas.{All-registered}
 use Rattle.bdd_nodes.proofs.UnderLemmas.{roots_of-unused}
 use Rattle.gta_theory.specs.Guides.{Spaces}
@@ -17,7 +17,7 @@ use Rattle.gta_theory.specs.Automata.{Automaton, IsStable}
 use Rattle.gta_theory.specs.Constructions.{IsClosed}
 use Rattle.gta_theory.specs.Numbered.{Below}
 use Rattle.gta_core.specs.Auto.{AutoView, states_of, initial_of, is_accepting, place_of, root_at, automaton_of, IsAuto}
-use Rattle.gta_core.specs.Changes.{function_of, KeepsTable}
+use Rattle.gta_core.specs.Changes.{function_of, KeepsTable, RegistersTable}
 
 -- no element stands past the end
 pub past-none : {X : Type 0} (xs : List X) (i : ℕ) → slice_get xs i ≡ None → length xs ≤ i
@@ -47,6 +47,28 @@ KeepsTable-added old new number other roots is_shelf adds some =
       functions = λ place. functions-same old new adds.nodes (root_of new number place)
           ∙ ap (λ (o : Option (List NodeRef)). option_map (state_of old) (option_and_then (λ (rs : List NodeRef). slice_get rs place) o)) same;
     }
+
+-- another table than one that is registered while nodes are made
+module _ (old new : Contents) (number other : ℕ) (is_shelf : IsShelf old) (keeps : Keeps old new) (registers : RegistersTable old new other)
+    (some : IsSome (roots_of old number)) where
+  same_roots : roots_of new number ≡ roots_of old number
+  same_roots = registers.others number (λ e.
+      let none : roots_of old number ≡ None = roots_of-unused old is_shelf number (omega (arith, registers.number)) in
+      absurd (false≢true (sym (ap (λ (o : Option (List NodeRef)). is_some o) none) ∙ some)))
+
+  kept_at : (place : ℕ) (o : Option NodeRef) → root_of old number place ≡ o → option_map (state_of new) o ≡ option_map (state_of old) o
+  kept_at place None at = refl
+  kept_at place (Some r) at =
+      ap (λ (f : Function). let o : Option Function = Some f in o)
+      (fun_ext (λ (label : Label). keeps.states r label (is_shelf.roots number place r at)))
+
+  pub KeepsTable-grown : KeepsTable old new number
+  KeepsTable-grown = record {
+    registered = λ there. ap (λ (o : Option (List NodeRef)). is_some o) same_roots ∙ there;
+    functions = λ place.
+        ap (λ (o : Option (List NodeRef)). option_map (state_of new) (option_and_then (λ (rs : List NodeRef). slice_get rs place) o)) same_roots
+        ∙ kept_at place (root_of old number place) refl;
+  }
 
 -- every table over a collection
 module _ (old new : Contents) (moves : MovesRoots old new) (number : ℕ) where

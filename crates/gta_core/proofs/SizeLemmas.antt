@@ -31,10 +31,10 @@ IsValid-node shelf is_shelf table r node =
     IsValid-reached shelf is_shelf node.root r (is_shelf.roots table node.place node.root node.registered) node.reached
 
 -- the parts of the spaces below a number, in one list
-record ListsParts (g : Spaces) (A : Automaton ℕ) (has : ℕ → ℕ → Type 0) (below count : ℕ) : Type 0 where
-  parts : List Function
-  every : (s : ℕ) (f : Function) → s < below → IsPart g A has s f → Contains parts f
-  few : length parts ≤ count
+pub record ListsParts (g : Spaces) (A : Automaton ℕ) (has : ℕ → ℕ → Type 0) (below count : ℕ) : Type 0 where
+  pub parts : List Function
+  pub every : (s : ℕ) (f : Function) → s < below → IsPart g A has s f → Contains parts f
+  pub few : length parts ≤ count
 
 module _ (g : Spaces) (A : Automaton ℕ) (has : ℕ → ℕ → Type 0) (n : ℕ) (size : SizeOf g A has n) where
   parts_below : (m : ℕ) → m ≤ length g → ListsParts g A has m (sum_below size.sizes m)
@@ -53,7 +53,7 @@ module _ (g : Spaces) (A : Automaton ℕ) (has : ℕ → ℕ → Type 0) (n : �
       }
 
   -- so those of all spaces are no more than the Size
-  all_parts : ListsParts g A has (length g) n
+  pub all_parts : ListsParts g A has (length g) n
   all_parts = subst (ListsParts g A has (length g)) size.is_sum (parts_below (length g) (omega arith))
 
 -- the function of an inner node under a root is a part of some space

@@ -4,3 +4,4 @@ pub mod Placing
 pub mod Changes
 pub mod Accepting
 pub mod Sizes
+pub mod Factored

@@ -1,10 +1,10 @@
 //! Automata whose tables are kept in a shelf.
 
-ghost use Rattle.std.specs.Prelude.{◌≡◌, ◌<◌, ℕ, ◌↔◌, None, Some, length, IfSome, IsSome, IfOk, OnErr, MatchOption, slice_get, unwrap_or, []};
+ghost use Rattle.std.specs.Prelude.{◌≡◌, ◌<◌, ℕ, ◌↔◌, None, Some, All, map, not, length, IfSome, IsSome, IfOk, OnErr, MatchOption, slice_get, unwrap_or, []};
 ghost use Rattle.std.specs.Option.{option_copied, SomeIff};
 ghost use Rattle.bdd_nodes.specs.Roots.{number_of};
-ghost use Rattle.bdd_nodes.specs.Shelf.{IsShelf, IsValid, roots_of, label_of};
-ghost use Rattle.bdd_nodes.specs.Changes.{DropsTable};
+ghost use Rattle.bdd_nodes.specs.Shelf.{IsShelf, IsValid, roots_of, root_of, label_of, tables_added};
+ghost use Rattle.bdd_nodes.specs.Changes.{AddsTable, DropsTable};
 ghost use Rattle.gta_theory.specs.Guides.{Spaces, IsSpace, left, right};
 ghost use Rattle.gta_theory.specs.Numbered.{Below};
 ghost use Rattle.gta_theory.specs.Sizes.{IsChildPair};
@@ -79,6 +79,68 @@ impl Auto {
         ensures valid { IfSome result (IsValid shelf.now) }
     {
         self.find(shelf, space, left, right)
+    }
+
+    /// The part of each space, in order. Takes no memory.
+    #[inline]
+    pub fn parts(&self) -> &[Part]
+        ensures parts { result.now ≡ self.now.parts }
+        ensures whole { IsWhole self.now }
+    {
+        self.parts.as_slice()
+    }
+
+    /// The root at a place of its table, where the parts name places. `None` exactly for an unknown table or place. Takes no
+    /// memory.
+    #[inline]
+    pub fn root_of(&self, shelf: &Shelf, place: usize) -> Option<NodeRef>
+        ensures value { result ≡ root_of shelf.now self.now.table place }
+        ensures valid { IfSome result (IsValid shelf.now) }
+    {
+        shelf.roots(self.table)?.get(place).copied()
+    }
+
+    /// The automaton of these parts, with a table of these roots that it registers.
+    ///
+    /// # Errors
+    ///
+    /// Want of memory.
+    pub fn from_parts(
+        parts: Items<Part>,
+        accepting: BoolList,
+        roots: RefList,
+        shelf: &mut Shelf,
+    ) -> Result<Auto, NoMemory>
+        requires valid { All (IsValid shelf.old) roots }
+        requires whole { (table : ℕ) → IsWhole (record { table = table; parts = parts; accepting = accepting }) }
+        ensures ok { IfOk result (λ auto. auto ≡ record { table = tables_added shelf.old; parts = parts; accepting = accepting }) }
+        ensures table { IfOk result (λ auto. AddsTable shelf.old shelf.new auto.table roots) }
+        ensures err { OnErr result (shelf.new ≡ shelf.old) }
+        ensures shelf { IsShelf shelf.new }
+    {
+        let table = shelf.add_table(roots)?;
+        Ok(Auto {
+            table,
+            parts,
+            accepting,
+        })
+    }
+
+    /// The automaton whose other states of space 0 are accepting. Takes no memory.
+    pub fn turned_over(self) -> Auto
+        ensures value { result ≡ record { table = self.table; parts = self.parts; accepting = map not self.accepting } }
+        ensures whole { IsWhole self }
+    {
+        let Auto {
+            table,
+            parts,
+            accepting,
+        } = self;
+        Auto {
+            table,
+            parts,
+            accepting: flipped(accepting),
+        }
     }
 
     /// The same automaton, with a registered table of its own. No node is made.
@@ -172,6 +234,18 @@ impl Auto {
             None => 0,
         }
     }
+}
+
+/// Each flag the other way.
+fn flipped(flags: BoolList) -> BoolList
+    ensures { result ≡ map not flags }
+{
+    let mut turned = flags;
+    for place in 0..turned.len() {
+        let flag = turned.as_slice()[place];
+        turned.set(place, !flag);
+    }
+    turned
 }
 
 /// The roots of a table; none for an unknown one.

@@ -6,7 +6,7 @@ ghost use Rattle.bdd_nodes.specs.Shelf.{Contents, IsShelf, roots_of};
 ghost use Rattle.bdd_nodes.specs.Changes.{Keeps, SameTables, AddsTable, DropsTable, MovesRoots};
 ghost use Rattle.gta_theory.specs.Guides.{Spaces};
 ghost use Rattle.gta_core.specs.Auto.{AutoView, automaton_of, IsAuto};
-ghost use Rattle.gta_core.specs.Changes.{KeepsTable};
+ghost use Rattle.gta_core.specs.Changes.{KeepsTable, RegistersTable};
 
 /// A registered table stays, with the functions of its roots: over joins, where another table is added or dropped, and
 /// over a collection; and over one change after the other.
@@ -15,6 +15,8 @@ pub fn tables_outlive_changes()
         KeepsTable old new number }
     ensures added { (old new : Contents) (number other : ℕ) (roots : List NodeRef) → IsShelf old →
         AddsTable old new other roots → IsSome (roots_of old number) → KeepsTable old new number }
+    ensures grown { (old new : Contents) (number other : ℕ) → IsShelf old → Keeps old new → RegistersTable old new other →
+        IsSome (roots_of old number) → KeepsTable old new number }
     ensures dropped { (old new : Contents) (number other : ℕ) → DropsTable old new other → number ≢ other →
         KeepsTable old new number }
     ensures collected { (old new : Contents) (number : ℕ) → MovesRoots old new → KeepsTable old new number }

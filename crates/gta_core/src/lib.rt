@@ -9,6 +9,7 @@
 mod acceptance;
 mod auto;
 mod build;
+mod factored;
 mod laws;
 mod part;
 mod sizes;
@@ -16,5 +17,7 @@ mod sizes;
 pub use acceptance::accepts;
 pub use auto::{Auto, BoolList, release};
 pub use build::{SpacePart, SpacePartList};
+pub use factored::FactoredPart;
 pub use laws::{automata_outlive_changes, tables_outlive_changes};
+pub use part::Part;
 pub use sizes::nodes_fit_in_sizes;

@@ -10,22 +10,22 @@ use std::alloc::Global;
 ///
 /// States of a child with the same roots may share a class, so that a root is kept for a pair of classes.
 #[derive(Debug, Drop)]
-pub(crate) struct Part {
+pub struct Part {
     /// How many states the space has: they are the numbers below.
-    pub(crate) states: u32,
-    pub(crate) initial: u32,
+    pub states: u32,
+    pub initial: u32,
     /// The spaces of the left and of the right child.
-    pub(crate) children: (u32, u32),
+    pub children: (u32, u32),
     /// Where the roots of this space begin in the table.
-    pub(crate) first: u32,
+    pub first: u32,
     /// The class of each state of the left child: a row of `cells`.
-    pub(crate) rows: Items<u32>,
+    pub rows: Items<u32>,
     /// The class of each state of the right child: a column of `cells`.
-    pub(crate) columns: Items<u32>,
+    pub columns: Items<u32>,
     /// How many cells a row has.
-    pub(crate) width: u32,
+    pub width: u32,
     /// Row after row, which root a pair of classes has, counted from `first`.
-    pub(crate) cells: Items<u32>,
+    pub cells: Items<u32>,
 }
 
 impl Part {

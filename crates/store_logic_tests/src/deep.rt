@@ -21,20 +21,30 @@ fn negated(alloc: Global, count: u32) -> Result<Assertion, AllocError> {
     Ok(assertion)
 }
 
-/// Whether the store satisfies a copy of so many negations of true, and then one of one less.
-fn judged(alloc: Global, types: &TypeTable, store: &Store) -> Result<(bool, bool), AllocError> {
-    let odd = negated(alloc, 65_535)?;
-    let even = Assertion::Not(Boxed::new(alloc, odd.copy(alloc)?)?);
-    let odd = sat(alloc, types, store, &Region::All, &odd)?;
-    let even = sat(alloc, types, store, &Region::All, &even)?;
-    Ok((odd, even))
+/// Whether the store satisfies the assertion, and whether it satisfies the negation of a copy.
+fn judged(
+    alloc: Global,
+    types: &TypeTable,
+    store: &Store,
+    assertion: &Assertion,
+) -> Result<(bool, bool), AllocError> {
+    let truth = sat(alloc, types, store, &Region::All, assertion)?;
+    let negated = Assertion::Not(Boxed::new(alloc, assertion.copy(alloc)?)?);
+    let other = sat(alloc, types, store, &Region::All, &negated)?;
+    Ok((truth, other))
+}
+
+/// The same of 65,535 negations.
+fn judged_deep(alloc: Global, types: &TypeTable) -> Result<(bool, bool), Fail> {
+    let store = store_of(alloc, types, LINES)?;
+    let assertion = negated(alloc, 65_535)?;
+    Ok(judged(alloc, types, &store, &assertion)?)
 }
 
 #[test]
 fn deep_assertions_are_judged_copied_and_dropped(rt: HostRuntime) -> Result<(), Fail> {
     let types = made_types(rt.alloc())?;
-    let store = store_of(rt.alloc(), &types, LINES)?;
-    let truths = judged(rt.alloc(), &types, &store)?;
+    let truths = judged_deep(rt.alloc(), &types)?;
     assert!(rt; truths == (false, true), "65,535 and 65,536 negations");
     Ok(())
 }

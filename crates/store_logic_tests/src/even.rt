@@ -5,6 +5,7 @@ use crate::truths::is_true;
 use std::alloc::Global;
 use std::process::Abort;
 use std::test::Fail;
+use store_core::TypeTable;
 
 /// `ex set E: Node: (x ~= null => x in E) & (all c: Node: (c.next = null => ~(c in E)) & (c.next ~= null => (c in E <=> ~(c.next in E))))`
 const EVEN: &str = "x - = ~ x 0 @ > 0n - = 0 1 @ ~ > 0n - = ~ 0 1 @ 0n 1 @ ~ % > & AN & XN";
@@ -34,23 +35,29 @@ static LISTS: &[(&str, bool)] = &[
     ),
 ];
 
-fn is_even(alloc: Global, lines: &str) -> Result<bool, Fail> {
-    let types = made_types(alloc)?;
+fn is_even(alloc: Global, types: &TypeTable, lines: &str) -> Result<bool, Fail> {
     let lines = format!(in alloc; "{OTHERS}{lines}")?;
-    let store = store_of(alloc, &types, lines.as_str())?;
-    is_true(alloc, &types, &store, "", EVEN)
+    let store = store_of(alloc, types, lines.as_str())?;
+    is_true(alloc, types, &store, "", EVEN)
 }
 
-fn check(rt: &impl Abort, alloc: Global, lines: &str, wanted: bool) -> Result<(), Fail> {
-    let even = is_even(alloc, lines)?;
+fn check(
+    rt: &impl Abort,
+    alloc: Global,
+    types: &TypeTable,
+    lines: &str,
+    wanted: bool,
+) -> Result<(), Fail> {
+    let even = is_even(alloc, types, lines)?;
     assert!(rt; even == wanted, "{lines}");
     Ok(())
 }
 
 #[test]
 fn every_other_list_is_even(rt: HostRuntime) -> Result<(), Fail> {
+    let types = made_types(rt.alloc())?;
     for (lines, wanted) in LISTS {
-        check(&rt, rt.alloc(), lines, *wanted)?;
+        check(&rt, rt.alloc(), &types, lines, *wanted)?;
     }
     Ok(())
 }

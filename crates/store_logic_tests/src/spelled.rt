@@ -169,6 +169,56 @@ fn term_of(alloc: Global, word: &[u8]) -> Result<Term, AllocError> {
     Ok(Term::At(base_of(*first), fields))
 }
 
+fn base_in(term: &Term) -> Base {
+    match term {
+        Term::At(base, _) => *base,
+        Term::Null => Base::Param(0),
+    }
+}
+
+/// Whether a word that begins so is an assertion, and else it is a term.
+fn is_sign(letter: u8) -> bool {
+    matches!(
+        letter,
+        b'T' | b'F'
+            | b'?'
+            | b':'
+            | b'='
+            | b'@'
+            | b'['
+            | b'<'
+            | b'~'
+            | b'&'
+            | b'|'
+            | b'>'
+            | b'%'
+            | b'E'
+            | b'A'
+            | b'X'
+            | b'Y'
+    )
+}
+
+/// Two assertions joined.
+fn pair(sign: u8, first: Boxed<Assertion>, last: Boxed<Assertion>) -> Assertion {
+    match sign {
+        b'&' => Assertion::And(first, last),
+        b'|' => Assertion::Or(first, last),
+        b'>' => Assertion::Imp(first, last),
+        _ => Assertion::Iff(first, last),
+    }
+}
+
+/// A quantifier over cells or sets of a type.
+fn quantifier(sign: u8, ty: TypeId, body: Boxed<Assertion>) -> Assertion {
+    match sign {
+        b'E' => Assertion::Ex(ty, body),
+        b'A' => Assertion::All(ty, body),
+        b'X' => Assertion::ExSet(ty, body),
+        _ => Assertion::AllSet(ty, body),
+    }
+}
+
 impl Reading {
     fn term(&mut self) -> Term {
         match self.terms.pop() {
@@ -179,10 +229,10 @@ impl Reading {
 
     /// The name alone of a term.
     fn base(&mut self) -> Base {
-        match self.terms.pop() {
-            Some(Term::At(base, _)) => base,
-            _ => Base::Param(0),
-        }
+        let term = self.term();
+        let base = base_in(&term);
+        drop(term);
+        base
     }
 
     fn part(&mut self) -> Result<Boxed<Assertion>, AllocError> {
@@ -192,94 +242,77 @@ impl Reading {
         }
     }
 
-    /// An assertion over terms.
-    fn atom(&mut self, sign: u8, word: &[u8]) -> Result<Assertion, AllocError> {
+    fn walk(&mut self, word: &[u8]) -> Result<Assertion, AllocError> {
+        let route = route_of(self.alloc, word)?;
+        let to = self.term();
+        Ok(Assertion::Walk(self.term(), route, to))
+    }
+
+    /// An assertion over terms and names.
+    fn atom(&mut self, sign: u8, word: &[u8]) -> Assertion {
         match sign {
-            b'?' => Ok(Assertion::Truth(self.term())),
+            b'?' => Assertion::Truth(self.term()),
             b':' => {
                 let variant = variant_of(word.first().copied().unwrap_or(0));
-                Ok(Assertion::Is(self.term(), variant))
+                Assertion::Is(self.term(), variant)
             }
             b'=' => {
                 let right = self.term();
-                Ok(Assertion::Same(self.term(), right))
+                Assertion::Same(self.term(), right)
             }
             b'@' => {
                 let set = self.base();
-                Ok(Assertion::Member(self.term(), set))
-            }
-            b'[' => {
-                let other = self.base();
-                Ok(Assertion::Subset(self.base(), other))
+                Assertion::Member(self.term(), set)
             }
             _ => {
-                let to = self.term();
-                let route = route_of(self.alloc, word)?;
-                Ok(Assertion::Walk(self.term(), route, to))
+                let other = self.base();
+                Assertion::Subset(self.base(), other)
             }
         }
     }
 
-    /// An assertion with parts.
     fn joined(&mut self, sign: u8) -> Result<Assertion, AllocError> {
         let last = self.part()?;
-        match sign {
-            b'~' => Ok(Assertion::Not(last)),
-            b'&' => Ok(Assertion::And(self.part()?, last)),
-            b'|' => Ok(Assertion::Or(self.part()?, last)),
-            b'>' => Ok(Assertion::Imp(self.part()?, last)),
-            _ => Ok(Assertion::Iff(self.part()?, last)),
-        }
+        let first = self.part()?;
+        Ok(pair(sign, first, last))
     }
-}
 
-impl Reading {
-    /// A quantifier over cells or sets of a type.
     fn quantified(&mut self, sign: u8, word: &[u8]) -> Result<Assertion, AllocError> {
         let ty = type_of(word.first().copied().unwrap_or(0));
         let body = self.part()?;
-        match sign {
-            b'E' => Ok(Assertion::Ex(ty, body)),
-            b'A' => Ok(Assertion::All(ty, body)),
-            b'X' => Ok(Assertion::ExSet(ty, body)),
-            _ => Ok(Assertion::AllSet(ty, body)),
-        }
+        Ok(quantifier(sign, ty, body))
     }
 
     fn assertion(&mut self, sign: u8, word: &[u8]) -> Result<Assertion, AllocError> {
         match sign {
             b'T' => Ok(Assertion::True),
             b'F' => Ok(Assertion::False),
-            b'?' | b':' | b'=' | b'@' | b'[' | b'<' => self.atom(sign, word),
-            b'~' | b'&' | b'|' | b'>' | b'%' => self.joined(sign),
+            b'?' | b':' | b'=' | b'@' | b'[' => Ok(self.atom(sign, word)),
+            b'<' => self.walk(word),
+            b'~' => Ok(Assertion::Not(self.part()?)),
+            b'&' | b'|' | b'>' | b'%' => self.joined(sign),
             _ => self.quantified(sign, word),
         }
     }
 
     /// What a word makes of what was read.
     fn read(&mut self, word: &[u8]) -> Result<(), AllocError> {
-        match word.split_first() {
-            Some(
-                (
-                    b'-'
-                    | b'x'
-                    | b'y'
-                    | b'p'
-                    | b't'
-                    | b'q'
-                    | b'S'
-                    | b'U'
-                    | b'b'
-                    | b'v'
-                    | b'0'..=b'9',
-                    _,
-                ),
-            ) => self.terms.push(term_of(self.alloc, word)?)?,
-            Some((sign, rest)) => {
-                let assertion = self.assertion(*sign, rest)?;
-                self.assertions.push(assertion)?;
-            }
-            None => {}
+        let Some((first, rest)) = word.split_first() else {
+            return Ok(());
+        };
+        if is_sign(*first) {
+            let assertion = self.assertion(*first, rest)?;
+            self.assertions.push(assertion)?;
+        } else {
+            let term = term_of(self.alloc, word)?;
+            self.terms.push(term)?;
+        }
+        Ok(())
+    }
+
+    fn read_all(&mut self, text: &str) -> Result<(), AllocError> {
+        for word in text.split(' ') {
+            self.read(word.as_bytes())?;
         }
         Ok(())
     }
@@ -295,9 +328,7 @@ pub fn assertion_of(alloc: Global, text: &str) -> Result<Assertion, Fail> {
         terms: Vec::new(alloc),
         assertions: Vec::new(alloc),
     };
-    for word in text.split(' ') {
-        reading.read(word.as_bytes())?;
-    }
+    reading.read_all(text)?;
     match reading.assertions.pop() {
         Some(assertion) => Ok(assertion),
         None => Err("no assertion".into()),

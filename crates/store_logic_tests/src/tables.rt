@@ -8,7 +8,7 @@ use std::test::Fail;
 use store_core::{FieldKind, Owner, Route, Store, TypeId, TypeTable, VarKind, VarTable, VariantId};
 use store_text::read_store;
 
-/// `type Node = { data next: Node; pointer prev: Node [^next]; bool mark; }`
+/// `type Node = { data next: Node; pointer prev: Node [^]; bool mark; }`
 pub const NODE: TypeId = TypeId(0);
 
 /// `type Tree = { pointer up: Tree [^]; } | leaf { bool ripe; } | node { data left: Tree; data right: Tree; bool red; }`
@@ -108,10 +108,17 @@ fn add_pointer(types: &mut TypeTable, owner: Owner, name: &str, along: Route) ->
     Ok(())
 }
 
+/// `^`
+fn to_parent() -> Route
+    ensures { (types : List TypeEntry) → KnowsRoute types result }
+{
+    Route::UpAny
+}
+
 fn add_node(types: &mut TypeTable) -> Result<(), Fail> {
     add_type(types, "Node")?;
     add_data(types, Owner::Common(NODE), "next")?;
-    add_pointer(types, Owner::Common(NODE), "prev", Route::UpAny)?;
+    add_pointer(types, Owner::Common(NODE), "prev", to_parent())?;
     add_bool(types, Owner::Common(NODE), "mark")
 }
 
@@ -119,7 +126,7 @@ fn add_tree(types: &mut TypeTable) -> Result<(), Fail> {
     add_type(types, "Tree")?;
     add_variant(types, "leaf")?;
     add_variant(types, "node")?;
-    add_pointer(types, Owner::Common(TREE), "up", Route::UpAny)?;
+    add_pointer(types, Owner::Common(TREE), "up", to_parent())?;
     add_bool(types, Owner::Variant(LEAF), "ripe")?;
     add_data(types, Owner::Variant(BRANCH), "left")?;
     add_data(types, Owner::Variant(BRANCH), "right")?;

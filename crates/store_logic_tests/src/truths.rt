@@ -5,10 +5,11 @@ mod rows;
 use crate::spelled::{assertion_of, region_of};
 use crate::tables::{made_types, store_of};
 use rows::{DEAD, EMPTY, LIST, SETS, TREE};
-use std::alloc::{AllocError, Global};
+use std::alloc::Global;
 use std::process::Abort;
 use std::test::Fail;
 use store_core::{Store, TypeTable};
+use store_logic::Region;
 use store_sat::sat;
 
 /// A region, an assertion, and whether the store satisfies the assertion on the region.
@@ -21,6 +22,17 @@ pub struct Case {
     pub rows: &'static [Row],
 }
 
+fn is_true_on(
+    alloc: Global,
+    types: &TypeTable,
+    store: &Store,
+    region: &Region,
+    text: &str,
+) -> Result<bool, Fail> {
+    let assertion = assertion_of(alloc, text)?;
+    Ok(sat(alloc, types, store, region, &assertion)?)
+}
+
 /// Whether the store satisfies the assertion of a text on the region of a text.
 pub fn is_true(
     alloc: Global,
@@ -30,16 +42,27 @@ pub fn is_true(
     text: &str,
 ) -> Result<bool, Fail> {
     let region = region_of(alloc, on)?;
-    let assertion = assertion_of(alloc, text)?;
-    Ok(sat(alloc, types, store, &region, &assertion)?)
+    is_true_on(alloc, types, store, &region, text)
+}
+
+fn check_row(
+    rt: &impl Abort,
+    alloc: Global,
+    types: &TypeTable,
+    store: &Store,
+    row: &Row,
+) -> Result<(), Fail> {
+    let (on, text, wanted) = row;
+    let truth = is_true(alloc, types, store, on, text)?;
+    assert!(rt; truth == *wanted, "{text} on {on}");
+    Ok(())
 }
 
 fn check(rt: &impl Abort, alloc: Global, case: &Case) -> Result<(), Fail> {
     let types = made_types(alloc)?;
     let store = store_of(alloc, &types, case.lines)?;
-    for (on, text, wanted) in case.rows {
-        let truth = is_true(alloc, &types, &store, on, text)?;
-        assert!(rt; truth == *wanted, "{text} on {on}");
+    for row in case.rows {
+        check_row(rt, alloc, &types, &store, row)?;
     }
     Ok(())
 }

@@ -4,8 +4,8 @@ use Rattle.bdd_nodes.specs.Shelf.{state_of}
 use Rattle.bdd_nodes.proofs.SplitLemmas.{is_valid-IsValid}
 use Rattle.bdd_walk.specs.Answers.{Answers}
 use Rattle.bdd_walk.specs.Rules.{renamed_by}
-use Rattle.bdd_walk.specs.Under.{Exceeds, AddsParts}
-use Rattle.bdd_walk.proofs.AddsLemmas.{AddsParts-new}
+use Rattle.bdd_walk.specs.Under.{Exceeds, Adds, AddsParts}
+use Rattle.bdd_walk.proofs.AddsLemmas.{AddsParts-new, Adds-new}
 use Rattle.bdd_walk.proofs.UnderLemmas.{AddsUnder-stands}
 use Rattle.bdd_walk.proofs.CallLemmas.{given_by, Completes-given_by, renamed-given, renamed-value}
 use Rattle.bdd_walk.proofs.calls.rename.Goals as goal
@@ -43,3 +43,17 @@ returns-clause-parts c =
     subst (λ (function : Function). AddsParts c.args.shelf.now c.join_from.new.shelf function)
     (renamed-given c.args.states.now more c.join_from.ensures.progress.answers_kept (state_of c.args.shelf.now c.args.root) c.requires.numbered)
     (AddsParts-new _ c.join_from.new.shelf more (given_by more) (Completes-given_by more) c.join_from.ensures.progress.adds)
+
+pub returns-in_err-made-clause-adds : goal.returns-in_err-made-clause-adds
+returns-in_err-made-clause-adds c =
+    let more : Answers = renamed_by c.join_from.new.rule.numbers.now in
+    subst (λ (function : Function). Adds c.args.shelf.now c.join_from.new.shelf function)
+    (renamed-given c.args.states.now more c.join_from.ensures.progress.answers_kept (state_of c.args.shelf.now c.args.root) c.requires.numbered)
+    (Adds-new _ c.join_from.new.shelf more (given_by more) (Completes-given_by more) c.join_from.ensures.progress)
+
+pub returns-clause-adds : goal.returns-clause-adds
+returns-clause-adds c =
+    let more : Answers = renamed_by c.join_from.new.rule.numbers.now in
+    subst (λ (function : Function). Adds c.args.shelf.now c.join_from.new.shelf function)
+    (renamed-given c.args.states.now more c.join_from.ensures.progress.answers_kept (state_of c.args.shelf.now c.args.root) c.requires.numbered)
+    (Adds-new _ c.join_from.new.shelf more (given_by more) (Completes-given_by more) c.join_from.ensures.progress)

@@ -3,7 +3,7 @@ use Rattle.bdd_nodes.specs.Shelf.{state_of}
 use Rattle.bdd_nodes.proofs.SplitLemmas.{is_valid-IsValid, small_state}
 use Rattle.labels.specs.Labels.{with_track}
 use Rattle.bdd_walk.specs.Rules.{first_state}
-use Rattle.bdd_walk.proofs.AddsLemmas.{AddsParts-new}
+use Rattle.bdd_walk.proofs.AddsLemmas.{AddsParts-new, Adds-new}
 use Rattle.bdd_walk.proofs.UnderLemmas.{AddsUnder-stands}
 use Rattle.bdd_walk.proofs.CallLemmas.{Completes-itself}
 use Rattle.bdd_walk.proofs.calls.restrict.Goals as goal
@@ -31,3 +31,9 @@ returns-clause-nodes c = AddsUnder-stands _ c.join_from.new.shelf _ c.in_ok-made
 
 pub returns-clause-parts : goal.returns-clause-parts
 returns-clause-parts c = AddsParts-new _ c.join_from.new.shelf _ first_state Completes-itself c.join_from.ensures.progress.adds
+
+pub returns-in_err-made-clause-adds : goal.returns-in_err-made-clause-adds
+returns-in_err-made-clause-adds c = Adds-new _ c.join_from.new.shelf _ first_state Completes-itself c.join_from.ensures.progress
+
+pub returns-clause-adds : goal.returns-clause-adds
+returns-clause-adds c = Adds-new _ c.join_from.new.shelf _ first_state Completes-itself c.join_from.ensures.progress

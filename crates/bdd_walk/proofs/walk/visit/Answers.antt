@@ -6,7 +6,7 @@ use Rattle.bdd_walk.specs.Steps.{IsStep}
 use Rattle.bdd_walk.specs.Waits.{visit_cost, stack_cost}
 use Rattle.bdd_walk.specs.Progress.{Works}
 use Rattle.bdd_walk.proofs.CostLemmas.{visit-done, visit-skip, visit-low}
-use Rattle.bdd_walk.proofs.TurnLemmas.{works-found, progress-leaf, works-leaf, works-skip, works-low}
+use Rattle.bdd_walk.proofs.TurnLemmas.{AnswersOnly-none, AnswersOnly-leaf, works-found, progress-leaf, works-leaf, works-skip, works-low}
 use Rattle.bdd_nodes.proofs.CallerLemmas.{Keeps-refl}
 use Rattle.bdd_walk.proofs.walk.visit.Goals as goal
 
@@ -28,27 +28,15 @@ returns-in-Some-clause-cost g c = visit-done (g.W.Walk.weight c.args.walk.now) c
 
 pub returns-in_err-leaf-in-Leaf-clause-progress : goal.returns-in_err-leaf-in-Leaf-clause-progress
 returns-in_err-leaf-in-Leaf-clause-progress g c = λ call works.
-    let walk = c.args.walk.now in
-    let step = subst (IsStep (g.W.Walk.asked walk call.shelf) (g.W.Walk.is_in walk call.shelf)
-    (g.W.Walk.weight walk) c.args.key) c.in-Leaf.is
-    (c.in_ok-states.ensures call.shelf works.progress.before works.progress.keeps works.underway.0.inside) in
-    progress-leaf _ _ _ call c.args.shelf.now _ c.args.memo.now _ c.args.key works _ c.in-Leaf.states c.leaf.ensures.kept c.leaf.ensures.only step
+    progress-leaf _ _ _ call c.args.shelf.now _ c.args.memo.now _ c.args.key works _ c.leaf.ensures.kept
 
 pub returns-in_err-insert-in-Leaf-clause-progress : goal.returns-in_err-insert-in-Leaf-clause-progress
 returns-in_err-insert-in-Leaf-clause-progress g c = λ call works.
-    let walk = c.args.walk.now in
-    let step = subst (IsStep (g.W.Walk.asked walk call.shelf) (g.W.Walk.is_in walk call.shelf)
-    (g.W.Walk.weight walk) c.args.key) c.in-Leaf.is
-    (c.in_ok-states.ensures call.shelf works.progress.before works.progress.keeps works.underway.0.inside) in
-    progress-leaf _ _ _ call c.args.shelf.now _ c.args.memo.now _ c.args.key works _ c.in-Leaf.states c.leaf.ensures.kept c.leaf.ensures.only step
+    progress-leaf _ _ _ call c.args.shelf.now _ c.args.memo.now _ c.args.key works _ c.leaf.ensures.kept
 
 pub returns-in_ok-insert-in-Leaf-clause-progress : goal.returns-in_ok-insert-in-Leaf-clause-progress
 returns-in_ok-insert-in-Leaf-clause-progress g c = λ call works.
-    let walk = c.args.walk.now in
-    let step = subst (IsStep (g.W.Walk.asked walk call.shelf) (g.W.Walk.is_in walk call.shelf)
-    (g.W.Walk.weight walk) c.args.key) c.in-Leaf.is
-    (c.in_ok-states.ensures call.shelf works.progress.before works.progress.keeps works.underway.0.inside) in
-    progress-leaf _ _ _ call c.args.shelf.now _ c.args.memo.now _ c.args.key works _ c.in-Leaf.states c.leaf.ensures.kept c.leaf.ensures.only step
+    progress-leaf _ _ _ call c.args.shelf.now _ c.args.memo.now _ c.args.key works _ c.leaf.ensures.kept
 
 pub returns-in_ok-insert-in-Leaf-clause-works : goal.returns-in_ok-insert-in-Leaf-clause-works
 returns-in_ok-insert-in-Leaf-clause-works g c = λ call works.
@@ -56,8 +44,8 @@ returns-in_ok-insert-in-Leaf-clause-works g c = λ call works.
     let step = subst (IsStep (g.W.Walk.asked walk call.shelf) (g.W.Walk.is_in walk call.shelf)
     (g.W.Walk.weight walk) c.args.key) c.in-Leaf.is
     (c.in_ok-states.ensures call.shelf works.progress.before works.progress.keeps works.underway.0.inside) in
-    works-leaf _ _ _ call c.args.shelf.now _ c.args.memo.now _ c.args.key works _ c.in-Leaf.states
-    c.leaf.ensures.kept c.leaf.ensures.only step c.insert.new.self c.leaf-made.result
+    works-leaf _ _ _ call c.args.shelf.now _ c.args.memo.now _ c.args.key works _
+    c.leaf.ensures.kept c.in-Leaf.states step c.insert.new.self c.leaf-made.result
     c.in_ok-leaf-in-Leaf.field-0 (g.met.W.Walk.respects walk call.shelf) c.leaf-made.ensures
     c.in_ok-leaf-in-Leaf.ensures.answered c.in_ok-insert-in-Leaf.ensures.updates
 
@@ -114,3 +102,48 @@ returns-in_ok-push-in-Split-clause-cost g c =
     (sym c.in_ok-push-in-Split.ensures.items)
     (visit-low (g.W.Walk.weight walk) c.args.stack.now.items c.args.key c.in-Split.track c.in-Split.low
     c.in-Split.high step.low_goes.falls step.high_goes.falls)
+
+pub returns-in_err-leaf-in-Leaf-clause-only : goal.returns-in_err-leaf-in-Leaf-clause-only
+returns-in_err-leaf-in-Leaf-clause-only g c =
+    let shelf = c.args.shelf.now in
+    let walk = c.args.walk.now in
+    let step = subst (IsStep (g.W.Walk.asked walk shelf) (g.W.Walk.is_in walk shelf)
+    (g.W.Walk.weight walk) c.args.key) c.in-Leaf.is
+    (c.in_ok-states.ensures shelf c.requires.shelf (Keeps-refl shelf) c.requires.is_in) in
+    AnswersOnly-leaf g.L.LeafRule.like (g.W.Walk.asked walk shelf c.args.key) c.in-Leaf.states _ _ step c.leaf.ensures.only
+
+pub returns-in_err-insert-in-Leaf-clause-only : goal.returns-in_err-insert-in-Leaf-clause-only
+returns-in_err-insert-in-Leaf-clause-only g c =
+    let shelf = c.args.shelf.now in
+    let walk = c.args.walk.now in
+    let step = subst (IsStep (g.W.Walk.asked walk shelf) (g.W.Walk.is_in walk shelf)
+    (g.W.Walk.weight walk) c.args.key) c.in-Leaf.is
+    (c.in_ok-states.ensures shelf c.requires.shelf (Keeps-refl shelf) c.requires.is_in) in
+    AnswersOnly-leaf g.L.LeafRule.like (g.W.Walk.asked walk shelf c.args.key) c.in-Leaf.states _ _ step c.leaf.ensures.only
+
+pub returns-in_ok-insert-in-Leaf-clause-only : goal.returns-in_ok-insert-in-Leaf-clause-only
+returns-in_ok-insert-in-Leaf-clause-only g c =
+    let shelf = c.args.shelf.now in
+    let walk = c.args.walk.now in
+    let step = subst (IsStep (g.W.Walk.asked walk shelf) (g.W.Walk.is_in walk shelf)
+    (g.W.Walk.weight walk) c.args.key) c.in-Leaf.is
+    (c.in_ok-states.ensures shelf c.requires.shelf (Keeps-refl shelf) c.requires.is_in) in
+    AnswersOnly-leaf g.L.LeafRule.like (g.W.Walk.asked walk shelf c.args.key) c.in-Leaf.states _ _ step c.leaf.ensures.only
+
+pub returns-in-Some-clause-only : goal.returns-in-Some-clause-only
+returns-in-Some-clause-only g c = AnswersOnly-none _ _
+
+pub returns-in_ok-push-in-Skip-clause-only : goal.returns-in_ok-push-in-Skip-clause-only
+returns-in_ok-push-in-Skip-clause-only g c = AnswersOnly-none _ _
+
+pub returns-in_ok-push-in-Split-clause-only : goal.returns-in_ok-push-in-Split-clause-only
+returns-in_ok-push-in-Split-clause-only g c = AnswersOnly-none _ _
+
+pub returns-in_err-states-clause-only : goal.returns-in_err-states-clause-only
+returns-in_err-states-clause-only g c = AnswersOnly-none _ _
+
+pub returns-in_err-push-in-Skip-clause-only : goal.returns-in_err-push-in-Skip-clause-only
+returns-in_err-push-in-Skip-clause-only g c = AnswersOnly-none _ _
+
+pub returns-in_err-push-in-Split-clause-only : goal.returns-in_err-push-in-Split-clause-only
+returns-in_err-push-in-Split-clause-only g c = AnswersOnly-none _ _

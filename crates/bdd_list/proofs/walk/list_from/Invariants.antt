@@ -1,0 +1,8 @@
+use Rattle.std.specs.Prelude.{slice_index_or}
+use Rattle.bdd_list.specs.Waits.{Works}
+use Rattle.bdd_list.proofs.walk.list_from.Given as goal
+
+abbrev pub invariant-loop : goal.invariant-loop
+invariant-loop l =
+    Works (record { shelf = l.shelf; roots = l.roots; before = l.fn.nodes.items; whole = slice_index_or l.roots l.index (record { word = 0 }) })
+    l.nodes.items l.memo l.stack l.turn

@@ -1,0 +1,10 @@
+pub mod NamedLemmas
+pub mod NumberedLemmas
+pub mod FormsLemmas
+pub mod PlansLemmas
+pub mod PlanOfLemmas
+pub mod ChildrenLemmas
+pub mod ProgressLemmas
+pub mod CellsLemmas
+pub mod PartsLemmas
+pub mod AtomLemmas

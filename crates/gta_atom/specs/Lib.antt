@@ -1,0 +1,7 @@
+pub mod Atom
+pub mod States
+pub mod Plans
+pub mod Automata
+pub mod Children
+pub mod Progress
+pub mod Cells

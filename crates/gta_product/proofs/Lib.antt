@@ -1,0 +1,15 @@
+pub mod NumbersLemmas
+pub mod ClassesLemmas
+pub mod ComplementLemmas
+pub mod FillingLemmas
+pub mod JoinsLemmas
+pub mod LimitLemmas
+pub mod CellsLemmas
+pub mod FinalLemmas
+pub mod ShelfLemmas
+pub mod NextLemmas
+pub mod BuildingLemmas
+pub mod StartLemmas
+pub mod PartLemmas
+pub mod SameLemmas
+pub mod ProductLemmas

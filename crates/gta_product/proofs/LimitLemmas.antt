@@ -1,0 +1,158 @@
+-- What has no room is no more than the Size of the product.
+use Rattle.std.proofs.Common.{◌≡◌, ◌≢◌, ℕ, zero, suc, ◌+◌, ◌<◌, ◌≤◌, Bool, List, [], ◌∷◌, ◌++◌, map, length, length-append, Contains, refl}
+use Rattle.std.proofs.Common.{sym, ◌∙◌, ap, subst, inl, inr, arith}
+use Rattle.std.specs.List.{All, AllPairs}
+use Rattle.std.proofs.Math.Path.{fun_ext}
+use Rattle.std.proofs.lemmas.Bool.{cases_lt}
+use Rattle.std.proofs.lemmas.List.{length-map}
+use Rattle.std.proofs.lemmas.List.Elements.{All-contains, Contains-append_left, Contains-append_right}
+use Rattle.labels.specs.Labels.{Label, Function, with_below}
+use Rattle.bdd_nodes.specs.Shelf.{Contents, count_of, limit_of}
+use Rattle.bdd_walk.specs.Under.{IsMissingAmong}
+use Rattle.gta_theory.specs.Guides.{Spaces, IsGuide, IsSpace, left, right}
+use Rattle.gta_theory.specs.Automata.{Automaton, IsStable, Has}
+use Rattle.gta_theory.specs.Constructions.{pairs, IsProduct}
+use Rattle.gta_theory.specs.Generated.{Generated, starts, steps}
+use Rattle.gta_theory.specs.Sizes.{IsPart, sum_below, SizeOf}
+use Rattle.gta_theory.proofs.AutomataLemmas.{IsClosed-values, IsStable-product}
+use Rattle.gta_theory.proofs.ListsLemmas.{Contains-map}
+use Rattle.gta_theory.proofs.SizesLemmas.{length-partners}
+use Rattle.gta_product.specs.Building.{IsStepFunction, ExceedsSteps}
+
+-- the parts of the spaces below a number, each with its space
+record ListsSpaces (g : Spaces) (C : Automaton ℕ) (has : ℕ → ℕ → Type 0) (below count : ℕ) : Type 0 where
+  parts : List (ℕ × Function)
+  every : (s : ℕ) (f : Function) → s < below → IsPart g C has s f → Contains parts (s, f)
+  few : length parts ≤ count
+
+module _ (g : Spaces) (C : Automaton ℕ) (has : ℕ → ℕ → Type 0) (n : ℕ) (size : SizeOf g C has n) where
+  spaces_below : (m : ℕ) → m ≤ length g → ListsSpaces g C has m (sum_below size.sizes m)
+  spaces_below zero within = record { parts = []; every = λ s f below part. absurd (omega arith); few = omega arith }
+  spaces_below (suc m) within =
+      let before = spaces_below m (omega arith) in
+      let here = size.in_space m (omega arith) in
+      let tag = λ (f : Function). let p : ℕ × Function = (m, f) in p in
+      record {
+        parts = before.parts ++ map tag here.parts;
+        every = λ s f below part. elim (cases_lt s m) [
+          | inl early ↦ Contains-append_left before.parts (map tag here.parts) (s, f) (before.every s f early part)
+          | inr last ↦ (let same : s ≡ m = omega arith in
+              subst (λ (k : ℕ). Contains (before.parts ++ map tag here.parts) (k, f)) (sym same)
+              (Contains-append_right before.parts (map tag here.parts) (m, f)
+              (Contains-map tag here.parts f ((here.all_parts).every f (subst (λ (k : ℕ). IsPart g C has k f) same part)))))
+        ];
+        few = omega (arith, length-append before.parts (map tag here.parts), length-map here.parts tag, before.few, here.is_sum);
+      }
+
+  all_spaces : ListsSpaces g C has (length g) n
+  all_spaces = subst (ListsSpaces g C has (length g)) size.is_sum (spaces_below (length g) (omega arith))
+
+module _ (g : Spaces) (guide : IsGuide g) (A B C : Automaton ℕ) (of_A : IsStable g A) (of_B : IsStable g B)
+    (states : ℕ → ℕ → Bool) (pair : ℕ → ℕ → ℕ × ℕ) (product : IsProduct g A B C (Has states) pair) where
+  -- each generated pair has a name
+  record IsNamed (s : ℕ) (p : ℕ × ℕ) : Type 0 where
+    name : ℕ
+    there : Has states s name
+    is : pair s name ≡ p
+
+  named : (s : ℕ) (p : ℕ × ℕ) → Generated g (pairs A B) s p → IsNamed s p
+  named _ _ (starts s inside) =
+      let closed = IsClosed-values g guide C (IsStable-product g guide A B of_A of_B C (Has states) pair product) in
+      record {
+        name = C.initial s;
+        there = (product.reached.state s (C.initial s) inside).1 (closed.initial s inside);
+        is = product.naming.initial s inside;
+      }
+  named _ _ (steps s p q label inside l r) =
+      let closed = IsClosed-values g guide C (IsStable-product g guide A B of_A of_B C (Has states) pair product) in
+      let x = named (left g s) p l in
+      let y = named (right g s) q r in
+      record {
+        name = C.step s x.name y.name label;
+        there = (product.reached.state s (C.step s x.name y.name label) inside).1
+            (closed.step s x.name y.name label inside
+            ((product.reached.state (left g s) x.name (guide.left_inside s inside)).0 x.there)
+            ((product.reached.state (right g s) y.name (guide.right_inside s inside)).0 y.there));
+        is = product.naming.step s x.name y.name label inside x.there y.there
+            ∙ ap (λ (u : ℕ × ℕ). (pairs A B).step s u (pair (right g s) y.name) label) x.is
+            ∙ ap (λ (v : ℕ × ℕ). (pairs A B).step s p v label) y.is;
+      }
+
+  module _ (given : ℕ → List ℕ → ℕ) where
+    -- the number that is given to the pair of a state
+    seen : ℕ → ℕ → ℕ
+    seen s q = given s ((pair s q).0 ∷ (pair s q).1 ∷ [])
+
+    -- the function is what is seen of the other one
+    IsSeen : Function → ℕ × Function → Type 0
+    IsSeen f c = (label : Label) → f label ≡ seen c.0 (c.1 label)
+
+    one-seen : (f h : Function) (c : ℕ × Function) → IsSeen f c → IsSeen h c → f ≢ h → ⊥
+    unfolding IsSeen
+    one-seen f h c of_f of_h other = other (fun_ext (λ (label : Label). of_f label ∙ sym (of_h label)))
+
+    module _ (shelf : Contents) (wholes : List Function) (each : All (IsStepFunction g (pairs A B) given) wholes) where
+      record HasPart (f : Function) : Type 0 where
+        space : ℕ
+        part : Function
+        inside : IsSpace g space
+        is_part : IsPart g C (Has states) space part
+        is_seen : IsSeen f (space, part)
+
+      part-of : (f : Function) → IsMissingAmong shelf wholes f → HasPart f
+      unfolding IsSeen seen
+      part-of f is =
+          let step = All-contains (IsStepFunction g (pairs A B) given) wholes is.whole each is.among in
+          let x = named (left g step.space) step.at_left step.in_left in
+          let y = named (right g step.space) step.at_right step.in_right in
+          let under = is.missing.under in
+          let s = step.space in
+          let part : Function = λ label. C.step s x.name y.name (with_below under.below under.fixed label) in
+          let names = λ (label : Label).
+          let r : pair s (part label) ≡ (pairs A B).step s step.at_left step.at_right (with_below under.below under.fixed label) =
+          product.naming.step s x.name y.name (with_below under.below under.fixed label) step.inside x.there y.there
+          ∙ ap (λ (u : ℕ × ℕ). (pairs A B).step s u (pair (right g s) y.name) (with_below under.below under.fixed label)) x.is
+          ∙ ap (λ (v : ℕ × ℕ). (pairs A B).step s step.at_left v (with_below under.below under.fixed label)) y.is in r in
+          let sees = λ (label : Label).
+          let r : f label ≡ given s ((pair s (part label)).0 ∷ (pair s (part label)).1 ∷ []) =
+          under.states label ∙ step.states (with_below under.below under.fixed label)
+          ∙ ap (λ (p : ℕ × ℕ). given s (p.0 ∷ p.1 ∷ [])) (sym (names label)) in r in
+          record {
+            space = s;
+            part = part;
+            inside = step.inside;
+            is_part = record {
+              under = record {
+                at_left = x.name;
+                at_right = y.name;
+                in_left = x.there;
+                in_right = y.there;
+                below = under.below;
+                fixed = under.fixed;
+                states = λ label. refl;
+              };
+              varied = record {
+                one = is.missing.varies.one;
+                other = is.missing.varies.other;
+                differs = λ same. is.missing.varies.differs (sees is.missing.varies.one
+                    ∙ ap (λ (q : ℕ). given s ((pair s q).0 ∷ (pair s q).1 ∷ [])) same ∙ sym (sees is.missing.varies.other));
+              };
+            };
+            is_seen = sees;
+          }
+
+      pub missing-le : (n : ℕ) → SizeOf g C (Has states) n → (parts : List Function) → AllPairs (λ x y. x ≢ y) parts →
+          All (IsMissingAmong shelf wholes) parts → length parts ≤ n
+      missing-le n size parts distinct missing =
+          let all = all_spaces g C (Has states) n size in
+          let fit = length-partners (λ x y. x ≢ y) IsSeen one-seen parts all.parts distinct (λ f there.
+          let has = part-of f (All-contains (IsMissingAmong shelf wholes) parts f missing there) in
+          ((has.space, has.part), all.every has.space has.part has.inside has.is_part, has.is_seen)) in
+          omega (arith, fit, all.few)
+
+    -- where there is no room, the limit is below the count and the Size
+    pub limit-below : (shelf : Contents) (n : ℕ) → SizeOf g C (Has states) n → ExceedsSteps g (pairs A B) shelf given →
+        limit_of shelf < count_of shelf + n
+    limit-below shelf n size exceeds =
+        let fit = missing-le shelf exceeds.wholes exceeds.each n size exceeds.exceeds.parts exceeds.exceeds.distinct exceeds.exceeds.missing in
+        omega (arith, fit, exceeds.exceeds.more)

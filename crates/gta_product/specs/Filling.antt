@@ -1,0 +1,77 @@
+-- What joins for the pairs of classes of a space have done: their roots, the numbers of new pairs, and the nodes.
+use Rattle.std.specs.Prelude.{◌≡◌, ℕ, ◌+◌, ◌*◌, List, [], ◌∷◌, length, Some, All, Contains, ◌⊎◌, slice_get}
+use Rattle.labels.specs.Labels.{Label, Function}
+use Rattle.bdd_nodes.specs.declared.node_ref.NodeRef.{NodeRef}
+use Rattle.bdd_nodes.specs.Shelf.{Contents, IsShelf, IsValid, state_of, limit_of}
+use Rattle.bdd_nodes.specs.Changes.{Keeps, SameTables}
+use Rattle.bdd_walk.specs.Answers.{Completes}
+use Rattle.bdd_walk.specs.Under.{AddsAmong, ExceedsAmong}
+use Rattle.gta_theory.specs.Automata.{Automaton}
+use Rattle.gta_core.specs.Placing.{Grows}
+use Rattle.gta_product.specs.Numbers.{number_in, numbered, Extends}
+
+-- the step of the pair automaton of a space from a row to a column, as the rule is asked it
+abbrev pub asked_at : Automaton (ℕ × ℕ) → ℕ → ℕ × ℕ → ℕ × ℕ → Label → List ℕ
+asked_at AB s l r label = (AB.step s l r label).0 ∷ (AB.step s l r label).1 ∷ []
+
+-- for each label the root gives the number of the pair that the step gives
+pub record IsCell (AB : Automaton (ℕ × ℕ)) (s : ℕ) (pairs : List (ℕ × ℕ)) (l r : ℕ × ℕ) (shelf : Contents) (root : NodeRef) : Type 0 where
+  pub valid : IsValid shelf root
+  pub states : (label : Label) → number_in pairs (AB.step s l r label) ≡ Some (state_of shelf root label)
+
+-- the pair is what a step from a row to a column gives
+pub record IsMade (AB : Automaton (ℕ × ℕ)) (s : ℕ) (rows columns : List (ℕ × ℕ)) (pair : ℕ × ℕ) : Type 0 where
+  pub row : ℕ × ℕ
+  pub column : ℕ × ℕ
+  pub label : Label
+  pub in_rows : Contains rows row
+  pub in_columns : Contains columns column
+  pub gives : AB.step s row column label ≡ pair
+
+-- the function is that of a row and a column, by a way of giving numbers
+pub record IsCellFunction (AB : Automaton (ℕ × ℕ)) (s : ℕ) (rows columns : List (ℕ × ℕ)) (given : List ℕ → ℕ)
+    (whole : Function) : Type 0 where
+  pub row : ℕ × ℕ
+  pub column : ℕ × ℕ
+  pub in_rows : Contains rows row
+  pub in_columns : Contains columns column
+  pub states : (label : Label) → whole label ≡ given (asked_at AB s row column label)
+
+module _ (AB : Automaton (ℕ × ℕ)) (s : ℕ) (rows columns : List (ℕ × ℕ)) where
+  -- the nodes that came stand for functions under those of rows and columns
+  pub record AddsCells (old new : Contents) (given : List ℕ → ℕ) : Type 0 where
+    pub wholes : List Function
+    pub each : All (IsCellFunction AB s rows columns given) wholes
+    pub adds : AddsAmong old new wholes
+
+  -- there is less room than there are functions missing under those of rows and columns
+  pub record ExceedsCells (shelf : Contents) (given : List ℕ → ℕ) : Type 0 where
+    pub wholes : List Function
+    pub each : All (IsCellFunction AB s rows columns given) wholes
+    pub exceeds : ExceedsAmong shelf wholes
+
+  -- joins of rows and columns were made, whatever came of them
+  pub record Joins (old new : Contents) (before after : List (ℕ × ℕ)) : Type 0 where
+    pub keeps : Keeps old new
+    pub same_limit : limit_of new ≡ limit_of old
+    pub tables : SameTables old new
+    pub shelf : IsShelf new
+    pub extends : Extends before after
+    pub only : (k : ℕ) (pair : ℕ × ℕ) → slice_get after k ≡ Some pair → (slice_get before k ≡ Some pair) ⊎ IsMade AB s rows columns pair
+    pub counted : (given : List ℕ → ℕ) → Completes (numbered after) given → AddsCells old new given
+
+-- behind the roots that were there stand those of a row, one for each column
+pub record IsRow (AB : Automaton (ℕ × ℕ)) (s : ℕ) (row : ℕ × ℕ) (columns : List (ℕ × ℕ)) (pairs : List (ℕ × ℕ))
+    (shelf : Contents) (old new : List NodeRef) : Type 0 where
+  pub grown : Grows old new
+  pub many : length new ≡ length old + length columns
+  pub cell : (j : ℕ) (column : ℕ × ℕ) (root : NodeRef) → slice_get columns j ≡ Some column →
+      slice_get new (length old + j) ≡ Some root → IsCell AB s pairs row column shelf root
+
+-- behind the roots that were there stand those of all rows, row after row
+pub record AreCells (AB : Automaton (ℕ × ℕ)) (s : ℕ) (rows columns : List (ℕ × ℕ)) (pairs : List (ℕ × ℕ))
+    (shelf : Contents) (old new : List NodeRef) : Type 0 where
+  pub grown : Grows old new
+  pub many : length new ≡ length old + length rows * length columns
+  pub cell : (i j : ℕ) (row column : ℕ × ℕ) (root : NodeRef) → slice_get rows i ≡ Some row → slice_get columns j ≡ Some column →
+      slice_get new (length old + (i * length columns + j)) ≡ Some root → IsCell AB s pairs row column shelf root

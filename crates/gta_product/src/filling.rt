@@ -1,0 +1,129 @@
+//! The roots of a space: each row is joined with each column.
+
+ghost use Rattle.std.specs.Prelude.{◌≡◌, ℕ, List, [], ◌∷◌, None, Err, IsSome, IfOk, OnOk, Contains, All};
+ghost use Rattle.bdd_walk.specs.Answers.{Completes};
+ghost use Rattle.bdd_walk.specs.Fits.{Fits};
+ghost use Rattle.bdd_nodes.specs.Shelf.{IsValid};
+ghost use Rattle.gta_theory.specs.Constructions.{pairs};
+ghost use Rattle.gta_core.specs.Auto.{root_at, automaton_of};
+ghost use Rattle.gta_product.specs.Numbers.{numbered, AreNumbers};
+ghost use Rattle.gta_product.specs.Filling.{IsCell, Joins, ExceedsCells, IsRow, AreCells};
+
+use crate::numbering::Numbering;
+use bdd_nodes::{NodeRef, RefList, Shelf};
+use bdd_walk::{Joiner, Stop};
+use gta_core::Auto;
+use std::alloc::Global;
+
+/// The root for a pair of states of each child: a join of the roots that the two automata have.
+#[allow(clippy::too_many_arguments)]
+pub(crate) fn join_cell(
+    alloc: Global,
+    a: &Auto,
+    b: &Auto,
+    shelf: &mut Shelf,
+    space: u32,
+    left: (u32, u32),
+    right: (u32, u32),
+    joiner: &mut Joiner,
+    numbers: &mut Numbering,
+) -> Result<NodeRef, Stop>
+    requires first { IsSome (root_at shelf.old a.now space left.0 right.0) }
+    requires second { IsSome (root_at shelf.old b.now space left.1 right.1) }
+    requires fits { Fits joiner.old None shelf.old (numbered numbers.old) }
+    ensures joins { Joins (pairs (automaton_of shelf.old a.now) (automaton_of shelf.old b.now)) space (left ∷ []) (right ∷ [])
+        shelf.old shelf.new numbers.old numbers.new }
+    ensures cell { IfOk result (IsCell (pairs (automaton_of shelf.old a.now) (automaton_of shelf.old b.now)) space numbers.new left right shelf.new) }
+    ensures limit { result ≡ Err Stop.Limit → (given : List ℕ → ℕ) → Completes (numbered numbers.new) given →
+        ExceedsCells (pairs (automaton_of shelf.old a.now) (automaton_of shelf.old b.now)) space (left ∷ []) (right ∷ []) shelf.old given }
+    ensures fits { OnOk result (Fits joiner.new None shelf.new (numbered numbers.new)) }
+    ensures numbers { AreNumbers numbers.new }
+{
+    let Some(first) = a.root(shelf, space, left.0, right.0) else {
+        unreachable!()
+    };
+    let Some(second) = b.root(shelf, space, left.1, right.1) else {
+        unreachable!()
+    };
+    // Only for their clauses `numbers`.
+    let _ = numbers.len();
+    let joined = joiner.join(alloc, shelf, &[first, second], None, numbers);
+    let _ = numbers.len();
+    let made = joined?;
+    Ok(made)
+}
+
+/// The roots of a row: it is joined with each column.
+#[allow(clippy::too_many_arguments)]
+fn fill_row(
+    alloc: Global,
+    a: &Auto,
+    b: &Auto,
+    shelf: &mut Shelf,
+    space: u32,
+    row: (u32, u32),
+    columns: &[(u32, u32)],
+    joiner: &mut Joiner,
+    numbers: &mut Numbering,
+    roots: &mut RefList,
+) -> Result<(), Stop>
+    requires first { (r : ℕ × ℕ) → Contains columns.now r → IsSome (root_at shelf.old a.now space row.0 r.0) }
+    requires second { (r : ℕ × ℕ) → Contains columns.now r → IsSome (root_at shelf.old b.now space row.1 r.1) }
+    requires valid { All (IsValid shelf.old) roots.old }
+    requires fits { Fits joiner.old None shelf.old (numbered numbers.old) }
+    ensures joins { Joins (pairs (automaton_of shelf.old a.now) (automaton_of shelf.old b.now)) space (row ∷ []) columns.now
+        shelf.old shelf.new numbers.old numbers.new }
+    ensures cells { OnOk result (IsRow (pairs (automaton_of shelf.old a.now) (automaton_of shelf.old b.now)) space row columns.now
+        numbers.new shelf.new roots.old roots.new) }
+    ensures valid { OnOk result (All (IsValid shelf.new) roots.new) }
+    ensures limit { result ≡ Err Stop.Limit → (given : List ℕ → ℕ) → Completes (numbered numbers.new) given →
+        ExceedsCells (pairs (automaton_of shelf.old a.now) (automaton_of shelf.old b.now)) space (row ∷ []) columns.now shelf.old given }
+    ensures fits { OnOk result (Fits joiner.new None shelf.new (numbered numbers.new)) }
+    ensures numbers { AreNumbers numbers.new }
+{
+    // Only for their clauses `shelf` and `numbers`.
+    let _ = (shelf.count(), numbers.len());
+    for column in columns {
+        let root = join_cell(alloc, a, b, shelf, space, row, *column, joiner, numbers)?;
+        roots.push(root)?;
+    }
+    Ok(())
+}
+
+/// The roots of a space, row after row: each row is joined with each column.
+#[allow(clippy::too_many_arguments)]
+pub(crate) fn fill(
+    alloc: Global,
+    a: &Auto,
+    b: &Auto,
+    shelf: &mut Shelf,
+    space: u32,
+    rows: &[(u32, u32)],
+    columns: &[(u32, u32)],
+    joiner: &mut Joiner,
+    numbers: &mut Numbering,
+    roots: &mut RefList,
+) -> Result<(), Stop>
+    requires first { (l r : ℕ × ℕ) → Contains rows.now l → Contains columns.now r → IsSome (root_at shelf.old a.now space l.0 r.0) }
+    requires second { (l r : ℕ × ℕ) → Contains rows.now l → Contains columns.now r → IsSome (root_at shelf.old b.now space l.1 r.1) }
+    requires valid { All (IsValid shelf.old) roots.old }
+    requires fits { Fits joiner.old None shelf.old (numbered numbers.old) }
+    ensures joins { Joins (pairs (automaton_of shelf.old a.now) (automaton_of shelf.old b.now)) space rows.now columns.now
+        shelf.old shelf.new numbers.old numbers.new }
+    ensures cells { OnOk result (AreCells (pairs (automaton_of shelf.old a.now) (automaton_of shelf.old b.now)) space rows.now columns.now
+        numbers.new shelf.new roots.old roots.new) }
+    ensures valid { OnOk result (All (IsValid shelf.new) roots.new) }
+    ensures limit { result ≡ Err Stop.Limit → (given : List ℕ → ℕ) → Completes (numbered numbers.new) given →
+        ExceedsCells (pairs (automaton_of shelf.old a.now) (automaton_of shelf.old b.now)) space rows.now columns.now shelf.old given }
+    ensures fits { OnOk result (Fits joiner.new None shelf.new (numbered numbers.new)) }
+    ensures numbers { AreNumbers numbers.new }
+{
+    // Only for their clauses `shelf` and `numbers`.
+    let _ = (shelf.count(), numbers.len());
+    for row in rows {
+        fill_row(
+            alloc, a, b, shelf, space, *row, columns, joiner, numbers, roots,
+        )?;
+    }
+    Ok(())
+}

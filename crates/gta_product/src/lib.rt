@@ -1,0 +1,11 @@
+//! Products and complements of guided tree automata.
+#![tactic(auto)]
+
+mod classes;
+mod filling;
+mod numbering;
+mod pairing;
+mod turning;
+
+pub use pairing::product;
+pub use turning::complement;

@@ -1,0 +1,35 @@
+-- One node more.
+use Rattle.std.proofs.Common.{◌≡◌, ◌<◌, List, length, sym, ◌∙◌, subst, arith}
+use Rattle.bdd_nodes.specs.declared.node_ref.NodeRef.{NodeRef}
+use Rattle.bdd_nodes.specs.Shelf.{count_of}
+use Rattle.bdd_nodes.specs.Changes.{is_valid}
+use Rattle.gta_refine.specs.Numbered.{AreNumbered}
+use Rattle.gta_refine.proofs.NumbersLemmas.{AreNumbered-push, count-if}
+use Rattle.gta_refine.proofs.numbers.number_nodes.Goals as goal
+
+pub loop-index-preserved : goal.loop-index-preserved
+loop-index-preserved c =
+    let old = c.loop-index.shelf in
+    let new = c.make.new.self in
+    let classes = c.args.classes.now in
+    let nodes = c.args.nodes.now in
+    let refs = c.loop-index.refs.items in
+    let index = c.loop-index.index in
+    let inv = c.loop-index.invariant in
+    let e = c.in-Ok.ensures in
+    let made = c.in-Ok.made in
+    let many : length refs ≡ index = (let v = c.loop-index.refs.ok.0 in let m = inv.many in omega arith) in
+    let inside : index < length nodes = (let t = c.loop-index-test.true in let a = c.loop-index.auto.index-end in omega arith) in
+    let numbered_low : AreNumbered old classes nodes c.deref.result.now = subst (λ (rs : List NodeRef). AreNumbered old classes nodes rs) (sym c.deref.ensures.value) inv.numbered in
+    let numbered_high : AreNumbered old classes nodes c.deref-in-loop-index.result.now =
+    subst (λ (rs : List NodeRef). AreNumbered old classes nodes rs) (sym c.deref-in-loop-index.ensures.value) inv.numbered in
+    record {
+      is_shelf = e.shelf;
+      count = count-if (is_valid old made) (count_of old) index (count_of new) inv.count e.count;
+      limit = e.limit ∙ inv.limit;
+      many = let l = c.in_ok-push.ensures.len in let m = inv.many in omega arith;
+      numbered = subst (λ (rs : List NodeRef). AreNumbered new classes nodes rs) (sym c.in_ok-push.ensures.items)
+          (AreNumbered-push old new classes nodes c.requires.ordered refs index inside c.reference-low.result c.reference-high.result made
+          inv.numbered many (c.reference-low.ensures old nodes numbered_low) (c.reference-high.ensures old nodes numbered_high)
+          e.shelf e.kept e.valid e.value e.later);
+    }

@@ -1,0 +1,12 @@
+-- Refinement has come to an end.
+use Rattle.std.proofs.Common.{List, sym, subst}
+use Rattle.gta_refine.specs.declared.rounds.SpaceClasses.{SpaceClasses}
+use Rattle.gta_refine.specs.Refined.{IsRefined}
+use Rattle.gta_refine.proofs.RefineLemmas.{IsRefined-stable}
+use Rattle.gta_refine.proofs.rounds.refine.Goals as goal
+
+pub returns-then-not-branch : goal.returns-then-not-branch
+returns-then-not-branch c =
+    subst (λ (xs : List SpaceClasses). IsRefined c.args.form.now xs) (sym c.from_vec.ensures)
+    (IsRefined-stable c.args.form.now c.refine_more.new.spaces.items c.requires c.in_ok-refine_more.ensures.partition
+    (c.in_ok-refine_more.ensures.left c.if-not-branch.true) (c.in_ok-refine_more.ensures.right c.if-not-branch.true))

@@ -1,0 +1,268 @@
+//! Refinement: classes are split until steps give states of one class from states of one class.
+
+ghost use Rattle.std.specs.Prelude.{◌≡◌, ◌<◌, ◌≤◌, ◌^◌, ℕ, true, false, length, map, slice_index, IfOk};
+ghost use Rattle.gta_refine.specs.Form.{IsForm};
+ghost use Rattle.gta_refine.specs.Chosen.{is_marked, AreChosen};
+ghost use Rattle.gta_refine.specs.Rows.{kinds_in};
+ghost use Rattle.gta_refine.specs.Classes.{AreClasses, IsSplit};
+ghost use Rattle.gta_refine.specs.Refined.{part_at, opposite, child_of, bit_of, AreSingle, ArePartition, AreChildIds, IsStableAt, IsRefined};
+ghost use Rattle.gta_refine.specs.declared.rows.Side.TheVariants.{Left, Right};
+
+use crate::chosen::choose;
+use crate::form::{Form, FormSpace, NumberList};
+use crate::numbers::number_roots;
+use crate::reach::reach;
+use crate::rows::{Side, kinds_of, number_rows};
+use crate::split::split;
+use plain_data::Items;
+use std::alloc::{AllocError, Global};
+
+/// The classes of the reached states of a space.
+#[derive(Debug, Drop)]
+pub struct SpaceClasses {
+    /// For each state whether it is reached.
+    pub reached: Items<bool>,
+    /// The class of each state: a number below that of the representatives. That of a state which isn't reached says
+    /// nothing.
+    pub classes: NumberList,
+    /// For each class a reached state of it.
+    pub representatives: NumberList,
+}
+
+/// The classes of each space, in order.
+pub type SpaceClassesList = Items<SpaceClasses>;
+
+/// The number of each state, by that of its kind.
+fn spread(alloc: Global, kinds: &[u32], ids: &[u32]) -> Result<Vec<u32>, AllocError>
+    ensures { IfOk result (λ spread. spread.items ≡ map (slice_index ids.now) kinds.now) }
+{
+    let mut spread = Vec::with_capacity(alloc, kinds.len())?;
+    for kind in kinds {
+        spread.push(ids.get(*kind as usize).copied().unwrap_or(0))?;
+    }
+    Ok(spread)
+}
+
+/// 1 for each accepting state, and 0 for each other one.
+fn bits(alloc: Global, accepting: &[bool]) -> Result<Vec<u32>, AllocError>
+    ensures { IfOk result (λ bits. bits.items ≡ map bit_of accepting.now) }
+{
+    let mut bits = Vec::with_capacity(alloc, accepting.len())?;
+    for is_accepting in accepting {
+        bits.push(u32::from(*is_accepting))?;
+    }
+    Ok(bits)
+}
+
+/// One class for the reached states of a space.
+fn one_class(alloc: Global, reached: Items<bool>, initial: u32) -> Result<SpaceClasses, AllocError>
+    requires { is_marked reached initial ≡ true }
+    ensures classes { IfOk result (λ part. AreClasses part.reached part.classes part.representatives) }
+    ensures reached { IfOk result (λ part. part.reached ≡ reached) }
+    ensures one { IfOk result (λ part. length part.representatives ≡ 1) }
+{
+    let classes = vec![in alloc; 0; reached.len()]?;
+    let representatives = vec![in alloc; initial; 1]?;
+    Ok(SpaceClasses {
+        reached,
+        classes: Items::from_vec(classes),
+        representatives: Items::from_vec(representatives),
+    })
+}
+
+/// One class in each space.
+fn one_class_each(alloc: Global, form: &Form) -> Result<Vec<SpaceClasses>, AllocError>
+    requires { IsForm form.now }
+    ensures { IfOk result (λ spaces. AreSingle form.now spaces.items) }
+{
+    let reached = reach(alloc, form)?;
+    let mut spaces = Vec::new(alloc);
+    for s in 0..form.spaces.len() {
+        let marks = Items::from_slice(alloc, reached[s].as_slice())?;
+        spaces.push(one_class(alloc, marks, form.spaces.as_slice()[s].initial)?)?;
+    }
+    Ok(spaces)
+}
+
+/// Splits the classes of a space by the numbers of the states, and says whether there are more classes now.
+fn split_part(alloc: Global, ids: &[u32], part: &mut SpaceClasses) -> Result<bool, AllocError>
+    requires classes { AreClasses part.old.reached part.old.classes part.old.representatives }
+    requires many { length part.old.reached ≤ length ids.now }
+    requires few { length part.old.reached ≤ 2 ^ 31 }
+    ensures reached { IfOk result (λ more. part.new.reached ≡ part.old.reached) }
+    ensures classes { IfOk result (λ more. AreClasses part.old.reached part.new.classes part.new.representatives) }
+    ensures split { IfOk result (λ more. IsSplit part.old.reached ids.now part.old.classes part.new.classes) }
+    ensures unchanged { IfOk result (λ more. more ≡ false
+        → (part.new.classes ≡ part.old.classes) × (part.new.representatives ≡ part.old.representatives)) }
+{
+    split(
+        alloc,
+        part.reached.as_slice(),
+        ids,
+        &mut part.classes,
+        &mut part.representatives,
+    )
+}
+
+/// The classes of accepting states and of others in space 0, and one class in each other space.
+fn classes_at_first(alloc: Global, form: &Form) -> Result<Vec<SpaceClasses>, AllocError>
+    requires { IsForm form.now }
+    ensures { IfOk result (λ spaces. ArePartition form.now spaces.items) }
+{
+    let mut spaces = one_class_each(alloc, form)?;
+    let bits = bits(alloc, form.accepting.as_slice())?;
+    split_part(alloc, &bits, &mut spaces[0])?;
+    Ok(spaces)
+}
+
+/// The space of a child.
+#[inline]
+fn child(space: &FormSpace, side: Side) -> u32
+    ensures { result ≡ child_of space.now side }
+{
+    match side {
+        Side::Left => space.children.0,
+        Side::Right => space.children.1,
+    }
+}
+
+/// The part of a space.
+#[inline]
+fn part_of(spaces: &[SpaceClasses], s: usize) -> &SpaceClasses
+    requires { s < length spaces.now }
+    ensures { result.now ≡ part_at spaces.now s }
+{
+    &spaces[s]
+}
+
+/// Some reached states of a child.
+fn choose_of(
+    alloc: Global,
+    space: &FormSpace,
+    side: Side,
+    spaces: &[SpaceClasses],
+) -> Result<Vec<u32>, AllocError>
+    requires inside { child_of space.now side < length spaces.now }
+    requires many { length (part_at spaces.now (child_of space.now side)).reached ≤ length (kinds_in space.now side) }
+    requires few { length (part_at spaces.now (child_of space.now side)).reached ≤ 2 ^ 31 }
+    ensures { IfOk result (λ chosen. AreChosen (kinds_in space.now side)
+        (part_at spaces.now (child_of space.now side)).reached chosen.items) }
+{
+    let reached = part_of(spaces, child(space, side) as usize)
+        .reached
+        .as_slice();
+    choose(alloc, kinds_of(space, side), reached)
+}
+
+/// The other child.
+#[inline]
+fn other(side: Side) -> Side
+    ensures { result ≡ opposite side }
+{
+    match side {
+        Side::Left => Side::Right,
+        Side::Right => Side::Left,
+    }
+}
+
+/// A number for each state of a child: equal ones exactly where steps give the same classes beside each reached state.
+fn ids_of(
+    alloc: Global,
+    form: &Form,
+    s: usize,
+    side: Side,
+    spaces: &[SpaceClasses],
+) -> Result<Vec<u32>, AllocError>
+    requires form { IsForm form.now }
+    requires space { s < length form.now.spaces }
+    requires partition { ArePartition form.now spaces.now }
+    ensures { IfOk result (λ ids. AreChildIds form.now spaces.now s side ids.items) }
+{
+    let space = &form.spaces.as_slice()[s];
+    let numbers = number_roots(alloc, &space.listing, part_of(spaces, s).classes.as_slice())?;
+    let own = choose_of(alloc, space, side, spaces)?;
+    let beside = choose_of(alloc, space, other(side), spaces)?;
+    let ids = number_rows(alloc, space, side, numbers.as_slice(), &own, &beside)?;
+    let spread = spread(alloc, kinds_of(space, side), &ids)?;
+    Ok(spread)
+}
+
+/// Splits the classes of a child's states by what steps give in the space, and says whether there are more classes now.
+fn split_child(
+    alloc: Global,
+    form: &Form,
+    s: usize,
+    side: Side,
+    spaces: &mut Vec<SpaceClasses>,
+) -> Result<bool, AllocError>
+    requires form { IsForm form.now }
+    requires space { s < length form.now.spaces }
+    requires partition { ArePartition form.now spaces.old.items }
+    ensures partition { IfOk result (λ more. ArePartition form.now spaces.new.items) }
+    ensures unchanged { IfOk result (λ more. more ≡ false → spaces.new.items ≡ spaces.old.items) }
+    ensures stable { IfOk result (λ more. more ≡ false → IsStableAt form.now spaces.new.items s side) }
+{
+    let ids = ids_of(alloc, form, s, side, spaces)?;
+    let part = &mut spaces[child(&form.spaces.as_slice()[s], side) as usize];
+    let is_more = split_part(alloc, &ids, part)?;
+    Ok(is_more)
+}
+
+/// Splits the classes of both children's states, and says whether there are more classes now.
+fn split_children(
+    alloc: Global,
+    form: &Form,
+    s: usize,
+    spaces: &mut Vec<SpaceClasses>,
+) -> Result<bool, AllocError>
+    requires form { IsForm form.now }
+    requires space { s < length form.now.spaces }
+    requires partition { ArePartition form.now spaces.old.items }
+    ensures partition { IfOk result (λ more. ArePartition form.now spaces.new.items) }
+    ensures unchanged { IfOk result (λ more. more ≡ false → spaces.new.items ≡ spaces.old.items) }
+    ensures left { IfOk result (λ more. more ≡ false → IsStableAt form.now spaces.new.items s Left) }
+    ensures right { IfOk result (λ more. more ≡ false → IsStableAt form.now spaces.new.items s Right) }
+{
+    let is_more_left = split_child(alloc, form, s, Side::Left, spaces)?;
+    let is_more_right = split_child(alloc, form, s, Side::Right, spaces)?;
+    Ok(is_more_left || is_more_right)
+}
+
+/// Splits classes in each space, and says whether there are more classes now.
+fn refine_more(
+    alloc: Global,
+    form: &Form,
+    spaces: &mut Vec<SpaceClasses>,
+) -> Result<bool, AllocError>
+    requires form { IsForm form.now }
+    requires partition { ArePartition form.now spaces.old.items }
+    ensures partition { IfOk result (λ more. ArePartition form.now spaces.new.items) }
+    ensures left { IfOk result (λ more. more ≡ false → (s : ℕ) → s < length form.now.spaces → IsStableAt form.now spaces.new.items s Left) }
+    ensures right { IfOk result (λ more. more ≡ false → (s : ℕ) → s < length form.now.spaces → IsStableAt form.now spaces.new.items s Right) }
+{
+    let mut is_more = false;
+    for s in 0..form.spaces.len() {
+        if split_children(alloc, form, s, spaces)? {
+            is_more = true;
+        }
+    }
+    Ok(is_more)
+}
+
+/// The classes of the reached states that can't be told apart, in each space.
+///
+/// # Errors
+///
+/// Want of memory.
+pub fn refine(alloc: Global, form: &Form) -> Result<SpaceClassesList, AllocError>
+    requires { IsForm form.now }
+    ensures { IfOk result (IsRefined form.now) }
+{
+    let mut spaces = classes_at_first(alloc, form)?;
+    for _ in 0..u64::MAX {
+        if !refine_more(alloc, form, &mut spaces)? {
+            return Ok(Items::from_vec(spaces));
+        }
+    }
+    Err(AllocError)
+}

@@ -1,0 +1,5 @@
+pub mod ReadingLemmas
+pub mod SpotLemmas
+pub mod OpeningLemmas
+pub mod StepLemmas
+pub mod SizeLemmas

@@ -1,0 +1,9 @@
+//! Tests of assertions with their predicates put in. The crate has nothing else.
+#![tactic(auto)]
+
+#[cfg(test)]
+mod chains;
+#[cfg(test)]
+mod made;
+#[cfg(test)]
+mod uses;
