@@ -30,7 +30,8 @@ static LISTS: &[(&str, bool)] = &[
         false,
     ),
     (
-        "var x 1\ncell 1 Node next=2 prev=null mark=false\ncell 2 Node next=3 prev=1 mark=false\ncell 3 Node next=4 prev=2 mark=false\ncell 4 Node next=null prev=3 mark=false\n",
+        "var x 1\ncell 1 Node next=2 prev=null mark=false\ncell 2 Node next=3 prev=1 mark=false\ncell 3 Node next=4 prev=2 mark=false\n\
+            cell 4 Node next=null prev=3 mark=false\n",
         true,
     ),
 ];

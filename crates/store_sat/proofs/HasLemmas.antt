@@ -1,5 +1,6 @@
 -- A look-up by halving in a list of cells in rising order.
-use Rattle.std.proofs.Common.{◌≡◌, ◌↔◌, ℕ, zero, suc, ◌<◌, ◌≤◌, List, [], ◌∷◌, length, get_or, Result, Ok, Err, IsTrue, refl, sym, ap, arith, inl, inr, Contains}
+use Rattle.std.proofs.Common.{◌≡◌, ◌↔◌, ℕ, zero, suc, ◌<◌, ◌≤◌, List, [], ◌∷◌, length}
+use Rattle.std.proofs.Common.{get_or, Result, Ok, Err, IsTrue, refl, sym, ap, arith, inl, inr, Contains}
 use Rattle.std.specs.Prelude.{is_ok}
 use Rattle.std.specs.List.Sorted.{IsSearchInRange, IsBinarySearchResult, IsNonDecreasingBy}
 use Rattle.std.specs.Ordering.{nat_cmp, ordering_index}

@@ -1,5 +1,6 @@
 -- The cells that are reached from data variables, by another table in which these are data variables.
-use Rattle.std.proofs.Common.{◌≡◌, ℕ, zero, suc, ◌<◌, ◌≤◌, ◌+◌, List, [], ◌∷◌, length, slice_get, Some, IsSome, IsSomeAnd, refl, sym, ap, ◌∙◌, subst, arith, Contains, inl, inr}
+use Rattle.std.proofs.Common.{◌≡◌, ℕ, zero, suc, ◌<◌, ◌≤◌, ◌+◌, List, [], ◌∷◌, length, slice_get}
+use Rattle.std.proofs.Common.{Some, IsSome, IsSomeAnd, refl, sym, ap, ◌∙◌, subst, arith, Contains, inl, inr}
 use Rattle.std.specs.List.{AllByRecursion}
 use Rattle.std.proofs.lemmas.Bool.{cases_lt}
 use Rattle.std.proofs.lemmas.Option.{slice_get-get_or, slice_get_within, same_Some}

@@ -40,18 +40,29 @@ module _ (types : List TypeEntry) (s : StoreMap) where
 
   module _ (spot : Spot) (all : AllByRecursion IsOrderedIn spot.frames) (question next : Question) (ordered : IsOrdered next) where
     -- in the same place
-    pub step_on : (Holds types s next spot.bound ↔ Holds types s question spot.bound) → far_here next < far_here question → Steps types s spot question spot next
+    pub step_on : (Holds types s next spot.bound ↔ Holds types s question spot.bound) → far_here next < far_here question →
+        Steps types s spot question spot next
     step_on same less = record { same = Whole-both spot.frames spot.bound same; ordered = (ordered, all); nearer = omega (arith, less) }
 
     -- to a part that is negated
     pub step_negated : ((Holds types s next spot.bound → ⊥) ↔ Holds types s question spot.bound) → far_here next + 1 < far_here question →
         Steps types s spot question (with_frame negated spot) next
-    step_negated same less = record { same = Whole-both spot.frames spot.bound same; ordered = (ordered, (tt, all)); nearer = let fact : far_here next + (1 + around_far spot) < far_here question + around_far spot = omega (arith, less) in fact }
+    step_negated same less = record {
+      same = Whole-both spot.frames spot.bound same;
+      ordered = (ordered, (tt, all));
+      nearer =
+          let fact : far_here next + (1 + around_far spot) < far_here question + around_far spot = omega (arith, less) in fact;
+    }
 
     -- to the body of a quantifier
     pub step_inside : (x : Value) → (Holds types s next (x ∷ spot.bound) ↔ Holds types s question spot.bound) → far_here next + 1 < far_here question →
         Steps types s spot question (inside x spot) next
-    step_inside x same less = record { same = Whole-both spot.frames spot.bound same; ordered = (ordered, (tt, all)); nearer = let fact : far_here next + (1 + around_far spot) < far_here question + around_far spot = omega (arith, less) in fact }
+    step_inside x same less = record {
+      same = Whole-both spot.frames spot.bound same;
+      ordered = (ordered, (tt, all));
+      nearer =
+          let fact : far_here next + (1 + around_far spot) < far_here question + around_far spot = omega (arith, less) in fact;
+    }
 
     module _ (j : Join) (other : Question) (other_ordered : IsOrdered other) where
       -- to the left part
@@ -64,7 +75,8 @@ module _ (types : List TypeEntry) (s : StoreMap) where
       }
 
       -- to the body of a quantifier for its first goal
-      pub step_joined_inside : (x : Value) → (Joined j (Holds types s next (x ∷ spot.bound)) (Holds types s other spot.bound) ↔ Holds types s question spot.bound) →
+      pub step_joined_inside : (x : Value) →
+          (Joined j (Holds types s next (x ∷ spot.bound)) (Holds types s other spot.bound) ↔ Holds types s question spot.bound) →
           far_here next + far_here other + 3 < far_here question → Steps types s spot question (inside x (with_frame (joined j other) spot)) next
       step_joined_inside x same less = record {
         same = Whole-both spot.frames spot.bound same;
@@ -88,7 +100,12 @@ module _ (types : List TypeEntry) (s : StoreMap) where
     not-true false = (λ h no. false≢true no, λ no. refl)
 
     pub close_negated : (truth : Bool) → Steps types s (with_frame negated spot) (known truth) spot (known (not truth))
-    close_negated truth = record { same = Whole-both spot.frames spot.bound (not-true truth); ordered = (tt, all); nearer = let fact : 0 + around_far spot < 0 + (1 + around_far spot) = omega arith in fact }
+    close_negated truth = record {
+      same = Whole-both spot.frames spot.bound (not-true truth);
+      ordered = (tt, all);
+      nearer =
+          let fact : 0 + around_far spot < 0 + (1 + around_far spot) = omega arith in fact;
+    }
 
     pub close_outer : (truth : Bool) →
         Steps types s (with_frame outer spot) (known truth) (record { frames = spot.frames; bound = rest spot.bound }) (known truth)
@@ -98,12 +115,22 @@ module _ (types : List TypeEntry) (s : StoreMap) where
       -- an answer that leaves nothing open
       pub close_known : (j : Join) (truth answer : Bool) → (IsTrue answer ↔ Joined j (IsTrue truth) (Holds types s other spot.bound)) →
           Steps types s (with_frame (joined j other) spot) (known truth) spot (known answer)
-      close_known j truth answer same = record { same = Whole-both spot.frames spot.bound same; ordered = (tt, all); nearer = let fact : 0 + around_far spot < 0 + ((far_here other + 2) + around_far spot) = omega arith in fact }
+      close_known j truth answer same = record {
+        same = Whole-both spot.frames spot.bound same;
+        ordered = (tt, all);
+        nearer =
+            let fact : 0 + around_far spot < 0 + ((far_here other + 2) + around_far spot) = omega arith in fact;
+      }
 
       -- an answer that leaves it to the other
       pub close_other : (j : Join) (truth : Bool) → (Holds types s other spot.bound ↔ Joined j (IsTrue truth) (Holds types s other spot.bound)) →
           Steps types s (with_frame (joined j other) spot) (known truth) spot other
-      close_other j truth same = record { same = Whole-both spot.frames spot.bound same; ordered = (ordered, all); nearer = let fact : far_here other + around_far spot < 0 + ((far_here other + 2) + around_far spot) = omega arith in fact }
+      close_other j truth same = record {
+        same = Whole-both spot.frames spot.bound same;
+        ordered = (ordered, all);
+        nearer =
+            let fact : far_here other + around_far spot < 0 + ((far_here other + 2) + around_far spot) = omega arith in fact;
+      }
 
       pub close_And-false : Steps types s (with_frame (joined join.And other) spot) (known false) spot (known false)
       close_And-false = close_known join.And false false (λ h. absurd (false≢true h), λ h. h.0)

@@ -37,14 +37,16 @@ impl Place<'_> {
 
     /// Whether two terms are the same cell, or both null.
     pub(crate) fn same(&self, one: &Term, other: &Term) -> bool
-        ensures { IsTrue result ↔ (cell_at self.now.store.now (around self.now.bound.now) one.now ≡ cell_at self.now.store.now (around self.now.bound.now) other.now) }
+        ensures { IsTrue result ↔
+            (cell_at self.now.store.now (around self.now.bound.now) one.now ≡ cell_at self.now.store.now (around self.now.bound.now) other.now) }
     {
         self.cell(one) == self.cell(other)
     }
 
     /// Whether a term is a cell of the set.
     pub(crate) fn is_member(&self, term: &Term, set: Base) -> bool
-        ensures { IsTrue result ↔ IsSomeAnd (cell_at self.now.store.now (around self.now.bound.now) term.now) (Contains (set_at self.now.store.now (around self.now.bound.now) set)) }
+        ensures { IsTrue result ↔
+            IsSomeAnd (cell_at self.now.store.now (around self.now.bound.now) term.now) (Contains (set_at self.now.store.now (around self.now.bound.now) set)) }
     {
         match self.cell(term) {
             Some(cell) => has(self.set(set), cell),

@@ -35,7 +35,8 @@ impl<'a> Judge<'a> {
         left: &'a Boxed<Assertion>,
         right: &'a Boxed<Assertion>,
     ) -> Result<Task<'a>, AllocError>
-        ensures spot { IfOk result (λ task. spot_of self.now.store.now spine.new ≡ with_frame (joined join (whole right.now)) (spot_of self.now.store.now spine.old)) }
+        ensures spot { IfOk result (λ task. spot_of self.now.store.now spine.new
+            ≡ with_frame (joined join (whole right.now)) (spot_of self.now.store.now spine.old)) }
         ensures left { IfOk result (λ task. question_of self.now.store.now task ≡ whole left.now) }
     {
         let right = Task::Whole(right.get());
@@ -227,7 +228,8 @@ impl<'a> Judge<'a> {
         other: Task<'a>,
     ) -> Result<Task<'a>, AllocError>
         requires { AreOrdered (joined join (question_of self.now.store.now other) ∷ (spot_of self.now.store.now spine.old).frames) (known truth) }
-        ensures { IfOk result (λ task. Steps self.now.types.now self.now.store.now (with_frame (joined join (question_of self.now.store.now other.entry)) (spot_of self.now.store.now spine.old)) (known truth)
+        ensures { IfOk result (λ task. Steps self.now.types.now self.now.store.now
+            (with_frame (joined join (question_of self.now.store.now other.entry)) (spot_of self.now.store.now spine.old)) (known truth)
             (spot_of self.now.store.now spine.new) (question_of self.now.store.now task)) }
     {
         if truth {
@@ -252,7 +254,8 @@ impl<'a> Judge<'a> {
         frame: Frame<'a>,
     ) -> Result<Task<'a>, AllocError>
         requires { AreOrdered (surround_of self.now.store.now frame ∷ (spot_of self.now.store.now spine.old).frames) (known truth) }
-        ensures { IfOk result (λ task. Steps self.now.types.now self.now.store.now (with_frame (surround_of self.now.store.now frame.entry) (spot_of self.now.store.now spine.old)) (known truth)
+        ensures { IfOk result (λ task. Steps self.now.types.now self.now.store.now
+            (with_frame (surround_of self.now.store.now frame.entry) (spot_of self.now.store.now spine.old)) (known truth)
             (spot_of self.now.store.now spine.new) (question_of self.now.store.now task)) }
     {
         match frame {

@@ -15,4 +15,5 @@ mod terms;
 mod walks;
 mod whole;
 
+pub use terms::has;
 pub use whole::sat;

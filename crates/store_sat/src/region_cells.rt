@@ -51,7 +51,8 @@ pub(crate) fn part_of(
     store: &Store,
     roots: &[VarId],
 ) -> Result<CellList, AllocError>
-    ensures { IfOk result (λ cells. (vars : List VarEntry) → IsVarTable vars → AllByRecursion (IsKnownDataVar vars) roots.now → IsPart types.now vars store.now roots.now cells) }
+    ensures { IfOk result (λ cells. (vars : List VarEntry) → IsVarTable vars →
+        AllByRecursion (IsKnownDataVar vars) roots.now → IsPart types.now vars store.now roots.now cells) }
 {
     let mut count = 0;
     for root in roots {

@@ -91,8 +91,8 @@ impl<'a> Place<'a> {
     }
 }
 
-/// Whether the cell is one of these, whose numbers rise.
-pub(crate) fn has(cells: &[CellId], cell: CellId) -> bool
+/// Whether the cell is one of these, whose numbers rise. Takes no memory.
+pub fn has(cells: &[CellId], cell: CellId) -> bool
     requires { AreRising cells.now }
     ensures { IsTrue result ↔ Contains cells.now cell }
 {

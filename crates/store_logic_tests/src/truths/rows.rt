@@ -4,7 +4,8 @@ use super::Case;
 
 /// Three nodes in a row, of which `p` is in the middle.
 pub static LIST: Case = Case {
-    lines: "var x 1\nvar y null\nvar p 2\nvar t null\nvar q null\nvar S {1 3}\nvar U {1 2 3}\nvar b true\nvar v false\ncell 1 Node next=2 prev=null mark=true\ncell 2 Node next=3 prev=1 mark=false\ncell 3 Node next=null prev=2 mark=true\n",
+    lines: "var x 1\nvar y null\nvar p 2\nvar t null\nvar q null\nvar S {1 3}\nvar U {1 2 3}\nvar b true\nvar v false\n\
+        cell 1 Node next=2 prev=null mark=true\ncell 2 Node next=3 prev=1 mark=false\ncell 3 Node next=null prev=2 mark=true\n",
     rows: &[
         ("", "T", true),
         ("", "F", false),
@@ -100,7 +101,10 @@ pub static LIST: Case = Case {
 
 /// A tree of two nodes and a leaf, of which `q` is the right node, and two lists of one node each.
 pub static TREE: Case = Case {
-    lines: "var x 4\nvar y 5\nvar p null\nvar t 1\nvar q 3\nvar S {4 5}\nvar U {}\nvar b false\nvar v true\ncell 1 Tree:node up=null left=2 right=3 red=true\ncell 2 Tree:leaf up=1 ripe=true\ncell 3 Tree:node up=1 left=null right=null red=false\ncell 4 Node next=null prev=null mark=false\ncell 5 Node next=null prev=null mark=false\n",
+    lines: "var x 4\nvar y 5\nvar p null\nvar t 1\nvar q 3\nvar S {4 5}\nvar U {}\nvar b false\nvar v true\n\
+        cell 1 Tree:node up=null left=2 right=3 red=true\ncell 2 Tree:leaf up=1 ripe=true\n\
+        cell 3 Tree:node up=1 left=null right=null red=false\ncell 4 Node next=null prev=null mark=false\n\
+        cell 5 Node next=null prev=null mark=false\n",
     rows: &[
         ("", "t :n", true),
         ("", "t :l", false),
@@ -190,7 +194,8 @@ pub static TREE: Case = Case {
 
 /// The cells 7, 8 and 9 are dead. `x` and `y` are one cell, and the second node is named by two others.
 pub static DEAD: Case = Case {
-    lines: "var x 1\nvar y 1\nvar p 7\nvar t null\nvar q null\nvar S {1 7}\nvar U {2}\nvar b false\nvar v false\ncell 1 Node next=2 prev=9 mark=true\ncell 2 Node next=8 prev=1 mark=false\ncell 3 Node next=2 prev=3 mark=true\n",
+    lines: "var x 1\nvar y 1\nvar p 7\nvar t null\nvar q null\nvar S {1 7}\nvar U {2}\nvar b false\nvar v false\n\
+        cell 1 Node next=2 prev=9 mark=true\ncell 2 Node next=8 prev=1 mark=false\ncell 3 Node next=2 prev=3 mark=true\n",
     rows: &[
         ("", "p - =", true),
         ("", "p p =", true),
@@ -262,7 +267,8 @@ pub static EMPTY: Case = Case {
 
 /// The cells 5 and 6 are dead, and sets hold them.
 pub static SETS: Case = Case {
-    lines: "var x 2\nvar y null\nvar p 5\nvar t null\nvar q null\nvar S {2 5}\nvar U {5 6}\nvar b true\nvar v true\ncell 2 Node next=4 prev=2 mark=false\ncell 4 Node next=null prev=6 mark=false\n",
+    lines: "var x 2\nvar y null\nvar p 5\nvar t null\nvar q null\nvar S {2 5}\nvar U {5 6}\nvar b true\nvar v true\n\
+        cell 2 Node next=4 prev=2 mark=false\ncell 4 Node next=null prev=6 mark=false\n",
     rows: &[
         ("", "S U [", false),
         ("", "U S [", true),

@@ -25,7 +25,8 @@ pub returns-then-not-is_covered : goal.returns-then-not-is_covered
 returns-then-not-is_covered c = (
   λ wrong. absurd (false≢true wrong),
   λ all. absurd (false≢true (sym c.if-not-is_covered.true ∙ c.is_covered.ensures.1 (λ live.
-      all (get_or c.args.cells.now c.loop-cell.cell-index no_cell) live (Contains-at c.args.cells.now c.loop-cell.cell-index (get_or c.args.cells.now c.loop-cell.cell-index no_cell)
+      all (get_or c.args.cells.now c.loop-cell.cell-index no_cell) live
+      (Contains-at c.args.cells.now c.loop-cell.cell-index (get_or c.args.cells.now c.loop-cell.cell-index no_cell)
       (slice_get-get_or c.args.cells.now c.loop-cell.cell-index no_cell c.loop-cell-test.true))))),
 )
 

@@ -40,7 +40,9 @@ returns c =
     drop-some (keys s.cells) c.args.place c.in-Some.cell (sym c.in-Some.ensures) in
     let others = cells_from s q (c.args.place + 1) in
     steps_as types s spot _ _ _ _ _ _ (ap (cells q.some q.ty q.body.now) next)
-    (c.in_ok-body.ensures.spot ∙ ap (inside (value.Cell (Some c.in-Some.cell))) ((λ i. record { frames = map (surround_of s) (c.in_ok-push.ensures.ok i); bound = c.args.spine.now.bound }) ∙ ap (λ (j : Join). with_frame (joined j others) spot) c.join.ensures))
+    (c.in_ok-body.ensures.spot
+    ∙ ap (inside (value.Cell (Some c.in-Some.cell))) ((λ i. record { frames = map (surround_of s) (c.in_ok-push.ensures.ok i); bound = c.args.spine.now.bound })
+    ∙ ap (λ (j : Join). with_frame (joined j others) spot) c.join.ensures))
     c.in_ok-body.ensures.body
     (cells_take types s spot c.requires.1 q.ty q.body.now c.in-Some.cell.0 (drop (c.args.place + 1) (keys s.cells)) q.some
     (c.is_of_type.ensures.0 c.if-not-is_of_type.false))

@@ -41,7 +41,8 @@ returns c =
     drop-some (keys s.cells) c.args.place c.in-Some.cell (sym c.in-Some.ensures) in
     steps_as types s spot _ _ _ _ _ _ (ap (sets q.some q.ty q.body.now c.args.chosen) next)
     ((λ i. record { frames = map (surround_of s) (c.in_ok-push-2.ensures.ok i); bound = c.args.spine.now.bound })
-    ∙ (λ i. with_frame (joined (c.join.ensures i) (sets q.some q.ty q.body.now ((c.in_ok-push.ensures.ok ∙ ap (λ (cs : List CellId). cs ++ c.in-Some.cell ∷ []) c.in_ok-with.ensures) i) left)) spot))
+    ∙ (λ i. with_frame (joined (c.join.ensures i) (sets q.some q.ty q.body.now
+    ((c.in_ok-push.ensures.ok ∙ ap (λ (cs : List CellId). cs ++ c.in-Some.cell ∷ []) c.in_ok-with.ensures) i) left)) spot))
     refl
     (sets_take types s spot c.requires.1 q.ty q.body.now c.args.chosen c.in-Some.cell.0 left
     (subst (StayRising c.args.chosen) next c.requires.0) q.some (c.is_of_type.ensures.0 c.if-not-is_of_type.false))

@@ -185,7 +185,8 @@ returns-in-ExSet-clause-steps c =
     let here = around c.args.spine.now.bound in
     let says = Says types s (reverse []) in
     steps_as types s spot _ _ _ _ _ _ (ap whole c.in-ExSet.is) refl
-    (λ i. sets true c.in-ExSet.ty (c.get-body-in-ExSet.ensures i) (c.new.ensures i) (keys s.cells)) (open_ExSet types s spot c.requires.ready.1 c.in-ExSet.ty c.in-ExSet.body)
+    (λ i. sets true c.in-ExSet.ty (c.get-body-in-ExSet.ensures i) (c.new.ensures i) (keys s.cells))
+    (open_ExSet types s spot c.requires.ready.1 c.in-ExSet.ty c.in-ExSet.body)
 
 pub returns-in-AllSet-clause-steps : goal.returns-in-AllSet-clause-steps
 returns-in-AllSet-clause-steps c =
@@ -195,4 +196,5 @@ returns-in-AllSet-clause-steps c =
     let here = around c.args.spine.now.bound in
     let says = Says types s (reverse []) in
     steps_as types s spot _ _ _ _ _ _ (ap whole c.in-AllSet.is) refl
-    (λ i. sets false c.in-AllSet.ty (c.get-body-in-AllSet.ensures i) (c.new-in-AllSet.ensures i) (keys s.cells)) (open_AllSet types s spot c.requires.ready.1 c.in-AllSet.ty c.in-AllSet.body)
+    (λ i. sets false c.in-AllSet.ty (c.get-body-in-AllSet.ensures i) (c.new-in-AllSet.ensures i) (keys s.cells))
+    (open_AllSet types s spot c.requires.ready.1 c.in-AllSet.ty c.in-AllSet.body)
