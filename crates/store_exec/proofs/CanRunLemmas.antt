@@ -1,21 +1,20 @@
 -- Code that can be run goes on.
-use Rattle.std.proofs.Common.{◌≡◌, ℕ, ◌+◌, ◌<◌, ◌≤◌, List, Result, Ok, Err, refl, sym, ap, ap₂, ◌∙◌, subst, arith}
+use Rattle.std.proofs.Common.{◌≡◌, ℕ, ◌+◌, ◌≤◌, List, Ok, refl, sym, ap, ◌∙◌, subst, arith}
 use mathlib.Core.Path.{transport}
 use Rattle.store_core.specs.Tables.{TypeEntry, VarEntry}
 use Rattle.store_core.specs.Stores.{StoreMap}
 use Rattle.store_logic.specs.declared.cond.Cond.{Cond}
 use Rattle.store_logic.specs.FitsCode.{CondFits}
-use Rattle.store_exec.specs.declared.code.Item.{Item}
-use Rattle.store_exec.specs.declared.code.Code.{Code, roll-Code, roll-out-Code, out-Code}
-use Rattle.store_exec.specs.declared.code.Tail.{Tail, roll-Tail}
+use Rattle.store_exec.specs.declared.code.Code.{Code, roll-out-Code, out-Code}
+use Rattle.store_exec.specs.declared.code.Tail.{Tail}
 use Rattle.store_exec.specs.declared.code.Tail.TheVariants as tail
 use Rattle.store_exec.specs.declared.code.Tail.TheVariants.{rolls-Branch}
 use Rattle.store_exec.specs.declared.code.Tail.TheOpen.{Tail-F, Code-F}
-use Rattle.store_exec.specs.declared.code.Tail.TheFolds.{rec-Tail, rec-Code, rec-roll-Tail, rec-roll-Code, fold-Tail, fold-Code, fold-roll-Tail, fold-roll-Code, map-Tail, map-Code}
+use Rattle.store_exec.specs.declared.code.Tail.TheFolds.{rec-Tail, rec-roll-Tail, rec-roll-Code, fold-Tail, fold-roll-Tail}
+use Rattle.store_exec.specs.declared.code.Tail.TheFolds.{fold-roll-Code, map-Tail, map-Code}
 use Rattle.store_exec.specs.Runs.{RunsItems}
 use Rattle.store_exec.specs.Fits.{ItemsFit, news_of, TailFitsNode, CodeFitsNode, CodeFits, news_of_tail, news_of_code}
 use Rattle.store_exec.specs.Going.{CanRun, CanRunCode}
-use Rattle.store_exec.proofs.KeepLemmas.{IsWell}
 use Rattle.store_exec.proofs.ItemsKeepLemmas.{IsWellAfter, items-keep}
 
 module _ (types : List TypeEntry) (vars : List VarEntry) where
@@ -64,28 +63,31 @@ module _ (types : List TypeEntry) (s : StoreMap) (c : Code) (can : CanRunCode ty
   -- and where they end, each code of its branch can
   pub branch-can : (t : StoreMap) (line : ℕ) (b : Cond) (taken other : Code) → c.tail ≡ tail.Branch line b taken other → RunsItems types c.items s (Ok t) →
       CanRunCode types t taken × CanRunCode types t other
-  branch-can t line b taken other is runs = (record {
+  branch-can t line b taken other is runs = (
+    record {
       vars = can.vars;
       fits = (after.well).fits;
       fresh = (after.well).fresh;
       code_fits = both.1;
       room = let all = can.room in let own = news-code c in omega (arith, all, own, bound, behind);
-    }, record {
+    },
+    record {
       vars = can.vars;
       fits = (after.well).fits;
       fresh = (after.well).fresh;
       code_fits = both.2;
       room = let all = can.room in let own = news-code c in omega (arith, all, own, bound, behind);
-    })
+    },
+  )
     where
-    after : IsWellAfter types can.vars s (news_of c.items) t
-    after = items-keep types can.vars c.items s t (record { fits = can.fits; fresh = can.fresh }) (code-fits types can.vars c can.code_fits).0 runs
+      after : IsWellAfter types can.vars s (news_of c.items) t
+      after = items-keep types can.vars c.items s t (record { fits = can.fits; fresh = can.fresh }) (code-fits types can.vars c can.code_fits).0 runs
 
-    bound : t.next ≤ s.next + news_of c.items
-    bound = after.next
+      bound : t.next ≤ s.next + news_of c.items
+      bound = after.next
 
-    both : CondFits types can.vars b × CodeFits types can.vars taken × CodeFits types can.vars other
-    both = branch-fits types can.vars line b taken other (subst (TailFits types can.vars) is (code-fits types can.vars c can.code_fits).1)
+      both : CondFits types can.vars b × CodeFits types can.vars taken × CodeFits types can.vars other
+      both = branch-fits types can.vars line b taken other (subst (TailFits types can.vars) is (code-fits types can.vars c can.code_fits).1)
 
-    behind : news_behind c.tail ≡ news_of_code taken + news_of_code other
-    behind = ap news_behind is ∙ news-branch line b taken other
+      behind : news_behind c.tail ≡ news_of_code taken + news_of_code other
+      behind = ap news_behind is ∙ news-branch line b taken other

@@ -1,34 +1,34 @@
 -- Where code leads.
-use Rattle.std.proofs.Common.{◌≡◌, ◌↔◌, ◌⊎◌, inl, inr, ℕ, Bool, true, false, List, Result, Ok, Err, refl, sym, ap, ◌∙◌, subst}
+use Rattle.std.proofs.Common.{◌≡◌, ◌↔◌, inl, inr, ℕ, Bool, true, false, List, Result, Ok, Err, refl, sym, ap, ◌∙◌, subst}
 use mathlib.Core.Path.{transport}
-use Rattle.store_core.specs.Tables.{TypeEntry, VarEntry}
+use Rattle.store_core.specs.Tables.{TypeEntry}
 use Rattle.store_core.specs.Stores.{StoreMap}
 use Rattle.store_logic.specs.declared.cond.Cond.{Cond}
-use Rattle.store_logic.specs.FitsCode.{CondFits}
 use Rattle.store_exec.specs.declared.cause.Cause.{Cause}
 use Rattle.store_exec.specs.declared.fault.Fault.{Fault}
 use Rattle.store_exec.specs.declared.outcome.Outcome.{Outcome}
 use Rattle.store_exec.specs.declared.outcome.Outcome.TheVariants as outcome
-use Rattle.store_exec.specs.declared.code.Item.{Item}
-use Rattle.store_exec.specs.declared.code.Code.{Code, roll-Code, roll-out-Code, out-Code}
-use Rattle.store_exec.specs.declared.code.Tail.{Tail, roll-Tail, roll-out-Tail}
+use Rattle.store_exec.specs.declared.code.Code.{Code, roll-out-Code, out-Code}
+use Rattle.store_exec.specs.declared.code.Tail.{Tail}
 use Rattle.store_exec.specs.declared.code.Tail.TheVariants as tail
 use Rattle.store_exec.specs.declared.code.Tail.TheVariants.{rolls-Cut, rolls-Branch}
 use Rattle.store_exec.specs.declared.code.Tail.TheOpen.{Tail-F, Code-F}
-use Rattle.store_exec.specs.declared.code.Tail.TheFolds.{rec-Tail, rec-Code, rec-roll-Tail, rec-roll-Code, map-Tail, map-Code}
+use Rattle.store_exec.specs.declared.code.Tail.TheFolds.{rec-Tail, rec-roll-Tail, rec-roll-Code, map-Tail, map-Code}
 use Rattle.store_exec.specs.Steps.{truth_of}
-use Rattle.store_exec.specs.Runs.{Ending, RunsItems, Follows, Branches, TailNode, CodeNode, RunsCode}
+use Rattle.store_exec.specs.Runs.{RunsItems, Follows, Branches, TailNode, CodeNode, RunsCode}
 
 module _ (types : List TypeEntry) where
   abbrev pub RunsTail : Tail → StoreMap → Outcome → Type 0
   RunsTail = rec-Tail (StoreMap → Outcome → Type 0) (StoreMap → Outcome → Type 0) (TailNode types) (CodeNode types)
 
-  natural-tail : (T C : Type 0) (v : T → Tail) (w : C → Code) (k : Tail → StoreMap → Outcome → Type 0) (l : Code → StoreMap → Outcome → Type 0) (x : Tail-F T C) →
+  natural-tail : (T C : Type 0) (v : T → Tail) (w : C → Code) (k : Tail → StoreMap → Outcome → Type 0) (l : Code → StoreMap → Outcome → Type 0)
+      (x : Tail-F T C) →
       TailNode types T C v w (λ p. k (v p)) (λ p. l (w p)) x ≡ TailNode types Tail Code (λ y. y) (λ y. y) k l (map-Tail T C Tail Code v w x)
   natural-tail T C v w k l (Tail-F.Cut place) = refl
   natural-tail T C v w k l (Tail-F.Branch line c taken other) = refl
 
-  natural-code : (T C : Type 0) (v : T → Tail) (w : C → Code) (k : Tail → StoreMap → Outcome → Type 0) (l : Code → StoreMap → Outcome → Type 0) (x : Code-F T C) →
+  natural-code : (T C : Type 0) (v : T → Tail) (w : C → Code) (k : Tail → StoreMap → Outcome → Type 0) (l : Code → StoreMap → Outcome → Type 0)
+      (x : Code-F T C) →
       CodeNode types T C v w (λ p. k (v p)) (λ p. l (w p)) x ≡ CodeNode types Tail Code (λ y. y) (λ y. y) k l (map-Code T C Tail Code v w x)
   natural-code T C v w k l x = refl
 
@@ -46,7 +46,8 @@ module _ (types : List TypeEntry) where
   pub RunsTail-Branch : (line : ℕ) (c : Cond) (taken other : Code) (s : StoreMap) (out : Outcome) → RunsTail (tail.Branch line c taken other) s out ↔
       Branches line (truth_of s c) (RunsCode types taken s) (RunsCode types other s) out
   RunsTail-Branch line c taken other = both_ways (ap RunsTail (sym (rolls-Branch line c taken other))
-      ∙ rec-roll-Tail (StoreMap → Outcome → Type 0) (StoreMap → Outcome → Type 0) (TailNode types) (CodeNode types) natural-tail (Tail-F.Branch line c taken other))
+      ∙ rec-roll-Tail (StoreMap → Outcome → Type 0) (StoreMap → Outcome → Type 0) (TailNode types) (CodeNode types) natural-tail
+      (Tail-F.Branch line c taken other))
 
   -- ---- one code
 
@@ -55,7 +56,8 @@ module _ (types : List TypeEntry) where
   items-stop c s fault h = (RunsCode-is c s (outcome.Fail fault.cause fault.line)).1 (inr (fault, h, refl))
 
   -- its items, and then its cut
-  pub items-cut : (c : Code) (s t : StoreMap) (place : ℕ) → c.tail ≡ tail.Cut place → RunsItems types c.items s (Ok t) → RunsCode types c s (outcome.End place t)
+  pub items-cut : (c : Code) (s t : StoreMap) (place : ℕ) → c.tail ≡ tail.Cut place → RunsItems types c.items s (Ok t) → RunsCode types c s
+      (outcome.End place t)
   items-cut c s t place is h = (RunsCode-is c s (outcome.End place t)).1
       (inl (t, h, subst (λ (x : Tail). RunsTail x t (outcome.End place t)) (sym is) ((RunsTail-Cut place t (outcome.End place t)).1 refl)))
 
@@ -80,4 +82,4 @@ module _ (types : List TypeEntry) where
       RunsCode types c s (outcome.Fail fault.cause fault.line)
   branch-stop c s t line b taken other is h fault told at = branch-goes c s t line b taken other (outcome.Fail fault.cause fault.line) is h
       (subst (λ (r : Result Bool Cause). Branches line r (RunsCode types taken t) (RunsCode types other t) (outcome.Fail fault.cause fault.line)) (sym told)
-        (ap (λ (n : ℕ). outcome.Fail fault.cause n) at))
+      (ap (λ (n : ℕ). outcome.Fail fault.cause n) at))

@@ -1,20 +1,17 @@
 -- Items keep a store fitting its tables and fresh, and make no more cells than they have `new`.
-use Rattle.std.proofs.Common.{◌≡◌, ◌↔◌, ◌⊎◌, inl, inr, ℕ, ◌+◌, ◌≤◌, Bool, true, false, List, [], ◌∷◌, map, Result, Ok, Err, refl, sym, ap, ◌∙◌, subst, arith}
+use Rattle.std.proofs.Common.{◌≡◌, inl, inr, ℕ, ◌+◌, ◌≤◌, Bool, true, false, List, [], ◌∷◌, map, Result, Ok, Err, sym, subst, arith}
 use Rattle.std.proofs.lemmas.List.Sums.{sum_by-cons}
 use Rattle.store_core.specs.Tables.{TypeEntry, VarEntry}
 use Rattle.store_core.specs.Stores.{StoreMap}
-use Rattle.store_logic.specs.declared.act.Act.{Act}
-use Rattle.store_logic.specs.declared.cond.Cond.{Cond}
 use Rattle.store_logic.specs.FitsCode.{CondFits}
 use Rattle.store_exec.specs.declared.cause.Cause.{Cause}
-use Rattle.store_exec.specs.declared.fault.Fault.{Fault}
 use Rattle.store_exec.specs.declared.code.Item.{Item, roll-Item}
 use Rattle.store_exec.specs.declared.code.Item.TheVariants as item
 use Rattle.store_exec.specs.declared.code.Item.TheVariants.{rolls-Do, rolls-If}
 use Rattle.store_exec.specs.declared.code.Item.TheOpen.{Item-F}
 use Rattle.store_exec.specs.declared.code.Item.TheFolds.{ind-Item, map-Item}
 use Rattle.store_exec.specs.Steps.{truth_of}
-use Rattle.store_exec.specs.Runs.{Ending, Does, ByTruth, RunsItem, RunsItems}
+use Rattle.store_exec.specs.Runs.{ByTruth, RunsItem, RunsItems}
 use Rattle.store_exec.specs.Fits.{ItemFits, ItemsFit, news_of_item, news_of}
 use Rattle.store_exec.proofs.KeepLemmas.{IsWell, Step-keeps}
 use Rattle.store_exec.proofs.RunLemmas.{RunsItem-Do, RunsItem-If}
@@ -46,25 +43,27 @@ module _ (types : List TypeEntry) (vars : List VarEntry) where
       let step = (RunsItem-Do types line a s (Ok t)).0 runs in
       let bound = Step-next types s a t step in let own = news-Do line a in
       record { well = Step-keeps types vars s well.fits well.fresh a t (ItemFits-Do types vars line a fits) step; next = omega (arith, bound, own) })
-  made (Item-F.If line c taken other) = subst Keeps (sym (rolls-If line c ones others)) (λ s t well fits runs. by s t well (ItemFits-If types vars line c ones others fits)
+  made (Item-F.If line c taken other) = subst Keeps (sym (rolls-If line c ones others))
+      (λ s t well fits runs. by s t well (ItemFits-If types vars line c ones others fits)
       (truth_of s c) ((RunsItem-If types line c ones others s (Ok t)).0 runs))
     where
-    ones : List Item
-    ones = map (λ (x : (i : Item) × Keeps i). x.0) taken
+      ones : List Item
+      ones = map (λ (x : (i : Item) × Keeps i). x.0) taken
 
-    others : List Item
-    others = map (λ (x : (i : Item) × Keeps i). x.0) other
+      others : List Item
+      others = map (λ (x : (i : Item) × Keeps i). x.0) other
 
-    own : news_of_item (item.If line c ones others) ≡ news_of ones + news_of others
-    own = news-If line c ones others
+      own : news_of_item (item.If line c ones others) ≡ news_of ones + news_of others
+      own = news-If line c ones others
 
-    by : (s t : StoreMap) → IsWell types vars s → CondFits types vars c × ItemsFit types vars ones × ItemsFit types vars others → (r : Result Bool Cause) → ByTruth line r (RunsItems types ones s) (RunsItems types others s) (Ok t) →
-        IsWellAfter types vars s (news_of_item (item.If line c ones others)) t
-    by s t well fits (Ok true) h = let it = in_order taken s t well fits.1 h in let next = it.next in
-        record { well = it.well; next = omega (arith, own, next) }
-    by s t well fits (Ok false) h = let it = in_order other s t well fits.2 h in let next = it.next in
-        record { well = it.well; next = omega (arith, own, next) }
-    by s t well fits (Err why) h = absurd cc
+      by : (s t : StoreMap) → IsWell types vars s → CondFits types vars c × ItemsFit types vars ones × ItemsFit types vars others → (r : Result Bool Cause) →
+          ByTruth line r (RunsItems types ones s) (RunsItems types others s) (Ok t) →
+          IsWellAfter types vars s (news_of_item (item.If line c ones others)) t
+      by s t well fits (Ok true) h = let it = in_order taken s t well fits.1 h in let next = it.next in
+          record { well = it.well; next = omega (arith, own, next) }
+      by s t well fits (Ok false) h = let it = in_order other s t well fits.2 h in let next = it.next in
+          record { well = it.well; next = omega (arith, own, next) }
+      by s t well fits (Err why) h = absurd cc
 
   item-keeps : (i : Item) → Keeps i
   item-keeps = ind-Item Keeps (λ x y e. subst (λ z. Keeps (roll-Item z)) e (made y))

@@ -8,3 +8,4 @@ pub mod CodeLemmas
 pub mod ItemsKeepLemmas
 pub mod CanRunLemmas
 pub mod AnswerLemmas
+pub mod CutLemmas

@@ -1,5 +1,5 @@
 -- Where items end.
-use Rattle.std.proofs.Common.{◌≡◌, ◌↔◌, ◌⊎◌, inl, inr, ℕ, Bool, true, false, List, [], ◌∷◌, ◌++◌, map, Result, Ok, Err, refl, sym, ap, ap₂, ◌∙◌, subst}
+use Rattle.std.proofs.Common.{◌≡◌, ◌↔◌, ◌⊎◌, inl, inr, ℕ, Bool, List, [], ◌∷◌, ◌++◌, map, Result, Ok, Err, refl, sym, ap, ap₂, ◌∙◌, subst}
 use mathlib.Core.Path.{transport}
 use Rattle.store_core.specs.Tables.{TypeEntry}
 use Rattle.store_core.specs.Stores.{StoreMap}
@@ -21,7 +21,7 @@ InOrder-map : {Part : Type 0} (whole : Part → Item) (runs : Item → StoreMap 
 InOrder-map whole runs [] = refl
 InOrder-map whole runs (part ∷ parts) =
     ap (λ (M : StoreMap → Ending → Type 0). λ (s : StoreMap) (end : Ending).
-      ((t : StoreMap) × runs (whole part) s (Ok t) × M t end) ⊎ ((fault : Fault) × runs (whole part) s (Err fault) × (end ≡ Err fault)))
+    ((t : StoreMap) × runs (whole part) s (Ok t) × M t end) ⊎ ((fault : Fault) × runs (whole part) s (Err fault) × (end ≡ Err fault)))
     (InOrder-map whole runs parts)
 
 module _ (types : List TypeEntry) where
@@ -60,21 +60,27 @@ module _ (types : List TypeEntry) where
 
   -- a list that is chosen, and what follows it
   pub If-goes : (line : ℕ) (c : Cond) (taken other rest : List Item) (s : StoreMap) (truth : Bool) (chosen : List Item) →
-      truth_of s c ≡ Ok truth → ((end : Ending) → RunsItems types chosen s end → ByTruth line (Ok truth) (RunsItems types taken s) (RunsItems types other s) end) →
+      truth_of s c ≡ Ok truth → ((end : Ending) → RunsItems types chosen s end → ByTruth line (Ok truth) (RunsItems types taken s) (RunsItems types other s)
+      end) →
       (end : Ending) → RunsItems types (chosen ++ rest) s end → RunsItems types (item.If line c taken other ∷ rest) s end
   If-goes line c taken other rest s truth chosen is by end h = elim (InOrder-split chosen rest s end h) [
     | inl at_end ↦ inl (at_end.0, whole (Ok at_end.0) at_end.1, at_end.2)
     | inr stopped ↦ inr (stopped.0, whole (Err stopped.0) stopped.1, stopped.2)
   ]
     where
-    whole : (e : Ending) → RunsItems types chosen s e → RunsItem types (item.If line c taken other) s e
-    whole e g = (RunsItem-If line c taken other s e).1 (subst (λ (r : Result Bool Cause). ByTruth line r (RunsItems types taken s) (RunsItems types other s) e) (sym is) (by e g))
+      whole : (e : Ending) → RunsItems types chosen s e → RunsItem types (item.If line c taken other) s e
+      whole e g = (RunsItem-If line c taken other s e).1 (subst
+          (λ (r : Result Bool Cause). ByTruth line r (RunsItems types taken s) (RunsItems types other s) e) (sym is) (by e g))
 
   pub If-stops : (line : ℕ) (c : Cond) (taken other rest : List Item) (s : StoreMap) (fault : Fault) → truth_of s c ≡ Err fault.cause → fault.line ≡ line →
       RunsItems types (item.If line c taken other ∷ rest) s (Err fault)
-  If-stops line c taken other rest s fault is at = inr (fault, (RunsItem-If line c taken other s (Err fault)).1
-      (subst (λ (r : Result Bool Cause). ByTruth line r (RunsItems types taken s) (RunsItems types other s) (Err fault)) (sym is)
-        (ap (λ (n : ℕ). Err (record { cause = fault.cause; line = n })) at)), refl)
+  If-stops line c taken other rest s fault is at = inr (
+    fault,
+    (RunsItem-If line c taken other s (Err fault)).1
+        (subst (λ (r : Result Bool Cause). ByTruth line r (RunsItems types taken s) (RunsItems types other s) (Err fault)) (sym is)
+        (ap (λ (n : ℕ). Err (record { cause = fault.cause; line = n })) at)),
+    refl,
+  )
 
   pub Do-goes : (line : ℕ) (a : Act) (rest : List Item) (s t : StoreMap) → Step types s a (Ok t) → (end : Ending) → RunsItems types rest t end →
       RunsItems types (item.Do line a ∷ rest) s end

@@ -1,9 +1,8 @@
 -- What stands at a path is of the path's sort.
-use Rattle.std.proofs.Common.{◌≡◌, ℕ, suc, zero, ◌==◌, ◌<◌, Bool, true, false, cond, List, [], ◌∷◌, Option, Some, None, IfSome, IsSomeAnd, refl, sym, ap, ◌∙◌, subst}
+use Rattle.std.proofs.Common.{◌≡◌, ℕ, suc, zero, ◌==◌, Bool, true, false, cond, List, [], ◌∷◌, Option, Some, None, IfSome, refl, sym}
+use Rattle.std.proofs.Common.{ap, ◌∙◌, subst}
 use Rattle.std.proofs.Common.{slice_get, Result, Ok, Err, unwrap_or}
-use Rattle.std.specs.Option.{option_and_then, option_map_or, ok_or}
-use Rattle.std.specs.List.{AllByRecursion}
-use Rattle.store_core.specs.declared.ids.TypeId.{TypeId}
+use Rattle.std.specs.Option.{option_and_then, ok_or}
 use Rattle.store_core.specs.declared.ids.FieldId.{FieldId}
 use Rattle.store_core.specs.declared.ids.VarId.{VarId}
 use Rattle.store_core.specs.declared.ids.CellId.{CellId}
@@ -16,13 +15,13 @@ use Rattle.store_core.specs.declared.value.Class.TheVariants as class
 use Rattle.store_core.specs.declared.value.Value.{Value}
 use Rattle.store_core.specs.declared.value.Value.TheVariants as value
 use Rattle.store_core.specs.Tables.{TypeEntry, VarEntry, FieldEntry, fields_of, field_at, var_at}
-use Rattle.store_core.specs.Stores.{StoreMap, CellEntry, cell_of, field_value, var_value, class_of, NamesType, FieldFits, VarFits, VarsFit, Fits, IsFresh, NamesBelow}
+use Rattle.store_core.specs.Stores.{StoreMap, field_value, class_of, NamesType, FieldFits, VarFits, VarsFit, Fits}
 use Rattle.store_core.proofs.FittingLemmas.{SlotAt, slot_at_value}
 use Rattle.store_logic.specs.declared.path.Path.{Path}
 use Rattle.store_logic.specs.declared.path.Operand.{Operand}
 use Rattle.store_logic.specs.declared.path.Operand.TheVariants as operand
 use Rattle.store_logic.specs.Sorts.{Sort, Truth, Cell, Set, IsCellSort, field_sort, sort_along}
-use Rattle.store_logic.specs.FitsCode.{code_sort, path_sort, PathFits, OperandFits}
+use Rattle.store_logic.specs.FitsCode.{code_sort, PathFits, OperandFits}
 use Rattle.store_logic.specs.Terms.{null}
 use Rattle.store_exec.specs.declared.cause.Cause.{Cause}
 use Rattle.store_exec.specs.declared.cause.Cause.TheVariants as cause
@@ -109,22 +108,22 @@ sort-of_var s var.LogicBool sort x e h = none-some sort e
 pub var-of_sort : (s : StoreMap) (kind : VarKind) (sort : Sort) (x : Value) → code_sort kind ≡ Some sort → IsOfSort s sort x → VarFits s kind x
 var-of_sort s var.Bool sort x e h = by x (subst (λ so. IsOfSort s so x) (sym (some-one Truth sort e)) h)
   where
-  by : (x : Value) → IsOfSort s Truth x → VarFits s var.Bool x
-  by (value.Bool truth) g = tt
-  by (value.Cell c) g = absurd g
-  by (value.Cells cells) g = absurd g
+    by : (x : Value) → IsOfSort s Truth x → VarFits s var.Bool x
+    by (value.Bool truth) g = tt
+    by (value.Cell c) g = absurd g
+    by (value.Cells cells) g = absurd g
 var-of_sort s (var.Data target) sort x e h = by x (subst (λ so. IsOfSort s so x) (sym (some-one (Cell target) sort e)) h)
   where
-  by : (x : Value) → IsOfSort s (Cell target) x → VarFits s (var.Data target) x
-  by (value.Bool truth) g = absurd g
-  by (value.Cell c) g = g
-  by (value.Cells cells) g = absurd g
+    by : (x : Value) → IsOfSort s (Cell target) x → VarFits s (var.Data target) x
+    by (value.Bool truth) g = absurd g
+    by (value.Cell c) g = g
+    by (value.Cells cells) g = absurd g
 var-of_sort s (var.Pointer target) sort x e h = by x (subst (λ so. IsOfSort s so x) (sym (some-one (Cell target) sort e)) h)
   where
-  by : (x : Value) → IsOfSort s (Cell target) x → VarFits s (var.Pointer target) x
-  by (value.Bool truth) g = absurd g
-  by (value.Cell c) g = g
-  by (value.Cells cells) g = absurd g
+    by : (x : Value) → IsOfSort s (Cell target) x → VarFits s (var.Pointer target) x
+    by (value.Bool truth) g = absurd g
+    by (value.Cell c) g = g
+    by (value.Cells cells) g = absurd g
 var-of_sort s (var.LogicSet target) sort x e h = none-some sort e
 var-of_sort s var.LogicBool sort x e h = none-some sort e
 
@@ -142,15 +141,17 @@ first-field types Truth f fields sort e = none-some sort e
 first-field types (Set ty) f fields sort e = none-some sort e
 first-field types (Cell ty) f fields sort e = by_type (f.ty.0 == ty.0) e
   where
-  by_field : (o : Option FieldEntry) → field_at types f ≡ o → option_and_then (λ (entry : FieldEntry). sort_along types (field_sort entry.kind) fields) o ≡ Some sort →
-      FirstField types (Cell ty) f fields sort
-  by_field None is q = none-some sort q
-  by_field (Some entry) is q = record { entry = entry; known = is; rest = q }
+    by_field : (o : Option FieldEntry) → field_at types f ≡ o → option_and_then (λ (entry : FieldEntry). sort_along types (field_sort entry.kind) fields) o ≡
+        Some sort →
+        FirstField types (Cell ty) f fields sort
+    by_field None is q = none-some sort q
+    by_field (Some entry) is q = record { entry = entry; known = is; rest = q }
 
-  by_type : (b : Bool) → cond b (option_and_then (λ (entry : FieldEntry). sort_along types (field_sort entry.kind) fields) (field_at types f)) None ≡ Some sort →
-      FirstField types (Cell ty) f fields sort
-  by_type false q = none-some sort q
-  by_type true q = by_field (field_at types f) refl q
+    by_type : (b : Bool) → cond b (option_and_then (λ (entry : FieldEntry). sort_along types (field_sort entry.kind) fields) (field_at types f)) None ≡ Some
+        sort →
+        FirstField types (Cell ty) f fields sort
+    by_type false q = none-some sort q
+    by_type true q = by_field (field_at types f) refl q
 
 -- ---- what stands at paths
 
@@ -173,25 +174,26 @@ module _ (types : List TypeEntry) (vars : List VarEntry) (s : StoreMap) (fits : 
       IsOfSort s sort (variable s v)
   variable-sort v sort e = by (var_at vars v) refl e
     where
-    by : (o : Option VarEntry) → var_at vars v ≡ o → option_and_then (λ (entry : VarEntry). code_sort entry.kind) o ≡ Some sort → IsOfSort s sort (variable s v)
-    by None is g = none-some sort g
-    by (Some entry) is g = let it = held_at s vars s.vars v.0 entry fits.values is in
-        subst (λ o. IsOfSort s sort (unwrap_or o null)) (sym it.at) (sort-of_var s entry.kind sort it.held g it.fits)
+      by : (o : Option VarEntry) → var_at vars v ≡ o → option_and_then (λ (entry : VarEntry). code_sort entry.kind) o ≡ Some sort →
+          IsOfSort s sort (variable s v)
+      by None is g = none-some sort g
+      by (Some entry) is g = let it = held_at s vars s.vars v.0 entry fits.values is in
+          subst (λ o. IsOfSort s sort (unwrap_or o null)) (sym it.at) (sort-of_var s entry.kind sort it.held g it.fits)
 
   -- a field that is read
   pub read-sort : (x y : Value) (f : FieldId) (entry : FieldEntry) → field_at types f ≡ Some entry → read s x f ≡ Ok y → IsOfSort s (field_sort entry.kind) y
   read-sort x y f entry known e = by (cell_through s x) e
     where
-    at_cell : (c : CellId) (o : Option Value) → field_value s c f ≡ o → ok_or o cause.Variant ≡ Ok y → IsOfSort s (field_sort entry.kind) y
-    at_cell c None is g = err-ok cause.Variant g
-    at_cell c (Some z) is g = let at : SlotAt s (fields_of types f.ty) f.index z = slot_at_value types vars s fits c f z is in
-      let same : at.entry ≡ entry = some-one at.entry entry (sym at.at ∙ known) in
-      let of_z = sort-of_field s entry.kind z (subst (λ (w : FieldEntry). FieldFits s w.kind z) same at.fits) in
-      subst (IsOfSort s (field_sort entry.kind)) (ok-one z y g) of_z
+      at_cell : (c : CellId) (o : Option Value) → field_value s c f ≡ o → ok_or o cause.Variant ≡ Ok y → IsOfSort s (field_sort entry.kind) y
+      at_cell c None is g = err-ok cause.Variant g
+      at_cell c (Some z) is g = let at : SlotAt s (fields_of types f.ty) f.index z = slot_at_value types vars s fits c f z is in
+          let same : at.entry ≡ entry = some-one at.entry entry (sym at.at ∙ known) in
+          let of_z = sort-of_field s entry.kind z (subst (λ (w : FieldEntry). FieldFits s w.kind z) same at.fits) in
+          subst (IsOfSort s (field_sort entry.kind)) (ok-one z y g) of_z
 
-    by : (r : Result CellId Cause) → and_then (field_read s f) r ≡ Ok y → IsOfSort s (field_sort entry.kind) y
-    by (Ok c) g = at_cell c (field_value s c f) refl g
-    by (Err why) g = err-ok why g
+      by : (r : Result CellId Cause) → and_then (field_read s f) r ≡ Ok y → IsOfSort s (field_sort entry.kind) y
+      by (Ok c) g = at_cell c (field_value s c f) refl g
+      by (Err why) g = err-ok why g
 
   after_read : (f : FieldId) (fields : List FieldId) (end : Sort) (x y : Value) {start : Sort} (first : FirstField types start f fields end) →
       ((z : Value) → read s x f ≡ Ok z → read_along s z fields ≡ Ok y → IsOfSort s end y) →
@@ -204,16 +206,17 @@ module _ (types : List TypeEntry) (vars : List VarEntry) (s : StoreMap) (fits : 
       read_along s x fields ≡ Ok y → IsOfSort s end y
   along-sort [] sort end x y e h g = subst (λ so. IsOfSort s so y) (some-one sort end e) (subst (IsOfSort s sort) (ok-one x y g) h)
   along-sort (f ∷ fields) sort end x y e h g = let first = first-field types sort f fields end e in
-      after_read f fields end x y first (λ z is rest. along-sort fields (field_sort first.entry.kind) end z y first.rest (read-sort x z f first.entry first.known is) rest) (read s x f) refl g
+      after_read f fields end x y first (λ z is rest. along-sort fields (field_sort first.entry.kind) end z y first.rest
+      (read-sort x z f first.entry first.known is) rest) (read s x f) refl g
 
   -- what stands at a path
   pub path-sort : (p : Path) (sort : Sort) (y : Value) → PathFits types vars p sort → path_value s p ≡ Ok y → IsOfSort s sort y
   path-sort p sort y e g = by (option_and_then (λ (entry : VarEntry). code_sort entry.kind) (var_at vars p.var)) refl e
     where
-    by : (o : Option Sort) → option_and_then (λ (entry : VarEntry). code_sort entry.kind) (var_at vars p.var) ≡ o →
-        option_and_then (λ start. sort_along types start p.fields) o ≡ Some sort → IsOfSort s sort y
-    by None is q = none-some sort q
-    by (Some start) is q = along-sort p.fields start sort (variable s p.var) y q (variable-sort p.var start is) g
+      by : (o : Option Sort) → option_and_then (λ (entry : VarEntry). code_sort entry.kind) (var_at vars p.var) ≡ o →
+          option_and_then (λ start. sort_along types start p.fields) o ≡ Some sort → IsOfSort s sort y
+      by None is q = none-some sort q
+      by (Some start) is q = along-sort p.fields start sort (variable s p.var) y q (variable-sort p.var start is) g
 
   -- an operand, which is null or of the sort
   pub operand-sort : (p : Operand) (sort : Sort) (y : Value) → IsCellSort sort → OperandFits types vars p sort → operand_value s p ≡ Ok y → IsOfSort s sort y
@@ -244,7 +247,8 @@ last-field types s [] f start sort x through last e g = record {
   sort_is = some-one (field_sort first.entry.kind) sort first.rest;
 }
   where
-  first : FirstField types start f [] sort
-  first = first-field types start f [] sort e
+    first : FirstField types start f [] sort
+    first = first-field types start f [] sort e
 last-field types s (h ∷ fields) f start sort x through last e g = let first = first-field types start f (h ∷ fields) sort e in
-    last_after types s fields h sort through last (λ y rest. last-field types s fields h (field_sort first.entry.kind) sort y through last first.rest rest) (read s x f) g
+    last_after types s fields h sort through last (λ y rest. last-field types s fields h (field_sort first.entry.kind) sort y through last first.rest rest)
+    (read s x f) g

@@ -1,6 +1,5 @@
 -- Which stores meet a triple, and how a triple fails from a store. (Hoare 1969; Møller and Schwartzbach, PLDI 2001.)
-use Rattle.std.specs.Prelude.{◌≡◌, ◌⊎◌, ℕ, Bool, false, List, [], Option, Some, None, IsSomeAnd, IfSome, All, slice_get}
-use Rattle.store_core.specs.declared.ids.VarId.{VarId}
+use Rattle.std.specs.Prelude.{◌≡◌, ◌⊎◌, ℕ, false, List, Some, None, IsSomeAnd, IfSome, All, slice_get}
 use Rattle.store_core.specs.declared.value.Value.{Value}
 use Rattle.store_core.specs.declared.value.Value.TheVariants as value
 use Rattle.store_core.specs.Tables.{TypeEntry, VarEntry}

@@ -1,5 +1,5 @@
 -- When code, cuts, starts and triples fit their tables: what they name is there, and of the class and type that its place needs.
-use Rattle.std.specs.Prelude.{◌≡◌, ◌+◌, ℕ, List, [], ◌∷◌, Option, Some, None, IfSome, IsSomeAnd, sum_by}
+use Rattle.std.specs.Prelude.{◌+◌, ℕ, List, IfSome, IsSomeAnd, sum_by}
 use Rattle.std.specs.List.{AllByRecursion}
 use Rattle.store_core.specs.declared.ids.VarId.{VarId}
 use Rattle.store_core.specs.declared.kind.VarKind.{VarKind}

@@ -6,3 +6,4 @@ pub mod Cuts
 pub mod Fits
 pub mod Going
 pub mod Failing
+pub mod Telling

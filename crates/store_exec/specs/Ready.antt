@@ -1,12 +1,12 @@
 -- When an act can be executed: what it names is known, what it writes is of the class of the place, and there is room for its
 -- new cells.
-use Rattle.std.specs.Prelude.{◌≡◌, ◌+◌, ◌<◌, ◌≤◌, ℕ, List, [], ◌∷◌, sum_by, IfSome, IsSomeAnd, Result, Ok, Err, Some, MatchResult}
+use Rattle.std.specs.Prelude.{◌≡◌, ◌<◌, List, [], ◌∷◌, IfSome, IsSomeAnd, Result, Ok, Err}
 use Rattle.store_core.specs.declared.ids.VarId.{VarId}
 use Rattle.store_core.specs.declared.ids.FieldId.{FieldId}
 use Rattle.store_core.specs.declared.value.Value.{Value}
 use Rattle.store_core.specs.declared.value.Value.TheVariants as value
-use Rattle.store_core.specs.Tables.{TypeEntry, VarEntry, KnowsVariant}
-use Rattle.store_core.specs.Stores.{StoreMap, Fits, IsFresh, class_of, field_value, var_value}
+use Rattle.store_core.specs.Tables.{TypeEntry, KnowsVariant}
+use Rattle.store_core.specs.Stores.{StoreMap, class_of, field_value, var_value}
 use Rattle.store_logic.specs.declared.path.Path.{Path}
 use Rattle.store_logic.specs.declared.act.Rhs.{Rhs}
 use Rattle.store_logic.specs.declared.act.Rhs.TheVariants as rhs

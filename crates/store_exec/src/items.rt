@@ -75,7 +75,8 @@ fn enter<'a>(
 ) -> Result<Result<&'a [Item], Fault>, AllocError>
     requires nothing { nothing.now ≡ null }
     requires can { CanRun types.now store.old (item.now ∷ left_over more.now waiting.old) }
-    ensures { Enters types.now (item.now ∷ left_over more.now waiting.old) store.old (weight_left (item.now ∷ more.now) waiting.old) store.new waiting.new result }
+    ensures { Enters types.now (item.now ∷ left_over more.now waiting.old) store.old (weight_left (item.now ∷ more.now) waiting.old) store.new waiting.new
+        result }
 {
     match item {
         Item::Do(line, act) => match do_act(alloc, types, nothing, *line, act, store)? {
@@ -84,7 +85,15 @@ fn enter<'a>(
         },
         Item::If(line, cond, taken, other) => {
             waiting.push(more)?;
-            choose(alloc, store, nothing, *line, cond, taken.as_slice(), other.as_slice())
+            choose(
+                alloc,
+                store,
+                nothing,
+                *line,
+                cond,
+                taken.as_slice(),
+                other.as_slice(),
+            )
         }
     }
 }

@@ -7,6 +7,7 @@
 mod acts;
 mod cause;
 mod code;
+mod cuts;
 mod fault;
 mod halt;
 mod items;
@@ -19,6 +20,7 @@ mod truth;
 
 pub use cause::Cause;
 pub use code::{Code, Item, ItemList, Tail};
+pub use cuts::{at_cut, meets};
 pub use fault::Fault;
 pub use laws::{acts_keep_stores_fitting, runs_go_by_cases};
 pub use outcome::Outcome;

@@ -23,7 +23,11 @@ pub(crate) fn cell_through(store: &Store, through: &Value) -> Result<CellId, Cau
 }
 
 /// The value of a field of what a value is.
-pub(crate) fn read<'a>(store: &'a Store, through: &Value, field: FieldId) -> Result<&'a Value, Cause>
+pub(crate) fn read<'a>(
+    store: &'a Store,
+    through: &Value,
+    field: FieldId,
+) -> Result<&'a Value, Cause>
     ensures { MatchResult result (λ value. steps.read store.now through.now field ≡ Ok value.now) (λ why. steps.read store.now through.now field ≡ Err why) }
 {
     let cell = cell_through(store, through)?;
@@ -63,7 +67,11 @@ pub(crate) fn path_value<'a>(
     requires { nothing.now ≡ null }
     ensures { MatchResult result (λ value. steps.path_value store.now path.now ≡ Ok value.now) (λ why. steps.path_value store.now path.now ≡ Err why) }
 {
-    read_along(store, variable(store, nothing, path.var), path.fields.as_slice())
+    read_along(
+        store,
+        variable(store, nothing, path.var),
+        path.fields.as_slice(),
+    )
 }
 
 /// What an operand is.

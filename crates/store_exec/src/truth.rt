@@ -141,12 +141,7 @@ fn truth_at(store: &Store, nothing: &Value, path: &Path) -> Result<bool, Cause>
 }
 
 /// Whether the cell at the path is of the variant.
-fn is_of(
-    store: &Store,
-    nothing: &Value,
-    path: &Path,
-    variant: VariantId,
-) -> Result<bool, Cause>
+fn is_of(store: &Store, nothing: &Value, path: &Path, variant: VariantId) -> Result<bool, Cause>
     requires { nothing.now ≡ null }
     ensures { result ≡ made_of (steps.is_of store.now variant) (and_then (steps.cell_through store.now) (steps.path_value store.now path.now)) }
 {
@@ -155,12 +150,7 @@ fn is_of(
 }
 
 /// Whether both operands are null, or both one cell.
-fn are_same(
-    store: &Store,
-    nothing: &Value,
-    one: &Operand,
-    other: &Operand,
-) -> Result<bool, Cause>
+fn are_same(store: &Store, nothing: &Value, one: &Operand, other: &Operand) -> Result<bool, Cause>
     requires { nothing.now ≡ null }
     ensures { result ≡ and_then (λ x. made_of (λ y. is_same (cell_in x) (cell_in y)) (steps.operand_value store.now other.now))
         (steps.operand_value store.now one.now) }

@@ -1,4 +1,3 @@
-use Rattle.store_exec.proofs.CanRunLemmas.{items-can}
 use Rattle.store_exec.proofs.RunLemmas.{RunsItem-Do, RunsItem-If}
 use Rattle.store_exec.proofs.laws.runs_go_by_cases.Goals as goal
 
