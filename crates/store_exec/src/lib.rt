@@ -1,0 +1,28 @@
+//! Execution of loop-free code on stores, what holds at a cut point, and which stores meet a triple.
+//!
+//! `specs/Steps.antt` says what one act does to a store, `specs/Runs.antt` where a code leads, `specs/Cuts.antt` which cause a cut
+//! has, and `specs/Failing.antt` which stores meet a triple and how they fail.
+#![tactic(auto)]
+
+mod acts;
+mod cause;
+mod code;
+mod cuts;
+mod fault;
+mod halt;
+mod items;
+mod laws;
+mod outcome;
+mod reading;
+mod running;
+mod triple;
+mod truth;
+
+pub use cause::Cause;
+pub use code::{Code, Item, ItemList, Tail};
+pub use cuts::{at_cut, meets};
+pub use fault::Fault;
+pub use laws::{acts_keep_stores_fitting, runs_go_by_cases};
+pub use outcome::Outcome;
+pub use running::run;
+pub use triple::{Claim, ClaimList, Cut, CutList, Start, Triple};
