@@ -1,5 +1,6 @@
 -- What is kept on the way.
-use Rattle.std.proofs.Common.{◌≡◌, ◌≢◌, ℕ, suc, zero, ◌+◌, ◌<◌, ◌≤◌, Bool, true, false, cond, List, [], ◌∷◌, ◌++◌, length, get_or, Option, Some, None, ◌⊎◌, inl, inr}
+use Rattle.std.proofs.Common.{◌≡◌, ◌≢◌, ℕ, suc, zero, ◌+◌, ◌<◌, ◌≤◌, Bool, true, false, cond, List, [], ◌∷◌, ◌++◌, length, get_or, Option, Some, None}
+use Rattle.std.proofs.Common.{◌⊎◌, inl, inr}
 use Rattle.std.proofs.Common.{if◌then◌else◌, sym, ◌∙◌, ap, refl, subst, arith, length-append, append_assoc, append-nil, slice_get}
 use Rattle.std.specs.Prelude.{MatchOption, Contains}
 use Rattle.std.specs.HashMap.{Updates}
@@ -393,7 +394,8 @@ module _ (shelf : Contents) (roots : List NodeRef) (nodes : List ListedNode) (me
         differs = λ e. differ.1 (sym ((lists-for i i_inside).states differ.0) ∙ e ∙ (lists-for j j_inside).states differ.0);
       }
 
-  differ-listed : (one other : Listed) → IsIn nodes one → IsIn nodes other → (one ≡ other → ⊥) → DifferSomewhere (function_in nodes one) (function_in nodes other)
+  differ-listed : (one other : Listed) → IsIn nodes one → IsIn nodes other → (one ≡ other → ⊥) → DifferSomewhere (function_in nodes one)
+      (function_in nodes other)
   differ-listed (Leaf p) (Leaf q) one_in other_in apart = record {
     label = λ t. false;
     differs = λ e. apart (ap (λ (n : ℕ). Leaf n) (sym (function_in-leaf nodes p (λ t. false)) ∙ e ∙ function_in-leaf nodes q (λ t. false)));

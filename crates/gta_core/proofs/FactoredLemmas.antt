@@ -72,7 +72,8 @@ module _ (shelf : Contents) (a : AutoView) (s : ℕ) (part : Part) (there : slic
 
 -- the same, for equal parts
 pub factored_root-copied : (shelf : Contents) (a : AutoView) (s : ℕ) (part : Part) → slice_get a.parts s ≡ Some part →
-    (rows columns cells : List ℕ) (width above : ℕ) (roots : List NodeRef) → rows ≡ part.rows → columns ≡ part.columns → cells ≡ part.cells → width ≡ part.width →
+    (rows columns cells : List ℕ) (width above : ℕ) (roots : List NodeRef) → rows ≡ part.rows → columns ≡ part.columns → cells ≡ part.cells → width ≡
+    part.width →
     ((k : ℕ) → slice_index part.cells k < above) → roots ≡ take above (drop part.first (unwrap_or (roots_of shelf a.table) [])) →
     (l r : ℕ) → factored_root (record { rows = rows; columns = columns; width = width; cells = cells; roots = roots }) l r ≡ root_at shelf a s l r
 factored_root-copied shelf a s part there rows columns cells width above roots same_rows same_columns same_cells same_width below are l r =

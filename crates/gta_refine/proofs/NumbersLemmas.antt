@@ -101,11 +101,16 @@ pub record StandBelow (classes : List ℕ) (refs : List NodeRef) (listed : List 
       Stands shelf classes nodes one r
 
 pub StandBelow-none : (classes : List ℕ) (refs : List NodeRef) (listed : List Listed) → StandBelow classes refs listed [] 0
-StandBelow-none classes refs listed = record { many = refl; each = λ shelf nodes numbered k one r one_there r_there. absurd (let b = slice_get_within [] k r r_there in omega arith) }
+StandBelow-none classes refs listed = record {
+  many = refl;
+  each = λ shelf nodes numbered k one r one_there r_there. absurd
+      (let b = slice_get_within [] k r r_there in omega arith);
+}
 
 pub StandBelow-push : (classes : List ℕ) (refs : List NodeRef) (listed : List Listed) (references : List NodeRef) (below : ℕ) (r : NodeRef) →
     StandBelow classes refs listed references below → below < length listed →
-    ((shelf : Contents) (nodes : List ListedNode) → AreNumbered shelf classes nodes refs → Stands shelf classes nodes (slice_index_or listed below (Leaf 0)) r) →
+    ((shelf : Contents) (nodes : List ListedNode) → AreNumbered shelf classes nodes refs → Stands shelf classes nodes (slice_index_or listed below (Leaf 0))
+    r) →
     StandBelow classes refs listed (references ++ r ∷ []) (below + 1)
 StandBelow-push classes refs listed references below r so_far inside stands = record {
   many = length-append references (r ∷ []) ∙ (let m = so_far.many in omega arith);

@@ -199,7 +199,8 @@ initial-marks form is_form reached many marks = record {
       ap (λ (xs : List Bool). is_marked xs (initial_of form s)) (marks s space.0 space.1)
       ∙ ap (is_marked (slice_set (replicate (space.0).states false) (space.0).initial true)) (initial-at form s space.0 space.1)
       ∙ marked-set_same (replicate (space.0).states false) (space.0).initial
-      (let e = length-replicate (space.0).states false in let b = below-lt ((automaton_of form).initial s) (states_of form s) (is_form.closed.initial s there) in
+      (let e = length-replicate (space.0).states false in let b = below-lt ((automaton_of form).initial s) (states_of form s) (is_form.closed.initial s there)
+      in
       let i = initial-form form s in let j = initial-at form s space.0 space.1 in let k = states-at form s space.0 space.1 in omega arith);
   generated = λ s q there marked.
       let space = space-of s there in
@@ -273,7 +274,8 @@ module _ (form : Form) (is_form : IsForm form) (reached : List (List Bool)) (gen
   left-few = let m = left-many in let f = few-states form is_form (left (guide_of form) s) (is_space-left form is_form reached gen s space at) in omega arith
 
   pub right-few : length (slice_index_or reached space.children.1 []) ≤ 2 ^ 31
-  right-few = let m = right-many in let f = few-states form is_form (right (guide_of form) s) (is_space-right form is_form reached gen s space at) in omega arith
+  right-few = let m = right-many in let f = few-states form is_form (right (guide_of form) s) (is_space-right form is_form reached gen s space at) in omega
+      arith
 
 pub accepting-form : (form : Form) (q : ℕ) → (automaton_of form).accepting q ≡ slice_index_or form.accepting q false
 unfolding automaton_of

@@ -29,7 +29,8 @@ use Rattle.gta_refine.specs.Reached.{is_reached, AreReached, HasRoot}
 use Rattle.gta_refine.specs.Numbered.{number_at, class_given, TellApart}
 use Rattle.gta_refine.specs.Rows.{kinds_in, cell_at, HasRootAt, row_of, id_of, AreIds}
 use Rattle.gta_refine.specs.Classes.{AreClasses, IsSplit}
-use Rattle.gta_refine.specs.Refined.{part_at, is_reached_in, class_at, representative_at, classes_in, quotient_of, ArePartition, child_at, child_of, opposite, step_by, bit_of}
+use Rattle.gta_refine.specs.Refined.{part_at, is_reached_in, class_at, representative_at, classes_in, quotient_of, ArePartition, child_at, child_of}
+use Rattle.gta_refine.specs.Refined.{opposite, step_by, bit_of}
 use Rattle.gta_refine.specs.Refined.{IsStableAt, GiveOthersAt, AreChildIds, AreSingle, IsRefined}
 use Rattle.gta_refine.proofs.ChosenLemmas.{marked-inside}
 use Rattle.gta_refine.proofs.ReachLemmas.{step-at, many_spaces, cell-same, initial-form, left-at, right-at, few-states, accepting-form}
@@ -146,7 +147,8 @@ module _ (form : Form) (spaces : List SpaceClasses) (s : ℕ) (space : FormSpace
           | inr at_place ↦
               let b = at_place.number in
               let b_reached = chosen_beside.each b (record { place = at_place.place; there = at_place.there }) in
-              let give = tell.apart (cell_at space side p b) (cell_at space side q b) (roots p b p_reached b_reached) (roots q b q_reached b_reached) at_place.differs in
+              let give = tell.apart (cell_at space side p b) (cell_at space side q b) (roots p b p_reached b_reached) (roots q b q_reached b_reached)
+              at_place.differs in
               record {
                 beside = b;
                 label = give.label;
@@ -204,7 +206,8 @@ module _ (form : Form) (spaces : List SpaceClasses) (c : ℕ) (c_inside : c < le
       AreClasses (part_at after_split s).reached (part_at after_split s).classes (part_at after_split s).representatives
   unfolding new_part
   AreClasses-after s there here classes = elim (cases_eq s c) [
-    | inl same ↦ subst (λ (k : ℕ). AreClasses (part_at after_split k).reached (part_at after_split k).classes (part_at after_split k).representatives) (sym same)
+    | inl same ↦ subst (λ (k : ℕ). AreClasses (part_at after_split k).reached (part_at after_split k).classes (part_at after_split k).representatives)
+        (sym same)
         (subst (λ (part : SpaceClasses). AreClasses part.reached part.classes part.representatives) (sym part-here) here)
     | inr other ↦ subst (λ (part : SpaceClasses). AreClasses part.reached part.classes part.representatives) (sym (part-other s other)) (classes s there)
   ]
@@ -258,8 +261,10 @@ module _ (form : Form) (spaces : List SpaceClasses) (c : ℕ) (c_inside : c < le
   pub unsplit : new_classes ≡ (part_at spaces c).classes → new_representatives ≡ (part_at spaces c).representatives → after_split ≡ spaces
   unfolding after_split new_part
   unsplit classes_same representatives_same =
-      ap (λ (xs : List ℕ). slice_set spaces c (record { reached = (part_at spaces c).reached; classes = xs; representatives = new_representatives })) classes_same
-      ∙ ap (λ (xs : List ℕ). slice_set spaces c (record { reached = (part_at spaces c).reached; classes = (part_at spaces c).classes; representatives = xs })) representatives_same
+      ap (λ (xs : List ℕ). slice_set spaces c (record { reached = (part_at spaces c).reached; classes = xs; representatives = new_representatives }))
+      classes_same
+      ∙ ap (λ (xs : List ℕ). slice_set spaces c (record { reached = (part_at spaces c).reached; classes = (part_at spaces c).classes; representatives = xs }))
+      representatives_same
       ∙ set-get_or spaces c (record { reached = []; classes = []; representatives = [] })
 
 -- the part is put where it was
@@ -371,7 +376,8 @@ AreSingle-all form reached spaces all singles =
 
 -- the first classes: one in each space but space 0, which has those of accepting states and of others
 module _ (form : Form) (spaces : List SpaceClasses) (is_form : IsForm form) (single : AreSingle form spaces) where
-  same-single : (s p q : ℕ) → IsSpace (guide_of form) s → is_reached_in spaces s p ≡ true → is_reached_in spaces s q ≡ true → class_at spaces s p ≡ class_at spaces s q
+  same-single : (s p q : ℕ) → IsSpace (guide_of form) s → is_reached_in spaces s p ≡ true → is_reached_in spaces s q ≡ true → class_at spaces s p ≡ class_at
+      spaces s q
   same-single s p q there p_reached q_reached =
       let classes = single.classes s there in
       let one = single.one s there in
@@ -502,7 +508,8 @@ module _ (form : Form) (is_form : IsForm form) (spaces : List SpaceClasses) (par
   child-inside side = let e = child-is side in let b = child-space side in let m = many_spaces form in let a = partition.all in omega arith
 
   pub child-many : (side : Side) → length (part_at spaces (child_of space side)).reached ≡ states_of form (child_at (guide_of form) side s)
-  child-many side = ap (λ (k : ℕ). length (part_at spaces k).reached) (sym (child-is side)) ∙ partition.many (child_at (guide_of form) side s) (child-space side)
+  child-many side = ap (λ (k : ℕ). length (part_at spaces k).reached) (sym (child-is side)) ∙ partition.many (child_at (guide_of form) side s)
+      (child-space side)
 
   kinds-states : (side : Side) → states_of form (child_at (guide_of form) side s) ≤ length (kinds_in space side)
   kinds-states Left = (is_form.spaces s space at).rows
@@ -566,7 +573,8 @@ module _ (form : Form) (is_form : IsForm form) (spaces : List SpaceClasses) (par
   ordered-nodes = (is_form.spaces s space at).ordered
 
   pub roots-inside : All (IsIn space.listing.nodes) space.listing.roots
-  roots-inside = λ k d k_in. subst (IsIn space.listing.nodes) (sym (get_or_default space.listing.roots k d (Leaf 0) k_in)) ((is_form.spaces s space at).inside k k_in)
+  roots-inside = λ k d k_in. subst (IsIn space.listing.nodes) (sym (get_or_default space.listing.roots k d (Leaf 0) k_in))
+      ((is_form.spaces s space at).inside k k_in)
 
   -- the classes of a child are split
   module _ (side : Side) (ids : List ℕ) (part : SpaceClasses) (are_ids : AreChildIds form spaces s side ids)

@@ -248,7 +248,8 @@ module _ (reached : List Bool) (ids old first : List ℕ) where
         ]
 
         full-after : (x : ℕ) → length first ≤ x → x < length (representatives ++ state ∷ []) →
-            made_for after (slice_index old (slice_index (representatives ++ state ∷ []) x)) (slice_index ids (slice_index (representatives ++ state ∷ []) x)) ≡ Some x
+            made_for after (slice_index old (slice_index (representatives ++ state ∷ []) x)) (slice_index ids (slice_index (representatives ++ state ∷ []) x))
+            ≡ Some x
         full-after x x_least x_in = elim (cases_lt x (length representatives)) [
           | inl before ↦ ap (λ (q : ℕ). made_for after (slice_index old q) (slice_index ids q)) (before-at x before)
               ∙ kept (slice_index old (slice_index representatives x)) (slice_index ids (slice_index representatives x)) x (so_far.full x x_least before)
@@ -273,7 +274,8 @@ module _ (reached : List Bool) (ids old first : List ℕ) where
                 (λ e. differs (e ∙ sym first_is)))
             | inr apart ↦ elim (so_far.done q (omega arith) q_marked) [
               | stayed e f ↦ stayed (after-other other q apart ∙ e) f
-              | went e f ↦ went (kept (slice_index old q) (slice_index ids q) (slice_index now q) e ∙ ap (λ (n : ℕ). Some n) (sym (after-other other q apart))) f
+              | went e f ↦ went (kept (slice_index old q) (slice_index ids q) (slice_index now q) e ∙ ap (λ (n : ℕ). Some n)
+                  (sym (after-other other q apart))) f
             ]
           ];
           sound = sound-after;

@@ -121,7 +121,8 @@ module _ (space : FormSpace) (lefts rights : List ℕ) (before : List Bool) wher
         let e : function_in nodes (Inner i) there ≡ function_in nodes n.high label =
         function_in-inner nodes i there inside (ordered.low i inside).before (ordered.high i inside).before
         ∙ ap (λ (b : Bool). if b then function_in nodes n.high there else function_in nodes n.low there) (with_track-same label n.track true)
-        ∙ function_in-unasked nodes ordered n.high (suc n.track) there label (let b = (ordered.high i inside).before in omega arith) (ordered.high i inside).later
+        ∙ function_in-unasked nodes ordered n.high (suc n.track) there label (let b = (ordered.high i inside).before in omega arith)
+        (ordered.high i inside).later
         (λ u above. with_track-later label n.track u true above) in
         subst (IsGiven space lefts rights) e (given there)
 
@@ -142,8 +143,10 @@ module _ (space : FormSpace) (ordered : AreOrdered space.listing.nodes) (i : ℕ
       let n = node_at space.listing.nodes i in
       let first : Grown nodes states low_nodes low_states = subst (λ (xs : List Bool). Grown nodes states xs low_states) (sym low_nodes_are)
       (subst (λ (xs : List Bool). Grown nodes states (with_node nodes n.low) xs) (sym low_states_are) (Grown-touch nodes states n.low)) in
-      let second : Grown low_nodes low_states high_nodes high_states = subst (λ (xs : List Bool). Grown low_nodes low_states xs high_states) (sym high_nodes_are)
-      (subst (λ (xs : List Bool). Grown low_nodes low_states (with_node low_nodes n.high) xs) (sym high_states_are) (Grown-touch low_nodes low_states n.high)) in
+      let second : Grown low_nodes low_states high_nodes high_states = subst (λ (xs : List Bool). Grown low_nodes low_states xs high_states)
+      (sym high_nodes_are)
+      (subst (λ (xs : List Bool). Grown low_nodes low_states (with_node low_nodes n.high) xs) (sym high_states_are) (Grown-touch low_nodes low_states n.high))
+      in
       let both = Grown-trans nodes states low_nodes low_states high_nodes high_states first second in
       let low_here : IsTouched high_nodes high_states n.low = IsTouched-grown low_nodes low_states high_nodes high_states n.low second
       (subst (λ (xs : List Bool). IsTouched xs low_states n.low) (sym low_nodes_are)

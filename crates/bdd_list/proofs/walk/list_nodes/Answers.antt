@@ -1,5 +1,6 @@
 -- One root after the other.
-use Rattle.std.proofs.Common.{◌≡◌, ℕ, suc, ◌+◌, ◌-◌, ◌<◌, ◌≤◌, List, [], ◌∷◌, ◌++◌, length, Some, None, Option, inl, inr, refl, sym, ◌∙◌, ap, subst, arith, length-append}
+use Rattle.std.proofs.Common.{◌≡◌, ℕ, suc, ◌+◌, ◌-◌, ◌<◌, ◌≤◌, List, [], ◌∷◌, ◌++◌, length, Some, None, Option, inl, inr, refl, sym, ◌∙◌, ap, subst}
+use Rattle.std.proofs.Common.{arith, length-append}
 use Rattle.std.specs.Prelude.{slice_get, Contains}
 use Rattle.std.specs.Map.{lookup}
 use Rattle.std.proofs.lemmas.Option.{slice_get_within, slice_get-get_or}
@@ -42,7 +43,8 @@ returns c =
     let roots = c.args.roots.now in
     let inv = c.loop-index.invariant in
     let nodes = c.loop-index.nodes.items in
-    let many : length c.loop-index.listed ≡ length roots = (let m = inv.many in let t = c.loop-index-test.false in let e = c.loop-index.auto.index-end in omega arith) in
+    let many : length c.loop-index.listed ≡ length roots = (let m = inv.many in let t = c.loop-index-test.false in let e = c.loop-index.auto.index-end in
+    omega arith) in
     subst (λ (ns : List ListedNode). IsListing shelf roots (record { nodes = ns; roots = c.loop-index.listed })) (sym c.from_vec.ensures)
     (IsListing-whole shelf roots nodes c.loop-index.memo c.count.ensures.shelf inv.list
     (λ r there. All-contains (IsValid shelf) roots r c.requires there) c.loop-index.listed many inv.lists

@@ -20,7 +20,8 @@ loop-index-preserved c =
     let made = c.in-Ok.made in
     let many : length refs ≡ index = (let v = c.loop-index.refs.ok.0 in let m = inv.many in omega arith) in
     let inside : index < length nodes = (let t = c.loop-index-test.true in let a = c.loop-index.auto.index-end in omega arith) in
-    let numbered_low : AreNumbered old classes nodes c.deref.result.now = subst (λ (rs : List NodeRef). AreNumbered old classes nodes rs) (sym c.deref.ensures.value) inv.numbered in
+    let numbered_low : AreNumbered old classes nodes c.deref.result.now = subst (λ (rs : List NodeRef). AreNumbered old classes nodes rs)
+    (sym c.deref.ensures.value) inv.numbered in
     let numbered_high : AreNumbered old classes nodes c.deref-in-loop-index.result.now =
     subst (λ (rs : List NodeRef). AreNumbered old classes nodes rs) (sym c.deref-in-loop-index.ensures.value) inv.numbered in
     record {

@@ -8,7 +8,8 @@ use Rattle.gta_refine.specs.declared.form.FormSpace.{FormSpace}
 use Rattle.gta_refine.specs.Form.{guide_of, step_in}
 use Rattle.gta_refine.specs.Chosen.{IsAmong, AreChosen}
 use Rattle.gta_refine.specs.Reached.{IsSwept, IsClosedIn}
-use Rattle.gta_refine.proofs.ReachLemmas.{left-at, right-at, left-inside, right-inside, left-rows, right-columns, left-few, right-few, has_root, step-below, AreGenerated-swept, IsClosedIn-swept}
+use Rattle.gta_refine.proofs.ReachLemmas.{left-at, right-at, left-inside, right-inside, left-rows, right-columns, left-few, right-few, has_root}
+use Rattle.gta_refine.proofs.ReachLemmas.{step-below, AreGenerated-swept, IsClosedIn-swept}
 use Rattle.gta_refine.proofs.reach.reach_in.Goals as goal
 use Rattle.gta_refine.proofs.reach.reach_in.Goals.{After-index_mut}
 
@@ -110,7 +111,8 @@ chosen-right c =
     let space = c.index-as_slice-s.result in
     subst (λ (k : ℕ). AreChosen space.columns (slice_index_or c.args.reached.now.items k []) c.in_ok-rights.rights.items)
     (sym (right-at c.args.form.now c.args.s space (space-at c)))
-    (subst (λ (columns : List ℕ). AreChosen columns (slice_index_or c.args.reached.now.items space.children.1 []) c.in_ok-rights.rights.items) c.as_slice-3.ensures
+    (subst (λ (columns : List ℕ). AreChosen columns (slice_index_or c.args.reached.now.items space.children.1 []) c.in_ok-rights.rights.items)
+    c.as_slice-3.ensures
     (subst (λ (marks : List Bool). AreChosen c.as_slice-3.result.now marks c.in_ok-rights.rights.items)
     (c.marks_of-2.ensures ∙ ap (λ (xs : List (List Bool)). slice_index_or xs space.children.1 []) c.deref-2.ensures.value) c.in_ok-rights.ensures))
 
@@ -131,7 +133,8 @@ sweep-requires-clause-states c = λ l r label in_left in_right.
     ((chosen-right c).each r (subst (λ (xs : List ℕ). IsAmong xs r) c.deref-4.ensures.value in_right)) in
     let items = c.args.reached.now.items in
     let inside : c.args.s < length items = (let e = c.requires.generated.spaces in let s = c.requires.space in omega arith) in
-    let is : c.index_mut.result.now ≡ slice_index_or items c.args.s [] = get_or_read items c.args.s c.index_mut.result.now inside c.index_mut.ensures.value [] in
+    let is : c.index_mut.result.now ≡ slice_index_or items c.args.s [] = get_or_read items c.args.s c.index_mut.result.now inside c.index_mut.ensures.value []
+    in
     subst (λ (marks : List Bool). step_in space l r label < length marks) (sym is) below
 
 pub returns-clause-generated : goal.returns-clause-generated

@@ -12,7 +12,8 @@ use Rattle.gta_refine.specs.Rows.{kinds_in, AreIds}
 use Rattle.gta_refine.specs.Numbered.{TellApart}
 use Rattle.gta_refine.specs.Refined.{part_at, child_of, child_at, opposite}
 use Rattle.gta_refine.proofs.ChosenLemmas.{marked-inside}
-use Rattle.gta_refine.proofs.RefineLemmas.{child-inside, child-kinds, child-few, child-is, child-chosen, has_root-at, root-inside, small-classes, ordered-nodes, roots-inside, AreChildIds-rows}
+use Rattle.gta_refine.proofs.RefineLemmas.{child-inside, child-kinds, child-few, child-is, child-chosen, has_root-at, root-inside, small-classes}
+use Rattle.gta_refine.proofs.RefineLemmas.{ordered-nodes, roots-inside, AreChildIds-rows}
 use Rattle.gta_refine.proofs.rounds.ids_of.Goals as goal
 use Rattle.gta_refine.proofs.rounds.ids_of.Goals.{After-as_slice-2, After-deref-2}
 
@@ -132,10 +133,12 @@ returns c =
     ∙ slice_get_read c.as_slice.result.now (length c.as_slice.result.now) c.args.s space refl
     (let e = ap length c.as_slice.ensures in let s = c.requires.space in omega arith) c.index-as_slice-s.is in
     let tell : TellApart space.listing (part_at spaces c.args.s).classes numbers =
-    subst (λ (xs : List ℕ). TellApart space.listing xs numbers) (c.as_slice-2.ensures ∙ ap (λ (part : SpaceClasses). part.classes) c.part_of.ensures) c.in_ok-numbers.ensures in
+    subst (λ (xs : List ℕ). TellApart space.listing xs numbers) (c.as_slice-2.ensures ∙ ap (λ (part : SpaceClasses). part.classes) c.part_of.ensures)
+    c.in_ok-numbers.ensures in
     let are_own = child-chosen form c.requires.form spaces c.requires.partition c.args.s space at side own c.in_ok-own.ensures in
     let are_beside = child-chosen form c.requires.form spaces c.requires.partition c.args.s space at (opposite side) beside
-    (subst (λ (other : Side). AreChosen (kinds_in space other) (part_at spaces (child_of space other)).reached beside) c.other.ensures c.in_ok-beside.ensures) in
+    (subst (λ (other : Side). AreChosen (kinds_in space other) (part_at spaces (child_of space other)).reached beside) c.other.ensures c.in_ok-beside.ensures)
+    in
     let ids : AreIds space side numbers own beside kind_ids =
     subst (λ (xs : List ℕ). AreIds space side numbers own xs kind_ids) c.deref-2.ensures.value
     (subst (λ (xs : List ℕ). AreIds space side numbers xs c.deref-2.result.now kind_ids) c.deref.ensures.value

@@ -47,6 +47,7 @@ loop-s-preserved c =
 
 pub returns : goal.returns
 returns c =
-    let all : c.loop-s.s ≡ length c.args.form.now.spaces = (let a = c.loop-s-test.false in let b = c.loop-s.auto.s-end in let e = c.len-s-end.ensures in omega arith) in
+    let all : c.loop-s.s ≡ length c.args.form.now.spaces = (let a = c.loop-s-test.false in let b = c.loop-s.auto.s-end in let e = c.len-s-end.ensures in omega
+    arith) in
     AreSingle-all c.args.form.now c.in_ok-reached.reached.items c.loop-s.spaces.items c.in_ok-reached.ensures
     (subst (SinglesBelow c.in_ok-reached.reached.items c.loop-s.spaces.items) all c.loop-s.invariant)

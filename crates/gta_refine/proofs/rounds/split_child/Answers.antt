@@ -31,7 +31,8 @@ split_part-requires-clause-classes c =
     (let e = ap length c.as_slice.ensures in let s = c.requires.space in omega arith) c.index-as_slice-s.is in
     let b = child-inside c.args.form.now c.requires.form spaces c.requires.partition c.args.s space at c.args.side in
     let part : SpaceClasses = c.index_mut-part.result.now in
-    let is : part ≡ part_at spaces c.child.result = get_or_read spaces c.child.result part (let e = c.child.ensures in omega arith) c.index_mut-part.ensures.value
+    let is : part ≡ part_at spaces c.child.result = get_or_read spaces c.child.result part (let e = c.child.ensures in omega arith)
+    c.index_mut-part.ensures.value
     (record { reached = []; classes = []; representatives = [] }) in
     subst (λ (p : SpaceClasses). AreClasses p.reached p.classes p.representatives) (sym (is ∙ ap (part_at spaces) c.child.ensures))
     (child-classes c.args.form.now c.requires.form spaces c.requires.partition c.args.s space at c.args.side)
@@ -45,7 +46,8 @@ split_part-requires-clause-many c =
     (let e = ap length c.as_slice.ensures in let s = c.requires.space in omega arith) c.index-as_slice-s.is in
     let b = child-inside c.args.form.now c.requires.form spaces c.requires.partition c.args.s space at c.args.side in
     let part : SpaceClasses = c.index_mut-part.result.now in
-    let is : part ≡ part_at spaces c.child.result = get_or_read spaces c.child.result part (let e = c.child.ensures in omega arith) c.index_mut-part.ensures.value
+    let is : part ≡ part_at spaces c.child.result = get_or_read spaces c.child.result part (let e = c.child.ensures in omega arith)
+    c.index_mut-part.ensures.value
     (record { reached = []; classes = []; representatives = [] }) in
     let same = child-is c.args.form.now c.requires.form spaces c.requires.partition c.args.s space at c.args.side in
     let ids : AreChildIds c.args.form.now spaces c.args.s c.args.side c.in_ok-ids.ids.items =
@@ -65,7 +67,8 @@ split_part-requires-clause-few c =
     (let e = ap length c.as_slice.ensures in let s = c.requires.space in omega arith) c.index-as_slice-s.is in
     let b = child-inside c.args.form.now c.requires.form spaces c.requires.partition c.args.s space at c.args.side in
     let part : SpaceClasses = c.index_mut-part.result.now in
-    let is : part ≡ part_at spaces c.child.result = get_or_read spaces c.child.result part (let e = c.child.ensures in omega arith) c.index_mut-part.ensures.value
+    let is : part ≡ part_at spaces c.child.result = get_or_read spaces c.child.result part (let e = c.child.ensures in omega arith)
+    c.index_mut-part.ensures.value
     (record { reached = []; classes = []; representatives = [] }) in
     let few = child-few c.args.form.now c.requires.form spaces c.requires.partition c.args.s space at c.args.side in
     let marks = ap (λ (p : SpaceClasses). length p.reached) (is ∙ ap (part_at spaces) c.child.ensures) in
@@ -82,7 +85,8 @@ returns-clause-partition c =
     (let e = ap length c.as_slice.ensures in let s = c.requires.space in omega arith) c.index-as_slice-s.is in
     let b = child-inside form c.requires.form spaces c.requires.partition c.args.s space at side in
     let part : SpaceClasses = c.index_mut-part.result.now in
-    let is : part ≡ part_at spaces (child_of space side) = get_or_read spaces c.child.result part (let e = c.child.ensures in omega arith) c.index_mut-part.ensures.value
+    let is : part ≡ part_at spaces (child_of space side) = get_or_read spaces c.child.result part (let e = c.child.ensures in omega arith)
+    c.index_mut-part.ensures.value
     (record { reached = []; classes = []; representatives = [] }) ∙ ap (part_at spaces) c.child.ensures in
     let ids : AreChildIds form spaces c.args.s side c.in_ok-ids.ids.items =
     subst (λ (xs : List SpaceClasses). AreChildIds form xs c.args.s side c.in_ok-ids.ids.items) c.deref.ensures.value c.in_ok-ids.ensures in
@@ -95,7 +99,8 @@ returns-clause-partition c =
     let classes : AreClasses (part_at spaces (child_of space side)).reached c.split_part.new.part.classes c.split_part.new.part.representatives =
     subst (λ (p : SpaceClasses). AreClasses p.reached c.split_part.new.part.classes c.split_part.new.part.representatives) is c.in_ok-is_more.ensures.classes in
     subst (λ (k : ℕ). ArePartition form (slice_set spaces k c.split_part.new.part)) (sym c.child.ensures)
-    (ArePartition-child form c.requires.form spaces c.requires.partition c.args.s space at side c.in_ok-ids.ids.items c.split_part.new.part ids marks split classes)
+    (ArePartition-child form c.requires.form spaces c.requires.partition c.args.s space at side c.in_ok-ids.ids.items c.split_part.new.part ids marks split
+    classes)
 
 pub returns-clause-unchanged : goal.returns-clause-unchanged
 returns-clause-unchanged c = λ nothing.
@@ -108,7 +113,8 @@ returns-clause-unchanged c = λ nothing.
     (let e = ap length c.as_slice.ensures in let s = c.requires.space in omega arith) c.index-as_slice-s.is in
     let b = child-inside form c.requires.form spaces c.requires.partition c.args.s space at side in
     let part : SpaceClasses = c.index_mut-part.result.now in
-    let is : part ≡ part_at spaces (child_of space side) = get_or_read spaces c.child.result part (let e = c.child.ensures in omega arith) c.index_mut-part.ensures.value
+    let is : part ≡ part_at spaces (child_of space side) = get_or_read spaces c.child.result part (let e = c.child.ensures in omega arith)
+    c.index_mut-part.ensures.value
     (record { reached = []; classes = []; representatives = [] }) ∙ ap (part_at spaces) c.child.ensures in
     let ids : AreChildIds form spaces c.args.s side c.in_ok-ids.ids.items =
     subst (λ (xs : List SpaceClasses). AreChildIds form xs c.args.s side c.in_ok-ids.ids.items) c.deref.ensures.value c.in_ok-ids.ensures in
@@ -134,7 +140,8 @@ returns-clause-stable c = λ nothing.
     (let e = ap length c.as_slice.ensures in let s = c.requires.space in omega arith) c.index-as_slice-s.is in
     let b = child-inside form c.requires.form spaces c.requires.partition c.args.s space at side in
     let part : SpaceClasses = c.index_mut-part.result.now in
-    let is : part ≡ part_at spaces (child_of space side) = get_or_read spaces c.child.result part (let e = c.child.ensures in omega arith) c.index_mut-part.ensures.value
+    let is : part ≡ part_at spaces (child_of space side) = get_or_read spaces c.child.result part (let e = c.child.ensures in omega arith)
+    c.index_mut-part.ensures.value
     (record { reached = []; classes = []; representatives = [] }) ∙ ap (part_at spaces) c.child.ensures in
     let ids : AreChildIds form spaces c.args.s side c.in_ok-ids.ids.items =
     subst (λ (xs : List SpaceClasses). AreChildIds form xs c.args.s side c.in_ok-ids.ids.items) c.deref.ensures.value c.in_ok-ids.ensures in

@@ -41,4 +41,5 @@ returns c =
     let own = c.args.own.now in
     let end : c.loop-state.state-index ≡ length own = (let t = c.loop-state-test.false in let e = c.loop-state.auto.state-index-end in omega arith) in
     AreIds-all c.args.space.now c.args.side c.args.numbers.now own c.args.beside.now c.loop-state.ids.items c.loop-state.firsts
-    (subst (λ (n : ℕ). IdsBelow c.args.space.now c.args.side c.args.numbers.now own c.args.beside.now c.loop-state.ids.items c.loop-state.firsts n) end c.loop-state.invariant)
+    (subst (λ (n : ℕ). IdsBelow c.args.space.now c.args.side c.args.numbers.now own c.args.beside.now c.loop-state.ids.items c.loop-state.firsts n) end
+    c.loop-state.invariant)

@@ -36,12 +36,16 @@ pub returns-clause-classes : goal.returns-clause-classes
 returns-clause-classes c =
     let reached = c.args.reached.now in
     let end : c.loop-state.state ≡ length reached = (let t = c.loop-state-test.false in let a = c.loop-state.auto.state-end in omega arith) in
-    AreClasses-all reached c.args.ids.now c.args.classes.now c.args.representatives.now c.loop-state.made c.loop-state.representatives c.loop-state.classes c.requires.classes
-    (subst (λ (n : ℕ). Splits reached c.args.ids.now c.args.classes.now c.args.representatives.now c.loop-state.made c.loop-state.representatives c.loop-state.classes n) end c.loop-state.invariant)
+    AreClasses-all reached c.args.ids.now c.args.classes.now c.args.representatives.now c.loop-state.made c.loop-state.representatives c.loop-state.classes
+    c.requires.classes
+    (subst (λ (n : ℕ). Splits reached c.args.ids.now c.args.classes.now c.args.representatives.now c.loop-state.made c.loop-state.representatives
+    c.loop-state.classes n) end c.loop-state.invariant)
 
 pub returns-clause-split : goal.returns-clause-split
 returns-clause-split c =
     let reached = c.args.reached.now in
     let end : c.loop-state.state ≡ length reached = (let t = c.loop-state-test.false in let a = c.loop-state.auto.state-end in omega arith) in
-    IsSplit-all reached c.args.ids.now c.args.classes.now c.args.representatives.now c.loop-state.made c.loop-state.representatives c.loop-state.classes c.requires.classes
-    (subst (λ (n : ℕ). Splits reached c.args.ids.now c.args.classes.now c.args.representatives.now c.loop-state.made c.loop-state.representatives c.loop-state.classes n) end c.loop-state.invariant)
+    IsSplit-all reached c.args.ids.now c.args.classes.now c.args.representatives.now c.loop-state.made c.loop-state.representatives c.loop-state.classes
+    c.requires.classes
+    (subst (λ (n : ℕ). Splits reached c.args.ids.now c.args.classes.now c.args.representatives.now c.loop-state.made c.loop-state.representatives
+    c.loop-state.classes n) end c.loop-state.invariant)

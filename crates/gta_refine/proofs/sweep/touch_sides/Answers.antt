@@ -22,15 +22,19 @@ loop-index-preserved-then-index c =
     let high_nodes = c.touch-then-index.new.nodes.items in
     let high_states = c.touch-then-index.new.states in
     let n = node_at space.listing.nodes k in
-    let in_list : k < length nodes = (let g = inv.grown.nodes_many in let m = c.requires.many in let v = c.loop-index.nodes.ok.0 in let v0 = c.args.nodes.now.ok.0 in
+    let in_list : k < length nodes = (let g = inv.grown.nodes_many in let m = c.requires.many in let v = c.loop-index.nodes.ok.0 in let v0 =
+    c.args.nodes.now.ok.0 in
     let a = c.loop-index.auto.index in let l = c.len-index.ensures in omega arith) in
     let inside : k < length space.listing.nodes = (let g = inv.grown.nodes_many in let m = c.requires.many in let v0 = c.args.nodes.now.ok.0 in omega arith) in
     let marked : is_marked nodes k ≡ true = sym (get_or_read nodes k c.index.result.now in_list c.index.ensures false) ∙ c.if-index.true in
     let same : c.as_slice.result.now ≡ space.listing.nodes = c.as_slice.ensures in
     let low_nodes_are : low_nodes ≡ with_node nodes n.low = c.touch.ensures.nodes ∙ ap (λ (ns : List ListedNode). with_node nodes (node_at ns k).low) same in
-    let low_states_are : low_states ≡ with_state states n.low = c.touch.ensures.states ∙ ap (λ (ns : List ListedNode). with_state states (node_at ns k).low) same in
-    let high_nodes_are : high_nodes ≡ with_node low_nodes n.high = c.touch-then-index.ensures.nodes ∙ ap (λ (ns : List ListedNode). with_node low_nodes (node_at ns k).high) same in
-    let high_states_are : high_states ≡ with_state low_states n.high = c.touch-then-index.ensures.states ∙ ap (λ (ns : List ListedNode). with_state low_states (node_at ns k).high) same in
+    let low_states_are : low_states ≡ with_state states n.low = c.touch.ensures.states ∙ ap (λ (ns : List ListedNode). with_state states (node_at ns k).low)
+    same in
+    let high_nodes_are : high_nodes ≡ with_node low_nodes n.high = c.touch-then-index.ensures.nodes ∙ ap
+    (λ (ns : List ListedNode). with_node low_nodes (node_at ns k).high) same in
+    let high_states_are : high_states ≡ with_state low_states n.high = c.touch-then-index.ensures.states ∙ ap
+    (λ (ns : List ListedNode). with_state low_states (node_at ns k).high) same in
     record {
       sweeps = λ lefts rights before start.
           let sweeps = inv.sweeps lefts rights before start in
