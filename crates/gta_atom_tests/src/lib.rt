@@ -7,4 +7,6 @@ mod accepting;
 #[cfg(test)]
 mod atoms;
 #[cfg(test)]
+mod built;
+#[cfg(test)]
 mod tables;
