@@ -1,0 +1,4 @@
+pub mod Listed
+pub mod Made
+pub mod Quotient
+pub mod Minimised

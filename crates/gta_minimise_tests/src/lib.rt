@@ -1,0 +1,5 @@
+//! Tests of minimisation. The crate has nothing else.
+#![tactic(auto)]
+
+#[cfg(test)]
+mod minimal;
