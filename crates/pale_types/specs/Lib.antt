@@ -1,0 +1,11 @@
+pub mod Demands
+pub mod Routes
+pub mod Types
+pub mod Scopes
+pub mod Terms
+pub mod Assertions
+pub mod Code
+pub mod Procedures
+pub mod Calls
+pub mod Statements
+pub mod Programs
