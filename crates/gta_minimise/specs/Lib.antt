@@ -1,4 +1,0 @@
-pub mod Listed
-pub mod Made
-pub mod Quotient
-pub mod Minimised
