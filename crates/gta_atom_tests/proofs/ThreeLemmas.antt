@@ -23,7 +23,7 @@ module _ (shelf : Contents) (told leaf : NodeRef) (valid_told : IsValid shelf to
   step_in : (s p q : ℕ) (label : Label) → s < 3 → IsTrue (nat_lt p (given_states (three_parts told leaf) (left three_spaces s))) →
       IsTrue (nat_lt q (given_states (three_parts told leaf) (right three_spaces s))) →
       IsTrue (nat_lt ((given_automaton three_spaces shelf (three_parts told leaf) (false ∷ true ∷ [])).step s p q label)
-          (given_states (three_parts told leaf) s))
+      (given_states (three_parts told leaf) s))
   unfolding given_automaton
   step_in zero p q label inside hp hq = subst (λ x. IsTrue (nat_lt
       ((given_automaton three_spaces shelf (three_parts told leaf) (false ∷ true ∷ [])).step 0 x q label) 2)) (sym (only-zero p hp))
