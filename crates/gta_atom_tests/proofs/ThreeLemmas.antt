@@ -1,5 +1,6 @@
 -- The parts of the automaton over three spaces can be given.
-use Rattle.std.proofs.Common.{◌≡◌, ℕ, zero, suc, ◌<◌, ◌*◌, Bool, true, false, nat_lt, if◌then◌else◌, IsTrue, [], ◌∷◌, length, slice_get, Some, All, refl, sym, ap, subst, arith}
+use Rattle.std.proofs.Common.{◌≡◌, ℕ, zero, suc, ◌<◌, ◌*◌, Bool, true, false, nat_lt, if◌then◌else◌, IsTrue, [], ◌∷◌, length, slice_get, Some, All}
+use Rattle.std.proofs.Common.{refl, sym, ap, subst, arith}
 use Rattle.std.proofs.lemmas.Bool.{ltb-true}
 use Rattle.std.proofs.lemmas.List.Elements.{All-nil, All-cons}
 use Rattle.labels.specs.Labels.{Label, empty_label}
@@ -21,20 +22,25 @@ module _ (shelf : Contents) (told leaf : NodeRef) (valid_told : IsValid shelf to
 
   step_in : (s p q : ℕ) (label : Label) → s < 3 → IsTrue (nat_lt p (given_states (three_parts told leaf) (left three_spaces s))) →
       IsTrue (nat_lt q (given_states (three_parts told leaf) (right three_spaces s))) →
-      IsTrue (nat_lt ((given_automaton three_spaces shelf (three_parts told leaf) (false ∷ true ∷ [])).step s p q label) (given_states (three_parts told leaf) s))
+      IsTrue (nat_lt ((given_automaton three_spaces shelf (three_parts told leaf) (false ∷ true ∷ [])).step s p q label)
+      (given_states (three_parts told leaf) s))
   unfolding given_automaton
-  step_in zero p q label inside hp hq = subst (λ x. IsTrue (nat_lt ((given_automaton three_spaces shelf (three_parts told leaf) (false ∷ true ∷ [])).step 0 x q label) 2)) (sym (only-zero p hp))
+  step_in zero p q label inside hp hq = subst (λ x. IsTrue (nat_lt
+      ((given_automaton three_spaces shelf (three_parts told leaf) (false ∷ true ∷ [])).step 0 x q label) 2)) (sym (only-zero p hp))
       (subst (λ y. IsTrue (nat_lt ((given_automaton three_spaces shelf (three_parts told leaf) (false ∷ true ∷ [])).step 0 0 y label) 2)) (sym (only-zero q hq))
       (subst (λ n. IsTrue (nat_lt n 2)) (sym (tells label)) (few (label 0))))
-  step_in (suc zero) p q label inside hp hq = subst (λ x. IsTrue (nat_lt ((given_automaton three_spaces shelf (three_parts told leaf) (false ∷ true ∷ [])).step 1 x q label) 1)) (sym (only-zero p hp))
+  step_in (suc zero) p q label inside hp hq = subst (λ x. IsTrue
+      (nat_lt ((given_automaton three_spaces shelf (three_parts told leaf) (false ∷ true ∷ [])).step 1 x q label) 1)) (sym (only-zero p hp))
       (subst (λ y. IsTrue (nat_lt ((given_automaton three_spaces shelf (three_parts told leaf) (false ∷ true ∷ [])).step 1 0 y label) 1)) (sym (only-zero q hq))
       (subst (λ n. IsTrue (nat_lt n 1)) (sym (zero_always label)) refl))
-  step_in (suc (suc zero)) p q label inside hp hq = subst (λ x. IsTrue (nat_lt ((given_automaton three_spaces shelf (three_parts told leaf) (false ∷ true ∷ [])).step 2 x q label) 1)) (sym (only-zero p hp))
+  step_in (suc (suc zero)) p q label inside hp hq = subst (λ x. IsTrue
+      (nat_lt ((given_automaton three_spaces shelf (three_parts told leaf) (false ∷ true ∷ [])).step 2 x q label) 1)) (sym (only-zero p hp))
       (subst (λ y. IsTrue (nat_lt ((given_automaton three_spaces shelf (three_parts told leaf) (false ∷ true ∷ [])).step 2 0 y label) 1)) (sym (only-zero q hq))
       (subst (λ n. IsTrue (nat_lt n 1)) (sym (zero_always label)) refl))
   step_in (suc (suc (suc s))) p q label inside hp hq = absurd (omega arith)
 
-  initial_in : (s : ℕ) → s < 3 → IsTrue (nat_lt ((given_automaton three_spaces shelf (three_parts told leaf) (false ∷ true ∷ [])).initial s) (given_states (three_parts told leaf) s))
+  initial_in : (s : ℕ) → s < 3 → IsTrue (nat_lt ((given_automaton three_spaces shelf (three_parts told leaf) (false ∷ true ∷ [])).initial s)
+      (given_states (three_parts told leaf) s))
   unfolding given_automaton
   initial_in zero inside = refl
   initial_in (suc zero) inside = refl
@@ -62,7 +68,8 @@ module _ (shelf : Contents) (told leaf : NodeRef) (valid_told : IsValid shelf to
       length part.roots ≡ given_states (three_parts told leaf) (left three_spaces s) * given_states (three_parts told leaf) (right three_spaces s)
   roots_at zero part e = let is : record { states = 2; initial = 0; roots = told ∷ [] } ≡ part = cc in sym (ap (λ (p : SpacePart). length p.roots) is)
   roots_at (suc zero) part e = let is : record { states = 1; initial = 0; roots = leaf ∷ [] } ≡ part = cc in sym (ap (λ (p : SpacePart). length p.roots) is)
-  roots_at (suc (suc zero)) part e = let is : record { states = 1; initial = 0; roots = leaf ∷ [] } ≡ part = cc in sym (ap (λ (p : SpacePart). length p.roots) is)
+  roots_at (suc (suc zero)) part e = let is : record { states = 1; initial = 0; roots = leaf ∷ [] } ≡ part = cc in sym
+      (ap (λ (p : SpacePart). length p.roots) is)
   roots_at (suc (suc (suc s))) part e = absurd cc
 
   pub three-given : IsGiven three_spaces shelf (three_parts told leaf) (false ∷ true ∷ [])
