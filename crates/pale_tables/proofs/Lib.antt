@@ -1,0 +1,4 @@
+pub mod FaultLemmas
+pub mod NamesLemmas
+pub mod RouteLemmas
+pub mod TypesLemmas

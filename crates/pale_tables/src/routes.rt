@@ -1,0 +1,148 @@
+//! Routes with their names looked up.
+
+ghost use Rattle.std.specs.Prelude.{◌≡◌, None, map, IfOk, IfErr, OnOk};
+ghost use Rattle.pale_tables.specs.Faults.{first_of, IsStop};
+ghost use Rattle.pale_tables.specs.Routes.{followed_fault, bool_fault, route_fault, route_of, joined, chained, starred};
+
+use crate::type_names::{Followed, TypeNames};
+use pale_syntax::{Name, Route as SourceRoute};
+use pale_text::{Pos, TextStop};
+use plain_data::{Boxed, Items};
+use std::alloc::{AllocError, Global};
+use store_core::{ByteList, Route};
+
+/// How a chain of routes is joined.
+#[derive(Clone, Copy, Debug, PartialEq, Eq)]
+pub enum Chain {
+    /// One after the other.
+    Then,
+    /// Either.
+    Or,
+}
+
+/// The name of a followed field.
+fn read_followed(
+    alloc: Global,
+    names: &TypeNames,
+    followed: Followed,
+    f: &Name,
+) -> Result<ByteList, TextStop>
+    ensures met { OnOk result (followed_fault names.now followed f.now ≡ None) }
+    ensures name { IfOk result (λ name. name ≡ f.now.bytes) }
+    ensures stop { IfErr result (IsStop (followed_fault names.now followed f.now)) }
+{
+    names.need_followed(followed, f)?;
+    Ok(Items::from_slice(alloc, f.bytes.as_slice())?)
+}
+
+/// The name of a bool field.
+fn read_bool(alloc: Global, names: &TypeNames, f: &Name) -> Result<ByteList, TextStop>
+    ensures met { OnOk result (bool_fault names.now f.now ≡ None) }
+    ensures name { IfOk result (λ name. name ≡ f.now.bytes) }
+    ensures stop { IfErr result (IsStop (bool_fault names.now f.now)) }
+{
+    names.need_bool(f)?;
+    Ok(Items::from_slice(alloc, f.bytes.as_slice())?)
+}
+
+fn join(alloc: Global, chain: Chain, first: Route, second: Route) -> Result<Route, AllocError>
+    ensures { IfOk result (λ made. made ≡ joined chain first second) }
+{
+    let first = Boxed::new(alloc, first)?;
+    let second = Boxed::new(alloc, second)?;
+    match chain {
+        Chain::Then => Ok(Route::Then(first, second)),
+        Chain::Or => Ok(Route::Or(first, second)),
+    }
+}
+
+/// One star more for each place.
+fn add_stars(alloc: Global, round: Route, stars: &[Pos]) -> Result<Route, AllocError>
+    ensures { IfOk result (λ made. made ≡ starred round stars.now) }
+{
+    let mut route = round;
+    for _star in stars {
+        route = Route::Star(Boxed::new(alloc, route)?);
+    }
+    Ok(route)
+}
+
+/// A chain groups to the left.
+fn join_all(
+    alloc: Global,
+    chain: Chain,
+    first: Route,
+    others: Items<Route>,
+) -> Result<Route, AllocError>
+    ensures { IfOk result (λ made. made ≡ chained chain first others) }
+{
+    let mut route = first;
+    for next in others.into_vec() {
+        route = join(alloc, chain, route, next)?;
+    }
+    Ok(route)
+}
+
+/// Routes, one after the other.
+#[cycle(routes)]
+fn read_each(
+    alloc: Global,
+    names: &TypeNames,
+    followed: Followed,
+    routes: &[SourceRoute],
+) -> Result<Items<Route>, TextStop>
+    ensures met { OnOk result (first_of (route_fault names.now followed) routes.now ≡ None) }
+    ensures found { IfOk result (λ found. found ≡ map (route_of names.now) routes.now) }
+    ensures stop { IfErr result (IsStop (first_of (route_fault names.now followed) routes.now)) }
+{
+    let mut found = Items::new(alloc);
+    for route in routes {
+        let next = read_route(alloc, names, followed, route)?;
+        found.push(next)?;
+    }
+    Ok(found)
+}
+
+/// A route with its names looked up.
+///
+/// # Errors
+///
+/// `Refused` is the first fault from the left: `unknown` at a field that no type has, at a type or a variant that isn't there;
+/// `kind` at a field that no type has in the form that the route needs.
+#[cycle(routes)]
+#[tactic(auto, using(crate::proofs::RouteLemmas::route_forms, crate::proofs::FaultLemmas::stops))]
+pub fn read_route(
+    alloc: Global,
+    names: &TypeNames,
+    followed: Followed,
+    route: &SourceRoute,
+) -> Result<Route, TextStop>
+    ensures met { OnOk result (route_fault names.now followed route.now ≡ None) }
+    ensures route { IfOk result (λ made. made ≡ route_of names.now route.now) }
+    ensures stop { IfErr result (IsStop (route_fault names.now followed route.now)) }
+{
+    match route {
+        SourceRoute::Down(f) => Ok(Route::Down(read_followed(alloc, names, followed, f)?)),
+        SourceRoute::Up(f) => Ok(Route::Up(read_followed(alloc, names, followed, f)?)),
+        SourceRoute::UpAny => Ok(Route::UpAny),
+        SourceRoute::Root => Ok(Route::Root),
+        SourceRoute::Leaf => Ok(Route::Leaf),
+        SourceRoute::IsType(ty) => Ok(Route::IsType(names.find_type(ty)?)),
+        SourceRoute::IsVariant(ty, v) => Ok(Route::IsVariant(names.find_variant(ty, v)?)),
+        SourceRoute::IsBool(f, truth) => Ok(Route::IsBool(read_bool(alloc, names, f)?, *truth)),
+        SourceRoute::Then(first, others) => {
+            let first = read_route(alloc, names, followed, first.get())?;
+            let others = read_each(alloc, names, followed, others.as_slice())?;
+            Ok(join_all(alloc, Chain::Then, first, others)?)
+        }
+        SourceRoute::Or(first, others) => {
+            let first = read_route(alloc, names, followed, first.get())?;
+            let others = read_each(alloc, names, followed, others.as_slice())?;
+            Ok(join_all(alloc, Chain::Or, first, others)?)
+        }
+        SourceRoute::Star(round, stars) => {
+            let round = read_route(alloc, names, followed, round.get())?;
+            Ok(add_stars(alloc, round, stars.as_slice())?)
+        }
+    }
+}
