@@ -21,3 +21,5 @@ pub mod FrameSteps
 pub mod FrameRuns
 pub mod CodesKeepLemmas
 pub mod RenamedFailing
+pub mod OneEndLemmas
+pub mod OneCauseLemmas

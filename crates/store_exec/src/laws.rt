@@ -1,12 +1,13 @@
 //! What holds of execution, each law the contract of a function that does nothing.
 
-ghost use Rattle.std.specs.Prelude.{◌≡◌, ◌↔◌, ◌+◌, ◌≤◌, ℕ, Ok, None, List};
+ghost use Rattle.std.specs.Prelude.{◌≡◌, ◌↔◌, ◌+◌, ◌≤◌, ℕ, Result, Ok, Option, None, List};
 ghost use Rattle.store_core.specs.Tables.{TypeEntry, VarEntry};
 ghost use Rattle.store_core.specs.Stores.{StoreMap, Fits, IsFresh};
 ghost use Rattle.routing_expr.specs.WellFormed.{IsWellFormed};
 ghost use Rattle.store_logic.specs.declared.act.Act.{Act};
 ghost use Rattle.store_logic.specs.FitsCode.{ActFits};
 ghost use Rattle.store_logic.specs.declared.cond.Cond.{Cond};
+ghost use Rattle.store_exec.specs.declared.cause.Cause.{Cause};
 ghost use Rattle.store_exec.specs.declared.code.Item.{Item};
 ghost use Rattle.store_exec.specs.declared.code.Item.TheVariants as item;
 ghost use Rattle.store_exec.specs.declared.code.Code.{Code};
@@ -18,7 +19,7 @@ ghost use Rattle.store_exec.specs.declared.triple.Triple.{Triple};
 ghost use Rattle.store_exec.specs.Steps.{truth_of, Step};
 ghost use Rattle.store_exec.specs.Runs.{Ending, Does, ByTruth, RunsItem, RunsItems, Follows, Branches, RunsCode};
 ghost use Rattle.store_exec.specs.Cuts.{AtCut};
-ghost use Rattle.store_exec.specs.Failing.{Meets};
+ghost use Rattle.store_exec.specs.Failing.{Meets, Fails};
 ghost use Rattle.store_exec.specs.Fits.{CodeFits, news_of_code, TripleFits};
 ghost use Rattle.store_exec.specs.Restricted.{restricted};
 
@@ -57,4 +58,16 @@ pub fn runs_go_by_cases()
     ensures branches { (types : List TypeEntry) (code taken other : Code) (line : ℕ) (c : Cond) (s : StoreMap) (out : Outcome) →
         code.tail ≡ tail.Branch line c taken other → RunsCode types code s out ↔ Follows (RunsItems types code.items s)
         (λ t. Branches line (truth_of t c) (RunsCode types taken t) (RunsCode types other t)) out }
+{}
+
+/// An act leads from a store to one end only, a code to one outcome, a cut has one first cause, or none, and a triple fails with one
+/// cause at one line.
+pub fn runs_have_one_end()
+    ensures steps { (types : List TypeEntry) (s : StoreMap) (a : Act) (r q : Result StoreMap Cause) → Step types s a r → Step types s a q → r ≡ q }
+    ensures codes { (types : List TypeEntry) (code : Code) (s : StoreMap) (out other : Outcome) →
+        RunsCode types code s out → RunsCode types code s other → out ≡ other }
+    ensures cuts { (types : List TypeEntry) (vars : List VarEntry) (cut : Cut) (s : StoreMap) (why other : Option Cause) →
+        AtCut types vars cut s why → AtCut types vars cut s other → why ≡ other }
+    ensures triples { (types : List TypeEntry) (vars : List VarEntry) (triple : Triple) (s : StoreMap) (why other : Cause) (line at : ℕ) →
+        Fails types vars triple s why line → Fails types vars triple s other at → (why ≡ other) × (line ≡ at) }
 {}
