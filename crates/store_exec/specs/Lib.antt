@@ -5,6 +5,7 @@ pub mod Runs
 pub mod Cuts
 pub mod Fits
 pub mod Acting
+pub mod Dropping
 pub mod Renamed
 pub mod Restricted
 pub mod Frames
