@@ -59,7 +59,8 @@ module _ (types : List TypeEntry) (vars : List VarEntry) where
 
     at-cuts : FailsAtCut types vars t s why line → FailsAtCut types vars t s other at → (why ≡ other) × (line ≡ at)
     at-cuts f g =
-        let same = same-end f.place g.place f.store g.store (code-one types t.code s (outcome.End f.place f.store) (outcome.End g.place g.store) f.ends g.ends) in
+        let same = same-end f.place g.place f.store g.store
+        (code-one types t.code s (outcome.End f.place f.store) (outcome.End g.place g.store) f.ends g.ends) in
         let cut : f.cut ≡ g.cut = let both : Some f.cut ≡ Some g.cut = sym f.there ∙ ap (slice_get t.cuts) same.0 ∙ g.there in cc in
         let first = subst (λ (c : Cut). IsFirstCause types vars c g.store why) cut (subst (λ u. IsFirstCause types vars f.cut u why) same.1 f.first) in
         (first-one g.cut g.store why other first g.first, sym f.at_line ∙ ap (λ (c : Cut). c.line) cut ∙ g.at_line)

@@ -90,7 +90,8 @@ module _ (types : List TypeEntry) where
       by (inl (u, first, after)) (inr (fault, also, is)) = ok_or_err (Ok u) u fault refl (items-one c.items s (Ok u) (Err fault) first also)
       by (inr (fault, first, is)) (inl (w, also, then_on)) = ok_or_err (Ok w) w fault refl (items-one c.items s (Ok w) (Err fault) also first)
       by (inr (fault, first, is)) (inr (stop, also, at)) =
-          is ∙ ap (λ (f : Fault). outcome.Fail f.cause f.line) (same_err (Err fault) fault stop refl (items-one c.items s (Err fault) (Err stop) first also)) ∙ sym at
+          is ∙ ap (λ (f : Fault). outcome.Fail f.cause f.line)
+          (same_err (Err fault) fault stop refl (items-one c.items s (Err fault) (Err stop) first also)) ∙ sym at
 
   cut-one : (c : Code) (place : ℕ) → c.tail ≡ tail.Cut place → OneOutcome c
   cut-one c place is = after-items c (λ t out other h k.

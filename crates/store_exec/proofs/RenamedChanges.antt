@@ -1,5 +1,6 @@
 -- What the changes of two stores that are the same but for the names of their cells keep.
-use Rattle.std.proofs.Common.{◌≡◌, ◌≢◌, ◌⊎◌, inl, inr, ℕ, zero, suc, ◌+◌, ◌<◌, Bool, true, false, List, [], ◌∷◌, map, slice_set, Option, Some, None, IsSome, refl, sym}
+use Rattle.std.proofs.Common.{◌≡◌, ◌≢◌, ◌⊎◌, inl, inr, ℕ, zero, suc, ◌+◌, ◌<◌, Bool, true, false, List, [], ◌∷◌, map, slice_set, Option, Some, None}
+use Rattle.std.proofs.Common.{IsSome, refl, sym}
 use Rattle.std.proofs.Common.{ap, ap₂, ◌∙◌, subst, arith, if◌then◌else◌}
 use Rattle.std.specs.Ordering.{nat_cmp}
 use Rattle.std.specs.FinMap.{FinMap, get}
@@ -59,7 +60,8 @@ module _ (R L : CellId → CellId → Type 0) (each : (c d : CellId) → R c d �
 
 -- ---- lists with one element changed
 
-pairwise_set : {X : Type 0} (K : X → X → Type 0) (xs ys : List X) (i : ℕ) (x y : X) → Pairwise K xs ys → K x y → Pairwise K (slice_set xs i x) (slice_set ys i y)
+pairwise_set : {X : Type 0} (K : X → X → Type 0) (xs ys : List X) (i : ℕ) (x y : X) → Pairwise K xs ys → K x y →
+    Pairwise K (slice_set xs i x) (slice_set ys i y)
 pairwise_set K [] [] i x y h k = tt
 pairwise_set K [] (b ∷ ys) i x y h k = absurd h
 pairwise_set K (a ∷ xs) [] i x y h k = absurd h

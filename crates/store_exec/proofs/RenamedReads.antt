@@ -22,7 +22,8 @@ use Rattle.store_logic.specs.declared.cond.Cond.TheFolds.{fold-Cond}
 use Rattle.store_logic.specs.Terms.{null, cell_in, truth_in}
 use Rattle.store_exec.specs.declared.cause.Cause.{Cause}
 use Rattle.store_exec.specs.declared.cause.Cause.TheVariants as cause
-use Rattle.store_exec.specs.Steps.{and_then, made_of, cell_through, field_read, read, read_along, variable, path_value, operand_value, is_same, is_variant, is_of}
+use Rattle.store_exec.specs.Steps.{and_then, made_of, cell_through, field_read, read, read_along, variable, path_value, operand_value}
+use Rattle.store_exec.specs.Steps.{is_same, is_variant, is_of}
 use Rattle.store_exec.specs.Steps.{truth_node, truth_of, last_step}
 use Rattle.store_exec.specs.Renamed.{Alike}
 
