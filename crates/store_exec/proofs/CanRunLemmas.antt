@@ -13,12 +13,12 @@ use Rattle.store_exec.specs.declared.code.Tail.TheOpen.{Tail-F, Code-F}
 use Rattle.store_exec.specs.declared.code.Tail.TheFolds.{rec-Tail, rec-roll-Tail, rec-roll-Code, fold-Tail, fold-roll-Tail}
 use Rattle.store_exec.specs.declared.code.Tail.TheFolds.{fold-roll-Code, map-Tail, map-Code}
 use Rattle.store_exec.specs.Runs.{RunsItems}
-use Rattle.store_exec.specs.Fits.{ItemsFit, news_of, TailFitsNode, CodeFitsNode, CodeFits, news_of_tail, news_of_code}
-use Rattle.store_exec.specs.Going.{CanRun, CanRunCode}
+use Rattle.store_exec.specs.Fits.{ItemsFit, news_of, TailFitsNode, CodeFitsNode, CodeFits, news_of_tail, news_of_code, CanRunCode}
+use Rattle.store_exec.specs.Going.{CanRun}
 use Rattle.store_exec.proofs.ItemsKeepLemmas.{IsWellAfter, items-keep}
 
 module _ (types : List TypeEntry) (vars : List VarEntry) where
-  abbrev TailFits : Tail → Type 0
+  abbrev pub TailFits : Tail → Type 0
   TailFits = rec-Tail (Type 0) (Type 0) (TailFitsNode types vars) (CodeFitsNode types vars)
 
   natural-tail : (T C : Type 0) (v : T → Tail) (w : C → Code) (k : Tail → Type 0) (l : Code → Type 0) (x : Tail-F T C) →
@@ -30,22 +30,22 @@ module _ (types : List TypeEntry) (vars : List VarEntry) where
       CodeFitsNode types vars T C v w (λ p. k (v p)) (λ p. l (w p)) x ≡ CodeFitsNode types vars Tail Code (λ y. y) (λ y. y) k l (map-Code T C Tail Code v w x)
   natural-code T C v w k l x = refl
 
-  code-fits : (c : Code) → CodeFits types vars c → ItemsFit types vars c.items × TailFits c.tail
+  pub code-fits : (c : Code) → CodeFits types vars c → ItemsFit types vars c.items × TailFits c.tail
   code-fits c = transport (λ i. (ap (CodeFits types vars) (sym (roll-out-Code c))
       ∙ rec-roll-Code (Type 0) (Type 0) (TailFitsNode types vars) (CodeFitsNode types vars) natural-code (out-Code c)) i)
 
-  branch-fits : (line : ℕ) (b : Cond) (taken other : Code) → TailFits (tail.Branch line b taken other) →
+  pub branch-fits : (line : ℕ) (b : Cond) (taken other : Code) → TailFits (tail.Branch line b taken other) →
       CondFits types vars b × CodeFits types vars taken × CodeFits types vars other
   branch-fits line b taken other = transport (λ i. (ap TailFits (sym (rolls-Branch line b taken other))
       ∙ rec-roll-Tail (Type 0) (Type 0) (TailFitsNode types vars) (CodeFitsNode types vars) natural-tail (Tail-F.Branch line b taken other)) i)
 
-abbrev news_behind : Tail → ℕ
+abbrev pub news_behind : Tail → ℕ
 news_behind = fold-Tail ℕ ℕ news_of_tail (λ x. news_of x.items + x.tail)
 
-news-code : (c : Code) → news_of_code c ≡ news_of c.items + news_behind c.tail
+pub news-code : (c : Code) → news_of_code c ≡ news_of c.items + news_behind c.tail
 news-code c = ap news_of_code (sym (roll-out-Code c)) ∙ fold-roll-Code ℕ ℕ news_of_tail (λ x. news_of x.items + x.tail) (out-Code c)
 
-news-branch : (line : ℕ) (b : Cond) (taken other : Code) → news_behind (tail.Branch line b taken other) ≡ news_of_code taken + news_of_code other
+pub news-branch : (line : ℕ) (b : Cond) (taken other : Code) → news_behind (tail.Branch line b taken other) ≡ news_of_code taken + news_of_code other
 news-branch line b taken other = ap news_behind (sym (rolls-Branch line b taken other))
     ∙ fold-roll-Tail ℕ ℕ news_of_tail (λ x. news_of x.items + x.tail) (Tail-F.Branch line b taken other)
 

@@ -15,7 +15,7 @@ use Rattle.store_exec.specs.declared.code.Tail.TheVariants.{rolls-Cut, rolls-Bra
 use Rattle.store_exec.specs.declared.code.Tail.TheOpen.{Tail-F, Code-F}
 use Rattle.store_exec.specs.declared.code.Tail.TheFolds.{rec-Tail, rec-roll-Tail, rec-roll-Code, map-Tail, map-Code}
 use Rattle.store_exec.specs.Steps.{truth_of}
-use Rattle.store_exec.specs.Runs.{RunsItems, Follows, Branches, TailNode, CodeNode, RunsCode}
+use Rattle.store_exec.specs.Runs.{Ending, RunsItems, Follows, Branches, TailNode, CodeNode, RunsCode}
 
 module _ (types : List TypeEntry) where
   abbrev pub RunsTail : Tail → StoreMap → Outcome → Type 0
@@ -83,3 +83,30 @@ module _ (types : List TypeEntry) where
   branch-stop c s t line b taken other is h fault told at = branch-goes c s t line b taken other (outcome.Fail fault.cause fault.line) is h
       (subst (λ (r : Result Bool Cause). Branches line r (RunsCode types taken t) (RunsCode types other t) (outcome.Fail fault.cause fault.line)) (sym told)
       (ap (λ (n : ℕ). outcome.Fail fault.cause n) at))
+
+  -- ---- what follows the items, as it is
+
+  follows-same : (Items : Ending → Type 0) (Next Other : StoreMap → Outcome → Type 0) → ((t : StoreMap) (out : Outcome) → Next t out ↔ Other t out) →
+      (out : Outcome) → Follows Items Next out ↔ Follows Items Other out
+  follows-same Items Next Other each out = (
+    λ k. elim k [ inl (t, h, n) ↦ inl (t, h, (each t out).0 n) | inr stopped ↦ inr stopped ],
+    λ k. elim k [ inl (t, h, n) ↦ inl (t, h, (each t out).1 n) | inr stopped ↦ inr stopped ],
+  )
+
+  code-as : (c : Code) (Other : StoreMap → Outcome → Type 0) → ((t : StoreMap) (out : Outcome) → RunsTail c.tail t out ↔ Other t out) →
+      (s : StoreMap) (out : Outcome) → RunsCode types c s out ↔ Follows (RunsItems types c.items s) Other out
+  code-as c Other each s out =
+      let whole = RunsCode-is c s out in let same = follows-same (RunsItems types c.items s) (RunsTail c.tail) Other each out in
+      (λ k. same.0 (whole.0 k), λ k. whole.1 (same.1 k))
+
+  pub code-cut : (c : Code) (place : ℕ) → c.tail ≡ tail.Cut place → (s : StoreMap) (out : Outcome) →
+      RunsCode types c s out ↔ Follows (RunsItems types c.items s) (λ t o. o ≡ outcome.End place t) out
+  code-cut c place is = code-as c (λ t o. o ≡ outcome.End place t)
+      (λ t out. subst (λ (x : Tail). RunsTail x t out ↔ (out ≡ outcome.End place t)) (sym is) (RunsTail-Cut place t out))
+
+  pub code-branch : (c : Code) (line : ℕ) (b : Cond) (taken other : Code) → c.tail ≡ tail.Branch line b taken other → (s : StoreMap) (out : Outcome) →
+      RunsCode types c s out ↔ Follows (RunsItems types c.items s)
+      (λ t. Branches line (truth_of t b) (RunsCode types taken t) (RunsCode types other t)) out
+  code-branch c line b taken other is = code-as c (λ t. Branches line (truth_of t b) (RunsCode types taken t) (RunsCode types other t))
+      (λ t out. subst (λ (x : Tail). RunsTail x t out ↔ Branches line (truth_of t b) (RunsCode types taken t) (RunsCode types other t) out) (sym is)
+      (RunsTail-Branch line b taken other t out))

@@ -9,3 +9,17 @@ pub mod ItemsKeepLemmas
 pub mod CanRunLemmas
 pub mod AnswerLemmas
 pub mod CutLemmas
+pub mod ActingLemmas
+pub mod InductionLemmas
+pub mod RenamedReads
+pub mod RenamedChanges
+pub mod RenamedSteps
+pub mod RenamedRuns
+pub mod RenamedCuts
+pub mod RestrictedLemmas
+pub mod FrameSteps
+pub mod FrameRuns
+pub mod CodesKeepLemmas
+pub mod RenamedFailing
+pub mod OneEndLemmas
+pub mod OneCauseLemmas

@@ -1,10 +1,11 @@
 -- When code, cuts, starts and triples fit their tables: what they name is there, and of the class and type that its place needs.
-use Rattle.std.specs.Prelude.{◌+◌, ℕ, List, IfSome, IsSomeAnd, sum_by}
+use Rattle.std.specs.Prelude.{◌+◌, ◌<◌, ℕ, List, IfSome, IsSomeAnd, sum_by}
 use Rattle.std.specs.List.{AllByRecursion}
 use Rattle.store_core.specs.declared.ids.VarId.{VarId}
 use Rattle.store_core.specs.declared.kind.VarKind.{VarKind}
 use Rattle.store_core.specs.declared.kind.VarKind.TheVariants as var
 use Rattle.store_core.specs.Tables.{TypeEntry, VarEntry, var_at}
+use Rattle.store_core.specs.Stores.{StoreMap, Fits, IsFresh}
 use Rattle.store_logic.specs.declared.act.Rhs.{Rhs}
 use Rattle.store_logic.specs.declared.act.Rhs.TheVariants as rhs
 use Rattle.store_logic.specs.declared.act.Act.{Act}
@@ -21,6 +22,7 @@ use Rattle.store_exec.specs.declared.code.Code.{Code}
 use Rattle.store_exec.specs.declared.triple.Claim.{Claim}
 use Rattle.store_exec.specs.declared.triple.Cut.{Cut}
 use Rattle.store_exec.specs.declared.triple.Start.{Start}
+use Rattle.store_exec.specs.declared.triple.Triple.{Triple}
 use Rattle.store_exec.specs.Cuts.{IsPointerVar}
 
 -- ---- code
@@ -80,6 +82,15 @@ news_of_tail (Tail-F.Branch line c taken other) = taken + other
 abbrev pub news_of_code : Code → ℕ
 news_of_code = fold-Code ℕ ℕ news_of_tail (λ x. news_of x.items + x.tail)
 
+-- the code can be run on the store: both fit the types and some variable table, the store is fresh, and each `new` that stands in
+-- the code finds a number for its cell
+pub record CanRunCode (types : List TypeEntry) (s : StoreMap) (code : Code) : Type 0 where
+  pub vars : List VarEntry
+  pub fits : Fits types vars s
+  pub fresh : IsFresh s
+  pub code_fits : CodeFits types vars code
+  pub room : s.next + news_of_code code < 4294967295
+
 -- ---- cuts and starts
 
 -- a pointer variable of the table
@@ -112,3 +123,9 @@ pub record StartFits (types : List TypeEntry) (vars : List VarEntry) (start : St
   pub returned : IfSome start.returned (AllByRecursion (IsKnownDataVar vars))
   pub inside : AllByRecursion (IsKnownPointerVar vars) start.inside
   pub asserts : AllByRecursion (ClaimFits types vars) start.asserts
+
+-- the start, the code and each cut of the triple fit
+pub record TripleFits (types : List TypeEntry) (vars : List VarEntry) (t : Triple) : Type 0 where
+  pub start : StartFits types vars t.start
+  pub code : CodeFits types vars t.code
+  pub cuts : AllByRecursion (CutFits types vars) t.cuts

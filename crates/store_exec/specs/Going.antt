@@ -13,8 +13,7 @@ use Rattle.store_exec.specs.declared.code.Item.TheOpen.{Item-F}
 use Rattle.store_exec.specs.declared.code.Item.TheFolds.{fold-Item}
 use Rattle.store_exec.specs.Steps.{truth_of, Step}
 use Rattle.store_exec.specs.Runs.{Ending, RunsItems}
-use Rattle.store_exec.specs.declared.code.Code.{Code}
-use Rattle.store_exec.specs.Fits.{ItemsFit, news_of, CodeFits, news_of_code}
+use Rattle.store_exec.specs.Fits.{ItemsFit, news_of}
 
 -- the store and the items fit some tables, and each new cell has a number
 pub record CanRun (types : List TypeEntry) (s : StoreMap) (items : List Item) : Type 0 where
@@ -82,11 +81,3 @@ abbrev pub IsTruthAt : {E : Type 0} → StoreMap → ℕ → Cond → Result (Re
 IsTruthAt s line c (Ok (Ok truth)) = truth_of s c ≡ Ok truth
 IsTruthAt s line c (Ok (Err fault)) = (truth_of s c ≡ Err fault.cause) × (fault.line ≡ line)
 IsTruthAt s line c (Err e) = Unit {0}
-
--- the store and the code fit some tables, and each new cell has a number
-pub record CanRunCode (types : List TypeEntry) (s : StoreMap) (code : Code) : Type 0 where
-  pub vars : List VarEntry
-  pub fits : Fits types vars s
-  pub fresh : IsFresh s
-  pub code_fits : CodeFits types vars code
-  pub room : s.next + news_of_code code < 4294967295

@@ -4,6 +4,11 @@ pub mod Ready
 pub mod Runs
 pub mod Cuts
 pub mod Fits
+pub mod Acting
+pub mod Dropping
+pub mod Renamed
+pub mod Restricted
+pub mod Frames
 pub mod Going
 pub mod Failing
 pub mod Telling

@@ -5,24 +5,36 @@
 #![tactic(auto)]
 
 mod acts;
+mod asserting;
 mod cause;
 mod code;
 mod cuts;
 mod fault;
+mod frames;
 mod halt;
 mod items;
 mod laws;
 mod outcome;
 mod reading;
+mod renaming;
 mod running;
 mod triple;
 mod truth;
 
+pub use asserting::has_assert;
 pub use cause::Cause;
 pub use code::{Code, Item, ItemList, Tail};
 pub use cuts::{at_cut, meets};
 pub use fault::Fault;
-pub use laws::{acts_keep_stores_fitting, runs_go_by_cases};
+pub use frames::{acts_leave_the_rest, runs_leave_the_rest};
+pub use laws::{
+    acts_keep_stores_fitting, codes_keep_stores_fitting, cuts_leave_well_formed_stores,
+    runs_go_by_cases,
+};
 pub use outcome::Outcome;
+pub use renaming::{
+    renaming_cells_keeps_cuts, renaming_cells_keeps_failing, renaming_cells_keeps_runs,
+    renaming_cells_keeps_steps,
+};
 pub use running::run;
 pub use triple::{Claim, ClaimList, Cut, CutList, Start, Triple};

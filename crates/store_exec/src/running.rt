@@ -3,8 +3,8 @@
 ghost use Rattle.std.specs.Prelude.{◌≡◌, IfOk};
 ghost use Rattle.store_logic.specs.Terms.{null};
 ghost use Rattle.store_exec.specs.Runs.{RunsCode};
-ghost use Rattle.store_exec.specs.Fits.{news_of_code};
-ghost use Rattle.store_exec.specs.Going.{CanRunCode, IsTruthAt};
+ghost use Rattle.store_exec.specs.Fits.{CanRunCode};
+ghost use Rattle.store_exec.specs.Going.{IsTruthAt};
 
 use crate::code::{Code, Tail};
 use crate::fault::Fault;

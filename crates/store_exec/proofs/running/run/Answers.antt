@@ -5,7 +5,8 @@ use Rattle.store_exec.specs.declared.code.Code.{Code}
 use Rattle.store_exec.specs.declared.outcome.Outcome.TheVariants as outcome
 use Rattle.store_exec.specs.Steps.{truth_of}
 use Rattle.store_exec.specs.Runs.{RunsCode}
-use Rattle.store_exec.specs.Going.{CanRun, CanRunCode}
+use Rattle.store_exec.specs.Going.{CanRun}
+use Rattle.store_exec.specs.Fits.{CanRunCode}
 use Rattle.store_exec.proofs.AnswerLemmas.{ended, stopped, told, untold}
 use Rattle.store_exec.proofs.CanRunLemmas.{items-can, branch-can}
 use Rattle.store_exec.proofs.CodeLemmas.{items-stop, items-cut, branch-true, branch-false, branch-stop}
