@@ -1,1 +1,4 @@
 pub mod SetsLemmas
+pub mod NumbersLemmas
+pub mod ClassesLemmas
+pub mod RootsLemmas

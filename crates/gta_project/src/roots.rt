@@ -21,6 +21,8 @@ pub(crate) fn roots_at(
     requires { (l r : ℕ) → Contains lefts.now l → Contains rights.now r → IsSome (root_at shelf.now a.now space l r) }
     ensures { IfOk result (λ roots. AreRoots shelf.now a.now space lefts.now rights.now roots.items) }
 {
+    // Only for its clause `shelf`.
+    let _ = shelf.count();
     let mut roots = Vec::new(alloc);
     for left in lefts {
         push_roots(&mut roots, a, shelf, space, *left, rights)?;
