@@ -2,3 +2,12 @@ pub mod SetsLemmas
 pub mod NumbersLemmas
 pub mod ClassesLemmas
 pub mod RootsLemmas
+pub mod SubsetsLemmas
+pub mod ClosingLemmas
+pub mod JoinsLemmas
+pub mod NextLemmas
+pub mod BuildingLemmas
+pub mod SameLemmas
+pub mod ShelfLemmas
+pub mod StartLemmas
+pub mod FillingLemmas

@@ -9,7 +9,7 @@ use Rattle.std.proofs.lemmas.Bool.{cases_Bool, eqb-true, eq-eqb, false≢true}
 use Rattle.bdd_walk.specs.Laws.{and-left, and-right, and-both}
 use Rattle.bdd_walk.specs.Answers.{KeepsAnswers, AnswersOnly, Completes}
 use Rattle.gta_project.specs.Numbers.{is_set, lists_of, number_in, numbered, AreOfOneSet, AreNumbers, Extends, Grows, stays, comes}
-use Rattle.gta_project.specs.Sets.{set_of}
+use Rattle.gta_project.specs.Sets.{set_of, IsSet}
 
 pub is_set-true : (a b : List ℕ) → is_set a b ≡ true → a ≡ b
 is_set-true [] [] e = refl
@@ -114,17 +114,22 @@ pub AreNumbers-none : AreNumbers []
 AreNumbers-none = record {
   found = λ k set e. absurd (let f : ◌≡◌ {A = Option (List ℕ)} None (Some set) = e in cc);
   few = omega arith;
+  set = λ k set e. absurd (let f : ◌≡◌ {A = Option (List ℕ)} None (Some set) = e in cc);
 }
 
-pub AreNumbers-comes : (old : List (List ℕ)) (set : List ℕ) → AreNumbers old → number_in old set ≡ None → length old < 2 ^ 31 →
+pub AreNumbers-comes : (old : List (List ℕ)) (set : List ℕ) → IsSet set → AreNumbers old → number_in old set ≡ None → length old < 2 ^ 31 →
     AreNumbers (old ++ set ∷ [])
-AreNumbers-comes old set numbers none room = record {
+AreNumbers-comes old set is_one numbers none room = record {
   found = λ k q e. elim (get-snoc old set q k e) [
     | inl before ↦ number_in-append old (set ∷ []) q k (numbers.found k q before)
     | inr last ↦ subst (λ (p : List ℕ). number_in (old ++ set ∷ []) p ≡ Some k) (sym last.1)
         (number_in-last old set none ∙ ap (λ (n : ℕ). let o : Option ℕ = Some n in o) (sym last.0))
   ];
   few = let both = length-append old (set ∷ []) in omega arith;
+  set = λ k q e. elim (get-snoc old set q k e) [
+    | inl before ↦ numbers.set k q before
+    | inr last ↦ subst IsSet (sym last.1) is_one
+  ];
 }
 
 pub Grows-insert : (old new : List (List ℕ)) (set : List ℕ) →
@@ -134,9 +139,9 @@ Grows-insert old new set is = elim (cases_Bool (list_any (is_set set) old)) [
   | inr absent ↦ comes (number_in-none old set absent) (is ∙ ap (λ (b : Bool). if b then old else old ++ set ∷ []) absent)
 ]
 
-pub AreNumbers-grows : (old new : List (List ℕ)) (set : List ℕ) → AreNumbers old → length old < 2 ^ 31 → Grows old new set → AreNumbers new
-AreNumbers-grows old new set numbers room (stays same) = subst AreNumbers (sym same) numbers
-AreNumbers-grows old new set numbers room (comes none is) = subst AreNumbers (sym is) (AreNumbers-comes old set numbers none room)
+pub AreNumbers-grows : (old new : List (List ℕ)) (set : List ℕ) → IsSet set → AreNumbers old → length old < 2 ^ 31 → Grows old new set → AreNumbers new
+AreNumbers-grows old new set is_one numbers room (stays same) = subst AreNumbers (sym same) numbers
+AreNumbers-grows old new set is_one numbers room (comes none is) = subst AreNumbers (sym is) (AreNumbers-comes old set is_one numbers none room)
 
 -- the keys of the index
 pub any-lists : (key : Vec ℕ Global) (keys : List (Vec ℕ Global)) →

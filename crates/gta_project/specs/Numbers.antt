@@ -3,7 +3,7 @@ use Rattle.std.specs.Prelude.{◌≡◌, ℕ, suc, ◌^◌, ◌≤◌, Bool, nat
 use Rattle.std.specs.Cmp.Lexicographic.{pointwise}
 use Rattle.std.proofs.Common.{Global}
 use Rattle.bdd_walk.specs.Answers.{Answers}
-use Rattle.gta_project.specs.Sets.{set_of}
+use Rattle.gta_project.specs.Sets.{set_of, IsSet}
 
 -- whether the two sets are the same
 abbrev pub is_set : List ℕ → List ℕ → Bool
@@ -18,10 +18,11 @@ abbrev pub number_in : List (List ℕ) → List ℕ → Option ℕ
 number_in [] set = None
 number_in (s ∷ ss) set = if is_set set s then Some 0 else option_map suc (number_in ss set)
 
--- each set once, and no more than there are state numbers
+-- each is a set, and there once, and no more than there are state numbers
 pub record AreNumbers (sets : List (List ℕ)) : Type 0 where
   pub found : (k : ℕ) (set : List ℕ) → slice_get sets k ≡ Some set → number_in sets set ≡ Some k
   pub few : length sets ≤ 2 ^ 31
+  pub set : (k : ℕ) (set : List ℕ) → slice_get sets k ≡ Some set → IsSet set
 
 -- a list of states is answered by the number of its set
 abbrev pub numbered : List (List ℕ) → Answers

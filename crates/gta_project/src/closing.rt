@@ -7,7 +7,7 @@ ghost use Rattle.bdd_walk.specs.Asked.{leaves_of};
 ghost use Rattle.gta_theory.specs.Guides.{IsSpace};
 ghost use Rattle.gta_core.specs.Auto.{states_of, initial_of, automaton_of, IsAuto};
 ghost use Rattle.gta_project.specs.Subsets.{AreInitial};
-ghost use Rattle.gta_project.specs.Closing.{set_at, IsNext, AreNext};
+ghost use Rattle.gta_project.specs.Closing.{set_at, IsNext, AreNext, AreSettled};
 
 use crate::roots::roots_at;
 use crate::sets::set_of;
@@ -29,6 +29,8 @@ pub(crate) fn initial_sets(
     requires { IsAuto g.now shelf.now a.now }
     ensures { IfOk result (AreInitial g.now (automaton_of shelf.now a.now) track) }
 {
+    // Only for its clause `guide`.
+    let _ = g.spaces();
     let mut sets = Items::new(alloc);
     for _round in 0..u64::MAX {
         let next = next_sets(alloc, g, a, track, shelf, sets.as_slice())?;
@@ -48,11 +50,18 @@ fn are_same(one: &[StateList], other: &[StateList]) -> bool
         return false;
     }
     for place in 0..one.len() {
-        if one[place].as_slice() != other[place].as_slice() {
+        if !is_same(one[place].as_slice(), other[place].as_slice()) {
             return false;
         }
     }
     true
+}
+
+/// Whether the two sets are the same.
+fn is_same(one: &[u32], other: &[u32]) -> bool
+    ensures { IsTrue result → one.now ≡ other.now }
+{
+    one == other
 }
 
 /// The next set of each space.
@@ -64,6 +73,9 @@ fn next_sets(
     shelf: &Shelf,
     sets: &[StateList],
 ) -> Result<Items<StateList>, NoMemory>
+    requires auto { IsAuto g.now shelf.now a.now }
+    requires settled { AreSettled g.now (automaton_of shelf.now a.now) track sets.now }
+    ensures { IfOk result (AreNext g.now (automaton_of shelf.now a.now) track sets.now) }
 {
     let mut next = Items::new(alloc);
     for space in 0..g.spaces() {
@@ -82,16 +94,32 @@ fn next_set(
     sets: &[StateList],
     space: u32,
 ) -> Result<StateList, NoMemory>
+    requires auto { IsAuto g.now shelf.now a.now }
+    requires settled { AreSettled g.now (automaton_of shelf.now a.now) track sets.now }
+    requires inside { IsSpace g.now space }
+    ensures { IfOk result (IsNext g.now (automaton_of shelf.now a.now) track sets.now space) }
 {
-    let (left, right) = g.children(space).unwrap_or((0, 0));
-    let roots = roots_at(alloc, a, shelf, space, set_in(sets, left), set_in(sets, right))?;
+    let children = g.children(space).unwrap_or((0, 0));
+    let lefts = set_in(sets, children.0);
+    let rights = set_in(sets, children.1);
+    let roots = roots_at(alloc, a, shelf, space, lefts, rights)?;
     let mut states = Items::new(alloc);
-    states.push(a.initial(space).unwrap_or(0))?;
+    states.push(initial(a, space))?;
     push_states(&mut states, shelf, roots.as_slice(), &Items::new(alloc))?;
     let set_track = Items::from_slice(alloc, &[track])?;
     push_states(&mut states, shelf, roots.as_slice(), &set_track)?;
     let set = set_of(alloc, states.as_slice())?;
     Ok(Items::from_vec(set))
+}
+
+/// The initial state of a space; 0 for an unknown one.
+fn initial(a: &Auto, space: u32) -> u32
+    ensures { result ≡ initial_of a.now space }
+{
+    match a.parts().get(space as usize) {
+        Some(part) => part.initial,
+        None => 0,
+    }
 }
 
 /// The set of a space; the empty one where there is none yet.

@@ -1,6 +1,7 @@
 //! Numbers for sets of states.
 
 ghost use Rattle.std.specs.Prelude.{◌≡◌, ◌<◌, ◌^◌, [], length, Some, IfOk, slice_get};
+ghost use Rattle.gta_project.specs.Sets.{IsSet};
 ghost use Rattle.gta_project.specs.Numbers.{number_in, AreNumbers, Grows};
 
 use crate::sets::set_of;
@@ -58,6 +59,7 @@ impl Numbering {
 
     /// The number of a set, a new one where it has none. Want of memory, also where no number is left, changes nothing.
     pub(crate) fn number(&mut self, set: Vec<u32>) -> Result<u32, AllocError>
+        requires { IsSet set.items }
         ensures value { IfOk result (λ number. number_in self.new set.items ≡ Some number) }
         ensures small { IfOk result (λ number. number < 2 ^ 31) }
         ensures place { IfOk result (λ number. number < length self.new) }

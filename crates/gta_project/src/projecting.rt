@@ -1,7 +1,7 @@
 //! The projection: sets of states, as they are reached.
 
 ghost use Rattle.std.specs.List.{range_with_len, list_any};
-ghost use Rattle.std.specs.Prelude.{◌≡◌, ◌<◌, ◌+◌, ◌^◌, ℕ, Bool, List, [], length, map, None, Some, Err, All, IfOk, OnOk, OnErr, IsTrue, ◌↔◌};
+ghost use Rattle.std.specs.Prelude.{◌≡◌, ◌<◌, ◌+◌, ◌^◌, ℕ, Bool, List, [], length, map, None, Some, Err, All, IfOk, OnOk, OnErr, IsTrue, ◌↔◌, slice_get};
 ghost use Rattle.bdd_nodes.specs.Shelf.{Contents, IsShelf, IsValid, count_of, limit_of};
 ghost use Rattle.bdd_nodes.specs.Changes.{Keeps, SameTables};
 ghost use Rattle.gta_theory.specs.Assignments.{Assignment, PositionSet, IsFiniteSet, Covers, replace};
@@ -12,6 +12,7 @@ ghost use Rattle.gta_theory.specs.Sizes.{SizeOf};
 ghost use Rattle.gta_core.specs.Auto.{states_of, is_accepting, automaton_of, IsAuto};
 ghost use Rattle.gta_core.specs.Changes.{RegistersTable};
 ghost use Rattle.gta_core.specs.Placing.{Grows};
+ghost use Rattle.gta_project.specs.Sets.{IsSet};
 ghost use Rattle.gta_project.specs.Subsets.{subsets, AreInitial};
 ghost use Rattle.gta_project.specs.Project.{IsSubsetOf};
 ghost use Rattle.gta_project.specs.Building.{AreSpaces, FitAll, ExtendAll, Building, CompleteAll, ExceedsSteps, IsPartOf, AreParts, Leaves, Exceeded};
@@ -139,7 +140,8 @@ fn are_same(one: &Items<u64>, other: &Items<u64>) -> bool
 
 /// The initial set of each space.
 fn start(alloc: Global, g: &Guide, initials: &[StateList]) -> Result<Vec<Numbering>, NoMemory>
-    requires { length initials.now ≡ length g.now }
+    requires many { length initials.now ≡ length g.now }
+    requires sets { (k : ℕ) (set : List ℕ) → slice_get initials.now k ≡ Some set → IsSet set }
     ensures { IfOk result (λ spaces. (A : Automaton ℕ) (track : ℕ) → AreSpaces g.now (subsets A track initials.now) spaces.items) }
 {
     let mut spaces = Vec::new(alloc);

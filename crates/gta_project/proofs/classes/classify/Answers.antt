@@ -1,6 +1,9 @@
 use Rattle.std.proofs.Common.{◌≡◌, ◌+◌, ℕ, List, [], ◌∷◌, ◌++◌, take, get_or, Option, Some, slice_get, sym, ◌∙◌, ap, subst, arith}
 use Rattle.std.proofs.lemmas.List.{take_more}
 use Rattle.std.proofs.lemmas.Option.{slice_get-get_or}
+use Rattle.std.specs.Prelude.{map, slice_index}
+use Rattle.gta_project.specs.Sets.{IsSet}
+use Rattle.gta_project.proofs.SetsLemmas.{set_of-twice}
 use Rattle.gta_project.specs.Numbers.{number_in, Grows}
 use Rattle.gta_project.specs.Classes.{AreKeyed, classes_of}
 use Rattle.gta_project.proofs.ClassesLemmas.{AreKeyed-more}
@@ -29,3 +32,6 @@ loop-k-preserved c =
     subst (λ (of : List ℕ). AreKeyed (take (k + 1) sets) states of c.note.new.ones c.number.new.self) (sym c.in_ok-push.ensures.ok)
     (subst (λ (ps : List (List ℕ)). AreKeyed ps states (c.loop-k.of ++ c.in_ok-class.class ∷ []) c.note.new.ones c.number.new.self)
     (sym (take_more sets k [] (omega arith) ∙ ap (λ (s : List ℕ). take k sets ++ s ∷ []) is)) more)
+
+pub number-requires : goal.number-requires
+number-requires c = subst (λ (set : List ℕ). IsSet set) (sym c.in_ok-key.ensures) (set_of-twice (map (slice_index c.args.states.now) c.set-set.result.now))

@@ -1,5 +1,5 @@
 use Rattle.std.proofs.Common.{◌+◌, ℕ, List, [], ◌∷◌, ◌++◌, take, get_or, sym, subst, arith}
-use Rattle.std.proofs.lemmas.List.{take_more}
+use Rattle.std.proofs.lemmas.List.{take_more, take_all}
 use Rattle.std.proofs.lemmas.List.Filters.{dedup_is}
 use Rattle.std.proofs.lemmas.List.Kept.{Contains-dedup, Contains-from_dedup}
 use Rattle.std.proofs.lemmas.List.Sorted.{Contains-permutation, IsPermutation-sym}
@@ -33,7 +33,8 @@ returns c =
     let is = dedup_is _ _ _ c.dedup.ensures.filtered in
     let moved = c.sort_unstable.ensures.permutation in
     AreRoots-made c.args.shelf.now c.args.a.now c.args.space c.args.lefts.now c.args.rights.now c.loop-left.roots.items c.dedup.new.self.items
-    c.loop-left.invariant
+    (subst (λ (ps : List ℕ). AddRoots c.args.shelf.now c.args.a.now c.args.space ps c.args.rights.now [] c.loop-left.roots.items)
+    (take_all c.loop-left.left-index c.args.lefts.now (omega arith)) c.loop-left.invariant)
     (valid-root c.args.shelf.now c.count.ensures.shelf c.args.a.now c.args.space)
     (λ x h. rw is (Contains-dedup refs-equal same_word _ x (Contains-permutation _ _ x moved h)))
     (λ x h. Contains-permutation _ _ x (IsPermutation-sym _ _ moved) (Contains-from_dedup _ _ x (rw is at h)))

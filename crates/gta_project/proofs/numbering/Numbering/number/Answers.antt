@@ -10,14 +10,14 @@ use Rattle.gta_project.proofs.numbering.Numbering.number.Goals as goal
 pub invariant_of-self-2 : goal.invariant_of-self-2
 invariant_of-self-2 c =
     let many = length-map c.self.inside.sets.keys (λ (v : Vec ℕ Global). v.items) in
-    AreNumbers-grows (lists_of c.self.inside.sets.keys) (lists_of c.insert_full.new.self.keys) c.args.set.items c.self.invariant (omega arith)
+    AreNumbers-grows (lists_of c.self.inside.sets.keys) (lists_of c.insert_full.new.self.keys) c.args.set.items c.requires c.self.invariant (omega arith)
     (Grows-insert (lists_of c.self.inside.sets.keys) (lists_of c.insert_full.new.self.keys) c.args.set.items
     (lists_of-insert c.args.set c.self.inside.sets.keys c.insert_full.new.self.keys c.in_ok-place.ensures.keys))
 
 pub returns-clause-value : goal.returns-clause-value
 returns-clause-value c =
     let many = length-map c.self.inside.sets.keys (λ (v : Vec ℕ Global). v.items) in
-    let numbers = AreNumbers-grows (lists_of c.self.inside.sets.keys) (lists_of c.insert_full.new.self.keys) c.args.set.items c.self.invariant (omega arith)
+    let numbers = AreNumbers-grows (lists_of c.self.inside.sets.keys) (lists_of c.insert_full.new.self.keys) c.args.set.items c.requires c.self.invariant (omega arith)
     (Grows-insert (lists_of c.self.inside.sets.keys) (lists_of c.insert_full.new.self.keys) c.args.set.items
     (lists_of-insert c.args.set c.self.inside.sets.keys c.insert_full.new.self.keys c.in_ok-place.ensures.keys)) in
     let stored = c.in_ok-place.ensures.stored in
@@ -40,6 +40,6 @@ returns-clause-grows c = subst (λ (old : List (List ℕ)). Grows old (lists_of 
 pub returns-clause-numbers : goal.returns-clause-numbers
 returns-clause-numbers c =
     let many = length-map c.self.inside.sets.keys (λ (v : Vec ℕ Global). v.items) in
-    AreNumbers-grows (lists_of c.self.inside.sets.keys) (lists_of c.insert_full.new.self.keys) c.args.set.items c.self.invariant (omega arith)
+    AreNumbers-grows (lists_of c.self.inside.sets.keys) (lists_of c.insert_full.new.self.keys) c.args.set.items c.requires c.self.invariant (omega arith)
     (Grows-insert (lists_of c.self.inside.sets.keys) (lists_of c.insert_full.new.self.keys) c.args.set.items
     (lists_of-insert c.args.set c.self.inside.sets.keys c.insert_full.new.self.keys c.in_ok-place.ensures.keys))

@@ -1,6 +1,7 @@
 use Rattle.std.proofs.Common.{ℕ, List, Option, ap, sym, ◌∙◌, subst}
-use Rattle.gta_project.specs.Sets.{set_of}
+use Rattle.gta_project.specs.Sets.{set_of, IsSet}
 use Rattle.gta_project.specs.Numbers.{number_in, Grows}
+use Rattle.gta_project.proofs.SetsLemmas.{set_of-twice}
 use Rattle.gta_project.proofs.NumbersLemmas.{KeepsAnswers-grows, AnswersOnly-grows}
 use Rattle.gta_project.proofs.numbering.NumberingLeafRule.leaf.Goals as goal
 
@@ -12,3 +13,6 @@ returns-clause-only c = λ states answer there absent.
     AnswersOnly-grows c.args.self.now c.number.new.self c.args.states.now
     (subst (λ (set : List ℕ). Grows c.args.self.now c.number.new.self set) (c.in_ok-set.ensures ∙ ap set_of c.as_slice.ensures) c.number.ensures.grows)
     states answer there absent
+
+pub number-requires : goal.number-requires
+number-requires c = subst (λ (set : List ℕ). IsSet set) (sym c.in_ok-set.ensures) (set_of-twice c.as_slice.result.now)
