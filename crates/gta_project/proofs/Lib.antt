@@ -11,3 +11,5 @@ pub mod SameLemmas
 pub mod ShelfLemmas
 pub mod StartLemmas
 pub mod FillingLemmas
+pub mod PartLemmas
+pub mod CellsLemmas
