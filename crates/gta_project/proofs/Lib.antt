@@ -13,3 +13,6 @@ pub mod StartLemmas
 pub mod FillingLemmas
 pub mod PartLemmas
 pub mod CellsLemmas
+pub mod FinalLemmas
+pub mod LimitLemmas
+pub mod ProjectLemmas
