@@ -20,8 +20,8 @@ use Rattle.gta_theory.proofs.ListsLemmas.{Contains-map}
 use Rattle.gta_theory.proofs.SizesLemmas.{length-partners}
 use Rattle.gta_project.specs.Sets.{IsSet}
 use Rattle.gta_project.specs.Subsets.{subsets, IsInitial, AreInitial}
-use Rattle.gta_project.proofs.SetsLemmas.{set_of-twice, sets-same}
-use Rattle.gta_project.proofs.SubsetsLemmas.{set_step-has, set_step-only}
+use Rattle.gta_project.proofs.SetsLemmas.{sets-same}
+use Rattle.gta_project.proofs.SubsetsLemmas.{set_step-has, set_step-only, IsSet-step}
 use Rattle.gta_project.proofs.CellsLemmas.{get-index}
 use Rattle.gta_project.specs.Building.{IsStepFunction, ExceedsSteps}
 
@@ -166,7 +166,7 @@ module _ (g : Spaces) (guide : IsGuide g) (A : Automaton ℕ) (stable : IsStable
           let fixed = with_below under.below under.fixed label in
           let r : IsSeenAs s (part label) (f label) = record {
             set = Sets.step s step.at_left step.at_right fixed;
-            is_set = set_of-twice _;
+            is_set = IsSet-step A t s step.at_left step.at_right fixed;
             names = step-named s step.inside x.name y.name step.at_left step.at_right x.there y.there x.is y.is fixed;
             gives = under.states label ∙ step.states fixed;
           } in r in

@@ -62,7 +62,7 @@ same_pairs a b e = cc
 pub FitAll-set : (d : ℕ) (shelf now : Contents) (joiners : List Joiner) (old new : List (List (List ℕ))) (s : ℕ) (joiner : Joiner)
     (before after : List (List ℕ)) → Keeps shelf now → s < length joiners → FitAll d shelf joiners old → ChangesSpace old new s before after →
     Fits joiner (Some d) now (numbered after) → FitAll d now (slice_set joiners s joiner) new
-FitAll-set d shelf now joiners old new s joiner before after keeps within fits sets here = record {
+FitAll-set d shelf now joiners old new s joiner before after keeps within fits change here = record {
   many = length-set_at joiners s joiner ∙ fits.many ∙ sym change.many;
   each = λ t other sets at_joiner at_pairs. elim (eqb_tells t s) [
     | inl same ↦

@@ -10,10 +10,10 @@ use Rattle.gta_theory.specs.Constructions.{IsStepOf}
 use Rattle.gta_theory.proofs.ListsLemmas.{Contains-first, Contains-later, Contains-none, Contains-map, Contains-mapped, Contains-flat_map}
 use Rattle.gta_core.specs.Auto.{AutoView, root_at, automaton_of}
 use Rattle.gta_core.proofs.AutoLemmas.{step-some}
-use Rattle.gta_project.specs.Sets.{set_of}
+use Rattle.gta_project.specs.Sets.{set_of, IsSet}
 use Rattle.gta_project.specs.Subsets.{steps_on, set_step}
 use Rattle.gta_project.specs.Roots.{AreRoots}
-use Rattle.gta_project.proofs.SetsLemmas.{set_of-has, set_of-only, set_of-same}
+use Rattle.gta_project.proofs.SetsLemmas.{set_of-has, set_of-only, set_of-same, set_of-twice}
 
 Contains-flat_mapped : {X Y : Type 0} (f : X → List Y) (xs : List X) (y : Y) → Contains (flat_map f xs) y → (x : X) × Contains xs x × Contains (f x) y
 Contains-flat_mapped f [] y there = absurd (Contains-none y there)
@@ -87,6 +87,10 @@ set_step-same A t s lefts more_lefts rights more_rights label there back =
     (unset A t s more_lefts more_rights label 0 ++ both A t s more_lefts more_rights label 0)
     (λ q is. both-has A t s more_lefts more_rights label q (there q (both-only A t s lefts rights label q is)))
     (λ q is. both-has A t s lefts rights label q (back q (both-only A t s more_lefts more_rights label q is)))
+
+-- what a set steps to is a set
+pub IsSet-step : (A : Automaton ℕ) (t s : ℕ) (lefts rights : List ℕ) (label : Label) → IsSet (set_step A t s lefts rights label)
+IsSet-step A t s lefts rights label = set_of-twice (unset A t s lefts rights label 0 ++ both A t s lefts rights label 0)
 
 -- what roots ask
 module _ (shelf : Contents) (a : AutoView) (s : ℕ) (lefts rights : List ℕ) (roots : List NodeRef) (are : AreRoots shelf a s lefts rights roots)

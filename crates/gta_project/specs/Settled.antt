@@ -1,5 +1,5 @@
 -- Sets of which no more come, with a part for each space.
-use Rattle.std.specs.Prelude.{◌≡◌, ℕ, length, All}
+use Rattle.std.specs.Prelude.{◌≡◌, ℕ, List, length, All}
 use Rattle.bdd_nodes.specs.Shelf.{Contents, IsValid}
 use Rattle.gta_theory.specs.Guides.{Spaces}
 use Rattle.gta_theory.specs.Automata.{Automaton}
