@@ -36,7 +36,7 @@ ExtendAll-refl spaces = record {
     same_list a b e = cc
 
 pub ExtendAll-trans : (old middle new : List (List (List ℕ))) → ExtendAll old middle → ExtendAll middle new → ExtendAll old new
-ExtendAll-trans old middle new own = record {
+ExtendAll-trans old middle new first second = record {
   many = second.many ∙ first.many;
   each = λ s sets more was is.
       let between = get-index middle s (omega (arith, first.many, slice_get_within old s sets was)) in

@@ -23,7 +23,7 @@ loop-space-init c = record {
   many = ap (λ (ps : List Part). length ps) c.new-parts.ensures;
   parts = λ same. subst (λ (ps : List Part). AreParts c.args.g.now (subsets (automaton_of c.args.shelf.now c.args.a.now) c.args.track c.args.initials.now)
       c.args.a.now c.args.numbers.now.items c.args.numbers.now.items c.args.shelf.now c.args.roots.now ps) (sym c.new-parts.ensures)
-      (AreParts-none _ _ _ _ _ _ c.args.roots.now c.requires.none);
+      (AreParts-none _ _ _ _ _ c.args.roots.now c.requires.none);
 }
 
 pub part_of-requires-clause-auto : goal.part_of-requires-clause-auto

@@ -12,10 +12,10 @@ use Rattle.gta_project.proofs.projecting.settle.Goals as goal
 pub loop-round-init : goal.loop-round-init
 loop-round-init c =
     let Sets = subsets (automaton_of c.args.shelf.now c.args.a.now) c.args.track c.args.initials.now in
-    let are = c.in_ok-numbers.ensures c.args.shelf.now in
+    let are = c.in_ok-numbers.ensures (automaton_of c.args.shelf.now c.args.a.now) c.args.track in
     record {
       building = Building-start c.args.g.now Sets c.args.shelf.now c.in_ok-numbers.numbers.items c.count.ensures.shelf are;
-      fits = c.in_ok-joiners.ensures c.args.shelf.now c.in_ok-numbers.numbers.items are.many;
+      fits = c.in_ok-joiners.ensures c.args.track c.args.shelf.now c.in_ok-numbers.numbers.items are.many;
     }
 
 pub parts_of-requires-clause-auto : goal.parts_of-requires-clause-auto
@@ -121,3 +121,9 @@ loop-round-preserved c =
 
 pub returns-clause-leaves : goal.returns-clause-leaves
 returns-clause-leaves c = Leaves-building _ _ _ _ _ c.loop-round.invariant.building
+
+pub start-requires-clause-many : goal.start-requires-clause-many
+start-requires-clause-many c = c.requires.initials.many
+
+pub start-requires-clause-sets : goal.start-requires-clause-sets
+start-requires-clause-sets c = λ k set there. (c.requires.initials.each k set there).set
