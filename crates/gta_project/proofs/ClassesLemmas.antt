@@ -52,13 +52,20 @@ have-classes : (states one other : List ℕ) → All (λ q. q < length states) o
     classes_of states one ≡ classes_of states other → HaveClasses states one other
 have-classes states one other in_one in_other same = record {
   there = λ q is.
-      let r = key-only states other (slice_index states q) (subst (λ (key : List ℕ). Contains key (slice_index states q)) same (key-has states one q is)) in
-      (r.0, r.1, at q (All-contains (λ (n : ℕ). n < length states) one q in_one is) ∙ ap (λ (n : ℕ). let o : Option ℕ = Some n in o) (sym r.2)
-          ∙ sym (at r.0 (All-contains (λ (n : ℕ). n < length states) other r.0 in_other r.1)));
+      let r = key-only states other (slice_index states q) (subst (λ (key : List ℕ). Contains key (slice_index states q)) same (key-has states one q is)) in (
+        r.0,
+        r.1,
+        at q (All-contains (λ (n : ℕ). n < length states) one q in_one is) ∙ ap (λ (n : ℕ). let o : Option ℕ = Some n in o) (sym r.2)
+            ∙ sym (at r.0 (All-contains (λ (n : ℕ). n < length states) other r.0 in_other r.1)),
+      );
   back = λ r is.
-      let q = key-only states one (slice_index states r) (subst (λ (key : List ℕ). Contains key (slice_index states r)) (sym same) (key-has states other r is)) in
-      (q.0, q.1, at q.0 (All-contains (λ (n : ℕ). n < length states) one q.0 in_one q.1) ∙ ap (λ (n : ℕ). let o : Option ℕ = Some n in o) q.2
-          ∙ sym (at r (All-contains (λ (n : ℕ). n < length states) other r in_other is)));
+      let q = key-only states one (slice_index states r) (subst (λ (key : List ℕ). Contains key (slice_index states r)) (sym same)
+      (key-has states other r is)) in (
+        q.0,
+        q.1,
+        at q.0 (All-contains (λ (n : ℕ). n < length states) one q.0 in_one q.1) ∙ ap (λ (n : ℕ). let o : Option ℕ = Some n in o) q.2
+            ∙ sym (at r (All-contains (λ (n : ℕ). n < length states) other r in_other is)),
+      );
 }
   where
     at : (q : ℕ) → q < length states → slice_get states q ≡ Some (slice_index states q)

@@ -1,5 +1,6 @@
 -- Initial sets: what they have is settled, and when none grows they have all that is.
-use Rattle.std.proofs.Common.{◌≡◌, ◌≢◌, ℕ, zero, suc, ◌<◌, Bool, true, false, ◌||◌, if◌then◌else◌, List, [], ◌∷◌, ◌++◌, length, Option, Some, None, IsSome, Contains, slice_get, nat_eq}
+use Rattle.std.proofs.Common.{◌≡◌, ◌≢◌, ℕ, zero, suc, ◌<◌, Bool, true, false, ◌||◌, if◌then◌else◌}
+use Rattle.std.proofs.Common.{List, [], ◌∷◌, ◌++◌, length, Option, Some, None, IsSome, Contains, slice_get, nat_eq}
 use Rattle.std.proofs.Common.{refl, sym, ◌∙◌, ap, subst, inl, inr, arith, ◌⊎◌, ◌↔◌}
 use Rattle.std.specs.Prelude.{unwrap_or, ◌==◌}
 use Rattle.std.proofs.Math.Path.{fun_ext}
@@ -111,10 +112,13 @@ module _ (g : Spaces) (shelf : Contents) (a : AutoView) (auto : IsAuto g shelf a
 
   pub settled-known : (s : ℕ) → IsSpace g s → (sets : List (List ℕ)) → AreSettled g (automaton_of shelf a) t sets → (l r : ℕ) →
       Contains (set_at sets (left g s)) l → Contains (set_at sets (right g s)) r → IsSome (root_at shelf a s l r)
-  settled-known s inside sets are l r in_l in_r = (auto.complete s l r).1 (inside, (
-    settled-below (left g s) l (settled-at g (automaton_of shelf a) t sets are (left g s) l in_l),
-    settled-below (right g s) r (settled-at g (automaton_of shelf a) t sets are (right g s) r in_r),
-  ))
+  settled-known s inside sets are l r in_l in_r = (auto.complete s l r).1 (
+    inside,
+    (
+      settled-below (left g s) l (settled-at g (automaton_of shelf a) t sets are (left g s) l in_l),
+      settled-below (right g s) r (settled-at g (automaton_of shelf a) t sets are (right g s) r in_r),
+    ),
+  )
 
 pub some-is : {X : Type 0} (o : Option X) → IsSome o → (x : X) × (o ≡ Some x)
 some-is None some = absurd (false≢true some)

@@ -36,7 +36,8 @@ given_in spaces s = given_by (number_in (unwrap_or (slice_get spaces s) []))
 
 CompleteAll-given_in : (g : Spaces) (Sets : Automaton (List ℕ)) (spaces : List (List (List ℕ))) → CompleteAll g Sets spaces (given_in spaces)
 CompleteAll-given_in g Sets spaces = λ s numbers is.
-    subst (λ (o : Option (List (List ℕ))). Completes (number_in numbers) (given_by (number_in (unwrap_or o [])))) (sym is) (Completes-given_by (number_in numbers))
+    subst (λ (o : Option (List (List ℕ))). Completes (number_in numbers) (given_by (number_in (unwrap_or o [])))) (sym is) (Completes-given_by
+    (number_in numbers))
 
 pub limit-subset : (g : Spaces) → IsGuide g → (A : Automaton ℕ) → IsStable g A → (t : ℕ) (initials : List (List ℕ)) → AreInitial g A t initials →
     (first : Contents) (spaces : List (List (List ℕ))) →

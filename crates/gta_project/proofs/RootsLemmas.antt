@@ -60,13 +60,21 @@ module _ (shelf : Contents) (a : AutoView) (s : ℕ) where
       | inr last ↦
           let same_r = alone right r last in
           let same_l = alone left l in_l in
-          let found : x ≡ root = same_root x root (sym at ∙ ap (λ (n : ℕ). root_at shelf a s n r) (sym same_l) ∙ ap (root_at shelf a s left) (sym same_r) ∙ is) in
+          let found : x ≡ root = same_root x root (sym at ∙ ap (λ (n : ℕ). root_at shelf a s n r) (sym same_l) ∙ ap (root_at shelf a s left)
+          (sym same_r) ∙ is) in
           Contains-append_right now (root ∷ []) x (subst (λ (y : NodeRef). Contains (root ∷ []) y) (sym found) (Contains-first root []))
     ];
     only = λ x there. elim (Contains-append_cases now (root ∷ []) x there) [
       | inl before ↦ elim (adds.only x before) [
         | inl was ↦ inl was
-        | inr of ↦ inr (record { left = of.left; right = of.right; in_left = of.in_left; in_right = Contains-append_left rights (right ∷ []) of.right of.in_right; is = of.is })
+        | inr of ↦ inr (record {
+          left = of.left;
+          right = of.right;
+          in_left = of.in_left;
+          in_right = Contains-append_left rights
+              (right ∷ []) of.right of.in_right;
+          is = of.is;
+        })
       ]
       | inr last ↦ inr (record {
         left = left;
@@ -94,9 +102,23 @@ module _ (shelf : Contents) (a : AutoView) (s : ℕ) where
     only = λ x there. elim (step.only x there) [
       | inl before ↦ elim (adds.only x before) [
         | inl was ↦ inl was
-        | inr of ↦ inr (record { left = of.left; right = of.right; in_left = Contains-append_left lefts (left ∷ []) of.left of.in_left; in_right = of.in_right; is = of.is })
+        | inr of ↦ inr (record {
+          left = of.left;
+          right = of.right;
+          in_left = Contains-append_left lefts
+              (left ∷ []) of.left of.in_left;
+          in_right = of.in_right;
+          is = of.is;
+        })
       ]
-      | inr of ↦ inr (record { left = of.left; right = of.right; in_left = Contains-append_right lefts (left ∷ []) of.left of.in_left; in_right = of.in_right; is = of.is })
+      | inr of ↦ inr (record {
+        left = of.left;
+        right = of.right;
+        in_left = Contains-append_right lefts
+            (left ∷ []) of.left of.in_left;
+        in_right = of.in_right;
+        is = of.is;
+      })
     ];
   }
 

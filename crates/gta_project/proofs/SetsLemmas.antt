@@ -181,17 +181,22 @@ rises-above : (x : ℕ) (xs : List ℕ) → ((k : ℕ) → k + 1 < length (x ∷
 unfolding Above
 rises-above x [] up = tt
 rises-above x (y ∷ ys) up =
-    let less : x < y = up 0 (omega arith) in
-    (less, above-less x y ys less (rises-above y ys (λ k within.
-        let next : suc k + 1 ≡ suc (k + 1) = omega arith in
-        subst (λ (n : ℕ). slice_index (x ∷ y ∷ ys) (suc k) < slice_index (x ∷ y ∷ ys) n) next (up (suc k) (omega arith)))))
+    let less : x < y = up 0 (omega arith) in (
+      less,
+      above-less x y ys less (rises-above y ys (λ k within.
+          let next : suc k + 1 ≡ suc (k + 1) = omega arith in
+          subst (λ (n : ℕ). slice_index (x ∷ y ∷ ys) (suc k) < slice_index (x ∷ y ∷ ys) n) next (up (suc k) (omega arith)))),
+    )
 
 pub Rises-increasing : (xs : List ℕ) → IsStrictlyIncreasing xs → Rises xs
 unfolding Rises
 Rises-increasing [] up = tt
-Rises-increasing (x ∷ xs) up = (rises-above x xs up, Rises-increasing xs (λ k within.
-    let next : suc k + 1 ≡ suc (k + 1) = omega arith in
-    subst (λ (n : ℕ). slice_index (x ∷ xs) (suc k) < slice_index (x ∷ xs) n) next (up (suc k) (omega arith))))
+Rises-increasing (x ∷ xs) up = (
+  rises-above x xs up,
+  Rises-increasing xs (λ k within.
+      let next : suc k + 1 ≡ suc (k + 1) = omega arith in
+      subst (λ (n : ℕ). slice_index (x ∷ xs) (suc k) < slice_index (x ∷ xs) n) next (up (suc k) (omega arith))),
+)
 
 -- the test of a state
 pub has_state-true : (xs : List ℕ) (q : ℕ) → Contains xs q → IsTrue (has_state xs q)

@@ -17,10 +17,11 @@ use Rattle.gta_project.proofs.SetsLemmas.{set_of-has, set_of-only, set_of-same, 
 
 Contains-flat_mapped : {X Y : Type 0} (f : X → List Y) (xs : List X) (y : Y) → Contains (flat_map f xs) y → (x : X) × Contains xs x × Contains (f x) y
 Contains-flat_mapped f [] y there = absurd (Contains-none y there)
-Contains-flat_mapped {X} f (x ∷ xs) y there = elim (Contains-append_cases (f x) (flat_map f xs) y there) as (λ _. (z : X) × Contains (x ∷ xs) z × Contains (f z) y) [
-  | inl here ↦ (x, Contains-first x xs, here)
-  | inr later ↦ (let z = Contains-flat_mapped f xs y later in (z.0, Contains-later x z.0 xs z.1, z.2))
-]
+Contains-flat_mapped {X} f (x ∷ xs) y there = elim (Contains-append_cases (f x) (flat_map f xs) y there) as (λ _. (z : X) × Contains
+    (x ∷ xs) z × Contains (f z) y) [
+      | inl here ↦ (x, Contains-first x xs, here)
+      | inr later ↦ (let z = Contains-flat_mapped f xs y later in (z.0, Contains-later x z.0 xs z.1, z.2))
+    ]
 
 -- the parts of a step from two lists
 pub record StepsFrom (A : Automaton ℕ) (s : ℕ) (lefts rights : List ℕ) (label : Label) (q : ℕ) : Type 0 where

@@ -17,11 +17,7 @@ pub(crate) struct Classes {
 }
 
 /// The classes of sets, by the classes of states.
-pub(crate) fn classify(
-    alloc: Global,
-    sets: &Numbering,
-    states: &[u32],
-) -> Result<Classes, NoMemory>
+pub(crate) fn classify(alloc: Global, sets: &Numbering, states: &[u32]) -> Result<Classes, NoMemory>
     requires { (k : ℕ) (set : List ℕ) → slice_get sets.now k ≡ Some set → All (λ q. q < length states.now) set }
     ensures classes { IfOk result (AreClasses sets.now states.now) }
     ensures few { IfOk result (λ classes. length classes.ones ≤ 2 ^ 31) }
@@ -53,12 +49,7 @@ fn key_of(alloc: Global, set: &[u32], states: &[u32]) -> Result<Vec<u32>, NoMemo
 }
 
 /// Lets the set stand for the class, if that is new.
-fn note(
-    alloc: Global,
-    ones: &mut Items<StateList>,
-    class: u32,
-    set: &[u32],
-) -> Result<(), NoMemory>
+fn note(alloc: Global, ones: &mut Items<StateList>, class: u32, set: &[u32]) -> Result<(), NoMemory>
     ensures { OnOk result (Notes class set.now ones.old ones.new) }
 {
     if class as usize == ones.len() {

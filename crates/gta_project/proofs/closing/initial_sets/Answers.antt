@@ -11,7 +11,8 @@ loop-round-init c = subst (AreSettled c.args.g.now (automaton_of c.args.shelf.no
 pub loop-round-preserved : goal.loop-round-preserved
 loop-round-preserved c = AreSettled-next c.args.g.now (automaton_of c.args.shelf.now c.args.a.now) c.args.track c.loop-round.sets c.in_ok-next.next
     c.loop-round.invariant
-    (subst (λ (before : List (List ℕ)). AreNext c.args.g.now (automaton_of c.args.shelf.now c.args.a.now) c.args.track before c.in_ok-next.next) c.as_slice.ensures
+    (subst (λ (before : List (List ℕ)). AreNext c.args.g.now (automaton_of c.args.shelf.now c.args.a.now) c.args.track before c.in_ok-next.next)
+    c.as_slice.ensures
     c.in_ok-next.ensures)
 
 pub next_sets-requires-clause-settled : goal.next_sets-requires-clause-settled
@@ -21,7 +22,9 @@ next_sets-requires-clause-settled c = subst (AreSettled c.args.g.now (automaton_
 pub returns-then-are_same : goal.returns-then-are_same
 returns-then-are_same c =
     let A = automaton_of c.args.shelf.now c.args.a.now in
-    let same : c.in_ok-next.next ≡ c.loop-round.sets = sym c.as_slice-in-loop-round.ensures ∙ c.are_same.ensures c.if-are_same.true ∙ c.as_slice-in-loop-round-2.ensures in
-    let next = subst (λ (before : List (List ℕ)). AreNext c.args.g.now A c.args.track before c.in_ok-next.next) (c.as_slice.ensures ∙ sym same) c.in_ok-next.ensures in
+    let same : c.in_ok-next.next ≡ c.loop-round.sets = sym c.as_slice-in-loop-round.ensures ∙ c.are_same.ensures c.if-are_same.true ∙
+    c.as_slice-in-loop-round-2.ensures in
+    let next = subst (λ (before : List (List ℕ)). AreNext c.args.g.now A c.args.track before c.in_ok-next.next) (c.as_slice.ensures ∙ sym same)
+    c.in_ok-next.ensures in
     AreInitial-next c.args.g.now A c.args.track c.spaces.ensures.guide c.in_ok-next.next next
     (subst (AreSettled c.args.g.now A c.args.track) (sym same) c.loop-round.invariant)

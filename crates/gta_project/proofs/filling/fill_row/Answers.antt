@@ -15,7 +15,8 @@ pub join_cell-requires-clause-known : goal.join_cell-requires-clause-known
 join_cell-requires-clause-known c = λ l r in_l in_r.
     let i = c.loop-column.column-index in
     let column = c.as_slice-column.result.now in
-    let is : column ≡ get_or c.args.columns.now i column = c.as_slice-column.ensures ∙ c.column-item.is ∙ ap (get_or c.args.columns.now i) (sym c.as_slice-column.ensures) in
+    let is : column ≡ get_or c.args.columns.now i column = c.as_slice-column.ensures ∙ c.column-item.is ∙ ap (get_or c.args.columns.now i) (sym
+    c.as_slice-column.ensures) in
     let there : Contains c.args.columns.now column = (i, omega arith, sym is) in
     let joins = c.loop-column.invariant.joins in
     subst (λ (o : Option NodeRef). IsSome o)
@@ -26,7 +27,8 @@ pub returns-in_err-root-clause-joins : goal.returns-in_err-root-clause-joins
 returns-in_err-root-clause-joins c =
     let i = c.loop-column.column-index in
     let column = c.as_slice-column.result.now in
-    let is : column ≡ get_or c.args.columns.now i column = c.as_slice-column.ensures ∙ c.column-item.is ∙ ap (get_or c.args.columns.now i) (sym c.as_slice-column.ensures) in
+    let is : column ≡ get_or c.args.columns.now i column = c.as_slice-column.ensures ∙ c.column-item.is ∙ ap (get_or c.args.columns.now i) (sym
+    c.as_slice-column.ensures) in
     let there : Contains c.args.columns.now column = (i, omega arith, sym is) in
     Joins-next c.args.a.now c.args.track c.args.space (c.args.row.now ∷ []) c.args.columns.now (c.args.row.now ∷ []) (column ∷ [])
     (λ x there. there) (in-alone c.args.columns.now column there)
@@ -37,7 +39,8 @@ pub returns-in_err-root-clause-limit : goal.returns-in_err-root-clause-limit
 returns-in_err-root-clause-limit c = λ stopped given completes.
     let i = c.loop-column.column-index in
     let column = c.as_slice-column.result.now in
-    let is : column ≡ get_or c.args.columns.now i column = c.as_slice-column.ensures ∙ c.column-item.is ∙ ap (get_or c.args.columns.now i) (sym c.as_slice-column.ensures) in
+    let is : column ≡ get_or c.args.columns.now i column = c.as_slice-column.ensures ∙ c.column-item.is ∙ ap (get_or c.args.columns.now i) (sym
+    c.as_slice-column.ensures) in
     let there : Contains c.args.columns.now column = (i, omega arith, sym is) in
     ExceedsCells-next c.args.a.now c.args.track c.args.space (c.args.row.now ∷ []) c.args.columns.now (c.args.row.now ∷ []) (column ∷ [])
     (λ x there. there) (in-alone c.args.columns.now column there)
@@ -49,7 +52,8 @@ pub returns-in_err-push-clause-joins : goal.returns-in_err-push-clause-joins
 returns-in_err-push-clause-joins c =
     let i = c.loop-column.column-index in
     let column = c.as_slice-column.result.now in
-    let is : column ≡ get_or c.args.columns.now i column = c.as_slice-column.ensures ∙ c.column-item.is ∙ ap (get_or c.args.columns.now i) (sym c.as_slice-column.ensures) in
+    let is : column ≡ get_or c.args.columns.now i column = c.as_slice-column.ensures ∙ c.column-item.is ∙ ap (get_or c.args.columns.now i) (sym
+    c.as_slice-column.ensures) in
     let there : Contains c.args.columns.now column = (i, omega arith, sym is) in
     Joins-next c.args.a.now c.args.track c.args.space (c.args.row.now ∷ []) c.args.columns.now (c.args.row.now ∷ []) (column ∷ [])
     (λ x there. there) (in-alone c.args.columns.now column there)
@@ -61,7 +65,8 @@ loop-column-preserved c =
     let i = c.loop-column.column-index in
     let columns = c.args.columns.now in
     let column = c.as_slice-column.result.now in
-    let is : column ≡ get_or c.args.columns.now i column = c.as_slice-column.ensures ∙ c.column-item.is ∙ ap (get_or c.args.columns.now i) (sym c.as_slice-column.ensures) in
+    let is : column ≡ get_or c.args.columns.now i column = c.as_slice-column.ensures ∙ c.column-item.is ∙ ap (get_or c.args.columns.now i) (sym
+    c.as_slice-column.ensures) in
     let there : Contains c.args.columns.now column = (i, omega arith, sym is) in
     let invariant = c.loop-column.invariant in
     let both = set_step (automaton_of c.args.shelf.now c.args.a.now) c.args.track in

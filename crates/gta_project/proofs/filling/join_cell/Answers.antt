@@ -15,7 +15,8 @@ returns-in_err-made-clause-joins c =
     let are = subst (λ (rs : List NodeRef). AreRoots shelf a c.args.space c.args.left.now c.args.right.now rs) (sym c.as_slice.ensures.value)
     c.in_ok-roots.ensures in
     let known = λ (l r : ℕ) (in_l : Contains c.args.left.now l) (in_r : Contains c.args.right.now r).
-    let k : (root : NodeRef) × (root_at shelf a c.args.space l r ≡ Some root) = some-is (root_at shelf a c.args.space l r) (c.requires.known l r in_l in_r) in k in
+    let k : (root : NodeRef) × (root_at shelf a c.args.space l r ≡ Some root) = some-is (root_at shelf a c.args.space l r)
+    (c.requires.known l r in_l in_r) in k in
     let e = c.join-joined.ensures in
     Joins-one a c.args.track c.args.space c.args.left.now c.args.right.now shelf c.join-joined.new.shelf roots are known c.args.numbers.now
     c.join-joined.new.rule c.len.ensures.numbers c.len-2.ensures.numbers
@@ -29,7 +30,8 @@ returns-in_err-made-clause-limit c = λ stopped given completes.
     let are = subst (λ (rs : List NodeRef). AreRoots shelf a c.args.space c.args.left.now c.args.right.now rs) (sym c.as_slice.ensures.value)
     c.in_ok-roots.ensures in
     let known = λ (l r : ℕ) (in_l : Contains c.args.left.now l) (in_r : Contains c.args.right.now r).
-    let k : (root : NodeRef) × (root_at shelf a c.args.space l r ≡ Some root) = some-is (root_at shelf a c.args.space l r) (c.requires.known l r in_l in_r) in k in
+    let k : (root : NodeRef) × (root_at shelf a c.args.space l r ≡ Some root) = some-is (root_at shelf a c.args.space l r)
+    (c.requires.known l r in_l in_r) in k in
     let e = c.join-joined.ensures in
     ExceedsCells-one a c.args.track c.args.space c.args.left.now c.args.right.now shelf c.join-joined.new.shelf roots are known c.args.numbers.now
     c.join-joined.new.rule c.len.ensures.numbers c.len-2.ensures.numbers given completes
@@ -43,7 +45,8 @@ returns-clause-joins c =
     let are = subst (λ (rs : List NodeRef). AreRoots shelf a c.args.space c.args.left.now c.args.right.now rs) (sym c.as_slice.ensures.value)
     c.in_ok-roots.ensures in
     let known = λ (l r : ℕ) (in_l : Contains c.args.left.now l) (in_r : Contains c.args.right.now r).
-    let k : (root : NodeRef) × (root_at shelf a c.args.space l r ≡ Some root) = some-is (root_at shelf a c.args.space l r) (c.requires.known l r in_l in_r) in k in
+    let k : (root : NodeRef) × (root_at shelf a c.args.space l r ≡ Some root) = some-is (root_at shelf a c.args.space l r)
+    (c.requires.known l r in_l in_r) in k in
     let e = c.join-joined.ensures in
     Joins-one a c.args.track c.args.space c.args.left.now c.args.right.now shelf c.join-joined.new.shelf roots are known c.args.numbers.now
     c.join-joined.new.rule c.len.ensures.numbers c.len-2.ensures.numbers
@@ -57,7 +60,8 @@ returns-clause-cell c =
     let are = subst (λ (rs : List NodeRef). AreRoots shelf a c.args.space c.args.left.now c.args.right.now rs) (sym c.as_slice.ensures.value)
     c.in_ok-roots.ensures in
     let known = λ (l r : ℕ) (in_l : Contains c.args.left.now l) (in_r : Contains c.args.right.now r).
-    let k : (root : NodeRef) × (root_at shelf a c.args.space l r ≡ Some root) = some-is (root_at shelf a c.args.space l r) (c.requires.known l r in_l in_r) in k in
+    let k : (root : NodeRef) × (root_at shelf a c.args.space l r ≡ Some root) = some-is (root_at shelf a c.args.space l r)
+    (c.requires.known l r in_l in_r) in k in
     let e = c.join-joined.ensures in
     IsCell-one a c.args.track c.args.space c.args.left.now c.args.right.now shelf c.join-joined.new.shelf roots are known c.args.numbers.now
     c.join-joined.new.rule c.len.ensures.numbers c.len-2.ensures.numbers

@@ -264,7 +264,8 @@ returns-in_err-fill-clause-limit c = λ stopped start building given completes.
     let was = get-at items s before (omega (arith, c.requires.spaces.many, inside)) c.index_mut-2.ensures.value in
     let change = ChangesSpace-at items s before after was in
     ExceedsSteps-set g Sets s inside items (slice_set items s after) lefts rights before after c.requires.spaces change at_left at_right
-    c.as_slice-3.result.now c.as_slice-4.result.now in_rows in_columns shelf c.fill.new.shelf c.fill.ensures.joins c.fill.ensures.numbers start building given completes
+    c.as_slice-3.result.now c.as_slice-4.result.now in_rows in_columns shelf c.fill.new.shelf c.fill.ensures.joins
+    c.fill.ensures.numbers start building given completes
     (c.fill.ensures.limit (let why = rw stopped at c.from_residual-in_err-fill.ensures in c.in_err-fill.was ∙ (let is = why.1 in cc)) (given s)
     (completes s after change.is))
 

@@ -34,7 +34,8 @@ part_of-requires-clause-auto c =
 pub part_of-requires-clause-initials : goal.part_of-requires-clause-initials
 part_of-requires-clause-initials c =
     let inv = c.loop-space.invariant in
-    initial-kept c.args.shelf.now c.loop-space.shelf c.count.ensures.shelf inv.keeps inv.tables c.args.g.now c.args.a.now c.args.track c.args.initials.now c.requires.initials
+    initial-kept c.args.shelf.now c.loop-space.shelf c.count.ensures.shelf inv.keeps inv.tables c.args.g.now c.args.a.now c.args.track
+    c.args.initials.now c.requires.initials
 
 pub part_of-requires-clause-spaces : goal.part_of-requires-clause-spaces
 part_of-requires-clause-spaces c =

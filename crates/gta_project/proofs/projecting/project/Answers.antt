@@ -104,10 +104,10 @@ returns-clause-subset c =
     subst (λ (v : AutoView). IsSubsetOf c.args.g.now (automaton_of shelf a) t (automaton_of c.from_parts.new.shelf v) (states_of v)) (sym is)
     (record {
       member = member_of c.args.g.now guide shelf now a c.requires t initials are_initial numbers settled.building.are
-    c.in_ok-settled.settled.parts settled.many c.in_ok-settled.settled.roots settled.parts (tables_added now) root_sets at_root
+          c.in_ok-settled.settled.parts settled.many c.in_ok-settled.settled.roots settled.parts (tables_added now) root_sets at_root
           c.from_parts.new.shelf adds;
       subset = IsSubset-made c.args.g.now guide shelf now a c.requires t initials are_initial numbers settled.building.are
-    c.in_ok-settled.settled.parts settled.many c.in_ok-settled.settled.roots settled.parts (tables_added now) root_sets at_root
+          c.in_ok-settled.settled.parts settled.many c.in_ok-settled.settled.roots settled.parts (tables_added now) root_sets at_root
           c.from_parts.new.shelf adds;
     })
 

@@ -26,13 +26,15 @@ parts_of-requires-clause-auto c =
 pub parts_of-requires-clause-initials : goal.parts_of-requires-clause-initials
 parts_of-requires-clause-initials c =
     let inv = c.loop-round.invariant in
-    initial-kept c.args.shelf.now c.loop-round.shelf c.count.ensures.shelf inv.building.keeps inv.building.tables c.args.g.now c.args.a.now c.args.track c.args.initials.now c.requires.initials
+    initial-kept c.args.shelf.now c.loop-round.shelf c.count.ensures.shelf inv.building.keeps inv.building.tables c.args.g.now c.args.a.now
+    c.args.track c.args.initials.now c.requires.initials
 
 pub parts_of-requires-clause-spaces : goal.parts_of-requires-clause-spaces
 parts_of-requires-clause-spaces c =
     let Sets = subsets (automaton_of c.args.shelf.now c.args.a.now) c.args.track c.args.initials.now in
     let inv = c.loop-round.invariant in
-    let same = subsets-kept c.args.shelf.now c.loop-round.shelf c.count.ensures.shelf inv.building.keeps inv.building.tables c.args.a.now c.args.track c.args.initials.now in
+    let same = subsets-kept c.args.shelf.now c.loop-round.shelf c.count.ensures.shelf inv.building.keeps inv.building.tables c.args.a.now
+    c.args.track c.args.initials.now in
     subst (λ (X : Automaton (List ℕ)). AreSpaces c.args.g.now X c.loop-round.numbers.items) (sym same) inv.building.are
 
 pub returns-in_err-numbers-clause-leaves : goal.returns-in_err-numbers-clause-leaves
@@ -48,7 +50,8 @@ pub returns-in_err-parts-clause-leaves : goal.returns-in_err-parts-clause-leaves
 returns-in_err-parts-clause-leaves c =
     let Sets = subsets (automaton_of c.args.shelf.now c.args.a.now) c.args.track c.args.initials.now in
     let inv = c.loop-round.invariant in
-    let same = subsets-kept c.args.shelf.now c.loop-round.shelf c.count.ensures.shelf inv.building.keeps inv.building.tables c.args.a.now c.args.track c.args.initials.now in
+    let same = subsets-kept c.args.shelf.now c.loop-round.shelf c.count.ensures.shelf inv.building.keeps inv.building.tables c.args.a.now
+    c.args.track c.args.initials.now in
     let next = subst (λ (X : Automaton (List ℕ)). Building c.args.g.now X c.args.shelf.now c.parts_of.new.shelf c.parts_of.new.numbers.items) same
     (c.parts_of.ensures.building c.args.shelf.now (subst (λ (X : Automaton (List ℕ)). Building c.args.g.now X c.args.shelf.now c.loop-round.shelf
     c.loop-round.numbers.items) (sym same) inv.building)) in
@@ -58,7 +61,8 @@ pub returns-in_err-parts-clause-limit : goal.returns-in_err-parts-clause-limit
 returns-in_err-parts-clause-limit c = λ stopped.
     let Sets = subsets (automaton_of c.args.shelf.now c.args.a.now) c.args.track c.args.initials.now in
     let inv = c.loop-round.invariant in
-    let same = subsets-kept c.args.shelf.now c.loop-round.shelf c.count.ensures.shelf inv.building.keeps inv.building.tables c.args.a.now c.args.track c.args.initials.now in
+    let same = subsets-kept c.args.shelf.now c.loop-round.shelf c.count.ensures.shelf inv.building.keeps inv.building.tables c.args.a.now
+    c.args.track c.args.initials.now in
     let was = subst (λ (X : Automaton (List ℕ)). Building c.args.g.now X c.args.shelf.now c.loop-round.shelf c.loop-round.numbers.items) (sym same)
     inv.building in
     record {
@@ -72,7 +76,8 @@ pub returns-in_err-after-clause-leaves : goal.returns-in_err-after-clause-leaves
 returns-in_err-after-clause-leaves c =
     let Sets = subsets (automaton_of c.args.shelf.now c.args.a.now) c.args.track c.args.initials.now in
     let inv = c.loop-round.invariant in
-    let same = subsets-kept c.args.shelf.now c.loop-round.shelf c.count.ensures.shelf inv.building.keeps inv.building.tables c.args.a.now c.args.track c.args.initials.now in
+    let same = subsets-kept c.args.shelf.now c.loop-round.shelf c.count.ensures.shelf inv.building.keeps inv.building.tables c.args.a.now
+    c.args.track c.args.initials.now in
     let next = subst (λ (X : Automaton (List ℕ)). Building c.args.g.now X c.args.shelf.now c.parts_of.new.shelf c.parts_of.new.numbers.items) same
     (c.parts_of.ensures.building c.args.shelf.now (subst (λ (X : Automaton (List ℕ)). Building c.args.g.now X c.args.shelf.now c.loop-round.shelf
     c.loop-round.numbers.items) (sym same) inv.building)) in
@@ -82,7 +87,8 @@ pub returns-then-are_same-clause-leaves : goal.returns-then-are_same-clause-leav
 returns-then-are_same-clause-leaves c =
     let Sets = subsets (automaton_of c.args.shelf.now c.args.a.now) c.args.track c.args.initials.now in
     let inv = c.loop-round.invariant in
-    let same = subsets-kept c.args.shelf.now c.loop-round.shelf c.count.ensures.shelf inv.building.keeps inv.building.tables c.args.a.now c.args.track c.args.initials.now in
+    let same = subsets-kept c.args.shelf.now c.loop-round.shelf c.count.ensures.shelf inv.building.keeps inv.building.tables c.args.a.now
+    c.args.track c.args.initials.now in
     let next = subst (λ (X : Automaton (List ℕ)). Building c.args.g.now X c.args.shelf.now c.parts_of.new.shelf c.parts_of.new.numbers.items) same
     (c.parts_of.ensures.building c.args.shelf.now (subst (λ (X : Automaton (List ℕ)). Building c.args.g.now X c.args.shelf.now c.loop-round.shelf
     c.loop-round.numbers.items) (sym same) inv.building)) in
@@ -92,7 +98,8 @@ pub returns-then-are_same-clause-settled : goal.returns-then-are_same-clause-set
 returns-then-are_same-clause-settled c =
     let Sets = subsets (automaton_of c.args.shelf.now c.args.a.now) c.args.track c.args.initials.now in
     let inv = c.loop-round.invariant in
-    let same = subsets-kept c.args.shelf.now c.loop-round.shelf c.count.ensures.shelf inv.building.keeps inv.building.tables c.args.a.now c.args.track c.args.initials.now in
+    let same = subsets-kept c.args.shelf.now c.loop-round.shelf c.count.ensures.shelf inv.building.keeps inv.building.tables c.args.a.now
+    c.args.track c.args.initials.now in
     let next = subst (λ (X : Automaton (List ℕ)). Building c.args.g.now X c.args.shelf.now c.parts_of.new.shelf c.parts_of.new.numbers.items) same
     (c.parts_of.ensures.building c.args.shelf.now (subst (λ (X : Automaton (List ℕ)). Building c.args.g.now X c.args.shelf.now c.loop-round.shelf
     c.loop-round.numbers.items) (sym same) inv.building)) in
@@ -113,7 +120,8 @@ pub loop-round-preserved : goal.loop-round-preserved
 loop-round-preserved c =
     let Sets = subsets (automaton_of c.args.shelf.now c.args.a.now) c.args.track c.args.initials.now in
     let inv = c.loop-round.invariant in
-    let same = subsets-kept c.args.shelf.now c.loop-round.shelf c.count.ensures.shelf inv.building.keeps inv.building.tables c.args.a.now c.args.track c.args.initials.now in
+    let same = subsets-kept c.args.shelf.now c.loop-round.shelf c.count.ensures.shelf inv.building.keeps inv.building.tables c.args.a.now
+    c.args.track c.args.initials.now in
     let next = subst (λ (X : Automaton (List ℕ)). Building c.args.g.now X c.args.shelf.now c.parts_of.new.shelf c.parts_of.new.numbers.items) same
     (c.parts_of.ensures.building c.args.shelf.now (subst (λ (X : Automaton (List ℕ)). Building c.args.g.now X c.args.shelf.now c.loop-round.shelf
     c.loop-round.numbers.items) (sym same) inv.building)) in

@@ -17,7 +17,8 @@ invariant_of-self-2 c =
 pub returns-clause-value : goal.returns-clause-value
 returns-clause-value c =
     let many = length-map c.self.inside.sets.keys (λ (v : Vec ℕ Global). v.items) in
-    let numbers = AreNumbers-grows (lists_of c.self.inside.sets.keys) (lists_of c.insert_full.new.self.keys) c.args.set.items c.requires c.self.invariant (omega arith)
+    let numbers = AreNumbers-grows (lists_of c.self.inside.sets.keys) (lists_of c.insert_full.new.self.keys) c.args.set.items c.requires
+    c.self.invariant (omega arith)
     (Grows-insert (lists_of c.self.inside.sets.keys) (lists_of c.insert_full.new.self.keys) c.args.set.items
     (lists_of-insert c.args.set c.self.inside.sets.keys c.insert_full.new.self.keys c.in_ok-place.ensures.keys)) in
     let stored = c.in_ok-place.ensures.stored in
