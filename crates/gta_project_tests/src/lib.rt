@@ -1,4 +1,4 @@
-//! Tests of projections: states, Sizes and acceptance worked out by hand. The crate has nothing else.
+//! Tests of projections: states and acceptance worked out by hand. The crate has nothing else.
 #![tactic(auto)]
 
 #[cfg(test)]

@@ -1,5 +1,7 @@
-//! What projections accept, and how many states they have.
+//! How many states projections have, and which of them accept the tree of one node without tracks.
 
+ghost use Rattle.std.specs.Prelude.{IfOk};
+ghost use Rattle.bdd_nodes.specs.Shelf.{IsShelf};
 ghost use Rattle.gta_core.specs.Auto.{IsAuto};
 ghost use Rattle.gta_atom.specs.Atom.{IsAtom};
 
@@ -13,58 +15,87 @@ use std::alloc::{AllocError, Global};
 use std::test::Fail;
 use ws2s_core::{Formula, Guide, LabelTree, Track, TreeNode};
 
-/// A tree of one node with these tracks.
-fn leaf(alloc: Global, tracks: &[Track]) -> Result<LabelTree, AllocError> {
+/// The tree of one node without tracks.
+fn bare(alloc: Global) -> Result<LabelTree, AllocError> {
     let mut nodes = Items::new(alloc);
     nodes.push(TreeNode {
-        tracks: Items::from_slice(alloc, tracks)?,
+        tracks: Items::new(alloc),
         left: None,
         right: None,
     })?;
     Ok(LabelTree::new(nodes))
 }
 
-/// How many states the space has, and whether the tree of one node without tracks is accepted.
-fn seen(alloc: Global, a: &Auto, shelf: &Shelf) -> Result<(Option<u32>, bool), Fail> {
-    let tree = leaf(alloc, &[])?;
-    Ok((a.states(0), accepts(alloc, a, shelf, &tree)?))
+/// How many states the projection has in space 0, and whether it accepts the bare tree.
+fn projected(
+    alloc: Global,
+    g: &Guide,
+    a: &Auto,
+    track: u32,
+    shelf: &mut Shelf,
+) -> Result<(Option<u32>, bool), Fail>
+    requires { IsAuto g.now shelf.old a.now }
+{
+    let b = project(alloc, g, a, Track(track), shelf)?;
+    let tree = bare(alloc)?;
+    Ok((b.states(0), accepts(alloc, &b, shelf, &tree)?))
 }
 
-fn of_atom(alloc: Global, g: &Guide, f: &Formula, t: Track) -> Result<(Option<u32>, bool), Fail>
+/// The same of the automaton of an atom.
+fn of_atom(alloc: Global, g: &Guide, f: &Formula, track: u32) -> Result<(Option<u32>, bool), Fail>
     requires { IsAtom f.now }
 {
-    let mut shelf = Shelf::open(alloc, 1000)?;
+    let mut shelf = Shelf::open(alloc, 100)?;
     let a = atom(alloc, g, f, &mut shelf)?;
-    let b = project(alloc, g, &a, t, &mut shelf)?;
-    seen(alloc, &b, &shelf)
+    projected(alloc, g, &a, track, &mut shelf)
 }
 
-fn of_product(alloc: Global, g: &Guide, f: &Formula, h: &Formula, t: Track) -> Result<(Option<u32>, bool), Fail>
+/// The product of the automata of two atoms.
+fn both(alloc: Global, g: &Guide, f: &Formula, h: &Formula, shelf: &mut Shelf) -> Result<Auto, Fail>
+    requires one { IsAtom f.now }
+    requires other { IsAtom h.now }
+    ensures auto { IfOk result (IsAuto g.now shelf.new) }
 {
-    let mut shelf = Shelf::open(alloc, 1000)?;
-    let a = atom(alloc, g, f, &mut shelf)?;
-    let b = atom(alloc, g, h, &mut shelf)?;
-    let c = product(alloc, g, &a, &b, &mut shelf)?;
-    let d = project(alloc, g, &c, t, &mut shelf)?;
-    seen(alloc, &d, &shelf)
+    let a = atom(alloc, g, f, shelf)?;
+    let b = atom(alloc, g, h, shelf)?;
+    Ok(product(alloc, g, &a, &b, shelf)?)
 }
 
 #[test]
-fn worked(rt: HostRuntime) -> Result<(), Fail> {
+fn atoms_are_projected(rt: HostRuntime) -> Result<(), Fail> {
     let alloc = rt.alloc();
     let plain = Guide::plain(alloc)?;
     let three = Guide::new(alloc, Items::from_slice(alloc, &[(1, 2), (1, 1), (2, 2)])?)?;
-    let x = of_atom(alloc, &plain, &Formula::Single(Track(0)), Track(0))?;
-    println!(rt; "single by 0: {x:?}")?;
-    let x = of_atom(alloc, &three, &Formula::Single(Track(0)), Track(0))?;
-    println!(rt; "single by 0, three: {x:?}")?;
-    let x = of_atom(alloc, &plain, &Formula::Single(Track(0)), Track(3))?;
-    println!(rt; "single by 3: {x:?}")?;
-    let x = of_atom(alloc, &plain, &Formula::Sub(Track(0), Track(1)), Track(0))?;
-    println!(rt; "sub 0 1 by 0: {x:?}")?;
-    let x = of_atom(alloc, &plain, &Formula::Succ0(Track(0), Track(1)), Track(1))?;
-    println!(rt; "succ0 0 1 by 1: {x:?}")?;
-    let x = of_product(alloc, &plain, &Formula::Root(Track(1)), &Formula::Sub(Track(1), Track(0)), Track(1))?;
-    println!(rt; "product: {x:?}")?;
+    let single = Formula::Single(Track(0));
+    let sub = Formula::Sub(Track(0), Track(1));
+    assert!(rt;
+        of_atom(alloc, &plain, &single, 0)? == (Some(1), true),
+        "all states at once"
+    );
+    assert!(rt;
+        of_atom(alloc, &three, &single, 0)? == (Some(1), true),
+        "three spaces"
+    );
+    assert!(rt;
+        of_atom(alloc, &plain, &single, 3)? == (Some(3), false),
+        "a track that isn't there"
+    );
+    assert!(rt;
+        of_atom(alloc, &plain, &sub, 0)? == (Some(1), true),
+        "the empty set is inside"
+    );
+    Ok(())
+}
+
+#[test]
+fn a_product_is_projected(rt: HostRuntime) -> Result<(), Fail> {
+    let alloc = rt.alloc();
+    let plain = Guide::plain(alloc)?;
+    let mut shelf = Shelf::open(alloc, 100)?;
+    let root = Formula::Root(Track(1));
+    let sub = Formula::Sub(Track(1), Track(0));
+    let a = both(alloc, &plain, &root, &sub, &mut shelf)?;
+    assert!(rt; a.states(0) == Some(5));
+    assert!(rt; projected(alloc, &plain, &a, 1, &mut shelf)? == (Some(4), false));
     Ok(())
 }
