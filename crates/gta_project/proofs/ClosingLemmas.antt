@@ -1,13 +1,13 @@
 -- Initial sets: what they have is settled, and when none grows they have all that is.
-use Rattle.std.proofs.Common.{◌≡◌, ◌≢◌, ℕ, zero, suc, ◌<◌, Bool, true, false, ◌||◌, if◌then◌else◌}
+use Rattle.std.proofs.Common.{◌≡◌, ℕ, zero, suc, ◌<◌, Bool, true, false, ◌||◌, if◌then◌else◌}
 use Rattle.std.proofs.Common.{List, [], ◌∷◌, ◌++◌, length, Option, Some, None, IsSome, Contains, slice_get, nat_eq}
-use Rattle.std.proofs.Common.{refl, sym, ◌∙◌, ap, subst, inl, inr, arith, ◌⊎◌, ◌↔◌}
+use Rattle.std.proofs.Common.{refl, sym, ◌∙◌, ap, subst, inl, inr, arith, ◌⊎◌}
 use Rattle.std.specs.Prelude.{unwrap_or, ◌==◌}
 use Rattle.std.proofs.Math.Path.{fun_ext}
-use Rattle.std.proofs.lemmas.Bool.{cases_Bool, eqb-true, eq-eqb, false≢true}
+use Rattle.std.proofs.lemmas.Bool.{eqb-true, eq-eqb, false≢true}
 use Rattle.std.proofs.lemmas.Option.{slice_get_within}
-use Rattle.std.proofs.lemmas.List.Elements.{Contains-append_left, Contains-append_right, Contains-append_cases}
-use Rattle.labels.specs.Labels.{Label, empty_label, with_track, HasAtMost}
+use Rattle.std.proofs.lemmas.List.Elements.{Contains-append_right}
+use Rattle.labels.specs.Labels.{Label, empty_label, with_track}
 use Rattle.labels.proofs.LabelsLemmas.{with_track-at_most, HasAtMost-with_track}
 use Rattle.bdd_nodes.specs.declared.node_ref.NodeRef.{NodeRef}
 use Rattle.bdd_nodes.specs.Shelf.{Contents, label_of}
@@ -19,7 +19,7 @@ use Rattle.gta_theory.specs.Numbered.{Below}
 use Rattle.gta_theory.proofs.ListsLemmas.{Contains-first, Contains-cases, Contains-none}
 use Rattle.gta_core.specs.Auto.{AutoView, states_of, initial_of, root_at, automaton_of, IsAuto}
 use Rattle.gta_project.specs.Sets.{set_of}
-use Rattle.gta_project.specs.Subsets.{IsInitial, AreInitial}
+use Rattle.gta_project.specs.Subsets.{AreInitial}
 use Rattle.gta_project.specs.Roots.{AreRoots}
 use Rattle.gta_project.specs.Closing.{set_at, IsNext, AreNext, AreSettled}
 use Rattle.gta_project.proofs.SetsLemmas.{set_of-has, set_of-only, set_of-twice}

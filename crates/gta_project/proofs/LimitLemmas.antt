@@ -1,5 +1,5 @@
 -- What has no room is no more than the Size of the projection.
-use Rattle.std.proofs.Common.{◌≡◌, ◌≢◌, ℕ, zero, suc, ◌+◌, ◌<◌, ◌≤◌, Bool, List, [], ◌∷◌, ◌++◌, map, length, length-append, Option, Contains, ◌↔◌, refl}
+use Rattle.std.proofs.Common.{◌≡◌, ◌≢◌, ℕ, zero, suc, ◌+◌, ◌<◌, ◌≤◌, Bool, List, [], ◌++◌, map, length, length-append, Option, Contains, ◌↔◌, refl}
 use Rattle.std.proofs.Common.{sym, ◌∙◌, ap, subst, inl, inr, arith}
 use Rattle.std.specs.Prelude.{IsTrue, unwrap_or}
 use Rattle.std.specs.List.{All, AllPairs}

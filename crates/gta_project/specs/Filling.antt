@@ -1,5 +1,5 @@
 -- What joins for the sets of classes of a space have done: their roots, the numbers of new sets, and the nodes.
-use Rattle.std.specs.Prelude.{◌≡◌, ℕ, ◌+◌, ◌*◌, List, [], ◌∷◌, length, Some, All, Contains, ◌⊎◌, slice_get}
+use Rattle.std.specs.Prelude.{◌≡◌, ℕ, ◌+◌, ◌*◌, List, length, Some, All, Contains, ◌⊎◌, slice_get}
 use Rattle.labels.specs.Labels.{Label, Function}
 use Rattle.bdd_nodes.specs.declared.node_ref.NodeRef.{NodeRef}
 use Rattle.bdd_nodes.specs.Shelf.{Contents, IsShelf, IsValid, state_of, limit_of}

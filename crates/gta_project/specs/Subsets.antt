@@ -1,12 +1,11 @@
 -- The automaton of sets of states, as it is computed. (The subset construction; textbook: Comon and others, Tree Automata
 -- Techniques and Applications, chapter 1.)
-use Rattle.std.specs.Prelude.{◌≡◌, ℕ, Bool, true, false, ◌↔◌, List, [], ◌++◌, map, length, Some, unwrap_or, Contains, slice_get}
+use Rattle.std.specs.Prelude.{◌≡◌, ℕ, true, false, ◌↔◌, List, [], ◌++◌, map, length, Some, unwrap_or, Contains, slice_get}
 use Rattle.std.specs.List.{flat_map, list_any}
 use Rattle.labels.specs.Labels.{Label, with_track}
 use Rattle.gta_theory.specs.Guides.{Spaces}
 use Rattle.gta_theory.specs.Automata.{Automaton}
-use Rattle.gta_theory.specs.Constructions.{Settled, IsSubset}
-use Rattle.gta_theory.specs.Numbered.{Below}
+use Rattle.gta_theory.specs.Constructions.{Settled}
 use Rattle.gta_project.specs.Sets.{set_of, IsSet}
 
 -- what steps on the label make of a state of each list

@@ -1,13 +1,12 @@
 //! How many states projections have, and which of them accept the tree of one node without tracks.
 
 ghost use Rattle.std.specs.Prelude.{IfOk};
-ghost use Rattle.bdd_nodes.specs.Shelf.{IsShelf};
 ghost use Rattle.gta_core.specs.Auto.{IsAuto};
 ghost use Rattle.gta_atom.specs.Atom.{IsAtom};
 
 use bdd_nodes::Shelf;
 use gta_atom::atom;
-use gta_core::{Auto, accepts};
+use gta_core::{Auto, accepts, automata_outlive_changes, tables_outlive_changes};
 use gta_product::product;
 use gta_project::project;
 use plain_data::Items;
@@ -58,7 +57,11 @@ fn both(alloc: Global, g: &Guide, f: &Formula, h: &Formula, shelf: &mut Shelf) -
 {
     let a = atom(alloc, g, f, shelf)?;
     let b = atom(alloc, g, h, shelf)?;
-    Ok(product(alloc, g, &a, &b, shelf)?)
+    // Only for their clauses.
+    tables_outlive_changes();
+    automata_outlive_changes();
+    let c = product(alloc, g, &a, &b, shelf)?;
+    Ok(c)
 }
 
 #[test]

@@ -1,11 +1,11 @@
-use Rattle.std.proofs.Common.{◌≡◌, ◌+◌, ℕ, List, [], ◌∷◌, ◌++◌, take, get_or, Option, Some, slice_get, sym, ◌∙◌, ap, subst, arith}
+use Rattle.std.proofs.Common.{◌≡◌, ◌+◌, ℕ, List, [], ◌∷◌, ◌++◌, take, get_or, Option, Some, sym, ◌∙◌, ap, subst, arith}
 use Rattle.std.proofs.lemmas.List.{take_more}
 use Rattle.std.proofs.lemmas.Option.{slice_get-get_or}
 use Rattle.std.specs.Prelude.{map, slice_index}
 use Rattle.gta_project.specs.Sets.{IsSet}
 use Rattle.gta_project.proofs.SetsLemmas.{set_of-twice}
 use Rattle.gta_project.specs.Numbers.{number_in, Grows}
-use Rattle.gta_project.specs.Classes.{AreKeyed, classes_of}
+use Rattle.gta_project.specs.Classes.{AreKeyed}
 use Rattle.gta_project.proofs.ClassesLemmas.{AreKeyed-more}
 use Rattle.gta_project.proofs.classes.classify.Goals as goal
 

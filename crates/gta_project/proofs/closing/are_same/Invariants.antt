@@ -1,4 +1,4 @@
-use Rattle.std.proofs.Common.{◌≡◌, take, length}
+use Rattle.std.proofs.Common.{◌≡◌, take}
 use Rattle.gta_project.proofs.closing.are_same.Given as goal
 
 abbrev pub invariant-loop-place : goal.invariant-loop-place

@@ -1,5 +1,5 @@
 -- One row after the other.
-use Rattle.std.proofs.Common.{◌≡◌, ◌++◌, Contains, ap, ◌+◌, ℕ, List, Option, [], ◌∷◌, take, get_or, IsSome, sym, ◌∙◌, subst, arith}
+use Rattle.std.proofs.Common.{◌≡◌, ◌++◌, Contains, ap, ℕ, List, Option, [], ◌∷◌, take, get_or, IsSome, sym, ◌∙◌, subst, arith}
 use Rattle.std.proofs.lemmas.List.{take_more}
 use Rattle.bdd_nodes.specs.declared.node_ref.NodeRef.{NodeRef}
 use Rattle.gta_project.specs.Subsets.{set_step}

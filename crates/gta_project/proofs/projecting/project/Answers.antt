@@ -1,13 +1,11 @@
 -- The settled parts are the subset automaton.
 use Rattle.std.proofs.Common.{◌≡◌, ◌↔◌, ℕ, Bool, List, map, sym, ◌∙◌, ap, subst, arith}
-use Rattle.std.specs.Prelude.{IsTrue}
 use Rattle.std.specs.List.{list_any}
 use Rattle.bdd_nodes.specs.Shelf.{Contents, tables_added}
 use Rattle.bdd_nodes.specs.Changes.{Keeps, AddsTable, SameTables}
 use Rattle.bdd_nodes.proofs.CallerLemmas.{Keeps-trans, Keeps-same, Keeps-refl}
 use Rattle.gta_theory.specs.Assignments.{PositionSet, IsFiniteSet, replace}
 use Rattle.gta_theory.specs.Automata.{Accepts}
-use Rattle.gta_theory.specs.Numbered.{Below}
 use Rattle.gta_theory.proofs.SubsetLemmas.{Accepts-subset}
 use Rattle.gta_core.specs.Auto.{AutoView, states_of, is_accepting, automaton_of, IsAuto, IsWhole}
 use Rattle.gta_project.specs.Subsets.{AreInitial}

@@ -1,9 +1,8 @@
 use Rattle.std.proofs.Common.{◌+◌, ℕ, List, [], ◌∷◌, ◌++◌, take, get_or, sym, subst, arith}
 use Rattle.std.proofs.lemmas.List.{take_more}
-use Rattle.std.proofs.lemmas.List.Elements.{Contains-get_or}
 use Rattle.bdd_nodes.specs.declared.node_ref.NodeRef.{NodeRef}
 use Rattle.gta_project.specs.Roots.{AddRoots}
-use Rattle.gta_project.proofs.RootsLemmas.{AddRoots-none, AddRoots-right}
+use Rattle.gta_project.proofs.RootsLemmas.{AddRoots-right}
 use Rattle.gta_project.proofs.roots.push_roots.Goals as goal
 
 pub loop-right-preserved : goal.loop-right-preserved
