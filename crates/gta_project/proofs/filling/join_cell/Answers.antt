@@ -1,0 +1,68 @@
+-- One root is joined for a set of each child.
+use Rattle.std.proofs.Common.{◌≡◌, ℕ, List, Some, Contains, sym, ◌∙◌, subst}
+use Rattle.bdd_nodes.specs.declared.node_ref.NodeRef.{NodeRef}
+use Rattle.gta_core.specs.Auto.{root_at}
+use Rattle.gta_project.specs.Roots.{AreRoots}
+use Rattle.gta_project.proofs.ClosingLemmas.{some-is}
+use Rattle.gta_project.proofs.FillingLemmas.{Joins-one, IsCell-one, ExceedsCells-one}
+use Rattle.gta_project.proofs.filling.join_cell.Goals as goal
+
+pub returns-in_err-made-clause-joins : goal.returns-in_err-made-clause-joins
+returns-in_err-made-clause-joins c =
+    let shelf = c.args.shelf.now in
+    let a = c.args.a.now in
+    let roots = c.as_slice.result.now in
+    let are = subst (λ (rs : List NodeRef). AreRoots shelf a c.args.space c.args.left.now c.args.right.now rs) (sym c.as_slice.ensures.value)
+    c.in_ok-roots.ensures in
+    let known = λ (l r : ℕ) (in_l : Contains c.args.left.now l) (in_r : Contains c.args.right.now r).
+    let k : (root : NodeRef) × (root_at shelf a c.args.space l r ≡ Some root) = some-is (root_at shelf a c.args.space l r)
+    (c.requires.known l r in_l in_r) in k in
+    let e = c.join-joined.ensures in
+    Joins-one a c.args.track c.args.space c.args.left.now c.args.right.now shelf c.join-joined.new.shelf roots are known c.args.numbers.now
+    c.join-joined.new.rule c.len.ensures.numbers c.len-2.ensures.numbers
+    e.kept e.same_limit e.tables e.shelf e.answers e.only e.adds
+
+pub returns-in_err-made-clause-limit : goal.returns-in_err-made-clause-limit
+returns-in_err-made-clause-limit c = λ stopped given completes.
+    let shelf = c.args.shelf.now in
+    let a = c.args.a.now in
+    let roots = c.as_slice.result.now in
+    let are = subst (λ (rs : List NodeRef). AreRoots shelf a c.args.space c.args.left.now c.args.right.now rs) (sym c.as_slice.ensures.value)
+    c.in_ok-roots.ensures in
+    let known = λ (l r : ℕ) (in_l : Contains c.args.left.now l) (in_r : Contains c.args.right.now r).
+    let k : (root : NodeRef) × (root_at shelf a c.args.space l r ≡ Some root) = some-is (root_at shelf a c.args.space l r)
+    (c.requires.known l r in_l in_r) in k in
+    let e = c.join-joined.ensures in
+    ExceedsCells-one a c.args.track c.args.space c.args.left.now c.args.right.now shelf c.join-joined.new.shelf roots are known c.args.numbers.now
+    c.join-joined.new.rule c.len.ensures.numbers c.len-2.ensures.numbers given completes
+    (e.limit (let why = rw stopped at c.from_residual-in_err-made.ensures in c.in_err-made.was ∙ (let is = why.1 in cc)))
+
+pub returns-clause-joins : goal.returns-clause-joins
+returns-clause-joins c =
+    let shelf = c.args.shelf.now in
+    let a = c.args.a.now in
+    let roots = c.as_slice.result.now in
+    let are = subst (λ (rs : List NodeRef). AreRoots shelf a c.args.space c.args.left.now c.args.right.now rs) (sym c.as_slice.ensures.value)
+    c.in_ok-roots.ensures in
+    let known = λ (l r : ℕ) (in_l : Contains c.args.left.now l) (in_r : Contains c.args.right.now r).
+    let k : (root : NodeRef) × (root_at shelf a c.args.space l r ≡ Some root) = some-is (root_at shelf a c.args.space l r)
+    (c.requires.known l r in_l in_r) in k in
+    let e = c.join-joined.ensures in
+    Joins-one a c.args.track c.args.space c.args.left.now c.args.right.now shelf c.join-joined.new.shelf roots are known c.args.numbers.now
+    c.join-joined.new.rule c.len.ensures.numbers c.len-2.ensures.numbers
+    e.kept e.same_limit e.tables e.shelf e.answers e.only e.adds
+
+pub returns-clause-cell : goal.returns-clause-cell
+returns-clause-cell c =
+    let shelf = c.args.shelf.now in
+    let a = c.args.a.now in
+    let roots = c.as_slice.result.now in
+    let are = subst (λ (rs : List NodeRef). AreRoots shelf a c.args.space c.args.left.now c.args.right.now rs) (sym c.as_slice.ensures.value)
+    c.in_ok-roots.ensures in
+    let known = λ (l r : ℕ) (in_l : Contains c.args.left.now l) (in_r : Contains c.args.right.now r).
+    let k : (root : NodeRef) × (root_at shelf a c.args.space l r ≡ Some root) = some-is (root_at shelf a c.args.space l r)
+    (c.requires.known l r in_l in_r) in k in
+    let e = c.join-joined.ensures in
+    IsCell-one a c.args.track c.args.space c.args.left.now c.args.right.now shelf c.join-joined.new.shelf roots are known c.args.numbers.now
+    c.join-joined.new.rule c.len.ensures.numbers c.len-2.ensures.numbers
+    c.in_ok-made.made c.in_ok-made.ensures.valid c.in_ok-made.ensures.value

@@ -1,0 +1,385 @@
+-- The part of a space is filled.
+use Rattle.std.proofs.Common.{◌≡◌, ◌-◌, ◌<◌, ℕ, List, Option, Some, Contains, length, get_or, slice_get, refl, sym, ◌∙◌, ap, subst, arith}
+use Rattle.std.specs.Prelude.{unwrap_or, slice_set}
+use Rattle.std.specs.List.{range_with_len}
+use Rattle.std.proofs.lemmas.List.FromFn.{length-range_with_len}
+use Rattle.gta_theory.specs.Guides.{left, right}
+use Rattle.gta_core.specs.Auto.{automaton_of}
+use Rattle.gta_core.proofs.PlacingLemmas.{unwrap-inside}
+use Rattle.gta_project.specs.Subsets.{set_step, subsets}
+use Rattle.gta_project.specs.Classes.{AreClasses}
+use Rattle.gta_project.specs.Filling.{AreCells}
+use Rattle.gta_project.proofs.BuildingLemmas.{ExtendAll-set, AreSpaces-set, Building-set, ExceedsSteps-set}
+use Rattle.gta_project.proofs.PartLemmas.{get-at, get-set, at-child, part-at, length-set_at, ChangesSpace-at, FitAll-set, ones-inside}
+use Rattle.gta_project.proofs.PartLemmas.{row-inside, column-inside, roots-known, IsBuilt-made}
+use Rattle.gta_project.proofs.projecting.part_of.Goals as goal
+
+same_list : (a b : List (List ℕ)) → ◌≡◌ {A = Option (List (List ℕ))} (Some a) (Some b) → a ≡ b
+same_list a b e = cc
+
+pub classify-requires : goal.classify-requires
+classify-requires c = λ k set there.
+    let g = c.args.g.now in
+    let s = c.args.space in
+    let guide = c.children.ensures.guide in
+    let items = c.args.numbers.now.items in
+    let shelf = c.args.shelf.now in
+    let a = c.args.a.now in
+    let t = c.args.track in
+    let initials = c.args._initials.now in
+    let Sets = subsets (automaton_of shelf a) t initials in
+    let inside = c.requires.inside in
+    let child = c.unwrap_or-children.ensures ∙ ap (λ (o : Option (ℕ × ℕ)). unwrap_or o (0, 0)) c.children.ensures.value in
+    let own = c.index-parts-at.result in
+    let in_own = part-at g shelf a c.requires.auto s inside c.parts.result.now own c.parts.ensures.parts c.index-parts-at.is in
+    let lefts = c.index.result.now in
+    let at_left = at-child g Sets items c.requires.spaces (left g s) (guide.left_inside s inside) (c.unwrap_or-children.result).0
+    (ap (λ (p : ℕ × ℕ). p.0) child) lefts lefts c.index.ensures refl in
+    subst (λ (xs : List ℕ). (j d : ℕ) → j < length set → get_or set j d < length xs) (sym c.as_slice.ensures)
+    (row-inside g guide shelf a c.requires.auto t initials c.requires.initials items c.requires.spaces s inside own in_own lefts at_left k set there)
+
+pub classify-requires-2 : goal.classify-requires-2
+classify-requires-2 c = λ k set there.
+    let g = c.args.g.now in
+    let s = c.args.space in
+    let guide = c.children.ensures.guide in
+    let items = c.args.numbers.now.items in
+    let shelf = c.args.shelf.now in
+    let a = c.args.a.now in
+    let t = c.args.track in
+    let initials = c.args._initials.now in
+    let Sets = subsets (automaton_of shelf a) t initials in
+    let inside = c.requires.inside in
+    let child = c.unwrap_or-children.ensures ∙ ap (λ (o : Option (ℕ × ℕ)). unwrap_or o (0, 0)) c.children.ensures.value in
+    let own = c.index-parts-at.result in
+    let in_own = part-at g shelf a c.requires.auto s inside c.parts.result.now own c.parts.ensures.parts c.index-parts-at.is in
+    let lefts = c.index.result.now in
+    let at_left = at-child g Sets items c.requires.spaces (left g s) (guide.left_inside s inside) (c.unwrap_or-children.result).0
+    (ap (λ (p : ℕ × ℕ). p.0) child) lefts lefts c.index.ensures refl in
+    let rights = c.index-2.result.now in
+    let at_right = at-child g Sets items c.requires.spaces (right g s) (guide.right_inside s inside) (c.unwrap_or-children.result).1
+    (ap (λ (p : ℕ × ℕ). p.1) child) rights rights c.index-2.ensures refl in
+    subst (λ (xs : List ℕ). (j d : ℕ) → j < length set → get_or set j d < length xs) (sym c.as_slice-2.ensures)
+    (column-inside g guide shelf a c.requires.auto t initials c.requires.initials items c.requires.spaces s inside own in_own rights at_right k set there)
+
+pub fill-requires-clause-known : goal.fill-requires-clause-known
+fill-requires-clause-known c = λ row column in_row in_column l r in_l in_r.
+    let g = c.args.g.now in
+    let s = c.args.space in
+    let guide = c.children.ensures.guide in
+    let items = c.args.numbers.now.items in
+    let shelf = c.args.shelf.now in
+    let a = c.args.a.now in
+    let t = c.args.track in
+    let initials = c.args._initials.now in
+    let Sets = subsets (automaton_of shelf a) t initials in
+    let inside = c.requires.inside in
+    let child = c.unwrap_or-children.ensures ∙ ap (λ (o : Option (ℕ × ℕ)). unwrap_or o (0, 0)) c.children.ensures.value in
+    let own = c.index-parts-at.result in
+    let in_own = part-at g shelf a c.requires.auto s inside c.parts.result.now own c.parts.ensures.parts c.index-parts-at.is in
+    let lefts = c.index.result.now in
+    let at_left = at-child g Sets items c.requires.spaces (left g s) (guide.left_inside s inside) (c.unwrap_or-children.result).0
+    (ap (λ (p : ℕ × ℕ). p.0) child) lefts lefts c.index.ensures refl in
+    let rights = c.index-2.result.now in
+    let at_right = at-child g Sets items c.requires.spaces (right g s) (guide.right_inside s inside) (c.unwrap_or-children.result).1
+    (ap (λ (p : ℕ × ℕ). p.1) child) rights rights c.index-2.ensures refl in
+    let in_rows = λ (x : List ℕ) (there : Contains c.as_slice-3.result.now x).
+    let r : (k : ℕ) × (slice_get lefts k ≡ Some x) = ones-inside lefts c.as_slice.result.now c.in_ok-rows.rows c.in_ok-rows.ensures.classes x
+    (subst (λ (ps : List (List ℕ)). Contains ps x) c.as_slice-3.ensures there) in r in
+    let in_columns = λ (x : List ℕ) (there : Contains c.as_slice-4.result.now x).
+    let r : (k : ℕ) × (slice_get rights k ≡ Some x) = ones-inside rights c.as_slice-2.result.now c.in_ok-columns.columns c.in_ok-columns.ensures.classes x
+    (subst (λ (ps : List (List ℕ)). Contains ps x) c.as_slice-4.ensures there) in r in
+    let j = in_rows row in_row in
+    let k = in_columns column in_column in
+    roots-known g guide shelf a c.requires.auto t initials c.requires.initials items c.requires.spaces s inside lefts rights at_left at_right j.0 k.0
+    row column j.1 k.1 l r in_l in_r
+
+pub fill-requires-clause-fits : goal.fill-requires-clause-fits
+fill-requires-clause-fits c =
+    let s = c.args.space in
+    let many = c.requires.spaces.many in
+    let fits = c.requires.fits in
+    fits.each s c.index_mut.result.now c.index_mut-2.result.now
+    (get-at c.args.joiners.now.items s c.index_mut.result.now (omega (arith, fits.many, many, c.requires.inside)) c.index_mut.ensures.value)
+    (get-at c.args.numbers.now.items s c.index_mut-2.result.now (omega (arith, many, c.requires.inside)) c.index_mut-2.ensures.value)
+
+pub returns-in_err-fill-clause-extends : goal.returns-in_err-fill-clause-extends
+returns-in_err-fill-clause-extends c =
+    let items = c.args.numbers.now.items in
+    let s = c.args.space in
+    let before = c.index_mut-2.result.now in
+    let was = get-at items s before (omega (arith, c.requires.spaces.many, c.requires.inside)) c.index_mut-2.ensures.value in
+    ExtendAll-set items (slice_set items s c.fill.new.numbers) s before c.fill.new.numbers (ChangesSpace-at items s before c.fill.new.numbers was)
+    c.fill.ensures.joins.extends
+
+pub returns-in_err-count_up-clause-extends : goal.returns-in_err-count_up-clause-extends
+returns-in_err-count_up-clause-extends c =
+    let items = c.args.numbers.now.items in
+    let s = c.args.space in
+    let before = c.index_mut-2.result.now in
+    let was = get-at items s before (omega (arith, c.requires.spaces.many, c.requires.inside)) c.index_mut-2.ensures.value in
+    ExtendAll-set items (slice_set items s c.fill.new.numbers) s before c.fill.new.numbers (ChangesSpace-at items s before c.fill.new.numbers was)
+    c.fill.ensures.joins.extends
+
+pub returns-clause-extends : goal.returns-clause-extends
+returns-clause-extends c =
+    let items = c.args.numbers.now.items in
+    let s = c.args.space in
+    let before = c.index_mut-2.result.now in
+    let was = get-at items s before (omega (arith, c.requires.spaces.many, c.requires.inside)) c.index_mut-2.ensures.value in
+    ExtendAll-set items (slice_set items s c.fill.new.numbers) s before c.fill.new.numbers (ChangesSpace-at items s before c.fill.new.numbers was)
+    c.fill.ensures.joins.extends
+
+pub returns-in_err-fill-clause-building : goal.returns-in_err-fill-clause-building
+returns-in_err-fill-clause-building c = λ start building.
+    let g = c.args.g.now in
+    let s = c.args.space in
+    let guide = c.children.ensures.guide in
+    let items = c.args.numbers.now.items in
+    let shelf = c.args.shelf.now in
+    let a = c.args.a.now in
+    let t = c.args.track in
+    let initials = c.args._initials.now in
+    let Sets = subsets (automaton_of shelf a) t initials in
+    let inside = c.requires.inside in
+    let child = c.unwrap_or-children.ensures ∙ ap (λ (o : Option (ℕ × ℕ)). unwrap_or o (0, 0)) c.children.ensures.value in
+    let own = c.index-parts-at.result in
+    let in_own = part-at g shelf a c.requires.auto s inside c.parts.result.now own c.parts.ensures.parts c.index-parts-at.is in
+    let lefts = c.index.result.now in
+    let at_left = at-child g Sets items c.requires.spaces (left g s) (guide.left_inside s inside) (c.unwrap_or-children.result).0
+    (ap (λ (p : ℕ × ℕ). p.0) child) lefts lefts c.index.ensures refl in
+    let rights = c.index-2.result.now in
+    let at_right = at-child g Sets items c.requires.spaces (right g s) (guide.right_inside s inside) (c.unwrap_or-children.result).1
+    (ap (λ (p : ℕ × ℕ). p.1) child) rights rights c.index-2.ensures refl in
+    let in_rows = λ (x : List ℕ) (there : Contains c.as_slice-3.result.now x).
+    let r : (k : ℕ) × (slice_get lefts k ≡ Some x) = ones-inside lefts c.as_slice.result.now c.in_ok-rows.rows c.in_ok-rows.ensures.classes x
+    (subst (λ (ps : List (List ℕ)). Contains ps x) c.as_slice-3.ensures there) in r in
+    let in_columns = λ (x : List ℕ) (there : Contains c.as_slice-4.result.now x).
+    let r : (k : ℕ) × (slice_get rights k ≡ Some x) = ones-inside rights c.as_slice-2.result.now c.in_ok-columns.columns c.in_ok-columns.ensures.classes x
+    (subst (λ (ps : List (List ℕ)). Contains ps x) c.as_slice-4.ensures there) in r in
+    let before = c.index_mut-2.result.now in
+    let after = c.fill.new.numbers in
+    let was = get-at items s before (omega (arith, c.requires.spaces.many, inside)) c.index_mut-2.ensures.value in
+    let change = ChangesSpace-at items s before after was in
+    Building-set g Sets s inside items (slice_set items s after) lefts rights before after c.requires.spaces change at_left at_right
+    c.as_slice-3.result.now c.as_slice-4.result.now in_rows in_columns shelf c.fill.new.shelf c.fill.ensures.joins c.fill.ensures.numbers start building
+
+pub returns-in_err-count_up-clause-building : goal.returns-in_err-count_up-clause-building
+returns-in_err-count_up-clause-building c = λ start building.
+    let g = c.args.g.now in
+    let s = c.args.space in
+    let guide = c.children.ensures.guide in
+    let items = c.args.numbers.now.items in
+    let shelf = c.args.shelf.now in
+    let a = c.args.a.now in
+    let t = c.args.track in
+    let initials = c.args._initials.now in
+    let Sets = subsets (automaton_of shelf a) t initials in
+    let inside = c.requires.inside in
+    let child = c.unwrap_or-children.ensures ∙ ap (λ (o : Option (ℕ × ℕ)). unwrap_or o (0, 0)) c.children.ensures.value in
+    let own = c.index-parts-at.result in
+    let in_own = part-at g shelf a c.requires.auto s inside c.parts.result.now own c.parts.ensures.parts c.index-parts-at.is in
+    let lefts = c.index.result.now in
+    let at_left = at-child g Sets items c.requires.spaces (left g s) (guide.left_inside s inside) (c.unwrap_or-children.result).0
+    (ap (λ (p : ℕ × ℕ). p.0) child) lefts lefts c.index.ensures refl in
+    let rights = c.index-2.result.now in
+    let at_right = at-child g Sets items c.requires.spaces (right g s) (guide.right_inside s inside) (c.unwrap_or-children.result).1
+    (ap (λ (p : ℕ × ℕ). p.1) child) rights rights c.index-2.ensures refl in
+    let in_rows = λ (x : List ℕ) (there : Contains c.as_slice-3.result.now x).
+    let r : (k : ℕ) × (slice_get lefts k ≡ Some x) = ones-inside lefts c.as_slice.result.now c.in_ok-rows.rows c.in_ok-rows.ensures.classes x
+    (subst (λ (ps : List (List ℕ)). Contains ps x) c.as_slice-3.ensures there) in r in
+    let in_columns = λ (x : List ℕ) (there : Contains c.as_slice-4.result.now x).
+    let r : (k : ℕ) × (slice_get rights k ≡ Some x) = ones-inside rights c.as_slice-2.result.now c.in_ok-columns.columns c.in_ok-columns.ensures.classes x
+    (subst (λ (ps : List (List ℕ)). Contains ps x) c.as_slice-4.ensures there) in r in
+    let before = c.index_mut-2.result.now in
+    let after = c.fill.new.numbers in
+    let was = get-at items s before (omega (arith, c.requires.spaces.many, inside)) c.index_mut-2.ensures.value in
+    let change = ChangesSpace-at items s before after was in
+    Building-set g Sets s inside items (slice_set items s after) lefts rights before after c.requires.spaces change at_left at_right
+    c.as_slice-3.result.now c.as_slice-4.result.now in_rows in_columns shelf c.fill.new.shelf c.fill.ensures.joins c.fill.ensures.numbers start building
+
+pub returns-clause-building : goal.returns-clause-building
+returns-clause-building c = λ start building.
+    let g = c.args.g.now in
+    let s = c.args.space in
+    let guide = c.children.ensures.guide in
+    let items = c.args.numbers.now.items in
+    let shelf = c.args.shelf.now in
+    let a = c.args.a.now in
+    let t = c.args.track in
+    let initials = c.args._initials.now in
+    let Sets = subsets (automaton_of shelf a) t initials in
+    let inside = c.requires.inside in
+    let child = c.unwrap_or-children.ensures ∙ ap (λ (o : Option (ℕ × ℕ)). unwrap_or o (0, 0)) c.children.ensures.value in
+    let own = c.index-parts-at.result in
+    let in_own = part-at g shelf a c.requires.auto s inside c.parts.result.now own c.parts.ensures.parts c.index-parts-at.is in
+    let lefts = c.index.result.now in
+    let at_left = at-child g Sets items c.requires.spaces (left g s) (guide.left_inside s inside) (c.unwrap_or-children.result).0
+    (ap (λ (p : ℕ × ℕ). p.0) child) lefts lefts c.index.ensures refl in
+    let rights = c.index-2.result.now in
+    let at_right = at-child g Sets items c.requires.spaces (right g s) (guide.right_inside s inside) (c.unwrap_or-children.result).1
+    (ap (λ (p : ℕ × ℕ). p.1) child) rights rights c.index-2.ensures refl in
+    let in_rows = λ (x : List ℕ) (there : Contains c.as_slice-3.result.now x).
+    let r : (k : ℕ) × (slice_get lefts k ≡ Some x) = ones-inside lefts c.as_slice.result.now c.in_ok-rows.rows c.in_ok-rows.ensures.classes x
+    (subst (λ (ps : List (List ℕ)). Contains ps x) c.as_slice-3.ensures there) in r in
+    let in_columns = λ (x : List ℕ) (there : Contains c.as_slice-4.result.now x).
+    let r : (k : ℕ) × (slice_get rights k ≡ Some x) = ones-inside rights c.as_slice-2.result.now c.in_ok-columns.columns c.in_ok-columns.ensures.classes x
+    (subst (λ (ps : List (List ℕ)). Contains ps x) c.as_slice-4.ensures there) in r in
+    let before = c.index_mut-2.result.now in
+    let after = c.fill.new.numbers in
+    let was = get-at items s before (omega (arith, c.requires.spaces.many, inside)) c.index_mut-2.ensures.value in
+    let change = ChangesSpace-at items s before after was in
+    Building-set g Sets s inside items (slice_set items s after) lefts rights before after c.requires.spaces change at_left at_right
+    c.as_slice-3.result.now c.as_slice-4.result.now in_rows in_columns shelf c.fill.new.shelf c.fill.ensures.joins c.fill.ensures.numbers start building
+
+pub returns-in_err-fill-clause-limit : goal.returns-in_err-fill-clause-limit
+returns-in_err-fill-clause-limit c = λ stopped start building given completes.
+    let g = c.args.g.now in
+    let s = c.args.space in
+    let guide = c.children.ensures.guide in
+    let items = c.args.numbers.now.items in
+    let shelf = c.args.shelf.now in
+    let a = c.args.a.now in
+    let t = c.args.track in
+    let initials = c.args._initials.now in
+    let Sets = subsets (automaton_of shelf a) t initials in
+    let inside = c.requires.inside in
+    let child = c.unwrap_or-children.ensures ∙ ap (λ (o : Option (ℕ × ℕ)). unwrap_or o (0, 0)) c.children.ensures.value in
+    let own = c.index-parts-at.result in
+    let in_own = part-at g shelf a c.requires.auto s inside c.parts.result.now own c.parts.ensures.parts c.index-parts-at.is in
+    let lefts = c.index.result.now in
+    let at_left = at-child g Sets items c.requires.spaces (left g s) (guide.left_inside s inside) (c.unwrap_or-children.result).0
+    (ap (λ (p : ℕ × ℕ). p.0) child) lefts lefts c.index.ensures refl in
+    let rights = c.index-2.result.now in
+    let at_right = at-child g Sets items c.requires.spaces (right g s) (guide.right_inside s inside) (c.unwrap_or-children.result).1
+    (ap (λ (p : ℕ × ℕ). p.1) child) rights rights c.index-2.ensures refl in
+    let in_rows = λ (x : List ℕ) (there : Contains c.as_slice-3.result.now x).
+    let r : (k : ℕ) × (slice_get lefts k ≡ Some x) = ones-inside lefts c.as_slice.result.now c.in_ok-rows.rows c.in_ok-rows.ensures.classes x
+    (subst (λ (ps : List (List ℕ)). Contains ps x) c.as_slice-3.ensures there) in r in
+    let in_columns = λ (x : List ℕ) (there : Contains c.as_slice-4.result.now x).
+    let r : (k : ℕ) × (slice_get rights k ≡ Some x) = ones-inside rights c.as_slice-2.result.now c.in_ok-columns.columns c.in_ok-columns.ensures.classes x
+    (subst (λ (ps : List (List ℕ)). Contains ps x) c.as_slice-4.ensures there) in r in
+    let before = c.index_mut-2.result.now in
+    let after = c.fill.new.numbers in
+    let was = get-at items s before (omega (arith, c.requires.spaces.many, inside)) c.index_mut-2.ensures.value in
+    let change = ChangesSpace-at items s before after was in
+    ExceedsSteps-set g Sets s inside items (slice_set items s after) lefts rights before after c.requires.spaces change at_left at_right
+    c.as_slice-3.result.now c.as_slice-4.result.now in_rows in_columns shelf c.fill.new.shelf c.fill.ensures.joins
+    c.fill.ensures.numbers start building given completes
+    (c.fill.ensures.limit (let why = rw stopped at c.from_residual-in_err-fill.ensures in c.in_err-fill.was ∙ (let is = why.1 in cc)) (given s)
+    (completes s after change.is))
+
+pub returns-clause-fits : goal.returns-clause-fits
+returns-clause-fits c =
+    let items = c.args.numbers.now.items in
+    let s = c.args.space in
+    let before = c.index_mut-2.result.now in
+    let was = get-at items s before (omega (arith, c.requires.spaces.many, c.requires.inside)) c.index_mut-2.ensures.value in
+    FitAll-set c.args.track c.args.shelf.now c.fill.new.shelf c.args.joiners.now.items items (slice_set items s c.fill.new.numbers) s c.fill.new.joiner before
+    c.fill.new.numbers
+    c.fill.ensures.joins.keeps (omega (arith, c.requires.fits.many, c.requires.spaces.many, c.requires.inside)) c.requires.fits
+    (ChangesSpace-at items s before c.fill.new.numbers was) c.in_ok-fill.ensures.fits
+
+pub returns-clause-part : goal.returns-clause-part
+returns-clause-part c =
+    let g = c.args.g.now in
+    let s = c.args.space in
+    let guide = c.children.ensures.guide in
+    let items = c.args.numbers.now.items in
+    let shelf = c.args.shelf.now in
+    let a = c.args.a.now in
+    let t = c.args.track in
+    let initials = c.args._initials.now in
+    let Sets = subsets (automaton_of shelf a) t initials in
+    let inside = c.requires.inside in
+    let child = c.unwrap_or-children.ensures ∙ ap (λ (o : Option (ℕ × ℕ)). unwrap_or o (0, 0)) c.children.ensures.value in
+    let own = c.index-parts-at.result in
+    let in_own = part-at g shelf a c.requires.auto s inside c.parts.result.now own c.parts.ensures.parts c.index-parts-at.is in
+    let lefts = c.index.result.now in
+    let at_left = at-child g Sets items c.requires.spaces (left g s) (guide.left_inside s inside) (c.unwrap_or-children.result).0
+    (ap (λ (p : ℕ × ℕ). p.0) child) lefts lefts c.index.ensures refl in
+    let rights = c.index-2.result.now in
+    let at_right = at-child g Sets items c.requires.spaces (right g s) (guide.right_inside s inside) (c.unwrap_or-children.result).1
+    (ap (λ (p : ℕ × ℕ). p.1) child) rights rights c.index-2.ensures refl in
+    let in_rows = λ (x : List ℕ) (there : Contains c.as_slice-3.result.now x).
+    let r : (k : ℕ) × (slice_get lefts k ≡ Some x) = ones-inside lefts c.as_slice.result.now c.in_ok-rows.rows c.in_ok-rows.ensures.classes x
+    (subst (λ (ps : List (List ℕ)). Contains ps x) c.as_slice-3.ensures there) in r in
+    let in_columns = λ (x : List ℕ) (there : Contains c.as_slice-4.result.now x).
+    let r : (k : ℕ) × (slice_get rights k ≡ Some x) = ones-inside rights c.as_slice-2.result.now c.in_ok-columns.columns c.in_ok-columns.ensures.classes x
+    (subst (λ (ps : List (List ℕ)). Contains ps x) c.as_slice-4.ensures there) in r in
+    let before = c.index_mut-2.result.now in
+    let after = c.fill.new.numbers in
+    let was = get-at items s before (omega (arith, c.requires.spaces.many, inside)) c.index_mut-2.ensures.value in
+    let change = ChangesSpace-at items s before after was in
+    let rows = c.in_ok-rows.rows in
+    let columns = c.in_ok-columns.columns in
+    let Step = set_step (automaton_of shelf a) t in
+    let at = get-set items s after (omega (arith, c.requires.spaces.many, inside)) in
+    let held = get-at (slice_set items s after) s c.index-3.result.now (omega (arith, length-set_at items s after, c.requires.spaces.many, inside))
+    c.index-3.ensures in
+    let filled = subst (λ (ps : List (List ℕ)). AreCells Step s ps columns.ones after c.fill.new.shelf c.args.roots.now c.fill.new.roots) c.as_slice-3.ensures
+    (subst (λ (ps : List (List ℕ)). AreCells Step s c.as_slice-3.result.now ps after c.fill.new.shelf c.args.roots.now c.fill.new.roots)
+    c.as_slice-4.ensures c.in_ok-fill.ensures.cells) in
+    record {
+      lefts = lefts;
+      rights = rights;
+      sets = after;
+      own = own;
+      at_left = at_left;
+      at_right = at_right;
+      at = at;
+      in_own = in_own;
+      built = IsBuilt-made g Sets s lefts rights after own c.fill.new.shelf c.args.roots.now c.fill.new.roots rows columns _
+          (unwrap-inside g s (0, 0) inside ∙ ap (λ (p : ℕ × ℕ). let o : Option (ℕ × ℕ) = Some p in o) (sym child))
+          (c.len-3.ensures.value ∙ ap (λ (ps : List (List ℕ)). length ps) (same_list _ _ (sym held ∙ at)))
+          refl
+          c.len-start.ensures
+          refl
+          refl
+          c.len-4.ensures
+          (c.in_ok-count_up.ensures ∙ ap (range_with_len 0) (omega (arith, filled.many, c.len-2.ensures, c.len-start.ensures)))
+          (subst (λ (xs : List ℕ). AreClasses lefts xs rows) c.as_slice.ensures c.in_ok-rows.ensures.classes)
+          (subst (λ (xs : List ℕ). AreClasses rights xs columns) c.as_slice-2.ensures c.in_ok-columns.ensures.classes)
+          filled;
+    }
+
+pub returns-clause-start : goal.returns-clause-start
+returns-clause-start c =
+    let many = ap (λ (xs : List ℕ). length xs) c.in_ok-count_up.ensures in
+    let range = length-range_with_len 0 (c.len-2.result - c.len-start.result) in
+    let filled = c.in_ok-fill.ensures.cells.many in
+    (c.len-start.ensures, omega (arith, many, range, filled, c.len-2.ensures, c.len-start.ensures))
+
+pub returns-clause-spaces : goal.returns-clause-spaces
+returns-clause-spaces c =
+    let g = c.args.g.now in
+    let s = c.args.space in
+    let guide = c.children.ensures.guide in
+    let items = c.args.numbers.now.items in
+    let shelf = c.args.shelf.now in
+    let a = c.args.a.now in
+    let t = c.args.track in
+    let initials = c.args._initials.now in
+    let Sets = subsets (automaton_of shelf a) t initials in
+    let inside = c.requires.inside in
+    let child = c.unwrap_or-children.ensures ∙ ap (λ (o : Option (ℕ × ℕ)). unwrap_or o (0, 0)) c.children.ensures.value in
+    let own = c.index-parts-at.result in
+    let in_own = part-at g shelf a c.requires.auto s inside c.parts.result.now own c.parts.ensures.parts c.index-parts-at.is in
+    let lefts = c.index.result.now in
+    let at_left = at-child g Sets items c.requires.spaces (left g s) (guide.left_inside s inside) (c.unwrap_or-children.result).0
+    (ap (λ (p : ℕ × ℕ). p.0) child) lefts lefts c.index.ensures refl in
+    let rights = c.index-2.result.now in
+    let at_right = at-child g Sets items c.requires.spaces (right g s) (guide.right_inside s inside) (c.unwrap_or-children.result).1
+    (ap (λ (p : ℕ × ℕ). p.1) child) rights rights c.index-2.ensures refl in
+    let in_rows = λ (x : List ℕ) (there : Contains c.as_slice-3.result.now x).
+    let r : (k : ℕ) × (slice_get lefts k ≡ Some x) = ones-inside lefts c.as_slice.result.now c.in_ok-rows.rows c.in_ok-rows.ensures.classes x
+    (subst (λ (ps : List (List ℕ)). Contains ps x) c.as_slice-3.ensures there) in r in
+    let in_columns = λ (x : List ℕ) (there : Contains c.as_slice-4.result.now x).
+    let r : (k : ℕ) × (slice_get rights k ≡ Some x) = ones-inside rights c.as_slice-2.result.now c.in_ok-columns.columns c.in_ok-columns.ensures.classes x
+    (subst (λ (ps : List (List ℕ)). Contains ps x) c.as_slice-4.ensures there) in r in
+    let before = c.index_mut-2.result.now in
+    let after = c.fill.new.numbers in
+    let was = get-at items s before (omega (arith, c.requires.spaces.many, inside)) c.index_mut-2.ensures.value in
+    let change = ChangesSpace-at items s before after was in
+    AreSpaces-set g Sets s inside items (slice_set items s after) lefts rights before after c.requires.spaces change at_left at_right
+    c.as_slice-3.result.now c.as_slice-4.result.now in_rows in_columns shelf c.fill.new.shelf c.fill.ensures.joins c.fill.ensures.numbers

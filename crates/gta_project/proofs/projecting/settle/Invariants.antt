@@ -1,0 +1,10 @@
+use Rattle.gta_project.specs.Subsets.{subsets}
+use Rattle.gta_core.specs.Auto.{automaton_of}
+use Rattle.gta_project.specs.Building.{FitAll, Building}
+use Rattle.gta_project.proofs.projecting.settle.Given as goal
+
+abbrev pub invariant-loop-round : goal.invariant-loop-round
+invariant-loop-round l = record {
+  building : Building l.g (subsets (automaton_of l.fn.shelf l.a) l.track l.initials) l.fn.shelf l.shelf l.numbers.items;
+  fits : FitAll l.track l.shelf l.joiners.items l.numbers.items;
+}

@@ -1,0 +1,26 @@
+-- Initial sets of the subset automaton, as they grow round after round.
+use Rattle.std.specs.Prelude.{◌≡◌, ℕ, ◌↔◌, ◌⊎◌, List, [], length, Some, unwrap_or, Contains, slice_get}
+use Rattle.labels.specs.Labels.{empty_label}
+use Rattle.gta_theory.specs.Guides.{Spaces, left, right}
+use Rattle.gta_theory.specs.Automata.{Automaton}
+use Rattle.gta_theory.specs.Constructions.{Settled, IsStepOf}
+use Rattle.gta_project.specs.Sets.{IsSet}
+
+-- the set of a space; the empty one where there is none yet
+abbrev pub set_at : List (List ℕ) → ℕ → List ℕ
+set_at sets s = unwrap_or (slice_get sets s) []
+
+-- the set has the initial state and what comes by a step, on a label with at most the track, from the sets of before
+pub record IsNext (g : Spaces) (A : Automaton ℕ) (t : ℕ) (before : List (List ℕ)) (s : ℕ) (states : List ℕ) : Type 0 where
+  pub set : IsSet states
+  pub members : (q : ℕ) → Contains states q ↔
+      ((A.initial s ≡ q) ⊎ IsStepOf A t s (Contains (set_at before (left g s))) (Contains (set_at before (right g s))) empty_label q)
+
+-- each space has its next set
+pub record AreNext (g : Spaces) (A : Automaton ℕ) (t : ℕ) (before after : List (List ℕ)) : Type 0 where
+  pub many : length after ≡ length g
+  pub each : (s : ℕ) (states : List ℕ) → slice_get after s ≡ Some states → IsNext g A t before s states
+
+-- all states of the sets are settled
+pub record AreSettled (g : Spaces) (A : Automaton ℕ) (t : ℕ) (sets : List (List ℕ)) : Type 0 where
+  pub each : (s : ℕ) (states : List ℕ) → slice_get sets s ≡ Some states → (q : ℕ) → Contains states q → Settled g A t s q

@@ -1,0 +1,10 @@
+pub mod Sets
+pub mod Subsets
+pub mod Numbers
+pub mod Classes
+pub mod Roots
+pub mod Closing
+pub mod Filling
+pub mod Building
+pub mod Project
+pub mod Settled
