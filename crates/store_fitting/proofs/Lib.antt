@@ -1,0 +1,4 @@
+mod AssertionForms
+mod CodeForms
+mod CondForms
+mod RouteForms

@@ -1,0 +1,2 @@
+pub mod HeldSorts
+pub mod Tails
