@@ -2,7 +2,7 @@
 
 ghost use Rattle.std.specs.Prelude.{IsTrue};
 ghost use Rattle.store_core.specs.Stores.{Fits, IsFresh};
-ghost use Rattle.store_exec.specs.Going.{CanRunCode};
+ghost use Rattle.store_exec.specs.Fits.{CanRunCode};
 
 use crate::codes::fitting_news;
 use store_core::{Store, TypeTable, VarTable};
