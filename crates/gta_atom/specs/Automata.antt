@@ -26,12 +26,6 @@ numbered_automaton g plan is_child = record {
   accepting = λ i. is_held plan.form (known_of (kept_in plan is_child 0) i);
 }
 
--- the function is under the table of some space
-pub record IsUnderSomewhere (g : Spaces) (A : Automaton ℕ) (has : ℕ → ℕ → Type 0) (f : Function) : Type 0 where
-  pub space : ℕ
-  pub inside : IsSpace g space
-  pub under : IsUnderTable g A has space f
-
 -- for each state of space 0 whether the atom holds in it
 abbrev pub are_held : Plan → (Bool → ℕ → Bool) → List Bool
 are_held plan is_child = map (λ i. is_held plan.form (known_of (kept_in plan is_child 0) i)) (range_with_len 0 (counts_of plan is_child 0))
