@@ -10,7 +10,7 @@ ghost use Rattle.gta_atom.specs.Atom.{IsAtom};
 use crate::sizes::{Counts, counts_of};
 use bdd_nodes::Shelf;
 use gta_atom::atom;
-use gta_core::{Auto, automata_outlive_changes, tables_outlive_changes};
+use gta_core::Auto;
 use gta_minimise::minimise;
 use gta_product::{complement, product};
 use plain_data::Items;
@@ -20,7 +20,7 @@ use ws2s_core::{Formula, Guide, Track};
 
 /// An atom, or the negation of one.
 #[derive(Clone, Copy, Debug)]
-enum Literal {
+pub(crate) enum Literal {
     Sub(u32, u32),
     Single(u32),
     Succ0(u32, u32),
@@ -50,7 +50,7 @@ impl Literal {
 
 /// The guides of the tests.
 #[derive(Clone, Copy, Debug)]
-enum Over {
+pub(crate) enum Over {
     /// One space.
     Plain,
     /// The root's space is nobody's child.
@@ -59,7 +59,7 @@ enum Over {
     Beside,
 }
 
-fn guide(alloc: Global, over: Over) -> Result<Guide, AllocError> {
+pub(crate) fn guide(alloc: Global, over: Over) -> Result<Guide, AllocError> {
     match over {
         Over::Plain => Guide::plain(alloc),
         Over::Above => of_two(alloc, (1, 1), (1, 1)),
@@ -72,12 +72,7 @@ fn of_two(alloc: Global, first: (u32, u32), second: (u32, u32)) -> Result<Guide,
 }
 
 /// The minimal automaton of a literal.
-fn automaton(
-    alloc: Global,
-    g: &Guide,
-    literal: Literal,
-    shelf: &mut Shelf,
-) -> Result<Auto, Fail>
+fn automaton(alloc: Global, g: &Guide, literal: Literal, shelf: &mut Shelf) -> Result<Auto, Fail>
     ensures auto { IfOk result (IsAuto g.now shelf.new) }
     ensures table { IfOk result (λ a. RegistersTable shelf.old shelf.new a.table) }
     ensures kept { Keeps shelf.old shelf.new }
@@ -92,7 +87,7 @@ fn automaton(
 }
 
 /// The product of the minimal automata of two literals.
-fn conjunction(
+pub(crate) fn conjunction(
     alloc: Global,
     g: &Guide,
     literals: [Literal; 2],
@@ -101,9 +96,6 @@ fn conjunction(
     ensures auto { IfOk result (IsAuto g.now shelf.new) }
     ensures shelf { IsShelf shelf.new }
 {
-    // Only for their clauses.
-    tables_outlive_changes();
-    automata_outlive_changes();
     let a = automaton(alloc, g, literals[0], shelf)?;
     let b = automaton(alloc, g, literals[1], shelf)?;
     Ok(product(alloc, g, &a, &b, shelf)?)
@@ -124,16 +116,76 @@ fn counts(alloc: Global, over: Over, literals: [Literal; 2]) -> Result<(Counts, 
 fn minimal_automata_have_these_states_and_sizes(rt: HostRuntime) -> Result<(), Fail> {
     let alloc = rt.alloc();
     for (one, other, plain, above, beside) in [
-        (Literal::Root(1), Literal::Sub(1, 0), (3, 12), (2, 2, 11), (3, 1, 15)),
-        (Literal::Single(0), Literal::NotSingle(0), (1, 1), (1, 1, 2), (1, 1, 2)),
-        (Literal::Sub(0, 1), Literal::Sub(1, 0), (2, 7), (2, 2, 14), (2, 1, 9)),
-        (Literal::Single(0), Literal::Single(1), (5, 33), (2, 5, 64), (5, 1, 38)),
-        (Literal::Single(0), Literal::Sub(0, 1), (3, 12), (2, 3, 24), (3, 1, 15)),
-        (Literal::Single(0), Literal::Root(0), (3, 10), (2, 2, 10), (3, 1, 13)),
-        (Literal::Succ0(0, 1), Literal::Root(0), (4, 20), (2, 3, 22), (4, 1, 24)),
-        (Literal::Sub(0, 1), Literal::NotSub(0, 1), (1, 1), (1, 1, 2), (1, 1, 2)),
-        (Literal::Sub(0, 1), Literal::NotSub(1, 0), (3, 14), (2, 3, 26), (3, 1, 17)),
-        (Literal::Sub(0, 1), Literal::Sub(1, 2), (2, 8), (2, 2, 16), (2, 1, 10)),
+        (
+            Literal::Root(1),
+            Literal::Sub(1, 0),
+            (3, 12),
+            (2, 2, 11),
+            (3, 1, 15),
+        ),
+        (
+            Literal::Single(0),
+            Literal::NotSingle(0),
+            (1, 1),
+            (1, 1, 2),
+            (1, 1, 2),
+        ),
+        (
+            Literal::Sub(0, 1),
+            Literal::Sub(1, 0),
+            (2, 7),
+            (2, 2, 14),
+            (2, 1, 9),
+        ),
+        (
+            Literal::Single(0),
+            Literal::Single(1),
+            (5, 33),
+            (2, 5, 64),
+            (5, 1, 38),
+        ),
+        (
+            Literal::Single(0),
+            Literal::Sub(0, 1),
+            (3, 12),
+            (2, 3, 24),
+            (3, 1, 15),
+        ),
+        (
+            Literal::Single(0),
+            Literal::Root(0),
+            (3, 10),
+            (2, 2, 10),
+            (3, 1, 13),
+        ),
+        (
+            Literal::Succ0(0, 1),
+            Literal::Root(0),
+            (4, 20),
+            (2, 3, 22),
+            (4, 1, 24),
+        ),
+        (
+            Literal::Sub(0, 1),
+            Literal::NotSub(0, 1),
+            (1, 1),
+            (1, 1, 2),
+            (1, 1, 2),
+        ),
+        (
+            Literal::Sub(0, 1),
+            Literal::NotSub(1, 0),
+            (3, 14),
+            (2, 3, 26),
+            (3, 1, 17),
+        ),
+        (
+            Literal::Sub(0, 1),
+            Literal::Sub(1, 2),
+            (2, 8),
+            (2, 2, 16),
+            (2, 1, 10),
+        ),
     ] {
         let literals = [one, other];
         let at = |states: [Option<u32>; 2], size: usize| Counts { states, size };
@@ -142,8 +194,7 @@ fn minimal_automata_have_these_states_and_sizes(rt: HostRuntime) -> Result<(), F
             "{literals:?}"
         );
         assert!(rt;
-            counts(alloc, Over::Above, literals)?.1
-                == at([Some(above.0), Some(above.1)], above.2),
+            counts(alloc, Over::Above, literals)?.1 == at([Some(above.0), Some(above.1)], above.2),
             "{literals:?}"
         );
         assert!(rt;

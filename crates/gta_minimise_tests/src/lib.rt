@@ -2,6 +2,10 @@
 #![tactic(auto)]
 
 #[cfg(test)]
+mod built;
+#[cfg(test)]
 mod conjunctions;
+#[cfg(test)]
+mod limits;
 #[cfg(test)]
 mod sizes;

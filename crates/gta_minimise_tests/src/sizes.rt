@@ -16,12 +16,7 @@ pub(crate) struct Counts {
     pub(crate) size: usize,
 }
 
-pub(crate) fn counts_of(
-    alloc: Global,
-    g: &Guide,
-    a: &Auto,
-    shelf: &Shelf,
-) -> Result<Counts, Fail>
+pub(crate) fn counts_of(alloc: Global, g: &Guide, a: &Auto, shelf: &Shelf) -> Result<Counts, Fail>
     requires { IsAuto g.now shelf.now a.now }
 {
     let mut size: usize = 0;
