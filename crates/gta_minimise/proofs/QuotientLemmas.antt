@@ -5,7 +5,7 @@ use Rattle.std.specs.Prelude.{slice_get, slice_index, slice_index_or, unwrap_or,
 use Rattle.std.proofs.Math.Nat.{mul_comm, div-lt_iff_lt-mul}
 use Rattle.std.proofs.lemmas.Nat.{mul-add-lt, div-mul-add, mod-mul-add}
 use Rattle.std.proofs.lemmas.Bool.{cases_lt, cases_eq, ltb-true, lt-ltb}
-use Rattle.std.proofs.lemmas.List.Elements.{All-contains}
+use Rattle.std.proofs.lemmas.List.{get_or_default}
 use Rattle.std.proofs.lemmas.Option.{slice_get_within, slice_get-get_or}
 use Rattle.labels.specs.Labels.{Label, Function, with_below, IsUnder}
 use Rattle.bdd_nodes.specs.declared.node_ref.NodeRef.{NodeRef}
@@ -13,7 +13,8 @@ use Rattle.bdd_nodes.specs.Shelf.{Contents, IsValid, state_of, count_of}
 use Rattle.bdd_list.specs.declared.listing.Listed.{Listed}
 use Rattle.bdd_list.specs.declared.listing.Listed.TheVariants.{Leaf, Inner}
 use Rattle.bdd_list.specs.declared.listing.Listing.{Listing}
-use Rattle.bdd_list.specs.Listing.{function_in, function_of, IsListing}
+use Rattle.bdd_list.specs.declared.listing.ListedNode.{ListedNode}
+use Rattle.bdd_list.specs.Listing.{rank, function_in, function_of, IsListing}
 use Rattle.gta_theory.specs.Guides.{Spaces, IsSpace, IsGuide, left, right}
 use Rattle.gta_theory.specs.Automata.{Automaton}
 use Rattle.gta_theory.specs.Numbered.{Below}
@@ -21,12 +22,14 @@ use Rattle.gta_theory.specs.Sizes.{AreDifferent, IsVaried, IsPart}
 use Rattle.gta_theory.proofs.ListedLemmas.{slice_get-front, slice_get-last, slice_get-push}
 use Rattle.gta_core.specs.Auto.{AutoView, states_of, root_at, automaton_of}
 use Rattle.gta_core.specs.declared.build.SpacePart.{SpacePart}
+use Rattle.gta_refine.specs.declared.form.FormSpace.{FormSpace}
 use Rattle.gta_refine.specs.declared.form.Form.{Form}
 use Rattle.gta_refine.specs.declared.rounds.SpaceClasses.{SpaceClasses}
 use Rattle.gta_refine.specs.Form as form
 use Rattle.gta_refine.specs.Numbered.{Stands, AreNumbered, StandFor}
 use Rattle.gta_refine.specs.Refined.{part_at, is_reached_in, class_at, representative_at, classes_in, quotient_of, IsRefined}
 use Rattle.gta_refine.proofs.ChosenLemmas.{marked-inside}
+use Rattle.gta_refine.proofs.ReachLemmas.{many_spaces, initial-form, initial-at}
 use Rattle.gta_minimise.specs.Listed.{IsFormOf}
 use Rattle.gta_minimise.specs.Renamed.{IsRenamed}
 use Rattle.gta_minimise.specs.Quotient.{ArePairs, IsUnderClasses, IsRootOf, IsQuotientSpace}
@@ -75,19 +78,17 @@ ArePairs-none shelf a s lefts rights none = record {
   each = λ k k_in. absurd (omega arith);
 }
 
--- the part of a space
-module _ (g : Spaces) (old new : Contents) (a : AutoView) (f : Form) (classes : List SpaceClasses) (is_form : form.IsForm f)
-    (same : IsFormOf g old a f) (refined : IsRefined f classes) (s : ℕ) (inside : IsSpace g s)
-    (roots : List NodeRef) (pairs : ArePairs old a s (part_at classes (left g s)).representatives (part_at classes (right g s)).representatives roots)
-    (listing : Listing) (is_listing : IsListing old roots listing) where
+-- an automaton, its form, and the classes of its states
+module _ (g : Spaces) (old : Contents) (a : AutoView) (f : Form) (classes : List SpaceClasses) (is_form : form.IsForm f)
+    (same : IsFormOf g old a f) (refined : IsRefined f classes) where
   there : (k : ℕ) → IsSpace g k → IsSpace (form.guide_of f) k
   there k k_in = subst (λ (h : Spaces). IsSpace h k) (sym same.guide) k_in
 
-  guide : IsGuide g
+  pub guide : IsGuide g
   guide = subst IsGuide same.guide is_form.guide
 
   -- a representative is a state
-  representative-below : (k x : ℕ) → IsSpace g k → x < classes_in classes k → representative_at classes k x < states_of a k
+  pub representative-below : (k x : ℕ) → IsSpace g k → x < classes_in classes k → representative_at classes k x < states_of a k
   representative-below k x k_in x_in =
       let reached = (refined.classes k (there k k_in)).inside x x_in in
       let i = marked-inside (part_at classes k).reached (representative_at classes k x) reached in
@@ -95,6 +96,62 @@ module _ (g : Spaces) (old new : Contents) (a : AutoView) (f : Form) (classes : 
       let e = same.states k k_in in
       omega arith
 
+  -- the part of a space is there
+  pub part-read : (k : ℕ) → IsSpace g k → (d : SpaceClasses) → slice_index_or classes k d ≡ part_at classes k
+  part-read k k_in d = get_or_default classes k d (record { reached = []; classes = []; representatives = [] })
+      (let a = refined.all in let m = many_spaces f in let t = there k k_in in omega arith)
+
+  pub spaces-there : (k : ℕ) → IsSpace g k → k < length classes
+  spaces-there k k_in = let a = refined.all in let m = many_spaces f in let t = there k k_in in omega arith
+
+  pub part-there : (k : ℕ) → IsSpace g k → (part : SpaceClasses) → slice_get classes k ≡ Some part → part ≡ part_at classes k
+  part-there k k_in part at =
+      let e : Some part ≡ Some (part_at classes k) =
+      sym at ∙ slice_get-get_or classes k (record { reached = []; classes = []; representatives = [] }) (spaces-there k k_in) in
+      cc
+
+  pub small-classes : (k : ℕ) → IsSpace g k → All (λ class. class < 2 ^ 31) (part_at classes k).classes
+  small-classes k k_in = λ q d q_in.
+      let are = refined.classes k (there k k_in) in
+      let w = are.within q q_in in
+      let e = get_or_default (part_at classes k).classes q d 0 q_in in
+      let f = are.few in
+      omega arith
+
+  pub few-classes : (k : ℕ) → IsSpace g k → classes_in classes k ≤ 2 ^ 31
+  few-classes k k_in = (refined.classes k (there k k_in)).few
+
+  -- the initial state is there, and has a class
+  pub initial-read : (k : ℕ) → IsSpace g k → (d : FormSpace) → (slice_index_or f.spaces k d).initial ≡ (form.automaton_of f).initial k
+  initial-read k k_in d =
+      let inside : k < length f.spaces = (let m = many_spaces f in let t = there k k_in in omega arith) in
+      sym (initial-form f k ∙ initial-at f k (slice_index_or f.spaces k d) (slice_get-get_or f.spaces k d inside))
+
+  pub initial-classed : (k : ℕ) → IsSpace g k → (form.automaton_of f).initial k < length (part_at classes k).classes
+  initial-classed k k_in =
+      let below = ltb-true ((form.automaton_of f).initial k) (form.states_of f k) (is_form.closed.initial k (there k k_in)) in
+      let m = refined.many k (there k k_in) in
+      let n = (refined.classes k (there k k_in)).many in
+      omega arith
+
+  -- the parts of the children
+  module _ (s : ℕ) (inside : IsSpace g s) (o : Option (ℕ × ℕ)) (children : ℕ × ℕ) (is : children ≡ unwrap_or o (0, 0)) (at : o ≡ slice_get g s)
+      (d : SpaceClasses) where
+    pub left-read : slice_index_or classes children.0 d ≡ part_at classes (left g s)
+    left-read =
+        ap (λ (p : ℕ × ℕ). slice_index_or classes p.0 d) (is ∙ ap (λ (q : Option (ℕ × ℕ)). unwrap_or q (0, 0)) at)
+        ∙ part-read (left g s) (guide.left_inside s inside) d
+
+    pub right-read : slice_index_or classes children.1 d ≡ part_at classes (right g s)
+    right-read =
+        ap (λ (p : ℕ × ℕ). slice_index_or classes p.1 d) (is ∙ ap (λ (q : Option (ℕ × ℕ)). unwrap_or q (0, 0)) at)
+        ∙ part-read (right g s) (guide.right_inside s inside) d
+
+-- the part of a space
+module _ (g : Spaces) (old new : Contents) (a : AutoView) (f : Form) (classes : List SpaceClasses) (is_form : form.IsForm f)
+    (same : IsFormOf g old a f) (refined : IsRefined f classes) (s : ℕ) (inside : IsSpace g s)
+    (roots : List NodeRef) (pairs : ArePairs old a s (part_at classes (left g s)).representatives (part_at classes (right g s)).representatives roots)
+    (listing : Listing) (is_listing : IsListing old roots listing) where
   -- which step the root of a pair has
   step-root : (k : ℕ) (root : NodeRef) (label : Label) → slice_get roots k ≡ Some root →
       let x = k / classes_in classes (right g s) in let y = k % classes_in classes (right g s) in
@@ -107,8 +164,9 @@ module _ (g : Spaces) (old new : Contents) (a : AutoView) (f : Form) (classes : 
       let y_in = pairs.right_inside k k_in in
       let l = representative_at classes (left g s) (k / w) in
       let r = representative_at classes (right g s) (k % w) in
-      let l_in = representative-below (left g s) (k / w) (guide.left_inside s inside) x_in in
-      let r_in = representative-below (right g s) (k % w) (guide.right_inside s inside) y_in in
+      let is_guide = guide g old a f classes is_form same refined in
+      let l_in = representative-below g old a f classes is_form same refined (left g s) (k / w) (is_guide.left_inside s inside) x_in in
+      let r_in = representative-below g old a f classes is_form same refined (right g s) (k % w) (is_guide.right_inside s inside) y_in in
       let is : Some root ≡ root_at old a s l r = sym at ∙ pairs.each k k_in in
       let step : state_of old root label ≡ (automaton_of old a).step s l r label =
       ap (λ (o : Option NodeRef). unwrap_or (option_map (state_of old) o) (λ t. 0) label) is in
@@ -177,7 +235,7 @@ module _ (g : Spaces) (old new : Contents) (a : AutoView) (f : Form) (classes : 
       let k_in = root.there.1 in
       record {
         space = s;
-        inside = there s inside;
+        inside = there g old a f classes is_form same refined s inside;
         under = record {
           at_left = k / w;
           at_right = k % w;
@@ -191,3 +249,18 @@ module _ (g : Spaces) (old new : Contents) (a : AutoView) (f : Form) (classes : 
               ∙ step-root k root.root (with_below root.under.below root.under.fixed label) at;
         };
       }
+
+  pub under-read : (numbers : List ℕ) (nodes : List ListedNode) → numbers ≡ (part_at classes s).classes → nodes ≡ listing.nodes →
+      (h : Function) → IsRenamed numbers nodes h → IsUnderClasses f classes h
+  under-read numbers nodes numbers_are nodes_are h renamed = under-renamed h
+      (subst (λ (ns : List ListedNode). IsRenamed (part_at classes s).classes ns h) nodes_are
+      (subst (λ (xs : List ℕ). IsRenamed xs nodes h) numbers_are renamed))
+
+  pub inside-read : (nodes : List ListedNode) (listed : List Listed) (refs : List NodeRef) → nodes ≡ listing.nodes → listed ≡ listing.roots →
+      length refs ≡ length nodes → All (λ one. rank one ≤ length refs) listed
+  inside-read nodes listed refs nodes_are listed_are many = λ k d k_in.
+      let e = ap length listed_are in
+      let n = ap length nodes_are in
+      let here : slice_index_or listed k d ≡ slice_index_or listing.roots k d = ap (λ (xs : List Listed). slice_index_or xs k d) listed_are in
+      let is = is_listing.inside k (slice_index_or listing.roots k d) (slice_get-get_or listing.roots k d (omega arith)) in
+      subst (λ (one : Listed). rank one ≤ length refs) (sym here) (omega arith)

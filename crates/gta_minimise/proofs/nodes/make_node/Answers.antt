@@ -1,5 +1,4 @@
 -- The node is made.
-use Rattle.std.proofs.Common.{length}
 use Rattle.bdd_list.specs.Listing.{node_at}
 use Rattle.gta_refine.proofs.NumbersLemmas.{IsSideFor-stands}
 use Rattle.gta_room.proofs.ProgressLemmas.{Adds-make, IsStuck-make}
