@@ -1,24 +1,22 @@
 -- The automaton of classes, as it is made in a shelf.
-use Rattle.std.proofs.Common.{◌≡◌, ◌≢◌, ℕ, zero, suc, ◌+◌, ◌-◌, ◌*◌, ◌/◌, ◌%◌, ◌<◌, ◌≤◌, ◌^◌, Bool, true, false, List, [], ◌∷◌, ◌++◌, length, map, get_or, Option, Some, None, ◌⊎◌, inl, inr}
-use Rattle.std.proofs.Common.{sym, ◌∙◌, ap, refl, subst, arith, length-append}
-use Rattle.std.specs.Prelude.{slice_get, slice_index, slice_index_or, unwrap_or, option_map, All, AllPairs, Contains, nat_lt}
+use Rattle.std.proofs.Common.{◌≡◌, ℕ, ◌+◌, ◌*◌, ◌/◌, ◌%◌, ◌<◌, ◌≤◌, ◌^◌, List, [], ◌∷◌, ◌++◌, length, Option, Some, inl, inr}
+use Rattle.std.proofs.Common.{sym, ◌∙◌, ap, subst, arith, length-append}
+use Rattle.std.specs.Prelude.{slice_get, slice_index, slice_index_or, unwrap_or, option_map, All}
 use Rattle.std.proofs.Math.Nat.{mul_comm, div-lt_iff_lt-mul}
 use Rattle.std.proofs.lemmas.Nat.{mul-add-lt, div-mul-add, mod-mul-add}
-use Rattle.std.proofs.lemmas.Bool.{cases_lt, cases_eq, ltb-true, lt-ltb}
+use Rattle.std.proofs.lemmas.Bool.{cases_lt, ltb-true, lt-ltb}
 use Rattle.std.proofs.lemmas.List.{get_or_default}
 use Rattle.std.proofs.lemmas.Option.{slice_get_within, slice_get-get_or}
-use Rattle.labels.specs.Labels.{Label, Function, with_below, IsUnder}
+use Rattle.labels.specs.Labels.{Label, Function, with_below}
 use Rattle.bdd_nodes.specs.declared.node_ref.NodeRef.{NodeRef}
-use Rattle.bdd_nodes.specs.Shelf.{Contents, IsValid, state_of, count_of}
+use Rattle.bdd_nodes.specs.Shelf.{Contents, IsValid, state_of}
 use Rattle.bdd_list.specs.declared.listing.Listed.{Listed}
-use Rattle.bdd_list.specs.declared.listing.Listed.TheVariants.{Leaf, Inner}
+use Rattle.bdd_list.specs.declared.listing.Listed.TheVariants.{Leaf}
 use Rattle.bdd_list.specs.declared.listing.Listing.{Listing}
 use Rattle.bdd_list.specs.declared.listing.ListedNode.{ListedNode}
-use Rattle.bdd_list.specs.Listing.{rank, function_in, function_of, IsListing}
+use Rattle.bdd_list.specs.Listing.{rank, IsListing}
 use Rattle.gta_theory.specs.Guides.{Spaces, IsSpace, IsGuide, left, right}
-use Rattle.gta_theory.specs.Automata.{Automaton}
 use Rattle.gta_theory.specs.Numbered.{Below}
-use Rattle.gta_theory.specs.Sizes.{AreDifferent, IsVaried, IsPart}
 use Rattle.gta_theory.proofs.ListedLemmas.{slice_get-front, slice_get-last, slice_get-push}
 use Rattle.gta_core.specs.Auto.{AutoView, states_of, root_at, automaton_of}
 use Rattle.gta_core.specs.declared.build.SpacePart.{SpacePart}
@@ -26,8 +24,8 @@ use Rattle.gta_refine.specs.declared.form.FormSpace.{FormSpace}
 use Rattle.gta_refine.specs.declared.form.Form.{Form}
 use Rattle.gta_refine.specs.declared.rounds.SpaceClasses.{SpaceClasses}
 use Rattle.gta_refine.specs.Form as form
-use Rattle.gta_refine.specs.Numbered.{Stands, AreNumbered, StandFor}
-use Rattle.gta_refine.specs.Refined.{part_at, is_reached_in, class_at, representative_at, classes_in, quotient_of, IsRefined}
+use Rattle.gta_refine.specs.Numbered.{AreNumbered, StandFor}
+use Rattle.gta_refine.specs.Refined.{part_at, class_at, representative_at, classes_in, quotient_of, IsRefined}
 use Rattle.gta_refine.proofs.ChosenLemmas.{marked-inside}
 use Rattle.gta_refine.proofs.ReachLemmas.{many_spaces, initial-form, initial-at}
 use Rattle.gta_minimise.specs.Listed.{IsFormOf}

@@ -1,5 +1,5 @@
 -- One space after the other.
-use Rattle.std.proofs.Common.{◌≡◌, ℕ, ◌+◌, List, [], ◌∷◌, ◌++◌, sym, ◌∙◌, ap, subst, arith}
+use Rattle.std.proofs.Common.{◌+◌, List, sym, subst}
 use Rattle.gta_core.specs.declared.build.SpacePart.{SpacePart}
 use Rattle.gta_room.proofs.ProgressLemmas.{Adds-both}
 use Rattle.gta_minimise.specs.Quotient.{IsUnderClasses, AreQuotientSpaces}

@@ -1,5 +1,5 @@
 -- The part of a space.
-use Rattle.std.proofs.Common.{◌≡◌, ◌<◌, ◌≤◌, ◌^◌, ℕ, List, All, length, refl, sym, ◌∙◌, ap, subst, arith}
+use Rattle.std.proofs.Common.{◌≡◌, ◌<◌, ◌^◌, ℕ, List, All, length, refl, sym, ◌∙◌, ap, subst, arith}
 use Rattle.std.specs.Prelude.{slice_index, slice_index_or}
 use Rattle.std.proofs.lemmas.Option.{slice_get_read}
 use Rattle.bdd_nodes.specs.declared.node_ref.NodeRef.{NodeRef}
@@ -13,7 +13,7 @@ use Rattle.gta_refine.specs.declared.form.FormSpace.{FormSpace}
 use Rattle.gta_refine.specs.declared.rounds.SpaceClasses.{SpaceClasses}
 use Rattle.gta_refine.specs.Form.{automaton_of}
 use Rattle.gta_refine.specs.Numbered.{AreNumbered, StandFor}
-use Rattle.gta_refine.specs.Refined.{part_at, class_at, classes_in}
+use Rattle.gta_refine.specs.Refined.{part_at}
 use Rattle.gta_minimise.specs.Renamed.{IsRenamed}
 use Rattle.gta_minimise.specs.Quotient.{ArePairs, IsUnderClasses}
 use Rattle.gta_minimise.proofs.QuotientLemmas.{representative-below, part-there, spaces-there, left-read, right-read, small-classes, few-classes, initial-read, initial-classed}
