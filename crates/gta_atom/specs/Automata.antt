@@ -1,10 +1,8 @@
 -- The minimal automaton of an atom, with its states numbered in each space. (Biehl, Klarlund and Rauhe 1996.)
 use Rattle.std.specs.Prelude.{ℕ, Bool, List, map}
 use Rattle.std.specs.List.{range_with_len}
-use Rattle.gta_theory.specs.Guides.{Spaces, IsSpace, left, right}
+use Rattle.gta_theory.specs.Guides.{Spaces, left, right}
 use Rattle.gta_theory.specs.Automata.{Automaton}
-use Rattle.gta_theory.specs.Sizes.{IsUnderTable}
-use Rattle.labels.specs.Labels.{Function}
 use Rattle.gta_atom.specs.declared.plan.Plan.{Plan}
 use Rattle.gta_atom.specs.States.{known_step, is_held, count_of, number_of, known_of}
 use Rattle.gta_atom.specs.Plans.{kept_in}

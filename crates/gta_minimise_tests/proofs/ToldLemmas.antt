@@ -102,7 +102,16 @@ module _ (shelf : Contents) (told : NodeRef) (accepting : List Bool) (valid : Is
   all-valid roots rest = All-cons (IsValid shelf) told roots valid rest
 
   roots-valid : All (IsValid shelf) (told_part told).roots
-  roots-valid = all-valid _ (all-valid _ (all-valid _ (all-valid _ (all-valid _ (all-valid _ (all-valid _ (all-valid _ (all-valid [] (All-nil (IsValid shelf))))))))))
+  roots-valid =
+      all-valid (told ∷ told ∷ told ∷ told ∷ told ∷ told ∷ told ∷ told ∷ [])
+      (all-valid (told ∷ told ∷ told ∷ told ∷ told ∷ told ∷ told ∷ [])
+      (all-valid (told ∷ told ∷ told ∷ told ∷ told ∷ told ∷ [])
+      (all-valid (told ∷ told ∷ told ∷ told ∷ told ∷ [])
+      (all-valid (told ∷ told ∷ told ∷ told ∷ [])
+      (all-valid (told ∷ told ∷ told ∷ [])
+      (all-valid (told ∷ told ∷ [])
+      (all-valid (told ∷ [])
+      (all-valid [] (All-nil (IsValid shelf))))))))))
 
   pub told-given : length accepting ≡ 3 → IsGiven two_spaces shelf (told_parts told) accepting
   told-given three = record {

@@ -62,13 +62,17 @@ pub(crate) enum Over {
 pub(crate) fn guide(alloc: Global, over: Over) -> Result<Guide, AllocError> {
     match over {
         Over::Plain => Guide::plain(alloc),
-        Over::Above => of_two(alloc, (1, 1), (1, 1)),
-        Over::Beside => of_two(alloc, (0, 0), (1, 0)),
+        Over::Above => above(alloc),
+        Over::Beside => beside(alloc),
     }
 }
 
-fn of_two(alloc: Global, first: (u32, u32), second: (u32, u32)) -> Result<Guide, AllocError> {
-    Guide::new(alloc, Items::from_slice(alloc, &[first, second])?)
+fn above(alloc: Global) -> Result<Guide, AllocError> {
+    Guide::new(alloc, Items::from_slice(alloc, &[(1, 1), (1, 1)])?)
+}
+
+fn beside(alloc: Global) -> Result<Guide, AllocError> {
+    Guide::new(alloc, Items::from_slice(alloc, &[(0, 0), (1, 0)])?)
 }
 
 /// The minimal automaton of a literal.
