@@ -142,7 +142,8 @@ module _ (between : Contents) (f : Form) (classes : List SpaceClasses) (is_form 
       ∙ ap (option_map (λ state. slice_index_or f.accepting state false)) (slice_get-get_or reps x 0 x_in))
       ∙ sym (accepting-form f (representative_at classes 0 x)) ∙ sym (accepting-quotient f classes x)
 
-  naming : IsNaming (form.guide_of f) (form.automaton_of f) (Has (is_reached_in classes)) (given_automaton (form.guide_of f) between parts accepting) (class_at classes)
+  naming : IsNaming (form.guide_of f) (form.automaton_of f) (Has (is_reached_in classes))
+      (given_automaton (form.guide_of f) between parts accepting) (class_at classes)
   naming = record {
     initial = λ s there. sym (initial-is s there);
     step = λ s p q label there p_in q_in.
@@ -208,14 +209,16 @@ module _ (between : Contents) (f : Form) (classes : List SpaceClasses) (is_form 
       ))
       refined.apart
 
-  pub Accepts-parts : (t : Assignment) → Accepts (form.guide_of f) (form.automaton_of f) t ↔ Accepts (form.guide_of f) (given_automaton (form.guide_of f) between parts accepting) t
+  pub Accepts-parts : (t : Assignment) → Accepts (form.guide_of f) (form.automaton_of f) t
+      ↔ Accepts (form.guide_of f) (given_automaton (form.guide_of f) between parts accepting) t
   Accepts-parts t = Accepts-named (form.guide_of f) is_form.guide (form.automaton_of f) (Has (is_reached_in classes))
       (given_automaton (form.guide_of f) between parts accepting) (class_at classes) closed-reached naming t
 
 -- the form accepts what the automaton accepts
 pub Accepts-form : (g : Spaces) (shelf : Contents) (a : AutoView) (f : Form) → IsGuide g → IsAuto g shelf a → IsFormOf g shelf a f → (t : Assignment) →
     Accepts g (automaton_of shelf a) t ↔ Accepts g (form.automaton_of f) t
-Accepts-form g shelf a f guide is_auto same t = Accepts-named g guide (automaton_of shelf a) (Below (states_of a)) (form.automaton_of f) (λ s q. q) is_auto.closed
+Accepts-form g shelf a f guide is_auto same t = Accepts-named g guide (automaton_of shelf a) (Below (states_of a)) (form.automaton_of f) (λ s q. q)
+    is_auto.closed
     (record {
       initial = λ s there. sym (same.initial s there);
       step = λ s p q label there p_in q_in. sym (same.steps s p q label there

@@ -169,7 +169,8 @@ module _ (g : Spaces) (old new : Contents) (a : AutoView) (f : Form) (classes : 
       let step : state_of old root label ≡ (automaton_of old a).step s l r label =
       ap (λ (o : Option NodeRef). unwrap_or (option_map (state_of old) o) (λ t. 0) label) is in
       ap (class_at classes s) (step ∙ sym (same.steps s l r label inside l_in r_in))
-      ∙ ap (λ (h : Spaces). class_at classes s ((form.automaton_of f).step s (representative_at classes (left h s) (k / w)) (representative_at classes (right h s) (k % w)) label)) (sym same.guide)
+      ∙ ap (λ (h : Spaces). class_at classes s ((form.automaton_of f).step s (representative_at classes (left h s) (k / w))
+      (representative_at classes (right h s) (k % w)) label)) (sym same.guide)
       ∙ sym (step-quotient f classes s (k / w) (k % w) label)
 
   root-some : (k : ℕ) → k < length roots → (root : NodeRef) × (slice_get roots k ≡ Some root)

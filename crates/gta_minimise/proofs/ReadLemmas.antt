@@ -7,15 +7,13 @@ use Rattle.gta_refine.specs.declared.rounds.SpaceClasses.{SpaceClasses}
 use Rattle.gta_refine.specs.Form.{guide_of, automaton_of}
 use Rattle.gta_refine.specs.Refined.{class_at, representative_at, quotient_of}
 
-pub initial-quotient : (form : Form) (spaces : List SpaceClasses) (s : ℕ) → (quotient_of form spaces).initial s ≡ class_at spaces s ((automaton_of form).initial s)
-unfolding quotient_of
-initial-quotient form spaces s = refl
-
 pub step-quotient : (form : Form) (spaces : List SpaceClasses) (s x y : ℕ) (label : Label) → (quotient_of form spaces).step s x y label
-    ≡ class_at spaces s ((automaton_of form).step s (representative_at spaces (left (guide_of form) s) x) (representative_at spaces (right (guide_of form) s) y) label)
+    ≡ class_at spaces s ((automaton_of form).step s (representative_at spaces (left (guide_of form) s) x)
+    (representative_at spaces (right (guide_of form) s) y) label)
 unfolding quotient_of
 step-quotient form spaces s x y label = refl
 
-pub accepting-quotient : (form : Form) (spaces : List SpaceClasses) (x : ℕ) → (quotient_of form spaces).accepting x ≡ (automaton_of form).accepting (representative_at spaces 0 x)
+pub accepting-quotient : (form : Form) (spaces : List SpaceClasses) (x : ℕ) →
+    (quotient_of form spaces).accepting x ≡ (automaton_of form).accepting (representative_at spaces 0 x)
 unfolding quotient_of
 accepting-quotient form spaces x = refl

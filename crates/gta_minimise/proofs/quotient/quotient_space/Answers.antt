@@ -16,7 +16,8 @@ use Rattle.gta_refine.specs.Numbered.{AreNumbered, StandFor}
 use Rattle.gta_refine.specs.Refined.{part_at}
 use Rattle.gta_minimise.specs.Renamed.{IsRenamed}
 use Rattle.gta_minimise.specs.Quotient.{ArePairs, IsUnderClasses}
-use Rattle.gta_minimise.proofs.QuotientLemmas.{representative-below, part-there, spaces-there, left-read, right-read, small-classes, few-classes, initial-read, initial-classed}
+use Rattle.gta_minimise.proofs.QuotientLemmas.{representative-below, part-there, spaces-there, left-read, right-read}
+use Rattle.gta_minimise.proofs.QuotientLemmas.{small-classes, few-classes, initial-read, initial-classed}
 use Rattle.gta_minimise.proofs.QuotientLemmas.{IsQuotientSpace-made, under-read, inside-read}
 use Rattle.gta_minimise.proofs.quotient.quotient_space.Goals as goal
 
