@@ -57,19 +57,24 @@ fn guide(alloc: Global) -> Result<Guide, AllocError>
 }
 
 /// The automaton with these accepting states: 1 where the root has track 0, 0 where it hasn't, and 2 never.
-fn built(alloc: Global, g: &Guide, accepting: [bool; 3], shelf: &mut Shelf) -> Result<Auto, Fail>
+fn built(
+    alloc: Global,
+    g: &Guide,
+    accepting: (bool, bool, bool),
+    shelf: &mut Shelf,
+) -> Result<Auto, Fail>
     requires { g.now ≡ two_spaces }
     ensures auto { IfOk result (IsAuto g.now shelf.new) }
     ensures shelf { IfOk result (λ _. IsShelf shelf.new) }
 {
     let root = told(shelf)?;
     let spaces = parts(alloc, root)?;
-    let accepting = Items::from_slice(alloc, &accepting)?;
+    let accepting = Items::from_slice(alloc, &[accepting.0, accepting.1, accepting.2])?;
     Ok(Auto::build(alloc, g, spaces, accepting, shelf)?)
 }
 
 /// The counts of the automaton with these accepting states, and of the minimal one.
-fn counts(alloc: Global, accepting: [bool; 3]) -> Result<(Counts, Counts), Fail> {
+fn counts(alloc: Global, accepting: (bool, bool, bool)) -> Result<(Counts, Counts), Fail> {
     let g = guide(alloc)?;
     let mut shelf = Shelf::open(alloc, 100)?;
     let a = built(alloc, &g, accepting, &mut shelf)?;
@@ -95,10 +100,10 @@ fn states_that_are_not_reached_or_not_told_apart_go(rt: HostRuntime) -> Result<(
         size: 2,
     };
     for (accepting, want) in [
-        ([false, true, true], two),
-        ([true, false, true], two),
-        ([true, true, false], one),
-        ([false, false, true], one),
+        ((false, true, true), two),
+        ((true, false, true), two),
+        ((true, true, false), one),
+        ((false, false, true), one),
     ] {
         assert!(rt; counts(alloc, accepting)? == (all, want), "{accepting:?}");
     }
