@@ -15,10 +15,10 @@ use Rattle.ws2s_theory.specs.Peaks.{HasMinimalSize}
 use Rattle.gta_core.specs.Changes.{AddsOneTable, RegistersTable}
 use Rattle.gta_atom.specs.declared.plan.Plan.{Plan}
 use Rattle.gta_atom.specs.Plans.{IsPlanOf}
-use Rattle.gta_atom.specs.Automata.{counts_of, numbered_automaton, IsUnderSomewhere}
-use Rattle.gta_atom.specs.Progress.{Adds, IsStuck}
+use Rattle.gta_atom.specs.Automata.{counts_of, numbered_automaton}
+use Rattle.gta_room.specs.Progress.{Adds, IsStuck, IsUnderSomewhere}
 use Rattle.gta_atom.proofs.PartsLemmas.{SizeOf-planned}
-use Rattle.gta_atom.proofs.ProgressLemmas.{room-new, limit-stuck}
+use Rattle.gta_room.proofs.ProgressLemmas.{room-new, limit-stuck}
 
 module _ (g : Spaces) (plan : Plan) (is_child : Bool → ℕ → Bool) (guide : IsGuide g) (test : IsChildTest g is_child) (f : Formula)
     (planned : IsPlanOf plan f) (old made : Contents)

@@ -4,7 +4,6 @@ pub mod FormsLemmas
 pub mod PlansLemmas
 pub mod PlanOfLemmas
 pub mod ChildrenLemmas
-pub mod ProgressLemmas
 pub mod CellsLemmas
 pub mod PartsLemmas
 pub mod AtomLemmas

@@ -36,7 +36,8 @@ use Rattle.gta_atom.specs.declared.nodes.Cell.{Cell}
 use Rattle.gta_atom.specs.declared.plan.Plan.{Plan}
 use Rattle.gta_atom.specs.States.{is_held, count_of, known_of}
 use Rattle.gta_atom.specs.Plans.{IsPlanOf, kept_in}
-use Rattle.gta_atom.specs.Automata.{counts_of, numbered_step, numbered_automaton, are_held, IsUnderSomewhere}
+use Rattle.gta_room.specs.Progress.{IsUnderSomewhere}
+use Rattle.gta_atom.specs.Automata.{counts_of, numbered_step, numbered_automaton, are_held}
 use Rattle.gta_atom.specs.Cells.{cell_of, cell_function, AreRoots, IsPartIn}
 use Rattle.gta_atom.proofs.NamedLemmas.{IsMinimalOf-named}
 use Rattle.gta_atom.proofs.PlansLemmas.{IsMinimalOf-planned}

@@ -1,10 +1,8 @@
 -- The minimal automaton of an atom, with its states numbered in each space. (Biehl, Klarlund and Rauhe 1996.)
 use Rattle.std.specs.Prelude.{ℕ, Bool, List, map}
 use Rattle.std.specs.List.{range_with_len}
-use Rattle.gta_theory.specs.Guides.{Spaces, IsSpace, left, right}
+use Rattle.gta_theory.specs.Guides.{Spaces, left, right}
 use Rattle.gta_theory.specs.Automata.{Automaton}
-use Rattle.gta_theory.specs.Sizes.{IsUnderTable}
-use Rattle.labels.specs.Labels.{Function}
 use Rattle.gta_atom.specs.declared.plan.Plan.{Plan}
 use Rattle.gta_atom.specs.States.{known_step, is_held, count_of, number_of, known_of}
 use Rattle.gta_atom.specs.Plans.{kept_in}
@@ -25,12 +23,6 @@ numbered_automaton g plan is_child = record {
   step = λ s i j label. numbered_step g plan is_child s i j (label plan.first) (label plan.second);
   accepting = λ i. is_held plan.form (known_of (kept_in plan is_child 0) i);
 }
-
--- the function is under the table of some space
-pub record IsUnderSomewhere (g : Spaces) (A : Automaton ℕ) (has : ℕ → ℕ → Type 0) (f : Function) : Type 0 where
-  pub space : ℕ
-  pub inside : IsSpace g space
-  pub under : IsUnderTable g A has space f
 
 -- for each state of space 0 whether the atom holds in it
 abbrev pub are_held : Plan → (Bool → ℕ → Bool) → List Bool

@@ -3,5 +3,4 @@ pub mod States
 pub mod Plans
 pub mod Automata
 pub mod Children
-pub mod Progress
 pub mod Cells

@@ -13,8 +13,8 @@ ghost use Rattle.gta_core.specs.Auto.{states_of, automaton_of, IsAuto};
 ghost use Rattle.gta_core.specs.Changes.{RegistersTable};
 ghost use Rattle.gta_atom.specs.Atom.{IsAtom};
 ghost use Rattle.gta_atom.specs.Children.{test_of};
-ghost use Rattle.gta_atom.specs.Automata.{counts_of, numbered_automaton, IsUnderSomewhere, are_held};
-ghost use Rattle.gta_atom.specs.Progress.{Adds, IsStuck};
+ghost use Rattle.gta_atom.specs.Automata.{counts_of, numbered_automaton, are_held};
+ghost use Rattle.gta_room.specs.Progress.{Adds, IsStuck, IsUnderSomewhere};
 ghost use Rattle.gta_atom.specs.Cells.{cell_of, AreRoots, IsPartIn};
 
 use crate::child_test::ChildTest;

@@ -4,7 +4,7 @@ ghost use Rattle.std.specs.Prelude.{◌≡◌, ◌<◌, ◌≢◌, min, IfOk, On
 ghost use Rattle.labels.specs.Labels.{Label, IsUnder, with_track};
 ghost use Rattle.bdd_nodes.specs.Shelf.{IsShelf, IsValid, IsLeaf, IsSideFor, state_of};
 ghost use Rattle.gta_atom.specs.Cells.{cell_step, cell_function, lower_track};
-ghost use Rattle.gta_atom.specs.Progress.{Adds, IsStuck};
+ghost use Rattle.gta_room.specs.Progress.{Adds, IsStuck};
 
 use crate::kept::Kept;
 use crate::known::{Form, Known};

@@ -8,9 +8,10 @@ use Rattle.gta_atom.specs.declared.plan.Plan.{Plan}
 use Rattle.gta_atom.specs.Children.{test_of}
 use Rattle.gta_atom.specs.States.{count_of}
 use Rattle.gta_atom.specs.Plans.{kept_in}
-use Rattle.gta_atom.specs.Automata.{counts_of, numbered_automaton, IsUnderSomewhere}
+use Rattle.gta_room.specs.Progress.{IsUnderSomewhere}
+use Rattle.gta_atom.specs.Automata.{counts_of, numbered_automaton}
 use Rattle.gta_atom.specs.Cells.{cell_function, AreRoots}
-use Rattle.gta_atom.proofs.ProgressLemmas.{Adds-both, Adds-also, IsStuck-also}
+use Rattle.gta_room.proofs.ProgressLemmas.{Adds-both, Adds-also, IsStuck-also}
 use Rattle.gta_atom.proofs.PartsLemmas.{part-cell, states-cell, AreRoots-kept, AreRoots-push}
 use Rattle.gta_atom.proofs.making.part_in.Goals as goal
 

@@ -1,9 +1,9 @@
 use Rattle.std.proofs.Common.{◌≡◌, length}
 use Rattle.gta_theory.specs.Numbered.{Below}
 use Rattle.gta_atom.specs.Children.{test_of}
-use Rattle.gta_atom.specs.Automata.{counts_of, numbered_automaton, IsUnderSomewhere}
+use Rattle.gta_atom.specs.Automata.{counts_of, numbered_automaton}
 use Rattle.gta_atom.specs.Cells.{AreRoots}
-use Rattle.gta_atom.specs.Progress.{Adds}
+use Rattle.gta_room.specs.Progress.{Adds, IsUnderSomewhere}
 use Rattle.gta_atom.proofs.making.part_in.Given as goal
 
 abbrev pub invariant-loop-pair : goal.invariant-loop-pair

@@ -4,7 +4,7 @@ use Rattle.gta_theory.proofs.ListedLemmas.{slice_get-push}
 use Rattle.gta_core.specs.declared.build.SpacePart.{SpacePart}
 use Rattle.gta_atom.specs.Children.{test_of}
 use Rattle.gta_atom.specs.Cells.{IsPartIn}
-use Rattle.gta_atom.proofs.ProgressLemmas.{Adds-both}
+use Rattle.gta_room.proofs.ProgressLemmas.{Adds-both}
 use Rattle.gta_atom.proofs.PartsLemmas.{IsPartIn-kept}
 use Rattle.gta_atom.proofs.making.parts.Goals as goal
 

@@ -3,9 +3,9 @@ use Rattle.std.specs.Prelude.{slice_get}
 use Rattle.gta_theory.specs.Numbered.{Below}
 use Rattle.gta_core.specs.declared.build.SpacePart.{SpacePart}
 use Rattle.gta_atom.specs.Children.{test_of}
-use Rattle.gta_atom.specs.Automata.{counts_of, numbered_automaton, IsUnderSomewhere}
+use Rattle.gta_atom.specs.Automata.{counts_of, numbered_automaton}
 use Rattle.gta_atom.specs.Cells.{IsPartIn}
-use Rattle.gta_atom.specs.Progress.{Adds}
+use Rattle.gta_room.specs.Progress.{Adds, IsUnderSomewhere}
 use Rattle.gta_atom.proofs.making.parts.Given as goal
 
 abbrev pub invariant-loop-space : goal.invariant-loop-space

@@ -4,7 +4,7 @@ use Rattle.bdd_nodes.specs.Shelf.{IsSideFor, state_of, choice_of}
 use Rattle.bdd_nodes.proofs.CallerLemmas.{IsSideFor-kept}
 use Rattle.gta_atom.specs.Cells.{cell_function, lower_track}
 use Rattle.gta_atom.proofs.CellsLemmas.{IsUnder-whole, root-sides}
-use Rattle.gta_atom.proofs.ProgressLemmas.{Adds-both, Adds-make, IsStuck-make}
+use Rattle.gta_room.proofs.ProgressLemmas.{Adds-both, Adds-make, IsStuck-make}
 use Rattle.gta_atom.proofs.nodes.Cell.root.Goals as goal
 use Rattle.gta_atom.proofs.nodes.Cell.root.Goals.{After-make}
 

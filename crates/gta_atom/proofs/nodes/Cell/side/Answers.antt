@@ -3,7 +3,7 @@ use Rattle.labels.specs.Labels.{IsUnder}
 use Rattle.bdd_nodes.specs.Shelf.{choice_of}
 use Rattle.gta_atom.specs.Cells.{cell_function, lower_track}
 use Rattle.gta_atom.proofs.CellsLemmas.{IsUnder-side, side-first, side-second}
-use Rattle.gta_atom.proofs.ProgressLemmas.{Adds-make, IsStuck-make}
+use Rattle.gta_room.proofs.ProgressLemmas.{Adds-make, IsStuck-make}
 use Rattle.gta_atom.proofs.nodes.Cell.side.Goals as goal
 
 pub returns-then-self-clause-side : goal.returns-then-self-clause-side

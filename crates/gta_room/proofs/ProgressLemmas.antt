@@ -24,8 +24,7 @@ use Rattle.gta_theory.specs.Sizes.{IsVaried, SizeOf}
 use Rattle.gta_theory.proofs.ListsLemmas.{Contains-first, Contains-later, Contains-cases, Contains-mapped, All-from_contains}
 use Rattle.gta_theory.proofs.SizesLemmas.{length-partners}
 use Rattle.gta_core.proofs.SizeLemmas.{all_parts}
-use Rattle.gta_atom.specs.Automata.{IsUnderSomewhere}
-use Rattle.gta_atom.specs.Progress.{IsNew, Adds, IsStuck}
+use Rattle.gta_room.specs.Progress.{IsNew, Adds, IsStuck, IsUnderSomewhere}
 
 abbrev Others : {X : Type 0} → List X → Type 0
 Others xs = AllPairs (λ one other. one ≢ other) xs

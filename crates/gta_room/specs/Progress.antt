@@ -1,10 +1,12 @@
 -- What the making of nodes has changed in a shelf so far, and when there is no room for more.
-use Rattle.std.specs.Prelude.{◌≡◌, ◌≢◌, ◌+◌, ◌⊎◌, List, length, All, AllPairs}
+use Rattle.std.specs.Prelude.{◌≡◌, ◌≢◌, ℕ, ◌+◌, ◌⊎◌, List, length, All, AllPairs}
 use Rattle.bdd_nodes.specs.declared.node_ref.NodeRef.{NodeRef}
 use Rattle.bdd_nodes.specs.Shelf.{Contents, IsShelf, IsValid, Has, count_of, limit_of, state_of}
 use Rattle.bdd_nodes.specs.Changes.{Keeps, SameTables}
 use Rattle.labels.specs.Labels.{Function}
-use Rattle.gta_theory.specs.Sizes.{IsVaried}
+use Rattle.gta_theory.specs.Guides.{Spaces, IsSpace}
+use Rattle.gta_theory.specs.Automata.{Automaton}
+use Rattle.gta_theory.specs.Sizes.{IsVaried, IsUnderTable}
 
 -- a node that wasn't there
 pub record IsNew (old new : Contents) (r : NodeRef) : Type 0 where
@@ -30,3 +32,9 @@ pub record IsStuck (IsPart : Function → Type 0) (shelf : Contents) : Type 0 wh
   pub part : IsPart function
   pub varied : IsVaried function
   pub absent : Has shelf function → ⊥
+
+-- the function is under the table of some space
+pub record IsUnderSomewhere (g : Spaces) (A : Automaton ℕ) (has : ℕ → ℕ → Type 0) (f : Function) : Type 0 where
+  pub space : ℕ
+  pub inside : IsSpace g space
+  pub under : IsUnderTable g A has space f

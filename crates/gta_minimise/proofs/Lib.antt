@@ -1,0 +1,7 @@
+pub mod ReadLemmas
+pub mod FormLemmas
+pub mod MadeLemmas
+pub mod QuotientLemmas
+pub mod LooksLemmas
+pub mod MinimisedLemmas
+pub mod KeptLemmas

@@ -1,0 +1,4 @@
+pub mod Listed
+pub mod Renamed
+pub mod Quotient
+pub mod Minimised

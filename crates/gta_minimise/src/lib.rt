@@ -1,0 +1,11 @@
+//! Minimal automata.
+//!
+//! The states that can't be told apart are found off the shelf (`gta_refine`); then only the nodes of the result are made.
+#![tactic(auto)]
+
+mod form;
+mod minimal;
+mod nodes;
+mod quotient;
+
+pub use minimal::minimise;
