@@ -1,5 +1,6 @@
 //! What is wrong with stores at cuts, as tables worked out by hand.
 
+mod calls;
 mod rows;
 
 ghost use Rattle.store_core.specs.Stores.{Fits};
@@ -7,7 +8,8 @@ ghost use Rattle.store_core.specs.Stores.{Fits};
 use crate::claims::{ClaimText, claims_of, part_of, vars_of};
 use crate::stores::store_of;
 use crate::tables::{Tables, made_tables};
-use rows::{CLAIMS, DANGLING, ENDS, ESCAPES, FIELDS, LEAKS, SHARED};
+use calls::{CLAIMS, ENDS, ESCAPES};
+use rows::{DANGLING, FIELDS, LEAKS, SHARED};
 use std::alloc::Global;
 use std::process::Abort;
 use std::test::Fail;

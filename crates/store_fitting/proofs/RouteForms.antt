@@ -53,6 +53,7 @@ module _ (types : List TypeEntry) where
       same : (entry : FieldEntry) → Some entry.kind ≡ Some kind → entry.kind ≡ kind
       same entry g = cc
 
-      by : (o : Option FieldEntry) → option_map (λ (entry : FieldEntry). entry.kind) o ≡ Some kind → IsSomeAnd o (λ entry. IsFollowed DataAndPointers entry.kind)
+      by : (o : Option FieldEntry) → option_map (λ (entry : FieldEntry). entry.kind) o ≡ Some kind →
+          IsSomeAnd o (λ entry. IsFollowed DataAndPointers entry.kind)
       by None g = absurd cc
       by (Some entry) g = subst (IsFollowed DataAndPointers) (sym (same entry g)) h

@@ -5,7 +5,8 @@ use Rattle.store_logic.specs.Sorts.{scope_of}
 use Rattle.store_logic.specs.Fits.{FitsIn}
 use Rattle.store_fitting.specs.declared.held.Held.{Held}
 use Rattle.store_fitting.specs.HeldSorts.{scope_in}
-use Rattle.store_fitting.proofs.AssertionForms.{True-fits, False-fits, Truth-fits, Is-fits, Same-fits, Member-fits, Walk-fits, Not-fits, And-fits, Or-fits, Ex-fits, All-fits}
+use Rattle.store_fitting.proofs.AssertionForms.{True-fits, False-fits, Truth-fits, Is-fits, Same-fits, Member-fits, Walk-fits}
+use Rattle.store_fitting.proofs.AssertionForms.{Not-fits, And-fits, Or-fits, Ex-fits, All-fits}
 use Rattle.store_fitting.proofs.assertions.+fitting.Goals as goal
 
 pub fits_in-returns-in-True : goal.fits_in-returns-in-True
@@ -38,7 +39,8 @@ fits_in-returns-in-Walk t c e = subst (λ (a : Assertion). FitsIn c.args.types.n
 
 pub fits_in-returns-in-Not : goal.fits_in-returns-in-Not
 fits_in-returns-in-Not t c e = subst (λ (a : Assertion). FitsIn c.args.types.now a (scope_in c.args.vars.now c.args.inner)) (sym c.in-Not.is)
-    (Not-fits c.args.types.now (scope_in c.args.vars.now c.args.inner) c.in-Not.part (subst (λ (a : Assertion). FitsIn c.args.types.now a (scope_in c.args.vars.now c.args.inner)) c.get.ensures (c.fits_in.ensures e)))
+    (Not-fits c.args.types.now (scope_in c.args.vars.now c.args.inner) c.in-Not.part
+    (subst (λ (a : Assertion). FitsIn c.args.types.now a (scope_in c.args.vars.now c.args.inner)) c.get.ensures (c.fits_in.ensures e)))
 
 pub fits_in-returns-in-And : goal.fits_in-returns-in-And
 fits_in-returns-in-And t c e = subst (λ (a : Assertion). FitsIn c.args.types.now a (scope_in c.args.vars.now c.args.inner)) (sym c.in-And.is)
@@ -50,10 +52,12 @@ fits_in-returns-in-Or t c e = subst (λ (a : Assertion). FitsIn c.args.types.now
 
 pub fits_in-returns-in-Ex : goal.fits_in-returns-in-Ex
 fits_in-returns-in-Ex t c e = subst (λ (a : Assertion). FitsIn c.args.types.now a (scope_in c.args.vars.now c.args.inner)) (sym c.in-Ex.is)
-    (subst (λ (o : Option Held). FitsIn c.args.types.now (assertion.Ex c.in-Ex.ty c.in-Ex.part) (scope_in c.args.vars.now o)) (sym (c.governed_fits.ensures e).0)
+    (subst (λ (o : Option Held). FitsIn c.args.types.now (assertion.Ex c.in-Ex.ty c.in-Ex.part) (scope_in c.args.vars.now o))
+    (sym (c.governed_fits.ensures e).0)
     (Ex-fits c.args.types.now (scope_of c.args.vars.now) c.in-Ex.ty c.in-Ex.part (c.governed_fits.ensures e).1 (c.governed_fits.ensures e).2))
 
 pub fits_in-returns-in-All : goal.fits_in-returns-in-All
 fits_in-returns-in-All t c e = subst (λ (a : Assertion). FitsIn c.args.types.now a (scope_in c.args.vars.now c.args.inner)) (sym c.in-All.is)
-    (subst (λ (o : Option Held). FitsIn c.args.types.now (assertion.All c.in-All.ty c.in-All.part) (scope_in c.args.vars.now o)) (sym (c.governed_fits-in-All.ensures e).0)
+    (subst (λ (o : Option Held). FitsIn c.args.types.now (assertion.All c.in-All.ty c.in-All.part) (scope_in c.args.vars.now o))
+    (sym (c.governed_fits-in-All.ensures e).0)
     (All-fits c.args.types.now (scope_of c.args.vars.now) c.in-All.ty c.in-All.part (c.governed_fits-in-All.ensures e).1 (c.governed_fits-in-All.ensures e).2))

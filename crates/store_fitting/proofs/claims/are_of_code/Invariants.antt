@@ -5,7 +5,9 @@ use Rattle.store_exec.specs.Fits.{IsProgramVar}
 use Rattle.store_fitting.proofs.claims.are_of_code.Given as goal
 
 abbrev pub invariant-loop-var : goal.invariant-loop-var
-invariant-loop-var l = AllByRecursion (λ v. IsSomeAnd (var_at l.vars v) (λ entry. IsProgramVar entry.kind)) l.rest → AllByRecursion (λ v. IsSomeAnd (var_at l.vars v) (λ entry. IsProgramVar entry.kind)) l.list
+invariant-loop-var l =
+    AllByRecursion (λ v. IsSomeAnd (var_at l.vars v) (λ entry. IsProgramVar entry.kind)) l.rest →
+    AllByRecursion (λ v. IsSomeAnd (var_at l.vars v) (λ entry. IsProgramVar entry.kind)) l.list
 
 abbrev pub decreases-loop-var : goal.decreases-loop-var
 decreases-loop-var l = length l.rest
