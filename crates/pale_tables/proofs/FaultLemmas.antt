@@ -24,7 +24,8 @@ stop_returned fault (Ok x) e is stop = absurd is
 stop_returned fault (Err y) e is stop = subst (IsStop fault) (sym is) stop
 
 -- a stop of a result, seen from another fault
-pub stop_same : {U : Type 0} (one other : Fault) (r : Result U TextStop) → ((e : TextStop) → IsStop one e → IsStop other e) → IfErr r (IsStop one) → IfErr r (IsStop other)
+pub stop_same : {U : Type 0} (one other : Fault) (r : Result U TextStop) → ((e : TextStop) → IsStop one e → IsStop other e) →
+    IfErr r (IsStop one) → IfErr r (IsStop other)
 stop_same one other (Ok x) leads is = tt
 stop_same one other (Err e) leads is = leads e is
 

@@ -1,5 +1,6 @@
 -- Names of one kind.
-use Rattle.std.proofs.Common.{◌≡◌, Bool, true, false, not, List, [], ◌∷◌, ◌++◌, ℕ, Option, Some, None, is_some, is_none, nat_lt, length, if◌then◌else◌, unwrap_or, slice_get, refl, sym, ap, ◌∙◌, subst}
+use Rattle.std.proofs.Common.{◌≡◌, Bool, true, false, not, List, [], ◌∷◌, ◌++◌, ℕ, Option, Some, None, is_some, is_none, nat_lt, length}
+use Rattle.std.proofs.Common.{if◌then◌else◌, unwrap_or, slice_get, refl, sym, ap, ◌∙◌, subst}
 use Rattle.std.specs.Option.{option_map, option_and_then}
 use Rattle.store_core.specs.Tables.{place_of}
 use Rattle.store_core.specs.declared.ids.TypeId.{TypeId}
@@ -60,7 +61,8 @@ variant-missing names ty v found is none =
     ∙ ap (λ o. need (is_some o) kind.Unknown v.place) none
 
 -- the place in the list is that of the variant
-pub variant-at : (names : TypeNames) (ty : TypeId) (name : List ℕ) (place : Option ℕ) → place ≡ option_and_then (place_of name) (slice_get names.variants ty.0) →
+pub variant-at : (names : TypeNames) (ty : TypeId) (name : List ℕ) (place : Option ℕ) →
+    place ≡ option_and_then (place_of name) (slice_get names.variants ty.0) →
     variant_named names ty name ≡ option_map (λ i. record { ty = ty; index = i }) place
 variant-at names ty name place is = ap (option_map (λ i. record { ty = ty; index = i })) (sym is)
 
