@@ -112,8 +112,29 @@ of-Star names round stars = route_form names _ (Route-F.Star round stars) (sym (
 
 -- each form
 pub ruleset route_forms = (
-    fault-Down, of-Down, fault-Up, of-Up, fault-UpAny, of-UpAny, fault-Root, of-Root, fault-Leaf, of-Leaf, fault-IsType, of-IsType, fault-IsVariant,
-    of-IsVariant, fault-IsBool, of-IsBool, fault-Then, of-Then, fault-Or, of-Or, fault-Star, of-Star)
+  fault-Down,
+  of-Down,
+  fault-Up,
+  of-Up,
+  fault-UpAny,
+  of-UpAny,
+  fault-Root,
+  of-Root,
+  fault-Leaf,
+  of-Leaf,
+  fault-IsType,
+  of-IsType,
+  fault-IsVariant,
+  of-IsVariant,
+  fault-IsBool,
+  of-IsBool,
+  fault-Then,
+  of-Then,
+  fault-Or,
+  of-Or,
+  fault-Star,
+  of-Star,
+)
 
 -- one star of those that are left
 pub star-next : (r : along.Route) (stars : List Pos) (i : ℕ) → i < length stars → starred r (drop i stars) ≡ starred (route.Star r) (drop (i + 1) stars)
