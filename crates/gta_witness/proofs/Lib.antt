@@ -1,3 +1,4 @@
 pub mod FormLemmas
 pub mod SearchLemmas
 pub mod ExpandLemmas
+pub mod SettleLemmas

@@ -7,6 +7,7 @@ use Rattle.std.specs.HashMap.{get, HashMap}
 use Rattle.std.specs.HashSet.{contains, HashSet}
 use Rattle.std.specs.BinaryHeap.{heap_items, IsHeap}
 use Rattle.gta_theory.specs.Automata.{Automaton}
+use Rattle.gta_refine.specs.declared.form.FormSpace.{FormSpace}
 use Rattle.gta_refine.specs.declared.form.Form.{Form}
 use Rattle.gta_refine.specs.Form.{automaton_of}
 use Rattle.gta_witness.specs.declared.goal.Goal.{Goal}
@@ -164,3 +165,40 @@ abbrev pub Ends : Form → (ℕ → Bool) → Search → Option (ℕ × ℕ) →
 Ends form weighs search None = IsOver form weighs (found_by search) None
 Ends form weighs search (Some found) =
     IsOver form weighs (found_by search) (Some found.1) × IsAcceptingAt form (found_by search) found.0 found.1
+
+-- the search begins: initial states weigh nothing, and nothing is settled
+pub record IsStart (form : Form) (weighs : ℕ → Bool) (search : Search) : Type 0 where
+  pub is_search : IsSearch form weighs 0 search
+  pub initial : (s : ℕ) (space : FormSpace) → slice_get form.spaces s ≡ Some space → IsCovered (found_by search) (State s space.initial) 0
+  pub none : (goal : Goal) (w : ℕ) → IsSettled (found_by search) goal w → ⊥
+
+-- a goal was taken from the queue: it isn't settled, what is settled weighs no more, and what waits no less
+pub record IsTaken (form : Form) (weighs : ℕ → Bool) (lines : Lines) (search : Search) (goal : Goal) (entry : Found) : Type 0 where
+  pub there : found_by search goal ≡ Some entry
+  pub unsettled : entry.is_settled ≡ false
+  pub justified : (g : Goal) (e : Found) → found_by search g ≡ Some e → IsJustified form weighs (found_by search) g e.reason e.weight
+  pub passed : (g : Goal) (w : ℕ) → IsSettled (found_by search) g w → w ≤ entry.weight
+  pub waits : (g : Goal) (e : Found) → found_by search g ≡ Some e → e.is_settled ≡ false → same_goal goal g ≡ false →
+      Waits (heap_items search.queue) g e.weight
+  pub ahead : (waiting : Waiting) → Contains (heap_items search.queue) waiting → entry.weight + waiting.nearness ≤ 18446744073709551615
+  pub heap : IsHeap (on (λ waiting. waiting.nearness) nat_cmp) (heap_items search.queue)
+  pub closed : IsClosed form weighs (found_by search)
+  pub listed : AreListed (found_by search) lines.rows.items lines.columns.items
+  pub none : NoneLighter form (found_by search) None
+
+-- a class came into the list of a space
+pub record AddsTo (old new : List (List ℕ)) (space class : ℕ) : Type 0 where
+  pub kept : (t c : ℕ) → Contains (list_at old t) c → Contains (list_at new t) c
+  pub added : Contains (list_at new space) class
+
+-- what was listed is listed, and the goal, if it is a class
+pub record AddsLine (old new : Lines) (goal : Goal) : Type 0 where
+  pub kept_row : (t c : ℕ) → Contains (list_at old.rows.items t) c → Contains (list_at new.rows.items t) c
+  pub kept_column : (t c : ℕ) → Contains (list_at old.columns.items t) c → Contains (list_at new.columns.items t) c
+  pub row : (t c : ℕ) → goal ≡ Row t c → Contains (list_at new.rows.items t) c
+  pub column : (t c : ℕ) → goal ≡ Column t c → Contains (list_at new.columns.items t) c
+
+-- the accepting state of space 0 that the goal is; none where it is none
+abbrev pub AcceptsAt : Form → Goal → Option ℕ → Type 0
+AcceptsAt form goal None = (q : ℕ) → goal ≡ State 0 q → (automaton_of form).accepting q ≡ false
+AcceptsAt form goal (Some q) = (goal ≡ State 0 q) × ((automaton_of form).accepting q ≡ true)

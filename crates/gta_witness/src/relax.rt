@@ -1,8 +1,9 @@
 //! The weights that are found so far, and the queue.
 
-ghost use Rattle.std.specs.Prelude.{◌≡◌, ◌≤◌, ℕ, Bool, IfOk};
+ghost use Rattle.std.specs.Prelude.{◌≡◌, ◌≤◌, ℕ, Bool, IfOk, None};
 ghost use Rattle.std.specs.BinaryHeap.{heap_items};
 ghost use Rattle.gta_refine.specs.declared.form.Form.{Form};
+ghost use Rattle.gta_witness.specs.declared.goal.Goal.{Goal};
 ghost use Rattle.gta_witness.specs.Searching.{found_by, settled_weight, IsHigher, IsSearch, GoesOn, IsCovered, IsJustified};
 
 use crate::goal::{Found, Goal, Reason, Waiting};
@@ -20,7 +21,8 @@ pub(crate) struct Search {
 impl Search {
     /// Nothing is found, and nothing waits.
     pub(crate) fn new(alloc: Global) -> Search
-        ensures { (form : Form) (weighs : ℕ → Bool) → IsSearch form weighs 0 result }
+        ensures search { (form : Form) (weighs : ℕ → Bool) → IsSearch form weighs 0 result }
+        ensures none { (goal : Goal) → found_by result goal ≡ None }
     {
         Search {
             found: HashMap::new(alloc),

@@ -1,8 +1,9 @@
 //! Least weights, from the lowest up.
 
-ghost use Rattle.std.specs.Prelude.{◌≡◌, ◌≤◌, ℕ, Bool, IfOk, IfSome, IfNone, Some, None, MatchOption, length};
+ghost use Rattle.std.specs.Prelude.{◌≡◌, ℕ, true, IfOk, Some, Contains};
+ghost use Rattle.std.specs.HashMap.{Updates};
 ghost use Rattle.gta_refine.specs.Form.{automaton_of};
-ghost use Rattle.gta_witness.specs.Searching.{weighs_in, found_by, Ends, Stands, Running, IsSearch};
+ghost use Rattle.gta_witness.specs.Searching.{same_goal, weighs_in, found_by, list_at, Ends, Stands, Running, IsStart, IsTaken, AddsTo, AddsLine, AcceptsAt};
 
 use crate::expand::{Lines, expand};
 use crate::goal::{Found, Goal, Reason};
@@ -23,7 +24,13 @@ pub(crate) enum Turn {
 }
 
 /// The initial states weigh nothing.
-fn start(alloc: Global, form: &Form) -> Result<Search, AllocError> {
+fn start(
+    alloc: Global,
+    form: &Form,
+    weighed: &HashSet<u32>,
+) -> Result<Search, AllocError>
+    ensures { IfOk result (IsStart form.now (weighs_in weighed.now)) }
+{
     let mut search = Search::new(alloc);
     if form.spaces.len() > u32::MAX as usize {
         return Err(AllocError);
@@ -49,7 +56,11 @@ fn empty_lists(alloc: Global, many: usize) -> Result<Vec<Items<u32>>, AllocError
 }
 
 /// Marks a goal as settled.
-fn settle(search: &mut Search, goal: Goal, found: Found) -> Result<(), AllocError> {
+fn settle(search: &mut Search, goal: Goal, found: Found) -> Result<(), AllocError>
+    ensures found { IfOk result (λ done. Updates same_goal search.old.found search.new.found goal
+        (Some (record { weight = found.weight; reason = found.reason; is_settled = true }))) }
+    ensures queue { IfOk result (λ done. search.new.queue ≡ search.old.queue) }
+{
     search.found.insert(
         goal,
         Found {
@@ -62,35 +73,57 @@ fn settle(search: &mut Search, goal: Goal, found: Found) -> Result<(), AllocErro
 }
 
 /// Puts a class into the list of its space.
-fn add(lists: &mut Vec<Items<u32>>, space: u32, class: u32) -> Result<(), AllocError> {
+fn add(lists: &mut Vec<Items<u32>>, space: u32, class: u32) -> Result<(), AllocError>
+    ensures { IfOk result (λ done. AddsTo lists.old.items lists.new.items space class) }
+{
     let place = space as usize;
     if place >= lists.len() {
         return Err(AllocError);
     }
-    lists[place].push(class)
+    lists[place].push(class)?;
+    Ok(())
 }
 
 /// Puts a settled class into its list.
-fn add_line(lines: &mut Lines, goal: Goal) -> Result<(), AllocError> {
+fn add_line(lines: &mut Lines, goal: Goal) -> Result<(), AllocError>
+    ensures { IfOk result (λ done. AddsLine lines.old lines.new goal) }
+{
     match goal {
-        Goal::Row { space, class } => add(&mut lines.rows, space, class)?,
-        Goal::Column { space, class } => add(&mut lines.columns, space, class)?,
-        _ => {}
+        Goal::Row { space, class } => {
+            add(&mut lines.rows, space, class)?;
+        }
+        Goal::Column { space, class } => {
+            add(&mut lines.columns, space, class)?;
+        }
+        Goal::State { .. } | Goal::Node { .. } => {}
     }
     Ok(())
 }
 
 /// The state, if the goal is an accepting state of space 0.
-fn accepting_state(form: &Form, goal: Goal) -> Option<u32> {
-    match goal {
-        Goal::State { space, state } => {
-            if space == 0 && form.accepting.get(state as usize).copied().unwrap_or(false) {
-                Some(state)
-            } else {
-                None
-            }
-        }
-        _ => None,
+fn accepting_state(form: &Form, goal: Goal) -> Option<u32>
+    ensures { AcceptsAt form.now goal result }
+{
+    let Goal::State { space, state } = goal else {
+        return None;
+    };
+    if space != 0 {
+        return None;
+    }
+    if is_accepting(form, state) {
+        Some(state)
+    } else {
+        None
+    }
+}
+
+/// Whether a state of space 0 is accepting.
+fn is_accepting(form: &Form, state: u32) -> bool
+    ensures { result ≡ (automaton_of form.now).accepting state }
+{
+    match form.accepting.get(state as usize) {
+        Some(flag) => *flag,
+        None => false,
     }
 }
 
@@ -102,7 +135,10 @@ fn settle_goal(
     search: &mut Search,
     goal: Goal,
     found: Found,
-) -> Result<Turn, AllocError> {
+) -> Result<Turn, AllocError>
+    requires { IsTaken form.now (weighs_in weighed.now) lines.old search.old goal found }
+    ensures { IfOk result (Stands form.now (weighs_in weighed.now) lines.new search.new) }
+{
     settle(search, goal, found)?;
     add_line(lines, goal)?;
     expand(form, weighed, lines, search, goal, found.weight)?;
@@ -121,7 +157,10 @@ fn advance(
     weighed: &HashSet<u32>,
     lines: &mut Lines,
     search: &mut Search,
-) -> Result<Turn, AllocError> {
+) -> Result<Turn, AllocError>
+    requires { (now : ℕ) × Running form.now (weighs_in weighed.now) now lines.old search.old }
+    ensures { IfOk result (Stands form.now (weighs_in weighed.now) lines.new search.new) }
+{
     let Some(first) = search.queue.pop() else {
         return Ok(Turn::Over);
     };
@@ -146,8 +185,10 @@ pub(crate) fn search_all(
     alloc: Global,
     form: &Form,
     weighed: &HashSet<u32>,
-) -> Result<Outcome, AllocError> {
-    let mut search = start(alloc, form)?;
+) -> Result<Outcome, AllocError>
+    ensures { IfOk result (λ outcome. Ends form.now (weighs_in weighed.now) outcome.search outcome.accepting) }
+{
+    let mut search = start(alloc, form, weighed)?;
     let mut lines = Lines {
         rows: empty_lists(alloc, form.spaces.len())?,
         columns: empty_lists(alloc, form.spaces.len())?,
