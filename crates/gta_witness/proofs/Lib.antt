@@ -2,3 +2,5 @@ pub mod FormLemmas
 pub mod SearchLemmas
 pub mod ExpandLemmas
 pub mod SettleLemmas
+pub mod WeighingLemmas
+pub mod ReadLemmas

@@ -1,11 +1,19 @@
 //! The tree of a state: children are made before their parents, by a stack, so that no call goes deep.
 
+ghost use Rattle.std.specs.Prelude.{◌≡◌, ◌∷◌, ℕ, List, IfOk, None};
+ghost use Rattle.ws2s_core.specs.declared.label_tree.TreeNode.{TreeNode};
+ghost use Rattle.gta_witness.specs.declared.goal.Goal.TheVariants.{State};
+ghost use Rattle.gta_witness.specs.declared.grow.Task.{Task};
+ghost use Rattle.gta_witness.specs.Searching.{found_by, IsSettled};
+ghost use Rattle.gta_witness.specs.Reading.{IsReadable};
+ghost use Rattle.gta_witness.specs.Growing.{Want, Grows, IsTreeTo};
+
 use crate::read::step_of;
 use crate::relax::Search;
 use gta_refine::Form;
 use plain_data::{Items, Stack};
 use std::alloc::{AllocError, Global};
-use ws2s_core::{LabelTree, TrackList, TreeNode};
+use ws2s_core::{LabelTree, Track, TrackList, TreeNode};
 
 /// What is to be done.
 #[derive(Drop)]
@@ -20,16 +28,27 @@ pub(crate) enum Task {
 fn visit(
     alloc: Global,
     form: &Form,
+    weigh: &[Track],
     search: &Search,
     tasks: &mut Stack<Task>,
     made: &mut Stack<Option<u32>>,
     space: u32,
     state: u32,
-) -> Result<(), AllocError> {
-    match step_of(alloc, form, search, space, state)? {
-        None => made.push(None)?,
+) -> Result<(), AllocError>
+    requires readable { IsReadable form.now weigh.now (found_by search.now) }
+    requires settled { (w : ℕ) × IsSettled (found_by search.now) (State space state) w }
+    ensures { (nodes : List TreeNode) (out : Want) → Grows form.now weigh.now (found_by search.now) nodes (Task.Visit space state ∷ tasks.old) made.old out
+        → IfOk result (λ done. Grows form.now weigh.now (found_by search.now) nodes tasks.new made.new out) }
+{
+    match step_of(alloc, form, weigh, search, space, state)? {
+        None => {
+            made.push(None)?;
+        }
         Some(step) => {
-            let (left, right) = form.spaces.as_slice()[space as usize].children;
+            let Some(part) = form.spaces.get(space as usize) else {
+                return Err(AllocError);
+            };
+            let (left, right) = part.children;
             tasks.push(Task::Join {
                 tracks: step.tracks,
             })?;
@@ -48,10 +67,17 @@ fn visit(
 
 /// Puts the last two trees under a node.
 fn join(
+    form: &Form,
+    weigh: &[Track],
+    search: &Search,
     nodes: &mut Items<TreeNode>,
     made: &mut Stack<Option<u32>>,
     tracks: TrackList,
-) -> Result<(), AllocError> {
+) -> Result<(), AllocError>
+    requires { IsReadable form.now weigh.now (found_by search.now) }
+    ensures { (tasks : List Task) (out : Want) → Grows form.now weigh.now (found_by search.now) nodes.old (Task.Join tracks ∷ tasks) made.old out
+        → IfOk result (λ done. Grows form.now weigh.now (found_by search.now) nodes.new tasks made.new out) }
+{
     let right = made.take_or(None);
     let left = made.take_or(None);
     let place = nodes.len();
@@ -63,16 +89,22 @@ fn join(
         left,
         right,
     })?;
-    made.push(Some(place as u32))
+    made.push(Some(place as u32))?;
+    Ok(())
 }
 
 /// The tree of a state of space 0.
 pub(crate) fn grow(
     alloc: Global,
     form: &Form,
+    weigh: &[Track],
     search: &Search,
     state: u32,
-) -> Result<LabelTree, AllocError> {
+) -> Result<LabelTree, AllocError>
+    requires readable { IsReadable form.now weigh.now (found_by search.now) }
+    requires settled { (w : ℕ) × IsSettled (found_by search.now) (State 0 state) w }
+    ensures { IfOk result (IsTreeTo form.now weigh.now (found_by search.now) state) }
+{
     let mut nodes = Items::new(alloc);
     let mut made = Stack::new(alloc);
     let mut tasks = Stack::new(alloc);
@@ -81,9 +113,13 @@ pub(crate) fn grow(
         match tasks.pop() {
             None => return Ok(LabelTree::new(nodes)),
             Some(Task::Visit { space, state }) => {
-                visit(alloc, form, search, &mut tasks, &mut made, space, state)?;
+                visit(
+                    alloc, form, weigh, search, &mut tasks, &mut made, space, state,
+                )?;
             }
-            Some(Task::Join { tracks }) => join(&mut nodes, &mut made, tracks)?,
+            Some(Task::Join { tracks }) => {
+                join(form, weigh, search, &mut nodes, &mut made, tracks)?;
+            }
         }
     }
     Err(AllocError)

@@ -37,7 +37,7 @@ fn least_of(
     match outcome.accepting {
         None => Ok(None),
         Some((state, weight)) => {
-            let tree = grow(alloc, form, &outcome.search, state)?;
+            let tree = grow(alloc, form, weigh, &outcome.search, state)?;
             Ok(Some((tree, weight)))
         }
     }

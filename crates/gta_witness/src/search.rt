@@ -167,7 +167,10 @@ fn advance(
     let Some(found) = search.at(first.goal) else {
         return Ok(Turn::More);
     };
-    if found.is_settled || found.weight != u64::MAX - first.nearness {
+    if found.is_settled {
+        return Ok(Turn::More);
+    }
+    if found.weight != u64::MAX - first.nearness {
         return Ok(Turn::More);
     }
     settle_goal(form, weighed, lines, search, first.goal, found)

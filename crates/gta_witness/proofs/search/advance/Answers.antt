@@ -7,7 +7,6 @@ use Rattle.gta_witness.specs.declared.relax.Search.{Search}
 use Rattle.gta_witness.specs.Searching.{weighs_in, found_by}
 use Rattle.gta_witness.proofs.SettleLemmas.{over-none, stale-running, first-taken, first-ahead, none-nearer, no-elements}
 use Rattle.gta_witness.proofs.search.advance.Goals as goal
-use Rattle.gta_witness.proofs.search.advance.Goals.{then-found-via-then-found, then-found-via-else-found+then-found-first}
 
 same-found : (o : Option Found) (a b : Found) → o ≡ Some a → Some b ≡ o → a ≡ b
 same-found o a b one other = let e : Some a ≡ Some b = sym one ∙ sym other in cc
@@ -35,18 +34,21 @@ returns-then-found c =
     let running = c.requires.1 in
     let new : Search = record { found = c.args.search.now.found; queue = c.pop.new.self } in
     let order = c.in-Some.ensures.heap_order running.is_search.heap in
-    let stale : (e : Found) → found_by c.args.search.now c.in-Some.first.goal ≡ Some e → e.is_settled ≡ false →
-        c.in-Some.first.nearness + e.weight ≡ 18446744073709551615 → ⊥ = λ e there unsettled near.
-        let same : e ≡ c.in-Some-at.found = same-found (found_by c.args.search.now c.in-Some.first.goal) e c.in-Some-at.found there c.in-Some-at.ensures in
-        elim c.then-found.branch [
-          | then-found-via-then-found w ↦ false≢true (sym unsettled ∙ ap (λ (x : Found). x.is_settled) same ∙ (let is : c.in-Some-at.found.is_settled ≡ true = w.if-found in is))
-          | then-found-via-else-found+then-found-first w ↦
-              let weight : e.weight ≡ c.in-Some-at.found.weight = ap (λ (x : Found). x.weight) same in
-              let other : c.in-Some-at.found.weight ≢ 18446744073709551615 - c.in-Some.first.nearness = w.if-found-first in
-              absurd (omega arith)
-        ] in
     (now, stale-running c.args.form.now (weighs_in c.args.weighed.now) now c.args.lines.now c.args.search.now new c.in-Some.first running (λ i. c.args.search.now.found)
-    c.in-Some.ensures.permutation order.0 stale)
+    c.in-Some.ensures.permutation order.0 (λ e there unsettled near.
+    let same : e ≡ c.in-Some-at.found = same-found (found_by c.args.search.now c.in-Some.first.goal) e c.in-Some-at.found there c.in-Some-at.ensures in
+    false≢true (sym unsettled ∙ ap (λ (x : Found). x.is_settled) same ∙ c.if-found.true)))
+
+pub returns-then-found-first : goal.returns-then-found-first
+returns-then-found-first c =
+    let now = c.requires.0 in
+    let running = c.requires.1 in
+    let new : Search = record { found = c.args.search.now.found; queue = c.pop.new.self } in
+    let order = c.in-Some.ensures.heap_order running.is_search.heap in
+    (now, stale-running c.args.form.now (weighs_in c.args.weighed.now) now c.args.lines.now c.args.search.now new c.in-Some.first running (λ i. c.args.search.now.found)
+    c.in-Some.ensures.permutation order.0 (λ e there unsettled near.
+    let same : e ≡ c.in-Some-at.found = same-found (found_by c.args.search.now c.in-Some.first.goal) e c.in-Some-at.found there c.in-Some-at.ensures in
+    let weight : e.weight ≡ c.in-Some-at.found.weight = ap (λ (x : Found). x.weight) same in let other = c.if-found-first.true in absurd (omega arith)))
 
 pub settle_goal-requires : goal.settle_goal-requires
 settle_goal-requires c =
@@ -61,4 +63,4 @@ settle_goal-requires c =
     let near : c.in-Some.first.nearness + c.in-Some-at.found.weight ≡ 18446744073709551615 = (let e = c.if-found-first.false in omega arith) in
     first-taken form weighs now c.args.lines.now c.args.search.now new c.in-Some.first running (λ i. c.args.search.now.found)
     c.in-Some.ensures.permutation order.0 c.in-Some-at.found (sym c.in-Some-at.ensures) c.if-found.false near
-    (none-nearer c.in-Some.first (heap_items c.pop.new.self) order.1)
+    (none-nearer c.in-Some.first (heap_items c.pop.new.self) (c.in-Some.ensures.below_top running.is_search.heap))
