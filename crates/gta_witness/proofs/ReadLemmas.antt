@@ -39,12 +39,12 @@ one-space o x y one other = let e : Some x ≡ Some y = sym one ∙ other in cc
 -- the label of tracks with one more
 label_of-more : (tracks : List Track) (x : Track) (t : ℕ) → label_of (tracks ++ x ∷ []) t ≡ label_of tracks t || eqb x.0 t
 label_of-more [] x t = elim (cases_Bool (eqb x.0 t)) [
-  | inl yes ↦ ap (λ (b : Bool). b || false) yes ∙ sym yes
-  | inr no ↦ ap (λ (b : Bool). b || false) no ∙ sym no
+  | inl here ↦ ap (λ (b : Bool). b || false) here ∙ sym here
+  | inr apart ↦ ap (λ (b : Bool). b || false) apart ∙ sym apart
 ]
 label_of-more (y ∷ ys) x t = elim (cases_Bool (eqb y.0 t)) [
-  | inl yes ↦ ap (λ (b : Bool). b || label_of (ys ++ x ∷ []) t) yes ∙ sym (ap (λ (b : Bool). (b || label_of ys t) || eqb x.0 t) yes)
-  | inr no ↦ ap (λ (b : Bool). b || label_of (ys ++ x ∷ []) t) no ∙ label_of-more ys x t ∙ sym (ap (λ (b : Bool). (b || label_of ys t) || eqb x.0 t) no)
+  | inl here ↦ ap (λ (b : Bool). b || label_of (ys ++ x ∷ []) t) here ∙ sym (ap (λ (b : Bool). (b || label_of ys t) || eqb x.0 t) here)
+  | inr apart ↦ ap (λ (b : Bool). b || label_of (ys ++ x ∷ []) t) apart ∙ label_of-more ys x t ∙ sym (ap (λ (b : Bool). (b || label_of ys t) || eqb x.0 t) apart)
 ]
 
 goal_at-same : (s t : ℕ) (x y : Listed) → goal_at s x ≡ goal_at t y → (s ≡ t) × (x ≡ y)
@@ -237,3 +237,152 @@ module _ (form : Form) (tracks : List Track) (found : Findings) (readable : IsRe
             or-no : (b : Bool) → b || false ≡ b
             or-no true = refl
             or-no false = refl
+
+    -- at the initial state
+    pub initial-step : HasReason found goal Initial → ((automaton_of form).initial s ≡ q) × (0 ≡ w)
+    initial-step has = let j = justified-by Initial has in pick j.premises j.cost goal Initial j.total j.rule j.totals refl refl (let e = j.weighs_so in e)
+      where
+        no-tracks : (x : Listed) (p : ℕ) → climbs.listed ≡ x → x ≡ Leaf p → (t : ℕ) → label_of taken t ≡ false
+        no-tracks x p is leaf t = elim (cases_Bool (label_of taken t)) [
+          | inl set ↦ absurd (subst (λ (y : Listed). MatchOption (first_track climbs.space.listing.nodes y) ⊥ (λ first. first ≤ t)) (is ∙ leaf) (climbs.above t set))
+          | inr unset ↦ unset
+        ]
+
+        leaf-is : (t p : ℕ) (x : Listed) → State t p ≡ goal_at s x → (t ≡ s) × (x ≡ Leaf p)
+        leaf-is t p x e = goal_at-leaf x e
+          where
+            goal_at-leaf : (x : Listed) → State t p ≡ goal_at s x → (t ≡ s) × (x ≡ Leaf p)
+            goal_at-leaf (Leaf o) e = (cc, let f : o ≡ p = cc in ap Leaf f)
+            goal_at-leaf (Inner i) e = absurd cc
+
+        pick : (premises : List Goal) (cost : ℕ) (g : Goal) (reason : Reason) (total : ℕ) → Rule form (is_among tracks) premises cost g reason →
+            Totals found premises total → g ≡ goal → reason ≡ Initial → cost + total ≡ climbs.weight → ((automaton_of form).initial s ≡ q) × (0 ≡ w)
+        pick _ _ _ _ total (initial t space at) totals e r sum =
+            let same = leaf-is t space.initial climbs.listed (e ∙ climbs.is_goal) in
+            let is_space : climbs.space ≡ space = one-space (slice_get form.spaces s) climbs.space space climbs.at_space (ap (slice_get form.spaces) (sym same.0) ∙ at) in
+            let gives : space.initial ≡ q = sym (function_in-leaf climbs.space.listing.nodes space.initial (label_of taken))
+            ∙ ap (λ (x : Listed). function_in climbs.space.listing.nodes x (label_of taken)) (sym same.1) ∙ climbs.gives in
+            let first : (automaton_of form).initial s ≡ space.initial = initial-form form s ∙ initial-at form s space (ap (slice_get form.spaces) (sym same.0) ∙ at) in
+            let none = label_weight-none (each_once tracks) (label_of taken) (no-tracks climbs.listed space.initial refl same.1) in
+            (first ∙ gives, let c = climbs.is_sum in let z = totals in omega arith)
+        pick _ _ _ _ total (row t q' class space at at_class) totals e r sum = absurd cc
+        pick _ _ _ _ total (column t q' class space at at_class) totals e r sum = absurd cc
+        pick _ _ _ _ total (cell t k c at space listed at_space at_cell at_root) totals e r sum = absurd cc
+        pick _ _ _ _ total (low t k space node at_space at) totals e r sum = absurd cc
+        pick _ _ _ _ total (high t k space node at_space at) totals e r sum = absurd cc
+
+  -- the state by which a class is settled
+  member-row : (t class l u : ℕ) (space : FormSpace) → slice_get form.spaces t ≡ Some space → HasReason found (Row t class) (Member l) →
+      IsSettled found (Row t class) u → (slice_get space.rows l ≡ Some class) × IsSettled found (State space.children.0 l) u
+  member-row t class l u space at has settled =
+      let j = readable.justified (Row t class) has.entry has.there in
+      let e = (settled-entry found (Row t class) u has.entry settled has.there).1 in
+      pick j.premises j.cost (Row t class) has.entry.reason j.total j.rule j.totals refl has.is_reason (j.weighs_so ∙ e)
+    where
+      other : (t' : ℕ) (x : Listed) → goal_at t' x ≡ Row t class → ⊥
+      other t' (Leaf p) e = absurd cc
+      other t' (Inner i) e = absurd cc
+
+      pick : (premises : List Goal) (cost : ℕ) (g : Goal) (reason : Reason) (total : ℕ) → Rule form (is_among tracks) premises cost g reason →
+          Totals found premises total → g ≡ Row t class → reason ≡ Member l → cost + total ≡ u →
+          (slice_get space.rows l ≡ Some class) × IsSettled found (State space.children.0 l) u
+      pick _ _ _ _ total (initial t' space' at') totals e r sum = absurd cc
+      pick _ _ _ _ total (row t' q' class' space' at' at_class) totals e r sum =
+          let is_t : t' ≡ t = cc in
+          let is_class : class' ≡ class = cc in
+          let is_l : q' ≡ l = cc in
+          let is_space : space' ≡ space = one-space (slice_get form.spaces t) space' space (ap (slice_get form.spaces) (sym is_t) ∙ at') at in
+          let weight : totals.0 ≡ u = (let a = totals.4 in let z = totals.3 in omega arith) in
+          (ap (λ (p : FormSpace). slice_get p.rows l) (sym is_space) ∙ ap (slice_get space'.rows) (sym is_l) ∙ at_class ∙ ap (λ (k : ℕ). let o : Option ℕ = Some k in o) is_class,
+          subst (λ (k : ℕ). IsSettled found (State space.children.0 l) k) weight
+          (subst (λ (p : FormSpace). IsSettled found (State p.children.0 l) totals.0) is_space
+          (subst (λ (k : ℕ). IsSettled found (State space'.children.0 k) totals.0) is_l totals.2)))
+      pick _ _ _ _ total (column t' q' class' space' at' at_class) totals e r sum = absurd cc
+      pick _ _ _ _ total (cell t' k c at' space' listed at_space at_cell at_root) totals e r sum = absurd cc
+      pick _ _ _ _ total (low t' k space' node at_space at') totals e r sum = absurd cc
+      pick _ _ _ _ total (high t' k space' node at_space at') totals e r sum = absurd cc
+
+  member-column : (t class l u : ℕ) (space : FormSpace) → slice_get form.spaces t ≡ Some space → HasReason found (Column t class) (Member l) →
+      IsSettled found (Column t class) u → (slice_get space.columns l ≡ Some class) × IsSettled found (State space.children.1 l) u
+  member-column t class l u space at has settled =
+      let j = readable.justified (Column t class) has.entry has.there in
+      let e = (settled-entry found (Column t class) u has.entry settled has.there).1 in
+      pick j.premises j.cost (Column t class) has.entry.reason j.total j.rule j.totals refl has.is_reason (j.weighs_so ∙ e)
+    where
+      pick : (premises : List Goal) (cost : ℕ) (g : Goal) (reason : Reason) (total : ℕ) → Rule form (is_among tracks) premises cost g reason →
+          Totals found premises total → g ≡ Column t class → reason ≡ Member l → cost + total ≡ u →
+          (slice_get space.columns l ≡ Some class) × IsSettled found (State space.children.1 l) u
+      pick _ _ _ _ total (initial t' space' at') totals e r sum = absurd cc
+      pick _ _ _ _ total (row t' q' class' space' at' at_class) totals e r sum = absurd cc
+      pick _ _ _ _ total (column t' q' class' space' at' at_class) totals e r sum =
+          let is_t : t' ≡ t = cc in
+          let is_class : class' ≡ class = cc in
+          let is_l : q' ≡ l = cc in
+          let is_space : space' ≡ space = one-space (slice_get form.spaces t) space' space (ap (slice_get form.spaces) (sym is_t) ∙ at') at in
+          let weight : totals.0 ≡ u = (let a = totals.4 in let z = totals.3 in omega arith) in
+          (ap (λ (p : FormSpace). slice_get p.columns l) (sym is_space) ∙ ap (slice_get space'.columns) (sym is_l) ∙ at_class ∙ ap (λ (k : ℕ). let o : Option ℕ = Some k in o) is_class,
+          subst (λ (k : ℕ). IsSettled found (State space.children.1 l) k) weight
+          (subst (λ (p : FormSpace). IsSettled found (State p.children.1 l) totals.0) is_space
+          (subst (λ (k : ℕ). IsSettled found (State space'.children.1 k) totals.0) is_l totals.2)))
+      pick _ _ _ _ total (cell t' k c at' space' listed at_space at_cell at_root) totals e r sum = absurd cc
+      pick _ _ _ _ total (low t' k space' node at_space at') totals e r sum = absurd cc
+      pick _ _ _ _ total (high t' k space' node at_space at') totals e r sum = absurd cc
+
+  index-is : (xs : List ℕ) (i x : ℕ) → slice_get xs i ≡ Some x → slice_index xs i ≡ x
+  index-is xs i x at = get_or_from_slice_get xs i x 0 at
+
+  -- at the function of two classes
+  module _ (s q w : ℕ) (goal : Goal) (taken : List Track) (climbs : Climbs form tracks found s q w goal taken) where
+    pub cell-step : (k c l r : ℕ) → HasReason found goal (Cell k c) → HasReason found (Row s k) (Member l) → HasReason found (Column s c) (Member r) →
+        IsStepTo form (each_once tracks) found s q w (record { tracks = taken; left = l; right = r })
+    cell-step k c l r has of_row of_column =
+        let j = justified-by s q w goal taken climbs (Cell k c) has in pick j.premises j.cost goal (Cell k c) j.total j.rule j.totals refl refl (let e = j.weighs_so in e)
+      where
+        pick : (premises : List Goal) (cost : ℕ) (g : Goal) (reason : Reason) (total : ℕ) → Rule form (is_among tracks) premises cost g reason →
+            Totals found premises total → g ≡ goal → reason ≡ Cell k c → cost + total ≡ climbs.weight →
+            IsStepTo form (each_once tracks) found s q w (record { tracks = taken; left = l; right = r })
+        pick _ _ _ _ total (initial t space at) totals e is sum = absurd cc
+        pick _ _ _ _ total (row t q' class space at at_class) totals e is sum = absurd cc
+        pick _ _ _ _ total (column t q' class space at at_class) totals e is sum = absurd cc
+        pick _ _ _ _ total (low t i space node at_space at) totals e is sum = absurd cc
+        pick _ _ _ _ total (high t i space node at_space at) totals e is sum = absurd cc
+        pick _ _ _ _ total (cell t k' c' at space listed at_space at_cell at_root) totals e is sum =
+            let same = goal_at-same t s listed climbs.listed (e ∙ climbs.is_goal) in
+            let is_k : k' ≡ k = cc in
+            let is_c : c' ≡ c = cc in
+            let here : slice_get form.spaces s ≡ Some space = ap (slice_get form.spaces) (sym same.0) ∙ at_space in
+            let is_space : climbs.space ≡ space = one-space (slice_get form.spaces s) climbs.space space climbs.at_space here in
+            let u = totals.0 in
+            let v = totals.3.0 in
+            let row_settled : IsSettled found (Row s k) u =
+            subst (λ (x : ℕ). IsSettled found (Row x k) u) same.0 (subst (λ (x : ℕ). IsSettled found (Row t x) u) is_k totals.2) in
+            let column_settled : IsSettled found (Column s c) v =
+            subst (λ (x : ℕ). IsSettled found (Column x c) v) same.0 (subst (λ (x : ℕ). IsSettled found (Column t x) v) is_c totals.3.2) in
+            let lefts = member-row s k l u space here of_row row_settled in
+            let rights = member-column s c r v space here of_column column_settled in
+            let place : cell_in space l r ≡ at =
+            ap (λ (x : ℕ). slice_index space.cells (x * space.width + slice_index space.columns r)) (index-is space.rows l k lefts.0 ∙ sym is_k)
+            ∙ ap (λ (x : ℕ). slice_index space.cells (k' * space.width + x)) (index-is space.columns r c rights.0 ∙ sym is_c)
+            ∙ index-is space.cells (k' * space.width + c') at at_cell in
+            let root : root_in space (cell_in space l r) ≡ climbs.listed =
+            ap (root_in space) place ∙ get_or_from_slice_get space.listing.roots at listed (Leaf 0) at_root ∙ same.1 in
+            let child_l : left (guide_of form) s ≡ space.children.0 = left-at form s space here in
+            let child_r : right (guide_of form) s ≡ space.children.1 = right-at form s space here in
+            record {
+              left_weight = u;
+              right_weight = v;
+              of_left = subst (λ (x : ℕ). IsSettled found (State x l) u) (sym child_l) lefts.1;
+              of_right = subst (λ (x : ℕ). IsSettled found (State x r) v) (sym child_r) rights.1;
+              gives = step-at form s space here l r (label_of taken)
+                  ∙ ap (λ (x : Listed). function_of space.listing x (label_of taken)) root
+                  ∙ ap (λ (p : FormSpace). function_of p.listing climbs.listed (label_of taken)) (sym is_space) ∙ climbs.gives;
+              is_sum = let a = totals.4 in let z = totals.3.3 in let b = totals.3.4 in let d = climbs.is_sum in omega arith;
+            }
+
+  -- a side, low or high
+  pub Climbs-side : (s q w i : ℕ) (is_high : Bool) (goal : Goal) (taken new : List Track) → Climbs form tracks found s q w goal taken →
+      HasReason found goal (Side i is_high) → AddsTrack form taken new s i is_high → Climbs form tracks found s q w (Node s i) new
+  Climbs-side s q w i false goal taken new climbs has adds =
+      subst (Climbs form tracks found s q w (Node s i)) (sym adds) (Climbs-low s q w goal taken climbs i has)
+  Climbs-side s q w i true goal taken new climbs has adds =
+      subst (Climbs form tracks found s q w (Node s i)) (sym adds.4) (Climbs-high s q w goal taken climbs i adds.0 adds.1 adds.2 adds.3 has)

@@ -9,18 +9,21 @@ use Rattle.ws2s_core.specs.declared.track.Track.{Track}
 use Rattle.gta_witness.specs.Lightest.{is_among, each_once}
 use Rattle.gta_witness.specs.Rules.{bit_cost}
 
+abbrev bit : Bool → ℕ
+bit b = if b then 1 else 0
+
 -- labels that agree weigh the same
 pub label_weight-same : (ts : List ℕ) (l m : Label) → ((t : ℕ) → l t ≡ m t) → label_weight ts l ≡ label_weight ts m
 label_weight-same [] l m agree = refl
 label_weight-same (t ∷ ts) l m agree =
-    let one : (if l t then 1 else 0) ≡ (if m t then 1 else 0) = ap (λ (b : Bool). if b then 1 else 0) (agree t) in
+    let one : bit (l t) ≡ bit (m t) = ap bit (agree t) in
     let others = label_weight-same ts l m agree in
     omega arith
 
 pub label_weight-none : (ts : List ℕ) (l : Label) → ((t : ℕ) → l t ≡ false) → label_weight ts l ≡ 0
 label_weight-none [] l none = refl
 label_weight-none (t ∷ ts) l none =
-    let one : (if l t then 1 else 0) ≡ 0 = ap (λ (b : Bool). if b then 1 else 0) (none t) in
+    let one : bit (l t) ≡ 0 = ap bit (none t) in
     let others = label_weight-none ts l none in
     omega arith
 
@@ -44,25 +47,25 @@ module _ (t : ℕ) (l m : Label) (unset : l t ≡ false) (set : m t ≡ true) (o
   other-weight [] none = refl
   other-weight (u ∷ us) none =
       let parts = or-false (eqb u t) (listed t us) none in
-      let one : (if m u then 1 else 0) ≡ (if l u then 1 else 0) = ap (λ (b : Bool). if b then 1 else 0) (others u (eqb-false u t parts.0)) in
+      let one : bit (m u) ≡ bit (l u) = ap bit (others u (eqb-false u t parts.0)) in
       let rest = other-weight us parts.1 in
       omega arith
 
-  more-weight : (ts : List ℕ) → Once ts → label_weight ts m ≡ (if listed t ts then 1 else 0) + label_weight ts l
+  more-weight : (ts : List ℕ) → Once ts → label_weight ts m ≡ bit (listed t ts) + label_weight ts l
   more-weight [] once = omega arith
   more-weight (u ∷ us) once = elim (cases_Bool (eqb u t)) [
     | inl same ↦
         let is : u ≡ t = eqb-true u t same in
         let gone : listed t us ≡ false = ap (λ (k : ℕ). listed k us) (sym is) ∙ once.0 in
         let rest = other-weight us gone in
-        let now : (if m u then 1 else 0) ≡ 1 = ap (λ (b : Bool). if b then 1 else 0) (ap m is ∙ set) in
-        let was : (if l u then 1 else 0) ≡ 0 = ap (λ (b : Bool). if b then 1 else 0) (ap l is ∙ unset) in
-        let here : (if listed t (u ∷ us) then 1 else 0) ≡ 1 = ap (λ (b : Bool). if (b || listed t us) then 1 else 0) same in
+        let now : bit (m u) ≡ 1 = ap bit (ap m is ∙ set) in
+        let was : bit (l u) ≡ 0 = ap bit (ap l is ∙ unset) in
+        let here : bit (listed t (u ∷ us)) ≡ 1 = ap (λ (b : Bool). bit (b || listed t us)) same in
         omega arith
     | inr apart ↦
-        let one : (if m u then 1 else 0) ≡ (if l u then 1 else 0) = ap (λ (b : Bool). if b then 1 else 0) (others u (eqb-false u t apart)) in
+        let one : bit (m u) ≡ bit (l u) = ap bit (others u (eqb-false u t apart)) in
         let rest = more-weight us once.1 in
-        let here : (if listed t (u ∷ us) then 1 else 0) ≡ (if listed t us then 1 else 0) = ap (λ (b : Bool). if (b || listed t us) then 1 else 0) apart in
+        let here : bit (listed t (u ∷ us)) ≡ bit (listed t us) = ap (λ (b : Bool). bit (b || listed t us)) apart in
         omega arith
   ]
 
@@ -94,5 +97,5 @@ pub label_weight-more : (tracks : List Track) (t : ℕ) (l m : Label) → l t �
     label_weight (each_once tracks) m ≡ bit_cost (is_among tracks) t + label_weight (each_once tracks) l
 label_weight-more tracks t l m unset set others =
     let more = more-weight t l m unset set others (each_once tracks) (Once-each_once tracks) in
-    let bit : (if listed t (each_once tracks) then 1 else 0) ≡ bit_cost (is_among tracks) t = ap (λ (b : Bool). if b then 1 else 0) (listed-each_once tracks t) in
+    let cost : bit (listed t (each_once tracks)) ≡ bit_cost (is_among tracks) t = ap bit (listed-each_once tracks t) in
     omega arith
