@@ -4,3 +4,5 @@ pub mod ExpandLemmas
 pub mod SettleLemmas
 pub mod WeighingLemmas
 pub mod ReadLemmas
+pub mod LowerLemmas
+pub mod SameLemmas

@@ -99,3 +99,17 @@ label_weight-more tracks t l m unset set others =
     let more = more-weight t l m unset set others (each_once tracks) (Once-each_once tracks) in
     let cost : bit (listed t (each_once tracks)) ≡ bit_cost (is_among tracks) t = ap bit (listed-each_once tracks t) in
     omega arith
+
+bit-le : (b c : Bool) → (b ≡ true → c ≡ true) → bit b ≤ bit c
+bit-le true true to = omega arith
+bit-le true false to = absurd (false≢true (to refl))
+bit-le false true to = omega arith
+bit-le false false to = omega arith
+
+-- a label within another weighs no more
+pub label_weight-le : (ts : List ℕ) (l m : Label) → ((t : ℕ) → l t ≡ true → m t ≡ true) → label_weight ts l ≤ label_weight ts m
+label_weight-le [] l m to = omega arith
+label_weight-le (t ∷ ts) l m to =
+    let one = bit-le (l t) (m t) (to t) in
+    let others = label_weight-le ts l m to in
+    omega arith

@@ -1,10 +1,12 @@
 //! The call.
 
-ghost use Rattle.std.specs.Prelude.{◌≡◌, ◌↔◌, IfOk, IfSome, None};
+ghost use Rattle.std.specs.Prelude.{◌≡◌, ◌↔◌, ℕ, IfOk, IfSome, None};
 ghost use Rattle.gta_theory.specs.Assignments.{Assignment};
 ghost use Rattle.gta_theory.specs.Automata.{Accepts};
 ghost use Rattle.gta_core.specs.Auto.{automaton_of, IsAuto};
-ghost use Rattle.gta_witness.specs.Lightest.{IsLightestTree};
+ghost use Rattle.gta_refine.specs.Form.{IsForm, guide_of as form_guide, automaton_of as form_automaton};
+ghost use Rattle.gta_witness.specs.Lightest.{is_among, IsLightestTree};
+ghost use Rattle.gta_witness.specs.Searching.{weighs_in};
 
 use crate::form::form_of;
 use crate::grow::grow;
@@ -18,7 +20,9 @@ use std::collections::HashSet;
 use ws2s_core::{Guide, LabelTree, Track, TrackList};
 
 /// The numbers of the tracks, as a set.
-fn numbers_of(alloc: Global, tracks: &[Track]) -> Result<HashSet<u32>, NoMemory> {
+fn numbers_of(alloc: Global, tracks: &[Track]) -> Result<HashSet<u32>, NoMemory>
+    ensures { IfOk result (λ numbers. (t : ℕ) → weighs_in numbers t ≡ is_among tracks.now t) }
+{
     let mut numbers = HashSet::new(alloc);
     for track in tracks {
         numbers.insert(track.0)?;
@@ -31,7 +35,13 @@ fn least_of(
     alloc: Global,
     form: &Form,
     weigh: &[Track],
-) -> Result<Option<(LabelTree, u64)>, NoMemory> {
+) -> Result<Option<(LabelTree, u64)>, NoMemory>
+    requires { IsForm form.now }
+    ensures none { IfOk result (λ answer. answer ≡ None
+        → (tree : Assignment) → Accepts (form_guide form.now) (form_automaton form.now) tree → ⊥) }
+    ensures least { IfOk result (λ answer. IfSome answer
+        (λ found. IsLightestTree (form_guide form.now) (form_automaton form.now) weigh.now found.0 found.1)) }
+{
     let weighed = numbers_of(alloc, weigh)?;
     let outcome = search_all(alloc, form, &weighed)?;
     match outcome.accepting {
