@@ -6,3 +6,4 @@ pub mod WeighingLemmas
 pub mod ReadLemmas
 pub mod LowerLemmas
 pub mod SameLemmas
+pub mod GrowLemmas
