@@ -52,7 +52,7 @@ times_in-cons (Some j) made k = omega arith
 times_in-above : (child : Option ℕ) (k : ℕ) → IfSome child (λ j. j < k) → times_in (child ∷ []) k ≡ 0
 times_in-above None k inside = refl
 times_in-above (Some j) k inside =
-    let apart : (if eqb j k then 1 else 0) ≡ 0 = ap (λ (b : Bool). if b then 1 else 0) (ne_eqb j k (λ e. absurd (omega arith))) in omega arith
+    let apart : is_place k j ≡ 0 = ap (λ (b : Bool). cond b 1 0) (ne_eqb j k (λ e. absurd (omega arith))) in omega arith
 
 children-in : (node : TreeNode) (k : ℕ) → sum_by (is_place k) (children_of node) ≡ times_in (node.left ∷ []) k + times_in (node.right ∷ []) k
 children-in node k =
@@ -141,12 +141,12 @@ module _ (form : Form) (is_form : IsForm form) (tracks : List Track) (found : Fi
           to.left_weight,
           subst (λ (k : ℕ). IsSettled found (State k step.left) to.left_weight) (sym is_left) to.of_left,
           subst (IsSpace g) (sym is_left) (is_form.guide.left_inside s run.2),
-          to.right_weight,
+          (to.right_weight,
           subst (λ (k : ℕ). IsSettled found (State k step.right) to.right_weight) (sym is_right) to.of_right,
           subst (IsSpace g) (sym is_right) (is_form.guide.right_inside s run.2),
-          record { space = s; state = q; weight = run.0 },
+          (record { space = s; state = q; weight = run.0 },
           record { is_space = run.2; at_left = is_left; at_right = is_right; gives = to.gives; is_sum = to.is_sum ∙ same },
-          run.3,
+          run.3)),
         );
         forest = grows.forest;
       }
@@ -251,7 +251,7 @@ module _ (form : Form) (is_form : IsForm form) (tracks : List Track) (found : Fi
                 let was = forest.once k before in
                 let a = times_in-cons node.right (node.left ∷ made) k in
                 let b = times_in-cons node.left made k in
-                let apart : (if eqb (length nodes) k then 1 else 0) ≡ 0 = ap (λ (b : Bool). if b then 1 else 0) (ne_eqb (length nodes) k (λ e. absurd (omega arith))) in
+                let apart : is_place k (length nodes) ≡ 0 = ap (λ (c : Bool). cond c 1 0) (ne_eqb (length nodes) k (λ e. absurd (omega arith))) in
                 omega arith
             | inr here ↦
                 let e = longer in
@@ -271,7 +271,7 @@ module _ (form : Form) (is_form : IsForm form) (tracks : List Track) (found : Fi
             let r = times_in-above node.right n right_in in
             let new = times_in-cons (Some n) made n in
             let others = made-inside made wants built in
-            let one : (if eqb n n then 1 else 0) ≡ 1 = ap (λ (b : Bool). if b then 1 else 0) (eq-eqb n n refl) in
+            let one : is_place n n ≡ 1 = ap (λ (b : Bool). cond b 1 0) (eq-eqb n n refl) in
             omega arith
 
   -- two trees are put under a node
@@ -340,7 +340,7 @@ module _ (form : Form) (is_form : IsForm form) (tracks : List Track) (found : Fi
         elim (cases_eq k j) [
           | inl same ↦ let f : k ≡ 0 + j = omega arith in ap (λ (x : ℕ). let o : Option ℕ = Some x in o) f
           | inr apart ↦
-              let none : (if eqb k j then 1 else 0) ≡ 0 = ap (λ (b : Bool). if b then 1 else 0) (ne_eqb k j apart) in
+              let none : is_place j k ≡ 0 = ap (λ (b : Bool). cond b 1 0) (ne_eqb k j apart) in
               absurd (omega arith)
         ]
 
@@ -362,8 +362,8 @@ module _ (form : Form) (is_form : IsForm form) (tracks : List Track) (found : Fi
         named-elsewhere k zero e inside = absurd (omega arith)
         named-elsewhere k (suc j) e inside =
             let is : end.0 ≡ Some (0 + j) = root-child ∙ ap (last_place 0) (sym e) in
-            let none : (if eqb (0 + j) k then 1 else 0) ≡ 0 = ap (λ (b : Bool). if b then 1 else 0) (ne_eqb (0 + j) k (λ f. absurd (omega arith))) in
-            ap (λ (c : Option ℕ). times_in (c ∷ []) k) is ∙ (let z : (if eqb (0 + j) k then 1 else 0) + 0 ≡ 0 = omega arith in z)
+            let none : is_place k (0 + j) ≡ 0 = ap (λ (b : Bool). cond b 1 0) (ne_eqb (0 + j) k (λ f. absurd (omega arith))) in
+            ap (λ (c : Option ℕ). times_in (c ∷ []) k) is ∙ omega arith
 
     pub grown-to : IsSettled found (State 0 q) w → IsTreeTo form tracks found q nodes
     grown-to settled =
@@ -374,3 +374,18 @@ module _ (form : Form) (is_form : IsForm form) (tracks : List Track) (found : Fi
           is_value = ap (value g (automaton_of form) 0 (length nodes)) is ∙ end.2.is_value;
           weighs = ap (weight ts (length nodes)) is ∙ end.2.weighs;
         }
+
+-- the tree of a state is to be made
+pub grows-first : (form : Form) → IsForm form → (tracks : List Track) (found : Findings) (q w : ℕ) → IsSettled found (State 0 q) w →
+    Grows form tracks found [] (Visit 0 q ∷ []) [] (record { space = 0; state = q; weight = w })
+grows-first form is_form tracks found q w settled = record {
+  wants = [];
+  built = tt;
+  runs = (w, settled, is_form.guide.not_empty, refl);
+  forest = record {
+    few = omega arith;
+    left_before = λ k node at. absurd cc;
+    right_before = λ k node at. absurd cc;
+    once = λ k inside. absurd (omega arith);
+  };
+}
