@@ -55,3 +55,8 @@ module _ (g : Spaces) (shelf : Contents) (a : AutoView) (f : Form) (is_auto : Is
     weighs = lightest.weighs;
     least = λ n x covers accepts. lightest.least n x covers (accepts-form x accepts);
   }
+
+  pub lightest-for : (weigh tracks : List Track) (nodes : List TreeNode) (w : ℕ) → weigh ≡ tracks →
+      IsLightestTree (form.guide_of f) (form.automaton_of f) weigh nodes w → IsLightestTree g (automaton_of shelf a) tracks nodes w
+  lightest-for weigh tracks nodes w same_tracks lightest =
+      subst (λ (ts : List Track). IsLightestTree g (automaton_of shelf a) ts nodes w) same_tracks (lightest-auto weigh nodes w lightest)

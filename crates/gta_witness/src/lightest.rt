@@ -73,5 +73,6 @@ pub fn least(
         (λ found. IsLightestTree g.now (automaton_of shelf.now a.now) weigh.now found.0 found.1)) }
 {
     let form = form_of(alloc, g, a, shelf)?;
-    least_of(alloc, &form, weigh.as_slice())
+    let answer = least_of(alloc, &form, weigh.as_slice())?;
+    Ok(answer)
 }
