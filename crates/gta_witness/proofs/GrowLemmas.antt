@@ -141,12 +141,16 @@ module _ (form : Form) (is_form : IsForm form) (tracks : List Track) (found : Fi
           to.left_weight,
           subst (λ (k : ℕ). IsSettled found (State k step.left) to.left_weight) (sym is_left) to.of_left,
           subst (IsSpace g) (sym is_left) (is_form.guide.left_inside s run.2),
-          (to.right_weight,
-          subst (λ (k : ℕ). IsSettled found (State k step.right) to.right_weight) (sym is_right) to.of_right,
-          subst (IsSpace g) (sym is_right) (is_form.guide.right_inside s run.2),
-          (record { space = s; state = q; weight = run.0 },
-          record { is_space = run.2; at_left = is_left; at_right = is_right; gives = to.gives; is_sum = to.is_sum ∙ same },
-          run.3)),
+          (
+            to.right_weight,
+            subst (λ (k : ℕ). IsSettled found (State k step.right) to.right_weight) (sym is_right) to.of_right,
+            subst (IsSpace g) (sym is_right) (is_form.guide.right_inside s run.2),
+            (
+              record { space = s; state = q; weight = run.0 },
+              record { is_space = run.2; at_left = is_left; at_right = is_right; gives = to.gives; is_sum = to.is_sum ∙ same },
+              run.3,
+            ),
+          ),
         );
         forest = grows.forest;
       }

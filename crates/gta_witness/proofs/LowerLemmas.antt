@@ -138,7 +138,6 @@ module _ (form : Form) (is_form : IsForm form) (tracks : List Track) (found : Fi
   abbrev g : Spaces
   g = guide_of form
 
-
   -- values are states
   value-below : (n s : ℕ) (a : Assignment) → IsSpace g s → nat_lt (value g (automaton_of form) s n a) (states_of form s) ≡ true
   value-below zero s a there = is_form.closed.initial s there

@@ -292,11 +292,12 @@ module _ (form : Form) (tracks : List Track) (found : Findings) (readable : IsRe
           let is_class : class' ≡ class = cc in
           let is_l : q' ≡ l = cc in
           let is_space : space' ≡ space = one-space (slice_get form.spaces t) space' space (ap (slice_get form.spaces) (sym is_t) ∙ at') at in
-          let weight : totals.0 ≡ u = (let a = totals.4 in let z = totals.3 in omega arith) in
-          (ap (λ (p : FormSpace). slice_get p.rows l) (sym is_space) ∙ ap (slice_get space'.rows) (sym is_l) ∙ at_class ∙ ap (λ (k : ℕ). let o : Option ℕ = Some k in o) is_class,
-          subst (λ (k : ℕ). IsSettled found (State space.children.0 l) k) weight
-          (subst (λ (p : FormSpace). IsSettled found (State p.children.0 l) totals.0) is_space
-          (subst (λ (k : ℕ). IsSettled found (State space'.children.0 k) totals.0) is_l totals.2)))
+          let weight : totals.0 ≡ u = (let a = totals.4 in let z = totals.3 in omega arith) in (
+            ap (λ (p : FormSpace). slice_get p.rows l) (sym is_space) ∙ ap (slice_get space'.rows) (sym is_l) ∙ at_class ∙ ap (λ (k : ℕ). let o : Option ℕ = Some k in o) is_class,
+            subst (λ (k : ℕ). IsSettled found (State space.children.0 l) k) weight
+                (subst (λ (p : FormSpace). IsSettled found (State p.children.0 l) totals.0) is_space
+                (subst (λ (k : ℕ). IsSettled found (State space'.children.0 k) totals.0) is_l totals.2)),
+          )
       pick _ _ _ _ total (column t' q' class' space' at' at_class) totals e r sum = absurd cc
       pick _ _ _ _ total (cell t' k c at' space' listed at_space at_cell at_root) totals e r sum = absurd cc
       pick _ _ _ _ total (low t' k space' node at_space at') totals e r sum = absurd cc
@@ -319,11 +320,12 @@ module _ (form : Form) (tracks : List Track) (found : Findings) (readable : IsRe
           let is_class : class' ≡ class = cc in
           let is_l : q' ≡ l = cc in
           let is_space : space' ≡ space = one-space (slice_get form.spaces t) space' space (ap (slice_get form.spaces) (sym is_t) ∙ at') at in
-          let weight : totals.0 ≡ u = (let a = totals.4 in let z = totals.3 in omega arith) in
-          (ap (λ (p : FormSpace). slice_get p.columns l) (sym is_space) ∙ ap (slice_get space'.columns) (sym is_l) ∙ at_class ∙ ap (λ (k : ℕ). let o : Option ℕ = Some k in o) is_class,
-          subst (λ (k : ℕ). IsSettled found (State space.children.1 l) k) weight
-          (subst (λ (p : FormSpace). IsSettled found (State p.children.1 l) totals.0) is_space
-          (subst (λ (k : ℕ). IsSettled found (State space'.children.1 k) totals.0) is_l totals.2)))
+          let weight : totals.0 ≡ u = (let a = totals.4 in let z = totals.3 in omega arith) in (
+            ap (λ (p : FormSpace). slice_get p.columns l) (sym is_space) ∙ ap (slice_get space'.columns) (sym is_l) ∙ at_class ∙ ap (λ (k : ℕ). let o : Option ℕ = Some k in o) is_class,
+            subst (λ (k : ℕ). IsSettled found (State space.children.1 l) k) weight
+                (subst (λ (p : FormSpace). IsSettled found (State p.children.1 l) totals.0) is_space
+                (subst (λ (k : ℕ). IsSettled found (State space'.children.1 k) totals.0) is_l totals.2)),
+          )
       pick _ _ _ _ total (cell t' k c at' space' listed at_space at_cell at_root) totals e r sum = absurd cc
       pick _ _ _ _ total (low t' k space' node at_space at') totals e r sum = absurd cc
       pick _ _ _ _ total (high t' k space' node at_space at') totals e r sum = absurd cc

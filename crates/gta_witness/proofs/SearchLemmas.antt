@@ -106,7 +106,6 @@ module _ (form : Form) (weighs : ℕ → Bool) (now : ℕ) (old new : Search) (g
   entry : Found
   entry = record { weight = weight; reason = reason; is_settled = false }
 
-
   at-goal : found_by new goal ≡ Some entry
   unfolding entry
   at-goal = updates.1
@@ -182,9 +181,9 @@ module _ (form : Form) (weighs : ℕ → Bool) (now : ℕ) (old new : Search) (g
     ];
     ahead = λ w there. elim (Contains-cases waiting w (heap_items old.queue)
         (Contains-permutation (heap_items new.queue) (waiting ∷ heap_items old.queue) w (IsPermutation-sym (waiting ∷ heap_items old.queue) (heap_items new.queue) pushed) there)) [
-      | inl same ↦ subst (λ (x : Waiting). now + x.nearness ≤ 18446744073709551615) same (omega arith)
-      | inr before ↦ is.sound.ahead w before
-    ];
+          | inl same ↦ subst (λ (x : Waiting). now + x.nearness ≤ 18446744073709551615) same (omega arith)
+          | inr before ↦ is.sound.ahead w before
+        ];
   }
 
   pub put-GoesOn : GoesOn form weighs now old new

@@ -133,13 +133,13 @@ module _ (form : Form) (weighs : ℕ → Bool) (lines : Lines) (old mid : Search
       premises-cases (g ∷ gs) = elim (same-or goal g) [
         | inl same ↦ inl (subst (λ (x : Goal). Contains (x ∷ gs) goal) same (Contains-first goal gs))
         | inr apart ↦ elim (premises-cases gs) [
-            | inl there ↦ inl (Contains-later g goal gs there)
-            | inr back ↦ inr (λ total totals.
-                let settled = on_now.improves.no_more g totals.0 totals.2 in
-                let before : IsSettled (found_by old) g totals.0 =
-                record { entry = settled.entry; there = sym (at-other g apart) ∙ settled.there; settled = settled.settled; weighs = settled.weighs } in
-                (totals.0, totals.1, before, back totals.1 totals.3, totals.4))
-          ]
+          | inl there ↦ inl (Contains-later g goal gs there)
+          | inr back ↦ inr (λ total totals.
+              let settled = on_now.improves.no_more g totals.0 totals.2 in
+              let before : IsSettled (found_by old) g totals.0 =
+              record { entry = settled.entry; there = sym (at-other g apart) ∙ settled.there; settled = settled.settled; weighs = settled.weighs } in
+              (totals.0, totals.1, before, back totals.1 totals.3, totals.4))
+        ]
       ]
 
       pub closed-now : IsClosed form weighs (found_by new)
@@ -211,10 +211,12 @@ module _ (form : Form) (weighs : ℕ → Bool) (now : ℕ) (lines : Lines) (old 
       ((first.goal ≡ g) × (first.nearness + e.weight ≡ 18446744073709551615)) ⊎ Waits (heap_items new.queue) g e.weight
   waits-still g e waits = elim (Contains-cases first waits.waiting (heap_items new.queue)
       (Contains-permutation (heap_items old.queue) (first ∷ heap_items new.queue) waits.waiting popped waits.there)) [
-    | inl one ↦ inl (ap (λ (w : Waiting). w.goal) one ∙ waits.is_goal,
-        ap (λ (w : Waiting). w.nearness + e.weight) one ∙ waits.near)
-    | inr there ↦ inr (record { waiting = waits.waiting; there = there; is_goal = waits.is_goal; near = waits.near })
-  ]
+        | inl one ↦ inl (
+          ap (λ (w : Waiting). w.goal) one ∙ waits.is_goal,
+          ap (λ (w : Waiting). w.nearness + e.weight) one ∙ waits.near,
+        )
+        | inr there ↦ inr (record { waiting = waits.waiting; there = there; is_goal = waits.is_goal; near = waits.near })
+      ]
 
   -- nothing changes where that was no longer so
   pub stale-running : ((e : Found) → found_by old first.goal ≡ Some e → e.is_settled ≡ false → first.nearness + e.weight ≡ 18446744073709551615 → ⊥) →

@@ -24,11 +24,7 @@ pub(crate) enum Turn {
 }
 
 /// The initial states weigh nothing.
-fn start(
-    alloc: Global,
-    form: &Form,
-    weighed: &HashSet<u32>,
-) -> Result<Search, AllocError>
+fn start(alloc: Global, form: &Form, weighed: &HashSet<u32>) -> Result<Search, AllocError>
     ensures { IfOk result (IsStart form.now (weighs_in weighed.now)) }
 {
     let mut search = Search::new(alloc);

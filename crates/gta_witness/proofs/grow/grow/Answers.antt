@@ -16,12 +16,14 @@ loop-init c =
     let settled = c.requires.settled in
     let out : Want = record { space = 0; state = c.args.state; weight = settled.0 } in
     let tasks : c.push.new.self ≡ Visit 0 c.args.state ∷ [] =
-    c.in_ok-push.ensures.ok ∙ ap (λ (ts : List Task). Visit 0 c.args.state ∷ ts) c.new-tasks.ensures in
-    (settled.0, settled.1,
-    subst (λ (nodes : List TreeNode). Grows form weigh found nodes c.push.new.self c.new-made.result out) (sym c.new-nodes.ensures)
-    (subst (λ (made : List (Option ℕ)). Grows form weigh found [] c.push.new.self made out) (sym c.new-made.ensures)
-    (subst (λ (ts : List Task). Grows form weigh found [] ts [] out) (sym tasks)
-    (grows-first form c.requires.readable.is_form weigh found c.args.state settled.0 settled.1))))
+    c.in_ok-push.ensures.ok ∙ ap (λ (ts : List Task). Visit 0 c.args.state ∷ ts) c.new-tasks.ensures in (
+      settled.0,
+      settled.1,
+      subst (λ (nodes : List TreeNode). Grows form weigh found nodes c.push.new.self c.new-made.result out) (sym c.new-nodes.ensures)
+          (subst (λ (made : List (Option ℕ)). Grows form weigh found [] c.push.new.self made out) (sym c.new-made.ensures)
+          (subst (λ (ts : List Task). Grows form weigh found [] ts [] out) (sym tasks)
+          (grows-first form c.requires.readable.is_form weigh found c.args.state settled.0 settled.1))),
+    )
 
 pub new-requires : goal.new-requires
 new-requires c =

@@ -29,7 +29,7 @@ returns-in_ok-push-in-Some-3 c = λ nodes out grows.
     let at : slice_get form.spaces c.args.space ≡ Some part = sym c.in-Some-get.ensures.value in
     let step = subst (HasSomeStep form weigh found c.args.space c.args.state) c.in-Some.is c.in_ok-step_of.ensures in
     let all : c.push-in-Some-3.new.self
-        ≡ Visit part.children.0 c.in-Some.step.left ∷ Visit part.children.1 c.in-Some.step.right ∷ Join c.in-Some.step.tracks ∷ c.args.tasks.now =
+    ≡ Visit part.children.0 c.in-Some.step.left ∷ Visit part.children.1 c.in-Some.step.right ∷ Join c.in-Some.step.tracks ∷ c.args.tasks.now =
     c.in_ok-push-in-Some-3.ensures.ok
     ∙ ap (λ (tasks : List Task). Visit part.children.0 c.in-Some.step.left ∷ tasks) (c.in_ok-push-in-Some-2.ensures.ok
     ∙ ap (λ (tasks : List Task). Visit part.children.1 c.in-Some.step.right ∷ tasks) c.in_ok-push-in-Some.ensures.ok) in

@@ -22,9 +22,9 @@ returns-clause-none c =
     let same = c.in_ok-form.ensures.same in
     let guide : IsGuide g = subst IsGuide same.guide c.in_ok-form.ensures.form.guide in (
       (λ none tree accepts. c.in_ok-answer.ensures.none none tree
-      (accepts-form g c.args.shelf.now c.args.a.now f c.requires guide same tree accepts)),
+          (accepts-form g c.args.shelf.now c.args.a.now f c.requires guide same tree accepts)),
       (λ nothing. none-of c.in_ok-answer.answer _ (λ found lightest.
-      nothing _ (accepts-auto g c.args.shelf.now c.args.a.now f c.requires guide same _ lightest.accepted)) c.in_ok-answer.ensures.least),
+          nothing _ (accepts-auto g c.args.shelf.now c.args.a.now f c.requires guide same _ lightest.accepted)) c.in_ok-answer.ensures.least),
     )
 
 pub returns-clause-least : goal.returns-clause-least

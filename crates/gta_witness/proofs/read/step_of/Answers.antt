@@ -14,9 +14,12 @@ loop-init c =
     let weigh = c.args.weigh.now in
     let found = found_by c.args.search.now in
     let settled = c.requires.settled in
-    let space = has-space form weigh found c.requires.readable c.args.space c.args.state settled.0 settled.1 in
-    (settled.0, settled.1, subst (Climbs form weigh found c.args.space c.args.state settled.0 (State c.args.space c.args.state)) (sym c.new-tracks.ensures)
-    (Climbs-first form weigh found c.requires.readable c.args.space c.args.state settled.0 space.0 space.1 settled.1))
+    let space = has-space form weigh found c.requires.readable c.args.space c.args.state settled.0 settled.1 in (
+      settled.0,
+      settled.1,
+      subst (Climbs form weigh found c.args.space c.args.state settled.0 (State c.args.space c.args.state)) (sym c.new-tracks.ensures)
+          (Climbs-first form weigh found c.requires.readable c.args.space c.args.state settled.0 space.0 space.1 settled.1),
+    )
 
 pub returns-in-Initial : goal.returns-in-Initial
 returns-in-Initial c =
@@ -50,6 +53,9 @@ loop-preserved c =
     let form = c.args.form.now in
     let weigh = c.args.weigh.now in
     let found = found_by c.args.search.now in
-    let at = c.loop.invariant in
-    (at.0, at.1, Climbs-side form weigh found c.requires.readable c.args.space c.args.state at.0 c.in-Side.index c.in-Side.is_high c.loop.goal c.loop.tracks
-    c.add_track.new.tracks at.2 (subst (HasReason found c.loop.goal) c.in-Side.is c.in_ok-reason_of.ensures) c.in_ok-add_track-in-Side.ensures)
+    let at = c.loop.invariant in (
+      at.0,
+      at.1,
+      Climbs-side form weigh found c.requires.readable c.args.space c.args.state at.0 c.in-Side.index c.in-Side.is_high c.loop.goal c.loop.tracks
+          c.add_track.new.tracks at.2 (subst (HasReason found c.loop.goal) c.in-Side.is c.in_ok-reason_of.ensures) c.in_ok-add_track-in-Side.ensures,
+    )

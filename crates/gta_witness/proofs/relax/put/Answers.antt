@@ -14,7 +14,7 @@ returns c = λ form weighs now is ahead higher justified.
     let heap = c.in_ok-push.ensures.heap_order is.heap in
     let new : Search = record { found = c.insert.new.self; queue = c.push.new.self } in (
       put-GoesOn form weighs now old new c.args.goal weight c.args.reason waiting is ahead higher justified refl near
-      c.in_ok-insert.ensures.updates c.in_ok-push.ensures.permutation heap,
+          c.in_ok-insert.ensures.updates c.in_ok-push.ensures.permutation heap,
       put-covered form weighs now old new c.args.goal weight c.args.reason waiting is ahead higher justified refl near
-      c.in_ok-insert.ensures.updates c.in_ok-push.ensures.permutation heap,
+          c.in_ok-insert.ensures.updates c.in_ok-push.ensures.permutation heap,
     )

@@ -16,16 +16,19 @@ expand-requires-clause-listed c = settled-listed c.args.form.now (weighs_in c.ar
     c.args.goal c.args.found c.requires c.in_ok-settle.ensures.found c.in_ok-settle.ensures.queue c.add_line.new.lines c.in_ok-add_line.ensures
 
 pub returns-in-Some : goal.returns-in-Some
-returns-in-Some c =
-    (over-now c.args.form.now (weighs_in c.args.weighed.now) c.args.lines.now c.args.search.now c.settle.new.search
-    c.args.goal c.args.found c.requires c.in_ok-settle.ensures.found c.in_ok-settle.ensures.queue c.add_line.new.lines c.in_ok-add_line.ensures
-    c.expand.new.search c.in_ok-expand.ensures.goes_on c.in_ok-expand.ensures.expanded,
-    accepting-now c.args.form.now (weighs_in c.args.weighed.now) c.args.lines.now c.args.search.now c.settle.new.search
-    c.args.goal c.args.found c.requires c.in_ok-settle.ensures.found c.in_ok-settle.ensures.queue c.add_line.new.lines c.in_ok-add_line.ensures
-    c.expand.new.search c.in_ok-expand.ensures.goes_on c.in_ok-expand.ensures.expanded c.in-Some.state c.in-Some.ensures)
+returns-in-Some c = (
+  over-now c.args.form.now (weighs_in c.args.weighed.now) c.args.lines.now c.args.search.now c.settle.new.search
+      c.args.goal c.args.found c.requires c.in_ok-settle.ensures.found c.in_ok-settle.ensures.queue c.add_line.new.lines c.in_ok-add_line.ensures
+      c.expand.new.search c.in_ok-expand.ensures.goes_on c.in_ok-expand.ensures.expanded,
+  accepting-now c.args.form.now (weighs_in c.args.weighed.now) c.args.lines.now c.args.search.now c.settle.new.search
+      c.args.goal c.args.found c.requires c.in_ok-settle.ensures.found c.in_ok-settle.ensures.queue c.add_line.new.lines c.in_ok-add_line.ensures
+      c.expand.new.search c.in_ok-expand.ensures.goes_on c.in_ok-expand.ensures.expanded c.in-Some.state c.in-Some.ensures,
+)
 
 pub returns-in-None : goal.returns-in-None
-returns-in-None c = (c.args.found.weight,
-    running-now c.args.form.now (weighs_in c.args.weighed.now) c.args.lines.now c.args.search.now c.settle.new.search
-    c.args.goal c.args.found c.requires c.in_ok-settle.ensures.found c.in_ok-settle.ensures.queue c.add_line.new.lines c.in_ok-add_line.ensures
-    c.expand.new.search c.in_ok-expand.ensures.goes_on c.in_ok-expand.ensures.expanded c.in-None.ensures)
+returns-in-None c = (
+  c.args.found.weight,
+  running-now c.args.form.now (weighs_in c.args.weighed.now) c.args.lines.now c.args.search.now c.settle.new.search
+      c.args.goal c.args.found c.requires c.in_ok-settle.ensures.found c.in_ok-settle.ensures.queue c.add_line.new.lines c.in_ok-add_line.ensures
+      c.expand.new.search c.in_ok-expand.ensures.goes_on c.in_ok-expand.ensures.expanded c.in-None.ensures,
+)
