@@ -1,10 +1,8 @@
 -- What follows from a settled goal is covered.
-use Rattle.std.proofs.Common.{◌≡◌, ℕ, suc, ◌+◌, ◌*◌, ◌<◌, ◌≤◌, Bool, true, false, cond, List, [], ◌∷◌, Option, Some, None, inl, inr, ◌⊎◌, length}
+use Rattle.std.proofs.Common.{◌≡◌, ℕ, ◌+◌, ◌*◌, ◌≤◌, Bool, true, false, cond, [], ◌∷◌, Option, Some, None, inl, inr, ◌⊎◌, length}
 use Rattle.std.proofs.Common.{refl, sym, ap, subst, ◌∙◌, arith, Contains, slice_get}
-use Rattle.std.specs.Prelude.{All}
-use Rattle.std.proofs.lemmas.Bool.{cases_lt, false≢true}
+use Rattle.std.proofs.lemmas.Bool.{cases_lt}
 use Rattle.std.proofs.lemmas.Option.{slice_get_within}
-use Rattle.std.proofs.lemmas.List.Elements.{All-contains}
 use Rattle.gta_theory.proofs.ListsLemmas.{Contains-cases, Contains-none}
 use Rattle.bdd_list.specs.declared.listing.Listed.{Listed}
 use Rattle.bdd_list.specs.declared.listing.ListedNode.{ListedNode}
@@ -12,11 +10,10 @@ use Rattle.gta_refine.specs.declared.form.FormSpace.{FormSpace}
 use Rattle.gta_refine.specs.declared.form.Form.{Form}
 use Rattle.gta_witness.specs.declared.goal.Goal.{Goal}
 use Rattle.gta_witness.specs.declared.goal.Goal.TheVariants.{State, Node, Row, Column}
-use Rattle.gta_witness.specs.declared.goal.Reason.{Reason}
 use Rattle.gta_witness.specs.declared.goal.Reason.TheVariants.{Member, Cell, Side}
 use Rattle.gta_witness.specs.declared.goal.Found.{Found}
-use Rattle.gta_witness.specs.Rules.{Rule, initial, row, column, cell, low, high, goal_at, bit_cost}
-use Rattle.gta_witness.specs.Searching.{Findings, IsSettled, IsCovered, Totals, IsJustified, IsExpanded, Improves, settled_weight, AreListed, list_at}
+use Rattle.gta_witness.specs.Rules.{initial, row, column, cell, low, high, goal_at, bit_cost}
+use Rattle.gta_witness.specs.Searching.{Findings, IsSettled, IsCovered, Totals, IsJustified, IsExpanded, Improves, settled_weight}
 use Rattle.gta_witness.specs.Following.{FollowsRow, FollowsColumn, FollowsState, FollowsCell, FollowsNode}
 use Rattle.gta_witness.proofs.SearchLemmas.{settled-once, IsCovered-more}
 

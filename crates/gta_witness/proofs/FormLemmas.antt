@@ -1,24 +1,23 @@
 -- The form of an automaton of a shelf.
-use Rattle.std.proofs.Common.{◌≡◌, ℕ, zero, suc, ◌+◌, ◌-◌, ◌*◌, ◌<◌, ◌≤◌, ◌^◌, Bool, true, false, List, [], ◌∷◌, ◌++◌, length, map, get_or, Option, Some, None, ◌⊎◌, inl, inr}
+use Rattle.std.proofs.Common.{◌≡◌, ℕ, ◌+◌, ◌-◌, ◌*◌, ◌<◌, ◌≤◌, Bool, true, false, List, [], ◌∷◌, ◌++◌, length, map, Option, Some, None, inl, inr}
 use Rattle.std.proofs.Common.{sym, ◌∙◌, ap, refl, subst, arith, length-append}
-use Rattle.std.specs.Prelude.{slice_get, slice_index, slice_index_or, unwrap_or, option_map, option_and_then, IsSome, is_some, SomeIff, All, nat_lt}
-use Rattle.std.proofs.lemmas.Bool.{cases_lt, cases_eq, false≢true, ltb-true, lt-ltb}
-use Rattle.std.proofs.lemmas.List.{same_lists, length-map, get_or-map}
+use Rattle.std.specs.Prelude.{slice_get, slice_index, slice_index_or, unwrap_or, option_map, option_and_then, IsSome, SomeIff, nat_lt}
+use Rattle.std.proofs.lemmas.Bool.{false≢true, ltb-true, lt-ltb}
+use Rattle.std.proofs.lemmas.List.{same_lists, length-map}
 use Rattle.std.proofs.lemmas.Option.{slice_get_within, slice_get-get_or, slice_get-map, unwrap_or-slice_get}
-use Rattle.labels.specs.Labels.{Label, Function, empty_label}
+use Rattle.labels.specs.Labels.{Label, empty_label}
 use Rattle.bdd_nodes.specs.declared.node_ref.NodeRef.{NodeRef}
 use Rattle.bdd_nodes.specs.Shelf.{Contents, state_of}
-use Rattle.bdd_list.specs.declared.listing.Listed.{Listed}
 use Rattle.bdd_list.specs.declared.listing.Listed.TheVariants.{Leaf}
 use Rattle.bdd_list.specs.declared.listing.Listing.{Listing}
 use Rattle.bdd_list.specs.Listing.{function_of, IsListing}
 use Rattle.gta_theory.specs.Guides.{Spaces, IsSpace, IsGuide, left, right}
-use Rattle.gta_theory.specs.Automata.{Automaton, IsStable}
+use Rattle.gta_theory.specs.Automata.{IsStable}
 use Rattle.gta_theory.specs.Constructions.{IsClosed}
 use Rattle.gta_theory.specs.Numbered.{Below}
 use Rattle.gta_theory.proofs.ListedLemmas.{slice_get-push}
 use Rattle.gta_core.specs.declared.factored.FactoredPart.{FactoredPart}
-use Rattle.gta_core.specs.Auto.{AutoView, states_of, initial_of, is_accepting, root_at, guide_of, automaton_of, IsAuto, IsWhole}
+use Rattle.gta_core.specs.Auto.{AutoView, states_of, initial_of, is_accepting, root_at, automaton_of, IsAuto, IsWhole}
 use Rattle.gta_core.specs.Factored.{factored_root}
 use Rattle.gta_refine.specs.declared.form.FormSpace.{FormSpace}
 use Rattle.gta_refine.specs.declared.form.Form.{Form}

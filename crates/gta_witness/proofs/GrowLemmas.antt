@@ -1,16 +1,16 @@
 -- A tree that is made from its leaves up.
-use Rattle.std.proofs.Common.{◌≡◌, ◌≢◌, ℕ, zero, suc, ◌+◌, ◌-◌, ◌<◌, ◌≤◌, Bool, true, false, cond, eqb, List, [], ◌∷◌, ◌++◌, Option, Some, None, IfSome, inl, inr, ◌⊎◌}
-use Rattle.std.proofs.Common.{refl, sym, ap, subst, ◌∙◌, arith, slice_get, length, length-append, unwrap_or, append-nil, eq-eqb, if◌then◌else◌}
-use Rattle.std.specs.Prelude.{option_to_list, flat_map, count_by}
+use Rattle.std.proofs.Common.{◌≡◌, ℕ, zero, suc, ◌+◌, ◌<◌, ◌≤◌, Bool, cond, eqb, List, [], ◌∷◌, ◌++◌, Option, Some, None, IfSome, inl, inr}
+use Rattle.std.proofs.Common.{refl, sym, ap, subst, ◌∙◌, arith, slice_get, length, length-append, unwrap_or, append-nil, eq-eqb}
+use Rattle.std.specs.Prelude.{option_to_list, flat_map}
 use Rattle.std.specs.List.{sum_by}
-use Rattle.std.proofs.lemmas.Bool.{false≢true, cases_lt, cases_eq, ne_eqb}
+use Rattle.std.proofs.lemmas.Bool.{cases_lt, cases_eq, ne_eqb}
 use Rattle.std.proofs.lemmas.List.Concat.{flat_map-append}
 use Rattle.std.proofs.lemmas.List.Sums.{sum_by-append}
 use Rattle.std.proofs.lemmas.Option.{slice_get_within}
 use Rattle.plain_data.specs.Stacks.{top, rest}
-use Rattle.gta_theory.specs.Assignments.{Assignment, Covers, half, root_label, empty_assignment}
-use Rattle.gta_theory.specs.Guides.{Spaces, IsGuide, IsSpace, left, right}
-use Rattle.gta_theory.specs.Automata.{Automaton, value}
+use Rattle.gta_theory.specs.Assignments.{Assignment, Covers, empty_assignment}
+use Rattle.gta_theory.specs.Guides.{Spaces, IsSpace, left, right}
+use Rattle.gta_theory.specs.Automata.{value}
 use Rattle.gta_theory.specs.Weights.{label_weight, weight}
 use Rattle.gta_theory.specs.Listed.{meanings}
 use Rattle.gta_theory.proofs.AssignmentsLemmas.{Covers-more, Covers-empty}
@@ -19,21 +19,19 @@ use Rattle.gta_theory.proofs.WeightsLemmas.{weight-same}
 use Rattle.gta_theory.proofs.ListedLemmas.{meanings-push, length-meanings, slice_get-front, slice_get-last, slice_get-push}
 use Rattle.ws2s_core.specs.declared.track.Track.{Track}
 use Rattle.ws2s_core.specs.declared.label_tree.TreeNode.{TreeNode}
-use Rattle.ws2s_core.specs.LabelTrees.{child_assignment, node_assignment, assignment_of, children_of, times_named, IsTree}
+use Rattle.ws2s_core.specs.LabelTrees.{node_assignment, assignment_of, children_of, times_named, IsTree}
 use Rattle.ws2s_core.proofs.LabelTreesLemmas.{Covers-at}
 use Rattle.ws2s_theory.specs.Trees.{child_at, label_of, last_place}
 use Rattle.ws2s_theory.proofs.TreesLemmas.{root-at}
-use Rattle.gta_refine.specs.declared.form.FormSpace.{FormSpace}
 use Rattle.gta_refine.specs.declared.form.Form.{Form}
 use Rattle.gta_refine.specs.Form.{guide_of, automaton_of, IsForm}
-use Rattle.gta_refine.proofs.ReachLemmas.{left-at, right-at}
 use Rattle.gta_witness.specs.declared.goal.Goal.TheVariants.{State}
 use Rattle.gta_witness.specs.declared.grow.Task.{Task}
 use Rattle.gta_witness.specs.declared.grow.Task.TheVariants.{Visit, Join}
 use Rattle.gta_witness.specs.declared.read.Step.{Step}
 use Rattle.gta_witness.specs.Lightest.{each_once}
 use Rattle.gta_witness.specs.Searching.{Findings, IsSettled}
-use Rattle.gta_witness.specs.Reading.{IsStepTo, HasSomeStep}
+use Rattle.gta_witness.specs.Reading.{HasSomeStep}
 use Rattle.gta_witness.specs.Growing.{IsTreeTo, Want, IsBuilt, AreBuilt, Leads, Runs, times_in, IsForest, Grows}
 use Rattle.gta_witness.proofs.SearchLemmas.{settled-once}
 

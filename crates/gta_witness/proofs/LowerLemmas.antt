@@ -1,37 +1,34 @@
 -- No assignment weighs less than what was found for its value.
 use Rattle.std.proofs.Common.{◌≡◌, ◌≢◌, ℕ, zero, suc, ◌+◌, ◌*◌, ◌<◌, ◌≤◌, Bool, true, false, List, [], ◌∷◌, Option, Some, None, inl, inr, ◌⊎◌}
 use Rattle.std.proofs.Common.{refl, sym, ap, subst, ◌∙◌, arith, slice_get, length, if◌then◌else◌}
-use Rattle.std.specs.Prelude.{MatchOption, slice_index, slice_index_or, nat_lt}
-use Rattle.std.proofs.lemmas.Bool.{false≢true, cases_Bool, cases_lt, ltb-true, lt-ltb}
-use Rattle.std.proofs.lemmas.Option.{slice_get_within, slice_get-get_or}
+use Rattle.std.specs.Prelude.{MatchOption, slice_index, nat_lt}
+use Rattle.std.proofs.lemmas.Bool.{false≢true, cases_Bool, cases_lt, ltb-true}
+use Rattle.std.proofs.lemmas.Option.{slice_get-get_or}
 use Rattle.labels.specs.Labels.{Label, empty_label, with_below}
 use Rattle.labels.proofs.LabelsLemmas.{with_below-under, with_below-from}
 use Rattle.bdd_list.specs.declared.listing.Listed.{Listed}
 use Rattle.bdd_list.specs.declared.listing.Listed.TheVariants.{Leaf, Inner}
 use Rattle.bdd_list.specs.declared.listing.ListedNode.{ListedNode}
-use Rattle.bdd_list.specs.Listing.{function_of, function_in, node_at, rank, IsIn, AsksNoneBelow, AreOrdered, first_track}
+use Rattle.bdd_list.specs.Listing.{function_in, node_at, rank, IsIn, AsksNoneBelow, AreOrdered}
 use Rattle.bdd_list.proofs.ListingLemmas.{function_in-leaf, function_in-inner}
 use Rattle.gta_theory.specs.Assignments.{Assignment, Covers, half, root_label}
-use Rattle.gta_theory.specs.Guides.{Spaces, IsSpace, IsGuide, left, right}
-use Rattle.gta_theory.specs.Automata.{Automaton, value, Accepts, IsStable}
+use Rattle.gta_theory.specs.Guides.{Spaces, IsSpace, left, right}
+use Rattle.gta_theory.specs.Automata.{value, Accepts}
 use Rattle.gta_theory.specs.Weights.{label_weight, weight}
 use Rattle.gta_theory.proofs.AutomataLemmas.{Accepts-at}
 use Rattle.ws2s_core.specs.declared.track.Track.{Track}
 use Rattle.ws2s_core.specs.declared.label_tree.TreeNode.{TreeNode}
-use Rattle.ws2s_core.specs.LabelTrees.{assignment_of}
 use Rattle.ws2s_core.proofs.LabelTreesLemmas.{Covers-tree}
 use Rattle.gta_refine.specs.declared.form.FormSpace.{FormSpace}
 use Rattle.gta_refine.specs.declared.form.Form.{Form}
-use Rattle.gta_refine.specs.Form.{guide_of, automaton_of, states_of, initial_of, cell_in, root_in, step_in, IsForm, IsFormSpace}
+use Rattle.gta_refine.specs.Form.{guide_of, automaton_of, states_of, cell_in, root_in, IsForm}
 use Rattle.gta_refine.proofs.ReachLemmas.{left-at, right-at, initial-at, initial-form, step-at, many_spaces, none-inside}
 use Rattle.gta_witness.specs.declared.goal.Goal.{Goal}
 use Rattle.gta_witness.specs.declared.goal.Goal.TheVariants.{State, Node, Row, Column}
-use Rattle.gta_witness.specs.declared.goal.Reason.{Reason}
 use Rattle.gta_witness.specs.declared.goal.Reason.TheVariants.{Initial, Member, Cell, Side}
-use Rattle.gta_witness.specs.declared.goal.Found.{Found}
 use Rattle.gta_witness.specs.Lightest.{is_among, each_once, IsLightestTree}
-use Rattle.gta_witness.specs.Rules.{Rule, initial, row, column, cell, low, high, goal_at, bit_cost}
-use Rattle.gta_witness.specs.Searching.{Findings, IsSettled, IsCovered, IsClosed, IsOver, IsAcceptingAt}
+use Rattle.gta_witness.specs.Rules.{initial, row, column, cell, low, high, goal_at, bit_cost}
+use Rattle.gta_witness.specs.Searching.{Findings, IsSettled, IsCovered, IsOver, IsAcceptingAt}
 use Rattle.gta_witness.specs.Growing.{IsTreeTo}
 use Rattle.gta_witness.proofs.SearchLemmas.{settled-once}
 use Rattle.gta_witness.proofs.WeighingLemmas.{label_weight-same, label_weight-more, label_weight-le}

@@ -1,36 +1,30 @@
 -- The way up from a state to the classes whose function gives it.
-use Rattle.std.proofs.Common.{◌≡◌, ◌≢◌, ℕ, suc, ◌+◌, ◌*◌, ◌<◌, ◌≤◌, Bool, true, false, cond, eqb, ◌||◌, List, [], ◌∷◌, ◌++◌, Option, Some, None, inl, inr, ◌⊎◌}
+use Rattle.std.proofs.Common.{◌≡◌, ◌≢◌, ℕ, suc, ◌+◌, ◌*◌, ◌<◌, ◌≤◌, Bool, true, false, eqb, ◌||◌, List, [], ◌∷◌, ◌++◌, Option, Some, None, inl, inr}
 use Rattle.std.proofs.Common.{refl, sym, ap, subst, ◌∙◌, arith, slice_get, length, if◌then◌else◌, eqb-true, eq-eqb, ne_eqb}
-use Rattle.std.specs.Prelude.{MatchOption, slice_index, slice_index_or, unwrap_or}
-use Rattle.std.specs.List.{list_any}
+use Rattle.std.specs.Prelude.{MatchOption, slice_index}
 use Rattle.std.proofs.lemmas.Bool.{false≢true, cases_Bool}
-use Rattle.std.proofs.lemmas.Option.{slice_get_within, unwrap_or-slice_get, get_or_from_slice_get}
-use Rattle.labels.specs.Labels.{Label}
+use Rattle.std.proofs.lemmas.Option.{slice_get_within, get_or_from_slice_get}
 use Rattle.bdd_list.specs.declared.listing.Listed.{Listed}
 use Rattle.bdd_list.specs.declared.listing.Listed.TheVariants.{Leaf, Inner}
 use Rattle.bdd_list.specs.declared.listing.ListedNode.{ListedNode}
-use Rattle.bdd_list.specs.Listing.{function_of, function_in, node_at, rank, IsIn, first_track, AsksNoneBelow, AreOrdered, IsSide}
+use Rattle.bdd_list.specs.Listing.{function_of, function_in, node_at, first_track, AsksNoneBelow, AreOrdered}
 use Rattle.bdd_list.proofs.ListingLemmas.{function_in-leaf, function_in-inner, function_in-unasked}
-use Rattle.gta_theory.specs.Guides.{Spaces, left, right}
-use Rattle.gta_theory.specs.Automata.{Automaton}
-use Rattle.gta_theory.specs.Weights.{label_weight}
+use Rattle.gta_theory.specs.Guides.{left, right}
 use Rattle.ws2s_core.specs.declared.track.Track.{Track}
 use Rattle.ws2s_theory.specs.Trees.{label_of}
 use Rattle.gta_refine.specs.declared.form.FormSpace.{FormSpace}
 use Rattle.gta_refine.specs.declared.form.Form.{Form}
-use Rattle.gta_refine.specs.Form.{guide_of, automaton_of, initial_of, cell_in, root_in, step_in, IsForm}
+use Rattle.gta_refine.specs.Form.{guide_of, automaton_of, cell_in, root_in}
 use Rattle.gta_refine.proofs.ReachLemmas.{left-at, right-at, initial-at, initial-form, step-at}
 use Rattle.gta_witness.specs.declared.goal.Goal.{Goal}
 use Rattle.gta_witness.specs.declared.goal.Goal.TheVariants.{State, Node, Row, Column}
 use Rattle.gta_witness.specs.declared.goal.Reason.{Reason}
 use Rattle.gta_witness.specs.declared.goal.Reason.TheVariants.{Initial, Member, Cell, Side}
-use Rattle.gta_witness.specs.declared.goal.Found.{Found}
-use Rattle.gta_witness.specs.declared.read.Step.{Step}
 use Rattle.gta_witness.specs.Lightest.{is_among, each_once}
 use Rattle.gta_witness.specs.Rules.{Rule, initial, row, column, cell, low, high, goal_at, bit_cost}
 use Rattle.gta_witness.specs.Searching.{Findings, IsSettled, Totals, IsJustified}
-use Rattle.gta_witness.specs.Reading.{IsReadable, HasReason, IsStepTo, HasStep, HasSomeStep, AddsTrack, Climbs}
-use Rattle.gta_witness.proofs.SearchLemmas.{settled-entry, settled-once}
+use Rattle.gta_witness.specs.Reading.{IsReadable, HasReason, IsStepTo, AddsTrack, Climbs}
+use Rattle.gta_witness.proofs.SearchLemmas.{settled-entry}
 use Rattle.gta_witness.proofs.WeighingLemmas.{label_weight-none, label_weight-more}
 
 one-space : (o : Option FormSpace) (x y : FormSpace) → o ≡ Some x → o ≡ Some y → x ≡ y

@@ -1,11 +1,11 @@
 -- The form's automaton accepts what the automaton does.
-use Rattle.std.proofs.Common.{◌≡◌, ℕ, zero, suc, ◌<◌, ◌≤◌, Bool, true, false, List, refl, sym, ap, subst, ◌∙◌, arith}
+use Rattle.std.proofs.Common.{◌≡◌, ℕ, zero, suc, true, false, List, sym, ap, subst, ◌∙◌}
 use Rattle.std.specs.Prelude.{nat_lt}
 use Rattle.std.proofs.lemmas.Bool.{ltb-true}
 use Rattle.bdd_nodes.specs.Shelf.{Contents}
 use Rattle.gta_theory.specs.Assignments.{Assignment, half, root_label}
 use Rattle.gta_theory.specs.Guides.{Spaces, IsSpace, IsGuide, left, right}
-use Rattle.gta_theory.specs.Automata.{Automaton, value, Accepts}
+use Rattle.gta_theory.specs.Automata.{value, Accepts}
 use Rattle.ws2s_core.specs.declared.track.Track.{Track}
 use Rattle.ws2s_core.specs.declared.label_tree.TreeNode.{TreeNode}
 use Rattle.ws2s_core.specs.LabelTrees.{assignment_of}

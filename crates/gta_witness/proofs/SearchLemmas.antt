@@ -1,7 +1,6 @@
 -- On what a search has found: a weight is put in, and a goal is settled.
-use Rattle.std.proofs.Common.{◌≡◌, ◌≢◌, ℕ, suc, ◌+◌, ◌-◌, ◌<◌, ◌≤◌, Bool, true, false, eqb, List, [], ◌∷◌, Option, Some, None, inl, inr, ◌⊎◌}
-use Rattle.std.proofs.Common.{refl, sym, ap, ap₂, subst, ◌∙◌, arith, eqb-true, eq-eqb, Contains, if◌then◌else◌}
-use Rattle.std.specs.Prelude.{MatchOption}
+use Rattle.std.proofs.Common.{◌≡◌, ℕ, ◌+◌, ◌<◌, ◌≤◌, Bool, true, false, List, [], ◌∷◌, Option, Some, inl, inr, ◌⊎◌}
+use Rattle.std.proofs.Common.{refl, sym, ap, ap₂, subst, ◌∙◌, arith, eqb-true, eq-eqb}
 use Rattle.std.specs.Ordering.{on, nat_cmp}
 use Rattle.std.specs.BinaryHeap.{heap_items, IsHeap}
 use Rattle.std.specs.List.Sorted.{IsPermutation}
@@ -15,9 +14,8 @@ use Rattle.gta_witness.specs.declared.goal.Reason.{Reason}
 use Rattle.gta_witness.specs.declared.goal.Found.{Found}
 use Rattle.gta_witness.specs.declared.goal.Waiting.{Waiting}
 use Rattle.gta_witness.specs.declared.relax.Search.{Search}
-use Rattle.gta_witness.specs.Searching.{same_goal, Findings, found_by, IsSettled, IsCovered, Totals, IsJustified, IsFollowed, IsClosed, IsExpanded, Waits}
-use Rattle.gta_witness.specs.Searching.{IsSound, IsSearch, Improves, GoesOn, IsHigher, settled_weight}
-use Rattle.gta_witness.specs.Rules.{Rule}
+use Rattle.gta_witness.specs.Searching.{same_goal, Findings, found_by, IsSettled, IsCovered, Totals, IsJustified}
+use Rattle.gta_witness.specs.Searching.{IsSound, IsSearch, Improves, GoesOn, IsHigher}
 
 -- the derived test says whether two goals are the same
 pub same_goal-true : (x y : Goal) → same_goal x y ≡ true → x ≡ y

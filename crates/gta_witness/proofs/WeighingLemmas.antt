@@ -1,7 +1,6 @@
 -- On weights of labels, each track counted once.
-use Rattle.std.proofs.Common.{◌≡◌, ◌≢◌, ℕ, suc, ◌+◌, ◌<◌, ◌≤◌, Bool, true, false, cond, eqb, ◌||◌, if◌then◌else◌, List, [], ◌∷◌, ◌++◌, inl, inr, ◌⊎◌}
-use Rattle.std.proofs.Common.{refl, sym, ap, subst, ◌∙◌, arith, eqb-true, eq-eqb}
-use Rattle.std.specs.List.{list_any}
+use Rattle.std.proofs.Common.{◌≡◌, ◌≢◌, ℕ, ◌+◌, ◌≤◌, Bool, true, false, cond, eqb, ◌||◌, if◌then◌else◌, List, [], ◌∷◌, inl, inr}
+use Rattle.std.proofs.Common.{refl, sym, ap, subst, ◌∙◌, arith, eqb-true}
 use Rattle.std.proofs.lemmas.Bool.{false≢true, cases_Bool, eqb-false}
 use Rattle.labels.specs.Labels.{Label}
 use Rattle.gta_theory.specs.Weights.{label_weight}

@@ -1,7 +1,7 @@
 -- A tree that is made from its leaves up.
 use Rattle.std.specs.Prelude.{◌≡◌, ℕ, ◌+◌, ◌<◌, ◌==◌, if◌then◌else◌, List, [], ◌∷◌, length, slice_get, Option, Some, None, IfSome}
 use Rattle.gta_theory.specs.Guides.{IsSpace, left, right}
-use Rattle.gta_theory.specs.Automata.{Automaton, value}
+use Rattle.gta_theory.specs.Automata.{value}
 use Rattle.gta_theory.specs.Weights.{label_weight, weight}
 use Rattle.ws2s_core.specs.declared.track.Track.{Track}
 use Rattle.ws2s_core.specs.declared.label_tree.TreeNode.{TreeNode}

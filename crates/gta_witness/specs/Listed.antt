@@ -1,9 +1,9 @@
 -- The form of an automaton of a shelf.
-use Rattle.std.specs.Prelude.{◌≡◌, ℕ, ◌<◌, length, Some, slice_get}
+use Rattle.std.specs.Prelude.{◌≡◌, ℕ, ◌<◌, Some, slice_get}
 use Rattle.labels.specs.Labels.{Label}
 use Rattle.bdd_nodes.specs.Shelf.{Contents}
 use Rattle.gta_theory.specs.Guides.{Spaces, IsSpace, left, right}
-use Rattle.gta_core.specs.Auto.{AutoView, states_of, initial_of, is_accepting, automaton_of}
+use Rattle.gta_core.specs.Auto.{AutoView, states_of, initial_of, automaton_of}
 use Rattle.gta_refine.specs.declared.form.FormSpace.{FormSpace}
 use Rattle.gta_refine.specs.declared.form.Form.{Form}
 use Rattle.gta_refine.specs.Form as form

@@ -1,10 +1,9 @@
 -- By which steps states have their weights, and how they are read.
-use Rattle.std.specs.Prelude.{◌≡◌, ℕ, ◌+◌, ◌≤◌, Bool, true, false, Option, Some, None, MatchOption, List, [], ◌∷◌, ◌++◌, slice_get, IsTrue}
+use Rattle.std.specs.Prelude.{◌≡◌, ℕ, ◌+◌, ◌≤◌, Bool, true, false, Option, Some, None, MatchOption, List, [], ◌∷◌, ◌++◌, slice_get}
 use Rattle.bdd_list.specs.declared.listing.Listed.{Listed}
 use Rattle.bdd_list.specs.declared.listing.ListedNode.{ListedNode}
 use Rattle.bdd_list.specs.Listing.{function_of, IsIn, first_track}
-use Rattle.gta_theory.specs.Guides.{Spaces, left, right}
-use Rattle.gta_theory.specs.Automata.{Automaton}
+use Rattle.gta_theory.specs.Guides.{left, right}
 use Rattle.gta_theory.specs.Weights.{label_weight}
 use Rattle.ws2s_core.specs.declared.track.Track.{Track}
 use Rattle.ws2s_theory.specs.Trees.{label_of}

@@ -1,7 +1,6 @@
 -- The rules by which weights are found, as a grammar: a goal weighs no more than the premises of a rule and what the
 -- rule costs. (Knuth 1977, A Generalization of Dijkstra's Algorithm.)
-use Rattle.std.specs.Prelude.{◌≡◌, ℕ, ◌+◌, ◌*◌, ◌≤◌, Bool, true, false, if◌then◌else◌, List, [], ◌∷◌, Option, Some, None, slice_get}
-use Rattle.std.specs.Prelude.{Contains}
+use Rattle.std.specs.Prelude.{◌≡◌, ℕ, ◌+◌, ◌*◌, Bool, true, false, if◌then◌else◌, List, [], ◌∷◌, Some, slice_get}
 use Rattle.bdd_list.specs.declared.listing.Listed.{Listed}
 use Rattle.bdd_list.specs.declared.listing.Listed.TheVariants.{Leaf, Inner}
 use Rattle.bdd_list.specs.declared.listing.ListedNode.{ListedNode}
@@ -11,7 +10,6 @@ use Rattle.gta_witness.specs.declared.goal.Goal.{Goal}
 use Rattle.gta_witness.specs.declared.goal.Goal.TheVariants.{State, Node, Row, Column}
 use Rattle.gta_witness.specs.declared.goal.Reason.{Reason}
 use Rattle.gta_witness.specs.declared.goal.Reason.TheVariants.{Initial, Member, Cell, Side}
-use Rattle.gta_witness.specs.declared.goal.Found.{Found}
 
 -- what is listed in a space, as a goal
 abbrev pub goal_at : ℕ → Listed → Goal

@@ -1,17 +1,16 @@
 -- What a search for least weights has found, and what it keeps. (Dijkstra 1959; Knuth 1977.)
-use Rattle.std.specs.Prelude.{◌≡◌, ℕ, ◌+◌, ◌<◌, ◌≤◌, if◌then◌else◌, Bool, true, false, List, [], ◌∷◌, Option, Some, None, MatchOption, Contains, nat_eq, slice_get, unwrap_or, length}
+use Rattle.std.specs.Prelude.{◌≡◌, ℕ, ◌+◌, ◌<◌, ◌≤◌, if◌then◌else◌, Bool, true, false, List, [], ◌∷◌, Option, Some, None, MatchOption, Contains, nat_eq, slice_get, unwrap_or}
 use Rattle.std.specs.Ordering.{on, nat_cmp}
 use Rattle.std.specs.declared.hash.FoldHasher.{FoldHasher}
 use Rattle.std.specs.declared.hash.BuildHasherDefault.{BuildHasherDefault}
-use Rattle.std.specs.HashMap.{get, HashMap}
+use Rattle.std.specs.HashMap.{get}
 use Rattle.std.specs.HashSet.{contains, HashSet}
 use Rattle.std.specs.BinaryHeap.{heap_items, IsHeap}
-use Rattle.gta_theory.specs.Automata.{Automaton}
 use Rattle.gta_refine.specs.declared.form.FormSpace.{FormSpace}
 use Rattle.gta_refine.specs.declared.form.Form.{Form}
 use Rattle.gta_refine.specs.Form.{automaton_of}
 use Rattle.gta_witness.specs.declared.goal.Goal.{Goal}
-use Rattle.gta_witness.specs.declared.goal.Goal.TheVariants.{State, Node, Row, Column}
+use Rattle.gta_witness.specs.declared.goal.Goal.TheVariants.{State, Row, Column}
 use Rattle.gta_witness.specs.declared.goal.Reason.{Reason}
 use Rattle.gta_witness.specs.declared.goal.Found.{Found}
 use Rattle.gta_witness.specs.declared.goal.Waiting.{Waiting}

@@ -1,8 +1,8 @@
 -- What follows from each kind of goal.
-use Rattle.std.proofs.Common.{◌≡◌, ◌≤◌, ◌<◌, ◌+◌, ℕ, List, Contains, sym, ap, ◌∙◌, subst}
+use Rattle.std.proofs.Common.{◌≡◌, ℕ, List, Contains, sym, ap, ◌∙◌, subst}
 use Rattle.std.proofs.lemmas.List.Elements.{All-contains}
 use Rattle.gta_witness.specs.declared.goal.Goal.{Goal}
-use Rattle.gta_witness.specs.declared.goal.Goal.TheVariants.{Row, Column, Node}
+use Rattle.gta_witness.specs.declared.goal.Goal.TheVariants.{Row, Column}
 use Rattle.gta_witness.specs.Searching.{found_by, weighs_in, list_at, IsSettled, IsExpanded}
 use Rattle.gta_witness.specs.Following.{FollowsCell}
 use Rattle.gta_witness.proofs.ExpandLemmas.{row-expanded, column-expanded, node-expanded}

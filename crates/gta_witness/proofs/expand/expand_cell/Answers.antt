@@ -1,5 +1,5 @@
 -- Two classes come to where their function begins.
-use Rattle.std.proofs.Common.{◌≡◌, ◌≤◌, ◌<◌, ◌+◌, ◌-◌, ℕ, sym, refl, arith, inl, inr, ◌⊎◌}
+use Rattle.std.proofs.Common.{◌≤◌, ◌+◌, ℕ, sym, refl, arith, inl, inr, ◌⊎◌}
 use Rattle.gta_witness.specs.declared.goal.Goal.TheVariants.{Row, Column}
 use Rattle.gta_witness.specs.Searching.{found_by, weighs_in, Findings, IsSettled}
 use Rattle.gta_witness.proofs.SearchLemmas.{settled-once}

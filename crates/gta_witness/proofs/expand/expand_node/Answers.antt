@@ -1,5 +1,5 @@
 -- A node comes to its sides.
-use Rattle.std.proofs.Common.{◌≡◌, ◌≤◌, ◌<◌, ◌+◌, ◌-◌, ℕ, sym, refl, ap, arith}
+use Rattle.std.proofs.Common.{◌≡◌, ◌+◌, ℕ, sym, ap, arith}
 use Rattle.gta_witness.specs.declared.goal.Goal.TheVariants.{Node}
 use Rattle.gta_witness.specs.Rules.{bit_cost}
 use Rattle.gta_witness.specs.Searching.{found_by, weighs_in}

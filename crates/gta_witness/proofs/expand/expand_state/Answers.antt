@@ -1,5 +1,5 @@
 -- The classes of a state.
-use Rattle.std.proofs.Common.{◌≡◌, ◌≤◌, ◌<◌, ◌+◌, ℕ, length, sym, subst, arith}
+use Rattle.std.proofs.Common.{◌≡◌, ℕ, length, subst, arith}
 use Rattle.gta_witness.specs.declared.goal.Goal.TheVariants.{State}
 use Rattle.gta_witness.specs.Searching.{found_by, weighs_in}
 use Rattle.gta_witness.specs.Following.{FollowsState}

@@ -1,5 +1,5 @@
 -- A state comes to its column.
-use Rattle.std.proofs.Common.{◌≡◌, ◌≤◌, ◌<◌, ℕ, sym, arith}
+use Rattle.std.proofs.Common.{◌≡◌, sym, arith}
 use Rattle.gta_witness.specs.Searching.{found_by, weighs_in}
 use Rattle.gta_witness.proofs.ExpandLemmas.{column-justified, column-follows}
 use Rattle.gta_witness.proofs.expand.expand_to_column.Goals as goal

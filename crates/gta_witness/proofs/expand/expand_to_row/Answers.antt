@@ -1,5 +1,5 @@
 -- A state comes to its row.
-use Rattle.std.proofs.Common.{◌≡◌, ◌≤◌, ◌<◌, ℕ, sym, arith}
+use Rattle.std.proofs.Common.{◌≡◌, sym, arith}
 use Rattle.gta_witness.specs.Searching.{found_by, weighs_in}
 use Rattle.gta_witness.proofs.ExpandLemmas.{row-justified, row-follows}
 use Rattle.gta_witness.proofs.expand.expand_to_row.Goals as goal

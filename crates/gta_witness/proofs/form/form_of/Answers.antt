@@ -1,5 +1,5 @@
 -- The form of all spaces.
-use Rattle.std.proofs.Common.{◌≡◌, ℕ, ◌+◌, ◌<◌, ◌≤◌, List, ◌∷◌, ◌++◌, [], length, sym, ◌∙◌, ap, subst, arith}
+use Rattle.std.proofs.Common.{◌≡◌, ◌+◌, List, length, sym, subst, arith}
 use Rattle.gta_refine.specs.declared.form.FormSpace.{FormSpace}
 use Rattle.gta_witness.proofs.FormLemmas.{AreSpacesOf, AreSpacesOf-push, IsForm-all, IsFormOf-all}
 use Rattle.gta_witness.proofs.form.form_of.Goals as goal

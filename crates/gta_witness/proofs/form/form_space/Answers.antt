@@ -1,6 +1,6 @@
 -- The part of a space.
-use Rattle.std.proofs.Common.{◌≡◌, ℕ, ◌<◌, List, Option, Some, length, sym, ◌∙◌, ap, subst}
-use Rattle.std.specs.Prelude.{slice_get, unwrap_or}
+use Rattle.std.proofs.Common.{ℕ, List, Option, Some, sym, ◌∙◌, ap, subst}
+use Rattle.std.specs.Prelude.{unwrap_or}
 use Rattle.bdd_nodes.specs.declared.node_ref.NodeRef.{NodeRef}
 use Rattle.bdd_list.specs.Listing.{IsListing}
 use Rattle.gta_theory.specs.Guides.{Spaces, IsSpace}

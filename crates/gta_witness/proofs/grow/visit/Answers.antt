@@ -1,10 +1,8 @@
 -- A state's tree is begun.
-use Rattle.std.proofs.Common.{◌≡◌, ℕ, List, ◌∷◌, Option, Some, None, sym, ap, ◌∙◌, subst, slice_get}
-use Rattle.gta_refine.specs.Form.{guide_of}
+use Rattle.std.proofs.Common.{◌≡◌, ℕ, List, ◌∷◌, Option, Some, sym, ap, ◌∙◌, subst, slice_get}
 use Rattle.gta_refine.proofs.ReachLemmas.{left-at, right-at}
 use Rattle.gta_witness.specs.declared.grow.Task.{Task}
 use Rattle.gta_witness.specs.declared.grow.Task.TheVariants.{Visit, Join}
-use Rattle.gta_witness.specs.declared.read.Step.{Step}
 use Rattle.gta_witness.specs.Searching.{found_by}
 use Rattle.gta_witness.specs.Reading.{HasSomeStep}
 use Rattle.gta_witness.specs.Growing.{Grows}

@@ -1,9 +1,6 @@
 -- The form's answer is the automaton's.
-use Rattle.std.proofs.Common.{◌≡◌, ℕ, List, Option, Some, None, IfSome, refl, sym, subst}
-use Rattle.gta_theory.specs.Guides.{Spaces, IsGuide}
-use Rattle.ws2s_core.specs.declared.track.Track.{Track}
-use Rattle.gta_refine.specs.Form as form
-use Rattle.gta_witness.specs.Lightest.{IsLightestTree}
+use Rattle.std.proofs.Common.{◌≡◌, Option, Some, None, IfSome, refl, subst}
+use Rattle.gta_theory.specs.Guides.{IsGuide}
 use Rattle.gta_witness.proofs.SameLemmas.{accepts-form, accepts-auto, lightest-for}
 use Rattle.gta_witness.proofs.lightest.least.Goals as goal
 

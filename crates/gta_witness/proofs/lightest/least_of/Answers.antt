@@ -1,7 +1,6 @@
 -- A lightest tree of a form.
-use Rattle.std.proofs.Common.{◌≡◌, ℕ, Bool, Option, Some, None, sym, subst}
+use Rattle.std.proofs.Common.{◌≡◌, ℕ, Bool, Option, Some, None, subst}
 use mathlib.Core.Path.{fun_ext}
-use Rattle.gta_witness.specs.declared.goal.Goal.{Goal}
 use Rattle.gta_witness.specs.Lightest.{is_among}
 use Rattle.gta_witness.specs.Searching.{weighs_in, found_by, Ends, IsOver}
 use Rattle.gta_witness.proofs.LowerLemmas.{lightest-form, none-form}

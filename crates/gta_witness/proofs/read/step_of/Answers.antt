@@ -1,8 +1,6 @@
 -- The way up to a step.
-use Rattle.std.proofs.Common.{◌≡◌, ℕ, List, [], sym, subst}
-use Rattle.ws2s_core.specs.declared.track.Track.{Track}
+use Rattle.std.proofs.Common.{sym, subst}
 use Rattle.gta_witness.specs.declared.goal.Goal.TheVariants.{State}
-use Rattle.gta_witness.specs.declared.goal.Reason.{Reason}
 use Rattle.gta_witness.specs.Searching.{found_by}
 use Rattle.gta_witness.specs.Reading.{HasReason, Climbs}
 use Rattle.gta_witness.proofs.ReadLemmas.{Climbs-first, Climbs-side, has-space, initial-step, cell-step}

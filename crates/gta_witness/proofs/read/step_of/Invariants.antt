@@ -2,7 +2,6 @@ use Rattle.std.proofs.Common.{ℕ}
 use Rattle.gta_witness.specs.declared.goal.Goal.TheVariants.{State}
 use Rattle.gta_witness.specs.Searching.{found_by, IsSettled}
 use Rattle.gta_witness.specs.Reading.{Climbs}
-use Rattle.gta_witness.proofs.ReadLemmas.{Climbs-first, Climbs-low, Climbs-high}
 use Rattle.gta_witness.proofs.read.step_of.Given as goal
 
 abbrev pub invariant-loop : goal.invariant-loop

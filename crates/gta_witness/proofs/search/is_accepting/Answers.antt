@@ -1,5 +1,5 @@
 -- Accepting states by their flags.
-use Rattle.std.proofs.Common.{◌≡◌, ℕ, Bool, false, Option, Some, sym, ap, ◌∙◌}
+use Rattle.std.proofs.Common.{Bool, false, Option, sym, ap, ◌∙◌}
 use Rattle.std.specs.Prelude.{unwrap_or}
 use Rattle.std.proofs.lemmas.Option.{unwrap_or-slice_get}
 use Rattle.gta_refine.proofs.ReachLemmas.{accepting-form}
