@@ -1,0 +1,237 @@
+-- No assignment weighs less than what was found for its value.
+use Rattle.std.proofs.Common.{◌≡◌, ◌≢◌, ℕ, zero, suc, ◌+◌, ◌*◌, ◌<◌, ◌≤◌, Bool, true, false, List, [], ◌∷◌, Option, Some, None, inl, inr, ◌⊎◌}
+use Rattle.std.proofs.Common.{refl, sym, ap, subst, ◌∙◌, arith, slice_get, length, if◌then◌else◌}
+use Rattle.std.specs.Prelude.{MatchOption, slice_index, nat_lt}
+use Rattle.std.proofs.lemmas.Bool.{false≢true, cases_Bool, cases_lt, ltb-true}
+use Rattle.std.proofs.lemmas.Option.{slice_get-get_or}
+use Rattle.labels.specs.Labels.{Label, empty_label, with_below}
+use Rattle.labels.proofs.LabelsLemmas.{with_below-under, with_below-from}
+use Rattle.bdd_list.specs.declared.listing.Listed.{Listed}
+use Rattle.bdd_list.specs.declared.listing.Listed.TheVariants.{Leaf, Inner}
+use Rattle.bdd_list.specs.declared.listing.ListedNode.{ListedNode}
+use Rattle.bdd_list.specs.Listing.{function_in, node_at, rank, IsIn, AsksNoneBelow, AreOrdered}
+use Rattle.bdd_list.proofs.ListingLemmas.{function_in-leaf, function_in-inner}
+use Rattle.gta_theory.specs.Assignments.{Assignment, Covers, half, root_label}
+use Rattle.gta_theory.specs.Guides.{Spaces, IsSpace, left, right}
+use Rattle.gta_theory.specs.Automata.{value, Accepts}
+use Rattle.gta_theory.specs.Weights.{label_weight, weight}
+use Rattle.gta_theory.proofs.AutomataLemmas.{Accepts-at}
+use Rattle.ws2s_core.specs.declared.track.Track.{Track}
+use Rattle.ws2s_core.specs.declared.label_tree.TreeNode.{TreeNode}
+use Rattle.ws2s_core.proofs.LabelTreesLemmas.{Covers-tree}
+use Rattle.gta_refine.specs.declared.form.FormSpace.{FormSpace}
+use Rattle.gta_refine.specs.declared.form.Form.{Form}
+use Rattle.gta_refine.specs.Form.{guide_of, automaton_of, states_of, cell_in, root_in, IsForm}
+use Rattle.gta_refine.proofs.ReachLemmas.{left-at, right-at, initial-at, initial-form, step-at, many_spaces, none-inside}
+use Rattle.gta_witness.specs.declared.goal.Goal.{Goal}
+use Rattle.gta_witness.specs.declared.goal.Goal.TheVariants.{State, Node, Row, Column}
+use Rattle.gta_witness.specs.declared.goal.Reason.TheVariants.{Initial, Member, Cell, Side}
+use Rattle.gta_witness.specs.Lightest.{is_among, each_once, IsLightestTree}
+use Rattle.gta_witness.specs.Rules.{initial, row, column, cell, low, high, goal_at, bit_cost}
+use Rattle.gta_witness.specs.Searching.{Findings, IsSettled, IsCovered, IsOver, IsAcceptingAt}
+use Rattle.gta_witness.specs.Growing.{IsTreeTo}
+use Rattle.gta_witness.proofs.SearchLemmas.{settled-once}
+use Rattle.gta_witness.proofs.WeighingLemmas.{label_weight-same, label_weight-more, label_weight-le}
+
+module _ (form : Form) (is_form : IsForm form) (tracks : List Track) (found : Findings) (bound : Option ℕ)
+    (over : IsOver form (is_among tracks) found bound) where
+  abbrev ts : List ℕ
+  ts = each_once tracks
+
+  -- the goal is settled no higher, or the bound is no higher
+  abbrev Low : Goal → ℕ → Type 0
+  Low goal w = ((u : ℕ) × IsSettled found goal u × (u ≤ w)) ⊎ MatchOption bound ⊥ (λ b. b ≤ w)
+
+  bound-more : (o : Option ℕ) (u w : ℕ) → u ≤ w → MatchOption o ⊥ (λ b. b ≤ u) → MatchOption o ⊥ (λ b. b ≤ w)
+  bound-more None u w more h = h
+  bound-more (Some b) u w more h = omega arith
+
+  covered-low : (goal : Goal) (w : ℕ) → IsCovered found goal w → Low goal w
+  covered-low goal w covered = elim (cases_Bool (covered.entry.is_settled)) [
+    | inl settled ↦ inl (covered.entry.weight, record { entry = covered.entry; there = covered.there; settled = settled; weighs = refl }, covered.no_higher)
+    | inr unsettled ↦ inr (bound-more bound covered.entry.weight w covered.no_higher (over.others goal covered.entry covered.there unsettled))
+  ]
+
+  -- on from a goal that is settled
+  low-then : (one other : Goal) (u w : ℕ) → u ≤ w → Low one u → ((v : ℕ) → IsSettled found one v → v ≤ u → Low other w) → Low other w
+  low-then one other u w more so on = elim so [
+    | inl settled ↦ on settled.0 settled.1 settled.2
+    | inr below ↦ inr (bound-more bound u w more below)
+  ]
+
+  low-more : (goal : Goal) (u w : ℕ) → u ≤ w → Low goal u → Low goal w
+  low-more goal u w more so = low-then goal goal u w more so (λ v settled below. inl (v, settled, omega arith))
+
+  -- the label above a track
+  abbrev above : ℕ → Label → Label
+  above t m = with_below t empty_label m
+
+  above-true : (t v : ℕ) (m : Label) → above t m v ≡ true → (t ≤ v) × (m v ≡ true)
+  above-true t v m e = elim (cases_lt v t) [
+    | inl under ↦ absurd (false≢true (sym (with_below-under t empty_label m v under) ∙ e))
+    | inr from ↦ (from, sym (with_below-from t empty_label m v from) ∙ e)
+  ]
+
+  above-le : (t k : ℕ) (m : Label) → t ≤ k → label_weight ts (above k m) ≤ label_weight ts (above t m)
+  above-le t k m more = label_weight-le ts (above k m) (above t m) (λ v e.
+      let h = above-true k v m e in with_below-from t empty_label m v (omega arith) ∙ h.1)
+
+  above-set : (t k : ℕ) (m : Label) → t ≤ k → m k ≡ true → bit_cost (is_among tracks) k + label_weight ts (above (suc k) m) ≤ label_weight ts (above t m)
+  above-set t k m more set =
+      let one = label_weight-more tracks k (above (suc k) m) (above k m)
+      (with_below-under (suc k) empty_label m k (omega arith))
+      (with_below-from k empty_label m k (omega arith) ∙ set)
+      (λ u differs. elim (cases_lt u k) [
+        | inl under ↦ with_below-under k empty_label m u under ∙ sym (with_below-under (suc k) empty_label m u (omega arith))
+        | inr from ↦ with_below-from k empty_label m u from ∙ sym (with_below-from (suc k) empty_label m u (past u from differs))
+      ]) in
+      let two = above-le t k m more in
+      omega arith
+    where
+      past : (u : ℕ) → k ≤ u → u ≢ k → suc k ≤ u
+      past u from differs = omega arith
+
+  -- down a function
+  module _ (s : ℕ) (space : FormSpace) (at : slice_get form.spaces s ≡ Some space) (ordered : AreOrdered space.listing.nodes) (m : Label) where
+    down : (k : ℕ) (x : Listed) (t u : ℕ) → rank x ≤ k → IsIn space.listing.nodes x → AsksNoneBelow space.listing.nodes t x →
+        IsSettled found (goal_at s x) u → Low (State s (function_in space.listing.nodes x m)) (u + label_weight ts (above t m))
+    down k (Leaf p) t u within inside asks settled =
+        subst (λ (y : ℕ). Low (State s y) (u + label_weight ts (above t m))) (sym (function_in-leaf space.listing.nodes p m)) (inl (u, settled, omega arith))
+    down zero (Inner i) t u within inside asks settled = absurd (omega arith)
+    down (suc k) (Inner i) t u within inside asks settled =
+        let node = node_at space.listing.nodes i in
+        let there : i < length space.listing.nodes = omega arith in
+        let at_i : slice_get space.listing.nodes i ≡ Some node =
+        slice_get-get_or space.listing.nodes i (record { track = 0; low = Leaf 0; high = Leaf 0 }) there in
+        let lows = ordered.low i there in
+        let highs = ordered.high i there in
+        let inner = function_in-inner space.listing.nodes i m there lows.before highs.before in
+        let from : t ≤ node.track = asks in
+        elim (cases_Bool (m node.track)) [
+          | inl set ↦
+              let is : function_in space.listing.nodes (Inner i) m ≡ function_in space.listing.nodes node.high m =
+              inner ∙ ap (λ (b : Bool). if b then function_in space.listing.nodes node.high m else function_in space.listing.nodes node.low m) set in
+              let covered = over.closed (Node s i ∷ []) (bit_cost (is_among tracks) node.track) (goal_at s node.high) (Side i true) (high s i space node at at_i)
+              u (u, 0, settled, refl, omega arith) in
+              let more = above-set t node.track m from set in
+              subst (λ (y : ℕ). Low (State s y) (u + label_weight ts (above t m))) (sym is)
+              (low-then (goal_at s node.high) (State s (function_in space.listing.nodes node.high m)) (bit_cost (is_among tracks) node.track + u) (u + label_weight ts (above t m))
+              (omega arith) (covered-low (goal_at s node.high) (bit_cost (is_among tracks) node.track + u) covered) (λ v high_settled below.
+              low-more (State s (function_in space.listing.nodes node.high m)) (v + label_weight ts (above (suc node.track) m)) (u + label_weight ts (above t m)) (omega arith)
+              (down k node.high (suc node.track) v (let b = highs.before in omega arith) (let b = highs.before in omega arith) highs.later high_settled)))
+          | inr unset ↦
+              let is : function_in space.listing.nodes (Inner i) m ≡ function_in space.listing.nodes node.low m =
+              inner ∙ ap (λ (b : Bool). if b then function_in space.listing.nodes node.high m else function_in space.listing.nodes node.low m) unset in
+              let covered = over.closed (Node s i ∷ []) 0 (goal_at s node.low) (Side i false) (low s i space node at at_i)
+              u (u, 0, settled, refl, omega arith) in
+              let more = above-le t (suc node.track) m (omega arith) in
+              subst (λ (y : ℕ). Low (State s y) (u + label_weight ts (above t m))) (sym is)
+              (low-then (goal_at s node.low) (State s (function_in space.listing.nodes node.low m)) (0 + u) (u + label_weight ts (above t m))
+              (omega arith) (covered-low (goal_at s node.low) (0 + u) covered) (λ v low_settled below.
+              low-more (State s (function_in space.listing.nodes node.low m)) (v + label_weight ts (above (suc node.track) m)) (u + label_weight ts (above t m)) (omega arith)
+              (down k node.low (suc node.track) v (let b = lows.before in omega arith) (let b = lows.before in omega arith) lows.later low_settled)))
+        ]
+
+  abbrev g : Spaces
+  g = guide_of form
+
+  -- values are states
+  value-below : (n s : ℕ) (a : Assignment) → IsSpace g s → nat_lt (value g (automaton_of form) s n a) (states_of form s) ≡ true
+  value-below zero s a there = is_form.closed.initial s there
+  value-below (suc n) s a there = is_form.closed.step s (value g (automaton_of form) (left g s) n (half false a))
+      (value g (automaton_of form) (right g s) n (half true a)) (root_label a) there
+      (value-below n (left g s) (half false a) (is_form.guide.left_inside s there)) (value-below n (right g s) (half true a) (is_form.guide.right_inside s there))
+
+  space-of : (s : ℕ) → IsSpace g s → (space : FormSpace) × (slice_get form.spaces s ≡ Some space)
+  space-of s there = pick (slice_get form.spaces s) refl
+    where
+      pick : (o : Option FormSpace) → slice_get form.spaces s ≡ o → (space : FormSpace) × (slice_get form.spaces s ≡ Some space)
+      pick None e = absurd (none-inside form.spaces s e (let m = many_spaces form in omega arith))
+      pick (Some space) e = (space, e)
+
+  asks-none : (nodes : List ListedNode) (x : Listed) → AsksNoneBelow nodes 0 x
+  asks-none nodes (Leaf p) = tt
+  asks-none nodes (Inner i) = omega arith
+
+  -- a step from settled states
+  step-low : (s p q u v : ℕ) (m : Label) → IsSpace g s → p < states_of form (left g s) → q < states_of form (right g s) →
+      IsSettled found (State (left g s) p) u → IsSettled found (State (right g s) q) v →
+      Low (State s ((automaton_of form).step s p q m)) (label_weight ts m + (u + v))
+  step-low s p q u v m there p_in q_in of_left of_right =
+      let space = (space-of s there).0 in
+      let at = (space-of s there).1 in
+      let is = is_form.spaces s space at in
+      let class_p = slice_index space.rows p in
+      let class_q = slice_index space.columns q in
+      let at_p : slice_get space.rows p ≡ Some class_p = slice_get-get_or space.rows p 0 (let b = is.rows in omega arith) in
+      let at_q : slice_get space.columns q ≡ Some class_q = slice_get-get_or space.columns q 0 (let b = is.columns in omega arith) in
+      let at_cell : slice_get space.cells (class_p * space.width + class_q) ≡ Some (cell_in space p q) =
+      slice_get-get_or space.cells (class_p * space.width + class_q) 0 (is.cells p q p_in q_in) in
+      let listed = root_in space (cell_in space p q) in
+      let at_root : slice_get space.listing.roots (cell_in space p q) ≡ Some listed =
+      slice_get-get_or space.listing.roots (cell_in space p q) (Leaf 0) (is.roots p q p_in q_in) in
+      let l : IsSettled found (State space.children.0 p) u = subst (λ (k : ℕ). IsSettled found (State k p) u) (left-at form s space at) of_left in
+      let r : IsSettled found (State space.children.1 q) v = subst (λ (k : ℕ). IsSettled found (State k q) v) (right-at form s space at) of_right in
+      let w : ℕ = label_weight ts m + (u + v) in
+      let end : Goal = State s ((automaton_of form).step s p q m) in
+      let all : label_weight ts (above 0 m) ≡ label_weight ts m = label_weight-same ts (above 0 m) m (λ t. with_below-from 0 empty_label m t (omega arith)) in
+      let of_row = covered-low (Row s class_p) (0 + u) (over.closed (State space.children.0 p ∷ []) 0 (Row s class_p) (Member p) (row s p class_p space at at_p) u (u, 0, l, refl, omega arith)) in
+      let of_column = covered-low (Column s class_q) (0 + v)
+      (over.closed (State space.children.1 q ∷ []) 0 (Column s class_q) (Member q) (column s q class_q space at at_q) v (v, 0, r, refl, omega arith)) in
+      low-then (Row s class_p) end (0 + u) w (omega arith) of_row (λ u' row_settled u_below.
+      low-then (Column s class_q) end (0 + v) w (omega arith) of_column (λ v' column_settled v_below.
+      low-then (goal_at s listed) end (0 + (u' + v')) w (omega arith)
+      (covered-low (goal_at s listed) (0 + (u' + v')) (over.closed (Row s class_p ∷ Column s class_q ∷ []) 0 (goal_at s listed) (Cell class_p class_q)
+      (cell s class_p class_q (cell_in space p q) space listed at at_cell at_root) (u' + v') (u', v', row_settled, (v', 0, column_settled, refl, omega arith), refl)))
+      (λ x root_settled x_below.
+      subst (λ (k : ℕ). Low (State s k) w) (sym (step-at form s space at p q m))
+      (low-more (State s (function_in space.listing.nodes listed m)) (x + label_weight ts (above 0 m)) w (omega arith)
+      (down s space at is.ordered m (rank listed) listed 0 x (omega arith) (is.inside (cell_in space p q) (is.roots p q p_in q_in)) (asks-none space.listing.nodes listed) root_settled)))))
+
+  -- no assignment weighs less
+  lower : (n s : ℕ) (a : Assignment) → IsSpace g s → Low (State s (value g (automaton_of form) s n a)) (weight ts n a)
+  lower zero s a there =
+      let space = (space-of s there).0 in
+      let at = (space-of s there).1 in
+      let first : space.initial ≡ (automaton_of form).initial s = sym (initial-form form s ∙ initial-at form s space at) in
+      subst (λ (k : ℕ). Low (State s k) 0) first
+      (covered-low (State s space.initial) 0 (over.closed [] 0 (State s space.initial) Initial (initial s space at) 0 refl))
+  lower (suc n) s a there =
+      let l_there = is_form.guide.left_inside s there in
+      let r_there = is_form.guide.right_inside s there in
+      let p = value g (automaton_of form) (left g s) n (half false a) in
+      let q = value g (automaton_of form) (right g s) n (half true a) in
+      let p_in = ltb-true p (states_of form (left g s)) (value-below n (left g s) (half false a) l_there) in
+      let q_in = ltb-true q (states_of form (right g s)) (value-below n (right g s) (half true a) r_there) in
+      let end : Goal = State s ((automaton_of form).step s p q (root_label a)) in
+      let w : ℕ = label_weight ts (root_label a) + (weight ts n (half false a) + weight ts n (half true a)) in
+      low-then (State (left g s) p) end (weight ts n (half false a)) w (omega arith) (lower n (left g s) (half false a) l_there) (λ u of_left u_below.
+      low-then (State (right g s) q) end (weight ts n (half true a)) w (omega arith) (lower n (right g s) (half true a) r_there) (λ v of_right v_below.
+      low-more end (label_weight ts (root_label a) + (u + v)) w (omega arith) (step-low s p q u v (root_label a) there p_in q_in of_left of_right)))
+
+  -- nothing that is accepted weighs less than the bound
+  pub accepted-bound : (n : ℕ) (a : Assignment) → Covers n a → Accepts (guide_of form) (automaton_of form) a → MatchOption bound ⊥ (λ b. b ≤ weight (each_once tracks) n a)
+  accepted-bound n a covers accepts =
+      let accepting = Accepts-at g is_form.guide (automaton_of form) is_form.stable n a covers accepts in
+      elim (lower n 0 a is_form.guide.not_empty) [
+        | inl settled ↦ bound-more bound settled.0 (weight ts n a) settled.2 (over.none (value g (automaton_of form) 0 n a) settled.0 accepting settled.1)
+        | inr below ↦ below
+      ]
+
+-- the tree of a lightest accepting state is a lightest one
+pub lightest-form : (form : Form) (is_form : IsForm form) (tracks : List Track) (found : Findings) (q w : ℕ) (nodes : List TreeNode) →
+    IsOver form (is_among tracks) found (Some w) → IsAcceptingAt form found q w → IsTreeTo form tracks found q nodes →
+    IsLightestTree (guide_of form) (automaton_of form) tracks nodes w
+lightest-form form is_form tracks found q w nodes over accepting tree = record {
+  accepted = record {
+    depth = length nodes;
+    covers = Covers-tree nodes;
+    accepted = ap (λ (k : ℕ). (automaton_of form).accepting k) tree.is_value ∙ accepting.accepting;
+  };
+  weighs = tree.weighs ∙ settled-once found (State 0 q) tree.least w tree.settled accepting.settled;
+  least = λ n a covers accepts. accepted-bound form is_form tracks found (Some w) over n a covers accepts;
+}
+
+pub none-form : (form : Form) (is_form : IsForm form) (tracks : List Track) (found : Findings) → IsOver form (is_among tracks) found None → (a : Assignment) →
+    Accepts (guide_of form) (automaton_of form) a → ⊥
+none-form form is_form tracks found over a accepts = accepted-bound form is_form tracks found None over accepts.depth a accepts.covers accepts

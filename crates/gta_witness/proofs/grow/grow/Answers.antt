@@ -1,0 +1,47 @@
+-- The tree of a state.
+use Rattle.std.proofs.Common.{◌≡◌, ℕ, List, [], ◌∷◌, Option, sym, ap, ◌∙◌, subst}
+use Rattle.ws2s_core.specs.declared.label_tree.TreeNode.{TreeNode}
+use Rattle.gta_witness.specs.declared.grow.Task.{Task}
+use Rattle.gta_witness.specs.declared.grow.Task.TheVariants.{Visit}
+use Rattle.gta_witness.specs.Searching.{found_by}
+use Rattle.gta_witness.specs.Growing.{Want, Grows, IsTreeTo}
+use Rattle.gta_witness.proofs.GrowLemmas.{grown-tree, grown-to, grows-first}
+use Rattle.gta_witness.proofs.grow.grow.Goals as goal
+
+pub loop-init : goal.loop-init
+loop-init c =
+    let form = c.args.form.now in
+    let weigh = c.args.weigh.now in
+    let found = found_by c.args.search.now in
+    let settled = c.requires.settled in
+    let out : Want = record { space = 0; state = c.args.state; weight = settled.0 } in
+    let tasks : c.push.new.self ≡ Visit 0 c.args.state ∷ [] =
+    c.in_ok-push.ensures.ok ∙ ap (λ (ts : List Task). Visit 0 c.args.state ∷ ts) c.new-tasks.ensures in (
+      settled.0,
+      settled.1,
+      subst (λ (nodes : List TreeNode). Grows form weigh found nodes c.push.new.self c.new-made.result out) (sym c.new-nodes.ensures)
+          (subst (λ (made : List (Option ℕ)). Grows form weigh found [] c.push.new.self made out) (sym c.new-made.ensures)
+          (subst (λ (ts : List Task). Grows form weigh found [] ts [] out) (sym tasks)
+          (grows-first form c.requires.readable.is_form weigh found c.args.state settled.0 settled.1))),
+    )
+
+pub new-requires : goal.new-requires
+new-requires c =
+    let form = c.args.form.now in
+    let weigh = c.args.weigh.now in
+    let found = found_by c.args.search.now in
+    let w = c.loop.invariant.0 in
+    let out : Want = record { space = 0; state = c.args.state; weight = w } in
+    let grows = subst (λ (ts : List Task). Grows form weigh found c.loop.nodes ts c.loop.made out) c.in-None.ensures.0 c.loop.invariant.2 in
+    grown-tree form c.requires.readable.is_form weigh found c.loop.nodes c.loop.made c.args.state w grows
+
+pub returns-in-None : goal.returns-in-None
+returns-in-None c =
+    let form = c.args.form.now in
+    let weigh = c.args.weigh.now in
+    let found = found_by c.args.search.now in
+    let w = c.loop.invariant.0 in
+    let out : Want = record { space = 0; state = c.args.state; weight = w } in
+    let grows = subst (λ (ts : List Task). Grows form weigh found c.loop.nodes ts c.loop.made out) c.in-None.ensures.0 c.loop.invariant.2 in
+    subst (IsTreeTo form weigh found c.args.state) (sym c.new.ensures)
+    (grown-to form c.requires.readable.is_form weigh found c.loop.nodes c.loop.made c.args.state w grows c.loop.invariant.1)

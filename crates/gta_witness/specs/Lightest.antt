@@ -1,0 +1,32 @@
+-- What is given for an automaton: a tree of least weight that it accepts. (Knuth 1977, A Generalization of Dijkstra's
+-- Algorithm.)
+use Rattle.std.specs.Prelude.{◌≡◌, ℕ, ◌≤◌, Bool, ◌==◌, if◌then◌else◌, List, [], ◌∷◌, length}
+use Rattle.std.specs.List.{list_any}
+use Rattle.gta_theory.specs.Assignments.{Assignment, Covers}
+use Rattle.gta_theory.specs.Guides.{Spaces}
+use Rattle.gta_theory.specs.Automata.{Automaton, Accepts}
+use Rattle.gta_theory.specs.Weights.{weight}
+use Rattle.ws2s_core.specs.declared.track.Track.{Track}
+use Rattle.ws2s_core.specs.declared.label_tree.TreeNode.{TreeNode}
+use Rattle.ws2s_core.specs.LabelTrees.{assignment_of}
+
+-- whether the track is one of these
+abbrev pub is_among : List Track → ℕ → Bool
+is_among tracks t = list_any (λ track. track.0 == t) tracks
+
+-- the numbers of the tracks, each once
+abbrev pub each_once : List Track → List ℕ
+each_once [] = []
+each_once (track ∷ tracks) = if is_among tracks track.0 then each_once tracks else track.0 ∷ each_once tracks
+
+-- the tree has so many bits on the tracks: it has so many pairs of a position and one of these tracks, each track counted
+-- once however often it is listed
+abbrev pub HasWeight : List Track → List TreeNode → ℕ → Type 0
+HasWeight tracks nodes w = weight (each_once tracks) (length nodes) (assignment_of nodes) ≡ w
+
+-- the automaton accepts the tree, which has that weight, and no assignment that it accepts weighs less
+pub record IsLightestTree {Q : Type 0} (g : Spaces) (A : Automaton Q) (tracks : List Track) (nodes : List TreeNode) (w : ℕ) :
+    Type 0 where
+  pub accepted : Accepts g A (assignment_of nodes)
+  pub weighs : HasWeight tracks nodes w
+  pub least : (n : ℕ) (a : Assignment) → Covers n a → Accepts g A a → w ≤ weight (each_once tracks) n a
