@@ -6,7 +6,8 @@ use Rattle.ws2s_core.specs.declared.formula.Formula.TheVariants.{Single}
 use Rattle.ws2s_syntax.specs.declared.declaration.Class.{Class}
 use Rattle.ws2s_syntax.specs.declared.declaration.Free.{Free}
 use Rattle.ws2s_syntax.specs.Checked.{class_of_free}
-use Rattle.ws2s_reduce.specs.Reducing.{track, singles_from}
+use Rattle.ws2s_forms.specs.Forms.{track}
+use Rattle.ws2s_reduce.specs.Reducing.{singles_from}
 use Rattle.ws2s_reduce.specs.Answer.{free_from}
 
 singles_from-append : (n : ℕ) (xs ys : List Class) → singles_from n (xs ++ ys) ≡ singles_from n xs ++ singles_from (n + length xs) ys

@@ -19,7 +19,8 @@ use Rattle.ws2s_reduce.specs.declared.task.Op.{Op}
 use Rattle.ws2s_reduce.specs.declared.task.Place.{Place}
 use Rattle.ws2s_reduce.specs.declared.task.Task.{Task}
 use Rattle.ws2s_reduce.specs.declared.machine.Machine.{Machine}
-use Rattle.ws2s_reduce.specs.Reducing.{true_at, reduced, used}
+use Rattle.ws2s_forms.specs.Forms.{true_at}
+use Rattle.ws2s_reduce.specs.Reducing.{reduced, used}
 use Rattle.ws2s_reduce.specs.Building.{reductions_to, Step, to_build, to_forget, to_apply, step_of, steps_of, finished}
 use Rattle.ws2s_reduce.specs.Building.{tracks_from, chain_steps, formula_work, works_to, steps_work}
 use Rattle.ws2s_reduce.specs.Machines.{IsPassed, IsBuilt}

@@ -1,12 +1,10 @@
 pub mod AnswerLemmas
 pub mod BuiltLemmas
 pub mod CheckedLemmas
-pub mod ConnectivesLemmas
 pub mod CountsLemmas
 pub mod NamesLemmas
 pub mod NodesLemmas
 pub mod PassingLemmas
-pub mod PositionsLemmas
 pub mod PredicatesLemmas
 pub mod SentencesLemmas
 pub mod SizesLemmas

@@ -21,8 +21,9 @@ use Rattle.ws2s_syntax.specs.declared.name.Term.{Term}
 use Rattle.ws2s_syntax.specs.declared.declaration.Class.{Class}
 use Rattle.ws2s_syntax.specs.Checked.{Scope, class_of, is_position_class, is_set_class, is_position, is_set, is_base, is_term, with_class}
 use Rattle.ws2s_syntax.specs.Meaning.{Value, Env, value_of, position_in, set_in, position_of_base, child, position_of, with_value}
-use Rattle.ws2s_reduce.specs.Reducing.{track, track_of, succ_of, is_base_at, is_stepped_at, is_at}
-use Rattle.ws2s_reduce.proofs.PositionsLemmas.{IsOnly-inside, IsOnly-same, IsOnly-along, bound_same, bound_other, WSat-ex_at}
+use Rattle.ws2s_forms.specs.Forms.{track}
+use Rattle.ws2s_reduce.specs.Reducing.{track_of, succ_of, is_base_at, is_stepped_at, is_at}
+use Rattle.ws2s_forms.proofs.PositionsLemmas.{IsOnly-inside, IsOnly-same, IsOnly-along, bound_same, bound_other, WSat-ex_at}
 
 -- the set is what the value says: the one position, or the set itself
 abbrev pub IsHeldAs : Class → PositionSet → Option Value → Type 0

@@ -24,7 +24,8 @@ use Rattle.ws2s_syntax.specs.declared.formula.Connective.{Connective}
 use Rattle.ws2s_syntax.specs.declared.formula.Quantifier.{Quantifier}
 use Rattle.ws2s_syntax.specs.declared.declaration.Predicate.{Predicate}
 use Rattle.ws2s_syntax.specs.Sentences.{Sentence, said, negated, implied, joined, quantified, sentence_of}
-use Rattle.ws2s_reduce.specs.Reducing.{track, false_at, true_at, imp, ex1, empty_at, equal, track_of, succ_of, is_base_at}
+use Rattle.ws2s_forms.specs.Forms.{track, false_at, true_at, imp, ex1, empty_at, equal}
+use Rattle.ws2s_reduce.specs.Reducing.{track_of, succ_of, is_base_at}
 use Rattle.ws2s_reduce.specs.Reducing.{is_stepped_at, is_at, plain_name, Reductions, no_reductions, passed_term, used, atom_at}
 use Rattle.ws2s_reduce.specs.Reducing.{reduced, with_reduction, reductions_from}
 use Rattle.ws2s_reduce.specs.Sizes.{base_size, term_size, passed_term_size, argument_size, PredicateSizes, atom_size, sentence_size, sizes_in, AreSizes}

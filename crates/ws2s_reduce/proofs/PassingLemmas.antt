@@ -13,7 +13,8 @@ use Rattle.ws2s_syntax.specs.declared.declaration.Predicate.{Predicate}
 use Rattle.ws2s_syntax.specs.Sentences.{Sentence, sentence_of}
 use Rattle.ws2s_reduce.specs.declared.task.Op.{Op}
 use Rattle.ws2s_reduce.specs.declared.machine.Machine.{Machine}
-use Rattle.ws2s_reduce.specs.Reducing.{track, true_at, is_at, plain_name, passed_term, Reductions, no_reductions, with_reduction}
+use Rattle.ws2s_forms.specs.Forms.{track, true_at}
+use Rattle.ws2s_reduce.specs.Reducing.{is_at, plain_name, passed_term, Reductions, no_reductions, with_reduction}
 use Rattle.ws2s_reduce.specs.Reducing.{reductions_from, reduced, used}
 use Rattle.ws2s_reduce.specs.Building.{reductions_to, to_apply, steps_of, finished, formula_work, body_work, works_to, steps_work}
 use Rattle.ws2s_reduce.specs.Machines.{IsPassed}

@@ -20,11 +20,12 @@ use Rattle.ws2s_syntax.specs.Sentences.{Sentence, said, negated, implied, joined
 use Rattle.ws2s_syntax.specs.Checked.{Scope, is_position, is_base, is_term, is_argument, are_arguments, are_arguments_of, is_atom, is_sentence}
 use Rattle.ws2s_syntax.specs.Meaning.{Value, place, places, Env, value_of, position_in, set_of, position_of_base, child}
 use Rattle.ws2s_syntax.specs.Meaning.{position_of, argument_value, Predicates, MeansAtom, with_value, Means}
-use Rattle.ws2s_reduce.specs.Reducing.{track, track_of, is_at, plain_name, Reductions, passed_term, used, atom_at, reduced}
-use Rattle.ws2s_reduce.proofs.PositionsLemmas.{WSat-ex1, WSat-ex_at, IsOnly-along}
+use Rattle.ws2s_forms.specs.Forms.{track}
+use Rattle.ws2s_reduce.specs.Reducing.{track_of, is_at, plain_name, Reductions, passed_term, used, atom_at, reduced}
+use Rattle.ws2s_forms.proofs.PositionsLemmas.{WSat-ex1, WSat-ex_at, IsOnly-along}
 use Rattle.ws2s_reduce.proofs.NamesLemmas.{Fits, Fits-bound, Fits-none, Fits-with, Fits-next, held_set, held_position, WSat-bound_term}
-use Rattle.ws2s_reduce.proofs.ConnectivesLemmas.{WSat-false, WSat-true, WSat-and, WSat-or, WSat-imp, WSat-iff, WSat-negated}
-use Rattle.ws2s_reduce.proofs.ConnectivesLemmas.{WSat-all1, WSat-ex2, WSat-all2, WSat-inside, WSat-empty, WSat-equal, inside_same}
+use Rattle.ws2s_forms.proofs.ConnectivesLemmas.{WSat-false, WSat-true, WSat-and, WSat-or, WSat-imp, WSat-iff, WSat-negated}
+use Rattle.ws2s_forms.proofs.ConnectivesLemmas.{WSat-all1, WSat-ex2, WSat-all2, WSat-inside, WSat-empty, WSat-equal, inside_same}
 
 -- both ways, one after the other
 through : {P Q R : Type 0} → P ↔ Q → Q ↔ R → P ↔ R

@@ -12,7 +12,8 @@ use Rattle.ws2s_syntax.specs.declared.formula.Connective.{Connective}
 use Rattle.ws2s_syntax.specs.declared.formula.TextFormula.{TextFormula}
 use Rattle.ws2s_syntax.specs.Sentences.{Sentence, joined, sentence_of}
 use Rattle.ws2s_syntax.specs.Checked.{Text, class_of_free, free_classes}
-use Rattle.ws2s_reduce.specs.Reducing.{track, and_list, Reductions, reduced, reductions_of, formulas_of, singles_from, singles_of, holds_of, breaks_of}
+use Rattle.ws2s_forms.specs.Forms.{track, and_list}
+use Rattle.ws2s_reduce.specs.Reducing.{Reductions, reduced, reductions_of, formulas_of, singles_from, singles_of, holds_of, breaks_of}
 use Rattle.ws2s_reduce.specs.Sizes.{formulas_size, sizes_in, AreSizes, IsSmall}
 use Rattle.ws2s_reduce.proofs.CountsLemmas.{count-Single, count-And, count-Not}
 use Rattle.ws2s_reduce.proofs.NodesLemmas.{count-true, count-sentence}

@@ -7,9 +7,10 @@ use Rattle.ws2s_core.specs.declared.formula.Formula.TheVariants.{And, Ex2}
 use Rattle.ws2s_syntax.specs.declared.name.Successor.{Successor}
 use Rattle.ws2s_syntax.specs.declared.name.Base.{Base}
 use Rattle.ws2s_syntax.specs.declared.formula.Quantifier.{Quantifier}
-use Rattle.ws2s_reduce.specs.Reducing.{track, succ_of, is_stepped_at}
+use Rattle.ws2s_forms.specs.Forms.{track}
+use Rattle.ws2s_reduce.specs.Reducing.{succ_of, is_stepped_at}
 use Rattle.ws2s_reduce.specs.Building.{quantified_at, wrapped}
-use Rattle.ws2s_reduce.specs.Terms.{target}
+use Rattle.ws2s_forms.specs.Targets.{target}
 
 -- the last quantifier is the innermost
 pub wrapped-last : (q : Quantifier) (first names : ℕ) (f : Formula) →

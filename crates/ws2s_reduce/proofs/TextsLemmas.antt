@@ -17,10 +17,11 @@ use Rattle.ws2s_syntax.specs.declared.formula.TextFormula.{TextFormula}
 use Rattle.ws2s_syntax.specs.Sentences.{sentence_of}
 use Rattle.ws2s_syntax.specs.Checked.{Text, IsChecked, class_of, class_of_free, free_classes, signatures_of, is_sentence, are_predicates}
 use Rattle.ws2s_syntax.specs.Meaning.{Value, place, places, value_of, Means, predicates_of, Satisfies, IsGiven, GivesFrom, Gives}
-use Rattle.ws2s_reduce.specs.Reducing.{track, track_of, and_list, reduced, reductions_of, formulas_of, singles_from, singles_of, holds_of, breaks_of}
-use Rattle.ws2s_reduce.proofs.PositionsLemmas.{IsOnly-same}
+use Rattle.ws2s_forms.specs.Forms.{track, and_list}
+use Rattle.ws2s_reduce.specs.Reducing.{track_of, reduced, reductions_of, formulas_of, singles_from, singles_of, holds_of, breaks_of}
+use Rattle.ws2s_forms.proofs.PositionsLemmas.{IsOnly-same}
 use Rattle.ws2s_reduce.proofs.NamesLemmas.{IsHeldAs, IsHeld, Fits}
-use Rattle.ws2s_reduce.proofs.ConnectivesLemmas.{EachSat, EachSat-append, WSat-and_list}
+use Rattle.ws2s_forms.proofs.ConnectivesLemmas.{EachSat, EachSat-append, WSat-and_list}
 use Rattle.ws2s_reduce.proofs.SentencesLemmas.{WSat-sentence}
 use Rattle.ws2s_reduce.proofs.PredicatesLemmas.{Knows-predicates}
 

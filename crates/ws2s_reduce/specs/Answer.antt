@@ -7,7 +7,8 @@ use Rattle.ws2s_syntax.specs.Meaning.{Value, Gives, Satisfies}
 use Rattle.ws2s_core.specs.declared.track.Track.{Track}
 use Rattle.ws2s_syntax.specs.Checked.{Text}
 use Rattle.ws2s_reduce.specs.declared.reduction.Reduced.{Reduced}
-use Rattle.ws2s_reduce.specs.Reducing.{track, holds_of, breaks_of}
+use Rattle.ws2s_forms.specs.Forms.{track}
+use Rattle.ws2s_reduce.specs.Reducing.{holds_of, breaks_of}
 
 -- so many tracks, from this one on
 abbrev pub free_from : ℕ → ℕ → List Track

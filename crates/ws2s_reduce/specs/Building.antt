@@ -12,7 +12,8 @@ use Rattle.ws2s_syntax.specs.declared.formula.TextFormula.TheOpen.{TextFormula-F
 use Rattle.ws2s_syntax.specs.declared.formula.TextFormula.TheFolds.{fold-TextFormula}
 use Rattle.ws2s_syntax.specs.declared.declaration.Predicate.{Predicate}
 use Rattle.ws2s_syntax.specs.Sentences.{sentence_of}
-use Rattle.ws2s_reduce.specs.Reducing.{track, or, imp, iff, ex1, all1, all2, Reductions, no_reductions, reductions_from, reduced}
+use Rattle.ws2s_forms.specs.Forms.{track, or, imp, iff, ex1, all1, all2}
+use Rattle.ws2s_reduce.specs.Reducing.{Reductions, no_reductions, reductions_from, reduced}
 use Rattle.ws2s_reduce.specs.declared.task.Op.{Op}
 use Rattle.ws2s_reduce.specs.declared.task.Place.{Place}
 use Rattle.ws2s_reduce.specs.declared.task.Task.{Task}

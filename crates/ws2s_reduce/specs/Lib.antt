@@ -4,4 +4,3 @@ pub mod Examples
 pub mod Machines
 pub mod Reducing
 pub mod Sizes
-pub mod Terms

@@ -1,9 +1,9 @@
 -- The reduction of a checked text to core formulas. A quantifier, of the text or of an abbreviation, binds the next
 -- track: those of the free variables come first, and each quantifier around it took one.
-use Rattle.std.specs.Prelude.{ℕ, suc, true, false, cond, ◌==◌, List, [], ◌∷◌, ◌++◌, length, map, fold, reverse, slice_get, unwrap_or, Option, Some, None}
-use Rattle.ws2s_core.specs.declared.track.Track.{Track}
+use Rattle.std.specs.Prelude.{ℕ, suc, true, false, cond, ◌==◌, List, [], ◌∷◌, ◌++◌, length, map, reverse, slice_get, unwrap_or, Option, Some, None}
 use Rattle.ws2s_core.specs.declared.formula.Formula.{Formula}
 use Rattle.ws2s_core.specs.declared.formula.Formula.TheVariants.{Sub, Single, Succ0, Succ1, Root, And, Not, Ex2}
+use Rattle.ws2s_forms.specs.Forms.{track, false_at, true_at, and_list, or, imp, iff, ex1, all1, all2, empty_at, equal}
 use Rattle.ws2s_syntax.specs.declared.name.Name.{Name}
 use Rattle.ws2s_syntax.specs.declared.name.Name.TheVariants.{Free, Local}
 use Rattle.ws2s_syntax.specs.declared.name.Successor.{Successor}
@@ -18,47 +18,6 @@ use Rattle.ws2s_syntax.specs.declared.declaration.Class.{Class}
 use Rattle.ws2s_syntax.specs.Sentences.{Sentence, said, negated, implied, joined, quantified, sentence_of}
 use Rattle.ws2s_syntax.specs.Checked.{Text, free_classes}
 use Rattle.ws2s_syntax.specs.Meaning.{bodies_of}
-
--- the track with a number
-abbrev pub track : ℕ → Track
-track t = record { 0 = t }
-
--- the abbreviations; `next` is the track that a quantifier binds there
-
-abbrev pub false_at : ℕ → Formula
-false_at next = Ex2 (track next) (And (Single (track next)) (Not (Single (track next))))
-
-abbrev pub true_at : ℕ → Formula
-true_at next = Not (false_at next)
-
-abbrev pub and_list : ℕ → List Formula → Formula
-and_list next [] = true_at next
-and_list next (f ∷ fs) = fold And f fs
-
-abbrev pub or : Formula → Formula → Formula
-or f g = Not (And (Not f) (Not g))
-
-abbrev pub imp : Formula → Formula → Formula
-imp f g = Not (And f (Not g))
-
-abbrev pub iff : Formula → Formula → Formula
-iff f g = And (imp f g) (imp g f)
-
-abbrev pub ex1 : ℕ → Formula → Formula
-ex1 next f = Ex2 (track next) (And (Single (track next)) f)
-
-abbrev pub all1 : ℕ → Formula → Formula
-all1 next f = Not (ex1 next (Not f))
-
-abbrev pub all2 : ℕ → Formula → Formula
-all2 next f = Not (Ex2 (track next) (Not f))
-
--- no position is in the set
-abbrev pub empty_at : ℕ → ℕ → Formula
-empty_at next x = Not (ex1 next (Sub (track next) (track x)))
-
-abbrev pub equal : ℕ → ℕ → Formula
-equal x y = And (Sub (track x) (track y)) (Sub (track y) (track x))
 
 -- the track of a name, where the names of the item itself have these tracks: a free variable's is its number
 abbrev pub track_of : List ℕ → Name → ℕ

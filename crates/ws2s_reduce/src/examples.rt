@@ -3,7 +3,8 @@
 ghost use Rattle.std.specs.Prelude.{◌≡◌};
 ghost use Rattle.ws2s_core.specs.declared.formula.Formula.TheVariants.{Sub, Single, Succ0, Succ1, Root, And, Not, Ex2};
 ghost use Rattle.ws2s_core.specs.Sizes.{node_count};
-ghost use Rattle.ws2s_reduce.specs.Reducing.{track, holds_of, breaks_of};
+ghost use Rattle.ws2s_forms.specs.Forms.{track};
+ghost use Rattle.ws2s_reduce.specs.Reducing.{holds_of, breaks_of};
 ghost use Rattle.ws2s_reduce.specs.Examples.{root_in_set, left_child, full_set, children_differ, root_in_four_sets, predicate_used};
 
 /// `root in X` says that some set, which is the root alone, is within X.

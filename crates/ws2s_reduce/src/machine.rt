@@ -12,12 +12,13 @@ ghost use Rattle.ws2s_reduce.specs.Building.{step_work, steps_work};
 ghost use Rattle.ws2s_reduce.specs.Machines.{IsPassed, IsBuilt};
 ghost use Rattle.std.specs.Option.{option_copied};
 
-use crate::forms::{bound, empty_at, equal, false_at, implied, joined, later, true_at, wrapped};
+use crate::forms::{joined, wrapped};
 use crate::task::{Op, Place, Task};
 use crate::tasks::{push_build, push_chain, push_quantified, push_then};
 use crate::term::{in_at, is_at, plain_name, same_at, track_of};
 use std::alloc::{AllocError, Global};
 use ws2s_core::{Formula, Track};
+use ws2s_forms::{bound, empty_at, equal, false_at, imp, later, true_at};
 use ws2s_syntax::{Argument, Atom, Name, Predicate, Term, TextFormula};
 
 /// What is left to do, the last task next; the tracks of the names that it may use; and the formulas that are
@@ -42,7 +43,7 @@ fn apply(alloc: Global, parts: &mut Vec<Formula>, op: Op) -> Result<(), AllocErr
         Op::Imply => {
             let right = parts.pop().unwrap();
             let left = parts.pop().unwrap();
-            implied(alloc, left, right)?
+            imp(alloc, left, right)?
         }
         Op::Join(connective) => {
             let right = parts.pop().unwrap();
@@ -218,13 +219,13 @@ fn build_atom<'t>(
     let made = match atom {
         Atom::Truth(true) => true_at(alloc, next)?,
         Atom::Truth(false) => false_at(alloc, next)?,
-        Atom::Empty(name) => empty_at(alloc, next, track_of(frame, *name))?,
+        Atom::Empty(name) => empty_at(alloc, next, Track(track_of(frame, *name)))?,
         Atom::In(term, name) => in_at(alloc, next, frame, term, *name)?,
         Atom::SamePosition(left, right) => same_at(alloc, next, frame, left, right)?,
         Atom::SameSet(left, right) => equal(
             alloc,
-            track_of(frame, *left),
-            track_of(frame, *right),
+            Track(track_of(frame, *left)),
+            Track(track_of(frame, *right)),
         )?,
         Atom::Sub(left, right) => Formula::Sub(
             Track(track_of(frame, *left)),

@@ -3,17 +3,18 @@
 ghost use Rattle.std.specs.Prelude.{◌≡◌, [], ◌∷◌, ◌++◌, length, map, IfOk, OnOk, IfErr};
 ghost use Rattle.ws2s_syntax.specs.Sentences.{sentence_of};
 ghost use Rattle.ws2s_syntax.specs.Checked.{IsChecked, class_of_free};
-ghost use Rattle.ws2s_reduce.specs.Reducing.{and_list, singles_from, reduced, no_reductions, reductions_from, holds_of, breaks_of};
+ghost use Rattle.ws2s_forms.specs.Forms.{and_list};
+ghost use Rattle.ws2s_reduce.specs.Reducing.{singles_from, reduced, no_reductions, reductions_from, holds_of, breaks_of};
 ghost use Rattle.ws2s_reduce.specs.Answer.{IsReduced, MeansText, MeansBroken, free_from};
 ghost use Rattle.ws2s_reduce.specs.Sizes.{IsSmall};
 
-use crate::forms::{and_list, later};
 use crate::machine::reduced;
 use crate::size::is_small;
 use plain_data::Items;
 use std::alloc::{AllocError, Global};
 use thiserror::Error;
 use ws2s_core::{Formula, Track, TrackList};
+use ws2s_forms::{and_list, later};
 use ws2s_syntax::{Free, Predicate, TextFormula, Ws2sText};
 
 /// The reduction of a text.

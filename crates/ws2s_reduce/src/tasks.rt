@@ -3,9 +3,9 @@
 ghost use Rattle.std.specs.Prelude.{◌≡◌, ◌+◌, ◌∷◌, ◌++◌, OnOk, length};
 ghost use Rattle.ws2s_reduce.specs.Building.{to_build, to_forget, to_apply, steps_of, chain_steps, tracks_from};
 
-use crate::forms::later;
 use crate::task::{Op, Place, Task};
 use std::alloc::AllocError;
+use ws2s_forms::later;
 use ws2s_syntax::{Connective, Quantifier, TextFormula};
 
 /// The formula is reduced.

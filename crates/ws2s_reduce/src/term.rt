@@ -1,14 +1,14 @@
 //! Names, terms and atoms as core formulas.
 
-ghost use Rattle.std.specs.Prelude.{◌≡◌, ◌+◌, IfOk};
+ghost use Rattle.std.specs.Prelude.{◌≡◌, IfOk};
 ghost use Rattle.ws2s_core.specs.declared.formula.Formula.TheVariants.{And, Ex2};
-ghost use Rattle.ws2s_reduce.specs.Reducing.{track, track_of, succ_of, is_base_at, is_at, plain_name, no_reductions, atom_at};
+ghost use Rattle.ws2s_forms.specs.Forms.{track};
+ghost use Rattle.ws2s_reduce.specs.Reducing.{track_of, succ_of, is_base_at, is_at, plain_name, no_reductions, atom_at};
 ghost use Rattle.ws2s_syntax.specs.declared.formula.Atom.{Atom};
-ghost use Rattle.ws2s_reduce.specs.Terms.{target};
 
-use crate::forms::{bound, later};
 use std::alloc::{AllocError, Global};
 use ws2s_core::{Formula, Track};
+use ws2s_forms::{bound, later, target};
 use ws2s_syntax::{Base, Name, Successor, Term};
 
 /// The track of a name, where the names of its item have these tracks.
@@ -42,16 +42,6 @@ fn is_base_at(alloc: Global, tracks: &[u32], base: Base, own: u32) -> Result<For
             let within = Formula::Sub(Track(own), Track(track_of(tracks, name)));
             Formula::and(alloc, Formula::Single(Track(own)), within)
         }
-    }
-}
-
-fn target(next: u32, left: u32, own: u32) -> Result<u32, AllocError>
-    ensures { IfOk result (λ track. track ≡ target next left own) }
-{
-    if left == 0 {
-        Ok(own)
-    } else {
-        later(next, left - 1)
     }
 }
 

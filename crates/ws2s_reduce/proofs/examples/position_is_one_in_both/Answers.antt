@@ -2,7 +2,8 @@ use Rattle.std.proofs.Common.{◌≡◌, [], refl, ap, ◌∙◌}
 use Rattle.ws2s_core.specs.declared.formula.Formula.TheVariants.{Sub, Single, Succ0, Root, And, Not, Ex2}
 use Rattle.ws2s_core.specs.Sizes.{node_count}
 use Rattle.ws2s_syntax.proofs.SentencesLemmas.{sentence-Atom}
-use Rattle.ws2s_reduce.specs.Reducing.{track, reduced, no_reductions, holds_of}
+use Rattle.ws2s_forms.specs.Forms.{track}
+use Rattle.ws2s_reduce.specs.Reducing.{reduced, no_reductions, holds_of}
 use Rattle.ws2s_reduce.specs.Examples.{left_child, is_left_child}
 use Rattle.ws2s_reduce.proofs.CountsLemmas.{count-Sub, count-Single, count-Succ0, count-Root, count-And, count-Ex2}
 use Rattle.ws2s_reduce.proofs.examples.position_is_one_in_both.Goals as goal

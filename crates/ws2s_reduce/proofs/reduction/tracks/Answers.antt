@@ -1,5 +1,5 @@
 use Rattle.std.proofs.Common.{[], ◌∷◌, ◌++◌, ap, ◌∙◌}
-use Rattle.ws2s_reduce.specs.Reducing.{track}
+use Rattle.ws2s_forms.specs.Forms.{track}
 use Rattle.ws2s_reduce.proofs.AnswerLemmas.{free_from-next}
 use Rattle.ws2s_reduce.proofs.reduction.tracks.Goals as goal
 

@@ -1,6 +1,6 @@
 use Rattle.std.proofs.Common.{◌≡◌, ◌+◌, length, take, reverse}
 use Rattle.ws2s_reduce.specs.Reducing.{is_stepped_at}
-use Rattle.ws2s_reduce.specs.Terms.{target}
+use Rattle.ws2s_forms.specs.Targets.{target}
 use Rattle.ws2s_reduce.proofs.term.is_at.Given as goal
 
 abbrev pub invariant-loop-step : goal.invariant-loop-step

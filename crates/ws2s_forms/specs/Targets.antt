@@ -1,4 +1,4 @@
--- How the formula of a term is built from the inside.
+-- The tracks on the way along bound positions.
 use Rattle.std.specs.Prelude.{ℕ, zero, suc, ◌+◌}
 
 -- the track of a step's position, where so many steps are left: the one that is asked for, or one that is bound

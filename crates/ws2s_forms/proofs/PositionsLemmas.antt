@@ -7,11 +7,8 @@ use Rattle.ws2s_core.specs.declared.formula.Formula.TheVariants.{Single, And, Ex
 use Rattle.ws2s_core.specs.Satisfaction.{WSat}
 use Rattle.ws2s_core.proofs.ExamplesLemmas.{same_position-true, same_position-refl}
 use Rattle.ws2s_core.proofs.SatisfactionLemmas.{WSat-Single, WSat-And, WSat-Ex2}
-use Rattle.ws2s_reduce.specs.Reducing.{track, ex1}
-
--- the position alone
-abbrev pub just : Position → PositionSet
-just u = λ p. is_same_position u p
+use Rattle.ws2s_forms.specs.Forms.{track, ex1}
+use Rattle.ws2s_forms.specs.Places.{just}
 
 pub IsOnly-just : (u : Position) → IsOnly (just u) u
 IsOnly-just u p = (

@@ -6,9 +6,8 @@ use Rattle.ws2s_core.specs.declared.formula.Formula.{Formula}
 use Rattle.ws2s_core.specs.declared.formula.Formula.TheVariants.{Sub, Single, And, Not, Ex2}
 use Rattle.ws2s_core.specs.Satisfaction.{WSat}
 use Rattle.ws2s_core.proofs.SatisfactionLemmas.{WSat-Sub, WSat-And, WSat-Not, WSat-Ex2}
-use Rattle.ws2s_syntax.specs.Meaning.{Classically}
-use Rattle.ws2s_reduce.specs.Reducing.{track, false_at, true_at, and_list, or, imp, iff, ex1, all1, all2, empty_at, equal}
-use Rattle.ws2s_reduce.proofs.PositionsLemmas.{IsOnly-inside, WSat-ex1}
+use Rattle.ws2s_forms.specs.Forms.{track, false_at, true_at, and_list, or, imp, iff, ex1, all1, all2, empty_at, equal}
+use Rattle.ws2s_forms.proofs.PositionsLemmas.{IsOnly-inside, WSat-ex1}
 
 pub WSat-false : (next : ℕ) (a : Assignment) → WSat (false_at next) a → ⊥
 WSat-false next a h =
@@ -26,7 +25,7 @@ module _ (f g : Formula) (a : Assignment) (P Q : Type 0) (left : WSat f a ↔ P)
     (λ h. (WSat-And f g a).1 (left.1 h.0, right.1 h.1)),
   )
 
-  pub WSat-or : WSat (or f g) a ↔ Classically (P ⊎ Q)
+  pub WSat-or : WSat (or f g) a ↔ (¬ (¬ (P ⊎ Q)))
   WSat-or = (
     (λ h neither.
         (WSat-Not (And (Not f) (Not g)) a).0 h ((WSat-And (Not f) (Not g) a).1 (
@@ -42,7 +41,7 @@ module _ (f g : Formula) (a : Assignment) (P Q : Type 0) (left : WSat f a ↔ P)
         ]))),
   )
 
-  pub WSat-imp : WSat (imp f g) a ↔ (P → Classically Q)
+  pub WSat-imp : WSat (imp f g) a ↔ (P → (¬ (¬ Q)))
   WSat-imp = (
     (λ h p fails.
         (WSat-Not (And f (Not g)) a).0 h
@@ -60,14 +59,14 @@ WSat-negated f a P whole = (
 )
 
 pub WSat-iff : (f g : Formula) (a : Assignment) (P Q : Type 0) → WSat f a ↔ P → WSat g a ↔ Q →
-    WSat (iff f g) a ↔ ((P → Classically Q) × (Q → Classically P))
+    WSat (iff f g) a ↔ ((P → (¬ (¬ Q))) × (Q → (¬ (¬ P))))
 WSat-iff f g a P Q left right =
-    WSat-and (imp f g) (imp g f) a (P → Classically Q) (Q → Classically P)
+    WSat-and (imp f g) (imp g f) a (P → (¬ (¬ Q))) (Q → (¬ (¬ P)))
     (WSat-imp f g a P Q left right) (WSat-imp g f a Q P right left)
 
 pub WSat-all1 : (next : ℕ) (f : Formula) (a : Assignment) (P : Position → Type 0) →
     ((set : PositionSet) (u : Position) → IsOnly set u → WSat f (replace a next set) ↔ P u) →
-    WSat (all1 next f) a ↔ ((u : Position) → Classically (P u))
+    WSat (all1 next f) a ↔ ((u : Position) → (¬ (¬ (P u))))
 WSat-all1 next f a P rest =
     let some = WSat-ex1 next (Not f) a (λ u. P u → ⊥)
     (λ set u only. WSat-negated f (replace a next set) (P u) (rest set u only)) in (
@@ -85,7 +84,7 @@ WSat-ex2 next f a P rest = (
 
 pub WSat-all2 : (next : ℕ) (f : Formula) (a : Assignment) (P : PositionSet → Type 0) →
     ((set : PositionSet) → WSat f (replace a next set) ↔ P set) →
-    WSat (all2 next f) a ↔ ((set : PositionSet) → IsFiniteSet set → Classically (P set))
+    WSat (all2 next f) a ↔ ((set : PositionSet) → IsFiniteSet set → (¬ (¬ (P set))))
 WSat-all2 next f a P rest =
     let some = WSat-ex2 next (Not f) a (λ set. P set → ⊥) (λ set. WSat-negated f (replace a next set) (P set) (rest set)) in (
       (λ h set finite fails. (WSat-Not (Ex2 (track next) (Not f)) a).0 h (some.1 (set, finite, fails))),

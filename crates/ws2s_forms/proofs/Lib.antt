@@ -1,0 +1,4 @@
+pub mod ConnectivesLemmas
+pub mod GoingLemmas
+pub mod LawsLemmas
+pub mod PositionsLemmas
