@@ -1,5 +1,4 @@
 pub mod ReadLemmas
-pub mod FormLemmas
 pub mod MadeLemmas
 pub mod QuotientLemmas
 pub mod LooksLemmas

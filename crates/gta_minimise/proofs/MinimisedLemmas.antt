@@ -37,7 +37,7 @@ use Rattle.gta_refine.specs.Form as form
 use Rattle.gta_refine.specs.Refined.{part_at, is_reached_in, class_at, representative_at, classes_in, quotient_of, IsRefined}
 use Rattle.gta_refine.proofs.ChosenLemmas.{marked-inside}
 use Rattle.gta_refine.proofs.ReachLemmas.{none-inside, accepting-form}
-use Rattle.gta_minimise.specs.Listed.{IsFormOf}
+use Rattle.gta_form.specs.Listed.{IsFormOf}
 use Rattle.gta_minimise.specs.Quotient.{IsUnderClasses, IsQuotientSpace, AreQuotientSpaces}
 use Rattle.gta_minimise.specs.Minimised.{HasMinimisedSize}
 use Rattle.gta_minimise.proofs.ReadLemmas.{step-quotient, accepting-quotient}

@@ -28,7 +28,7 @@ use Rattle.gta_refine.specs.Numbered.{AreNumbered, StandFor}
 use Rattle.gta_refine.specs.Refined.{part_at, class_at, representative_at, classes_in, quotient_of, IsRefined}
 use Rattle.gta_refine.proofs.ChosenLemmas.{marked-inside}
 use Rattle.gta_refine.proofs.ReachLemmas.{many_spaces, initial-form, initial-at}
-use Rattle.gta_minimise.specs.Listed.{IsFormOf}
+use Rattle.gta_form.specs.Listed.{IsFormOf}
 use Rattle.gta_minimise.specs.Renamed.{IsRenamed}
 use Rattle.gta_minimise.specs.Quotient.{ArePairs, IsUnderClasses, IsRootOf, IsQuotientSpace}
 use Rattle.gta_minimise.proofs.ReadLemmas.{step-quotient}

@@ -1,4 +1,3 @@
-pub mod Listed
 pub mod Renamed
 pub mod Quotient
 pub mod Minimised

@@ -3,7 +3,6 @@
 //! The states that can't be told apart are found off the shelf (`gta_refine`); then only the nodes of the result are made.
 #![tactic(auto)]
 
-mod form;
 mod minimal;
 mod nodes;
 mod quotient;

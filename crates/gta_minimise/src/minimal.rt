@@ -12,15 +12,15 @@ ghost use Rattle.gta_core.specs.Changes.{RegistersTable};
 ghost use Rattle.gta_room.specs.Progress.{Adds, IsStuck};
 ghost use Rattle.gta_refine.specs.Form.{IsForm};
 ghost use Rattle.gta_refine.specs.Refined.{IsRefined};
-ghost use Rattle.gta_minimise.specs.Listed.{IsFormOf};
+ghost use Rattle.gta_form.specs.Listed.{IsFormOf};
 ghost use Rattle.gta_minimise.specs.Quotient.{IsUnderClasses, AreQuotientSpaces};
 ghost use Rattle.gta_minimise.specs.Minimised.{HasMinimisedSize};
 
-use crate::form::form_of;
 use crate::quotient::quotient_space;
 use bdd_nodes::Shelf;
 use bdd_walk::{NoMemory, Stop};
 use gta_core::{Auto, BoolList, SpacePartList};
+use gta_form::form_of;
 use gta_refine::{Form, SpaceClasses, refine};
 use plain_data::Items;
 use std::alloc::Global;

@@ -7,7 +7,7 @@ ghost use Rattle.gta_core.specs.Auto.{states_of, guide_of, IsAuto};
 ghost use Rattle.gta_room.specs.Progress.{Adds, IsStuck};
 ghost use Rattle.gta_refine.specs.Form.{IsForm};
 ghost use Rattle.gta_refine.specs.Refined.{IsRefined};
-ghost use Rattle.gta_minimise.specs.Listed.{IsFormOf};
+ghost use Rattle.gta_form.specs.Listed.{IsFormOf};
 ghost use Rattle.gta_minimise.specs.Quotient.{ArePairs, IsUnderClasses, IsQuotientSpace};
 
 use crate::nodes::make_nodes;

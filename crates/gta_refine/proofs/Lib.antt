@@ -4,4 +4,6 @@ pub mod ReachLemmas
 pub mod NumbersLemmas
 pub mod RowsLemmas
 pub mod SplitLemmas
+pub mod IdsLemmas
 pub mod RefineLemmas
+pub mod RoomLemmas

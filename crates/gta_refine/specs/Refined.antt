@@ -1,6 +1,6 @@
 -- The classes of the reached states of each space, and the automaton of classes. (The theorem of Myhill and Nerode for
 -- trees; refinement: Hopcroft 1971.)
-use Rattle.std.specs.Prelude.{◌≡◌, ◌≢◌, ℕ, ◌≤◌, Bool, true, false, List, [], length, slice_index, slice_index_or, ◌↔◌}
+use Rattle.std.specs.Prelude.{◌≡◌, ◌≢◌, ℕ, ◌+◌, ◌-◌, ◌^◌, ◌<◌, ◌≤◌, ◌∷◌, Bool, true, false, List, [], length, slice_index, slice_index_or, ◌↔◌}
 use Rattle.labels.specs.Labels.{Label}
 use Rattle.gta_theory.specs.Assignments.{Assignment}
 use Rattle.gta_theory.specs.Guides.{Spaces, IsSpace, left, right}
@@ -36,6 +36,16 @@ representative_at spaces s x = slice_index (part_at spaces s).representatives x
 -- how many classes a space has
 abbrev pub classes_in : List SpaceClasses → ℕ → ℕ
 classes_in spaces s = length (part_at spaces s).representatives
+
+-- how many more classes the spaces may have
+abbrev pub room_in : List SpaceClasses → ℕ
+room_in [] = 0
+room_in (part ∷ spaces) = (2 ^ 31 - length part.representatives) + room_in spaces
+
+-- more classes leave less room for others
+abbrev pub TakesRoom : Bool → ℕ → ℕ → Type 0
+TakesRoom true old new = new < old
+TakesRoom false old new = new ≤ old
 
 -- the automaton of classes: its steps go by the representatives
 unfoldable pub quotient_of : Form → List SpaceClasses → Automaton ℕ

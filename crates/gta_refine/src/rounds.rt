@@ -5,7 +5,7 @@ ghost use Rattle.gta_refine.specs.Form.{IsForm};
 ghost use Rattle.gta_refine.specs.Chosen.{is_marked, AreChosen};
 ghost use Rattle.gta_refine.specs.Rows.{kinds_in};
 ghost use Rattle.gta_refine.specs.Classes.{AreClasses, IsSplit};
-ghost use Rattle.gta_refine.specs.Refined.{part_at, opposite, child_of, bit_of, AreSingle, ArePartition, AreChildIds, IsStableAt, IsRefined};
+ghost use Rattle.gta_refine.specs.Refined.{part_at, opposite, child_of, bit_of, AreSingle, ArePartition, AreChildIds, IsStableAt, IsRefined, room_in, TakesRoom};
 ghost use Rattle.gta_refine.specs.declared.rows.Side.TheVariants.{Left, Right};
 
 use crate::chosen::choose;
@@ -94,6 +94,7 @@ fn split_part(alloc: Global, ids: &[u32], part: &mut SpaceClasses) -> Result<boo
     ensures split { IfOk result (λ more. IsSplit part.old.reached ids.now part.old.classes part.new.classes) }
     ensures unchanged { IfOk result (λ more. more ≡ false
         → (part.new.classes ≡ part.old.classes) × (part.new.representatives ≡ part.old.representatives)) }
+    ensures more { IfOk result (λ more. more ≡ true → length part.old.representatives < length part.new.representatives) }
 {
     split(
         alloc,
@@ -201,6 +202,7 @@ fn split_child(
     ensures partition { IfOk result (λ more. ArePartition form.now spaces.new.items) }
     ensures unchanged { IfOk result (λ more. more ≡ false → spaces.new.items ≡ spaces.old.items) }
     ensures stable { IfOk result (λ more. more ≡ false → IsStableAt form.now spaces.new.items s side) }
+    ensures room { IfOk result (λ more. TakesRoom more (room_in spaces.old.items) (room_in spaces.new.items)) }
 {
     let ids = ids_of(alloc, form, s, side, spaces)?;
     let part = &mut spaces[child(&form.spaces.as_slice()[s], side) as usize];
@@ -222,6 +224,7 @@ fn split_children(
     ensures unchanged { IfOk result (λ more. more ≡ false → spaces.new.items ≡ spaces.old.items) }
     ensures left { IfOk result (λ more. more ≡ false → IsStableAt form.now spaces.new.items s Left) }
     ensures right { IfOk result (λ more. more ≡ false → IsStableAt form.now spaces.new.items s Right) }
+    ensures room { IfOk result (λ more. TakesRoom more (room_in spaces.old.items) (room_in spaces.new.items)) }
 {
     let is_more_left = split_child(alloc, form, s, Side::Left, spaces)?;
     let is_more_right = split_child(alloc, form, s, Side::Right, spaces)?;
@@ -239,6 +242,7 @@ fn refine_more(
     ensures partition { IfOk result (λ more. ArePartition form.now spaces.new.items) }
     ensures left { IfOk result (λ more. more ≡ false → (s : ℕ) → s < length form.now.spaces → IsStableAt form.now spaces.new.items s Left) }
     ensures right { IfOk result (λ more. more ≡ false → (s : ℕ) → s < length form.now.spaces → IsStableAt form.now spaces.new.items s Right) }
+    ensures room { IfOk result (λ more. TakesRoom more (room_in spaces.old.items) (room_in spaces.new.items)) }
 {
     let mut is_more = false;
     for s in 0..form.spaces.len() {
@@ -259,10 +263,11 @@ pub fn refine(alloc: Global, form: &Form) -> Result<SpaceClassesList, AllocError
     ensures { IfOk result (IsRefined form.now) }
 {
     let mut spaces = classes_at_first(alloc, form)?;
-    for _ in 0..u64::MAX {
-        if !refine_more(alloc, form, &mut spaces)? {
-            return Ok(Items::from_vec(spaces));
+    'rounds: loop {
+        let is_more = refine_more(alloc, form, &mut spaces)?;
+        if !is_more {
+            break 'rounds;
         }
     }
-    Err(AllocError)
+    Ok(Items::from_vec(spaces))
 }

@@ -1,6 +1,6 @@
 //! Classes of states that are split.
 
-ghost use Rattle.std.specs.Prelude.{◌≡◌, ◌≤◌, ◌<◌, ◌^◌, ℕ, false, length, slice_index, IfOk};
+ghost use Rattle.std.specs.Prelude.{◌≡◌, ◌≤◌, ◌<◌, ◌^◌, ℕ, true, false, length, slice_index, IfOk};
 ghost use Rattle.gta_refine.specs.Classes.{AreClasses, IsSplit};
 ghost use Rattle.gta_refine.specs.Splitting.{IsStep};
 
@@ -65,6 +65,7 @@ pub(crate) fn split(
     ensures split { IfOk result (λ more. IsSplit reached.now ids.now classes.old classes.new) }
     ensures unchanged { IfOk result (λ more. more ≡ false
         → (classes.new ≡ classes.old) × (representatives.new ≡ representatives.old)) }
+    ensures more { IfOk result (λ more. more ≡ true → length representatives.old < length representatives.new) }
 {
     let before = representatives.len();
     let mut made = HashMap::new(alloc);

@@ -154,7 +154,8 @@ module _ (form : Form) (weighs : ℕ → Bool) where
         (subst (λ (k : ℕ). IsCovered found (goal_at t node.high) k) (sym sum) (subst (λ (x : Goal). IsCovered found x all) is_high in_high));
   }
     where
-      same-node : (space' : FormSpace) (node' : ListedNode) → slice_get form.spaces t ≡ Some space' → slice_get space'.listing.nodes i ≡ Some node' → node ≡ node'
+      same-node : (space' : FormSpace) (node' : ListedNode) → slice_get form.spaces t ≡ Some space' → slice_get space'.listing.nodes i ≡ Some node' →
+          node ≡ node'
       same-node space' node' at_space' at' =
           same-some (slice_get space.listing.nodes i) node node' at
           (ap (λ (p : FormSpace). slice_get p.listing.nodes i) (same-some (slice_get form.spaces t) space space' at_space at_space') ∙ at')

@@ -65,7 +65,8 @@ named-push nodes node k =
     let a : times_named (nodes ++ node ∷ []) k ≡ sum_by (is_place k) (flat_map children_of nodes ++ flat_map children_of (node ∷ [])) =
     ap (sum_by (is_place k)) (flat_map-append children_of nodes (node ∷ [])) in
     let b = sum_by-append (is_place k) (flat_map children_of nodes) (flat_map children_of (node ∷ [])) in
-    let c : sum_by (is_place k) (flat_map children_of (node ∷ [])) ≡ sum_by (is_place k) (children_of node) = ap (sum_by (is_place k)) (append-nil (children_of node)) in
+    let c : sum_by (is_place k) (flat_map children_of (node ∷ [])) ≡ sum_by (is_place k) (children_of node) = ap (sum_by (is_place k))
+    (append-nil (children_of node)) in
     let d = children-in node k in
     omega arith
 
@@ -108,7 +109,8 @@ module _ (form : Form) (is_form : IsForm form) (tracks : List Track) (found : Fi
   }
 
   pub visit-none : (nodes : List TreeNode) (s q : ℕ) (tasks : List Task) (made : List (Option ℕ)) (out : Want) →
-      Grows form tracks found nodes (Visit s q ∷ tasks) made out → HasSomeStep form tracks found s q None → Grows form tracks found nodes tasks (None ∷ made) out
+      Grows form tracks found nodes (Visit s q ∷ tasks) made out → HasSomeStep form tracks found s q None → Grows form tracks found nodes tasks
+      (None ∷ made) out
   visit-none nodes s q tasks made out grows step =
       let run = grows.runs in
       let same = settled-once found (State s q) step.weight run.0 step.settled run.1 in
@@ -178,7 +180,8 @@ module _ (form : Form) (is_form : IsForm form) (tracks : List Track) (found : Fi
           inside = below-more child (length nodes) (length (nodes ++ node ∷ [])) (let e = longer in omega arith) built.inside;
           is_space = built.is_space;
           is_value = ap (value g (automaton_of form) want.space (length (nodes ++ node ∷ []))) (child-kept child built.inside)
-              ∙ value-same g is_form.guide (automaton_of form) is_form.stable want.space (length (nodes ++ node ∷ [])) (length nodes) a built.is_space more covers
+              ∙ value-same g is_form.guide (automaton_of form) is_form.stable want.space (length (nodes ++ node ∷ [])) (length nodes) a built.is_space
+              more covers
               ∙ built.is_value;
           weighs = ap (weight ts (length (nodes ++ node ∷ []))) (child-kept child built.inside)
               ∙ weight-same ts (length (nodes ++ node ∷ [])) (length nodes) a more covers ∙ built.weighs;
@@ -193,9 +196,11 @@ module _ (form : Form) (is_form : IsForm form) (tracks : List Track) (found : Fi
     new-child : child_at (nodes ++ node ∷ []) (Some (length nodes)) ≡ node_assignment (meanings node_assignment nodes) node
     new-child =
         ap (λ (ms : List Assignment). unwrap_or (slice_get ms (length nodes)) empty_assignment) (meanings-push node_assignment nodes node)
-        ∙ ap (λ (k : ℕ). unwrap_or (slice_get (meanings node_assignment nodes ++ node_assignment (meanings node_assignment nodes) node ∷ []) k) empty_assignment)
+        ∙ ap (λ (k : ℕ). unwrap_or (slice_get (meanings node_assignment nodes ++ node_assignment (meanings node_assignment nodes) node ∷ []) k)
+        empty_assignment)
         (sym (length-meanings node_assignment nodes))
-        ∙ ap (λ (o : Option Assignment). unwrap_or o empty_assignment) (slice_get-last (meanings node_assignment nodes) (node_assignment (meanings node_assignment nodes) node))
+        ∙ ap (λ (o : Option Assignment). unwrap_or o empty_assignment)
+        (slice_get-last (meanings node_assignment nodes) (node_assignment (meanings node_assignment nodes) node))
 
     new-built : (l r want : Want) → IsBuilt form tracks nodes node.left l → IsBuilt form tracks nodes node.right r → Leads form tracks node.tracks l r want →
         IsBuilt form tracks (nodes ++ node ∷ []) (Some (length nodes)) want
@@ -207,7 +212,8 @@ module _ (form : Form) (is_form : IsForm form) (tracks : List Track) (found : Fi
         let at_r : value g (automaton_of form) (right g want.space) n (child_at nodes node.right) ≡ r.state =
         ap (λ (s : ℕ). value g (automaton_of form) s n (child_at nodes node.right)) (sym leads.at_right) ∙ of_right.is_value in
         let is_value : value g (automaton_of form) want.space (suc n) b ≡ want.state =
-        ap (λ (p : ℕ). (automaton_of form).step want.space p (value g (automaton_of form) (right g want.space) n (child_at nodes node.right)) (label_of node.tracks)) at_l
+        ap (λ (p : ℕ). (automaton_of form).step want.space p (value g (automaton_of form) (right g want.space) n (child_at nodes node.right))
+        (label_of node.tracks)) at_l
         ∙ ap (λ (p : ℕ). (automaton_of form).step want.space l.state p (label_of node.tracks)) at_r ∙ leads.gives in
         let weighs : weight ts (suc n) b ≡ want.weight =
         ap (λ (u : ℕ). label_weight ts (label_of node.tracks) + (u + weight ts n (child_at nodes node.right))) of_left.weighs
@@ -267,8 +273,11 @@ module _ (form : Form) (is_form : IsForm form) (tracks : List Track) (found : Fi
             let n = length nodes in
             let push = named-push nodes node n in
             let none = named-none nodes n (λ k other at.
-            let b = slice_get_within nodes k other at in
-            (below-more other.left k n (omega arith) (forest.left_before k other at), below-more other.right k n (omega arith) (forest.right_before k other at))) in
+            let b = slice_get_within nodes k other at in (
+              below-more other.left k n (omega arith) (forest.left_before k other at),
+              below-more other.right k n (omega arith)
+                  (forest.right_before k other at),
+            )) in
             let l = times_in-above node.left n left_in in
             let r = times_in-above node.right n right_in in
             let new = times_in-cons (Some n) made n in
@@ -279,12 +288,14 @@ module _ (form : Form) (is_form : IsForm form) (tracks : List Track) (found : Fi
   -- two trees are put under a node
   pub join-grows : (nodes : List TreeNode) (taken : List Track) (tasks : List Task) (made : List (Option ℕ)) (out : Want) → length nodes < 4294967294 →
       Grows form tracks found nodes (Join taken ∷ tasks) made out →
-      Grows form tracks found (nodes ++ (record { tracks = taken; left = top None (rest made); right = top None made }) ∷ []) tasks (Some (length nodes) ∷ rest (rest made)) out
+      Grows form tracks found (nodes ++ (record { tracks = taken; left = top None (rest made); right = top None made }) ∷ []) tasks
+      (Some (length nodes) ∷ rest (rest made)) out
   join-grows nodes taken tasks made out few grows = go made grows.wants grows.built grows.runs grows.forest
     where
       go : (made : List (Option ℕ)) (wants : List Want) → AreBuilt form tracks nodes made wants → Runs form tracks found (Join taken ∷ tasks) wants (out ∷ []) →
           IsForest nodes made →
-          Grows form tracks found (nodes ++ (record { tracks = taken; left = top None (rest made); right = top None made }) ∷ []) tasks (Some (length nodes) ∷ rest (rest made)) out
+          Grows form tracks found (nodes ++ (record { tracks = taken; left = top None (rest made); right = top None made }) ∷ []) tasks
+          (Some (length nodes) ∷ rest (rest made)) out
       go [] [] built runs forest = absurd runs
       go [] (want ∷ wants) built runs forest = absurd built
       go (child ∷ made) [] built runs forest = absurd built
@@ -301,7 +312,8 @@ module _ (form : Form) (is_form : IsForm form) (tracks : List Track) (found : Fi
           }
 
   -- nothing is left to do
-  module _ (nodes : List TreeNode) (made : List (Option ℕ)) (q w : ℕ) (grows : Grows form tracks found nodes [] made (record { space = 0; state = q; weight = w })) where
+  module _ (nodes : List TreeNode) (made : List (Option ℕ)) (q w : ℕ)
+      (grows : Grows form tracks found nodes [] made (record { space = 0; state = q; weight = w })) where
     out : Want
     out = record { space = 0; state = q; weight = w }
 
@@ -323,8 +335,11 @@ module _ (form : Form) (is_form : IsForm form) (tracks : List Track) (found : Fi
     -- the last node is never named
     last-named : (j : ℕ) → suc j ≡ length nodes → times_named nodes j ≡ 0
     last-named j last = named-none nodes j (λ k node at.
-        let b = slice_get_within nodes k node at in
-        (below-more node.left k j (omega arith) (grows.forest.left_before k node at), below-more node.right k j (omega arith) (grows.forest.right_before k node at)))
+        let b = slice_get_within nodes k node at in (
+          below-more node.left k j (omega arith) (grows.forest.left_before k node at),
+          below-more node.right k j (omega arith)
+              (grows.forest.right_before k node at),
+        ))
 
     child-is : (child : Option ℕ) (n : ℕ) → n ≡ length nodes → child ≡ end.0 → child ≡ last_place 0 n
     child-is None zero e is = refl

@@ -1,4 +1,3 @@
-pub mod FormLemmas
 pub mod SearchLemmas
 pub mod ExpandLemmas
 pub mod SettleLemmas

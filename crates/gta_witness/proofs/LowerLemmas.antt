@@ -111,13 +111,16 @@ module _ (form : Form) (is_form : IsForm form) (tracks : List Track) (found : Fi
           | inl set ↦
               let is : function_in space.listing.nodes (Inner i) m ≡ function_in space.listing.nodes node.high m =
               inner ∙ ap (λ (b : Bool). if b then function_in space.listing.nodes node.high m else function_in space.listing.nodes node.low m) set in
-              let covered = over.closed (Node s i ∷ []) (bit_cost (is_among tracks) node.track) (goal_at s node.high) (Side i true) (high s i space node at at_i)
+              let covered = over.closed (Node s i ∷ []) (bit_cost (is_among tracks) node.track) (goal_at s node.high) (Side i true)
+              (high s i space node at at_i)
               u (u, 0, settled, refl, omega arith) in
               let more = above-set t node.track m from set in
               subst (λ (y : ℕ). Low (State s y) (u + label_weight ts (above t m))) (sym is)
-              (low-then (goal_at s node.high) (State s (function_in space.listing.nodes node.high m)) (bit_cost (is_among tracks) node.track + u) (u + label_weight ts (above t m))
+              (low-then (goal_at s node.high) (State s (function_in space.listing.nodes node.high m)) (bit_cost (is_among tracks) node.track + u)
+              (u + label_weight ts (above t m))
               (omega arith) (covered-low (goal_at s node.high) (bit_cost (is_among tracks) node.track + u) covered) (λ v high_settled below.
-              low-more (State s (function_in space.listing.nodes node.high m)) (v + label_weight ts (above (suc node.track) m)) (u + label_weight ts (above t m)) (omega arith)
+              low-more (State s (function_in space.listing.nodes node.high m)) (v + label_weight ts (above (suc node.track) m))
+              (u + label_weight ts (above t m)) (omega arith)
               (down k node.high (suc node.track) v (let b = highs.before in omega arith) (let b = highs.before in omega arith) highs.later high_settled)))
           | inr unset ↦
               let is : function_in space.listing.nodes (Inner i) m ≡ function_in space.listing.nodes node.low m =
@@ -128,7 +131,8 @@ module _ (form : Form) (is_form : IsForm form) (tracks : List Track) (found : Fi
               subst (λ (y : ℕ). Low (State s y) (u + label_weight ts (above t m))) (sym is)
               (low-then (goal_at s node.low) (State s (function_in space.listing.nodes node.low m)) (0 + u) (u + label_weight ts (above t m))
               (omega arith) (covered-low (goal_at s node.low) (0 + u) covered) (λ v low_settled below.
-              low-more (State s (function_in space.listing.nodes node.low m)) (v + label_weight ts (above (suc node.track) m)) (u + label_weight ts (above t m)) (omega arith)
+              low-more (State s (function_in space.listing.nodes node.low m)) (v + label_weight ts (above (suc node.track) m))
+              (u + label_weight ts (above t m)) (omega arith)
               (down k node.low (suc node.track) v (let b = lows.before in omega arith) (let b = lows.before in omega arith) lows.later low_settled)))
         ]
 
@@ -140,7 +144,8 @@ module _ (form : Form) (is_form : IsForm form) (tracks : List Track) (found : Fi
   value-below zero s a there = is_form.closed.initial s there
   value-below (suc n) s a there = is_form.closed.step s (value g (automaton_of form) (left g s) n (half false a))
       (value g (automaton_of form) (right g s) n (half true a)) (root_label a) there
-      (value-below n (left g s) (half false a) (is_form.guide.left_inside s there)) (value-below n (right g s) (half true a) (is_form.guide.right_inside s there))
+      (value-below n (left g s) (half false a) (is_form.guide.left_inside s there))
+      (value-below n (right g s) (half true a) (is_form.guide.right_inside s there))
 
   space-of : (s : ℕ) → IsSpace g s → (space : FormSpace) × (slice_get form.spaces s ≡ Some space)
   space-of s there = pick (slice_get form.spaces s) refl
@@ -175,18 +180,21 @@ module _ (form : Form) (is_form : IsForm form) (tracks : List Track) (found : Fi
       let w : ℕ = label_weight ts m + (u + v) in
       let end : Goal = State s ((automaton_of form).step s p q m) in
       let all : label_weight ts (above 0 m) ≡ label_weight ts m = label_weight-same ts (above 0 m) m (λ t. with_below-from 0 empty_label m t (omega arith)) in
-      let of_row = covered-low (Row s class_p) (0 + u) (over.closed (State space.children.0 p ∷ []) 0 (Row s class_p) (Member p) (row s p class_p space at at_p) u (u, 0, l, refl, omega arith)) in
+      let of_row = covered-low (Row s class_p) (0 + u)
+      (over.closed (State space.children.0 p ∷ []) 0 (Row s class_p) (Member p) (row s p class_p space at at_p) u (u, 0, l, refl, omega arith)) in
       let of_column = covered-low (Column s class_q) (0 + v)
       (over.closed (State space.children.1 q ∷ []) 0 (Column s class_q) (Member q) (column s q class_q space at at_q) v (v, 0, r, refl, omega arith)) in
       low-then (Row s class_p) end (0 + u) w (omega arith) of_row (λ u' row_settled u_below.
       low-then (Column s class_q) end (0 + v) w (omega arith) of_column (λ v' column_settled v_below.
       low-then (goal_at s listed) end (0 + (u' + v')) w (omega arith)
       (covered-low (goal_at s listed) (0 + (u' + v')) (over.closed (Row s class_p ∷ Column s class_q ∷ []) 0 (goal_at s listed) (Cell class_p class_q)
-      (cell s class_p class_q (cell_in space p q) space listed at at_cell at_root) (u' + v') (u', v', row_settled, (v', 0, column_settled, refl, omega arith), refl)))
+      (cell s class_p class_q (cell_in space p q) space listed at at_cell at_root) (u' + v')
+      (u', v', row_settled, (v', 0, column_settled, refl, omega arith), refl)))
       (λ x root_settled x_below.
       subst (λ (k : ℕ). Low (State s k) w) (sym (step-at form s space at p q m))
       (low-more (State s (function_in space.listing.nodes listed m)) (x + label_weight ts (above 0 m)) w (omega arith)
-      (down s space at is.ordered m (rank listed) listed 0 x (omega arith) (is.inside (cell_in space p q) (is.roots p q p_in q_in)) (asks-none space.listing.nodes listed) root_settled)))))
+      (down s space at is.ordered m (rank listed) listed 0 x (omega arith) (is.inside (cell_in space p q) (is.roots p q p_in q_in))
+      (asks-none space.listing.nodes listed) root_settled)))))
 
   -- no assignment weighs less
   lower : (n s : ℕ) (a : Assignment) → IsSpace g s → Low (State s (value g (automaton_of form) s n a)) (weight ts n a)
@@ -210,7 +218,8 @@ module _ (form : Form) (is_form : IsForm form) (tracks : List Track) (found : Fi
       low-more end (label_weight ts (root_label a) + (u + v)) w (omega arith) (step-low s p q u v (root_label a) there p_in q_in of_left of_right)))
 
   -- nothing that is accepted weighs less than the bound
-  pub accepted-bound : (n : ℕ) (a : Assignment) → Covers n a → Accepts (guide_of form) (automaton_of form) a → MatchOption bound ⊥ (λ b. b ≤ weight (each_once tracks) n a)
+  pub accepted-bound : (n : ℕ) (a : Assignment) → Covers n a → Accepts (guide_of form) (automaton_of form) a → MatchOption bound ⊥
+      (λ b. b ≤ weight (each_once tracks) n a)
   accepted-bound n a covers accepts =
       let accepting = Accepts-at g is_form.guide (automaton_of form) is_form.stable n a covers accepts in
       elim (lower n 0 a is_form.guide.not_empty) [

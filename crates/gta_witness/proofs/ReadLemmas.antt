@@ -38,7 +38,8 @@ label_of-more [] x t = elim (cases_Bool (eqb x.0 t)) [
 ]
 label_of-more (y ∷ ys) x t = elim (cases_Bool (eqb y.0 t)) [
   | inl here ↦ ap (λ (b : Bool). b || label_of (ys ++ x ∷ []) t) here ∙ sym (ap (λ (b : Bool). (b || label_of ys t) || eqb x.0 t) here)
-  | inr apart ↦ ap (λ (b : Bool). b || label_of (ys ++ x ∷ []) t) apart ∙ label_of-more ys x t ∙ sym (ap (λ (b : Bool). (b || label_of ys t) || eqb x.0 t) apart)
+  | inr apart ↦ ap (λ (b : Bool). b || label_of (ys ++ x ∷ []) t) apart ∙ label_of-more ys x t ∙ sym
+      (ap (λ (b : Bool). (b || label_of ys t) || eqb x.0 t) apart)
 ]
 
 goal_at-same : (s t : ℕ) (x y : Listed) → goal_at s x ≡ goal_at t y → (s ≡ t) × (x ≡ y)
@@ -69,7 +70,8 @@ module _ (form : Form) (tracks : List Track) (found : Findings) (readable : IsRe
 
   -- a state that is settled is of a space
   pub has-space : (s q w : ℕ) → IsSettled found (State s q) w → (space : FormSpace) × (slice_get form.spaces s ≡ Some space)
-  has-space s q w settled = let j = readable.justified (State s q) settled.entry settled.there in pick j.premises j.cost (State s q) settled.entry.reason j.rule refl
+  has-space s q w settled = let j = readable.justified (State s q) settled.entry settled.there in pick j.premises j.cost (State s q)
+      settled.entry.reason j.rule refl
     where
       listed-space : (t : ℕ) (space : FormSpace) (x : Listed) → slice_get form.spaces t ≡ Some space → goal_at t x ≡ State s q →
           (space : FormSpace) × (slice_get form.spaces s ≡ Some space)
@@ -120,7 +122,8 @@ module _ (form : Form) (tracks : List Track) (found : Findings) (readable : IsRe
     -- from a low side to its node
     pub Climbs-low : (i : ℕ) → HasReason found goal (Side i false) → Climbs form tracks found s q w (Node s i) taken
     unfolding nodes
-    Climbs-low i has = let j = justified-by (Side i false) has in pick j.premises j.cost goal (Side i false) j.total j.rule j.totals refl refl (let e = j.weighs_so in e)
+    Climbs-low i has = let j = justified-by (Side i false) has in pick j.premises j.cost goal (Side i false) j.total j.rule j.totals refl refl
+        (let e = j.weighs_so in e)
       where
         pick : (premises : List Goal) (cost : ℕ) (g : Goal) (reason : Reason) (total : ℕ) → Rule form (is_among tracks) premises cost g reason →
             Totals found premises total → g ≡ goal → reason ≡ Side i false → cost + total ≡ climbs.weight → Climbs form tracks found s q w (Node s i) taken
@@ -132,7 +135,8 @@ module _ (form : Form) (tracks : List Track) (found : Findings) (readable : IsRe
         pick _ _ _ _ total (low t k space node at_space at) totals e r sum =
             let same = goal_at-same t s node.low climbs.listed (e ∙ climbs.is_goal) in
             let is_k : k ≡ i = cc in
-            let is_space : climbs.space ≡ space = one-space (slice_get form.spaces s) climbs.space space climbs.at_space (ap (slice_get form.spaces) (sym same.0) ∙ at_space) in
+            let is_space : climbs.space ≡ space = one-space (slice_get form.spaces s) climbs.space space climbs.at_space
+            (ap (slice_get form.spaces) (sym same.0) ∙ at_space) in
             let at_i : slice_get climbs.space.listing.nodes i ≡ Some node =
             ap (λ (p : FormSpace). slice_get p.listing.nodes i) is_space ∙ ap (slice_get space.listing.nodes) (sym is_k) ∙ at in
             let inside : i < length climbs.space.listing.nodes = slice_get_within climbs.space.listing.nodes i node at_i in
@@ -153,14 +157,16 @@ module _ (form : Form) (tracks : List Track) (found : Findings) (readable : IsRe
                   ∙ ap (λ (b : Bool). if b then function_in climbs.space.listing.nodes (node_at climbs.space.listing.nodes i).high (label_of taken)
                   else function_in climbs.space.listing.nodes (node_at climbs.space.listing.nodes i).low (label_of taken)) unset
                   ∙ ap (λ (x : Listed). function_in climbs.space.listing.nodes x (label_of taken)) is_low ∙ climbs.gives;
-              above = λ u set. let b = unset-below (node_at climbs.space.listing.nodes i).track u (node_at climbs.space.listing.nodes i).low is_low below.later set in omega arith;
+              above = λ u set. let b = unset-below (node_at climbs.space.listing.nodes i).track u (node_at climbs.space.listing.nodes i).low is_low
+                  below.later set in omega arith;
               weight = totals.0;
               settled = premise;
               is_sum = let a = totals.4 in let z = totals.3 in let c = climbs.is_sum in omega arith;
             }
 
     -- from a high side to its node
-    pub Climbs-high : (i : ℕ) (space' : FormSpace) (node' : ListedNode) → slice_get form.spaces s ≡ Some space' → slice_get space'.listing.nodes i ≡ Some node' →
+    pub Climbs-high : (i : ℕ) (space' : FormSpace) (node' : ListedNode) → slice_get form.spaces s ≡ Some space' → slice_get space'.listing.nodes i ≡
+        Some node' →
         HasReason found goal (Side i true) → Climbs form tracks found s q w (Node s i) (taken ++ (record { 0 = node'.track }) ∷ [])
     unfolding nodes
     Climbs-high i space' node' at_space' at' has =
@@ -177,7 +183,8 @@ module _ (form : Form) (tracks : List Track) (found : Findings) (readable : IsRe
         pick _ _ _ _ total (high t k space node at_space at) totals e r sum =
             let same = goal_at-same t s node.high climbs.listed (e ∙ climbs.is_goal) in
             let is_k : k ≡ i = cc in
-            let is_space : climbs.space ≡ space = one-space (slice_get form.spaces s) climbs.space space climbs.at_space (ap (slice_get form.spaces) (sym same.0) ∙ at_space) in
+            let is_space : climbs.space ≡ space = one-space (slice_get form.spaces s) climbs.space space climbs.at_space
+            (ap (slice_get form.spaces) (sym same.0) ∙ at_space) in
             let at_i : slice_get climbs.space.listing.nodes i ≡ Some node =
             ap (λ (p : FormSpace). slice_get p.listing.nodes i) is_space ∙ ap (slice_get space.listing.nodes) (sym is_k) ∙ at in
             let is_other : climbs.space ≡ space' = one-space (slice_get form.spaces s) climbs.space space' climbs.at_space at_space' in
@@ -199,7 +206,8 @@ module _ (form : Form) (tracks : List Track) (found : Findings) (readable : IsRe
             λ u differs. grown u ∙ ap (λ (b : Bool). label_of taken u || b) (ne_eqb node'.track u (λ f. differs (sym f))) ∙ or-no (label_of taken u) in
             let premise : IsSettled found (Node s i) totals.0 =
             subst (λ (x : ℕ). IsSettled found (Node x i) totals.0) same.0 (subst (λ (x : ℕ). IsSettled found (Node t x) totals.0) is_k totals.2) in
-            let bit : bit_cost (is_among tracks) node.track ≡ bit_cost (is_among tracks) node'.track = ap (λ (n : ListedNode). bit_cost (is_among tracks) n.track) other in
+            let bit : bit_cost (is_among tracks) node.track ≡ bit_cost (is_among tracks) node'.track = ap
+            (λ (n : ListedNode). bit_cost (is_among tracks) n.track) other in
             let more = label_weight-more tracks node'.track (label_of taken) (label_of (taken ++ (record { 0 = node'.track }) ∷ [])) unset set apart in
             record {
               space = climbs.space;
@@ -208,11 +216,14 @@ module _ (form : Form) (tracks : List Track) (found : Findings) (readable : IsRe
               is_goal = refl;
               inside = omega arith;
               gives = function_in-inner climbs.space.listing.nodes i (label_of (taken ++ (record { 0 = node'.track }) ∷ [])) inside below.before above.before
-                  ∙ ap (λ (b : Bool). if b then function_in climbs.space.listing.nodes (node_at climbs.space.listing.nodes i).high (label_of (taken ++ (record { 0 = node'.track }) ∷ []))
-                  else function_in climbs.space.listing.nodes (node_at climbs.space.listing.nodes i).low (label_of (taken ++ (record { 0 = node'.track }) ∷ [])))
+                  ∙ ap (λ (b : Bool). if b then function_in climbs.space.listing.nodes (node_at climbs.space.listing.nodes i).high
+                  (label_of (taken ++ (record { 0 = node'.track }) ∷ []))
+                  else function_in climbs.space.listing.nodes (node_at climbs.space.listing.nodes i).low
+                  (label_of (taken ++ (record { 0 = node'.track }) ∷ [])))
                   (ap (label_of (taken ++ (record { 0 = node'.track }) ∷ [])) track ∙ set)
                   ∙ ap (λ (x : Listed). function_in climbs.space.listing.nodes x (label_of (taken ++ (record { 0 = node'.track }) ∷ []))) is_high
-                  ∙ function_in-unasked climbs.space.listing.nodes ordered climbs.listed (suc node'.track) (label_of (taken ++ (record { 0 = node'.track }) ∷ [])) (label_of taken)
+                  ∙ function_in-unasked climbs.space.listing.nodes ordered climbs.listed (suc node'.track)
+                  (label_of (taken ++ (record { 0 = node'.track }) ∷ [])) (label_of taken)
                   climbs.inside (subst (λ (x : Listed). AsksNoneBelow climbs.space.listing.nodes (suc node'.track) x) is_high later)
                   (λ u from. apart u (λ f. absurd (omega arith)))
                   ∙ climbs.gives;
@@ -238,7 +249,8 @@ module _ (form : Form) (tracks : List Track) (found : Findings) (readable : IsRe
       where
         no-tracks : (x : Listed) (p : ℕ) → climbs.listed ≡ x → x ≡ Leaf p → (t : ℕ) → label_of taken t ≡ false
         no-tracks x p is leaf t = elim (cases_Bool (label_of taken t)) [
-          | inl set ↦ absurd (subst (λ (y : Listed). MatchOption (first_track climbs.space.listing.nodes y) ⊥ (λ first. first ≤ t)) (is ∙ leaf) (climbs.above t set))
+          | inl set ↦ absurd (subst (λ (y : Listed). MatchOption (first_track climbs.space.listing.nodes y) ⊥ (λ first. first ≤ t)) (is ∙ leaf)
+              (climbs.above t set))
           | inr unset ↦ unset
         ]
 
@@ -253,10 +265,12 @@ module _ (form : Form) (tracks : List Track) (found : Findings) (readable : IsRe
             Totals found premises total → g ≡ goal → reason ≡ Initial → cost + total ≡ climbs.weight → ((automaton_of form).initial s ≡ q) × (0 ≡ w)
         pick _ _ _ _ total (initial t space at) totals e r sum =
             let same = leaf-is t space.initial climbs.listed (e ∙ climbs.is_goal) in
-            let is_space : climbs.space ≡ space = one-space (slice_get form.spaces s) climbs.space space climbs.at_space (ap (slice_get form.spaces) (sym same.0) ∙ at) in
+            let is_space : climbs.space ≡ space = one-space (slice_get form.spaces s) climbs.space space climbs.at_space
+            (ap (slice_get form.spaces) (sym same.0) ∙ at) in
             let gives : space.initial ≡ q = sym (function_in-leaf climbs.space.listing.nodes space.initial (label_of taken))
             ∙ ap (λ (x : Listed). function_in climbs.space.listing.nodes x (label_of taken)) (sym same.1) ∙ climbs.gives in
-            let first : (automaton_of form).initial s ≡ space.initial = initial-form form s ∙ initial-at form s space (ap (slice_get form.spaces) (sym same.0) ∙ at) in
+            let first : (automaton_of form).initial s ≡ space.initial = initial-form form s ∙ initial-at form s space
+            (ap (slice_get form.spaces) (sym same.0) ∙ at) in
             let none = label_weight-none (each_once tracks) (label_of taken) (no-tracks climbs.listed space.initial refl same.1) in
             (first ∙ gives, let c = climbs.is_sum in let z = totals in omega arith)
         pick _ _ _ _ total (row t q' class space at at_class) totals e r sum = absurd cc
@@ -287,7 +301,8 @@ module _ (form : Form) (tracks : List Track) (found : Findings) (readable : IsRe
           let is_l : q' ≡ l = cc in
           let is_space : space' ≡ space = one-space (slice_get form.spaces t) space' space (ap (slice_get form.spaces) (sym is_t) ∙ at') at in
           let weight : totals.0 ≡ u = (let a = totals.4 in let z = totals.3 in omega arith) in (
-            ap (λ (p : FormSpace). slice_get p.rows l) (sym is_space) ∙ ap (slice_get space'.rows) (sym is_l) ∙ at_class ∙ ap (λ (k : ℕ). let o : Option ℕ = Some k in o) is_class,
+            ap (λ (p : FormSpace). slice_get p.rows l) (sym is_space) ∙ ap (slice_get space'.rows) (sym is_l) ∙ at_class ∙ ap
+                (λ (k : ℕ). let o : Option ℕ = Some k in o) is_class,
             subst (λ (k : ℕ). IsSettled found (State space.children.0 l) k) weight
                 (subst (λ (p : FormSpace). IsSettled found (State p.children.0 l) totals.0) is_space
                 (subst (λ (k : ℕ). IsSettled found (State space'.children.0 k) totals.0) is_l totals.2)),
@@ -315,7 +330,8 @@ module _ (form : Form) (tracks : List Track) (found : Findings) (readable : IsRe
           let is_l : q' ≡ l = cc in
           let is_space : space' ≡ space = one-space (slice_get form.spaces t) space' space (ap (slice_get form.spaces) (sym is_t) ∙ at') at in
           let weight : totals.0 ≡ u = (let a = totals.4 in let z = totals.3 in omega arith) in (
-            ap (λ (p : FormSpace). slice_get p.columns l) (sym is_space) ∙ ap (slice_get space'.columns) (sym is_l) ∙ at_class ∙ ap (λ (k : ℕ). let o : Option ℕ = Some k in o) is_class,
+            ap (λ (p : FormSpace). slice_get p.columns l) (sym is_space) ∙ ap (slice_get space'.columns) (sym is_l) ∙ at_class ∙ ap
+                (λ (k : ℕ). let o : Option ℕ = Some k in o) is_class,
             subst (λ (k : ℕ). IsSettled found (State space.children.1 l) k) weight
                 (subst (λ (p : FormSpace). IsSettled found (State p.children.1 l) totals.0) is_space
                 (subst (λ (k : ℕ). IsSettled found (State space'.children.1 k) totals.0) is_l totals.2)),
@@ -332,7 +348,8 @@ module _ (form : Form) (tracks : List Track) (found : Findings) (readable : IsRe
     pub cell-step : (k c l r : ℕ) → HasReason found goal (Cell k c) → HasReason found (Row s k) (Member l) → HasReason found (Column s c) (Member r) →
         IsStepTo form (each_once tracks) found s q w (record { tracks = taken; left = l; right = r })
     cell-step k c l r has of_row of_column =
-        let j = justified-by s q w goal taken climbs (Cell k c) has in pick j.premises j.cost goal (Cell k c) j.total j.rule j.totals refl refl (let e = j.weighs_so in e)
+        let j = justified-by s q w goal taken climbs (Cell k c) has in pick j.premises j.cost goal (Cell k c) j.total j.rule j.totals refl refl
+        (let e = j.weighs_so in e)
       where
         pick : (premises : List Goal) (cost : ℕ) (g : Goal) (reason : Reason) (total : ℕ) → Rule form (is_among tracks) premises cost g reason →
             Totals found premises total → g ≡ goal → reason ≡ Cell k c → cost + total ≡ climbs.weight →

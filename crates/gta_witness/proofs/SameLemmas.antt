@@ -12,7 +12,7 @@ use Rattle.ws2s_core.specs.LabelTrees.{assignment_of}
 use Rattle.gta_core.specs.Auto.{AutoView, states_of, automaton_of, IsAuto}
 use Rattle.gta_refine.specs.declared.form.Form.{Form}
 use Rattle.gta_refine.specs.Form as form
-use Rattle.gta_witness.specs.Listed.{IsFormOf}
+use Rattle.gta_form.specs.Listed.{IsFormOf}
 use Rattle.gta_witness.specs.Lightest.{IsLightestTree}
 
 module _ (g : Spaces) (shelf : Contents) (a : AutoView) (f : Form) (is_auto : IsAuto g shelf a) (guide : IsGuide g) (same : IsFormOf g shelf a f) where
@@ -29,12 +29,14 @@ module _ (g : Spaces) (shelf : Contents) (a : AutoView) (f : Form) (is_auto : Is
       let r_there = guide.right_inside s there in
       let p = value g (automaton_of shelf a) (left g s) n (half false x) in
       let q = value g (automaton_of shelf a) (right g s) n (half true x) in
-      ap (λ (k : ℕ). (form.automaton_of f).step s k (value g (form.automaton_of f) (right g s) n (half true x)) (root_label x)) (same-value n (left g s) (half false x) l_there)
+      ap (λ (k : ℕ). (form.automaton_of f).step s k (value g (form.automaton_of f) (right g s) n (half true x)) (root_label x))
+      (same-value n (left g s) (half false x) l_there)
       ∙ ap (λ (k : ℕ). (form.automaton_of f).step s p k (root_label x)) (same-value n (right g s) (half true x) r_there)
       ∙ same.steps s p q (root_label x) there (ltb-true p (states_of a (left g s)) (below n (left g s) (half false x) l_there))
       (ltb-true q (states_of a (right g s)) (below n (right g s) (half true x) r_there))
 
-  same-accepting : (n : ℕ) (x : Assignment) → (form.automaton_of f).accepting (value g (form.automaton_of f) 0 n x) ≡ (automaton_of shelf a).accepting (value g (automaton_of shelf a) 0 n x)
+  same-accepting : (n : ℕ) (x : Assignment) → (form.automaton_of f).accepting (value g (form.automaton_of f) 0 n x) ≡ (automaton_of shelf a).accepting
+      (value g (automaton_of shelf a) 0 n x)
   same-accepting n x =
       ap (λ (k : ℕ). (form.automaton_of f).accepting k) (same-value n 0 x guide.not_empty)
       ∙ same.accepting (value g (automaton_of shelf a) 0 n x) (ltb-true (value g (automaton_of shelf a) 0 n x) (states_of a 0) (below n 0 x guide.not_empty))

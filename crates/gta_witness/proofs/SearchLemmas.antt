@@ -178,7 +178,8 @@ module _ (form : Form) (weighs : ℕ → Bool) (now : ℕ) (old new : Search) (g
           }
     ];
     ahead = λ w there. elim (Contains-cases waiting w (heap_items old.queue)
-        (Contains-permutation (heap_items new.queue) (waiting ∷ heap_items old.queue) w (IsPermutation-sym (waiting ∷ heap_items old.queue) (heap_items new.queue) pushed) there)) [
+        (Contains-permutation (heap_items new.queue) (waiting ∷ heap_items old.queue) w
+        (IsPermutation-sym (waiting ∷ heap_items old.queue) (heap_items new.queue) pushed) there)) [
           | inl same ↦ subst (λ (x : Waiting). now + x.nearness ≤ 18446744073709551615) same (omega arith)
           | inr before ↦ is.sound.ahead w before
         ];

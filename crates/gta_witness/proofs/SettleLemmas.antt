@@ -59,7 +59,11 @@ module _ (form : Form) (weighs : ℕ → Bool) (lines : Lines) (old mid : Search
 
   pub settled-back : (g : Goal) (w : ℕ) → IsSettled (found_by mid) g w → ((goal ≡ g) × (entry.weight ≡ w)) ⊎ IsSettled (found_by old) g w
   settled-back g w settled = elim (same-or goal g) [
-    | inl same ↦ inl (same, settled-once (found_by mid) g entry.weight w (subst (λ (x : Goal). IsSettled (found_by mid) x entry.weight) same settled-now) settled)
+    | inl same ↦ inl (
+      same,
+      settled-once (found_by mid) g entry.weight w
+          (subst (λ (x : Goal). IsSettled (found_by mid) x entry.weight) same settled-now) settled,
+    )
     | inr apart ↦ inr (record { entry = settled.entry; there = sym (at-other g apart) ∙ settled.there; settled = settled.settled; weighs = settled.weighs })
   ]
 
@@ -83,7 +87,8 @@ module _ (form : Form) (weighs : ℕ → Bool) (lines : Lines) (old mid : Search
       justified = λ g e there. elim (same-or goal g) [
         | inl same ↦
             let is : done ≡ e = some-same (found_by mid g) done e (sym (ap (found_by mid) same) ∙ at-goal) there in
-            let j = IsJustified-kept form weighs (found_by old) (found_by mid) settled-kept goal entry.reason entry.weight (taken.justified goal entry taken.there) in
+            let j = IsJustified-kept form weighs (found_by old) (found_by mid) settled-kept goal entry.reason entry.weight
+            (taken.justified goal entry taken.there) in
             subst (λ (x : Goal). IsJustified form weighs (found_by mid) x e.reason e.weight) same
             (subst (λ (x : Found). IsJustified form weighs (found_by mid) goal x.reason x.weight) is j)
         | inr apart ↦ IsJustified-kept form weighs (found_by old) (found_by mid) settled-kept g e.reason e.weight
@@ -126,7 +131,8 @@ module _ (form : Form) (weighs : ℕ → Bool) (lines : Lines) (old mid : Search
 
     -- and expanded
     module _ (new : Search) (on_now : GoesOn form weighs entry.weight mid new) (expanded : IsExpanded form weighs (found_by new) goal) where
-      premises-cases : (premises : List Goal) → Contains premises goal ⊎ ((total : ℕ) → Totals (found_by new) premises total → Totals (found_by old) premises total)
+      premises-cases : (premises : List Goal) → Contains premises goal ⊎
+          ((total : ℕ) → Totals (found_by new) premises total → Totals (found_by old) premises total)
       premises-cases [] = inr (λ total totals. totals)
       premises-cases (g ∷ gs) = elim (same-or goal g) [
         | inl same ↦ inl (subst (λ (x : Goal). Contains (x ∷ gs) goal) same (Contains-first goal gs))
@@ -143,7 +149,8 @@ module _ (form : Form) (weighs : ℕ → Bool) (lines : Lines) (old mid : Search
       pub closed-now : IsClosed form weighs (found_by new)
       closed-now premises cost g reason rule total totals = elim (premises-cases premises) [
         | inl there ↦ expanded premises cost g reason rule there total totals
-        | inr back ↦ on_now.improves.covered g (cost + total) (covered-kept g (cost + total) (taken.closed premises cost g reason rule total (back total totals)))
+        | inr back ↦ on_now.improves.covered g (cost + total)
+            (covered-kept g (cost + total) (taken.closed premises cost g reason rule total (back total totals)))
       ]
 
       listed-now : AreListed (found_by new) after.rows.items after.columns.items
@@ -223,7 +230,8 @@ module _ (form : Form) (weighs : ℕ → Bool) (now : ℕ) (lines : Lines) (old 
   stale-running stale = record {
     is_search = record {
       sound = record {
-        justified = subst (λ (found : Findings). (g : Goal) (e : Found) → found g ≡ Some e → IsJustified form weighs found g e.reason e.weight) (sym same_found) is.sound.justified;
+        justified = subst (λ (found : Findings). (g : Goal) (e : Found) → found g ≡ Some e → IsJustified form weighs found g e.reason e.weight)
+            (sym same_found) is.sound.justified;
         passed = subst (λ (found : Findings). (g : Goal) (w : ℕ) → IsSettled found g w → w ≤ now) (sym same_found) is.sound.passed;
         waits = λ g e there unsettled.
             let before : found_by old g ≡ Some e = (sym (λ i. same_found i g)) ∙ there in
@@ -247,7 +255,8 @@ module _ (form : Form) (weighs : ℕ → Bool) (now : ℕ) (lines : Lines) (old 
   first-taken entry there unsettled near below = record {
     there = (λ i. same_found i first.goal) ∙ there;
     unsettled = unsettled;
-    justified = subst (λ (found : Findings). (g : Goal) (e : Found) → found g ≡ Some e → IsJustified form weighs found g e.reason e.weight) (sym same_found) is.sound.justified;
+    justified = subst (λ (found : Findings). (g : Goal) (e : Found) → found g ≡ Some e → IsJustified form weighs found g e.reason e.weight)
+        (sym same_found) is.sound.justified;
     passed = subst (λ (found : Findings). (g : Goal) (w : ℕ) → IsSettled found g w → w ≤ entry.weight) (sym same_found)
         (λ g w settled. let p = is.sound.passed g w settled in let a = first-ahead in omega arith);
     waits = λ g e at unsettled_g apart.

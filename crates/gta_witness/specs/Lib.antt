@@ -1,5 +1,4 @@
 pub mod Lightest
-pub mod Listed
 pub mod Rules
 pub mod Searching
 pub mod Following

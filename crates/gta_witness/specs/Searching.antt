@@ -1,5 +1,6 @@
 -- What a search for least weights has found, and what it keeps. (Dijkstra 1959; Knuth 1977.)
-use Rattle.std.specs.Prelude.{◌≡◌, ℕ, ◌+◌, ◌<◌, ◌≤◌, if◌then◌else◌, Bool, true, false, List, [], ◌∷◌, Option, Some, None, MatchOption, Contains, nat_eq, slice_get, unwrap_or}
+use Rattle.std.specs.Prelude.{◌≡◌, ℕ, ◌+◌, ◌<◌, ◌≤◌, if◌then◌else◌, Bool, true, false, List, [], ◌∷◌, Option, Some, None, MatchOption, Contains}
+use Rattle.std.specs.Prelude.{nat_eq, slice_get, unwrap_or}
 use Rattle.std.specs.Ordering.{on, nat_cmp}
 use Rattle.std.specs.declared.hash.FoldHasher.{FoldHasher}
 use Rattle.std.specs.declared.hash.BuildHasherDefault.{BuildHasherDefault}

@@ -6,7 +6,6 @@
 #![tactic(auto)]
 
 mod expand;
-mod form;
 mod goal;
 mod grow;
 mod lightest;

@@ -8,12 +8,12 @@ ghost use Rattle.gta_refine.specs.Form.{IsForm, guide_of as form_guide, automato
 ghost use Rattle.gta_witness.specs.Lightest.{is_among, IsLightestTree};
 ghost use Rattle.gta_witness.specs.Searching.{weighs_in};
 
-use crate::form::form_of;
 use crate::grow::grow;
 use crate::search::search_all;
 use bdd_nodes::Shelf;
 use bdd_walk::NoMemory;
 use gta_core::Auto;
+use gta_form::form_of;
 use gta_refine::Form;
 use std::alloc::Global;
 use std::collections::HashSet;

@@ -13,7 +13,8 @@ use Rattle.gta_refine.specs.Numbered.{TellApart}
 use Rattle.gta_refine.specs.Refined.{part_at, child_of, child_at, opposite}
 use Rattle.gta_refine.proofs.ChosenLemmas.{marked-inside}
 use Rattle.gta_refine.proofs.RefineLemmas.{child-inside, child-kinds, child-few, child-is, child-chosen, has_root-at, root-inside, small-classes}
-use Rattle.gta_refine.proofs.RefineLemmas.{ordered-nodes, roots-inside, AreChildIds-rows}
+use Rattle.gta_refine.proofs.RefineLemmas.{ordered-nodes, roots-inside}
+use Rattle.gta_refine.proofs.IdsLemmas.{AreChildIds-rows}
 use Rattle.gta_refine.proofs.rounds.ids_of.Goals as goal
 use Rattle.gta_refine.proofs.rounds.ids_of.Goals.{After-as_slice-2, After-deref-2}
 

@@ -5,8 +5,8 @@ use Rattle.gta_refine.specs.Refined.{IsRefined}
 use Rattle.gta_refine.proofs.RefineLemmas.{IsRefined-stable}
 use Rattle.gta_refine.proofs.rounds.refine.Goals as goal
 
-pub returns-then-not-branch : goal.returns-then-not-branch
-returns-then-not-branch c =
+pub returns : goal.returns
+returns c =
     subst (λ (xs : List SpaceClasses). IsRefined c.args.form.now xs) (sym c.from_vec.ensures)
-    (IsRefined-stable c.args.form.now c.refine_more.new.spaces.items c.requires c.in_ok-refine_more.ensures.partition
-    (c.in_ok-refine_more.ensures.left c.if-not-branch.true) (c.in_ok-refine_more.ensures.right c.if-not-branch.true))
+    (IsRefined-stable c.args.form.now c.refine_more.new.spaces.items c.requires c.in_ok-is_more.ensures.partition
+    (c.in_ok-is_more.ensures.left c.if-not-is_more.true) (c.in_ok-is_more.ensures.right c.if-not-is_more.true))

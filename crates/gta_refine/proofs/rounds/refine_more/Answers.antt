@@ -1,9 +1,10 @@
 -- One more space.
-use Rattle.std.proofs.Common.{◌≡◌, ℕ, List, inl, inr, sym, ◌∙◌, subst, arith}
+use Rattle.std.proofs.Common.{◌≡◌, ℕ, Bool, List, inl, inr, sym, ◌∙◌, subst, arith}
 use Rattle.std.proofs.lemmas.Bool.{cases_lt, false≢true}
 use Rattle.gta_refine.specs.declared.rounds.SpaceClasses.{SpaceClasses}
 use Rattle.gta_refine.specs.declared.rows.Side.TheVariants.{Left, Right}
-use Rattle.gta_refine.specs.Refined.{IsStableAt}
+use Rattle.gta_refine.specs.Refined.{IsStableAt, room_in, TakesRoom}
+use Rattle.gta_refine.proofs.RoomLemmas.{TakesRoom-more, TakesRoom-none}
 use Rattle.gta_refine.proofs.rounds.refine_more.Goals as goal
 use Rattle.gta_refine.proofs.rounds.refine_more.Goals.{then-branch, else-branch}
 
@@ -35,5 +36,15 @@ loop-s-preserved c = record {
               let is : c.loop-s.s ≡ s = omega arith in
               subst (λ (k : ℕ). IsStableAt form c.split_children.new.spaces.items k Right) is (c.in_ok-split_children.ensures.right w.if-branch.false)
         ]
+  ];
+  room = elim c.if-branch.branch [
+    | then-branch w ↦
+        subst (λ (more : Bool). TakesRoom more (room_in c.args.spaces.now.items) (room_in c.split_children.new.spaces.items)) (sym w.is_more-is)
+        (TakesRoom-more c.loop-s.is_more _ (room_in c.args.spaces.now.items) (room_in c.loop-s.spaces.items)
+        (room_in c.split_children.new.spaces.items) w.if-branch.true c.loop-s.invariant.room c.in_ok-split_children.ensures.room)
+    | else-branch w ↦
+        subst (λ (more : Bool). TakesRoom more (room_in c.args.spaces.now.items) (room_in c.split_children.new.spaces.items)) (sym w.is_more-is)
+        (TakesRoom-none c.loop-s.is_more _ (room_in c.args.spaces.now.items) (room_in c.loop-s.spaces.items)
+        (room_in c.split_children.new.spaces.items) w.if-branch.false c.loop-s.invariant.room c.in_ok-split_children.ensures.room)
   ];
 }

@@ -1,5 +1,5 @@
 -- A child's classes are split.
-use Rattle.std.proofs.Common.{◌≡◌, ℕ, List, [], Some, length, refl, sym, ◌∙◌, ap, subst, arith}
+use Rattle.std.proofs.Common.{◌≡◌, ◌<◌, ℕ, List, [], Some, length, refl, sym, ◌∙◌, ap, subst, arith}
 use Rattle.std.specs.Prelude.{slice_get, slice_set}
 use Rattle.std.proofs.lemmas.List.{get_or_read}
 use Rattle.std.proofs.lemmas.Option.{slice_get_read}
@@ -7,8 +7,9 @@ use Rattle.gta_refine.specs.declared.form.FormSpace.{FormSpace}
 use Rattle.gta_refine.specs.declared.rounds.SpaceClasses.{SpaceClasses}
 use Rattle.gta_refine.specs.Form.{guide_of}
 use Rattle.gta_refine.specs.Classes.{AreClasses, IsSplit}
-use Rattle.gta_refine.specs.Refined.{part_at, child_of, child_at, AreChildIds, ArePartition, IsStableAt}
+use Rattle.gta_refine.specs.Refined.{part_at, child_of, child_at, AreChildIds, ArePartition, IsStableAt, room_in, TakesRoom}
 use Rattle.gta_refine.proofs.RefineLemmas.{child-inside, child-few, child-is, child-classes, ArePartition-child, unsplit-child, IsStableAt-child}
+use Rattle.gta_refine.proofs.RoomLemmas.{TakesRoom-part}
 use Rattle.gta_refine.proofs.rounds.split_child.Goals as goal
 
 pub index_mut-part-requires : goal.index_mut-part-requires
@@ -155,3 +156,22 @@ returns-clause-stable c = λ nothing.
     subst (λ (k : ℕ). IsStableAt form (slice_set spaces k c.split_part.new.part) c.args.s side) (sym c.child.ensures)
     (IsStableAt-child form c.requires.form spaces c.requires.partition c.args.s space at side c.in_ok-ids.ids.items c.split_part.new.part ids marks split
     (same.0 ∙ ap (λ (p : SpaceClasses). p.classes) is) (same.1 ∙ ap (λ (p : SpaceClasses). p.representatives) is))
+
+pub returns-clause-room : goal.returns-clause-room
+returns-clause-room c =
+    let space = c.index-as_slice-s.result in
+    let form = c.args.form.now in
+    let spaces = c.args.spaces.now.items in
+    let side = c.args.side in
+    let at : slice_get form.spaces c.args.s ≡ Some space = ap (λ (xs : List FormSpace). slice_get xs c.args.s) (sym c.as_slice.ensures)
+    ∙ slice_get_read c.as_slice.result.now (length c.as_slice.result.now) c.args.s space refl
+    (let e = ap length c.as_slice.ensures in let s = c.requires.space in omega arith) c.index-as_slice-s.is in
+    let b = child-inside form c.requires.form spaces c.requires.partition c.args.s space at side in
+    let part : SpaceClasses = c.index_mut-part.result.now in
+    let is : part ≡ part_at spaces (child_of space side) = get_or_read spaces c.child.result part (let e = c.child.ensures in omega arith)
+    c.index_mut-part.ensures.value
+    (record { reached = []; classes = []; representatives = [] }) ∙ ap (part_at spaces) c.child.ensures in
+    subst (λ (k : ℕ). TakesRoom c.in_ok-is_more.is_more (room_in spaces) (room_in (slice_set spaces k c.split_part.new.part))) (sym c.child.ensures)
+    (TakesRoom-part c.in_ok-is_more.is_more spaces (child_of space side) c.split_part.new.part b c.in_ok-is_more.ensures.classes.few
+    (λ more. subst (λ (p : SpaceClasses). length p.representatives < length c.split_part.new.part.representatives) is (c.in_ok-is_more.ensures.more more))
+    (λ none. (c.in_ok-is_more.ensures.unchanged none).1 ∙ ap (λ (p : SpaceClasses). p.representatives) is))

@@ -22,13 +22,15 @@ loop-column-preserved c = record {
   goes_on = GoesOn-trans c.args.form.now (weighs_in c.args.weighed.now) c.args.weight c.args.search.now c.loop-column.search c.expand_cell.new.search
       c.loop-column.invariant.goes_on c.in_ok-expand_cell.ensures.goes_on;
   cells = λ k d below. elim (cases_lt k c.loop-column.column-index) [
-    | inl before ↦ FollowsCell-kept c.args.form.now (weighs_in c.args.weighed.now) (found_by c.loop-column.search) (found_by c.expand_cell.new.search) c.args.space c.args.row
+    | inl before ↦ FollowsCell-kept c.args.form.now (weighs_in c.args.weighed.now) (found_by c.loop-column.search) (found_by c.expand_cell.new.search)
+        c.args.space c.args.row
         (slice_index_or c.args.columns.now k d) c.in_ok-expand_cell.ensures.goes_on.improves (c.loop-column.invariant.cells k d before)
     | inr here ↦
         let e : c.loop-column.column-index ≡ k = omega arith in
         subst (λ (j : ℕ). FollowsCell c.args.form.now (found_by c.expand_cell.new.search) c.args.space c.args.row (slice_index_or c.args.columns.now j d)) e
         (subst (λ (x : ℕ). FollowsCell c.args.form.now (found_by c.expand_cell.new.search) c.args.space c.args.row x)
-        (get_or_default c.args.columns.now c.loop-column.column-index 0 d (let t = c.loop-column-test.true in let b = c.loop-column.auto.column-index-end in omega arith))
+        (get_or_default c.args.columns.now c.loop-column.column-index 0 d
+        (let t = c.loop-column-test.true in let b = c.loop-column.auto.column-index-end in omega arith))
         c.in_ok-expand_cell.ensures.cell)
   ];
 }

@@ -26,7 +26,8 @@ returns-in_default-at c =
     let new : Search = record { found = c.args.search.now.found; queue = c.pop.new.self } in
     let order = c.in-Some.ensures.heap_order running.is_search.heap in (
       now,
-      stale-running c.args.form.now (weighs_in c.args.weighed.now) now c.args.lines.now c.args.search.now new c.in-Some.first running (λ i. c.args.search.now.found)
+      stale-running c.args.form.now (weighs_in c.args.weighed.now) now c.args.lines.now c.args.search.now new c.in-Some.first running
+          (λ i. c.args.search.now.found)
           c.in-Some.ensures.permutation order.0 (λ e there unsettled near. let none : None ≡ Some e = c.in_default-at.ensures ∙ there in absurd cc),
     )
 
@@ -37,7 +38,8 @@ returns-then-found c =
     let new : Search = record { found = c.args.search.now.found; queue = c.pop.new.self } in
     let order = c.in-Some.ensures.heap_order running.is_search.heap in (
       now,
-      stale-running c.args.form.now (weighs_in c.args.weighed.now) now c.args.lines.now c.args.search.now new c.in-Some.first running (λ i. c.args.search.now.found)
+      stale-running c.args.form.now (weighs_in c.args.weighed.now) now c.args.lines.now c.args.search.now new c.in-Some.first running
+          (λ i. c.args.search.now.found)
           c.in-Some.ensures.permutation order.0 (λ e there unsettled near.
           let same : e ≡ c.in-Some-at.found = same-found (found_by c.args.search.now c.in-Some.first.goal) e c.in-Some-at.found there c.in-Some-at.ensures in
           false≢true (sym unsettled ∙ ap (λ (x : Found). x.is_settled) same ∙ c.if-found.true)),
@@ -50,7 +52,8 @@ returns-then-found-first c =
     let new : Search = record { found = c.args.search.now.found; queue = c.pop.new.self } in
     let order = c.in-Some.ensures.heap_order running.is_search.heap in (
       now,
-      stale-running c.args.form.now (weighs_in c.args.weighed.now) now c.args.lines.now c.args.search.now new c.in-Some.first running (λ i. c.args.search.now.found)
+      stale-running c.args.form.now (weighs_in c.args.weighed.now) now c.args.lines.now c.args.search.now new c.in-Some.first running
+          (λ i. c.args.search.now.found)
           c.in-Some.ensures.permutation order.0 (λ e there unsettled near.
           let same : e ≡ c.in-Some-at.found = same-found (found_by c.args.search.now c.in-Some.first.goal) e c.in-Some-at.found there c.in-Some-at.ensures in
           let weight : e.weight ≡ c.in-Some-at.found.weight = ap (λ (x : Found). x.weight) same in let other = c.if-found-first.true in absurd (omega arith)),
