@@ -11,6 +11,7 @@ use Rattle.gta_theory.specs.Automata.{Automaton}
 use Rattle.gta_theory.specs.Generated.{Generated, steps}
 use Rattle.gta_product.specs.Numbers.{numbered, AreNumbers, Extends}
 use Rattle.gta_product.specs.Filling.{IsCellFunction, Joins, ExceedsCells}
+use Rattle.gta_product.specs.Growing.{AreGenerated}
 use Rattle.gta_product.specs.Building.{IsSpaceOf, AreSpaces, IsStepFunction, CompleteAll, ExceedsSteps, Building, ExtendAll}
 use Rattle.gta_product.proofs.NumbersLemmas.{Extends-refl, Completes-extends}
 use Rattle.gta_product.proofs.JoinsLemmas.{All-append, All-weaker}
@@ -41,20 +42,17 @@ module _ (old new : List (List (ℕ × ℕ))) (s : ℕ) (before after : List (�
   }
 
 module _ (g : Spaces) (AB : Automaton (ℕ × ℕ)) where
+  -- pairs of the list that a space has are generated
+  pub AreGenerated-list : (spaces : List (List (ℕ × ℕ))) → AreSpaces g AB spaces → (s : ℕ) (list pairs : List (ℕ × ℕ)) → slice_get spaces s ≡ Some list →
+      ((x : ℕ × ℕ) → Contains pairs x → (k : ℕ) × (slice_get list k ≡ Some x)) → AreGenerated g AB s pairs
+  AreGenerated-list spaces are s list pairs at inside = λ x there. let k = inside x there in (are.each s list at).generated k.0 x k.1
+
   pub AreSpaces-building : (first shelf : Contents) (spaces : List (List (ℕ × ℕ))) → Building g AB first shelf spaces → AreSpaces g AB spaces
   AreSpaces-building first shelf spaces building = building.are
 
-  module _ (s : ℕ) (inside : IsSpace g s) (old new : List (List (ℕ × ℕ))) (lefts rights before after : List (ℕ × ℕ))
-      (are : AreSpaces g AB old) (sets : SetsSpace old new s before after)
-      (at_left : slice_get old (left g s) ≡ Some lefts) (at_right : slice_get old (right g s) ≡ Some rights)
-      (rows columns : List (ℕ × ℕ)) (in_rows : (x : ℕ × ℕ) → Contains rows x → (k : ℕ) × (slice_get lefts k ≡ Some x))
-      (in_columns : (x : ℕ × ℕ) → Contains columns x → (k : ℕ) × (slice_get rights k ≡ Some x)) where
-    row-generated : (x : ℕ × ℕ) → Contains rows x → Generated g AB (left g s) x
-    row-generated x there = let k = in_rows x there in (are.each (left g s) lefts at_left).generated k.0 x k.1
-
-    column-generated : (x : ℕ × ℕ) → Contains columns x → Generated g AB (right g s) x
-    column-generated x there = let k = in_columns x there in (are.each (right g s) rights at_right).generated k.0 x k.1
-
+  module _ (s : ℕ) (inside : IsSpace g s) (old new : List (List (ℕ × ℕ))) (before after : List (ℕ × ℕ))
+      (are : AreSpaces g AB old) (sets : SetsSpace old new s before after) (rows columns : List (ℕ × ℕ))
+      (row-generated : AreGenerated g AB (left g s) rows) (column-generated : AreGenerated g AB (right g s) columns) where
     step-function : (given : ℕ → List ℕ → ℕ) (whole : Function) → IsCellFunction AB s rows columns (given s) whole →
         IsStepFunction g AB given whole
     step-function given whole is = record {

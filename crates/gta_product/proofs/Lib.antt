@@ -13,3 +13,4 @@ pub mod StartLemmas
 pub mod PartLemmas
 pub mod SameLemmas
 pub mod ProductLemmas
+pub mod GrowingLemmas

@@ -14,7 +14,7 @@ use Rattle.gta_product.specs.Filling.{ExceedsCells, Joins}
 use Rattle.gta_product.proofs.ShelfLemmas.{both-kept}
 use Rattle.gta_product.proofs.JoinsLemmas.{Joins-wider, ExceedsCells-wider, Joins-trans, ExceedsCells-after, All-append, All-alone, All-weaker}
 
-alone-is : (y x : ℕ × ℕ) → Contains (y ∷ []) x → y ≡ x
+pub alone-is : (y x : ℕ × ℕ) → Contains (y ∷ []) x → y ≡ x
 alone-is y x there = All-contains (λ (z : ℕ × ℕ). y ≡ z) (y ∷ []) x (All-alone (λ (z : ℕ × ℕ). y ≡ z) y refl) there
 
 -- joins of some rows and columns go on, by those of fewer of them

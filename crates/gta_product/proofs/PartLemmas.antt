@@ -14,6 +14,7 @@ use Rattle.bdd_walk.proofs.FitsLemmas.{Fits-kept}
 use Rattle.gta_theory.specs.Guides.{Spaces, IsGuide, IsSpace, left, right}
 use Rattle.gta_theory.specs.Automata.{Automaton}
 use Rattle.gta_theory.specs.Constructions.{pairs}
+use Rattle.gta_theory.specs.Generated.{Generated}
 use Rattle.gta_core.specs.declared.part.Part.{Part}
 use Rattle.gta_core.specs.Auto.{AutoView, guide_of, root_at, automaton_of, IsAuto}
 use Rattle.gta_product.specs.declared.classes.Classes.{Classes}
@@ -111,6 +112,22 @@ module _ (g : Spaces) (guide : IsGuide g) (shelf : Contents) (a b : AutoView) (a
     pub second-known : (j k : ℕ) (p q : ℕ × ℕ) → slice_get lefts j ≡ Some p → slice_get rights k ≡ Some q → IsSome (root_at shelf b s p.1 q.1)
     second-known j k p q at_p at_q =
         (auto_b.complete s p.1 q.1).1 (inside, ((below-at (left g s) lefts at_left j p at_p).second, (below-at (right g s) rights at_right k q at_q).second))
+
+-- generated pairs of the children have roots in both
+module _ (g : Spaces) (shelf : Contents) (a b : AutoView) (auto_a : IsAuto g shelf a) (auto_b : IsAuto g shelf b) (s : ℕ) (inside : IsSpace g s)
+    (p q : ℕ × ℕ) (at_left : Generated g (pairs (automaton_of shelf a) (automaton_of shelf b)) (left g s) p)
+    (at_right : Generated g (pairs (automaton_of shelf a) (automaton_of shelf b)) (right g s) q) where
+  below_left : AreBelow a b (left g s) p
+  below_left = generated-below g shelf a b auto_a auto_b (left g s) p at_left
+
+  below_right : AreBelow a b (right g s) q
+  below_right = generated-below g shelf a b auto_a auto_b (right g s) q at_right
+
+  pub generated-first : IsSome (root_at shelf a s p.0 q.0)
+  generated-first = (auto_a.complete s p.0 q.0).1 (inside, (below_left.first, below_right.first))
+
+  pub generated-second : IsSome (root_at shelf b s p.1 q.1)
+  generated-second = (auto_b.complete s p.1 q.1).1 (inside, (below_left.second, below_right.second))
 
 -- each class has a pair of the list
 pub ones-inside : (pairs : List (ℕ × ℕ)) (first second : List ℕ) (classes : Classes) → AreClasses pairs first second classes →

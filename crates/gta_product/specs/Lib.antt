@@ -5,3 +5,4 @@ pub mod Filling
 pub mod Building
 pub mod Product
 pub mod Settled
+pub mod Growing

@@ -39,7 +39,11 @@ pub(crate) fn classify(
 }
 
 /// Lets the pair stand for the class, if that is new.
-fn note(ones: &mut Items<(u32, u32)>, class: u32, pair: (u32, u32)) -> Result<(), NoMemory>
+pub(crate) fn note(
+    ones: &mut Items<(u32, u32)>,
+    class: u32,
+    pair: (u32, u32),
+) -> Result<(), NoMemory>
     ensures { OnOk result (Notes class pair ones.old ones.new) }
 {
     if class as usize == ones.len() {

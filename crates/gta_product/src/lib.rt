@@ -3,6 +3,7 @@
 
 mod classes;
 mod filling;
+mod growing;
 mod numbering;
 mod pairing;
 mod turning;

@@ -18,6 +18,7 @@ ghost use Rattle.gta_product.specs.Settled.{IsSettled};
 
 use crate::classes::classify;
 use crate::filling::fill;
+use crate::growing::{are_same, counts, grow, growths};
 use crate::numbering::Numbering;
 use bdd_nodes::{RefList, Shelf};
 use bdd_walk::{Joiner, NoMemory, Stop};
@@ -81,7 +82,7 @@ pub(crate) struct Settled {
     pub(crate) roots: RefList,
 }
 
-/// Joins for all pairs in rounds, until no pair comes.
+/// Joins for the pairs as they come, until none comes; and then once more for all pairs, which gives the roots.
 fn settle(alloc: Global, g: &Guide, a: &Auto, b: &Auto, shelf: &mut Shelf) -> Result<Settled, Stop>
     requires first { IsAuto g.now shelf.old a.now }
     requires second { IsAuto g.now shelf.old b.now }
@@ -94,7 +95,18 @@ fn settle(alloc: Global, g: &Guide, a: &Auto, b: &Auto, shelf: &mut Shelf) -> Re
     let _ = shelf.count();
     let mut numbers = start(alloc, g, a, b)?;
     let mut joiners = joiners(alloc, g)?;
-    for _round in 0..u64::MAX {
+    let mut growths = growths(alloc, g)?;
+    loop {
+        grow(
+            alloc,
+            g,
+            a,
+            b,
+            shelf,
+            &mut joiners,
+            &mut numbers,
+            &mut growths,
+        )?;
         let before = counts(alloc, &numbers)?;
         let mut roots = RefList::new(alloc);
         let parts = parts_of(
@@ -116,14 +128,6 @@ fn settle(alloc: Global, g: &Guide, a: &Auto, b: &Auto, shelf: &mut Shelf) -> Re
             });
         }
     }
-    Err(Stop::NoMemory)
-}
-
-/// Whether the counts are the same.
-fn are_same(one: &Items<u64>, other: &Items<u64>) -> bool
-    ensures { IsTrue result → other.now ≡ one.now }
-{
-    one.as_slice() == other.as_slice()
 }
 
 /// The initial pair of each space.
@@ -160,17 +164,6 @@ fn joiners(alloc: Global, g: &Guide) -> Result<Vec<Joiner>, NoMemory>
         joiners.push(Joiner::new(alloc))?;
     }
     Ok(joiners)
-}
-
-/// How many pairs each space has.
-fn counts(alloc: Global, spaces: &Vec<Numbering>) -> Result<Items<u64>, NoMemory>
-    ensures { IfOk result (λ counts. counts ≡ map length spaces.now.items) }
-{
-    let mut counts = Items::new(alloc);
-    for numbers in spaces {
-        counts.push(numbers.len() as u64)?;
-    }
-    Ok(counts)
 }
 
 /// Which pairs of space 0 are accepting: those of two accepting states.

@@ -10,7 +10,7 @@ use Rattle.gta_core.specs.Auto.{automaton_of}
 use Rattle.gta_core.proofs.PlacingLemmas.{unwrap-inside}
 use Rattle.gta_product.specs.Classes.{AreClasses}
 use Rattle.gta_product.specs.Filling.{AreCells}
-use Rattle.gta_product.proofs.BuildingLemmas.{ExtendAll-set, AreSpaces-set, Building-set, ExceedsSteps-set}
+use Rattle.gta_product.proofs.BuildingLemmas.{AreGenerated-list, ExtendAll-set, AreSpaces-set, Building-set, ExceedsSteps-set}
 use Rattle.gta_product.proofs.PartLemmas.{get-at, get-set, at-child, part-at, length-set_at, SetsSpace-at, FitAll-set, ones-inside}
 use Rattle.gta_product.proofs.PartLemmas.{row-inside, column-inside, first-known, second-known, IsBuilt-made}
 use Rattle.gta_product.proofs.pairing.part_of.Goals as goal
@@ -191,8 +191,11 @@ returns-in_err-fill-clause-building c = λ start building.
     let after = c.fill.new.numbers in
     let was = get-at items s before (omega (arith, c.requires.spaces.many, inside)) c.index_mut-2.ensures.value in
     let sets = SetsSpace-at items s before after was in
-    Building-set g AB s inside items (slice_set items s after) lefts rights before after c.requires.spaces sets at_left at_right
-    c.as_slice-5.result.now c.as_slice-6.result.now in_rows in_columns shelf c.fill.new.shelf c.fill.ensures.joins c.fill.ensures.numbers start building
+    Building-set g AB s inside items (slice_set items s after) before after c.requires.spaces sets
+    c.as_slice-5.result.now c.as_slice-6.result.now
+    (AreGenerated-list g AB items c.requires.spaces (left g s) lefts c.as_slice-5.result.now at_left in_rows)
+    (AreGenerated-list g AB items c.requires.spaces (right g s) rights c.as_slice-6.result.now at_right in_columns) shelf c.fill.new.shelf
+    c.fill.ensures.joins c.fill.ensures.numbers start building
 
 pub returns-in_err-count_up-clause-extends : goal.returns-in_err-count_up-clause-extends
 returns-in_err-count_up-clause-extends c =
@@ -235,8 +238,11 @@ returns-in_err-count_up-clause-building c = λ start building.
     let after = c.fill.new.numbers in
     let was = get-at items s before (omega (arith, c.requires.spaces.many, inside)) c.index_mut-2.ensures.value in
     let sets = SetsSpace-at items s before after was in
-    Building-set g AB s inside items (slice_set items s after) lefts rights before after c.requires.spaces sets at_left at_right
-    c.as_slice-5.result.now c.as_slice-6.result.now in_rows in_columns shelf c.fill.new.shelf c.fill.ensures.joins c.fill.ensures.numbers start building
+    Building-set g AB s inside items (slice_set items s after) before after c.requires.spaces sets
+    c.as_slice-5.result.now c.as_slice-6.result.now
+    (AreGenerated-list g AB items c.requires.spaces (left g s) lefts c.as_slice-5.result.now at_left in_rows)
+    (AreGenerated-list g AB items c.requires.spaces (right g s) rights c.as_slice-6.result.now at_right in_columns) shelf c.fill.new.shelf
+    c.fill.ensures.joins c.fill.ensures.numbers start building
 
 pub returns-clause-extends : goal.returns-clause-extends
 returns-clause-extends c =
@@ -279,8 +285,11 @@ returns-clause-building c = λ start building.
     let after = c.fill.new.numbers in
     let was = get-at items s before (omega (arith, c.requires.spaces.many, inside)) c.index_mut-2.ensures.value in
     let sets = SetsSpace-at items s before after was in
-    Building-set g AB s inside items (slice_set items s after) lefts rights before after c.requires.spaces sets at_left at_right
-    c.as_slice-5.result.now c.as_slice-6.result.now in_rows in_columns shelf c.fill.new.shelf c.fill.ensures.joins c.fill.ensures.numbers start building
+    Building-set g AB s inside items (slice_set items s after) before after c.requires.spaces sets
+    c.as_slice-5.result.now c.as_slice-6.result.now
+    (AreGenerated-list g AB items c.requires.spaces (left g s) lefts c.as_slice-5.result.now at_left in_rows)
+    (AreGenerated-list g AB items c.requires.spaces (right g s) rights c.as_slice-6.result.now at_right in_columns) shelf c.fill.new.shelf
+    c.fill.ensures.joins c.fill.ensures.numbers start building
 
 pub returns-in_err-fill-clause-limit : goal.returns-in_err-fill-clause-limit
 returns-in_err-fill-clause-limit c = λ stopped start building given completes.
@@ -314,8 +323,11 @@ returns-in_err-fill-clause-limit c = λ stopped start building given completes.
     let after = c.fill.new.numbers in
     let was = get-at items s before (omega (arith, c.requires.spaces.many, inside)) c.index_mut-2.ensures.value in
     let sets = SetsSpace-at items s before after was in
-    ExceedsSteps-set g AB s inside items (slice_set items s after) lefts rights before after c.requires.spaces sets at_left at_right
-    c.as_slice-5.result.now c.as_slice-6.result.now in_rows in_columns shelf c.fill.new.shelf c.fill.ensures.joins c.fill.ensures.numbers start
+    ExceedsSteps-set g AB s inside items (slice_set items s after) before after c.requires.spaces sets
+    c.as_slice-5.result.now c.as_slice-6.result.now
+    (AreGenerated-list g AB items c.requires.spaces (left g s) lefts c.as_slice-5.result.now at_left in_rows)
+    (AreGenerated-list g AB items c.requires.spaces (right g s) rights c.as_slice-6.result.now at_right in_columns) shelf c.fill.new.shelf
+    c.fill.ensures.joins c.fill.ensures.numbers start
     building given completes
     (c.fill.ensures.limit (let why = rw stopped at c.from_residual-in_err-fill.ensures in c.in_err-fill.was ∙ (let is = why.1 in cc)) (given s)
     (completes s after sets.is))
@@ -438,5 +450,8 @@ returns-clause-spaces c =
     let after = c.fill.new.numbers in
     let was = get-at items s before (omega (arith, c.requires.spaces.many, inside)) c.index_mut-2.ensures.value in
     let sets = SetsSpace-at items s before after was in
-    AreSpaces-set g AB s inside items (slice_set items s after) lefts rights before after c.requires.spaces sets at_left at_right
-    c.as_slice-5.result.now c.as_slice-6.result.now in_rows in_columns shelf c.fill.new.shelf c.fill.ensures.joins c.fill.ensures.numbers
+    AreSpaces-set g AB s inside items (slice_set items s after) before after c.requires.spaces sets
+    c.as_slice-5.result.now c.as_slice-6.result.now
+    (AreGenerated-list g AB items c.requires.spaces (left g s) lefts c.as_slice-5.result.now at_left in_rows)
+    (AreGenerated-list g AB items c.requires.spaces (right g s) rights c.as_slice-6.result.now at_right in_columns) shelf c.fill.new.shelf
+    c.fill.ensures.joins c.fill.ensures.numbers

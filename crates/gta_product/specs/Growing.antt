@@ -1,0 +1,41 @@
+-- How the pairs of the spaces grow while a product is built, and what each space was joined for.
+use Rattle.std.specs.Prelude.{◌≡◌, ℕ, ◌+◌, ◌-◌, ◌^◌, List, [], ◌∷◌, length, Some, Contains, slice_get}
+use Rattle.bdd_nodes.specs.Shelf.{Contents}
+use Rattle.bdd_nodes.specs.Changes.{Keeps, SameTables}
+use Rattle.gta_theory.specs.Guides.{Spaces, left, right}
+use Rattle.gta_theory.specs.Automata.{Automaton}
+use Rattle.gta_theory.specs.Generated.{Generated}
+use Rattle.gta_product.specs.declared.growing.Growth.{Growth}
+use Rattle.gta_product.specs.Building.{CompleteAll, ExceedsSteps, Building, ExtendAll}
+
+module _ (g : Spaces) (AB : Automaton (ℕ × ℕ)) where
+  -- each pair of the list is generated in the space
+  abbrev pub AreGenerated : ℕ → List (ℕ × ℕ) → Type 0
+  AreGenerated s pairs = (pair : ℕ × ℕ) → Contains pairs pair → Generated g AB s pair
+
+  -- the space was joined for generated pairs of its children
+  pub record HasSeen (s : ℕ) (growth : Growth) : Type 0 where
+    pub rows : AreGenerated (left g s) growth.rows.ones
+    pub columns : AreGenerated (right g s) growth.columns.ones
+
+  -- so was each space
+  pub record HaveSeen (growths : List Growth) : Type 0 where
+    pub many : length growths ≡ length g
+    pub each : (s : ℕ) (growth : Growth) → slice_get growths s ≡ Some growth → HasSeen s growth
+
+  -- the product goes on being built
+  pub record Goes (old new : Contents) (before after : List (List (ℕ × ℕ))) : Type 0 where
+    pub extends : ExtendAll before after
+    pub keeps : Keeps old new
+    pub tables : SameTables old new
+    pub building : (start : Contents) → Building g AB start old before → Building g AB start new after
+
+  -- there is less room than the product that was being built has missing functions
+  abbrev pub LacksRoom : Contents → List (List (ℕ × ℕ)) → List (List (ℕ × ℕ)) → Type 0
+  LacksRoom old before after = (start : Contents) → Building g AB start old before → (given : ℕ → List ℕ → ℕ) →
+      CompleteAll g AB after given → ExceedsSteps g AB start given
+
+-- how many pairs the spaces may still get, where each has at most as many as there are state numbers
+abbrev pub room_left : List (List (ℕ × ℕ)) → ℕ
+room_left [] = 0
+room_left (pairs ∷ spaces) = (2 ^ 31 - length pairs) + room_left spaces
