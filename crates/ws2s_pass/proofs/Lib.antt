@@ -1,0 +1,3 @@
+pub mod FlatteningLemmas
+pub mod FoldingLemmas
+pub mod RewritingLemmas

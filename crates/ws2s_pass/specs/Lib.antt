@@ -1,0 +1,3 @@
+pub mod Flattening
+pub mod Folding
+pub mod Rewriting
