@@ -1,3 +1,5 @@
+pub mod ConstantsLemmas
 pub mod FlatteningLemmas
 pub mod FoldingLemmas
 pub mod RewritingLemmas
+pub mod UsingLemmas
