@@ -114,12 +114,16 @@ IsRewriting-fold step local = formula-induction (λ f. IsRewriting f (fold-Formu
   of_Succ0 = λ x y. ends (Succ0 x y) (Succ0 x y) (Formula-F.Succ0 x y) (rolls-Succ0 x y) (fold-Succ0 Formula step x y) (IsRewriting-refl (Succ0 x y));
   of_Succ1 = λ x y. ends (Succ1 x y) (Succ1 x y) (Formula-F.Succ1 x y) (rolls-Succ1 x y) (fold-Succ1 Formula step x y) (IsRewriting-refl (Succ1 x y));
   of_Root = λ x. ends (Root x) (Root x) (Formula-F.Root x) (rolls-Root x) (fold-Root Formula step x) (IsRewriting-refl (Root x));
-  of_And = λ f g of_f of_g. ends (And f g) (And (fold-Formula Formula step f) (fold-Formula Formula step g)) (Formula-F.And (fold-Formula Formula step f) (fold-Formula Formula step g)) (rolls-And (fold-Formula Formula step f) (fold-Formula Formula step g))
-      (fold-And Formula step f g) (IsRewriting-and f g (fold-Formula Formula step f) (fold-Formula Formula step g) of_f of_g);
-  of_Not = λ f of_f. ends (Not f) (Not (fold-Formula Formula step f)) (Formula-F.Not (fold-Formula Formula step f)) (rolls-Not (fold-Formula Formula step f)) (fold-Not Formula step f)
-      (IsRewriting-not f (fold-Formula Formula step f) of_f);
-  of_Ex2 = λ t f of_f. ends (Ex2 t f) (Ex2 t (fold-Formula Formula step f)) (Formula-F.Ex2 t (fold-Formula Formula step f)) (rolls-Ex2 t (fold-Formula Formula step f)) (fold-Ex2 Formula step t f)
-      (IsRewriting-ex2 t f (fold-Formula Formula step f) of_f);
+  of_And = λ f g of_f of_g.
+      let f' = fold-Formula Formula step f in
+      let g' = fold-Formula Formula step g in
+      ends (And f g) (And f' g') (Formula-F.And f' g') (rolls-And f' g') (fold-And Formula step f g) (IsRewriting-and f g f' g' of_f of_g);
+  of_Not = λ f of_f.
+      let f' = fold-Formula Formula step f in
+      ends (Not f) (Not f') (Formula-F.Not f') (rolls-Not f') (fold-Not Formula step f) (IsRewriting-not f f' of_f);
+  of_Ex2 = λ t f of_f.
+      let f' = fold-Formula Formula step f in
+      ends (Ex2 t f) (Ex2 t f') (Formula-F.Ex2 t f') (rolls-Ex2 t f') (fold-Ex2 Formula step t f) (IsRewriting-ex2 t f f' of_f);
 })
   where
     ends : (f g : Formula) (node : Formula-F Formula) → roll-Formula node ≡ g → fold-Formula Formula step f ≡ step node → IsRewriting f g →

@@ -7,12 +7,14 @@
 
 mod flatten;
 mod fold;
+mod laws;
 mod pass;
 mod passes;
 mod unused;
 
 pub use flatten::flatten_not;
 pub use fold::fold_constants;
+pub use laws::{flattened_formulas_negate_no_negation, left_quantifiers_are_used};
 pub use pass::{Pass, PassName, Rewriter};
 pub use passes::{PassList, apply};
 pub use unused::drop_unused;

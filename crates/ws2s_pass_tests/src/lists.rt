@@ -1,5 +1,8 @@
 //! Passes of a list run one after the other, in their order.
 
+ghost use Rattle.std.specs.Prelude.{IfOk};
+ghost use Rattle.ws2s_pass.specs.Rewriting.{IsRewriting};
+
 use crate::formulas::{formula, is};
 use plain_data::Items;
 use std::alloc::{AllocError, Global};
@@ -28,12 +31,16 @@ fn passes_run_one_after_the_other(rt: HostRuntime) -> Result<(), Fail> {
     let mut passes = PassList::new(alloc);
     let flatten: Rewriter = Box::new(
         alloc,
-        |alloc: Global, formula: &Formula| flatten_not(alloc, formula),
+        |alloc: Global, formula: &Formula| -> Result<Formula, AllocError>
+            ensures { IfOk result (λ made. IsRewriting formula.now made) }
+        { flatten_not(alloc, formula) },
     )?;
     passes.add(Pass::new(name(alloc, "flatten_not")?, flatten))?;
     let forget: Rewriter = Box::new(
         alloc,
-        |alloc: Global, formula: &Formula| drop_unused(alloc, formula),
+        |alloc: Global, formula: &Formula| -> Result<Formula, AllocError>
+            ensures { IfOk result (λ made. IsRewriting formula.now made) }
+        { drop_unused(alloc, formula) },
     )?;
     passes.add(Pass::new(name(alloc, "drop_unused")?, forget))?;
     assert!(rt; makes(alloc, &passes, "=0 not not x1", "=0")?);
@@ -47,12 +54,16 @@ fn the_last_pass_runs_last(rt: HostRuntime) -> Result<(), Fail> {
     let mut passes = PassList::new(alloc);
     let forget: Rewriter = Box::new(
         alloc,
-        |alloc: Global, formula: &Formula| drop_unused(alloc, formula),
+        |alloc: Global, formula: &Formula| -> Result<Formula, AllocError>
+            ensures { IfOk result (λ made. IsRewriting formula.now made) }
+        { drop_unused(alloc, formula) },
     )?;
     passes.add(Pass::new(name(alloc, "drop_unused")?, forget))?;
     let fold: Rewriter = Box::new(
         alloc,
-        |alloc: Global, formula: &Formula| fold_constants(alloc, formula),
+        |alloc: Global, formula: &Formula| -> Result<Formula, AllocError>
+            ensures { IfOk result (λ made. IsRewriting formula.now made) }
+        { fold_constants(alloc, formula) },
     )?;
     passes.add(Pass::new(name(alloc, "fold_constants")?, fold))?;
     assert!(rt; makes(alloc, &passes, "=0 1<1 and x1", "=0 x1")?);
