@@ -1,6 +1,5 @@
 -- On negations of negations.
 use Rattle.std.proofs.Common.{◌≡◌, ℕ, ◌≤◌, refl, sym, ap, subst, ◌∙◌, arith, unwrap_or}
-use Rattle.gta_theory.specs.Assignments.{Assignment, IsFinite}
 use Rattle.ws2s_core.specs.declared.formula.Formula.{Formula, roll-Formula, out-Formula, out-roll-Formula}
 use Rattle.ws2s_core.specs.declared.formula.Formula.TheVariants.{Sub, Single, Succ0, Succ1, Root, And, Not, Ex2, rolls-Sub}
 use Rattle.ws2s_core.specs.declared.formula.Formula.TheVariants.{rolls-Single, rolls-Succ0, rolls-Succ1, rolls-Root, rolls-And}
@@ -9,20 +8,10 @@ use Rattle.ws2s_core.specs.declared.formula.Formula.TheOpen.{Formula-F}
 use Rattle.ws2s_core.specs.Satisfaction.{WSat}
 use Rattle.ws2s_core.proofs.FormulaLemmas.{formula-induction}
 use Rattle.ws2s_core.proofs.SatisfactionLemmas.{WSat-Not}
-use Rattle.ws2s_theory.specs.Worked.{plain}
-use Rattle.ws2s_theory.proofs.ContextsLemmas.{WSat-not_not}
-use Rattle.ws2s_theory.proofs.FormsLemmas.{Formed-all}
-use Rattle.ws2s_theory.proofs.WorkedLemmas.{plain-guide}
 use Rattle.ws2s_pass.specs.Rewriting.{IsRewriting}
 use Rattle.ws2s_core.specs.Negated.{negated_of_node}
 use Rattle.ws2s_pass.specs.Flattening.{negation_of, flattened, flattened_node}
-use Rattle.ws2s_pass.proofs.RewritingLemmas.{IsRewriting-refl, IsRewriting-fold, count-Not, free-Not, rolled-out}
-
--- what can't fail is satisfied
-not_not : (f : Formula) (a : Assignment) → IsFinite a → ((WSat f a → ⊥) → ⊥) → WSat f a
-not_not f a finite h =
-    let (M, count, k, of_M) = Formed-all plain plain-guide f in
-    WSat-not_not plain M f a plain-guide of_M.minimal.recognises finite h
+use Rattle.ws2s_pass.proofs.RewritingLemmas.{IsRewriting-refl, IsRewriting-fold, count-Not, free-Not, rolled-out, not_not}
 
 pub IsRewriting-not_not : (f : Formula) → IsRewriting (Not (Not f)) f
 IsRewriting-not_not f = record {

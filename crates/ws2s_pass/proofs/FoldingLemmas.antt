@@ -10,14 +10,12 @@ use Rattle.ws2s_core.proofs.FormulaLemmas.{formula-induction, fold-Sub, fold-Sin
 use Rattle.ws2s_pass.specs.Folding.{stepped, stepped_over}
 
 module _ {Value : Type 0} (step : Formula-F Value → Value) where
-
-
   -- a formula's symbols put its value in the place of its parts
   pub stepped_over-postfix : (f : Formula) (rest : List Symbol) (parts : List Value) →
       stepped_over step (postfix_of f ++ rest) parts ≡ stepped_over step rest (fold-Formula Value step f ∷ parts)
   stepped_over-postfix = formula-induction
       (λ f. (rest : List Symbol) (parts : List Value) →
-          stepped_over step (postfix_of f ++ rest) parts ≡ stepped_over step rest (fold-Formula Value step f ∷ parts))
+      stepped_over step (postfix_of f ++ rest) parts ≡ stepped_over step rest (fold-Formula Value step f ∷ parts))
       (record {
         of_Sub = λ x y rest parts. ap (λ s. stepped_over step (s ++ rest) parts) (fold-Sub (List Symbol) postfix_of_node x y)
             ∙ ap (λ v. stepped_over step rest (v ∷ parts)) (sym (fold-Sub Value step x y));

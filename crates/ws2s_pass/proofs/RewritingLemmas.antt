@@ -1,7 +1,9 @@
 -- On rewritings: they go along with each form, and a fold of them is one.
-use Rattle.std.proofs.Common.{◌≡◌, ℕ, ◌+◌, ◌≤◌, Bool, true, false, cond, eqb, ◌||◌, ◌↔◌, List, [], refl, sym, ap, subst, ◌∙◌, arith, inl, inr, ◌⊎◌}
-use Rattle.std.proofs.lemmas.Bool.{false≢true}
+use Rattle.std.proofs.Common.{◌≡◌, ℕ, ◌+◌, ◌<◌, ◌≤◌, Bool, true, false, cond, eqb, ◌||◌, ◌↔◌, List, [], refl, sym, ap, subst, ◌∙◌, arith, inl, inr, ◌⊎◌}
+use Rattle.std.proofs.lemmas.Bool.{false≢true, cases_lt}
 use Rattle.std.proofs.lemmas.List.Elements.{All-nil}
+use Rattle.std.proofs.Math.Logic.{∥∥₁_elim}
+use Rattle.gta_theory.specs.Assignments.{Assignment, IsFinite}
 use Rattle.ws2s_core.specs.declared.track.Track.{Track}
 use Rattle.ws2s_core.specs.declared.formula.Formula.{Formula, roll-Formula, out-Formula, out-roll-Formula}
 use Rattle.ws2s_core.specs.declared.formula.Formula.TheVariants.{Sub, Single, Succ0, Succ1, Root, And, Not, Ex2, rolls-Sub}
@@ -9,12 +11,15 @@ use Rattle.ws2s_core.specs.declared.formula.Formula.TheVariants.{rolls-Single, r
 use Rattle.ws2s_core.specs.declared.formula.Formula.TheVariants.{rolls-Not, rolls-Ex2}
 use Rattle.ws2s_core.specs.declared.formula.Formula.TheOpen.{Formula-F}
 use Rattle.ws2s_core.specs.declared.formula.Formula.TheFolds.{fold-Formula}
-use Rattle.ws2s_core.specs.Satisfaction.{Same}
+use Rattle.ws2s_core.specs.Satisfaction.{WSat, Same}
 use Rattle.ws2s_core.specs.Sizes.{node_count, count_of_node}
 use Rattle.ws2s_core.specs.Tracks.{is_free, is_free_in_node, IsFree}
 use Rattle.ws2s_core.proofs.FormulaLemmas.{formula-induction, fold-Sub, fold-Single, fold-Succ0, fold-Succ1, fold-Root, fold-And, fold-Not, fold-Ex2}
 use Rattle.ws2s_theory.proofs.ContextsLemmas.{SameUnder-refl, SameUnder-trans, SameUnder-and, SameUnder-not, SameUnder-ex2}
-use Rattle.ws2s_theory.proofs.ContextsLemmas.{SameUnder-Same, Same-SameUnder}
+use Rattle.ws2s_theory.specs.Worked.{plain}
+use Rattle.ws2s_theory.proofs.ContextsLemmas.{SameUnder-Same, Same-SameUnder, WSat-not_not}
+use Rattle.ws2s_theory.proofs.FormsLemmas.{Formed-all}
+use Rattle.ws2s_theory.proofs.WorkedLemmas.{plain-guide}
 use Rattle.ws2s_pass.specs.Rewriting.{IsRewriting}
 
 -- a formula is made of its form
@@ -109,15 +114,48 @@ IsRewriting-fold step local = formula-induction (λ f. IsRewriting f (fold-Formu
   of_Succ0 = λ x y. ends (Succ0 x y) (Succ0 x y) (Formula-F.Succ0 x y) (rolls-Succ0 x y) (fold-Succ0 Formula step x y) (IsRewriting-refl (Succ0 x y));
   of_Succ1 = λ x y. ends (Succ1 x y) (Succ1 x y) (Formula-F.Succ1 x y) (rolls-Succ1 x y) (fold-Succ1 Formula step x y) (IsRewriting-refl (Succ1 x y));
   of_Root = λ x. ends (Root x) (Root x) (Formula-F.Root x) (rolls-Root x) (fold-Root Formula step x) (IsRewriting-refl (Root x));
-  of_And = λ f g of_f of_g. ends (And f g) (And (fold-Formula Formula step f) (fold-Formula Formula step g)) (Formula-F.And (fold-Formula Formula step f) (fold-Formula Formula step g)) (rolls-And (fold-Formula Formula step f) (fold-Formula Formula step g))
-      (fold-And Formula step f g) (IsRewriting-and f g (fold-Formula Formula step f) (fold-Formula Formula step g) of_f of_g);
-  of_Not = λ f of_f. ends (Not f) (Not (fold-Formula Formula step f)) (Formula-F.Not (fold-Formula Formula step f)) (rolls-Not (fold-Formula Formula step f)) (fold-Not Formula step f)
-      (IsRewriting-not f (fold-Formula Formula step f) of_f);
-  of_Ex2 = λ t f of_f. ends (Ex2 t f) (Ex2 t (fold-Formula Formula step f)) (Formula-F.Ex2 t (fold-Formula Formula step f)) (rolls-Ex2 t (fold-Formula Formula step f)) (fold-Ex2 Formula step t f)
-      (IsRewriting-ex2 t f (fold-Formula Formula step f) of_f);
+  of_And = λ f g of_f of_g.
+      let f' = fold-Formula Formula step f in
+      let g' = fold-Formula Formula step g in
+      ends (And f g) (And f' g') (Formula-F.And f' g') (rolls-And f' g') (fold-And Formula step f g) (IsRewriting-and f g f' g' of_f of_g);
+  of_Not = λ f of_f.
+      let f' = fold-Formula Formula step f in
+      ends (Not f) (Not f') (Formula-F.Not f') (rolls-Not f') (fold-Not Formula step f) (IsRewriting-not f f' of_f);
+  of_Ex2 = λ t f of_f.
+      let f' = fold-Formula Formula step f in
+      ends (Ex2 t f) (Ex2 t f') (Formula-F.Ex2 t f') (rolls-Ex2 t f') (fold-Ex2 Formula step t f) (IsRewriting-ex2 t f f' of_f);
 })
   where
     ends : (f g : Formula) (node : Formula-F Formula) → roll-Formula node ≡ g → fold-Formula Formula step f ≡ step node → IsRewriting f g →
         IsRewriting f (fold-Formula Formula step f)
     ends f g node is_g is_step rewritten = subst (IsRewriting f) (sym is_step)
         (IsRewriting-trans f g (step node) rewritten (subst (λ h. IsRewriting h (step node)) is_g (local node)))
+
+-- what can't fail is satisfied
+pub not_not : (f : Formula) (a : Assignment) → IsFinite a → ((WSat f a → ⊥) → ⊥) → WSat f a
+not_not f a finite h =
+    let (M, count, k, of_M) = Formed-all plain plain-guide f in
+    WSat-not_not plain M f a plain-guide of_M.minimal.recognises finite h
+
+-- a rewriting that merely is one is one: satisfaction by finite sets is decided
+pub IsRewriting-mere : (f g : Formula) → ∥ IsRewriting f g ∥₁ → IsRewriting f g
+IsRewriting-mere f g mere = record {
+  same = record {
+    satisfied = λ a finite. (
+      (λ h. not_not g a finite (λ no. ∥∥₁_elim mere (λ x y. absurd x) (λ is. no ((is.same.satisfied a finite).0 h)))),
+      (λ h. not_not f a finite (λ no. ∥∥₁_elim mere (λ x y. absurd x) (λ is. no ((is.same.satisfied a finite).1 h)))),
+    );
+  };
+  free = λ t free. is_true (is_free t f) (λ e. ∥∥₁_elim mere (λ x y. absurd x) (λ is. false≢true (sym e ∙ is.free t free)));
+  size = elim (cases_lt (node_count f) (node_count g)) as (λ _. node_count g ≤ node_count f) [
+    | inl more ↦ absurd (∥∥₁_elim mere (λ x y. absurd x) (λ is. too_many (node_count f) (node_count g) more is.size))
+    | inr within ↦ within
+  ];
+}
+  where
+    is_true : (b : Bool) → (b ≡ false → ⊥) → b ≡ true
+    is_true true h = refl
+    is_true false h = absurd (h refl)
+
+    too_many : (m n : ℕ) → m < n → n ≤ m → ⊥
+    too_many m n more size = omega arith

@@ -28,11 +28,7 @@ pub fn flatten_not(alloc: Global, formula: &Formula) -> Result<Formula, AllocErr
 }
 
 /// Puts what a symbol makes of the last parts in their place.
-fn flatten_symbol(
-    alloc: Global,
-    parts: &mut Vec<Formula>,
-    symbol: Symbol,
-) -> Result<(), AllocError>
+fn flatten_symbol(alloc: Global, parts: &mut Vec<Formula>, symbol: Symbol) -> Result<(), AllocError>
     requires { IsSome (stepped flattened_node symbol (reverse parts.old.items)) }
     ensures { OnOk result (stepped flattened_node symbol (reverse parts.old.items) ≡ Some (reverse parts.new.items)) }
 {
