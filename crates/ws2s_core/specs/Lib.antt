@@ -1,6 +1,7 @@
 pub mod Dropping
 pub mod Examples
 pub mod LabelTrees
+pub mod Negated
 pub mod Nodes
 pub mod Parts
 pub mod Postfix

@@ -19,7 +19,7 @@ impl Formula {
         let symbols = symbols_of(alloc, self)?;
         let mut parts = Vec::new(alloc);
         for symbol in symbols.as_slice() {
-            apply(alloc, &mut parts, *symbol)?;
+            apply_symbol(alloc, &mut parts, *symbol)?;
         }
         let copy = parts.pop().unwrap();
         Ok(copy)
@@ -27,7 +27,15 @@ impl Formula {
 }
 
 /// Puts the formula that a symbol makes of the last parts in their place.
-fn apply(alloc: Global, parts: &mut Vec<Formula>, symbol: Symbol) -> Result<(), AllocError>
+///
+/// # Errors
+///
+/// Want of memory; the parts that were taken are then dropped.
+pub fn apply_symbol(
+    alloc: Global,
+    parts: &mut Vec<Formula>,
+    symbol: Symbol,
+) -> Result<(), AllocError>
     requires { IsSome (applied symbol (reverse parts.old.items)) }
     ensures { OnOk result (applied symbol (reverse parts.old.items) ≡ Some (reverse parts.new.items)) }
 {

@@ -1,7 +1,8 @@
 //! Core formulas of WS2S, and how they are made and dropped.
 
-ghost use Rattle.std.specs.Prelude.{◌≡◌, ◌+◌, ◌*◌, ◌<◌, IfOk};
+ghost use Rattle.std.specs.Prelude.{◌≡◌, ◌+◌, ◌*◌, ◌<◌, Some, None, IfOk, IfErr};
 ghost use Rattle.ws2s_core.specs.Dropping.{turning_weight, dropping_rank};
+ghost use Rattle.ws2s_core.specs.Negated.{negated};
 
 use crate::track::Track;
 use plain_data::Boxed;
@@ -61,6 +62,17 @@ impl Formula {
         ensures { IfOk result (λ formula. formula ≡ Formula.Ex2 track inner) }
     {
         Ok(Formula::Ex2(track, Boxed::new(alloc, inner)?))
+    }
+
+    /// What the formula negates. A formula that isn't a negation is handed back as the error. Takes no memory.
+    pub fn into_negated(self) -> Result<Formula, Formula>
+        ensures value { IfOk result (λ inner. negated self ≡ Some inner) }
+        ensures err { IfErr result (λ whole. (whole ≡ self) × (negated self ≡ None)) }
+    {
+        match self {
+            Formula::Not(inner) => Ok(inner.into_inner()),
+            other => Err(other),
+        }
     }
 
     /// What is left to drop of the conjunction of this formula, which was moved out of the box `left`, and `right`. The

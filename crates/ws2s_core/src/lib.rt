@@ -25,6 +25,7 @@ mod postfix;
 mod size;
 mod track;
 
+pub use copy::apply_symbol;
 pub use formula::Formula;
 pub use guide::{Guide, SpaceList};
 pub use interner::{Interner, intern, intern_form};
@@ -33,4 +34,5 @@ pub use laws::{examples, recognising, satisfaction, trees};
 pub use node::{FormulaId, Node};
 pub use parts::FormulaIdList;
 pub use plain_data::Boxed;
+pub use postfix::{Symbol, symbols_of};
 pub use track::{Track, TrackList};

@@ -22,6 +22,10 @@ pub enum Symbol {
 }
 
 /// The symbols of a formula, each after those of its parts.
+///
+/// # Errors
+///
+/// Want of memory.
 pub fn symbols_of(alloc: Global, formula: &Formula) -> Result<Vec<Symbol>, AllocError>
     ensures { IfOk result (λ symbols. symbols.items ≡ postfix_of formula.now) }
 {

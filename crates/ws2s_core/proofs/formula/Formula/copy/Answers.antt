@@ -9,5 +9,5 @@ loop-symbol-init c =
     ∙ ap (λ parts. run_on (postfix_of c.args.self.now) (reverse parts)) c.new-parts.ensures.items
     ∙ run_on-whole c.args.self.now
 
-pub apply-requires : goal.apply-requires
-apply-requires c = applied-next _ c.loop-symbol.symbol-index _ _ _ c.loop-symbol-test.true c.loop-symbol.invariant
+pub apply_symbol-requires : goal.apply_symbol-requires
+apply_symbol-requires c = applied-next _ c.loop-symbol.symbol-index _ _ _ c.loop-symbol-test.true c.loop-symbol.invariant

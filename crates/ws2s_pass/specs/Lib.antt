@@ -1,0 +1,5 @@
+pub mod Constants
+pub mod Flattening
+pub mod Folding
+pub mod Rewriting
+pub mod Using
