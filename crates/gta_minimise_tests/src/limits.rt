@@ -2,10 +2,10 @@
 
 ghost use Rattle.std.specs.Prelude.{◌≤◌};
 
-use crate::conjunctions::{Literal, Over, conjunction, guide};
 use bdd_nodes::Shelf;
 use bdd_walk::Stop;
 use gta_minimise::minimise;
+use gta_samples::{Literal, Over, conjunction, guide};
 use std::alloc::Global;
 use std::test::Fail;
 
@@ -16,8 +16,13 @@ fn stop(alloc: Global, limit: u32) -> Result<(u32, u32, Option<Stop>), Fail>
 {
     let g = guide(alloc, Over::Plain)?;
     let mut shelf = Shelf::open(alloc, limit)?;
-    let literals = [Literal::Root(1), Literal::Sub(1, 0)];
-    let a = conjunction(alloc, &g, literals, &mut shelf)?;
+    let a = conjunction(
+        alloc,
+        &g,
+        Literal::Root(1),
+        &[Literal::Sub(1, 0)],
+        &mut shelf,
+    )?;
     let before = shelf.count();
     let stop = match minimise(alloc, &g, &a, &mut shelf) {
         Ok(_) => None,
