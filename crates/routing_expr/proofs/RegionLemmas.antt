@@ -1,25 +1,26 @@
 -- The cells that are kept of a store are the store on the set.
-use Rattle.std.proofs.Common.{◌≡◌, ◌⊎◌, ◌↔◌, ℕ, zero, suc, ◌+◌, ◌<◌, ◌≤◌, Bool, true, false, cond, T, ◌==◌, ◌||◌, map, List, [], ◌∷◌, length}
+use Rattle.std.proofs.Common.{◌≡◌, ◌⊎◌, ◌↔◌, ℕ, zero, suc, ◌+◌, ◌++◌, ◌<◌, ◌≤◌, Bool, true, false, cond, T, ◌==◌, ◌||◌, ◌&&◌, map, take, List, [], ◌∷◌, length}
 use Rattle.std.proofs.Common.{slice_get, Option, Some, None, refl, sym, ap, ◌∙◌, subst, arith, inl, inr}
 use Rattle.std.specs.Prelude.{Contains}
 use Rattle.std.specs.List.{AllByRecursion, filter}
-use Rattle.std.specs.Ordering.{nat_cmp, eq_by_cmp}
+use Rattle.std.specs.Ordering.{nat_cmp, eq_by_cmp, is_lt}
 use Rattle.std.specs.BTreeSet.{BTreeSet, contains}
 use Rattle.std.specs.FinMap.Entries.{below_all}
-use Rattle.std.specs.FinMap.{entries, entries_sorted, from_sorted, retain_keys, find, is_sorted, get-from_sorted, get-retain_keys, get-entries}
+use Rattle.std.specs.FinMap.{entries, entries_sorted, from_sorted, retain_keys, find, get, is_sorted, get-from_sorted, get-retain_keys, get-entries}
 use Rattle.std.specs.FinMap.{same_map, nat_cmp-IsAntisymmetric}
 use Rattle.std.proofs.lemmas.Bool.{cases_lt, cases_eq, or_cases, eq-eqb, eqb-true, false≢true}
 use Rattle.std.proofs.lemmas.Cmp.{nat_cmp_total}
+use Rattle.std.proofs.lemmas.List.{take_more, map_push}
 use Rattle.std.proofs.lemmas.Option.{same_Some, slice_get_within, slice_get-get_or, get_or_from_slice_get}
 use Rattle.store_core.specs.declared.ids.CellId.{CellId}
 use Rattle.store_core.specs.declared.store.CellBody.{CellBody}
 use Rattle.store_core.specs.Stores.{StoreMap, CellEntry, IsAbove}
-use Rattle.store_core.specs.StoreBodies.{cell_entry, cells_of, AreInOrder, IsKept}
+use Rattle.store_core.specs.StoreBodies.{cell_entry, cells_of, AreInOrder, AreLive, IsKept}
 use Rattle.store_core.proofs.AboveLemmas.{tied, ties, differs}
-use Rattle.store_core.proofs.Cells.{sorted_cells}
 use Rattle.routing_expr.specs.Regions.{has_number}
 use Rattle.routing_expr.specs.Sets.{Has}
 use Rattle.routing_expr.proofs.KeyLemmas.{both_first, both_second, is_less}
+use Rattle.store_core.proofs.Cells.{and_T}
 
 -- ---- the numbers of a set
 
@@ -103,22 +104,32 @@ has-test test cells members q =
 
 -- ---- the kept cells
 
-all_filter : (P : CellBody → Type 0) (p : CellBody → Bool) (bodies : List CellBody) → AllByRecursion P bodies → AllByRecursion P (filter p bodies)
-all_filter P p [] all = tt
-all_filter P p (b ∷ bodies) all = by (p b) all.0 (all_filter P p bodies all.1)
+-- entries of which those that pass are kept
+all_kept : (P : ℕ × CellEntry → Type 0) (p : ℕ × CellEntry → Bool) (es : List (ℕ × CellEntry)) → AllByRecursion P es → AllByRecursion P (filter p es)
+all_kept P p [] all = tt
+all_kept P p (e ∷ es) all = by (p e) all.0 (all_kept P p es all.1)
   where
-    by : (t : Bool) → P b → AllByRecursion P (filter p bodies) → AllByRecursion P (cond t (b ∷ filter p bodies) (filter p bodies))
+    by : (t : Bool) → P e → AllByRecursion P (filter p es) → AllByRecursion P (cond t (e ∷ filter p es) (filter p es))
     by true here rest = (here, rest)
     by false here rest = rest
 
-order_filter : (p : CellBody → Bool) (bodies : List CellBody) → AreInOrder bodies → AreInOrder (filter p bodies)
-order_filter p [] order = tt
-order_filter p (b ∷ bodies) order = by (p b) (all_filter (λ d. b.number < d.number) p bodies order.0) (order_filter p bodies order.1)
+below_kept : (n : ℕ) (p : ℕ × CellEntry → Bool) (es : List (ℕ × CellEntry)) → T (below_all nat_cmp n es) → T (below_all nat_cmp n (filter p es))
+below_kept n p [] below = tt
+below_kept n p (e ∷ es) below = by (p e) (both_first _ _ below) (below_kept n p es (both_second _ _ below))
   where
-    by : (t : Bool) → AllByRecursion (λ d. b.number < d.number) (filter p bodies) → AreInOrder (filter p bodies) →
-        AreInOrder (cond t (b ∷ filter p bodies) (filter p bodies))
-    by true above rest = (above, rest)
-    by false above rest = rest
+    by : (t : Bool) → T (is_lt (nat_cmp n e.0)) → T (below_all nat_cmp n (filter p es)) → T (below_all nat_cmp n (cond t (e ∷ filter p es) (filter p es)))
+    by true less rest = and_T _ _ less rest
+    by false less rest = rest
+
+-- they stay in order
+sorted_kept : (p : ℕ × CellEntry → Bool) (es : List (ℕ × CellEntry)) → T (is_sorted nat_cmp es) → T (is_sorted nat_cmp (filter p es))
+sorted_kept p [] sorted = tt
+sorted_kept p (e ∷ es) sorted = by (p e) (below_kept e.0 p es (both_first _ _ sorted)) (sorted_kept p es (both_second _ _ sorted))
+  where
+    by : (t : Bool) → T (below_all nat_cmp e.0 (filter p es)) → T (is_sorted nat_cmp (filter p es)) →
+        T (is_sorted nat_cmp (cond t (e ∷ filter p es) (filter p es)))
+    by true below rest = and_T _ _ below rest
+    by false below rest = rest
 
 -- entries in order are those of cells in order
 order_sorted : (bodies : List CellBody) → T (is_sorted nat_cmp (cells_of bodies)) → AreInOrder bodies
@@ -134,55 +145,101 @@ nothing true o = refl
 nothing false o = refl
 
 -- one cell more, which is kept or isn't
-find_step : (test : ℕ → Bool) (b : CellBody) (bodies : List CellBody) (q : ℕ) →
-    find nat_cmp q (cells_of (filter (λ d. test d.number) bodies)) ≡ cond (test q) (find nat_cmp q (cells_of bodies)) None → (t e : Bool) →
-    test b.number ≡ t → eq_by_cmp nat_cmp q b.number ≡ e →
-    find nat_cmp q (cells_of (cond t (b ∷ filter (λ d. test d.number) bodies) (filter (λ d. test d.number) bodies)))
-    ≡ cond (test q) (cond e (Some (cell_entry b).1) (find nat_cmp q (cells_of bodies))) None
-find_step test b bodies q rest true true is same =
-    ap (λ x. cond x (Some (cell_entry b).1) (find nat_cmp q (cells_of (filter (λ d. test d.number) bodies)))) same
-    ∙ sym (ap (λ x. cond x (Some (cell_entry b).1) None) (ap test (tied q b.number same) ∙ is))
-find_step test b bodies q rest true false is apart =
-    ap (λ x. cond x (Some (cell_entry b).1) (find nat_cmp q (cells_of (filter (λ d. test d.number) bodies)))) apart ∙ rest
-find_step test b bodies q rest false true is same =
-    rest ∙ ap (λ x. cond x (find nat_cmp q (cells_of bodies)) None) (ap test (tied q b.number same) ∙ is)
-    ∙ sym (ap (λ x. cond x (Some (cell_entry b).1) None) (ap test (tied q b.number same) ∙ is))
-find_step test b bodies q rest false false is apart = rest
+find_step : (test : ℕ → Bool) (e : ℕ × CellEntry) (es : List (ℕ × CellEntry)) (q : ℕ) →
+    find nat_cmp q (filter (λ d. test d.0) es) ≡ cond (test q) (find nat_cmp q es) None → (t here : Bool) →
+    test e.0 ≡ t → eq_by_cmp nat_cmp q e.0 ≡ here →
+    find nat_cmp q (cond t (e ∷ filter (λ d. test d.0) es) (filter (λ d. test d.0) es))
+    ≡ cond (test q) (cond here (Some e.1) (find nat_cmp q es)) None
+find_step test e es q rest true true is same =
+    ap (λ x. cond x (Some e.1) (find nat_cmp q (filter (λ d. test d.0) es))) same
+    ∙ sym (ap (λ x. cond x (Some e.1) None) (ap test (tied q e.0 same) ∙ is))
+find_step test e es q rest true false is apart =
+    ap (λ x. cond x (Some e.1) (find nat_cmp q (filter (λ d. test d.0) es))) apart ∙ rest
+find_step test e es q rest false true is same =
+    rest ∙ ap (λ x. cond x (find nat_cmp q es) None) (ap test (tied q e.0 same) ∙ is)
+    ∙ sym (ap (λ x. cond x (Some e.1) None) (ap test (tied q e.0 same) ∙ is))
+find_step test e es q rest false false is apart = rest
 
 -- a number is found among the kept cells where it passes
-find_filter : (test : ℕ → Bool) (bodies : List CellBody) (q : ℕ) →
-    find nat_cmp q (cells_of (filter (λ b. test b.number) bodies)) ≡ cond (test q) (find nat_cmp q (cells_of bodies)) None
+find_filter : (test : ℕ → Bool) (es : List (ℕ × CellEntry)) (q : ℕ) →
+    find nat_cmp q (filter (λ e. test e.0) es) ≡ cond (test q) (find nat_cmp q es) None
 find_filter test [] q = nothing (test q) None
-find_filter test (b ∷ bodies) q =
-    find_step test b bodies q (find_filter test bodies q) (test b.number) (eq_by_cmp nat_cmp q b.number) refl refl
+find_filter test (e ∷ es) q = find_step test e es q (find_filter test es q) (test e.0) (eq_by_cmp nat_cmp q e.0) refl refl
 
-module _ (bodies : List CellBody) (s : StoreMap) (is : cells_of bodies ≡ entries s.cells) where
-  in_order : AreInOrder bodies
-  in_order = order_sorted bodies (subst (λ es. T (is_sorted nat_cmp es)) (sym is) (entries_sorted s.cells))
+-- cells that show the kept entries of a store
+module _ (kept : List CellBody) (s : StoreMap) (test : ℕ → Bool) (is : cells_of kept ≡ filter (λ e. test e.0) (entries s.cells)) where
+  kept_sorted : T (is_sorted nat_cmp (filter (λ e. test e.0) (entries s.cells)))
+  kept_sorted = sorted_kept (λ e. test e.0) (entries s.cells) (entries_sorted s.cells)
 
-  below_next : IsAbove s → AllByRecursion (λ b. b.number < s.next) bodies
-  below_next above = numbers bodies (subst (λ es. AllByRecursion (λ n. n < s.next) (map (λ (e : ℕ × CellEntry). e.0) es)) (sym is) above)
+  -- they are in order and below the next number
+  pub IsKept-on : IsAbove s → IsKept kept s.next
+  IsKept-on above = record {
+    rising = order_sorted kept (subst (λ es. T (is_sorted nat_cmp es)) (sym is) kept_sorted);
+    below = numbers kept (subst (AllByRecursion (λ (e : ℕ × CellEntry). e.0 < s.next)) (sym is)
+        (all_kept (λ e. e.0 < s.next) (λ e. test e.0) (entries s.cells) (entries_below (entries s.cells) above)));
+  }
     where
-      numbers : (bodies : List CellBody) → AllByRecursion (λ n. n < s.next) (map (λ (e : ℕ × CellEntry). e.0) (cells_of bodies))
-          → AllByRecursion (λ b. b.number < s.next) bodies
+      entries_below : (es : List (ℕ × CellEntry)) → AllByRecursion (λ n. n < s.next) (map (λ (e : ℕ × CellEntry). e.0) es) →
+          AllByRecursion (λ (e : ℕ × CellEntry). e.0 < s.next) es
+      entries_below [] all = tt
+      entries_below (e ∷ es) all = (all.0, entries_below es all.1)
+
+      numbers : (bodies : List CellBody) → AllByRecursion (λ (e : ℕ × CellEntry). e.0 < s.next) (cells_of bodies) →
+          AllByRecursion (λ b. b.number < s.next) bodies
       numbers [] all = tt
       numbers (b ∷ bodies) all = (all.0, numbers bodies all.1)
 
-  -- the kept cells are in order and below the next number
-  pub IsKept-on : (p : CellBody → Bool) → IsAbove s → IsKept (filter p bodies) s.next
-  IsKept-on p above = record {
-    rising = order_filter p bodies in_order;
-    below = all_filter (λ b. b.number < s.next) p bodies (below_next above);
-  }
-
   -- and they are those of the store on the set
-  pub cells_on : (test : ℕ → Bool) (cells : List CellId) → ((c : CellId) → (test c.0 ≡ true) ↔ Contains cells c) →
-      from_sorted {R = nat_cmp} (cells_of (filter (λ b. test b.number) bodies)) ≡ retain_keys s.cells (has_number cells)
-  cells_on test cells members =
-      let kept = filter (λ (b : CellBody). test b.number) bodies in
+  pub cells_on : (cells : List CellId) → ((c : CellId) → (test c.0 ≡ true) ↔ Contains cells c) →
+      from_sorted {R = nat_cmp} (cells_of kept) ≡ retain_keys s.cells (has_number cells)
+  cells_on cells members =
       same_map nat_cmp_total nat_cmp-IsAntisymmetric _ _ (λ q.
-      get-from_sorted nat_cmp (cells_of kept) q (sorted_cells kept (order_filter (λ b. test b.number) bodies in_order))
-      ∙ find_filter test bodies q
-      ∙ (λ i. cond (has-test test cells members q i) (find nat_cmp q (is i)) None)
+      ap (λ es. get (from_sorted {R = nat_cmp} es) q) is
+      ∙ get-from_sorted nat_cmp (filter (λ e. test e.0) (entries s.cells)) q kept_sorted
+      ∙ find_filter test (entries s.cells) q
+      ∙ ap (λ t. cond t (find nat_cmp q (entries s.cells)) None) (has-test test cells members q)
       ∙ ap (λ o. cond (has_number cells q) o None) (sym (get-entries s.cells q))
       ∙ sym (get-retain_keys s.cells (has_number cells) q (λ x e. ap (has_number cells) (sym (nat_cmp-IsAntisymmetric q x e)))))
+
+-- ---- a place more
+
+-- the first entries that are kept, and one entry more
+pub kept_more : (p : ℕ × CellEntry → Bool) (es : List (ℕ × CellEntry)) (i : ℕ) (e : ℕ × CellEntry) → slice_get es i ≡ Some e →
+    filter p (take (i + 1) es) ≡ cond (p e) (filter p (take i es) ++ e ∷ []) (filter p (take i es))
+kept_more p es i e at = ap (filter p) more ∙ filter_push p (take i es) e
+  where
+    more : take (i + 1) es ≡ take i es ++ e ∷ []
+    more = take_more es i e (slice_get_within es i e at) ∙ ap (λ x. take i es ++ x ∷ []) (get_or_from_slice_get es i e e at)
+
+    filter_push : (p : ℕ × CellEntry → Bool) (xs : List (ℕ × CellEntry)) (x : ℕ × CellEntry) →
+        filter p (xs ++ x ∷ []) ≡ cond (p x) (filter p xs ++ x ∷ []) (filter p xs)
+    filter_push p [] x = refl
+    filter_push p (y ∷ xs) x = by (p y) (p x) (filter_push p xs x)
+      where
+        by : (t u : Bool) → filter p (xs ++ x ∷ []) ≡ cond u (filter p xs ++ x ∷ []) (filter p xs) →
+            cond t (y ∷ filter p (xs ++ x ∷ [])) (filter p (xs ++ x ∷ []))
+            ≡ cond u (cond t (y ∷ filter p xs) (filter p xs) ++ x ∷ []) (cond t (y ∷ filter p xs) (filter p xs))
+        by true true rest = ap (λ l. y ∷ l) rest
+        by true false rest = ap (λ l. y ∷ l) rest
+        by false u rest = rest
+
+-- cells that show so many kept entries, and one cell more
+pub cells_more : (test : ℕ → Bool) (kept : List CellBody) (es : List (ℕ × CellEntry)) (i : ℕ) (b : CellBody) →
+    slice_get es i ≡ Some (cell_entry b) → cells_of kept ≡ filter (λ e. test e.0) (take i es) → test b.number ≡ true
+    → cells_of (kept ++ b ∷ []) ≡ filter (λ e. test e.0) (take (i + 1) es)
+cells_more test kept es i b at shown passes =
+    map_push cell_entry kept b ∙ ap (λ l. l ++ cell_entry b ∷ []) shown
+    ∙ sym (kept_more (λ e. test e.0) es i (cell_entry b) at
+    ∙ ap (λ t. cond t (filter (λ e. test e.0) (take i es) ++ cell_entry b ∷ []) (filter (λ e. test e.0) (take i es))) passes)
+
+-- and one that isn't kept
+pub cells_same : (test : ℕ → Bool) (kept : List CellBody) (es : List (ℕ × CellEntry)) (i : ℕ) (b : CellBody) →
+    slice_get es i ≡ Some (cell_entry b) → cells_of kept ≡ filter (λ e. test e.0) (take i es) → test b.number ≡ false
+    → cells_of kept ≡ filter (λ e. test e.0) (take (i + 1) es)
+cells_same test kept es i b at shown fails =
+    shown ∙ sym (kept_more (λ e. test e.0) es i (cell_entry b) at
+    ∙ ap (λ t. cond t (filter (λ e. test e.0) (take i es) ++ cell_entry b ∷ []) (filter (λ e. test e.0) (take i es))) fails)
+
+pub live_more : (kept : List CellBody) (b : CellBody) → AreLive kept → b.is_live ≡ true → AreLive (kept ++ b ∷ [])
+live_more [] b all live = (live, tt)
+live_more (d ∷ kept) b all live = (all.0, live_more kept b all.1 live)

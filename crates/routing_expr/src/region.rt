@@ -4,6 +4,8 @@ ghost use Rattle.std.specs.Prelude.{◌≡◌, ◌↔◌, IfOk, Contains};
 ghost use Rattle.std.specs.List.{filter};
 ghost use Rattle.std.specs.Ordering.{nat_cmp};
 ghost use Rattle.std.specs.BTreeSet.{contains};
+ghost use Rattle.std.specs.FinMap.{entries};
+ghost use Rattle.store_core.specs.StoreBodies.{cells_of, AreLive};
 ghost use Rattle.store_core.specs.declared.ids.CellId.{CellId};
 ghost use Rattle.routing_expr.specs.Walks.{Walk};
 ghost use Rattle.routing_expr.specs.Searches.{Lists, fields_in};
@@ -27,16 +29,20 @@ fn numbers_of(alloc: Global, cells: &[CellId]) -> Result<BTreeSet<u32>, AllocErr
     Ok(numbers)
 }
 
-/// Copies of the cells of which the numbers are among these.
+/// Copies of the live cells of which the numbers are among these.
 fn bodies_on(
     alloc: Global,
-    bodies: &[CellBody],
+    store: &Store,
     numbers: &BTreeSet<u32>,
 ) -> Result<Vec<CellBody>, AllocError>
-    ensures { IfOk result (λ kept. kept.items ≡ filter (λ b. contains nat_cmp numbers.now b.number) bodies.now) }
+    ensures kept { IfOk result (λ kept. cells_of kept.items ≡ filter (λ e. contains nat_cmp numbers.now e.0) (entries store.now.cells)) }
+    ensures live { IfOk result (λ kept. AreLive kept.items) }
 {
     let mut kept = Vec::new(alloc);
-    for body in bodies {
+    for place in 0..store.cells() {
+        let Some(body) = store.body_at(place) else {
+            unreachable!()
+        };
         if numbers.contains(&body.number) {
             kept.push(body.copy(alloc)?)?;
         }
@@ -50,7 +56,7 @@ pub fn store_on(alloc: Global, store: &Store, cells: &CellList) -> Result<Store,
     ensures { IfOk result (λ on. on ≡ regions.store_on store.now cells.now) }
 {
     let numbers = numbers_of(alloc, cells.as_slice())?;
-    let kept = bodies_on(alloc, store.bodies(), &numbers)?;
+    let kept = bodies_on(alloc, store, &numbers)?;
     let vars = copy_values(alloc, store.values())?;
     Ok(Store::of(kept, vars, store.next()))
 }

@@ -1,6 +1,6 @@
 -- The kept cells against the finite map that they stand for.
 use Rattle.std.proofs.Common.{◌≡◌, ◌≢◌, ℕ, zero, suc, ◌<◌, ◌≤◌, Bool, true, false, cond, T, List, [], ◌∷◌, length, map, Option, Some, None, Result}
-use Rattle.std.proofs.Common.{Ok, Err, IfSome, IfNone, refl, sym, ap, ◌∙◌, subst, arith, slice_get, get_or, ◌&&◌, inl, inr, Bor}
+use Rattle.std.proofs.Common.{Ok, Err, IfSome, IfNone, refl, sym, ap, ◌∙◌, subst, arith, slice_get, get_or, ◌&&◌, inl, inr, Bor, IsSomeAnd}
 use Rattle.std.specs.Option.{option_map, option_copied}
 use Rattle.std.specs.Result.{result_ok}
 use Rattle.std.specs.List.{AllByRecursion}
@@ -19,7 +19,7 @@ use Rattle.store_core.specs.declared.ids.CellId.{CellId}
 use Rattle.store_core.specs.declared.store.CellBody.{CellBody}
 use Rattle.store_core.specs.declared.value.Value.{Value}
 use Rattle.store_core.specs.Stores.{StoreMap, CellEntry, cell_of, IsAbove}
-use Rattle.store_core.specs.StoreBodies.{cell_entry, cells_of, AreInOrder, store_of, IsKept}
+use Rattle.store_core.specs.StoreBodies.{cell_entry, cells_of, AreInOrder, LacksNumber, store_of, IsKept}
 use Rattle.store_core.proofs.Bodies.{AllByRecursion-at}
 use Rattle.store_core.proofs.Adding.{at_known}
 
@@ -41,88 +41,50 @@ order_at (b ∷ bodies) order zero (suc j) d lt within = AllByRecursion-at (λ e
     (get_or bodies j d) order.0 (slice_get-get_or bodies j d (omega arith))
 order_at (b ∷ bodies) order (suc i) (suc j) d lt within = order_at bodies order.1 i j d (omega arith) (omega arith)
 
--- a number that no cell has is not found
-find_none : (bodies : List CellBody) (q : ℕ) → ((i : ℕ) (d : CellBody) → i < length bodies → (get_or bodies i d).number ≢ q) →
-    find nat_cmp q (cells_of bodies) ≡ None
-find_none [] q apart = refl
-find_none (b ∷ bodies) q apart =
-    ap (λ t. cond t (Some (cell_entry b).1) (find nat_cmp q (cells_of bodies))) (unequal q b.number (λ e. apart 0 b (omega arith) (sym e)))
-    ∙ find_none bodies q (λ i d within. apart (suc i) d (omega arith))
-  where
-    unequal : (x y : ℕ) → x ≢ y → eq_by_cmp nat_cmp x y ≡ false
-    unequal x y ne = grind (arith, nat_tests)
-
--- the cell at a place is found under its number
-find_at : (bodies : List CellBody) → AreInOrder bodies → (i : ℕ) (b : CellBody) → slice_get bodies i ≡ Some b →
-    find nat_cmp b.number (cells_of bodies) ≡ Some (cell_entry b).1
-find_at [] order i b at = absurd (cc)
-find_at (a ∷ bodies) order zero b at =
-    let is : a ≡ b = cc in
-    ap (λ t. cond t (Some (cell_entry a).1) (find nat_cmp b.number (cells_of bodies)))
-    (ap is_eq (same_cmp b.number a.number (ap (λ (e : CellBody). e.number) (sym is)))) ∙ ap (λ (e : CellBody). Some (cell_entry e).1) is
-find_at (a ∷ bodies) order (suc i) b at =
-    ap (λ t. cond t (Some (cell_entry a).1) (find nat_cmp b.number (cells_of bodies)))
-    (ap is_eq (more_cmp b.number a.number (AllByRecursion-at (λ e. a.number < e.number) bodies i b order.0 at)))
-    ∙ find_at bodies order.1 i b at
-
 below_cells : (n : ℕ) (bodies : List CellBody) → AllByRecursion (λ d. n < d.number) bodies → T (below_all nat_cmp n (cells_of bodies))
 below_cells n [] below = tt
 below_cells n (b ∷ bodies) below = subst (λ r. T (is_lt r && below_all nat_cmp n (cells_of bodies)))
     (sym (less_cmp n b.number below.0)) (below_cells n bodies below.1)
 
+pub and_T : (x y : Bool) → T x → T y → T (x && y)
+and_T true y p q = q
+and_T false y p q = p
+
 -- rising numbers are in the order of the map's keys
 pub sorted_cells : (bodies : List CellBody) → AreInOrder bodies → T (is_sorted nat_cmp (cells_of bodies))
 sorted_cells [] order = tt
 sorted_cells (b ∷ bodies) order = and_T _ _ (below_cells b.number bodies order.0) (sorted_cells bodies order.1)
-  where
-    and_T : (x y : Bool) → T x → T y → T (x && y)
-    and_T true y p q = q
-    and_T false y p q = p
 
 -- the entries of the map are the cells
 pub entries_of-cells : (bodies : List CellBody) → AreInOrder bodies → entries (from_sorted {R = nat_cmp} (cells_of bodies)) ≡ cells_of bodies
 entries_of-cells bodies order = entries-from_sorted nat_cmp (cells_of bodies) (sorted_cells bodies order)
 
--- what a look-up by halving says of the map
-pub record Placed (s : StoreMap) (c : CellId) (o : Option ℕ) : Type 0 where
-  pub missing : IfNone o (cell_of s c ≡ None)
-  pub found : IfSome o (λ place. slice_get (entries s.cells) place ≡ option_map (λ cell. (c.0, cell)) (cell_of s c))
-  pub within : IfSome o (λ place. place < length (entries s.cells))
+lacks : (bodies : List CellBody) (q : ℕ) → ((i : ℕ) (d : CellBody) → i < length bodies → (get_or bodies i d).number ≢ q) → LacksNumber bodies q
+lacks [] q apart = tt
+lacks (b ∷ bodies) q apart = (apart 0 b (omega arith), lacks bodies q (λ i d within. apart (suc i) d (omega arith)))
 
-module _ (bodies : List CellBody) (order : AreInOrder bodies) (vars : List Value) (next : ℕ) (c : CellId) where
+-- what a search by halving says of the cells
+pub record Searched (bodies : List CellBody) (q : ℕ) (o : Option ℕ) : Type 0 where
+  pub missing : IfNone o (LacksNumber bodies q)
+  pub found : IfSome o (λ i. IsSomeAnd (slice_get bodies i) (λ b. b.number ≡ q))
+
+module _ (bodies : List CellBody) (order : AreInOrder bodies) (c : CellId) where
   comparisons_rise : IsNonDecreasingBy (λ (b : CellBody). ordering_index (nat_cmp b.number c.0)) bodies
   comparisons_rise i j d le within =
       let rises : (get_or bodies i d).number ≤ (get_or bodies j d).number =
       grind (arith, order_at bodies order i j d, λ (same : i ≡ j). ap (λ k. (get_or bodies k d).number) same) in
       grind (arith, nat_tests)
 
-  get_is : get (from_sorted {R = nat_cmp} (cells_of bodies)) c.0 ≡ find nat_cmp c.0 (cells_of bodies)
-  get_is = get-from_sorted nat_cmp (cells_of bodies) c.0 (sorted_cells bodies order)
-
-  pub placed_at : (i : ℕ) (b : CellBody) → slice_get bodies i ≡ Some b → b.number ≡ c.0 → Placed (store_of bodies vars next) c (Some i)
-  unfolding get_is
-  placed_at i b at is =
-      let there : cell_of (store_of bodies vars next) c ≡ Some (cell_entry b).1 = get_is ∙
-      ap (λ n. find nat_cmp n (cells_of bodies)) (sym is) ∙ find_at bodies order i b at in
+  pub searched : (r : Result ℕ ℕ) → IsSearchInRange r (length bodies) →
+      IsBinarySearchResult (λ (b : CellBody). nat_cmp b.number c.0) bodies r → Searched bodies c.0 (result_ok r)
+  searched (Ok i) range equal =
+      let known = at_known bodies i range in
       record {
         missing = tt;
-        found = ap (λ es. slice_get es i) (entries_of-cells bodies order) ∙ slice_get-map cell_entry bodies i ∙ ap (option_map cell_entry) at
-            ∙ ap (λ n. Some (n, (cell_entry b).1)) is ∙ sym (ap (option_map (λ cell. (c.0, cell))) there);
-        within = subst (λ es. i < length es) (sym (entries_of-cells bodies order))
-            (subst (λ n. i < n) (sym (length-map bodies cell_entry)) (slice_get_within bodies i b at));
+        found = subst (λ (o : Option CellBody). IsSomeAnd o (λ b. b.number ≡ c.0)) (sym known.1) (ranked known.0.number c.0 Equal
+            (sym (subst (λ (b : CellBody). nat_cmp b.number c.0 ≡ Equal) (get_or_from_slice_get bodies i known.0 known.0 known.1) (equal known.0))));
       }
-
-  pub placed : (r : Result ℕ ℕ) → IsSearchInRange r (length bodies) →
-      IsBinarySearchResult (λ (b : CellBody). nat_cmp b.number c.0) bodies r → Placed (store_of bodies vars next) c (result_ok r)
-  placed (Ok i) range equal =
-      let known = at_known bodies i range in
-      placed_at i known.0 known.1 (ranked known.0.number c.0 Equal
-      (sym (subst (λ (b : CellBody). nat_cmp b.number c.0 ≡ Equal) (get_or_from_slice_get bodies i known.0 known.0 known.1) (equal known.0))))
-  placed (Err i) range parted = record {
-    missing = get_is ∙ find_none bodies c.0 apart;
-    found = tt;
-    within = tt;
-  }
+  searched (Err i) range parted = record { missing = lacks bodies c.0 apart; found = tt }
     where
       apart : (k : ℕ) (d : CellBody) → k < length bodies → (get_or bodies k d).number ≢ c.0
       apart k d within same = elim (cases_lt k i) [
@@ -169,6 +131,11 @@ number_at bodies order vars next s is place o at =
 pub shown : (o : Option (Bor CellBody)) → option_map (λ b. cell_entry b.now) o ≡ option_map cell_entry (option_copied o)
 shown None = refl
 shown (Some b) = refl
+
+pub shown_cell : (o : Option (Bor CellBody)) (p : Option CellBody) → option_copied o ≡ p →
+    option_map (λ b. (cell_entry b.now).1) o ≡ option_map (λ b. (cell_entry b).1) p
+shown_cell None p is = ap (option_map (λ (b : CellBody). (cell_entry b).1)) is
+shown_cell (Some b) p is = ap (option_map (λ (d : CellBody). (cell_entry d).1)) is
 
 -- no cell
 pub no_cells : from_sorted {R = nat_cmp} (cells_of []) ≡ empty

@@ -25,34 +25,6 @@ use Rattle.store_core.proofs.Cells.{less_cmp, same_cmp, more_cmp, sorted_cells, 
 
 -- ---- the cell at a place
 
--- what a look-up of a live cell found, as the kept cell
-pub record Found (bodies : List CellBody) (s : StoreMap) (c : CellId) (place : ℕ) : Type 0 where
-  pub body : CellBody
-  pub at : slice_get bodies place ≡ Some body
-  pub number : body.number ≡ c.0
-  pub cell : cell_of s c ≡ Some (cell_entry body).1
-
-pub found_at : (bodies : List CellBody) (order : AreInOrder bodies) (vars : List Value) (next : ℕ) (s : StoreMap)
-    (is : store_of bodies vars next ≡ s) (c : CellId) (place : ℕ)
-    → slice_get (entries s.cells) place ≡ option_map (λ cell. (c.0, cell)) (cell_of s c) → place < length (entries s.cells) → Found bodies s c place
-found_at bodies order vars next s is c place found within =
-    let es : entries s.cells ≡ cells_of bodies = ap (λ (t : StoreMap). entries t.cells) (sym is) ∙ entries_of-cells bodies order in
-    let inside : place < length bodies = omega (arith, within, ap length es, length-map bodies cell_entry) in
-    let known = at_known bodies place inside in
-    let there : Some (cell_entry known.0) ≡ option_map (λ cell. (c.0, cell)) (cell_of s c) =
-    sym (ap (option_map cell_entry) known.1) ∙ sym (slice_get-map cell_entry bodies place) ∙ ap (λ l. slice_get l place) (sym es) ∙ found in
-    by known.0 known.1 (cell_of s c) refl there
-  where
-    by : (b : CellBody) → slice_get bodies place ≡ Some b → (o : Option CellEntry) → cell_of s c ≡ o →
-        Some (cell_entry b) ≡ option_map (λ cell. (c.0, cell)) o → Found bodies s c place
-    by b at None e there = absurd (cc)
-    by b at (Some cell) e there =
-        let pair : cell_entry b ≡ (c.0, cell) = cc in
-        record { body = b; at = at; number = ap (λ (p : ℕ × CellEntry). p.0) pair; cell = e ∙ ap Some (sym (ap (λ (p : ℕ × CellEntry). p.1) pair)) }
-
-pub place_within : (bodies : List CellBody) (s : StoreMap) (c : CellId) (place : ℕ) → Found bodies s c place → place < length bodies
-place_within bodies s c place found = slice_get_within bodies place found.body found.at
-
 -- a field that has a value has a place among the cell's values
 pub field_within : (s : StoreMap) (c : CellId) (f : FieldId) (cell : CellEntry) (P : Value → Type 0) → cell_of s c ≡ Some cell →
     IsSomeAnd (option_and_then (λ e. field_of e f) (cell_of s c)) P → f.index < length cell.values
@@ -74,23 +46,6 @@ put_last k v (b ∷ bodies) below =
     ap (λ o. by_order o ((k, v) ∷ cells_of (b ∷ bodies)) ((b.number, v) ∷ cells_of bodies)
     (cell_entry b ∷ put nat_cmp k v (cells_of bodies))) (more_cmp k b.number below.0)
     ∙ ap (λ rest. cell_entry b ∷ rest) (put_last k v bodies below.1)
-
--- a cell written over another of its number
-put_over : (bodies : List CellBody) → AreInOrder bodies → (i : ℕ) (b after : CellBody) → slice_get bodies i ≡ Some b → after.number ≡ b.number
-    → put nat_cmp b.number (cell_entry after).1 (cells_of bodies) ≡ cells_of (set bodies i after)
-put_over [] order i b after at same = absurd (cc)
-put_over (a ∷ bodies) order zero b after at same =
-    let is : a ≡ b = cc in
-    let number : a.number ≡ b.number = ap (λ (e : CellBody). e.number) is in
-    ap (λ o. by_order o ((b.number, (cell_entry after).1) ∷ cells_of (a ∷ bodies))
-    ((a.number, (cell_entry after).1) ∷ cells_of bodies) (cell_entry a ∷ put nat_cmp b.number (cell_entry after).1 (cells_of bodies)))
-    (same_cmp b.number a.number (sym number))
-    ∙ ap (λ n. (n, (cell_entry after).1) ∷ cells_of bodies) (number ∙ sym same)
-put_over (a ∷ bodies) order (suc i) b after at same =
-    ap (λ o. by_order o ((b.number, (cell_entry after).1) ∷ cells_of (a ∷ bodies))
-    ((a.number, (cell_entry after).1) ∷ cells_of bodies) (cell_entry a ∷ put nat_cmp b.number (cell_entry after).1 (cells_of bodies)))
-    (more_cmp b.number a.number (AllByRecursion-at (λ e. a.number < e.number) bodies i b order.0 at))
-    ∙ ap (λ rest. cell_entry a ∷ rest) (put_over bodies order.1 i b after at same)
 
 order-push : (bodies : List CellBody) (b : CellBody) → AreInOrder bodies → AllByRecursion (λ a. a.number < b.number) bodies → AreInOrder (bodies ++ b ∷ [])
 order-push [] b order below = (tt, tt)
@@ -119,7 +74,7 @@ all-set P [] i b after at same all = tt
 all-set P (a ∷ bodies) zero b after at same all = let is : a ≡ b = cc in (subst P (ap (λ (e : CellBody). e.number) is ∙ sym same) all.0, all.1)
 all-set P (a ∷ bodies) (suc i) b after at same all = (all.0, all-set P bodies i b after at same all.1)
 
-order-set : (bodies : List CellBody) (i : ℕ) (b after : CellBody) → slice_get bodies i ≡ Some b → after.number ≡ b.number →
+pub order-set : (bodies : List CellBody) (i : ℕ) (b after : CellBody) → slice_get bodies i ≡ Some b → after.number ≡ b.number →
     AreInOrder bodies → AreInOrder (set bodies i after)
 order-set [] i b after at same order = tt
 order-set (a ∷ bodies) zero b after at same order =
@@ -133,69 +88,9 @@ pub IsKept-set : (bodies : List CellBody) (i : ℕ) (b after : CellBody) (next :
 IsKept-set bodies i b after next at same kept =
     record { rising = order-set bodies i b after at same kept.rising; below = all-set (λ n. n < next) bodies i b after at same kept.below }
 
-pub cells-set : (bodies : List CellBody) (i : ℕ) (b after : CellBody) (k : ℕ) → slice_get bodies i ≡ Some b →
-    after.number ≡ b.number → b.number ≡ k → AreInOrder bodies
-    → from_sorted {R = nat_cmp} (cells_of (set bodies i after)) ≡ insert (from_sorted (cells_of bodies)) k (cell_entry after).1
-cells-set bodies i b after k at same is order =
-    same_entries_map _ _ (entries_of-cells (set bodies i after) (order-set bodies i b after at same order)
-    ∙ sym (put_over bodies order i b after at same)
-    ∙ ap (λ n. put nat_cmp n (cell_entry after).1 (cells_of bodies)) is
-    ∙ ap (put nat_cmp k (cell_entry after).1) (sym (entries_of-cells bodies order))
-    ∙ sym (entries-insert nat_cmp_total (from_sorted (cells_of bodies)) k (cell_entry after).1))
+-- ---- cells that stand behind
 
--- ---- a cell less
-
-all-remove : (P : CellBody → Type 0) (bodies : List CellBody) (i : ℕ) → AllByRecursion P bodies → AllByRecursion P (remove bodies i)
-all-remove P [] zero all = tt
-all-remove P [] (suc i) all = tt
-all-remove P (a ∷ bodies) zero all = all.1
-all-remove P (a ∷ bodies) (suc i) all = (all.0, all-remove P bodies i all.1)
-
-order-remove : (bodies : List CellBody) (i : ℕ) → AreInOrder bodies → AreInOrder (remove bodies i)
-order-remove [] zero order = tt
-order-remove [] (suc i) order = tt
-order-remove (a ∷ bodies) zero order = order.1
-order-remove (a ∷ bodies) (suc i) order = (all-remove (λ d. a.number < d.number) bodies i order.0, order-remove bodies i order.1)
-
-pub IsKept-remove : (bodies : List CellBody) (i : ℕ) (next : ℕ) → IsKept bodies next → IsKept (remove bodies i) next
-IsKept-remove bodies i next kept = record { rising = order-remove bodies i kept.rising; below = all-remove (λ b. b.number < next) bodies i kept.below }
-
-find_above : (q : ℕ) (bodies : List CellBody) → AllByRecursion (λ d. q < d.number) bodies → find nat_cmp q (cells_of bodies) ≡ None
+pub find_above : (q : ℕ) (bodies : List CellBody) → AllByRecursion (λ d. q < d.number) bodies → find nat_cmp q (cells_of bodies) ≡ None
 find_above q [] above = refl
 find_above q (b ∷ bodies) above =
     ap (λ o. cond (is_eq o) (Some (cell_entry b).1) (find nat_cmp q (cells_of bodies))) (less_cmp q b.number above.0) ∙ find_above q bodies above.1
-
-swapped : {X : Type 0} (x y : Bool) (s f : Option X) → (x ≡ true → y ≡ true → ⊥) → cond x s (cond y None f) ≡ cond y None (cond x s f)
-swapped true true s f apart = absurd (apart refl refl)
-swapped true false s f apart = refl
-swapped false y s f apart = refl
-
-find_removed : (bodies : List CellBody) → AreInOrder bodies → (i : ℕ) (b : CellBody) → slice_get bodies i ≡ Some b → (q : ℕ)
-    → find nat_cmp q (cells_of (remove bodies i)) ≡ cond (eq_by_cmp nat_cmp q b.number) None (find nat_cmp q (cells_of bodies))
-find_removed [] order i b at q = absurd (cc)
-find_removed (a ∷ bodies) order zero b at q =
-    let is : a ≡ b = cc in
-    let number : a.number ≡ b.number = ap (λ (e : CellBody). e.number) is in
-    by (eq_by_cmp nat_cmp q a.number) refl ∙ ap (λ n. cond (eq_by_cmp nat_cmp q n) None (find nat_cmp q (cells_of (a ∷ bodies)))) number
-  where
-    by : (t : Bool) → eq_by_cmp nat_cmp q a.number ≡ t → find nat_cmp q (cells_of bodies) ≡ cond (eq_by_cmp nat_cmp q a.number) None
-        (find nat_cmp q (cells_of (a ∷ bodies)))
-    by true e =
-        find_above q bodies (subst (λ n. AllByRecursion (λ (d : CellBody). n < d.number) bodies) (sym (tied q a.number e)) order.0)
-        ∙ sym (ap (λ t. cond t None (find nat_cmp q (cells_of (a ∷ bodies)))) e)
-    by false e = sym (ap (λ t. cond t None (cond t (Some (cell_entry a).1) (find nat_cmp q (cells_of bodies)))) e)
-find_removed (a ∷ bodies) order (suc i) b at q =
-    ap (cond (eq_by_cmp nat_cmp q a.number) (Some (cell_entry a).1)) (find_removed bodies order.1 i b at q)
-    ∙ swapped _ _ _ _ (λ e f.
-    let lt = AllByRecursion-at (λ (d : CellBody). a.number < d.number) bodies i b order.0 at in
-    let same : a.number ≡ b.number = sym (tied q a.number e) ∙ tied q b.number f in omega arith)
-
-pub cells-remove : (bodies : List CellBody) (i : ℕ) (b : CellBody) (k : ℕ) → slice_get bodies i ≡ Some b → b.number ≡ k → AreInOrder bodies
-    → from_sorted {R = nat_cmp} (cells_of (remove bodies i)) ≡ fin.remove (from_sorted (cells_of bodies)) k
-cells-remove bodies i b k at is order =
-    same_map nat_cmp_total nat_cmp-IsAntisymmetric _ _ (λ q.
-    get-from_sorted nat_cmp (cells_of (remove bodies i)) q (sorted_cells (remove bodies i) (order-remove bodies i order))
-    ∙ find_removed bodies order i b at q
-    ∙ ap (λ n. cond (eq_by_cmp nat_cmp q n) None (find nat_cmp q (cells_of bodies))) is
-    ∙ ap (cond (eq_by_cmp nat_cmp q k) None) (sym (get-from_sorted nat_cmp (cells_of bodies) q (sorted_cells bodies order)))
-    ∙ sym (get-remove nat_cmp_total (from_sorted (cells_of bodies)) k q))

@@ -5,6 +5,7 @@ pub mod Bodies
 pub mod Rising
 pub mod Cells
 pub mod Changes
+pub mod Freed
 pub mod Steps
 pub mod PostfixLemmas
 pub mod AboveLemmas

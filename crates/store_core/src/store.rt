@@ -1,8 +1,9 @@
 //! The store: its cells, its variables and the next number.
 
-ghost use Rattle.std.specs.Prelude.{◌≡◌, ◌+◌, ◌<◌, length, Some, None, IsSome, IfOk, IfSome, IfNone, OnOk, OnErr, IsSomeAnd, slice_get, option_map};
+ghost use Rattle.std.specs.Prelude.{◌≡◌, ◌+◌, ◌<◌, length, Some, None, true, IsSome, IfOk, IfSome, IfNone, OnOk, OnErr, IsSomeAnd, slice_get, option_map};
 ghost use Rattle.std.specs.Option.{option_copied, option_and_then};
-ghost use Rattle.std.specs.FinMap.{entries, keys};
+ghost use Rattle.std.specs.FinMap.{entries, keys, get};
+ghost use Rattle.store_core.specs.StoreBodies.{map_of, live_of, AreInOrder, LacksNumber};
 ghost use Rattle.store_core.specs.Tables.{KnowsVariant, field_at};
 ghost use Rattle.store_core.specs.Stores as stores;
 ghost use Rattle.store_core.specs.Stores.{IsLive, IsAbove, cell_of, field_value, var_value, class_of, field_class, var_class, blank, blank_slot};
@@ -18,20 +19,25 @@ use plain_data::{Items, at};
 use std::alloc::{AllocError, Global};
 use std::marker::Model;
 
-/// A live cell, as a store is made of them.
+/// A cell, as a store is made of them.
 #[derive(Drop)]
 pub struct CellBody {
     pub number: u32,
     pub variant: VariantId,
     /// The value of each field of its type by the field's number, `None` where its variant hasn't the field.
     pub values: Items<Option<Value>>,
+    /// Unset where the cell was freed: it keeps its place until the store is settled.
+    pub is_live: bool,
 }
 
 /// A finite map from cell numbers to cells, with a value for each variable and a number above every cell number ever used.
 #[derive(Drop)]
 pub struct Store {
-    /// By rising number, so that a number is found by halving and a new cell goes last.
+    /// By rising number, so that a number is found by halving and a new cell goes last. Freed cells stand among the live ones,
+    /// so that no cell moves where one is freed.
     cells: Vec<CellBody>,
+    /// How many of the cells were freed.
+    freed: usize,
     /// The value of each variable by its number.
     vars: Items<Value>,
     next: u32,
@@ -46,11 +52,11 @@ impl Model for Store {
 
     ghost coded = { Prim.hlevel (codes, code_of_map) };
 
-    ghost use Rattle.store_core.specs.StoreBodies.{store_of, IsKept};
+    ghost use Rattle.store_core.specs.StoreBodies.{store_of, live_of, IsStored};
 
-    ghost view = { λ s. store_of s.cells.items s.vars s.next };
+    ghost view = { λ s. store_of (live_of s.cells.items) s.vars s.next };
 
-    ghost invariant = { λ s. IsKept s.cells.items s.next };
+    ghost invariant = { λ s. IsStored s.cells.items s.freed s.next };
 }
 
 /// The value of a field that nothing was stored in.
@@ -103,15 +109,60 @@ fn blank_values(
     Ok(values)
 }
 
-impl Store {
-    ghost use Rattle.store_core.specs.StoreBodies.{cell_entry, cells_of, store_of, IsKept};
+/// The place of the cell with a number, live or freed; `None` exactly where no cell has it.
+fn search(cells: &[CellBody], c: CellId) -> Option<usize>
+    requires { AreInOrder cells.now }
+    ensures missing { IfNone result (LacksNumber cells.now c.0) }
+    ensures found { IfSome result (λ place. IsSomeAnd (slice_get cells.now place) (λ b. b.number ≡ c.0)) }
+{
+    cells.binary_search_by_key(&c.0, |cell| cell.number).ok()
+}
 
-    /// The store of these cells, whose numbers rise and are below the next. Takes no memory.
+/// The place of the live cell with a number, among cells of which some were freed; `None` exactly where none is live.
+fn place_of(cells: &[CellBody], c: CellId) -> Option<usize>
+    requires { AreInOrder cells.now }
+    ensures missing { IfNone result (get (map_of (live_of cells.now)) c.0 ≡ None) }
+    ensures found { IfSome result (λ place. IsSomeAnd (slice_get cells.now place) (λ b. (b.number ≡ c.0) × (b.is_live ≡ true))) }
+{
+    let place = search(cells, c)?;
+    if at(cells, place)?.is_live {
+        Some(place)
+    } else {
+        None
+    }
+}
+
+/// The live cell at a place among the live ones, where cells between them were freed.
+fn live_at(cells: &[CellBody], place: usize) -> Option<&CellBody>
+    ensures { option_copied result ≡ slice_get (live_of cells.now) place }
+{
+    let mut before = 0;
+    for cell in cells {
+        if cell.is_live {
+            if before == place {
+                return Some(cell);
+            }
+            before += 1;
+        }
+    }
+    None
+}
+
+impl Store {
+    ghost use Rattle.store_core.specs.StoreBodies.{cell_entry, store_of, AreLive, IsKept};
+
+    /// The store of these cells, which are live, and whose numbers rise and are below the next. Takes no memory.
     pub fn of(cells: Vec<CellBody>, vars: Items<Value>, next: u32) -> Store
-        requires { IsKept cells.items next }
+        requires kept { IsKept cells.items next }
+        requires live { AreLive cells.items }
         ensures { result ≡ store_of cells.items vars next }
     {
-        Store { cells, vars, next }
+        Store {
+            cells,
+            freed: 0,
+            vars,
+            next,
+        }
     }
 
     /// No cell, the next number 1, and each variable null, false or the empty set.
@@ -127,6 +178,7 @@ impl Store {
         }
         Ok(Store {
             cells: Vec::new(alloc),
+            freed: 0,
             vars: values,
             next: 1,
         })
@@ -138,6 +190,7 @@ impl Store {
     {
         Ok(Store {
             cells: copy_cells(alloc, self.cells.as_slice())?,
+            freed: self.freed,
             vars: copy_values(alloc, self.vars.as_slice())?,
             next: self.next,
         })
@@ -147,33 +200,29 @@ impl Store {
     pub fn cells(&self) -> usize
         ensures { result ≡ length (keys self.now.cells) }
     {
-        self.cells.len()
+        self.cells.len() - self.freed
     }
 
-    /// The place of a cell among the live ones; `None` exactly where it isn't live.
-    fn place(&self, c: CellId) -> Option<usize>
-        ensures missing { IfNone result (cell_of self.now c ≡ None) }
-        ensures found { IfSome result (λ place. slice_get (entries self.now.cells) place ≡ option_map (λ cell. (c.0, cell)) (cell_of self.now c)) }
-        ensures within { IfSome result (λ place. place < length (entries self.now.cells)) }
-    {
-        self.cells
-            .binary_search_by_key(&c.0, |cell| cell.number)
-            .ok()
-    }
-
-    /// A live cell.
+    /// A live cell; `None` exactly where it isn't live.
     fn find(&self, c: CellId) -> Option<&CellBody>
-        ensures { option_map (λ cell. cell_entry cell.now) result ≡ option_map (λ cell. (c.0, cell)) (cell_of self.now c) }
+        ensures { option_map (λ cell. (cell_entry cell.now).1) result ≡ cell_of self.now c }
     {
-        let place = self.place(c)?;
-        at(self.cells.as_slice(), place)
+        let cells = self.cells.as_slice();
+        at(cells, place_of(cells, c)?)
     }
 
-    /// The live cells by number. Takes no memory.
-    pub fn bodies(&self) -> &[CellBody]
-        ensures { cells_of result.now ≡ entries self.now.cells }
+    /// The live cell at a place by number, counted from 0; `None` exactly at their count and past it. A look-up, but where cells
+    /// were freed since the store was settled it goes over the cells before. Takes no memory.
+    pub fn body_at(&self, place: usize) -> Option<&CellBody>
+        ensures cell { option_map (λ cell. cell_entry cell.now) result ≡ slice_get (entries self.now.cells) place }
+        ensures live { IfSome result (λ cell. cell.now.is_live ≡ true) }
     {
-        self.cells.as_slice()
+        let cells = self.cells.as_slice();
+        if self.freed == 0 {
+            at(cells, place)
+        } else {
+            live_at(cells, place)
+        }
     }
 
     /// The value of each variable by its number. Takes no memory.
@@ -227,7 +276,7 @@ impl Store {
     pub fn cell_at(&self, place: usize) -> Option<CellId>
         ensures { result ≡ option_map (λ number. record { 0 = number }) (slice_get (keys self.now.cells) place) }
     {
-        let cell = at(self.cells.as_slice(), place)?;
+        let cell = self.body_at(place)?;
         Some(CellId(cell.number))
     }
 
@@ -246,6 +295,7 @@ impl Store {
             number,
             variant: v,
             values: blank_values(alloc, types, v)?,
+            is_live: true,
         };
         self.cells.push(cell)?;
         self.next = number + 1;
@@ -257,7 +307,7 @@ impl Store {
         requires { IsSomeAnd (field_value self.old c f) (λ old. class_of v ≡ class_of old) }
         ensures { self.new ≡ stores.set_field self.old c f v }
     {
-        let Some(place) = self.place(c) else {
+        let Some(place) = place_of(self.cells.as_slice(), c) else {
             unreachable!()
         };
         let cell = &mut self.cells[place];
@@ -277,9 +327,20 @@ impl Store {
         requires { IsLive self.old c }
         ensures { self.new ≡ stores.remove_cell self.old c }
     {
-        let Some(place) = self.place(c) else {
+        let Some(place) = place_of(self.cells.as_slice(), c) else {
             unreachable!()
         };
-        self.cells.remove(place);
+        self.cells[place].is_live = false;
+        self.freed += 1;
+    }
+
+    /// Lets the freed cells go, after which each place is a look-up again. The store is the same. Takes no memory.
+    pub fn settle(&mut self)
+        ensures { self.new ≡ self.old }
+    {
+        if self.freed > 0 {
+            self.cells.retain(|cell| cell.is_live);
+            self.freed = 0;
+        }
     }
 }

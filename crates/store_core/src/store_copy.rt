@@ -35,6 +35,7 @@ impl CellBody {
             number: self.number,
             variant: self.variant,
             values: copy_slots(alloc, self.values.as_slice())?,
+            is_live: self.is_live,
         })
     }
 }

@@ -2,6 +2,7 @@
 
 ghost use Rattle.std.specs.Prelude.{◌≡◌, IfOk};
 ghost use Rattle.store_logic.specs.Terms.{null};
+ghost use Rattle.store_exec.specs.declared.outcome.Outcome.TheVariants as outcome;
 ghost use Rattle.store_exec.specs.Runs.{RunsCode};
 ghost use Rattle.store_exec.specs.Fits.{CanRunCode};
 ghost use Rattle.store_exec.specs.Going.{IsTruthAt};
@@ -29,6 +30,15 @@ fn truth_at(
     at_line(line, truth(alloc, store, nothing, cond))
 }
 
+/// The end of a code at a cut. The freed cells are let go, so that each cell of the store is a look-up again.
+fn end_at(place: u32, at: Store) -> Outcome
+    ensures { result ≡ outcome.End place at }
+{
+    let mut at = at;
+    at.settle();
+    Outcome::End(place, at)
+}
+
 /// Executes a code on a store: to a cut, or to a cause with its line. The store fits the tables and is fresh, and its next number
 /// and the count of `new` in the code are together below 4,294,967,295. (Møller and Schwartzbach, PLDI 2001.)
 pub fn run(
@@ -49,7 +59,7 @@ pub fn run(
             Err(fault) => return Ok(Outcome::Fail(fault.cause, fault.line)),
         }
         match &rest.tail {
-            Tail::Cut(place) => return Ok(Outcome::End(*place, at)),
+            Tail::Cut(place) => return Ok(end_at(*place, at)),
             Tail::Branch(line, cond, taken, other) => {
                 match truth_at(alloc, &at, &nothing, *line, cond)? {
                     Ok(true) => rest = taken.get(),

@@ -122,8 +122,10 @@ fn push_store(
     store: &Store,
 ) -> Result<(), AllocError> {
     push_vars(alloc, text, tables, store)?;
-    for cell in store.bodies() {
-        push_cell(alloc, text, &tables.types, cell)?;
+    for place in 0..store.cells() {
+        if let Some(cell) = store.body_at(place) {
+            push_cell(alloc, text, &tables.types, cell)?;
+        }
     }
     Ok(())
 }

@@ -12,11 +12,9 @@ use Rattle.std.proofs.lemmas.Option.{slice_get-map}
 use Rattle.std.specs.FinMap.Entries.{below_all}
 use Rattle.std.specs.FinMap.{entries, entries_sorted, find, get-entries, is_sorted}
 use Rattle.store_core.specs.declared.ids.CellId.{CellId}
-use Rattle.store_core.specs.declared.store.CellBody.{CellBody}
 use Rattle.store_core.specs.declared.value.Value.{Value}
 use Rattle.store_core.specs.Tables.{TypeEntry, FieldEntry, VarEntry, fields_of}
 use Rattle.store_core.specs.Stores.{StoreMap, CellEntry, CellFits, VarsFit, SlotsFit, cell_of}
-use Rattle.store_core.specs.StoreBodies.{cell_entry, cells_of}
 use Rattle.store_text.specs.StoreText.{HasSlots}
 
 pub T-first : (a b : Bool) → T (a && b) → T a
@@ -78,10 +76,14 @@ VarsFit-length s [] (x ∷ values) fit = absurd fit
 VarsFit-length s (v ∷ vars) [] fit = absurd fit
 VarsFit-length s (v ∷ vars) (x ∷ values) fit = let rest = VarsFit-length s vars values fit.1 in omega (arith, rest)
 
--- the kept cells of a store that fits have a place for each field
-pub HasSlots-fit : (types : List TypeEntry) (s : StoreMap) (bodies : List CellBody) → cells_of bodies ≡ entries s.cells →
-    ((c : CellId) → IfSome (cell_of s c) (CellFits types s)) → AllByRecursion (HasSlots types) bodies
-HasSlots-fit types s bodies is fits = all_from_at (HasSlots types) bodies (λ i b at.
-    let there : slice_get (entries s.cells) i ≡ Some (cell_entry b) = ap (λ es. slice_get es i) (sym is) ∙
-    slice_get-map cell_entry bodies i ∙ ap (option_map cell_entry) at in
-    SlotsFit-length s b.variant.index (fields_of types b.variant.ty) b.values (entry_fits types s fits i (cell_entry b) there).values)
+-- the cells of a store that fits have a place for each field
+pub HasSlots-fit : (types : List TypeEntry) (s : StoreMap) → ((c : CellId) → IfSome (cell_of s c) (CellFits types s)) →
+    AllByRecursion (λ e. HasSlots types e.1) (entries s.cells)
+HasSlots-fit types s fits = all_from_at (λ e. HasSlots types e.1) (entries s.cells) (λ i e at.
+    SlotsFit-length s e.1.variant.index (fields_of types e.1.variant.ty) e.1.values (entry_fits types s fits i e at).values)
+
+-- what holds of all is so of one at a place
+pub all_at : {X : Type 0} (P : X → Type 0) (xs : List X) (i : ℕ) (x : X) → AllByRecursion P xs → slice_get xs i ≡ Some x → P x
+all_at P [] i x all at = absurd (cc)
+all_at P (y ∷ xs) zero x all at = let same : y ≡ x = cc in subst P same all.0
+all_at P (y ∷ xs) (suc i) x all at = all_at P xs i x all.1 at

@@ -7,7 +7,6 @@ use Rattle.std.specs.Fmt.{decimal}
 use Rattle.std.specs.FinMap.{entries}
 use Rattle.store_core.specs.declared.ids.VariantId.{VariantId}
 use Rattle.store_core.specs.declared.ids.CellId.{CellId}
-use Rattle.store_core.specs.declared.store.CellBody.{CellBody}
 use Rattle.store_core.specs.declared.value.Value.{Value}
 use Rattle.store_core.specs.declared.value.Value.TheVariants as value
 use Rattle.store_core.specs.Tables.{TypeEntry, FieldEntry, VarEntry, type_at, fields_of, variants_of}
@@ -32,8 +31,8 @@ abbrev pub var_lines : List VarEntry → List Value → List ℕ
 var_lines vars values = flat_map (λ v. var_line v.0.name v.1) (zip vars values)
 
 -- a cell has a place for each field of its type
-abbrev pub HasSlots : List TypeEntry → CellBody → Type 0
-HasSlots types b = length b.values ≡ length (fields_of types b.variant.ty)
+abbrev pub HasSlots : List TypeEntry → CellEntry → Type 0
+HasSlots types cell = length cell.values ≡ length (fields_of types cell.variant.ty)
 
 -- ` FIELD=VALUE`, and nothing for a field that the cell hasn't
 abbrev pub slot_text : List ℕ → Option Value → List ℕ

@@ -4,7 +4,8 @@ ghost use Rattle.std.specs.List.{AllByRecursion, join_by};
 ghost use Rattle.std.specs.Fmt.{decimal};
 ghost use Rattle.store_core.specs.Tables.{fields_of};
 ghost use Rattle.store_core.specs.Stores.{Fits};
-ghost use Rattle.store_core.specs.StoreBodies.{cell_entry, cells_of};
+ghost use Rattle.store_core.specs.StoreBodies.{cell_entry};
+ghost use Rattle.std.specs.FinMap.{entries};
 ghost use Rattle.store_text.specs.StoreText.{HasSlots, cell_text, value_text, slot_text, slots_text, variant_text, var_line, var_lines, cell_line};
 ghost use Rattle.store_text.specs.StoreText.{cell_lines, store_text_of};
 
@@ -154,12 +155,15 @@ fn push_cells(
     alloc: Global,
     text: &mut Vec<u8>,
     types: &TypeTable,
-    cells: &[CellBody],
+    store: &Store,
 ) -> Result<(), AllocError>
-    requires { AllByRecursion (HasSlots types.now) cells.now }
-    ensures { OnOk result (text.new.items ≡ text.old.items ++ cell_lines types.now (cells_of cells.now)) }
+    requires { AllByRecursion (λ e. HasSlots types.now e.1) (entries store.now.cells) }
+    ensures { OnOk result (text.new.items ≡ text.old.items ++ cell_lines types.now (entries store.now.cells)) }
 {
-    for cell in cells {
+    for place in 0..store.cells() {
+        let Some(cell) = store.body_at(place) else {
+            unreachable!()
+        };
         push_cell(alloc, text, types, cell)?;
     }
     Ok(())
@@ -178,7 +182,7 @@ pub fn store_text(
     let mut text = Vec::new(alloc);
     text.extend_from_slice(b"store\n")?;
     push_vars(alloc, &mut text, vars, store.values())?;
-    push_cells(alloc, &mut text, types, store.bodies())?;
+    push_cells(alloc, &mut text, types, store)?;
     text.extend_from_slice(b"end\n")?;
     Ok(text)
 }

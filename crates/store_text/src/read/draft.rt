@@ -4,7 +4,7 @@ ghost use Rattle.std.specs.Prelude.{◌≡◌, ◌<◌, length, map, Some, Ok, N
 ghost use Rattle.store_text.specs.Saying.{IsStop, IsLacking, or_fault, nothing_said, say_var, say_cell};
 ghost use Rattle.store_text.specs.Spelling.{line_of, all_of};
 ghost use Rattle.store_text.specs.Reading.{say_line, store_said};
-ghost use Rattle.store_core.specs.StoreBodies.{cells_of, AreInOrder};
+ghost use Rattle.store_core.specs.StoreBodies.{cells_of, AreInOrder, AreLive};
 ghost use Rattle.store_text.specs.DraftBodies.{said_cells};
 
 use crate::fault::StoreKind;
@@ -177,6 +177,7 @@ fn all_given(alloc: Global, vars: Items<Option<Value>>) -> Result<Items<Value>, 
 fn bodies_of(alloc: Global, cells: BTreeMap<u32, SaidCell>) -> Result<Vec<CellBody>, AllocError>
     ensures cells { IfOk result (λ bodies. cells_of bodies.items ≡ said_cells cells.entries) }
     ensures rising { IfOk result (λ bodies. AreInOrder bodies.items) }
+    ensures live { IfOk result (λ bodies. AreLive bodies.items) }
 {
     let mut bodies = Vec::new(alloc);
     for (number, cell) in cells {
@@ -185,6 +186,7 @@ fn bodies_of(alloc: Global, cells: BTreeMap<u32, SaidCell>) -> Result<Vec<CellBo
             number,
             variant,
             values,
+            is_live: true,
         })?;
     }
     Ok(bodies)

@@ -2,7 +2,11 @@ use Rattle.std.proofs.Common.{◌≡◌, take}
 use Rattle.std.specs.List.{filter}
 use Rattle.std.specs.Ordering.{nat_cmp}
 use Rattle.std.specs.BTreeSet.{contains}
+use Rattle.std.specs.FinMap.{entries}
+use Rattle.store_core.specs.StoreBodies.{cells_of, AreLive}
 use Rattle.routing_expr.proofs.region.bodies_on.Given as goal
 
-abbrev pub invariant-loop-body : goal.invariant-loop-body
-invariant-loop-body l = l.kept.items ≡ filter (λ b. contains nat_cmp l.numbers b.number) (take l.body-index l.bodies)
+-- the cells so far that are kept
+abbrev pub invariant-loop-place : goal.invariant-loop-place
+invariant-loop-place l =
+    (cells_of l.kept.items ≡ filter (λ e. contains nat_cmp l.numbers e.0) (take l.place (entries l.store.cells))) × AreLive l.kept.items

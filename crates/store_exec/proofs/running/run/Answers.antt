@@ -24,11 +24,12 @@ returns-in-Err c = c.loop-at.invariant.0 (outcome.Fail c.in-Err.fault.cause c.in
     c.in-Err.fault (c.in_ok-run_items.was ∙ ap (λ (r : Result (Unit {0}) Fault). Ok r) c.in-Err.is)))
 
 pub returns-in-Cut : goal.returns-in-Cut
-returns-in-Cut c = c.loop-at.invariant.0 (outcome.End c.in-Cut.place c.run_items.new.store)
+returns-in-Cut c = subst (RunsCode c.args.types.now c.args.code.now c.args.store) (sym c.end_at.ensures)
+    (c.loop-at.invariant.0 (outcome.End c.in-Cut.place c.run_items.new.store)
     (items-cut c.args.types.now c.loop-at.rest.now c.loop-at.at c.run_items.new.store c.in-Cut.place c.in-Cut.is
     (ended c.args.types.now (c.loop-at.rest.now).items c.as_slice.result.now c.loop-at.at c.run_items.new.store c.run_items.result c.run_items.ensures
     c.as_slice.ensures
-    tt (c.in_ok-run_items.was ∙ ap (λ (r : Result (Unit {0}) Fault). Ok r) c.in-Ok.is)))
+    tt (c.in_ok-run_items.was ∙ ap (λ (r : Result (Unit {0}) Fault). Ok r) c.in-Ok.is))))
 
 pub loop-at-preserved-in-Ok-true : goal.loop-at-preserved-in-Ok-true
 loop-at-preserved-in-Ok-true c =

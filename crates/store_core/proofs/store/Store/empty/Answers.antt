@@ -1,9 +1,8 @@
 use Rattle.std.proofs.Common.{◌≡◌, ◌∙◌, ◌++◌, ◌∷◌, [], ap, arith, map, Some}
 use Rattle.std.specs.Option.{option_map}
-use Rattle.std.specs.FinMap.{from_sorted}
 use Rattle.store_core.specs.Tables.{VarEntry}
 use Rattle.store_core.specs.Stores.{blank, var_class}
-use Rattle.store_core.specs.StoreBodies.{cells_of}
+use Rattle.store_core.specs.StoreBodies.{map_of, live_of}
 use Rattle.store_core.proofs.Adding.{at_known}
 use Rattle.store_core.proofs.Cells.{no_cells}
 use Rattle.store_core.proofs.Steps.{map_next, map_all}
@@ -24,7 +23,7 @@ pub returns : goal.returns
 returns c =
     let blanks = map (λ (v : VarEntry). blank (var_class v.kind)) c.args.vars.now in
     (λ i. record {
-      cells = from_sorted (cells_of (c.new.ensures.items i));
+      cells = map_of (live_of (c.new.ensures.items i));
       vars = (c.loop-index.invariant ∙ map_all (λ v. blank (var_class v.kind)) c.args.vars.now c.loop-index.index
           (omega (arith, c.loop-index-test.false, c.vars-index-end.ensures.value))) i;
       next = 1;

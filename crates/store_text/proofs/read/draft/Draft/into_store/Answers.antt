@@ -6,8 +6,8 @@ use Rattle.store_text.specs.Saying.{Said}
 use Rattle.store_text.proofs.DraftLemmas.{kept_said, keys-said}
 use Rattle.store_text.proofs.read.draft.Draft.into_store.Goals as goal
 
-pub of-requires : goal.of-requires
-of-requires c = kept_said c.in_ok-bodies.bodies.items c.self.inside.cells.entries c.self.inside.next c.in_ok-bodies.ensures.cells
+pub of-requires-clause-kept : goal.of-requires-clause-kept
+of-requires-clause-kept c = kept_said c.in_ok-bodies.bodies.items c.self.inside.cells.entries c.self.inside.next c.in_ok-bodies.ensures.cells
     c.in_ok-bodies.ensures.rising c.self.invariant
 
 pub returns-clause-store : goal.returns-clause-store
