@@ -1,4 +1,6 @@
 pub mod IndexLemmas
+pub mod PlacesLemmas
+pub mod PositionsLemmas
 pub mod SpacesLemmas
 pub mod StepsLemmas
 pub mod TracksLemmas

@@ -1,12 +1,13 @@
 -- Rows of spaces: how long they are, and that they lead to spaces.
-use Rattle.std.proofs.Common.{◌≡◌, ℕ, zero, suc, ◌+◌, ◌<◌, ◌≤◌, max, Bool, true, false, cond, eqb, List, [], ◌∷◌, ◌++◌, length, map, take, refl, sym, ap, ◌∙◌, subst, length-append, arith}
+use Rattle.std.proofs.Common.{◌≡◌, ℕ, zero, suc, ◌+◌, ◌<◌, ◌≤◌, max, Bool, true, false, cond, eqb, ◌⊎◌, inl, inr, get_or, List, [], ◌∷◌, ◌++◌, length, map, take, refl, sym, ap, ◌∙◌, subst, length-append, arith}
 use Rattle.std.proofs.Math.Dec.{eqb-suc-zero}
 use Rattle.std.proofs.lemmas.List.{length-map}
-use Rattle.std.proofs.lemmas.List.Sums.{sum_by-cons, sum_by-take-le}
+use Rattle.std.proofs.lemmas.Option.{slice_get_cases}
+use Rattle.std.proofs.lemmas.List.Sums.{sum_by-cons, sum_by-take-le, sum_by_more_le}
 use Rattle.gta_theory.specs.Guides.{Spaces, left, right, IsGuide}
 use Rattle.store_core.specs.declared.ids.TypeId.{TypeId}
 use Rattle.store_core.specs.declared.ids.VariantId.{VariantId}
-use Rattle.store_core.specs.Tables.{TypeEntry, VarEntry}
+use Rattle.store_core.specs.Tables.{TypeEntry, VarEntry, KnowsType}
 use Rattle.tree_encode.specs.Spaces.{row_length, row_of_some, row, slot_types, child_types, spaces_in, first_space, rows_after, guide_of}
 
 -- ---- lengths
@@ -142,3 +143,12 @@ pub IsGuide-guide_of : (types : List TypeEntry) (vars : List VarEntry) (spares :
 IsGuide-guide_of types vars spares =
     IsGuide-closed types (slot_types vars spares) (row_length (length (slot_types vars spares)))
     (row_length (length (slot_types vars spares)) + spaces_in types) refl refl
+
+-- no type's first space is the rest
+pub first-apart : (types : List TypeEntry) (start : ℕ) (ty : TypeId) → KnowsType types ty → first_space types start ty < start + spaces_in types
+first-apart types start ty known = elim (slice_get_cases types ty.0).1 as (λ _. first_space types start ty < start + spaces_in types) [
+  | inl found ↦ (let more : spaces_in (take ty.0 types) + row_length (length (child_types (get_or types ty.0 found.0))) ≤ spaces_in types
+      = sum_by_more_le (λ t. row_length (length (child_types t))) types ty.0 found.0 found.1 in
+      omega (arith, more))
+  | inr past ↦ absurd (omega (arith, past.0, known))
+]

@@ -31,7 +31,7 @@ row_step : (spaces : Spaces) (children : List ℕ) (i child next rest : ℕ) →
 row_step spaces children i child next rest over is =
     append_assoc spaces ((child, next) ∷ []) (row_of_some (length (spaces ++ (child, next) ∷ [])) rest (drop (i + 1) children))
     ∙ ap (λ n. spaces ++ ((child, next) ∷ row_of_some n rest (drop (i + 1) children)))
-        (length-append spaces ((child, next) ∷ []) ∙ (let e : length spaces + 1 ≡ suc (length spaces) = omega arith in e))
+    (length-append spaces ((child, next) ∷ []) ∙ (let e : length spaces + 1 ≡ suc (length spaces) = omega arith in e))
     ∙ ap (λ m. spaces ++ ((child, m) ∷ row_of_some (suc (length spaces)) rest (drop (i + 1) children))) is
     ∙ ap (λ zs. spaces ++ row_of_some (length spaces) rest zs) (sym over)
 
@@ -58,11 +58,11 @@ pub rows-more : (types : List TypeEntry) (start rest i : ℕ) (t : TypeEntry) (s
     ≡ spaces ++ rows_after types start rest (length spaces) (drop i types)
 rows-more types start rest i t spaces is =
     append_assoc spaces (row (length spaces) rest (map (first_space types start) (child_types t)))
-        (rows_after types start rest (length (spaces ++ row (length spaces) rest (map (first_space types start) (child_types t)))) (drop (i + 1) types))
+    (rows_after types start rest (length (spaces ++ row (length spaces) rest (map (first_space types start) (child_types t)))) (drop (i + 1) types))
     ∙ ap (λ n. spaces ++ (row (length spaces) rest (map (first_space types start) (child_types t)) ++ rows_after types start rest n (drop (i + 1) types)))
-        (length-append spaces (row (length spaces) rest (map (first_space types start) (child_types t)))
-        ∙ ap (λ n. length spaces + n)
-            (length-row (length spaces) rest (map (first_space types start) (child_types t))
-            ∙ ap (λ n. row_length n) (length-map (child_types t) (first_space types start))))
+    (length-append spaces (row (length spaces) rest (map (first_space types start) (child_types t)))
+    ∙ ap (λ n. length spaces + n)
+    (length-row (length spaces) rest (map (first_space types start) (child_types t))
+    ∙ ap (λ n. row_length n) (length-map (child_types t) (first_space types start))))
     ∙ ap (λ ts. spaces ++ rows_after types start rest (length spaces) ts)
-        (sym (left_over types i t (slice_get_within types i t is) (sym (get_or_from_slice_get types i t t is))))
+    (sym (left_over types i t (slice_get_within types i t is) (sym (get_or_from_slice_get types i t t is))))

@@ -17,12 +17,12 @@ use Rattle.tree_encode.specs.Tracks.{TrackUse, of_variant, of_bool, of_var, vari
 
 -- ---- two lists, one after the other
 
-in_first : {X : Type 0} (xs ys : List X) (k : ℕ) (x : X) → slice_get xs k ≡ Some x → slice_get (xs ++ ys) k ≡ Some x
+pub in_first : {X : Type 0} (xs ys : List X) (k : ℕ) (x : X) → slice_get xs k ≡ Some x → slice_get (xs ++ ys) k ≡ Some x
 in_first [] ys k x is = cc
 in_first (y ∷ xs) ys zero x is = is
 in_first (y ∷ xs) ys (suc k) x is = in_first xs ys k x is
 
-in_second : {X : Type 0} (xs ys : List X) (n k : ℕ) (x : X) → n ≡ length xs → slice_get ys k ≡ Some x → slice_get (xs ++ ys) (n + k) ≡ Some x
+pub in_second : {X : Type 0} (xs ys : List X) (n k : ℕ) (x : X) → n ≡ length xs → slice_get ys k ≡ Some x → slice_get (xs ++ ys) (n + k) ≡ Some x
 in_second [] ys n k x e is =
     let at : n + k ≡ k = omega (arith, e) in
     ap (λ j. slice_get ys j) at ∙ is
@@ -170,7 +170,7 @@ length-tracks_of types vars =
     ∙ ap (λ m. m + length (map of_var (vars_from 0 vars))) (length-map (bools_from 0 types) of_bool ∙ length-bools_from 0 types)
     ∙ ap (λ m. bools_in types + m) (length-map (vars_from 0 vars) of_var ∙ length-vars_from 0 vars))
 
-mapped : {X Y : Type 0} (f : X → Y) (xs : List X) (k : ℕ) (x : X) → slice_get xs k ≡ Some x → slice_get (map f xs) k ≡ Some (f x)
+pub mapped : {X Y : Type 0} (f : X → Y) (xs : List X) (k : ℕ) (x : X) → slice_get xs k ≡ Some x → slice_get (map f xs) k ≡ Some (f x)
 mapped f [] k x is = cc
 mapped f (y ∷ xs) zero x is = (let same : y ≡ x = cc in ap (λ z. Some (f z)) same)
 mapped f (y ∷ xs) (suc k) x is = mapped f xs k x is
@@ -185,11 +185,11 @@ after_variants types vars k x is =
 
 -- ---- what an answer says
 
-cond-some : {X : Type 0} (b : Bool) (x t : X) → cond b (Some x) None ≡ Some t → (b ≡ true) × (x ≡ t)
+pub cond-some : {X : Type 0} (b : Bool) (x t : X) → cond b (Some x) None ≡ Some t → (b ≡ true) × (x ≡ t)
 cond-some true x t is = (refl, cc)
 cond-some false x t is = cc
 
-and_then-some : {A B : Type 0} (g : A → Option B) (o : Option A) (t : B) → option_and_then g o ≡ Some t → (x : A) × (o ≡ Some x) × (g x ≡ Some t)
+pub and_then-some : {A B : Type 0} (g : A → Option B) (o : Option A) (t : B) → option_and_then g o ≡ Some t → (x : A) × (o ≡ Some x) × (g x ≡ Some t)
 and_then-some g None t is = cc
 and_then-some g (Some x) t is = (x, refl, is)
 
@@ -202,7 +202,7 @@ typed types v inside = elim (slice_get_cases types v.ty.0).1 as (λ _. (t : Type
 ]
 
 -- the type of a field that is there
-fielded : (types : List TypeEntry) (f : FieldId) (entry : FieldEntry) → slice_get (fields_of types f.ty) f.index ≡ Some entry →
+pub fielded : (types : List TypeEntry) (f : FieldId) (entry : FieldEntry) → slice_get (fields_of types f.ty) f.index ≡ Some entry →
     (t : TypeEntry) × (slice_get types f.ty.0 ≡ Some t) × (fields_of types f.ty ≡ t.fields)
 fielded types f entry is = elim (slice_get_cases types f.ty.0).1 as (λ _. (t : TypeEntry) × (slice_get types f.ty.0 ≡ Some t) × (fields_of types f.ty ≡ t.fields)) [
   | inl found ↦ (found.0, found.2, ap (λ o. option_map_or (λ t. t.fields) o []) found.2)

@@ -56,10 +56,14 @@ rows_after types start rest n (t ∷ ts) =
     row n rest (map (first_space types start) (child_types t))
     ++ rows_after types start rest (n + row_length (length (child_types t))) ts
 
+-- the number of the first type's first space: the row of the slots stands before it
+abbrev pub types_start : List VarEntry → List VariantId → ℕ
+types_start vars spares = row_length (length (slot_types vars spares))
+
 -- the row of the slots, the rows of the types in order, and the rest, whose children are itself
 abbrev pub guide_of : List TypeEntry → List VarEntry → List VariantId → List (ℕ × ℕ)
 guide_of types vars spares =
-    let start = row_length (length (slot_types vars spares)) in
+    let start = types_start vars spares in
     let rest = start + spaces_in types in
     (row 0 rest (map (first_space types start) (slot_types vars spares)) ++ rows_after types start rest start types)
     ++ (rest, rest) ∷ []

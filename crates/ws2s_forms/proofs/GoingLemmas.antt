@@ -2,7 +2,7 @@
 use Rattle.std.proofs.Common.{◌≡◌, ℕ, zero, suc, ◌+◌, ◌-◌, ◌<◌, ◌≤◌, true, false, IsTrue, ◌↔◌, [], ◌∷◌, ◌++◌, refl, sym, ap, ◌∙◌, subst, append_assoc, arith}
 use Rattle.gta_theory.specs.Assignments.{Position, PositionSet, Assignment, IsOnly, replace}
 use Rattle.ws2s_core.specs.declared.formula.Formula.{Formula}
-use Rattle.ws2s_core.specs.declared.formula.Formula.TheVariants.{Sub, Succ0, Succ1, Root, And, Ex2}
+use Rattle.ws2s_core.specs.declared.formula.Formula.TheVariants.{Sub, Succ1, Root, And, Ex2}
 use Rattle.ws2s_core.specs.Satisfaction.{WSat}
 use Rattle.ws2s_core.proofs.SatisfactionLemmas.{WSat-Succ0, WSat-Succ1, WSat-Root, WSat-And, WSat-Ex2}
 use Rattle.ws2s_forms.specs.Forms.{track, go, slot, flag}
