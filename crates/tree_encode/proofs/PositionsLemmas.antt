@@ -1,5 +1,5 @@
 -- The spaces of cells' positions.
-use Rattle.std.proofs.Common.{◌≡◌, ℕ, true, false, cond, List, [], ◌∷◌, ◌++◌, take, unwrap_or, Option, Some, None, IfSome, refl, sym, ap, ◌∙◌, subst}
+use Rattle.std.proofs.Common.{◌≡◌, ℕ, true, false, cond, List, [], ◌∷◌, ◌++◌, take, unwrap_or, Some, None, IfSome, refl, sym, ap, ◌∙◌, subst}
 use Rattle.std.specs.Prelude.{count_by}
 use Rattle.std.specs.Option.{option_and_then}
 use Rattle.gta_theory.specs.Assignments.{Position}
@@ -15,19 +15,19 @@ use Rattle.store_core.specs.declared.kind.VarKind.{VarKind}
 use Rattle.store_core.specs.declared.kind.VarKind.TheVariants as var
 use Rattle.store_core.specs.declared.value.Value.{Value}
 use Rattle.store_core.specs.declared.value.Value.TheVariants as value
-use Rattle.store_core.specs.Tables.{TypeEntry, FieldEntry, VarEntry, fields_of, field_at, var_at}
-use Rattle.store_core.specs.Stores.{StoreMap, CellEntry, cell_of, field_of, field_value, var_value, IsLive}
+use Rattle.store_core.specs.Tables.{TypeEntry, FieldEntry, VarEntry, field_at, var_at}
+use Rattle.store_core.specs.Stores.{StoreMap, CellEntry, cell_of, field_of, field_value, var_value}
 use Rattle.store_core.proofs.FittingLemmas.{IfSome-at, IsSomeAnd-at, same_type}
 use Rattle.routing_expr.specs.declared.fault.Place.TheVariants as place
 use Rattle.routing_expr.specs.Walks.{DataAlone, IsFollowed, Leads, IsOfType}
-use Rattle.routing_expr.specs.WellFormed.{IsDataVar, Names, HoldsOfType, VarHoldsLive, FieldHoldsLive, IsBackbone}
-use Rattle.routing_laws.specs.Paths.{LeadsAlong, StandsAt}
+use Rattle.routing_expr.specs.WellFormed.{IsDataVar, Names, VarHoldsLive, FieldHoldsLive, IsBackbone}
+use Rattle.routing_laws.specs.Paths.{LeadsAlong}
 use Rattle.ws2s_forms.specs.Places.{ones, child_of, slot_of}
 use Rattle.tree_encode.specs.declared.counting.Counted.TheVariants.{Children}
 use Rattle.tree_encode.specs.Counting.{counts, is_counted, rank, is_data_var, is_data_kind}
 use Rattle.tree_encode.specs.Tracks.{slot_of_var, child_number}
 use Rattle.tree_encode.specs.Spaces.{first_space, guide_of, types_start}
-use Rattle.tree_encode.specs.Positions.{below, path_position, IsPlaced}
+use Rattle.tree_encode.specs.Positions.{below, IsPlaced}
 use Rattle.tree_encode.proofs.TracksLemmas.{and_then-some, fielded}
 use Rattle.tree_encode.proofs.PlacesLemmas.{space-slot, space-child, slot-type, child-type}
 
@@ -81,20 +81,20 @@ InFirst types vars spares s c u =
 at_slot : (types : List TypeEntry) (vars : List VarEntry) (spares : List VariantId) (s : StoreMap) (v : VarId) (c : CellId) → IsBackbone types vars s →
     Names types vars s (place.Var v) c → InFirst types vars spares s c (slot_of (unwrap_or (slot_of_var vars v) 0))
 at_slot types vars spares s v c backbone names =
-    let (entry, there, data) = IsSomeAnd-at (var_at vars v) (λ e. IsDataVar e.kind) names.place in
-    let (ty, kind) = data_var entry.kind data in
+    let (entry, there, is_data) = IsSomeAnd-at (var_at vars v) (λ e. IsDataVar e.kind) names.place in
+    let (ty, kind) = data_var entry.kind is_data in
     let holds : VarHoldsLive s entry.kind (value.Cell (Some c)) =
-      IfSome-at (var_value s v) (VarHoldsLive s entry.kind) (value.Cell (Some c)) names.value
-      (IfSome-at (var_at vars v) (λ e. IfSome (var_value s v) (VarHoldsLive s e.kind)) entry there (backbone.cell_vars v)) in
+    IfSome-at (var_value s v) (VarHoldsLive s entry.kind) (value.Cell (Some c)) names.value
+    (IfSome-at (var_at vars v) (λ e. IfSome (var_value s v) (VarHoldsLive s e.kind)) entry there (backbone.cell_vars v)) in
     let typed : IsOfType s ty c = subst (λ k. VarHoldsLive s k (value.Cell (Some c))) kind holds in
     let (cell, live, of_type) = IsSomeAnd-at (cell_of s c) (λ e. e.variant.ty ≡ ty) typed in
     let is = slotted vars v entry ty there kind in (
       cell,
       live,
       ap (λ o. space_at (guide_of types vars spares) 0 (slot_of (unwrap_or o 0))) is
-      ∙ space-slot types vars spares (count_by is_data_var (take v.0 vars)) ty
+          ∙ space-slot types vars spares (count_by is_data_var (take v.0 vars)) ty
           (slot-type vars spares v entry (count_by is_data_var (take v.0 vars)) ty is there kind)
-      ∙ ap (λ t. first_space types (types_start vars spares) t) (sym of_type),
+          ∙ ap (λ t. first_space types (types_start vars spares) t) (sym of_type),
     )
 
 -- at the child that a data field leads to
@@ -102,11 +102,11 @@ at_child : (types : List TypeEntry) (vars : List VarEntry) (spares : List Varian
     IsBackbone types vars s → Leads types s DataAlone f a b → InFirst types vars spares s a u →
     InFirst types vars spares s b (child_of (unwrap_or (child_number types f) 0) u)
 at_child types vars spares s f a b u backbone leads (parent, parent_at, parent_space) =
-    let (entry, there, data) = IsSomeAnd-at (field_at types f) (λ e. IsFollowed DataAlone e.kind) leads.kind in
-    let (ty, kind) = data_field entry.kind data in
+    let (entry, there, is_data) = IsSomeAnd-at (field_at types f) (λ e. IsFollowed DataAlone e.kind) leads.kind in
+    let (ty, kind) = data_field entry.kind is_data in
     let holds : FieldHoldsLive s entry.kind (value.Cell (Some b)) =
-      IfSome-at (field_value s a f) (FieldHoldsLive s entry.kind) (value.Cell (Some b)) leads.value
-      (IfSome-at (field_at types f) (λ e. IfSome (field_value s a f) (FieldHoldsLive s e.kind)) entry there (backbone.data_fields a f)) in
+    IfSome-at (field_value s a f) (FieldHoldsLive s entry.kind) (value.Cell (Some b)) leads.value
+    (IfSome-at (field_at types f) (λ e. IfSome (field_value s a f) (FieldHoldsLive s e.kind)) entry there (backbone.data_fields a f)) in
     let typed : IsOfType s ty b = subst (λ k. FieldHoldsLive s k (value.Cell (Some b))) kind holds in
     let (cell, live, of_type) = IsSomeAnd-at (cell_of s b) (λ e. e.variant.ty ≡ ty) typed in
     let is = numbered types f entry ty there kind in
@@ -116,13 +116,13 @@ at_child types vars spares s f a b u backbone leads (parent, parent_at, parent_s
       cell,
       live,
       ap (λ o. space_at (guide_of types vars spares) 0 (child_of (unwrap_or o 0) u)) is
-      ∙ space_at-append (guide_of types vars spares) u (ones (rank Children types f) ++ false ∷ []) 0
-      ∙ ap (λ n. space_at (guide_of types vars spares) n (ones (rank Children types f) ++ false ∷ []))
+          ∙ space_at-append (guide_of types vars spares) u (ones (rank Children types f) ++ false ∷ []) 0
+          ∙ ap (λ n. space_at (guide_of types vars spares) n (ones (rank Children types f) ++ false ∷ []))
           (parent_space ∙ ap (λ (e : CellEntry). first_space types (types_start vars spares) e.variant.ty) parent_own
           ∙ ap (λ k. first_space types (types_start vars spares) k) own_type_is)
-      ∙ space-child types vars spares f.ty t (rank Children types f) ty t_at
+          ∙ space-child types vars spares f.ty t (rank Children types f) ty t_at
           (child-type types f t entry (rank Children types f) ty is t_at there kind)
-      ∙ ap (λ k. first_space types (types_start vars spares) k) (sym of_type),
+          ∙ ap (λ k. first_space types (types_start vars spares) k) (sym of_type),
     )
   where
     the_same : (x y : CellEntry) → Some x ≡ Some y → x ≡ y
@@ -141,7 +141,7 @@ pub placed-space : (types : List TypeEntry) (vars : List VarEntry) (spares : Lis
     space_at (guide_of types vars spares) 0 p ≡ first_space types (types_start vars spares) cell.variant.ty
 placed-space types vars spares s c cell p backbone placed live =
     let (own, own_at, space) = at_end types vars spares s placed.fields placed.at.root c (slot_of (unwrap_or (slot_of_var vars placed.var) 0)) backbone
-      placed.at.along (at_slot types vars spares s placed.var placed.at.root backbone placed.at.named) in
+    placed.at.along (at_slot types vars spares s placed.var placed.at.root backbone placed.at.named) in
     let same : own ≡ cell = the_same own cell (sym own_at ∙ live) in
     ap (λ q. space_at (guide_of types vars spares) 0 q) placed.position ∙ space
     ∙ ap (λ (e : CellEntry). first_space types (types_start vars spares) e.variant.ty) same
