@@ -1,4 +1,7 @@
 pub mod FaultLemmas
 pub mod NamesLemmas
 pub mod RouteLemmas
+pub mod KnownRoutes
+pub mod StageLemmas
+pub mod TableLemmas
 pub mod TypesLemmas

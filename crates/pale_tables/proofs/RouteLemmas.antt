@@ -18,12 +18,12 @@ use Rattle.pale_tables.specs.declared.routes.Chain.TheVariants as chain
 use Rattle.pale_tables.specs.Routes.{route_rules, route_fault, route_node, route_of, followed_fault, bool_fault, type_fault, variant_fault}
 use Rattle.pale_tables.specs.Routes.{type_or_first, variant_or_first, chained, starred}
 
-fault_form : (names : TypeNames) (follows : Followed) (r : Route) (x : Route-F Route) → r ≡ roll-Route x →
+pub fault_form : (names : TypeNames) (follows : Followed) (r : Route) (x : Route-F Route) → r ≡ roll-Route x →
     route_fault names follows r ≡ route_rules names follows (map-Route Route Fault (route_fault names follows) x)
 unfolding route_fault
 fault_form names follows r x is = ap (route_fault names follows) is ∙ fold-roll-Route Fault (route_rules names follows) x
 
-route_form : (names : TypeNames) (r : Route) (x : Route-F Route) → r ≡ roll-Route x →
+pub route_form : (names : TypeNames) (r : Route) (x : Route-F Route) → r ≡ roll-Route x →
     route_of names r ≡ route_node names (map-Route Route along.Route (route_of names) x)
 unfolding route_of
 route_form names r x is = ap (route_of names) is ∙ fold-roll-Route along.Route (route_node names) x

@@ -2,3 +2,4 @@ pub mod Faults
 pub mod Names
 pub mod Routes
 pub mod Types
+pub mod Stages

@@ -7,11 +7,13 @@
 mod faults;
 mod names;
 mod routes;
+mod table;
 mod type_names;
 mod types;
 
 pub use faults::need;
 pub use names::Names;
 pub use routes::read_route;
+pub use table::read_table;
 pub use type_names::{Followed, TypeNames};
 pub use types::{FieldRow, TypeRow, check_type_names, read_names, read_types};
