@@ -11,6 +11,7 @@ use Rattle.gta_theory.specs.Automata.{Automaton}
 use Rattle.gta_theory.specs.Generated.{Generated, steps}
 use Rattle.gta_project.specs.Numbers.{number_in, AreNumbers, Extends}
 use Rattle.gta_project.specs.Filling.{IsCellFunction, Joins, ExceedsCells}
+use Rattle.gta_project.specs.Growing.{AreGenerated}
 use Rattle.gta_project.specs.Building.{IsSpaceOf, AreSpaces, IsStepFunction, CompleteAll, ExceedsSteps, Building, ExtendAll}
 use Rattle.gta_project.proofs.NumbersLemmas.{Extends-refl, Completes-extends}
 use Rattle.gta_project.proofs.JoinsLemmas.{All-append, All-weaker}
@@ -44,17 +45,14 @@ module _ (g : Spaces) (Sets : Automaton (List ℕ)) where
   pub AreSpaces-building : (first shelf : Contents) (spaces : List (List (List ℕ))) → Building g Sets first shelf spaces → AreSpaces g Sets spaces
   AreSpaces-building first shelf spaces building = building.are
 
-  module _ (s : ℕ) (inside : IsSpace g s) (old new : List (List (List ℕ))) (lefts rights before after : List (List ℕ))
-      (are : AreSpaces g Sets old) (change : ChangesSpace old new s before after)
-      (at_left : slice_get old (left g s) ≡ Some lefts) (at_right : slice_get old (right g s) ≡ Some rights)
-      (rows columns : List (List ℕ)) (in_rows : (x : List ℕ) → Contains rows x → (k : ℕ) × (slice_get lefts k ≡ Some x))
-      (in_columns : (x : List ℕ) → Contains columns x → (k : ℕ) × (slice_get rights k ≡ Some x)) where
-    row-generated : (x : List ℕ) → Contains rows x → Generated g Sets (left g s) x
-    row-generated x there = let k = in_rows x there in (are.each (left g s) lefts at_left).generated k.0 x k.1
+  -- sets of the list that a space has are generated
+  pub AreGenerated-list : (spaces : List (List (List ℕ))) → AreSpaces g Sets spaces → (s : ℕ) (list sets : List (List ℕ)) →
+      slice_get spaces s ≡ Some list → ((x : List ℕ) → Contains sets x → (k : ℕ) × (slice_get list k ≡ Some x)) → AreGenerated g Sets s sets
+  AreGenerated-list spaces are s list sets at inside = λ x there. let k = inside x there in (are.each s list at).generated k.0 x k.1
 
-    column-generated : (x : List ℕ) → Contains columns x → Generated g Sets (right g s) x
-    column-generated x there = let k = in_columns x there in (are.each (right g s) rights at_right).generated k.0 x k.1
-
+  module _ (s : ℕ) (inside : IsSpace g s) (old new : List (List (List ℕ))) (before after : List (List ℕ))
+      (are : AreSpaces g Sets old) (change : ChangesSpace old new s before after) (rows columns : List (List ℕ))
+      (row-generated : AreGenerated g Sets (left g s) rows) (column-generated : AreGenerated g Sets (right g s) columns) where
     step-function : (given : ℕ → List ℕ → ℕ) (whole : Function) → IsCellFunction Sets.step s rows columns (given s) whole →
         IsStepFunction g Sets given whole
     step-function given whole is = record {

@@ -16,3 +16,4 @@ pub mod CellsLemmas
 pub mod FinalLemmas
 pub mod LimitLemmas
 pub mod ProjectLemmas
+pub mod GrowingLemmas

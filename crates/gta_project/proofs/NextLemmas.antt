@@ -14,7 +14,7 @@ use Rattle.gta_project.specs.Filling.{Stepping, ExceedsCells, Joins}
 use Rattle.gta_project.proofs.ShelfLemmas.{automaton-kept}
 use Rattle.gta_project.proofs.JoinsLemmas.{Joins-wider, ExceedsCells-wider, Joins-trans, ExceedsCells-after, All-append, All-alone, All-weaker}
 
-alone-is : (y x : List ℕ) → Contains (y ∷ []) x → y ≡ x
+pub alone-is : (y x : List ℕ) → Contains (y ∷ []) x → y ≡ x
 alone-is y x there = All-contains (λ (z : List ℕ). y ≡ z) (y ∷ []) x (All-alone (λ (z : List ℕ). y ≡ z) y refl) there
 
 -- joins of some rows and columns go on, by those of fewer of them

@@ -36,7 +36,7 @@ pub(crate) fn classify(alloc: Global, sets: &Numbering, states: &[u32]) -> Resul
 }
 
 /// The set of the classes of a set.
-fn key_of(alloc: Global, set: &[u32], states: &[u32]) -> Result<Vec<u32>, NoMemory>
+pub(crate) fn key_of(alloc: Global, set: &[u32], states: &[u32]) -> Result<Vec<u32>, NoMemory>
     requires { All (λ q. q < length states.now) set.now }
     ensures { IfOk result (λ key. key.items ≡ classes_of states.now set.now) }
 {
@@ -49,7 +49,12 @@ fn key_of(alloc: Global, set: &[u32], states: &[u32]) -> Result<Vec<u32>, NoMemo
 }
 
 /// Lets the set stand for the class, if that is new.
-fn note(alloc: Global, ones: &mut Items<StateList>, class: u32, set: &[u32]) -> Result<(), NoMemory>
+pub(crate) fn note(
+    alloc: Global,
+    ones: &mut Items<StateList>,
+    class: u32,
+    set: &[u32],
+) -> Result<(), NoMemory>
     ensures { OnOk result (Notes class set.now ones.old ones.new) }
 {
     if class as usize == ones.len() {

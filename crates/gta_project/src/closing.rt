@@ -18,7 +18,7 @@ use plain_data::Items;
 use std::alloc::{AllocError, Global};
 use ws2s_core::Guide;
 
-/// The initial set of each space: in rounds from empty sets, until none grows.
+/// The initial set of each space, which grow from empty sets until they are the same once more.
 pub(crate) fn initial_sets(
     alloc: Global,
     g: &Guide,
@@ -32,14 +32,29 @@ pub(crate) fn initial_sets(
     // Only for its clause `guide`.
     let _ = g.spaces();
     let mut sets = Items::new(alloc);
-    for _round in 0..u64::MAX {
+    let mut many = 0;
+    loop {
         let next = next_sets(alloc, g, a, track, shelf, sets.as_slice())?;
         if are_same(next.as_slice(), sets.as_slice()) {
             return Ok(next);
         }
+        // Each set has what it had before, and one of them more: so there is no other way on.
+        let more = states_in(next.as_slice());
+        if more <= many {
+            return Err(AllocError);
+        }
+        many = more;
         sets = next;
     }
-    Err(AllocError)
+}
+
+/// How many states the sets have together.
+fn states_in(sets: &[StateList]) -> u64 {
+    let mut many: u64 = 0;
+    for set in sets {
+        many = many.saturating_add(set.len() as u64);
+    }
+    many
 }
 
 /// Whether all sets are the same.

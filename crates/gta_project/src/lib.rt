@@ -8,6 +8,7 @@
 mod classes;
 mod closing;
 mod filling;
+mod growing;
 mod numbering;
 mod projecting;
 mod roots;

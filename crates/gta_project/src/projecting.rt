@@ -21,6 +21,7 @@ ghost use Rattle.gta_project.specs.Settled.{IsSettled};
 use crate::classes::classify;
 use crate::closing::initial_sets;
 use crate::filling::fill;
+use crate::growing::{are_same, counts, grow, growths};
 use crate::numbering::Numbering;
 use bdd_nodes::{RefList, Shelf};
 use bdd_walk::{Joiner, NoMemory, StateList, Stop};
@@ -86,7 +87,7 @@ pub(crate) struct Settled {
     pub(crate) roots: RefList,
 }
 
-/// Joins for all sets in rounds, until no set comes.
+/// Joins for the sets as they come, until none comes; and then once more for all sets, which gives the roots.
 fn settle(
     alloc: Global,
     g: &Guide,
@@ -105,7 +106,19 @@ fn settle(
     let _ = shelf.count();
     let mut numbers = start(alloc, g, initials)?;
     let mut joiners = joiners(alloc, g)?;
-    for _round in 0..u64::MAX {
+    let mut growths = growths(alloc, g)?;
+    loop {
+        grow(
+            alloc,
+            g,
+            a,
+            track,
+            initials,
+            shelf,
+            &mut joiners,
+            &mut numbers,
+            &mut growths,
+        )?;
         let before = counts(alloc, &numbers)?;
         let mut roots = RefList::new(alloc);
         let parts = parts_of(
@@ -128,14 +141,6 @@ fn settle(
             });
         }
     }
-    Err(Stop::NoMemory)
-}
-
-/// Whether the counts are the same.
-fn are_same(one: &Items<u64>, other: &Items<u64>) -> bool
-    ensures { IsTrue result → other.now ≡ one.now }
-{
-    one.as_slice() == other.as_slice()
 }
 
 /// The initial set of each space.
@@ -164,17 +169,6 @@ fn joiners(alloc: Global, g: &Guide) -> Result<Vec<Joiner>, NoMemory>
         joiners.push(Joiner::new(alloc))?;
     }
     Ok(joiners)
-}
-
-/// How many sets each space has.
-fn counts(alloc: Global, spaces: &Vec<Numbering>) -> Result<Items<u64>, NoMemory>
-    ensures { IfOk result (λ counts. counts ≡ map length spaces.now.items) }
-{
-    let mut counts = Items::new(alloc);
-    for numbers in spaces {
-        counts.push(numbers.len() as u64)?;
-    }
-    Ok(counts)
 }
 
 /// Which sets of space 0 are accepting: those with an accepting state.

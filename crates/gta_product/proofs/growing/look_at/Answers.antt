@@ -75,7 +75,8 @@ returns c =
     let at_right = at-child g AB items c.requires.spaces (right g s) (guide.right_inside s inside) (c.unwrap_or-children.result).1
     (ap (λ (p : ℕ × ℕ). p.1) child) c.index-2.result.now rights c.index-2.ensures c.as_slice-rights.ensures.pairs in
     let are = c.requires.spaces in
-    on-ok c.look-2.result (λ (came : (x : ℕ × ℕ) → Contains c.look-2.new.self.ones x → Contains c.args.growth.now.columns.ones x ⊎ Contains rights x). record {
+    on-ok c.look-2.result (λ (came : (x : ℕ × ℕ) → Contains c.look-2.new.self.ones x → Contains
+    c.args.growth.now.columns.ones x ⊎ Contains rights x). record {
       rows = λ x there. elim (c.in_ok-look.ensures x there) [
         | inl before ↦ c.requires.seen.rows x before
         | inr more ↦ let k = Contains-get lefts x more in (are.each (left g s) lefts at_left).generated k.0 x k.1

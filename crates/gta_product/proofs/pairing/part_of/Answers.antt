@@ -194,7 +194,8 @@ returns-in_err-fill-clause-building c = λ start building.
     Building-set g AB s inside items (slice_set items s after) before after c.requires.spaces sets
     c.as_slice-5.result.now c.as_slice-6.result.now
     (AreGenerated-list g AB items c.requires.spaces (left g s) lefts c.as_slice-5.result.now at_left in_rows)
-    (AreGenerated-list g AB items c.requires.spaces (right g s) rights c.as_slice-6.result.now at_right in_columns) shelf c.fill.new.shelf c.fill.ensures.joins c.fill.ensures.numbers start building
+    (AreGenerated-list g AB items c.requires.spaces (right g s) rights c.as_slice-6.result.now at_right in_columns) shelf c.fill.new.shelf
+    c.fill.ensures.joins c.fill.ensures.numbers start building
 
 pub returns-in_err-count_up-clause-extends : goal.returns-in_err-count_up-clause-extends
 returns-in_err-count_up-clause-extends c =
@@ -240,7 +241,8 @@ returns-in_err-count_up-clause-building c = λ start building.
     Building-set g AB s inside items (slice_set items s after) before after c.requires.spaces sets
     c.as_slice-5.result.now c.as_slice-6.result.now
     (AreGenerated-list g AB items c.requires.spaces (left g s) lefts c.as_slice-5.result.now at_left in_rows)
-    (AreGenerated-list g AB items c.requires.spaces (right g s) rights c.as_slice-6.result.now at_right in_columns) shelf c.fill.new.shelf c.fill.ensures.joins c.fill.ensures.numbers start building
+    (AreGenerated-list g AB items c.requires.spaces (right g s) rights c.as_slice-6.result.now at_right in_columns) shelf c.fill.new.shelf
+    c.fill.ensures.joins c.fill.ensures.numbers start building
 
 pub returns-clause-extends : goal.returns-clause-extends
 returns-clause-extends c =
@@ -286,7 +288,8 @@ returns-clause-building c = λ start building.
     Building-set g AB s inside items (slice_set items s after) before after c.requires.spaces sets
     c.as_slice-5.result.now c.as_slice-6.result.now
     (AreGenerated-list g AB items c.requires.spaces (left g s) lefts c.as_slice-5.result.now at_left in_rows)
-    (AreGenerated-list g AB items c.requires.spaces (right g s) rights c.as_slice-6.result.now at_right in_columns) shelf c.fill.new.shelf c.fill.ensures.joins c.fill.ensures.numbers start building
+    (AreGenerated-list g AB items c.requires.spaces (right g s) rights c.as_slice-6.result.now at_right in_columns) shelf c.fill.new.shelf
+    c.fill.ensures.joins c.fill.ensures.numbers start building
 
 pub returns-in_err-fill-clause-limit : goal.returns-in_err-fill-clause-limit
 returns-in_err-fill-clause-limit c = λ stopped start building given completes.
@@ -323,7 +326,8 @@ returns-in_err-fill-clause-limit c = λ stopped start building given completes.
     ExceedsSteps-set g AB s inside items (slice_set items s after) before after c.requires.spaces sets
     c.as_slice-5.result.now c.as_slice-6.result.now
     (AreGenerated-list g AB items c.requires.spaces (left g s) lefts c.as_slice-5.result.now at_left in_rows)
-    (AreGenerated-list g AB items c.requires.spaces (right g s) rights c.as_slice-6.result.now at_right in_columns) shelf c.fill.new.shelf c.fill.ensures.joins c.fill.ensures.numbers start
+    (AreGenerated-list g AB items c.requires.spaces (right g s) rights c.as_slice-6.result.now at_right in_columns) shelf c.fill.new.shelf
+    c.fill.ensures.joins c.fill.ensures.numbers start
     building given completes
     (c.fill.ensures.limit (let why = rw stopped at c.from_residual-in_err-fill.ensures in c.in_err-fill.was ∙ (let is = why.1 in cc)) (given s)
     (completes s after sets.is))
@@ -449,4 +453,5 @@ returns-clause-spaces c =
     AreSpaces-set g AB s inside items (slice_set items s after) before after c.requires.spaces sets
     c.as_slice-5.result.now c.as_slice-6.result.now
     (AreGenerated-list g AB items c.requires.spaces (left g s) lefts c.as_slice-5.result.now at_left in_rows)
-    (AreGenerated-list g AB items c.requires.spaces (right g s) rights c.as_slice-6.result.now at_right in_columns) shelf c.fill.new.shelf c.fill.ensures.joins c.fill.ensures.numbers
+    (AreGenerated-list g AB items c.requires.spaces (right g s) rights c.as_slice-6.result.now at_right in_columns) shelf c.fill.new.shelf
+    c.fill.ensures.joins c.fill.ensures.numbers

@@ -48,14 +48,16 @@ parts_of-requires-clause-first c =
     let grown = Building-goes c.args.g.now c.args.a.now c.args.b.now c.args.shelf.now c.loop-growths.shelf c.count.ensures.shelf c.loop-growths.numbers.items
     c.loop-growths.invariant.building
     c.grow.new.shelf c.grow.new.numbers.items c.grow.ensures.goes.building in
-    auto-now c.args.g.now c.args.a.now c.args.b.now c.args.shelf.now c.grow.new.shelf c.count.ensures.shelf c.grow.new.numbers.items grown c.args.a.now c.requires.first
+    auto-now c.args.g.now c.args.a.now c.args.b.now c.args.shelf.now c.grow.new.shelf c.count.ensures.shelf c.grow.new.numbers.items grown
+    c.args.a.now c.requires.first
 
 pub parts_of-requires-clause-second : goal.parts_of-requires-clause-second
 parts_of-requires-clause-second c =
     let grown = Building-goes c.args.g.now c.args.a.now c.args.b.now c.args.shelf.now c.loop-growths.shelf c.count.ensures.shelf c.loop-growths.numbers.items
     c.loop-growths.invariant.building
     c.grow.new.shelf c.grow.new.numbers.items c.grow.ensures.goes.building in
-    auto-now c.args.g.now c.args.a.now c.args.b.now c.args.shelf.now c.grow.new.shelf c.count.ensures.shelf c.grow.new.numbers.items grown c.args.b.now c.requires.second
+    auto-now c.args.g.now c.args.a.now c.args.b.now c.args.shelf.now c.grow.new.shelf c.count.ensures.shelf c.grow.new.numbers.items grown
+    c.args.b.now c.requires.second
 
 pub parts_of-requires-clause-spaces : goal.parts_of-requires-clause-spaces
 parts_of-requires-clause-spaces c =
@@ -129,7 +131,8 @@ returns-in_err-parts-clause-limit c = λ stopped.
     let grown = Building-goes c.args.g.now c.args.a.now c.args.b.now c.args.shelf.now c.loop-growths.shelf c.count.ensures.shelf c.loop-growths.numbers.items
     c.loop-growths.invariant.building
     c.grow.new.shelf c.grow.new.numbers.items c.grow.ensures.goes.building in
-    Exceeded-goes c.args.g.now c.args.a.now c.args.b.now c.args.shelf.now c.grow.new.shelf c.count.ensures.shelf c.grow.new.numbers.items grown c.parts_of.new.numbers.items
+    Exceeded-goes c.args.g.now c.args.a.now c.args.b.now c.args.shelf.now c.grow.new.shelf c.count.ensures.shelf c.grow.new.numbers.items grown
+    c.parts_of.new.numbers.items
     (c.parts_of.ensures.limit (let why = rw stopped at c.from_residual-in_err-parts.ensures in c.in_err-parts.was ∙ (let is = why.1 in cc)))
 
 pub returns-then-are_same-clause-settled : goal.returns-then-are_same-clause-settled

@@ -9,7 +9,7 @@ use Rattle.gta_core.proofs.PlacingLemmas.{unwrap-inside}
 use Rattle.gta_project.specs.Subsets.{set_step, subsets}
 use Rattle.gta_project.specs.Classes.{AreClasses}
 use Rattle.gta_project.specs.Filling.{AreCells}
-use Rattle.gta_project.proofs.BuildingLemmas.{ExtendAll-set, AreSpaces-set, Building-set, ExceedsSteps-set}
+use Rattle.gta_project.proofs.BuildingLemmas.{AreGenerated-list, ExtendAll-set, AreSpaces-set, Building-set, ExceedsSteps-set}
 use Rattle.gta_project.proofs.PartLemmas.{get-at, get-set, at-child, part-at, length-set_at, ChangesSpace-at, FitAll-set, ones-inside}
 use Rattle.gta_project.proofs.PartLemmas.{row-inside, column-inside, roots-known, IsBuilt-made}
 use Rattle.gta_project.proofs.projecting.part_of.Goals as goal
@@ -161,8 +161,11 @@ returns-in_err-fill-clause-building c = λ start building.
     let after = c.fill.new.numbers in
     let was = get-at items s before (omega (arith, c.requires.spaces.many, inside)) c.index_mut-2.ensures.value in
     let change = ChangesSpace-at items s before after was in
-    Building-set g Sets s inside items (slice_set items s after) lefts rights before after c.requires.spaces change at_left at_right
-    c.as_slice-3.result.now c.as_slice-4.result.now in_rows in_columns shelf c.fill.new.shelf c.fill.ensures.joins c.fill.ensures.numbers start building
+    Building-set g Sets s inside items (slice_set items s after) before after c.requires.spaces change
+    c.as_slice-3.result.now c.as_slice-4.result.now
+    (AreGenerated-list g Sets items c.requires.spaces (left g s) lefts c.as_slice-3.result.now at_left in_rows)
+    (AreGenerated-list g Sets items c.requires.spaces (right g s) rights c.as_slice-4.result.now at_right in_columns)
+    shelf c.fill.new.shelf c.fill.ensures.joins c.fill.ensures.numbers start building
 
 pub returns-in_err-count_up-clause-building : goal.returns-in_err-count_up-clause-building
 returns-in_err-count_up-clause-building c = λ start building.
@@ -195,8 +198,11 @@ returns-in_err-count_up-clause-building c = λ start building.
     let after = c.fill.new.numbers in
     let was = get-at items s before (omega (arith, c.requires.spaces.many, inside)) c.index_mut-2.ensures.value in
     let change = ChangesSpace-at items s before after was in
-    Building-set g Sets s inside items (slice_set items s after) lefts rights before after c.requires.spaces change at_left at_right
-    c.as_slice-3.result.now c.as_slice-4.result.now in_rows in_columns shelf c.fill.new.shelf c.fill.ensures.joins c.fill.ensures.numbers start building
+    Building-set g Sets s inside items (slice_set items s after) before after c.requires.spaces change
+    c.as_slice-3.result.now c.as_slice-4.result.now
+    (AreGenerated-list g Sets items c.requires.spaces (left g s) lefts c.as_slice-3.result.now at_left in_rows)
+    (AreGenerated-list g Sets items c.requires.spaces (right g s) rights c.as_slice-4.result.now at_right in_columns)
+    shelf c.fill.new.shelf c.fill.ensures.joins c.fill.ensures.numbers start building
 
 pub returns-clause-building : goal.returns-clause-building
 returns-clause-building c = λ start building.
@@ -229,8 +235,11 @@ returns-clause-building c = λ start building.
     let after = c.fill.new.numbers in
     let was = get-at items s before (omega (arith, c.requires.spaces.many, inside)) c.index_mut-2.ensures.value in
     let change = ChangesSpace-at items s before after was in
-    Building-set g Sets s inside items (slice_set items s after) lefts rights before after c.requires.spaces change at_left at_right
-    c.as_slice-3.result.now c.as_slice-4.result.now in_rows in_columns shelf c.fill.new.shelf c.fill.ensures.joins c.fill.ensures.numbers start building
+    Building-set g Sets s inside items (slice_set items s after) before after c.requires.spaces change
+    c.as_slice-3.result.now c.as_slice-4.result.now
+    (AreGenerated-list g Sets items c.requires.spaces (left g s) lefts c.as_slice-3.result.now at_left in_rows)
+    (AreGenerated-list g Sets items c.requires.spaces (right g s) rights c.as_slice-4.result.now at_right in_columns)
+    shelf c.fill.new.shelf c.fill.ensures.joins c.fill.ensures.numbers start building
 
 pub returns-in_err-fill-clause-limit : goal.returns-in_err-fill-clause-limit
 returns-in_err-fill-clause-limit c = λ stopped start building given completes.
@@ -263,8 +272,11 @@ returns-in_err-fill-clause-limit c = λ stopped start building given completes.
     let after = c.fill.new.numbers in
     let was = get-at items s before (omega (arith, c.requires.spaces.many, inside)) c.index_mut-2.ensures.value in
     let change = ChangesSpace-at items s before after was in
-    ExceedsSteps-set g Sets s inside items (slice_set items s after) lefts rights before after c.requires.spaces change at_left at_right
-    c.as_slice-3.result.now c.as_slice-4.result.now in_rows in_columns shelf c.fill.new.shelf c.fill.ensures.joins
+    ExceedsSteps-set g Sets s inside items (slice_set items s after) before after c.requires.spaces change
+    c.as_slice-3.result.now c.as_slice-4.result.now
+    (AreGenerated-list g Sets items c.requires.spaces (left g s) lefts c.as_slice-3.result.now at_left in_rows)
+    (AreGenerated-list g Sets items c.requires.spaces (right g s) rights c.as_slice-4.result.now at_right in_columns)
+    shelf c.fill.new.shelf c.fill.ensures.joins
     c.fill.ensures.numbers start building given completes
     (c.fill.ensures.limit (let why = rw stopped at c.from_residual-in_err-fill.ensures in c.in_err-fill.was ∙ (let is = why.1 in cc)) (given s)
     (completes s after change.is))
@@ -381,5 +393,8 @@ returns-clause-spaces c =
     let after = c.fill.new.numbers in
     let was = get-at items s before (omega (arith, c.requires.spaces.many, inside)) c.index_mut-2.ensures.value in
     let change = ChangesSpace-at items s before after was in
-    AreSpaces-set g Sets s inside items (slice_set items s after) lefts rights before after c.requires.spaces change at_left at_right
-    c.as_slice-3.result.now c.as_slice-4.result.now in_rows in_columns shelf c.fill.new.shelf c.fill.ensures.joins c.fill.ensures.numbers
+    AreSpaces-set g Sets s inside items (slice_set items s after) before after c.requires.spaces change
+    c.as_slice-3.result.now c.as_slice-4.result.now
+    (AreGenerated-list g Sets items c.requires.spaces (left g s) lefts c.as_slice-3.result.now at_left in_rows)
+    (AreGenerated-list g Sets items c.requires.spaces (right g s) rights c.as_slice-4.result.now at_right in_columns)
+    shelf c.fill.new.shelf c.fill.ensures.joins c.fill.ensures.numbers

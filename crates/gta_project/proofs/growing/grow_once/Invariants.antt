@@ -1,0 +1,13 @@
+use Rattle.gta_project.specs.Subsets.{subsets}
+use Rattle.gta_core.specs.Auto.{automaton_of}
+use Rattle.gta_project.specs.Building.{AreSpaces, FitAll}
+use Rattle.gta_project.specs.Growing.{HaveSeen, Goes}
+use Rattle.gta_project.proofs.growing.grow_once.Given as goal
+
+abbrev pub invariant-loop-space : goal.invariant-loop-space
+invariant-loop-space l = record {
+  goes : Goes l.g (subsets (automaton_of l.fn.shelf l.a) l.track l.initials) l.fn.shelf l.shelf l.fn.numbers.items l.numbers.items;
+  are : AreSpaces l.g (subsets (automaton_of l.fn.shelf l.a) l.track l.initials) l.numbers.items;
+  seen : HaveSeen l.g (subsets (automaton_of l.fn.shelf l.a) l.track l.initials) l.growths.items;
+  fits : FitAll l.track l.shelf l.joiners.items l.numbers.items;
+}
