@@ -1,10 +1,11 @@
 //! The codes that are run.
 
 use crate::lists::NODE;
+use plain_data::Boxed;
 use std::alloc::{AllocError, Global};
 use store_core::{FieldId, VarId, VariantId};
 use store_exec::{Code, Item, ItemList, Tail};
-use store_logic::{Act, FieldList, Operand, Path, Rhs};
+use store_logic::{Act, Assertion, Base, FieldList, Operand, Path, Rhs, Term};
 
 const X: VarId = VarId(0);
 
@@ -25,6 +26,8 @@ pub enum Kind {
     New,
     /// `y = x`, then `x = x.next`, then `free y`
     Free,
+    /// The same, and behind it all `assert [all c: Node. c = c]`
+    FreeAssert,
 }
 
 fn name(alloc: Global, var: VarId) -> Path {
@@ -68,8 +71,18 @@ fn act(alloc: Global, kind: Kind, step: u32) -> Result<Act, AllocError> {
         Kind::Walk => go(alloc, Y),
         Kind::Write => write(alloc, step),
         Kind::New => Ok(Act::Assign(name(alloc, Y), Rhs::New(CELL))),
-        Kind::Free => free(alloc, step),
+        Kind::Free | Kind::FreeAssert => free(alloc, step),
     }
+}
+
+fn bound(alloc: Global) -> Term {
+    Term::At(Base::Bound(0), FieldList::new(alloc))
+}
+
+/// `assert [all c: Node. c = c]`
+fn assert_of_each(alloc: Global) -> Result<Act, AllocError> {
+    let body = Boxed::new(alloc, Assertion::Same(bound(alloc), bound(alloc)))?;
+    Ok(Act::Assert(Assertion::All(NODE, body)))
 }
 
 /// `y = x`, and then so many statements.
@@ -78,6 +91,9 @@ pub fn code_of(alloc: Global, kind: Kind, acts: u32) -> Result<Code, AllocError>
     items.push(Item::Do(1, set(name(alloc, Y), name(alloc, X))))?;
     for step in 0..acts {
         items.push(Item::Do(2, act(alloc, kind, step)?))?;
+    }
+    if kind == Kind::FreeAssert {
+        items.push(Item::Do(3, assert_of_each(alloc)?))?;
     }
     Ok(Code {
         items,

@@ -1,7 +1,7 @@
 //! Runs codes on a list of cells in rounds, each on a copy of it, and looks at it at cuts; prints counts alone. Its words: how many
 //! cells, how many statements a code has, and how many rounds of each: codes that walk the list, that write each cell again, that
-//! make cells, and that free the list from its head; `well_formed`, `at_cut` at a cut that is no call, and `at_cut` at a call that hands
-//! the list over.
+//! make cells, that free the list from its head, and that free it so and then assert something of each cell left; `well_formed`,
+//! `at_cut` at a cut that is no call, and `at_cut` at a call that hands the list over.
 #![tactic(auto)]
 
 mod codes;
@@ -24,6 +24,7 @@ fn rounds_of(words: &mut env::Args) -> Result<Rounds> {
         writes: number(words, "rounds of writes")?,
         news: number(words, "rounds of new cells")?,
         frees: number(words, "rounds of freed cells")?,
+        asserts: number(words, "rounds of assertions behind freed cells")?,
         well_formed: number(words, "rounds of well_formed")?,
         cuts: number(words, "rounds of cuts")?,
         calls: number(words, "rounds of calls")?,

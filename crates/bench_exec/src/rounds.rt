@@ -20,6 +20,7 @@ pub struct Rounds {
     pub writes: u32,
     pub news: u32,
     pub frees: u32,
+    pub asserts: u32,
     pub well_formed: u32,
     pub cuts: u32,
     pub calls: u32,
@@ -114,11 +115,21 @@ fn run_kinds(
     let writes = run_rounds(alloc, types, vars, store, Kind::Write, acts, rounds.writes)?;
     let news = run_rounds(alloc, types, vars, store, Kind::New, acts, rounds.news)?;
     let frees = run_rounds(alloc, types, vars, store, Kind::Free, acts, rounds.frees)?;
+    let asserts = run_rounds(
+        alloc,
+        types,
+        vars,
+        store,
+        Kind::FreeAssert,
+        acts,
+        rounds.asserts,
+    )?;
     Ok(
         walks
             .saturating_add(writes)
             .saturating_add(news)
-            .saturating_add(frees),
+            .saturating_add(frees)
+            .saturating_add(asserts),
     )
 }
 

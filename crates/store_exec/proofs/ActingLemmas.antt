@@ -54,7 +54,7 @@ or-second p q r is false_is = by p (sym is ∙ false_is)
     by true e = absurd cc
     by false e = refl
 
-assert-If : (line : ℕ) (c : Cond) (taken other : List Item) →
+pub assert-If : (line : ℕ) (c : Cond) (taken other : List Item) →
     have_assert (acts_of_item (item.If line c taken other)) ≡ (have_assert (acts_of_items taken) || have_assert (acts_of_items other))
 assert-If line c taken other = ap have_assert (acts-If line c taken other) ∙ list_any-append is_assert (acts_of_items taken) (acts_of_items other)
 

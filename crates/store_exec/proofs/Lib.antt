@@ -10,6 +10,7 @@ pub mod CanRunLemmas
 pub mod AnswerLemmas
 pub mod CutLemmas
 pub mod ActingLemmas
+pub mod StandingLemmas
 pub mod InductionLemmas
 pub mod RenamedReads
 pub mod RenamedChanges

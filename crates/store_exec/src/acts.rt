@@ -15,7 +15,8 @@ use crate::cause::Cause;
 use crate::halt::Halt;
 use crate::reading::{cell_through, operand_value, read_along, variable};
 use crate::truth::{cell_of, truth};
-use std::alloc::Global;
+use plain_data::Stack;
+use std::alloc::{AllocError, Global};
 use store_core::{CellId, FieldId, Store, TypeTable, Value, VarId};
 use store_logic::{Act, Assertion, Path, Region, Rhs};
 use store_sat::sat;
@@ -153,13 +154,55 @@ pub(crate) fn step(
     }
 }
 
-/// Stops where an assertion is false.
-fn check(alloc: Global, types: &TypeTable, assertion: &Assertion, store: &Store) -> Result<(), Halt>
-    ensures { Asserts types.now store.now assertion.now result }
+/// Stops where an assertion is false. The store is the same.
+///
+/// Before an assertion that may go over the cells the freed ones are let go, so that it goes over them once and not once for
+/// each place. Letting them go is one pass over the cells, no more than such an assertion may take anyway, and only behind a
+/// `free`; where cells are freed and variables and fields compared in turn, there is none. So an act takes no more time than
+/// a pass over the cells and what it says itself: 10,000 acts on 10,000 cells let cells go 5,000 times at most.
+fn check(
+    alloc: Global,
+    types: &TypeTable,
+    assertion: &Assertion,
+    store: &mut Store,
+) -> Result<(), Halt>
+    ensures asserts { Asserts types.now store.old assertion.now result }
+    ensures kept { store.new ≡ store.old }
 {
+    if may_go_over_cells(alloc, assertion)? {
+        store.settle();
+    }
     if sat(alloc, types, store, &Region::All, assertion)? {
         Ok(())
     } else {
         Err(Halt::Fails(Cause::Assert))
+    }
+}
+
+/// Whether a store is to be settled before an assertion is read: it has a quantifier or a walk. No contract rests on the answer,
+/// since a settled store is the same.
+fn may_go_over_cells(alloc: Global, assertion: &Assertion) -> Result<bool, AllocError> {
+    let mut waiting = Stack::new(alloc);
+    let mut part = assertion;
+    loop {
+        match part {
+            Assertion::Walk(_, _, _)
+            | Assertion::Ex(_, _)
+            | Assertion::All(_, _)
+            | Assertion::ExSet(_, _)
+            | Assertion::AllSet(_, _) => return Ok(true),
+            Assertion::Not(inner) => part = inner.get(),
+            Assertion::And(left, right)
+            | Assertion::Or(left, right)
+            | Assertion::Imp(left, right)
+            | Assertion::Iff(left, right) => {
+                waiting.push(right.get())?;
+                part = left.get();
+            }
+            _ => match waiting.pop() {
+                Some(next) => part = next,
+                None => return Ok(false),
+            },
+        }
     }
 }

@@ -1,17 +1,19 @@
 //! Whether an `assert` stands in code.
 
-ghost use Rattle.std.specs.Prelude.{◌≡◌, ◌||◌, ◌+◌, ◌≤◌, IfSome};
+ghost use Rattle.std.specs.Prelude.{◌≡◌, ◌||◌, ◌+◌, ◌≤◌, ◌<◌, ◌∷◌, IfSome};
 ghost use Rattle.store_exec.specs.Acting as acting;
 ghost use Rattle.store_exec.specs.Acting.{acts_of, acts_of_item, acts_of_items, have_assert, code_count};
+ghost use Rattle.store_exec.specs.Going.{weight_of_items};
 
 use crate::code::{Code, Item, Tail};
 use store_logic::Act;
 
 /// Whether an `assert` stands in the code, in whichever of its parts.
 ///
-/// Takes no memory, and of the stack at most 65 levels for the branches, however many stand within one another: of the two codes
-/// of a branch the simpler one is looked through by a call, and the other one by going on. A plain `if` within another one takes
-/// a level. The time is linear in the length of the code where one of the two codes is short at most branches.
+/// Takes no memory, and of the stack at most 65 levels for the branches and 65 for the plain ifs, however many stand within one
+/// another: of the two codes of a branch the simpler one is looked through by a call, and the other one by going on; and the same
+/// of the two lists of a plain `if` and what stands behind it, of which two are looked through by calls. The time is linear in the
+/// length of the code where all but one of these parts are short at most branches and ifs.
 pub fn has_assert(code: &Code) -> bool
     ensures { result ≡ have_assert (acts_of code.now) }
 {
@@ -76,12 +78,81 @@ fn find(code: &Code) -> bool
     }
 }
 
-#[cycle(items)]
+/// Whether an `assert` stands in the items.
 fn stands_in_items(items: &[Item]) -> bool
     ensures { result ≡ have_assert (acts_of_items items.now) }
 {
+    match stands_within(items, 64) {
+        Some(found) => found,
+        // Such items have more ifs than any memory holds.
+        None => find_in_items(items),
+    }
+}
+
+/// The same, by this many calls within one another at most. `None` where they are too few.
+#[cycle(standing)]
+fn stands_within(items: &[Item], calls: u32) -> Option<bool>
+    ensures { IfSome result (λ found. found ≡ have_assert (acts_of_items items.now)) }
+{
+    let mut rest = items;
+    while let Some((item, more)) = rest.split_first() {
+        let (found, next) = stands_in_first(item, more, calls)?;
+        if found {
+            return Some(true);
+        }
+        rest = next;
+    }
+    Some(false)
+}
+
+/// Whether an `assert` stands in an act, or in two of the parts that an `if` and the items behind it are; and the items that are
+/// left to be looked through.
+#[cycle(standing)]
+fn stands_in_first<'a>(item: &'a Item, more: &'a [Item], calls: u32) -> Option<(bool, &'a [Item])>
+    ensures found { IfSome result (λ found. (found.0 || have_assert (acts_of_items found.1.now)) ≡ have_assert (acts_of_items (item.now ∷ more.now))) }
+    ensures less { IfSome result (λ found. weight_of_items found.1.now < weight_of_items (item.now ∷ more.now)) }
+{
+    match item {
+        Item::Do(_, act) => Some((is_assert(act), more)),
+        Item::If(_, _, taken, other) => {
+            let (found, left) = stands_in_simpler(taken.as_slice(), other.as_slice(), calls)?;
+            if found {
+                return Some((true, more));
+            }
+            stands_in_simpler(left, more, calls)
+        }
+    }
+}
+
+/// Whether an `assert` stands in the one of two lists that fewer calls are enough for, and the other list.
+#[cycle(standing)]
+fn stands_in_simpler<'a>(
+    one: &'a [Item],
+    other: &'a [Item],
+    calls: u32,
+) -> Option<(bool, &'a [Item])>
+    ensures found { IfSome result (λ found. (found.0 || have_assert (acts_of_items found.1.now))
+        ≡ (have_assert (acts_of_items one.now) || have_assert (acts_of_items other.now))) }
+    ensures less { IfSome result (λ found. weight_of_items found.1.now ≤ weight_of_items one.now + weight_of_items other.now) }
+{
+    for fewer in 0..calls {
+        if let Some(found) = stands_within(one, fewer) {
+            return Some((found, other));
+        }
+        if let Some(found) = stands_within(other, fewer) {
+            return Some((found, one));
+        }
+    }
+    None
+}
+
+/// The same as `stands_in_items`, by a call for each `if` within another.
+#[cycle(items)]
+fn find_in_items(items: &[Item]) -> bool
+    ensures { result ≡ have_assert (acts_of_items items.now) }
+{
     for item in items {
-        if stands_in_item(item) {
+        if find_in_item(item) {
             return true;
         }
     }
@@ -89,13 +160,13 @@ fn stands_in_items(items: &[Item]) -> bool
 }
 
 #[cycle(items)]
-fn stands_in_item(item: &Item) -> bool
+fn find_in_item(item: &Item) -> bool
     ensures { result ≡ have_assert (acts_of_item item.now) }
 {
     match item {
         Item::Do(_, act) => is_assert(act),
         Item::If(_, _, taken, other) => {
-            stands_in_items(taken.as_slice()) || stands_in_items(other.as_slice())
+            find_in_items(taken.as_slice()) || find_in_items(other.as_slice())
         }
     }
 }
