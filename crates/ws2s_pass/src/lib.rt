@@ -8,13 +8,20 @@
 mod flatten;
 mod fold;
 mod laws;
+mod narrow;
 mod pass;
 mod passes;
+mod sink;
 mod unused;
+mod used;
 
 pub use flatten::flatten_not;
 pub use fold::fold_constants;
-pub use laws::{flattened_formulas_negate_no_negation, left_quantifiers_are_used};
+pub use laws::{
+    flattened_formulas_negate_no_negation, left_constants_are_whole, left_quantifiers_are_used,
+    narrow_quantifiers_bind_both_sides,
+};
+pub use narrow::narrow_scope;
 pub use pass::{Pass, PassName, Rewriter};
 pub use passes::{PassList, apply};
 pub use unused::drop_unused;
