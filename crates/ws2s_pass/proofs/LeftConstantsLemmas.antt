@@ -30,8 +30,8 @@ HasNone (Constant truth) = truth ≡ truth
 HasNone (Open f) = AllOpen f
 
 open-node : (node : Formula-F Formula) (f : Formula) → roll-Formula node ≡ f → is_constant_node node ≡ false → All AllOpen (parts_of node) → AllOpen f
-open-node node f is no below = each-part-of IsOpen node f is
-    (λ e. false≢true (sym (ap is_constant_node (out-of node f is) ∙ no) ∙ e)) below
+open-node node f is varies below = each-part-of IsOpen node f is
+    (λ e. false≢true (sym (ap is_constant_node (out-of node f is) ∙ varies) ∙ e)) below
 
 at_test : (node : Formula-F Formula) (f : Formula) (truth : Bool) → roll-Formula node ≡ f → All AllOpen (parts_of node) → (b : Bool) →
     is_constant_node node ≡ b → HasNone (cond b (Constant truth) (Open f))

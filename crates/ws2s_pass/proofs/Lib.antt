@@ -1,3 +1,4 @@
+pub mod ApplyingLemmas
 pub mod ConstantsLemmas
 pub mod FlatteningLemmas
 pub mod FoldingLemmas
