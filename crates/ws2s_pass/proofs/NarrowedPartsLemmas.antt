@@ -1,5 +1,5 @@
 -- No part of a narrowed formula is a quantifier that could stand further inside.
-use Rattle.std.proofs.Common.{◌≡◌, ℕ, Bool, true, false, cond, [], ◌∷◌, All, Contains, refl, sym, ap, subst, ◌∙◌}
+use Rattle.std.proofs.Common.{◌≡◌, Bool, true, false, cond, [], ◌∷◌, All, Contains, refl, sym, ap, subst, ◌∙◌}
 use Rattle.std.proofs.lemmas.List.Elements.{All-nil, All-cons, All-contains}
 use Rattle.gta_theory.proofs.ListsLemmas.{Contains-first, Contains-later}
 use Rattle.ws2s_core.specs.declared.track.Track.{Track}

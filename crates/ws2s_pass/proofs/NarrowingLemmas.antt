@@ -1,5 +1,5 @@
 -- On quantifiers brought into conjunctions.
-use Rattle.std.proofs.Common.{◌≡◌, ℕ, ◌+◌, ◌≤◌, Bool, true, false, cond, eqb, ◌||◌, refl, sym, ap, subst, ◌∙◌, arith, eqb-true}
+use Rattle.std.proofs.Common.{◌≡◌, ℕ, Bool, true, false, cond, eqb, ◌||◌, refl, sym, ap, subst, ◌∙◌, arith, eqb-true}
 use Rattle.std.proofs.lemmas.Bool.{false≢true}
 use Rattle.ws2s_core.specs.declared.track.Track.{Track}
 use Rattle.ws2s_core.specs.declared.formula.Formula.{Formula, roll-Formula}
@@ -10,7 +10,7 @@ use Rattle.ws2s_core.specs.Tracks.{is_free}
 use Rattle.ws2s_core.proofs.FormulaLemmas.{formula-induction, fold-Sub, fold-Single, fold-Succ0, fold-Succ1, fold-Root, fold-And, fold-Not, fold-Ex2}
 use Rattle.ws2s_theory.proofs.ContextsLemmas.{Same-sym, Same-outside_right, Same-outside_left}
 use Rattle.ws2s_pass.specs.Rewriting.{IsRewriting}
-use Rattle.ws2s_pass.specs.Narrowing.{Entered, into_conjunction, entered_node, stays_before, sunk, narrowed_node, narrowed}
+use Rattle.ws2s_pass.specs.Narrowing.{Entered, entered_node, stays_before, sunk, narrowed_node, narrowed}
 use Rattle.ws2s_pass.proofs.RewritingLemmas.{IsRewriting-refl, IsRewriting-is, IsRewriting-trans, IsRewriting-and, IsRewriting-fold, count-And, count-Ex2, free-And, free-Ex2}
 
 module _ (t : Track) where

@@ -1,16 +1,15 @@
 -- On a quantifier on its way into a formula.
-use Rattle.std.proofs.Common.{◌≡◌, ℕ, Bool, true, false, cond, eqb, ◌||◌, List, [], ◌∷◌, ◌++◌, refl, sym, ap, subst, ◌∙◌}
+use Rattle.std.proofs.Common.{◌≡◌, Bool, true, false, cond, eqb, ◌||◌, List, [], ◌∷◌, ◌++◌, refl, sym, ap, subst, ◌∙◌}
 use Rattle.ws2s_core.specs.declared.track.Track.{Track}
 use Rattle.ws2s_core.specs.declared.formula.Formula.{Formula}
 use Rattle.ws2s_core.specs.declared.formula.Formula.TheVariants.{Sub, Single, Succ0, Succ1, Root, And, Not, Ex2}
-use Rattle.ws2s_core.specs.declared.formula.Formula.TheOpen.{Formula-F}
 use Rattle.ws2s_core.specs.declared.formula.Formula.TheFolds.{fold-Formula}
 use Rattle.ws2s_core.specs.Tracks.{is_free, is_free_in_node}
 use Rattle.ws2s_core.proofs.FormulaLemmas.{formula-induction, fold-Sub, fold-Single, fold-Succ0, fold-Succ1, fold-Root, fold-And, fold-Not, fold-Ex2}
 use Rattle.ws2s_pass.specs.declared.sink.Beside.{Beside}
 use Rattle.ws2s_pass.specs.declared.sink.Sinking.{Sinking}
 use Rattle.ws2s_pass.specs.Narrowing.{sunk}
-use Rattle.ws2s_pass.specs.Sinking.{placed_in, placed_within, whole_of, resting, sinking_conjunction, sinking_node}
+use Rattle.ws2s_pass.specs.Sinking.{placed_in, placed_within, whole_of, resting, sinking_node}
 use Rattle.ws2s_pass.proofs.NarrowingLemmas.{sunk-Sub, sunk-Single, sunk-Succ0, sunk-Succ1, sunk-Root, sunk-And, sunk-Not, sunk-Ex2}
 use Rattle.ws2s_pass.proofs.RewritingLemmas.{free-And, free-Not, free-Ex2}
 

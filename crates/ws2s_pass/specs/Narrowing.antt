@@ -1,6 +1,6 @@
 -- Formulas whose quantifiers stand as far inside conjunctions as they can. (Miniscoping: Nonnengart and Weidenbach,
 -- Computing Small Clause Normal Forms; the rule by which a quantifier leaves one side of a conjunction.)
-use Rattle.std.specs.Prelude.{List, [], ◌∷◌, Bool, true, false, if◌then◌else◌}
+use Rattle.std.specs.Prelude.{if◌then◌else◌}
 use Rattle.ws2s_core.specs.declared.track.Track.{Track}
 use Rattle.ws2s_core.specs.declared.formula.Formula.{Formula, roll-Formula}
 use Rattle.ws2s_core.specs.declared.formula.Formula.TheVariants.{Sub, Single, Succ0, Succ1, Root, And, Not, Ex2}

@@ -1,8 +1,9 @@
 //! Passes: rewriters of core formulas that keep the satisfying assignments.
 //!
 //! `specs/Rewriting.antt` says what every rewriter and every pass keeps. What each rewriter makes of a formula is a
-//! function on formulas: `specs/Flattening.antt`, `specs/Using.antt` and `specs/Constants.antt`. A formula is gone
-//! through in postfix order, however deep it is (`specs/Folding.antt`).
+//! function on formulas: `specs/Flattening.antt`, `specs/Using.antt`, `specs/Constants.antt` and `specs/Narrowing.antt`. A
+//! formula is gone through in postfix order, however deep it is (`specs/Folding.antt`). `specs/Applying.antt` says that the
+//! passes of a list run one after the other.
 #![tactic(auto)]
 
 mod flatten;

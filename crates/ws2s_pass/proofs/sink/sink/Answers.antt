@@ -1,4 +1,4 @@
-use Rattle.std.proofs.Common.{◌≡◌, drop, reverse, ap, ◌∙◌, sym, subst, rules, arith}
+use Rattle.std.proofs.Common.{◌≡◌, drop, reverse, ap, ◌∙◌, rules, arith}
 use Rattle.std.proofs.lemmas.Grind.{common_steps}
 use Rattle.std.proofs.lemmas.Result.{IfOk-weaker}
 use Rattle.ws2s_core.specs.Postfix.{postfix_of}
