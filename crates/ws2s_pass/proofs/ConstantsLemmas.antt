@@ -1,20 +1,20 @@
 -- On formulas with their constants folded.
-use Rattle.std.proofs.Common.{◌≡◌, ℕ, ◌+◌, ◌≤◌, Bool, true, false, not, cond, eqb, ◌||◌, ◌&&◌, IsTrue, ◌↔◌, List, [], ◌∷◌, ◌++◌, length, Option, Some, None}
-use Rattle.std.proofs.Common.{refl, sym, ap, subst, ◌∙◌, arith, eqb-true, eq-eqb, length-append}
+use Rattle.std.proofs.Common.{◌≡◌, ℕ, ◌+◌, ◌≤◌, Bool, true, false, cond, eqb, ◌||◌, ◌&&◌, IsTrue, [], ◌∷◌, ◌++◌, length}
+use Rattle.std.proofs.Common.{refl, sym, ap, subst, ◌∙◌, arith, eqb-true, length-append}
 use Rattle.std.proofs.lemmas.Bool.{false≢true}
-use Rattle.gta_theory.specs.Assignments.{Position, PositionSet, Assignment, IsFinite, IsFiniteSet, IsOnly, replace}
+use Rattle.gta_theory.specs.Assignments.{Position, PositionSet, Assignment, IsFinite, IsOnly, replace}
 use Rattle.ws2s_core.specs.declared.track.Track.{Track}
 use Rattle.ws2s_core.specs.declared.formula.Formula.{Formula, roll-Formula, out-Formula}
-use Rattle.ws2s_core.specs.declared.formula.Formula.TheVariants.{Sub, Single, Succ0, Succ1, Root, And, Not, Ex2, rolls-Sub}
-use Rattle.ws2s_core.specs.declared.formula.Formula.TheVariants.{rolls-Single, rolls-Succ0, rolls-Succ1, rolls-Root, rolls-And}
+use Rattle.ws2s_core.specs.declared.formula.Formula.TheVariants.{Sub, Single, Succ0, Succ1, Root, And, Not, Ex2}
+use Rattle.ws2s_core.specs.declared.formula.Formula.TheVariants.{rolls-Single, rolls-And}
 use Rattle.ws2s_core.specs.declared.formula.Formula.TheVariants.{rolls-Not, rolls-Ex2}
 use Rattle.ws2s_core.specs.declared.formula.Formula.TheOpen.{Formula-F}
 use Rattle.ws2s_core.specs.Satisfaction.{WSat, Same}
 use Rattle.ws2s_core.specs.Sizes.{node_count, count_of_node}
-use Rattle.ws2s_core.specs.Tracks.{is_free, is_free_in_node, IsFree}
+use Rattle.ws2s_core.specs.Tracks.{is_free, is_free_in_node}
 use Rattle.ws2s_core.specs.Negated.{negated, negated_of_node}
 use Rattle.ws2s_core.proofs.FormulaLemmas.{formula-induction, fold-Sub, fold-Single, fold-Succ0, fold-Succ1, fold-Root, fold-And, fold-Not, fold-Ex2}
-use Rattle.ws2s_core.proofs.SatisfactionLemmas.{WSat-Sub, WSat-Single, WSat-Succ0, WSat-Succ1, WSat-And, WSat-Not, WSat-Ex2}
+use Rattle.ws2s_core.proofs.SatisfactionLemmas.{WSat-Sub, WSat-Succ0, WSat-Succ1, WSat-And, WSat-Not, WSat-Ex2}
 use Rattle.ws2s_theory.proofs.ContextsLemmas.{IsFinite-replace, WSat-quantified}
 use Rattle.ws2s_pass.specs.declared.fold.Folded.{Folded}
 use Rattle.ws2s_pass.specs.declared.fold.Folded.TheVariants.{Constant, Open}
@@ -22,7 +22,7 @@ use Rattle.ws2s_pass.specs.Rewriting.{IsRewriting}
 use Rattle.ws2s_pass.specs.Constants.{is_single, is_single_node, is_single_of_some, is_contradiction, is_contradiction_node, conjunction_of, opposite_of}
 use Rattle.ws2s_pass.specs.Constants.{quantified_over, folded, folded_node, first_track, constant_formula, constant_for, settled, without_constants}
 use Rattle.ws2s_pass.proofs.RewritingLemmas.{IsRewriting-refl, IsRewriting-trans, IsRewriting-and, IsRewriting-not, IsRewriting-ex2, rolled-out}
-use Rattle.ws2s_pass.proofs.RewritingLemmas.{count-And, count-Not, count-Ex2, free-And, free-Not, free-Ex2}
+use Rattle.ws2s_pass.proofs.RewritingLemmas.{count-And, count-Not, count-Ex2, free-And, free-Ex2}
 
 -- what a folded formula says of the whole
 abbrev Means : Formula → Folded → Type 0

@@ -1,12 +1,9 @@
 -- On negations of negations.
-use Rattle.std.proofs.Common.{◌≡◌, ℕ, ◌≤◌, refl, sym, ap, subst, ◌∙◌, arith, unwrap_or}
-use Rattle.ws2s_core.specs.declared.formula.Formula.{Formula, roll-Formula, out-Formula, out-roll-Formula}
-use Rattle.ws2s_core.specs.declared.formula.Formula.TheVariants.{Sub, Single, Succ0, Succ1, Root, And, Not, Ex2, rolls-Sub}
-use Rattle.ws2s_core.specs.declared.formula.Formula.TheVariants.{rolls-Single, rolls-Succ0, rolls-Succ1, rolls-Root, rolls-And}
-use Rattle.ws2s_core.specs.declared.formula.Formula.TheVariants.{rolls-Not, rolls-Ex2}
+use Rattle.std.proofs.Common.{◌≡◌, sym, subst, ◌∙◌, arith, unwrap_or}
+use Rattle.ws2s_core.specs.declared.formula.Formula.{Formula, roll-Formula, out-Formula}
+use Rattle.ws2s_core.specs.declared.formula.Formula.TheVariants.{Not}
+use Rattle.ws2s_core.specs.declared.formula.Formula.TheVariants.{rolls-Not}
 use Rattle.ws2s_core.specs.declared.formula.Formula.TheOpen.{Formula-F}
-use Rattle.ws2s_core.specs.Satisfaction.{WSat}
-use Rattle.ws2s_core.proofs.FormulaLemmas.{formula-induction}
 use Rattle.ws2s_core.proofs.SatisfactionLemmas.{WSat-Not}
 use Rattle.ws2s_pass.specs.Rewriting.{IsRewriting}
 use Rattle.ws2s_core.specs.Negated.{negated_of_node}

@@ -1,5 +1,5 @@
 -- What no part of a rewritten formula is.
-use Rattle.std.proofs.Common.{◌≡◌, ℕ, ◌<◌, Bool, true, false, cond, ◌⊎◌, inl, inr, List, [], ◌∷◌, length, All, Contains, unwrap_or}
+use Rattle.std.proofs.Common.{◌≡◌, Bool, true, false, cond, ◌⊎◌, inl, inr, [], ◌∷◌, All, Contains, unwrap_or}
 use Rattle.std.proofs.Common.{refl, sym, ap, subst, ◌∙◌}
 use Rattle.std.proofs.lemmas.List.Elements.{All-nil, All-cons, All-contains}
 use Rattle.gta_theory.proofs.ListsLemmas.{Contains-first}
@@ -18,11 +18,11 @@ use Rattle.ws2s_pass.specs.Using.{without_unused, used_node}
 use Rattle.ws2s_pass.proofs.RewritingLemmas.{rolled-out}
 
 -- a formula's form
-out-of : (node : Formula-F Formula) (f : Formula) → roll-Formula node ≡ f → out-Formula f ≡ node
+pub out-of : (node : Formula-F Formula) (f : Formula) → roll-Formula node ≡ f → out-Formula f ≡ node
 out-of node f is = ap out-Formula (sym is) ∙ out-roll-Formula node
 
 -- a part of a formula is the formula, or a part of one of its parts
-part-cases : (w h : Formula) → IsPart w h → (w ≡ h) ⊎ ((p : Formula) × Contains (parts_of (out-Formula w)) p × IsPart p h)
+pub part-cases : (w h : Formula) → IsPart w h → (w ≡ h) ⊎ ((p : Formula) × Contains (parts_of (out-Formula w)) p × IsPart p h)
 part-cases w _ itself = inl refl
 part-cases w _ (deeper f g part there) =
     elim (part-cases w f part) as (λ _. (w ≡ g) ⊎ ((p : Formula) × Contains (parts_of (out-Formula w)) p × IsPart p g)) [
@@ -31,12 +31,12 @@ part-cases w _ (deeper f g part there) =
     ]
 
 -- a part of a part is one
-part-through : (w p h : Formula) → IsPart w p → IsPart p h → IsPart w h
+pub part-through : (w p h : Formula) → IsPart w p → IsPart p h → IsPart w h
 part-through w p _ first itself = first
 part-through w p _ first (deeper f g part there) = deeper f g (part-through w p f first part) there
 
 module _ (P : Formula → Type 0) where
-  abbrev EachPart : Formula → Type 0
+  abbrev pub EachPart : Formula → Type 0
   EachPart f = (h : Formula) → IsPart f h → P h
 
   each-part : (w : Formula) → P w → All EachPart (parts_of (out-Formula w)) → EachPart w
@@ -45,11 +45,11 @@ module _ (P : Formula → Type 0) where
     | inr found ↦ All-contains EachPart (parts_of (out-Formula w)) found.0 below found.1 h found.2
   ]
 
-  each-part-of : (node : Formula-F Formula) (w : Formula) → roll-Formula node ≡ w → P w → All EachPart (parts_of node) → EachPart w
+  pub each-part-of : (node : Formula-F Formula) (w : Formula) → roll-Formula node ≡ w → P w → All EachPart (parts_of node) → EachPart w
   each-part-of node w is here below = each-part w here (subst (All EachPart) (sym (ap parts_of (out-of node w is))) below)
 
   -- what each step keeps, the fold has
-  each-part-fold : (step : Formula-F Formula → Formula) → ((node : Formula-F Formula) → All EachPart (parts_of node) → EachPart (step node)) →
+  pub each-part-fold : (step : Formula-F Formula → Formula) → ((node : Formula-F Formula) → All EachPart (parts_of node) → EachPart (step node)) →
       (f : Formula) → EachPart (fold-Formula Formula step f)
   each-part-fold step local = formula-induction (λ f. (h : Formula) → IsPart (fold-Formula Formula step f) h → P h) (record {
     of_Sub = λ x y. subst EachPart (sym (fold-Sub Formula step x y)) (local (Formula-F.Sub x y) (All-nil EachPart));
@@ -121,7 +121,7 @@ flattened-part f g part = each-part-fold NegatesNone flattened_node flattened-st
 abbrev Uses : Formula → Type 0
 Uses h = (t : Track) (g : Formula) → h ≡ Ex2 t g → IsFree t.0 g
 
-not-Ex2 : (node : Formula-F Formula) (f : Formula) → roll-Formula node ≡ f → (t : Track) (g : Formula) → f ≡ Ex2 t g → node ≡ Formula-F.Ex2 t g
+pub not-Ex2 : (node : Formula-F Formula) (f : Formula) → roll-Formula node ≡ f → (t : Track) (g : Formula) → f ≡ Ex2 t g → node ≡ Formula-F.Ex2 t g
 not-Ex2 node f is t g e = sym (out-of node f is) ∙ ap out-Formula e ∙ out-of (Formula-F.Ex2 t g) (Ex2 t g) (rolls-Ex2 t g)
 
 used-parts : (node : Formula-F Formula) → ((t : Track) (g : Formula) → node ≡ Formula-F.Ex2 t g → ⊥) → All (EachPart Uses) (parts_of node) →

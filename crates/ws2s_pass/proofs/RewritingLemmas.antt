@@ -1,5 +1,5 @@
 -- On rewritings: they go along with each form, and a fold of them is one.
-use Rattle.std.proofs.Common.{◌≡◌, ℕ, ◌+◌, ◌<◌, ◌≤◌, Bool, true, false, cond, eqb, ◌||◌, ◌↔◌, List, [], refl, sym, ap, subst, ◌∙◌, arith, inl, inr, ◌⊎◌}
+use Rattle.std.proofs.Common.{◌≡◌, ℕ, ◌+◌, ◌<◌, ◌≤◌, Bool, true, false, cond, eqb, ◌||◌, [], refl, sym, ap, subst, ◌∙◌, arith, inl, inr}
 use Rattle.std.proofs.lemmas.Bool.{false≢true, cases_lt}
 use Rattle.std.proofs.lemmas.List.Elements.{All-nil}
 use Rattle.std.proofs.Math.Logic.{∥∥₁_elim}
@@ -11,9 +11,9 @@ use Rattle.ws2s_core.specs.declared.formula.Formula.TheVariants.{rolls-Single, r
 use Rattle.ws2s_core.specs.declared.formula.Formula.TheVariants.{rolls-Not, rolls-Ex2}
 use Rattle.ws2s_core.specs.declared.formula.Formula.TheOpen.{Formula-F}
 use Rattle.ws2s_core.specs.declared.formula.Formula.TheFolds.{fold-Formula}
-use Rattle.ws2s_core.specs.Satisfaction.{WSat, Same}
+use Rattle.ws2s_core.specs.Satisfaction.{WSat}
 use Rattle.ws2s_core.specs.Sizes.{node_count, count_of_node}
-use Rattle.ws2s_core.specs.Tracks.{is_free, is_free_in_node, IsFree}
+use Rattle.ws2s_core.specs.Tracks.{is_free, is_free_in_node}
 use Rattle.ws2s_core.proofs.FormulaLemmas.{formula-induction, fold-Sub, fold-Single, fold-Succ0, fold-Succ1, fold-Root, fold-And, fold-Not, fold-Ex2}
 use Rattle.ws2s_theory.proofs.ContextsLemmas.{SameUnder-refl, SameUnder-trans, SameUnder-and, SameUnder-not, SameUnder-ex2}
 use Rattle.ws2s_theory.specs.Worked.{plain}

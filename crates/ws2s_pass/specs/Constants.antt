@@ -84,3 +84,14 @@ settled whole (Open f) = f
 -- the formula with its constants folded, from its parts up
 abbrev pub without_constants : Formula → Formula
 without_constants f = settled f (folded f)
+
+abbrev pub is_constant_node : Formula-F Formula → Bool
+is_constant_node (Formula-F.Sub x y) = x.0 == y.0
+is_constant_node (Formula-F.Succ0 x y) = x.0 == y.0
+is_constant_node (Formula-F.Succ1 x y) = x.0 == y.0
+is_constant_node (Formula-F.Ex2 t f) = is_contradiction t.0 f
+is_constant_node node = false
+
+-- the formula is an atom that compares a track with itself, or `Ex2 t (And (Single t) (Not (Single t)))`
+abbrev pub is_constant : Formula → Bool
+is_constant f = is_constant_node (out-Formula f)

@@ -1,5 +1,9 @@
+pub mod Applying
 pub mod Constants
 pub mod Flattening
 pub mod Folding
+pub mod Narrowing
 pub mod Rewriting
+pub mod Scopes
+pub mod Sinking
 pub mod Using

@@ -1,9 +1,10 @@
 //! Lists of passes, and all passes one after the other.
 
 ghost use Rattle.std.specs.Prelude.{◌≡◌, [], ◌∷◌, ◌++◌, Ok, IfOk, OnOk, OnErr};
+ghost use Rattle.ws2s_pass.specs.Applying.{LeadsTo};
 ghost use Rattle.ws2s_pass.specs.Rewriting.{IsRewriting};
 
-use crate::pass::Pass;
+use crate::pass::{Pass, Rewriter};
 use std::alloc::{AllocError, Global};
 use ws2s_core::Formula;
 
@@ -44,6 +45,8 @@ impl PassList {
 /// Want of memory.
 pub fn apply(alloc: Global, passes: &PassList, formula: &Formula) -> Result<Formula, AllocError>
     ensures kept { IfOk result (λ made. IsRewriting formula.now made) }
+    ensures order { IfOk result (λ made. LeadsTo (λ pass before after. (f : _) × Rewriter.post pass.run alloc f (Ok after) × (f.now ≡ before))
+        passes.now.passes.items formula.now made) }
 {
     let mut made = formula.copy(alloc)?;
     for pass in passes.passes.as_slice() {

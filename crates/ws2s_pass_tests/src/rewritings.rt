@@ -3,55 +3,130 @@
 use crate::formulas::{formula, is};
 use std::alloc::{AllocError, Global};
 use std::test::Fail;
-use ws2s_pass::{drop_unused, flatten_not, fold_constants};
+use ws2s_pass::{drop_unused, flatten_not, fold_constants, narrow_scope};
 
-/// A formula, and what `flatten_not`, `drop_unused` and `fold_constants` make of it.
-type Row = [&'static str; 4];
+/// A formula, and what `flatten_not`, `drop_unused`, `fold_constants` and `narrow_scope` make of it.
+type Row = [&'static str; 5];
 
 /// `stays` stands for the formula itself.
 const ROWS: [Row; 30] = [
-    ["=0", "stays", "stays", "stays"],
-    ["=0 not not", "=0", "stays", "stays"],
-    ["=0 not not not", "=0 not", "stays", "stays"],
+    ["=0", "stays", "stays", "stays", "stays"],
+    ["=0 not not", "=0", "stays", "stays", "stays"],
+    ["=0 not not not", "=0 not", "stays", "stays", "stays"],
     [
         "=0 not not =1 not not and not not",
         "=0 =1 and",
         "stays",
         "stays",
+        "stays",
     ],
-    ["=0 x1", "stays", "=0", "stays"],
-    ["=0 x0", "stays", "stays", "stays"],
-    ["=0 x1 x1 x0", "stays", "=0 x0", "stays"],
-    ["=0 x0 x0", "stays", "=0 x0", "stays"],
-    ["=1 x1 0<1 and x1", "stays", "stays", "stays"],
-    ["=1 x1 0<2 and x1", "stays", "=1 x1 0<2 and", "stays"],
-    ["=0 not not x1", "=0 x1", "=0 not not", "stays"],
-    ["=1 not x1 not", "stays", "stays", "stays"],
-    ["0<0", "stays", "stays", "stays"],
-    ["000", "stays", "stays", "stays"],
-    ["010", "stays", "stays", "stays"],
-    ["0<0 not", "stays", "stays", "000 x0"],
-    ["000 not", "stays", "stays", "0<0 x0"],
-    ["=1 =1 not and x1", "stays", "stays", "000 x0"],
-    ["=2 =2 not and x2 not", "stays", "stays", "0<0 x0"],
-    ["=0 =1 =1 not and x1 not and", "stays", "stays", "=0"],
-    ["=0 =1 =1 not and x1 and", "stays", "stays", "000 x0"],
-    ["=1 =1 not and x1 not =0 and", "stays", "stays", "=0"],
-    ["=1 =1 not and x2", "stays", "=1 =1 not and", "stays"],
-    ["=1 =2 not and x1", "stays", "stays", "stays"],
+    ["=0 x1", "stays", "=0", "stays", "stays"],
+    ["=0 x0", "stays", "stays", "stays", "stays"],
+    ["=0 x1 x1 x0", "stays", "=0 x0", "stays", "stays"],
+    ["=0 =1 and x1", "stays", "stays", "stays", "=0 =1 x1 and"],
+    [
+        "=0 =1 and .1 and x0 x1",
+        "stays",
+        "stays",
+        "stays",
+        "=0 x0 =1 and .1 and x1",
+    ],
+    [
+        "=0 =1 and not =2 and x1 x2",
+        "stays",
+        "stays",
+        "stays",
+        "=0 =1 and not x1 =2 x2 and",
+    ],
+    [
+        "=1 x1 0<1 and x1",
+        "stays",
+        "stays",
+        "stays",
+        "=1 x1 0<1 x1 and",
+    ],
+    [
+        "=1 x1 0<2 and x1",
+        "stays",
+        "=1 x1 0<2 and",
+        "stays",
+        "=1 x1 0<2 x1 and",
+    ],
+    ["=0 not not x1", "=0 x1", "=0 not not", "stays", "stays"],
+    ["0<0", "stays", "stays", "stays", "stays"],
+    ["000", "stays", "stays", "stays", "stays"],
+    ["0<0 not", "stays", "stays", "000 x0", "stays"],
+    ["000 not", "stays", "stays", "0<0 x0", "stays"],
+    ["=1 =1 not and x1", "stays", "stays", "000 x0", "stays"],
+    ["=2 =2 not and x2 not", "stays", "stays", "0<0 x0", "stays"],
+    [
+        "=0 =1 =1 not and x1 not and",
+        "stays",
+        "stays",
+        "=0",
+        "stays",
+    ],
+    [
+        "=0 =1 =1 not and x1 and",
+        "stays",
+        "stays",
+        "000 x0",
+        "stays",
+    ],
+    [
+        "=1 =1 not and x1 not =0 and",
+        "stays",
+        "stays",
+        "=0",
+        "stays",
+    ],
+    [
+        "=1 =1 not and x2",
+        "stays",
+        "=1 =1 not and",
+        "stays",
+        "=1 =1 not x2 and",
+    ],
+    [
+        "=1 =2 not and x1",
+        "stays",
+        "stays",
+        "stays",
+        "=1 x1 =2 not and",
+    ],
     [
         "3<3 =0 and x4 =1 and",
         "stays",
         "3<3 =0 and =1 and",
         "=0 x4 =1 and",
+        "3<3 =0 x4 and =1 and",
     ],
-    ["=0 303 not and =1 and", "stays", "stays", "=0 =1 and"],
-    ["313 x3 not not .0 and", "313 x3 .0 and", "stays", "000 x0"],
-    [".0 .1 x1 313 not and and", "stays", "stays", ".0 .1 x1 and"],
+    [
+        "=0 303 not and =1 and",
+        "stays",
+        "stays",
+        "=0 =1 and",
+        "stays",
+    ],
+    [
+        "313 x3 not not .0 and",
+        "313 x3 .0 and",
+        "stays",
+        "000 x0",
+        "stays",
+    ],
+    [
+        ".0 .1 x1 313 not and and",
+        "stays",
+        "stays",
+        ".0 .1 x1 and",
+        "stays",
+    ],
     [
         "0<1 not not x0 not not x5 not",
         "0<1 x0 x5 not",
         "0<1 not not x0 not not not",
+        "stays",
         "stays",
     ],
     [
@@ -59,6 +134,7 @@ const ROWS: [Row; 30] = [
         "stays",
         "001 112 and 2<2 and x2 x1",
         "001 112 and x2 x1 x7",
+        "stays",
     ],
 ];
 
@@ -67,25 +143,27 @@ fn wanted(row: &Row, answer: &'static str) -> &'static str {
 }
 
 /// Whether each rewriter's answer is as the row has it.
-fn holds(alloc: Global, row: &Row) -> Result<(bool, bool, bool), AllocError> {
+fn holds(alloc: Global, row: &Row) -> Result<[bool; 4], AllocError> {
     let Some(whole) = formula(alloc, row[0])? else {
-        return Ok((false, false, false));
+        return Ok([false; 4]);
     };
     let flat = flatten_not(alloc, &whole)?;
     let used = drop_unused(alloc, &whole)?;
     let folded = fold_constants(alloc, &whole)?;
-    Ok((
+    let narrow = narrow_scope(alloc, &whole)?;
+    Ok([
         is(alloc, &flat, wanted(row, row[1]))?,
         is(alloc, &used, wanted(row, row[2]))?,
         is(alloc, &folded, wanted(row, row[3]))?,
-    ))
+        is(alloc, &narrow, wanted(row, row[4]))?,
+    ])
 }
 
 #[test]
 fn rewritings_are_as_worked_out(rt: HostRuntime) -> Result<(), Fail> {
     for row in &ROWS {
         let answers = holds(rt.alloc(), row)?;
-        assert_eq!(rt; answers, (true, true, true), "{}", row[0]);
+        assert_eq!(rt; answers, [true; 4], "{}", row[0]);
     }
     Ok(())
 }

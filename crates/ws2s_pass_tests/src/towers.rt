@@ -3,8 +3,8 @@
 use crate::formulas::is;
 use std::alloc::{AllocError, Global};
 use std::test::Fail;
-use ws2s_core::{Formula, Track};
-use ws2s_pass::{drop_unused, flatten_not, fold_constants};
+use ws2s_core::{Formula, Interner, Track, intern};
+use ws2s_pass::{drop_unused, flatten_not, fold_constants, narrow_scope};
 
 const LEVELS: u32 = 65_536;
 
@@ -26,14 +26,45 @@ fn quantifiers(alloc: Global) -> Result<Formula, AllocError> {
     Ok(formula)
 }
 
-/// `Single 0` and so often that a set is within itself.
-fn conjunctions(alloc: Global) -> Result<Formula, AllocError> {
-    let mut formula = Formula::Single(Track(0));
+/// The formula and so often that a set is within itself.
+fn conjunctions(alloc: Global, first: Formula) -> Result<Formula, AllocError> {
+    let mut formula = first;
     for track in 0..LEVELS {
         let within = Formula::Sub(Track(track), Track(track));
         formula = Formula::and(alloc, formula, within)?;
     }
     Ok(formula)
+}
+
+fn single(track: u32) -> Formula {
+    Formula::Single(Track(track))
+}
+
+/// So many quantifiers, each before a conjunction that has its track on the right.
+fn alternations(alloc: Global) -> Result<Formula, AllocError> {
+    let mut formula = single(0);
+    for track in 1..LEVELS {
+        let both = Formula::and(alloc, formula, single(track))?;
+        formula = Formula::ex2(alloc, Track(track), both)?;
+    }
+    Ok(formula)
+}
+
+/// Those with each quantifier on the right.
+fn narrow_alternations(alloc: Global) -> Result<Formula, AllocError> {
+    let mut formula = single(0);
+    for track in 1..LEVELS {
+        let right = Formula::ex2(alloc, Track(track), single(track))?;
+        formula = Formula::and(alloc, formula, right)?;
+    }
+    Ok(formula)
+}
+
+fn are_equal(alloc: Global, one: &Formula, other: &Formula) -> Result<bool, AllocError> {
+    let mut interner = Interner::new(alloc);
+    let first = intern(alloc, &mut interner, one)?;
+    let second = intern(alloc, &mut interner, other)?;
+    Ok(first == second)
 }
 
 #[test]
@@ -54,7 +85,7 @@ fn quantifiers_are_left_out(rt: HostRuntime) -> Result<(), Fail> {
 
 #[test]
 fn constants_are_left_out(rt: HostRuntime) -> Result<(), Fail> {
-    let whole = conjunctions(rt.alloc())?;
+    let whole = conjunctions(rt.alloc(), single(0))?;
     let made = fold_constants(rt.alloc(), &whole)?;
     assert!(rt; is(rt.alloc(), &made, "=0")?);
     Ok(())
@@ -62,8 +93,30 @@ fn constants_are_left_out(rt: HostRuntime) -> Result<(), Fail> {
 
 #[test]
 fn free_tracks_are_merged(rt: HostRuntime) -> Result<(), Fail> {
-    let whole = conjunctions(rt.alloc())?;
+    let whole = conjunctions(rt.alloc(), single(0))?;
     let made = drop_unused(rt.alloc(), &whole)?;
     assert_eq!(rt; made.size(), whole.size());
+    Ok(())
+}
+
+/// One quantifier goes through all conjunctions.
+#[test]
+fn quantifiers_go_all_the_way_in(rt: HostRuntime) -> Result<(), Fail> {
+    let last = LEVELS + 1;
+    let inner = conjunctions(rt.alloc(), single(last))?;
+    let whole = Formula::ex2(rt.alloc(), Track(last), inner)?;
+    let made = narrow_scope(rt.alloc(), &whole)?;
+    let first = Formula::ex2(rt.alloc(), Track(last), single(last))?;
+    let wanted = conjunctions(rt.alloc(), first)?;
+    assert!(rt; are_equal(rt.alloc(), &made, &wanted)?);
+    Ok(())
+}
+
+#[test]
+fn each_quantifier_goes_in(rt: HostRuntime) -> Result<(), Fail> {
+    let whole = alternations(rt.alloc())?;
+    let made = narrow_scope(rt.alloc(), &whole)?;
+    let wanted = narrow_alternations(rt.alloc())?;
+    assert!(rt; are_equal(rt.alloc(), &made, &wanted)?);
     Ok(())
 }

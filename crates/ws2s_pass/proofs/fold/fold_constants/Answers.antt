@@ -2,7 +2,7 @@ use Rattle.std.proofs.Common.{◌≡◌, drop, reverse, ap, ◌∙◌, sym, subs
 use Rattle.std.proofs.lemmas.Grind.{common_steps}
 use Rattle.std.proofs.lemmas.Result.{IfOk-weaker}
 use Rattle.ws2s_core.specs.Postfix.{postfix_of}
-use Rattle.ws2s_pass.specs.Constants.{folded, folded_node, settled, without_constants}
+use Rattle.ws2s_pass.specs.Constants.{folded, folded_node, settled}
 use Rattle.ws2s_pass.specs.Folding.{stepped_over}
 use Rattle.ws2s_pass.specs.Rewriting.{IsRewriting}
 use Rattle.ws2s_pass.proofs.ConstantsLemmas.{IsRewriting-without_constants}

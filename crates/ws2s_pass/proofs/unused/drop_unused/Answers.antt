@@ -1,7 +1,7 @@
 use Rattle.std.proofs.Common.{◌≡◌, drop, reverse, map, ap, ◌∙◌, sym, subst, rules, arith}
 use Rattle.std.proofs.lemmas.Grind.{common_steps}
 use Rattle.ws2s_core.specs.Postfix.{postfix_of}
-use Rattle.ws2s_pass.specs.declared.unused.Part.{Part}
+use Rattle.ws2s_pass.specs.declared.used.Part.{Part}
 use Rattle.ws2s_pass.specs.Folding.{stepped_over}
 use Rattle.ws2s_pass.specs.Rewriting.{IsRewriting}
 use Rattle.ws2s_pass.specs.Using.{without_unused, used_node}

@@ -1,7 +1,7 @@
 use Rattle.std.proofs.Common.{rules}
 use Rattle.std.proofs.lemmas.Iterator.Consumers.{YieldsList-from_rest, YieldsList-from_copied}
 use Rattle.std.proofs.lemmas.Iterator.Adapters.{items_from_extend}
-use Rattle.ws2s_pass.proofs.unused.add_all.Goals as goal
+use Rattle.ws2s_pass.proofs.used.add_all.Goals as goal
 
 pub returns : goal.returns
 returns c =
