@@ -1,6 +1,10 @@
 pub mod ReadLemmas
 pub mod MadeLemmas
+pub mod RowsLemmas
+pub mod RenamedLemmas
 pub mod QuotientLemmas
 pub mod LooksLemmas
+pub mod ClassesLemmas
+pub mod PartsLemmas
 pub mod MinimisedLemmas
 pub mod KeptLemmas

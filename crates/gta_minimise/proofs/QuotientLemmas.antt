@@ -1,36 +1,33 @@
 -- The automaton of classes, as it is made in a shelf.
-use Rattle.std.proofs.Common.{◌≡◌, ℕ, ◌+◌, ◌*◌, ◌/◌, ◌%◌, ◌<◌, ◌≤◌, ◌^◌, List, [], ◌∷◌, ◌++◌, length, Option, Some, inl, inr}
-use Rattle.std.proofs.Common.{sym, ◌∙◌, ap, subst, arith, length-append}
-use Rattle.std.specs.Prelude.{slice_get, slice_index, slice_index_or, unwrap_or, option_map, All}
+use Rattle.std.proofs.Common.{◌≡◌, ℕ, ◌+◌, ◌*◌, ◌/◌, ◌%◌, ◌<◌, ◌≤◌, ◌^◌, List, [], ◌∷◌, ◌++◌, length, Option, Some, None, inl, inr}
+use Rattle.std.proofs.Common.{refl, sym, ◌∙◌, ap, subst, arith, length-append}
+use Rattle.std.specs.Prelude.{slice_get, slice_index, slice_index_or, option_map, option_and_then, All}
+use Rattle.std.specs.List.{range_with_len}
 use Rattle.std.proofs.Math.Nat.{mul_comm, div-lt_iff_lt-mul}
-use Rattle.std.proofs.lemmas.Nat.{mul-add-lt, div-mul-add, mod-mul-add}
+use Rattle.std.proofs.lemmas.Nat.{mul-add-lt, div-mul-add, mod-mul-add, div-add-mod'}
 use Rattle.std.proofs.lemmas.Bool.{cases_lt, ltb-true, lt-ltb}
 use Rattle.std.proofs.lemmas.List.{get_or_default}
-use Rattle.std.proofs.lemmas.Option.{slice_get_within, slice_get-get_or}
+use Rattle.std.proofs.lemmas.List.FromFn.{length-range_with_len, get_or-range_with_len}
+use Rattle.std.proofs.lemmas.Option.{slice_get_within, slice_get-get_or, slice_get-map}
 use Rattle.labels.specs.Labels.{Label, Function, with_below}
 use Rattle.bdd_nodes.specs.declared.node_ref.NodeRef.{NodeRef}
 use Rattle.bdd_nodes.specs.Shelf.{Contents, IsValid, state_of}
-use Rattle.bdd_list.specs.declared.listing.Listed.{Listed}
-use Rattle.bdd_list.specs.declared.listing.Listed.TheVariants.{Leaf}
-use Rattle.bdd_list.specs.declared.listing.Listing.{Listing}
-use Rattle.bdd_list.specs.declared.listing.ListedNode.{ListedNode}
-use Rattle.bdd_list.specs.Listing.{rank, IsListing}
-use Rattle.gta_theory.specs.Guides.{Spaces, IsSpace, IsGuide, left, right}
-use Rattle.gta_theory.specs.Numbered.{Below}
+use Rattle.gta_theory.specs.Guides.{Spaces, IsSpace, left, right}
 use Rattle.gta_theory.proofs.ListedLemmas.{slice_get-front, slice_get-last, slice_get-push}
-use Rattle.gta_core.specs.Auto.{AutoView, states_of, root_at, automaton_of}
-use Rattle.gta_core.specs.declared.build.SpacePart.{SpacePart}
+use Rattle.gta_core.specs.declared.part.Part.{Part}
+use Rattle.gta_core.specs.Auto.{AutoView, states_of, place_in, root_at}
+use Rattle.gta_core.proofs.AutoLemmas.{step-some}
 use Rattle.gta_refine.specs.declared.form.FormSpace.{FormSpace}
 use Rattle.gta_refine.specs.declared.form.Form.{Form}
 use Rattle.gta_refine.specs.declared.rounds.SpaceClasses.{SpaceClasses}
 use Rattle.gta_refine.specs.Form as form
-use Rattle.gta_refine.specs.Numbered.{AreNumbered, StandFor}
 use Rattle.gta_refine.specs.Refined.{part_at, class_at, representative_at, classes_in, quotient_of, IsRefined}
 use Rattle.gta_refine.proofs.ChosenLemmas.{marked-inside}
-use Rattle.gta_refine.proofs.ReachLemmas.{many_spaces, initial-form, initial-at}
+use Rattle.gta_refine.proofs.ReachLemmas.{none-inside, many_spaces, initial-form, initial-at, left-at, right-at, step-at, step-same}
 use Rattle.gta_form.specs.Listed.{IsFormOf}
-use Rattle.gta_minimise.specs.Renamed.{IsRenamed}
-use Rattle.gta_minimise.specs.Quotient.{ArePairs, IsUnderClasses, IsRootOf, IsQuotientSpace}
+use Rattle.gta_minimise.specs.Rows.{AreSharedRows}
+use Rattle.gta_minimise.specs.Renamed.{IsUnderRenamed, AreRenamed}
+use Rattle.gta_minimise.specs.Quotient.{ArePairs, IsUnderClasses, IsRootOf, IsSharedPart, IsQuotientSpace}
 use Rattle.gta_minimise.proofs.ReadLemmas.{step-quotient}
 
 -- the roots of the first pairs
@@ -76,190 +73,303 @@ ArePairs-none shelf a s lefts rights none = record {
   each = λ k k_in. absurd (omega arith);
 }
 
--- an automaton, its form, and the classes of its states
-module _ (g : Spaces) (old : Contents) (a : AutoView) (f : Form) (classes : List SpaceClasses) (is_form : form.IsForm f)
-    (same : IsFormOf g old a f) (refined : IsRefined f classes) where
-  there : (k : ℕ) → IsSpace g k → IsSpace (form.guide_of f) k
-  there k k_in = subst (λ (h : Spaces). IsSpace h k) (sym same.guide) k_in
-
-  pub guide : IsGuide g
-  guide = subst IsGuide same.guide is_form.guide
-
+-- a form, and the classes of its states
+module _ (f : Form) (classes : List SpaceClasses) (is_form : form.IsForm f) (refined : IsRefined f classes) where
   -- a representative is a state
-  pub representative-below : (k x : ℕ) → IsSpace g k → x < classes_in classes k → representative_at classes k x < states_of a k
-  representative-below k x k_in x_in =
-      let reached = (refined.classes k (there k k_in)).inside x x_in in
+  pub representative-below : (k x : ℕ) → IsSpace (form.guide_of f) k → x < classes_in classes k → representative_at classes k x < form.states_of f k
+  representative-below k x there x_in =
+      let reached = (refined.classes k there).inside x x_in in
       let i = marked-inside (part_at classes k).reached (representative_at classes k x) reached in
-      let m = refined.many k (there k k_in) in
-      let e = same.states k k_in in
+      let m = refined.many k there in
       omega arith
+
+  pub spaces-there : (k : ℕ) → IsSpace (form.guide_of f) k → k < length classes
+  spaces-there k there = let a = refined.all in let m = many_spaces f in omega arith
 
   -- the part of a space is there
-  pub part-read : (k : ℕ) → IsSpace g k → (d : SpaceClasses) → slice_index_or classes k d ≡ part_at classes k
-  part-read k k_in d = get_or_default classes k d (record { reached = []; classes = []; representatives = [] })
-      (let a = refined.all in let m = many_spaces f in let t = there k k_in in omega arith)
+  pub part-read : (k : ℕ) → IsSpace (form.guide_of f) k → (d : SpaceClasses) → slice_index_or classes k d ≡ part_at classes k
+  part-read k there d =
+      get_or_default classes k d (record { reached = []; classes = []; representatives = [] }) (spaces-there k there)
 
-  pub spaces-there : (k : ℕ) → IsSpace g k → k < length classes
-  spaces-there k k_in = let a = refined.all in let m = many_spaces f in let t = there k k_in in omega arith
-
-  pub part-there : (k : ℕ) → IsSpace g k → (part : SpaceClasses) → slice_get classes k ≡ Some part → part ≡ part_at classes k
-  part-there k k_in part at =
-      let e : Some part ≡ Some (part_at classes k) =
-      sym at ∙ slice_get-get_or classes k (record { reached = []; classes = []; representatives = [] }) (spaces-there k k_in) in
-      cc
-
-  pub small-classes : (k : ℕ) → IsSpace g k → All (λ class. class < 2 ^ 31) (part_at classes k).classes
-  small-classes k k_in = λ q d q_in.
-      let are = refined.classes k (there k k_in) in
+  pub small-classes : (k : ℕ) → IsSpace (form.guide_of f) k → All (λ class. class < 2 ^ 31) (part_at classes k).classes
+  small-classes k there = λ q d q_in.
+      let are = refined.classes k there in
       let w = are.within q q_in in
       let e = get_or_default (part_at classes k).classes q d 0 q_in in
-      let f = are.few in
+      let few = are.few in
       omega arith
 
-  pub few-classes : (k : ℕ) → IsSpace g k → classes_in classes k ≤ 2 ^ 31
-  few-classes k k_in = (refined.classes k (there k k_in)).few
+  pub few-classes : (k : ℕ) → IsSpace (form.guide_of f) k → classes_in classes k ≤ 2 ^ 31
+  few-classes k there = (refined.classes k there).few
 
-  -- the initial state is there, and has a class
-  pub initial-read : (k : ℕ) → IsSpace g k → (d : FormSpace) → (slice_index_or f.spaces k d).initial ≡ (form.automaton_of f).initial k
-  initial-read k k_in d =
-      let inside : k < length f.spaces = (let m = many_spaces f in let t = there k k_in in omega arith) in
-      sym (initial-form f k ∙ initial-at f k (slice_index_or f.spaces k d) (slice_get-get_or f.spaces k d inside))
-
-  pub initial-classed : (k : ℕ) → IsSpace g k → (form.automaton_of f).initial k < length (part_at classes k).classes
-  initial-classed k k_in =
-      let below = ltb-true ((form.automaton_of f).initial k) (form.states_of f k) (is_form.closed.initial k (there k k_in)) in
-      let m = refined.many k (there k k_in) in
-      let n = (refined.classes k (there k k_in)).many in
+  -- the initial state has a class
+  pub initial-classed : (k : ℕ) → IsSpace (form.guide_of f) k → (form.automaton_of f).initial k < length (part_at classes k).classes
+  initial-classed k there =
+      let below = ltb-true ((form.automaton_of f).initial k) (form.states_of f k) (is_form.closed.initial k there) in
+      let m = refined.many k there in
+      let n = (refined.classes k there).many in
       omega arith
 
-  -- the parts of the children
-  module _ (s : ℕ) (inside : IsSpace g s) (o : Option (ℕ × ℕ)) (children : ℕ × ℕ) (is : children ≡ unwrap_or o (0, 0)) (at : o ≡ slice_get g s)
-      (d : SpaceClasses) where
-    pub left-read : slice_index_or classes children.0 d ≡ part_at classes (left g s)
-    left-read =
-        ap (λ (p : ℕ × ℕ). slice_index_or classes p.0 d) (is ∙ ap (λ (q : Option (ℕ × ℕ)). unwrap_or q (0, 0)) at)
-        ∙ part-read (left g s) (guide.left_inside s inside) d
+  -- the space of a form, with its children
+  module _ (s : ℕ) (inside : IsSpace (form.guide_of f) s) (space : FormSpace) (at : slice_get f.spaces s ≡ Some space) where
+    pub left-space : IsSpace (form.guide_of f) space.children.0
+    left-space = subst (IsSpace (form.guide_of f)) (left-at f s space at) (is_form.guide.left_inside s inside)
 
-    pub right-read : slice_index_or classes children.1 d ≡ part_at classes (right g s)
-    right-read =
-        ap (λ (p : ℕ × ℕ). slice_index_or classes p.1 d) (is ∙ ap (λ (q : Option (ℕ × ℕ)). unwrap_or q (0, 0)) at)
-        ∙ part-read (right g s) (guide.right_inside s inside) d
+    pub right-space : IsSpace (form.guide_of f) space.children.1
+    right-space = subst (IsSpace (form.guide_of f)) (right-at f s space at) (is_form.guide.right_inside s inside)
 
--- the part of a space
-module _ (g : Spaces) (old new : Contents) (a : AutoView) (f : Form) (classes : List SpaceClasses) (is_form : form.IsForm f)
-    (same : IsFormOf g old a f) (refined : IsRefined f classes) (s : ℕ) (inside : IsSpace g s)
-    (roots : List NodeRef) (pairs : ArePairs old a s (part_at classes (left g s)).representatives (part_at classes (right g s)).representatives roots)
-    (listing : Listing) (is_listing : IsListing old roots listing) where
-  -- which step the root of a pair has
-  step-root : (k : ℕ) (root : NodeRef) (label : Label) → slice_get roots k ≡ Some root →
-      let x = k / classes_in classes (right g s) in let y = k % classes_in classes (right g s) in
-      class_at classes s (state_of old root label) ≡ (quotient_of f classes).step s x y label
-  unfolding automaton_of
-  step-root k root label at =
-      let k_in = slice_get_within roots k root at in
-      let w = classes_in classes (right g s) in
-      let x_in = pairs.left_inside k k_in in
-      let y_in = pairs.right_inside k k_in in
-      let l = representative_at classes (left g s) (k / w) in
-      let r = representative_at classes (right g s) (k % w) in
-      let is_guide = guide g old a f classes is_form same refined in
-      let l_in = representative-below g old a f classes is_form same refined (left g s) (k / w) (is_guide.left_inside s inside) x_in in
-      let r_in = representative-below g old a f classes is_form same refined (right g s) (k % w) (is_guide.right_inside s inside) y_in in
-      let is : Some root ≡ root_at old a s l r = sym at ∙ pairs.each k k_in in
-      let step : state_of old root label ≡ (automaton_of old a).step s l r label =
-      ap (λ (o : Option NodeRef). unwrap_or (option_map (state_of old) o) (λ t. 0) label) is in
-      ap (class_at classes s) (step ∙ sym (same.steps s l r label inside l_in r_in))
-      ∙ ap (λ (h : Spaces). class_at classes s ((form.automaton_of f).step s (representative_at classes (left h s) (k / w))
-      (representative_at classes (right h s) (k % w)) label)) (sym same.guide)
-      ∙ sym (step-quotient f classes s (k / w) (k % w) label)
+    pub rows-there : (x : ℕ) → x < classes_in classes space.children.0 → representative_at classes space.children.0 x < length space.rows
+    rows-there x x_in =
+        let b = representative-below space.children.0 x left-space x_in in
+        let r = (is_form.spaces s space at).rows in
+        let e = ap (form.states_of f) (left-at f s space at) in
+        omega arith
 
-  root-some : (k : ℕ) → k < length roots → (root : NodeRef) × (slice_get roots k ≡ Some root)
-  root-some k k_in = (slice_index_or roots k (record { word = 0 }), slice_get-get_or roots k (record { word = 0 }) k_in)
+    pub columns-there : (y : ℕ) → y < classes_in classes space.children.1 → representative_at classes space.children.1 y < length space.columns
+    columns-there y y_in =
+        let b = representative-below space.children.1 y right-space y_in in
+        let r = (is_form.spaces s space at).columns in
+        let e = ap (form.states_of f) (right-at f s space at) in
+        omega arith
 
-  -- the references for the roots
-  module _ (refs references : List NodeRef) (numbered : AreNumbered new (part_at classes s).classes listing.nodes refs)
-      (stand : StandFor (part_at classes s).classes refs listing.roots references) where
-    pub root-of : (x y : ℕ) → x < classes_in classes (left g s) → y < classes_in classes (right g s) → (part : SpacePart) → part.roots ≡ references →
-        IsRootOf new f classes s x y part
-    root-of x y x_in y_in part roots_are =
-        let w = classes_in classes (right g s) in
-        let k = x * w + y in
-        let k_in : k < length roots = (let b = mul-add-lt x w y (classes_in classes (left g s)) x_in y_in in
-        let c = mul_comm w (classes_in classes (left g s)) in let m = pairs.many in omega arith) in
-        let root = root-some k k_in in
-        let m = is_listing.many in
-        let n = stand.many in
-        let one : Listed = slice_index_or listing.roots k (Leaf 0) in
-        let one_at = slice_get-get_or listing.roots k (Leaf 0) (omega arith) in
-        let reference : NodeRef = slice_index_or references k (record { word = 0 }) in
-        let reference_at = slice_get-get_or references k (record { word = 0 }) (omega arith) in
-        let stands = stand.each new listing.nodes numbered k one reference one_at reference_at in
+-- the space of a form
+pub space-of : (f : Form) (s : ℕ) → IsSpace (form.guide_of f) s → (space : FormSpace) × (slice_get f.spaces s ≡ Some space)
+space-of f s there = pick (slice_get f.spaces s) refl
+  where
+    pick : (o : Option FormSpace) → slice_get f.spaces s ≡ o → (space : FormSpace) × (slice_get f.spaces s ≡ Some space)
+    pick None e = absurd (none-inside f.spaces s e (let m = many_spaces f in omega arith))
+    pick (Some space) e = (space, e)
+
+pub space-inside : (f : Form) (s : ℕ) (spaces : List FormSpace) → spaces ≡ f.spaces → IsSpace (form.guide_of f) s → s < length spaces
+space-inside f s spaces same there = let m = many_spaces f in let e = ap (λ (xs : List FormSpace). length xs) same in omega arith
+
+-- the part of a space that was made
+module _ (f : Form) (classes : List SpaceClasses) (s : ℕ) (space : FormSpace) (at : slice_get f.spaces s ≡ Some space)
+    (rows columns lefts rights cells : List ℕ) (states initial width : ℕ) (states_are : states ≡ classes_in classes s)
+    (initial_is : initial ≡ class_at classes s space.initial) (width_is : width ≡ length rights)
+    (cells_are : cells ≡ range_with_len 0 (length lefts * length rights))
+    (rows_are : AreSharedRows space.rows (part_at classes space.children.0).representatives rows lefts)
+    (columns_are : AreSharedRows space.columns (part_at classes space.children.1).representatives columns rights) where
+  same-space : (other : FormSpace) → slice_get f.spaces s ≡ Some other → space ≡ other
+  same-space other there = let e : ◌≡◌ {A = Option FormSpace} (Some space) (Some other) = sym at ∙ there in cc
+
+  pub IsSharedPart-made : IsSharedPart f classes s (record {
+    states = states;
+    initial = initial;
+    children = space.children;
+    first = 0;
+    rows = rows;
+    columns = columns;
+    width = width;
+    cells = cells;
+  }) lefts rights
+  IsSharedPart-made = record {
+    children = slice_get-map (λ (p : FormSpace). p.children) f.spaces s ∙ ap (option_map (λ (p : FormSpace). p.children)) at;
+    states = states_are;
+    initial = initial_is ∙ ap (class_at classes s) (sym (initial-form f s ∙ initial-at f s space at));
+    first = refl;
+    width = width_is;
+    cells = cells_are;
+    rows = λ other there. subst (λ (p : FormSpace). AreSharedRows p.rows (part_at classes (left (form.guide_of f) s)).representatives rows lefts)
+        (same-space other there)
+        (subst (λ (k : ℕ). AreSharedRows space.rows (part_at classes k).representatives rows lefts) (sym (left-at f s space at)) rows_are);
+    columns = λ other there. subst (λ (p : FormSpace). AreSharedRows p.columns (part_at classes (right (form.guide_of f) s)).representatives columns rights)
+        (same-space other there)
+        (subst (λ (k : ℕ). AreSharedRows space.columns (part_at classes k).representatives columns rights) (sym (right-at f s space at)) columns_are);
+  }
+
+range-get : (n i : ℕ) → i < n → slice_get (range_with_len 0 n) i ≡ Some i
+range-get n i inside =
+    let e : slice_index (range_with_len 0 n) i ≡ i = get_or-range_with_len 0 n i 0 inside ∙ (omega arith) in
+    slice_get-get_or (range_with_len 0 n) i 0 (omega (arith, length-range_with_len 0 n)) ∙ ap (λ (k : ℕ). let o : Option ℕ = Some k in o) e
+
+-- the part of a space by the rows that classes share
+module _ (old : Contents) (a : AutoView) (f : Form) (classes : List SpaceClasses) (is_form : form.IsForm f)
+    (same : IsFormOf (form.guide_of f) old a f) (refined : IsRefined f classes) (s : ℕ) (inside : IsSpace (form.guide_of f) s)
+    (space : FormSpace) (at : slice_get f.spaces s ≡ Some space) (part : Part) (lefts rights : List ℕ)
+    (shared : IsSharedPart f classes s part lefts rights) where
+  g : Spaces
+  g = form.guide_of f
+
+  left-in : IsSpace (form.guide_of f) (left (form.guide_of f) s)
+  left-in = is_form.guide.left_inside s inside
+
+  right-in : IsSpace (form.guide_of f) (right (form.guide_of f) s)
+  right-in = is_form.guide.right_inside s inside
+
+  rows-are : AreSharedRows space.rows (part_at classes (left (form.guide_of f) s)).representatives part.rows lefts
+  rows-are = shared.rows space at
+
+  columns-are : AreSharedRows space.columns (part_at classes (right (form.guide_of f) s)).representatives part.columns rights
+  columns-are = shared.columns space at
+
+  -- the state of a row is one
+  pub left-below : (i : ℕ) → i < length lefts → slice_index lefts i < states_of a (left (form.guide_of f) s)
+  left-below i i_in =
+      let found = rows-are.has i i_in in
+      let b = representative-below f classes is_form refined (left (form.guide_of f) s) found.class left-in found.inside in
+      let e = same.states (left (form.guide_of f) s) left-in in
+      let is = found.state in
+      omega arith
+
+  pub right-below : (j : ℕ) → j < length rights → slice_index rights j < states_of a (right (form.guide_of f) s)
+  right-below j j_in =
+      let found = columns-are.has j j_in in
+      let b = representative-below f classes is_form refined (right (form.guide_of f) s) found.class right-in found.inside in
+      let e = same.states (right (form.guide_of f) s) right-in in
+      let is = found.state in
+      omega arith
+
+  -- where the root of a pair of classes stands
+  place : ℕ → ℕ → ℕ
+  place x y = slice_index part.rows x * length rights + slice_index part.columns y
+
+  module _ (x y : ℕ) (x_in : x < classes_in classes (left (form.guide_of f) s)) (y_in : y < classes_in classes (right (form.guide_of f) s)) where
+    row-in : slice_index part.rows x < length lefts
+    row-in = rows-are.within x x_in
+
+    column-in : slice_index part.columns y < length rights
+    column-in = columns-are.within y y_in
+
+    place-inside : place x y < length lefts * length rights
+    unfolding place
+    place-inside =
+        let b = mul-add-lt (slice_index part.rows x) (length rights) (slice_index part.columns y) (length lefts) row-in column-in in
+        let c = mul_comm (length rights) (length lefts) in
+        omega arith
+
+    place-row : place x y / length rights ≡ slice_index part.rows x
+    unfolding place
+    place-row = div-mul-add (slice_index part.rows x) (length rights) (slice_index part.columns y) column-in
+
+    place-column : place x y % length rights ≡ slice_index part.columns y
+    unfolding place
+    place-column = mod-mul-add (slice_index part.rows x) (length rights) (slice_index part.columns y) column-in
+
+    cell-is : slice_get part.cells (slice_index part.rows x * part.width + slice_index part.columns y) ≡ Some (place x y)
+    unfolding place
+    cell-is =
+        ap (λ (w : ℕ). slice_get part.cells (slice_index part.rows x * w + slice_index part.columns y)) shared.width
+        ∙ ap (λ (xs : List ℕ). slice_get xs (slice_index part.rows x * length rights + slice_index part.columns y)) shared.cells
+        ∙ range-get (length lefts * length rights) (slice_index part.rows x * length rights + slice_index part.columns y) place-inside
+
+    place-is : place_in part x y ≡ Some (place x y)
+    place-is =
+        ap (λ (o : Option ℕ). option_and_then (λ row. option_and_then (λ column.
+        option_map (λ cell. part.first + cell) (slice_get part.cells (row * part.width + column)))
+        (slice_get part.columns y)) o) (slice_get-get_or part.rows x 0 (let m = rows-are.many in omega arith))
+        ∙ ap (λ (o : Option ℕ). option_and_then (λ column.
+        option_map (λ cell. part.first + cell) (slice_get part.cells (slice_index part.rows x * part.width + column))) o)
+        (slice_get-get_or part.columns y 0 (let m = columns-are.many in omega arith))
+        ∙ ap (λ (o : Option ℕ). option_map (λ cell. part.first + cell) o) cell-is
+        ∙ ap (λ (n : ℕ). Some (n + place x y)) shared.first ∙ ap (λ (n : ℕ). Some n) (omega arith)
+
+  module _ (roots : List NodeRef) (pairs : ArePairs old a s lefts rights roots) where
+    -- the states of a row and a column step as the representatives of classes that have these
+    step-root : (x y : ℕ) (root : NodeRef) (label : Label) → x < classes_in classes (left (form.guide_of f) s) →
+        y < classes_in classes (right (form.guide_of f) s) → slice_get roots (place x y) ≡ Some root →
+        class_at classes s (state_of old root label) ≡ (quotient_of f classes).step s x y label
+    step-root x y root label x_in y_in there =
+        let i = slice_index part.rows x in
+        let j = slice_index part.columns y in
+        let l = slice_index lefts i in
+        let r = slice_index rights j in
+        let p = representative_at classes (left (form.guide_of f) s) x in
+        let q = representative_at classes (right (form.guide_of f) s) y in
+        let k_in = slice_get_within roots (place x y) root there in
+        let here : root_at old a s l r ≡ Some root =
+        ap (λ (n : ℕ). root_at old a s (slice_index lefts n) (slice_index rights j)) (sym (place-row x y x_in y_in))
+        ∙ ap (λ (n : ℕ). root_at old a s (slice_index lefts (place x y / length rights)) (slice_index rights n)) (sym (place-column x y x_in y_in))
+        ∙ sym (pairs.each (place x y) k_in) ∙ there in
+        let l_in = left-below i (row-in x y x_in y_in) in
+        let r_in = right-below j (column-in x y x_in y_in) in
+        ap (class_at classes s) (step-some old a s l r label root here ∙ sym (same.steps s l r label inside l_in r_in)
+        ∙ step-at f s space at l r label ∙ step-same space l p r q label (rows-are.same x x_in) (columns-are.same y y_in)
+        ∙ sym (step-at f s space at p q label))
+        ∙ sym (step-quotient f classes s x y label)
+
+    -- classes that have the row and the column of a place
+    record Pair (k : ℕ) : Type 0 where
+      pub left_class : ℕ
+      pub right_class : ℕ
+      pub left_inside : left_class < classes_in classes (left (form.guide_of f) s)
+      pub right_inside : right_class < classes_in classes (right (form.guide_of f) s)
+      pub is : place left_class right_class ≡ k
+
+    pair-of : (k : ℕ) → k < length roots → Pair k
+    unfolding place
+    pair-of k k_in =
+        let one = rows-are.has (k / length rights) (pairs.left_inside k k_in) in
+        let two = columns-are.has (k % length rights) (pairs.right_inside k k_in) in
         record {
-          root = reference;
-          there = ap (λ (h : Spaces). slice_get part.roots (x * classes_in classes (right h s) + y)) same.guide
-              ∙ ap (λ (xs : List NodeRef). slice_get xs k) roots_are ∙ reference_at;
-          valid = stands.valid;
-          states = λ label. stands.states label
-              ∙ ap (class_at classes s) (is_listing.root k root.0 one root.1 one_at label)
-              ∙ step-root k root.0 label root.1
-              ∙ ap (λ (i : ℕ). (quotient_of f classes).step s i (k % w) label) (div-mul-add x w y y_in)
-              ∙ ap (λ (j : ℕ). (quotient_of f classes).step s x j label) (mod-mul-add x w y y_in);
+          left_class = one.class;
+          right_class = two.class;
+          left_inside = one.inside;
+          right_inside = two.inside;
+          is = ap (λ (i : ℕ). i * length rights + slice_index part.columns two.class) one.number
+              ∙ ap (λ (j : ℕ). k / length rights * length rights + j) two.number ∙ div-add-mod' k (length rights);
         }
 
-    pub IsQuotientSpace-made : (part : SpacePart) → part.states ≡ classes_in classes s → part.initial ≡ class_at classes s ((form.automaton_of f).initial s) →
-        part.roots ≡ references → IsQuotientSpace new f classes s part
-    IsQuotientSpace-made part states_are initial_is roots_are = record {
-      states = states_are;
-      initial = initial_is;
-      many = ap length roots_are ∙ stand.many ∙ is_listing.many ∙ pairs.many
-          ∙ ap (λ (h : Spaces). classes_in classes (left h s) * classes_in classes (right h s)) (sym same.guide);
-      each = λ x y x_in y_in. root-of x y
-          (subst (λ (h : Spaces). x < classes_in classes (left h s)) same.guide x_in)
-          (subst (λ (h : Spaces). y < classes_in classes (right h s)) same.guide y_in) part roots_are;
-      valid = λ k root at.
-          let here = sym (ap (λ (xs : List NodeRef). slice_get xs k) roots_are) ∙ at in
-          let b = slice_get_within references k root here in
-          let n = stand.many in
-          (stand.each new listing.nodes numbered k (slice_index_or listing.roots k (Leaf 0)) root
-          (slice_get-get_or listing.roots k (Leaf 0) (omega arith)) here).valid;
-    }
+    -- what is under a root is under the table of the automaton of classes
+    pub under-classes : (h : Function) → IsUnderRenamed old (part_at classes s).classes roots h → IsUnderClasses f classes h
+    under-classes h under =
+        let pair = pair-of under.place (slice_get_within roots under.place under.root under.there) in
+        let there : slice_get roots (place pair.left_class pair.right_class) ≡ Some under.root = ap (slice_get roots) pair.is ∙ under.there in
+        record {
+          space = s;
+          inside = inside;
+          under = record {
+            at_left = pair.left_class;
+            at_right = pair.right_class;
+            in_left = lt-ltb pair.left_class (classes_in classes (left (form.guide_of f) s)) pair.left_inside;
+            in_right = lt-ltb pair.right_class (classes_in classes (right (form.guide_of f) s)) pair.right_inside;
+            below = under.below;
+            fixed = under.fixed;
+            states = λ label. under.states label
+                ∙ step-root pair.left_class pair.right_class under.root (with_below under.below under.fixed label) pair.left_inside pair.right_inside there;
+          };
+        }
 
-  -- the function of a listed node, with states replaced by their classes, is under the table
-  pub under-renamed : (h : Function) → IsRenamed (part_at classes s).classes listing.nodes h → IsUnderClasses f classes h
-  under-renamed h renamed =
-      let root = is_listing.under renamed.index renamed.inside in
-      let k = root.there.0 in
-      let at : slice_get roots k ≡ Some root.root = slice_get-get_or roots k root.root root.there.1 ∙ ap (λ (r : NodeRef). Some r) root.there.2 in
-      let w = classes_in classes (right g s) in
-      let k_in = root.there.1 in
-      record {
-        space = s;
-        inside = there g old a f classes is_form same refined s inside;
-        under = record {
-          at_left = k / w;
-          at_right = k % w;
-          in_left = subst (λ (e : Spaces). Below (classes_in classes) (left e s) (k / w)) (sym same.guide)
-              (lt-ltb (k / w) (classes_in classes (left g s)) (pairs.left_inside k k_in));
-          in_right = subst (λ (e : Spaces). Below (classes_in classes) (right e s) (k % w)) (sym same.guide)
-              (lt-ltb (k % w) (classes_in classes (right g s)) (pairs.right_inside k k_in));
-          below = root.under.below;
-          fixed = root.under.fixed;
-          states = λ label. renamed.states label ∙ ap (class_at classes s) (root.under.states label)
-              ∙ step-root k root.root (with_below root.under.below root.under.fixed label) at;
+    module _ (new : Contents) (made : List NodeRef) (renamed : AreRenamed old new (part_at classes s).classes roots made) where
+      root-of : (x y : ℕ) → x < classes_in classes (left (form.guide_of f) s) → y < classes_in classes (right (form.guide_of f) s) →
+          IsRootOf new f classes s x y part made
+      root-of x y x_in y_in =
+          let none : NodeRef = record { word = 0 } in
+          let k = place x y in
+          let b = place-inside x y x_in y_in in
+          let m = pairs.many in
+          let n = renamed.many in
+          let root : NodeRef = slice_index_or made k none in
+          let there = slice_get-get_or made k none (omega arith) in
+          let was : NodeRef = slice_index_or roots k none in
+          let was_there = slice_get-get_or roots k none (omega arith) in
+          record {
+            place = k;
+            at = place-is x y x_in y_in;
+            root = root;
+            there = there;
+            valid = renamed.valid k root there;
+            states = λ label. renamed.states k was root label was_there there ∙ step-root x y was label x_in y_in was_there;
+          }
+
+      pub IsQuotientSpace-made : IsQuotientSpace new f classes s part made
+      IsQuotientSpace-made = record {
+        is_part = record {
+          children = shared.children;
+          states = shared.states;
+          initial = shared.initial;
+          lefts = rows-are.many;
+          rights = columns-are.many;
+          each = root-of;
         };
+        first = shared.first;
+        used = λ k k_in.
+            let n = renamed.many in
+            let pair = pair-of k (omega arith) in
+            record {
+              left = pair.left_class;
+              right = pair.right_class;
+              there = place-is pair.left_class pair.right_class pair.left_inside pair.right_inside ∙ ap (λ (i : ℕ). Some i) pair.is;
+            };
+        valid = renamed.valid;
       }
-
-  pub under-read : (numbers : List ℕ) (nodes : List ListedNode) → numbers ≡ (part_at classes s).classes → nodes ≡ listing.nodes →
-      (h : Function) → IsRenamed numbers nodes h → IsUnderClasses f classes h
-  under-read numbers nodes numbers_are nodes_are h renamed = under-renamed h
-      (subst (λ (ns : List ListedNode). IsRenamed (part_at classes s).classes ns h) nodes_are
-      (subst (λ (xs : List ℕ). IsRenamed xs nodes h) numbers_are renamed))
-
-  pub inside-read : (nodes : List ListedNode) (listed : List Listed) (refs : List NodeRef) → nodes ≡ listing.nodes → listed ≡ listing.roots →
-      length refs ≡ length nodes → All (λ one. rank one ≤ length refs) listed
-  inside-read nodes listed refs nodes_are listed_are many = λ k d k_in.
-      let e = ap length listed_are in
-      let n = ap length nodes_are in
-      let here : slice_index_or listed k d ≡ slice_index_or listing.roots k d = ap (λ (xs : List Listed). slice_index_or xs k d) listed_are in
-      let is = is_listing.inside k (slice_index_or listing.roots k d) (slice_get-get_or listing.roots k d (omega arith)) in
-      subst (λ (one : Listed). rank one ≤ length refs) (sym here) (omega arith)

@@ -1,3 +1,4 @@
 pub mod Renamed
+pub mod Rows
 pub mod Quotient
 pub mod Minimised

@@ -6,5 +6,6 @@
 mod minimal;
 mod nodes;
 mod quotient;
+mod rows;
 
 pub use minimal::minimise;

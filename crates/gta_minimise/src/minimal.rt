@@ -13,17 +13,17 @@ ghost use Rattle.gta_room.specs.Progress.{Adds, IsStuck};
 ghost use Rattle.gta_refine.specs.Form.{IsForm};
 ghost use Rattle.gta_refine.specs.Refined.{IsRefined};
 ghost use Rattle.gta_form.specs.Listed.{IsFormOf};
-ghost use Rattle.gta_minimise.specs.Quotient.{IsUnderClasses, AreQuotientSpaces};
+ghost use Rattle.gta_minimise.specs.Quotient.{IsUnderClasses, IsPutBehind, AreQuotientSpaces};
 ghost use Rattle.gta_minimise.specs.Minimised.{HasMinimisedSize};
 
-use crate::quotient::quotient_space;
-use bdd_nodes::Shelf;
+use crate::quotient::{QuotientSpace, quotient_space};
+use bdd_nodes::{RefList, Shelf};
 use bdd_walk::{NoMemory, Stop};
-use gta_core::{Auto, BoolList, SpacePartList};
+use gta_core::{Auto, BoolList, Part};
 use gta_form::form_of;
 use gta_refine::{Form, SpaceClasses, refine};
 use plain_data::Items;
-use std::alloc::Global;
+use std::alloc::{AllocError, Global};
 use ws2s_core::Guide;
 
 /// The minimal automaton that accepts the same: its states are the classes of reached states that can't be told apart.
@@ -56,11 +56,18 @@ pub fn minimise(alloc: Global, g: &Guide, a: &Auto, shelf: &mut Shelf) -> Result
     let _ = shelf.count();
     let form = form_of(alloc, g, a, shelf)?;
     let classes = refine(alloc, &form)?;
-    let parts = quotient_spaces(alloc, g, a, &form, classes.as_slice(), shelf)?;
+    let table = quotient_spaces(alloc, g, a, &form, classes.as_slice(), shelf)?;
     let representatives = classes.as_slice()[0].representatives.as_slice();
     let accepting = accepting_classes(alloc, form.accepting.as_slice(), representatives)?;
-    let minimal = Auto::build(alloc, g, parts, accepting, shelf)?;
+    let minimal = Auto::from_parts(table.parts, accepting, table.roots, shelf)?;
     Ok(minimal)
+}
+
+/// The parts of all spaces of an automaton, and the roots of its table.
+#[derive(Drop)]
+struct QuotientTable {
+    parts: Items<Part>,
+    roots: RefList,
 }
 
 /// The parts of all spaces of the automaton of classes.
@@ -71,23 +78,42 @@ fn quotient_spaces(
     form: &Form,
     classes: &[SpaceClasses],
     shelf: &mut Shelf,
-) -> Result<SpacePartList, Stop>
+) -> Result<QuotientTable, Stop>
     requires auto { IsAuto g.now shelf.old a.now }
     requires form { IsForm form.now }
     requires same { IsFormOf g.now shelf.old a.now form.now }
     requires refined { IsRefined form.now classes.now }
-    ensures parts { IfOk result (λ parts. AreQuotientSpaces shelf.new form.now classes.now parts (length g.now)) }
+    ensures parts { IfOk result (λ made. AreQuotientSpaces shelf.new form.now classes.now made.parts made.roots (length g.now)) }
     ensures adds { Adds (IsUnderClasses form.now classes.now) shelf.old shelf.new }
     ensures stuck { result ≡ Err Stop.Limit → IsStuck (IsUnderClasses form.now classes.now) shelf.new }
 {
     // Only for its clause `shelf`.
     let _ = shelf.count();
     let mut parts = Items::new(alloc);
+    let mut roots = RefList::new(alloc);
     for space in 0..g.spaces() {
-        let part = quotient_space(alloc, g, a, form, space, classes, shelf)?;
+        let made = quotient_space(alloc, a, form, space, classes, shelf)?;
+        let part = put_behind(made, &mut roots)?;
         parts.push(part)?;
     }
-    Ok(parts)
+    Ok(QuotientTable { parts, roots })
+}
+
+/// The part of a space, with its roots behind those of the spaces before.
+fn put_behind(space: QuotientSpace, roots: &mut RefList) -> Result<Part, AllocError>
+    ensures { IfOk result (IsPutBehind roots.old space.roots roots.new space.part) }
+{
+    if roots.len() > u32::MAX as usize {
+        return Err(AllocError);
+    }
+    let first = roots.len() as u32;
+    let QuotientSpace {
+        mut part,
+        roots: own,
+    } = space;
+    part.first = first;
+    roots.append(own)?;
+    Ok(part)
 }
 
 /// For each class of space 0 whether its states are accepting.

@@ -1,16 +1,16 @@
 //! The nodes of the result.
 
 ghost use Rattle.std.specs.Prelude.{◌≡◌, ◌<◌, ◌^◌, ◌++◌, ◌∷◌, [], ℕ, List, Err, All, length, vec_len, IfOk, OnErr};
-ghost use Rattle.bdd_nodes.specs.Shelf.{IsShelf};
+ghost use Rattle.bdd_nodes.specs.Shelf.{IsShelf, IsValid};
 ghost use Rattle.bdd_list.specs.Listing.{AreOrdered};
 ghost use Rattle.gta_room.specs.Progress.{Adds, IsStuck};
 ghost use Rattle.gta_refine.specs.Numbered.{AreNumbered};
-ghost use Rattle.gta_minimise.specs.Renamed.{IsRenamed};
+ghost use Rattle.gta_minimise.specs.Renamed.{IsRenamed, IsUnderRenamed, AreRenamed};
 
-use bdd_list::ListedNode;
-use bdd_nodes::{Full, NodeRef, Shelf};
+use bdd_list::{ListedNode, list_nodes};
+use bdd_nodes::{Full, NodeRef, RefList, Shelf};
 use bdd_walk::Stop;
-use gta_refine::reference;
+use gta_refine::{reference, references};
 use std::alloc::Global;
 
 /// The node at an index, with states replaced by their classes, over the references for the nodes before it.
@@ -38,7 +38,7 @@ fn make_node(
 }
 
 /// The listed nodes, with states replaced by their classes: a reference for each.
-pub(crate) fn make_nodes(
+fn make_nodes(
     alloc: Global,
     shelf: &mut Shelf,
     nodes: &[ListedNode],
@@ -58,4 +58,25 @@ pub(crate) fn make_nodes(
         refs.push(made)?;
     }
     Ok(refs)
+}
+
+/// The roots, with states replaced by their classes.
+pub(crate) fn rename_roots(
+    alloc: Global,
+    shelf: &mut Shelf,
+    roots: &[NodeRef],
+    classes: &[u32],
+) -> Result<RefList, Stop>
+    requires valid { All (IsValid shelf.old) roots.now }
+    requires classes { All (λ class. class < 2 ^ 31) classes.now }
+    ensures renamed { IfOk result (AreRenamed shelf.old shelf.new classes.now roots.now) }
+    ensures adds { Adds (IsUnderRenamed shelf.old classes.now roots.now) shelf.old shelf.new }
+    ensures stuck { result ≡ Err Stop.Limit → IsStuck (IsUnderRenamed shelf.old classes.now roots.now) shelf.new }
+{
+    // Only for its clause `shelf`.
+    let _ = shelf.count();
+    let listing = list_nodes(alloc, shelf, roots)?;
+    let refs = make_nodes(alloc, shelf, listing.nodes.as_slice(), classes)?;
+    let renamed = references(alloc, &refs, classes, listing.roots.as_slice())?;
+    Ok(renamed)
 }

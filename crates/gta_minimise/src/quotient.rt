@@ -5,19 +5,19 @@ ghost use Rattle.bdd_nodes.specs.Shelf.{IsValid};
 ghost use Rattle.gta_theory.specs.Guides.{IsSpace, left, right};
 ghost use Rattle.gta_core.specs.Auto.{states_of, guide_of, IsAuto};
 ghost use Rattle.gta_room.specs.Progress.{Adds, IsStuck};
+ghost use Rattle.gta_refine.specs.Form as forms;
 ghost use Rattle.gta_refine.specs.Form.{IsForm};
 ghost use Rattle.gta_refine.specs.Refined.{IsRefined};
 ghost use Rattle.gta_form.specs.Listed.{IsFormOf};
 ghost use Rattle.gta_minimise.specs.Quotient.{ArePairs, IsUnderClasses, IsQuotientSpace};
 
-use crate::nodes::make_nodes;
-use bdd_list::list_nodes;
+use crate::nodes::rename_roots;
+use crate::rows::{classes_of, shared_part};
 use bdd_nodes::{RefList, Shelf};
 use bdd_walk::{NoMemory, Stop};
-use gta_core::{Auto, SpacePart};
-use gta_refine::{Form, SpaceClasses, references};
+use gta_core::{Auto, Part};
+use gta_refine::{Form, SpaceClasses};
 use std::alloc::{AllocError, Global};
-use ws2s_core::Guide;
 
 /// The root of each pair of states: in order of the left list, and for each of its states in order of the right one.
 fn roots_of_pairs(
@@ -50,40 +50,47 @@ fn roots_of_pairs(
     Ok(roots)
 }
 
-/// The part of a space: its states are the classes, and its roots those of the representatives, with states replaced by
-/// their classes.
+/// The part of a space, and its roots, which it counts from the first one.
+#[derive(Drop)]
+pub(crate) struct QuotientSpace {
+    pub part: Part,
+    pub roots: RefList,
+}
+
+/// The part of a space: its states are the classes, and its roots those of representatives, with states replaced by their
+/// classes.
 pub(crate) fn quotient_space(
     alloc: Global,
-    g: &Guide,
     a: &Auto,
     form: &Form,
     space: u32,
     classes: &[SpaceClasses],
     shelf: &mut Shelf,
-) -> Result<SpacePart, Stop>
-    requires auto { IsAuto g.now shelf.old a.now }
+) -> Result<QuotientSpace, Stop>
+    requires auto { IsAuto (forms.guide_of form.now) shelf.old a.now }
     requires form { IsForm form.now }
-    requires same { IsFormOf g.now shelf.old a.now form.now }
+    requires same { IsFormOf (forms.guide_of form.now) shelf.old a.now form.now }
     requires refined { IsRefined form.now classes.now }
-    requires inside { IsSpace g.now space }
-    ensures part { IfOk result (IsQuotientSpace shelf.new form.now classes.now space) }
+    requires inside { IsSpace (forms.guide_of form.now) space }
+    ensures space { IfOk result (λ made. IsQuotientSpace shelf.new form.now classes.now space made.part made.roots) }
     ensures adds { Adds (IsUnderClasses form.now classes.now) shelf.old shelf.new }
     ensures stuck { result ≡ Err Stop.Limit → IsStuck (IsUnderClasses form.now classes.now) shelf.new }
 {
     // Only for its clause `shelf`.
     let _ = shelf.count();
-    let (left, right) = g.children(space).unwrap_or((0, 0));
-    let lefts = classes[left as usize].representatives.as_slice();
-    let rights = classes[right as usize].representatives.as_slice();
-    let roots = roots_of_pairs(alloc, a, shelf, space, lefts, rights)?;
-    let listing = list_nodes(alloc, shelf, roots.as_slice())?;
-    let own = &classes[space as usize];
-    let numbers = own.classes.as_slice();
-    let refs = make_nodes(alloc, shelf, listing.nodes.as_slice(), numbers)?;
-    let initial = form.spaces.as_slice()[space as usize].initial;
-    Ok(SpacePart {
-        states: own.representatives.len() as u32,
-        initial: numbers[initial as usize],
-        roots: references(alloc, &refs, numbers, listing.roots.as_slice())?,
+    let shared = shared_part(alloc, form, space, classes)?;
+    let pairs = roots_of_pairs(
+        alloc,
+        a,
+        shelf,
+        space,
+        shared.lefts.as_slice(),
+        shared.rights.as_slice(),
+    )?;
+    let own = classes_of(classes, space).classes.as_slice();
+    let roots = rename_roots(alloc, shelf, pairs.as_slice(), own)?;
+    Ok(QuotientSpace {
+        part: shared.part,
+        roots,
     })
 }

@@ -1,345 +1,159 @@
--- The part of a space.
-use Rattle.std.proofs.Common.{◌≡◌, ◌<◌, ◌^◌, ℕ, List, All, length, refl, sym, ◌∙◌, ap, subst, arith}
-use Rattle.std.specs.Prelude.{slice_index, slice_index_or}
-use Rattle.std.proofs.lemmas.Option.{slice_get_read}
+-- The part of a space, and its roots.
+use Rattle.std.proofs.Common.{◌≡◌, ◌<◌, ◌^◌, ℕ, List, All, length, sym, ◌∙◌, ap, subst}
+use Rattle.std.specs.Prelude.{slice_index}
+use Rattle.labels.specs.Labels.{Function}
 use Rattle.bdd_nodes.specs.declared.node_ref.NodeRef.{NodeRef}
-use Rattle.bdd_list.specs.declared.listing.Listed.{Listed}
-use Rattle.bdd_list.specs.declared.listing.ListedNode.{ListedNode}
-use Rattle.bdd_list.specs.Listing.{IsListing}
+use Rattle.bdd_nodes.specs.Shelf.{IsValid}
 use Rattle.gta_theory.specs.Guides.{Spaces, left, right}
 use Rattle.gta_core.specs.Auto.{states_of}
-use Rattle.gta_room.proofs.ProgressLemmas.{Adds-also, IsStuck-also}
-use Rattle.gta_refine.specs.declared.form.FormSpace.{FormSpace}
+use Rattle.gta_room.proofs.ProgressLemmas.{Adds-none, Adds-also, IsStuck-also}
 use Rattle.gta_refine.specs.declared.rounds.SpaceClasses.{SpaceClasses}
-use Rattle.gta_refine.specs.Form.{automaton_of}
-use Rattle.gta_refine.specs.Numbered.{AreNumbered, StandFor}
+use Rattle.gta_refine.specs.Form as form
 use Rattle.gta_refine.specs.Refined.{part_at}
-use Rattle.gta_minimise.specs.Renamed.{IsRenamed}
+use Rattle.gta_minimise.specs.Renamed.{IsUnderRenamed, AreRenamed}
 use Rattle.gta_minimise.specs.Quotient.{ArePairs, IsUnderClasses}
-use Rattle.gta_minimise.proofs.QuotientLemmas.{representative-below, part-there, spaces-there, left-read, right-read}
-use Rattle.gta_minimise.proofs.QuotientLemmas.{small-classes, few-classes, initial-read, initial-classed}
-use Rattle.gta_minimise.proofs.QuotientLemmas.{IsQuotientSpace-made, under-read, inside-read}
+use Rattle.gta_minimise.proofs.QuotientLemmas.{small-classes, space-of, left-below, right-below, under-classes, IsQuotientSpace-made}
 use Rattle.gta_minimise.proofs.quotient.quotient_space.Goals as goal
 
 pub roots_of_pairs-requires-clause-lefts : goal.roots_of_pairs-requires-clause-lefts
 roots_of_pairs-requires-clause-lefts c =
-    let g = c.args.g.now in
     let old = c.args.shelf.now in
     let a = c.args.a.now in
     let f = c.args.form.now in
     let classes = c.args.classes.now in
     let s = c.args.space in
     let r = c.requires in
-    let lefts : c.as_slice-lefts.result.now ≡ (part_at classes (left g s)).representatives = c.as_slice-lefts.ensures
-    ∙ ap (λ (p : SpaceClasses). p.representatives) (left-read g old a f classes r.form r.same r.refined s r.inside c.children.result
-    c.unwrap_or-left.result c.unwrap_or-left.ensures c.children.ensures.value c.index-classes-left.result) in
-    let rights : c.as_slice-rights.result.now ≡ (part_at classes (right g s)).representatives = c.as_slice-rights.ensures
-    ∙ ap (λ (p : SpaceClasses). p.representatives) (right-read g old a f classes r.form r.same r.refined s r.inside c.children.result
-    c.unwrap_or-left.result c.unwrap_or-left.ensures c.children.ensures.value c.index-classes-right.result) in
-    subst (λ (h : Spaces). (x : ℕ) → x < length c.as_slice-lefts.result.now → slice_index c.as_slice-lefts.result.now x < states_of a (left h s))
-    (sym r.auto.over)
-    (subst (λ (xs : List ℕ). (x : ℕ) → x < length xs → slice_index xs x < states_of a (left g s)) (sym lefts)
-    (λ x x_in. representative-below g old a f classes r.form r.same r.refined (left g s) x (c.children.ensures.guide.left_inside s r.inside) x_in))
+    let space = space-of f s r.inside in
+    let shared = c.in_ok-shared.shared in
+    subst (λ (h : Spaces). (x : ℕ) → x < length c.as_slice.result.now → slice_index c.as_slice.result.now x < states_of a (left h s)) (sym r.auto.over)
+    (subst (λ (xs : List ℕ). (x : ℕ) → x < length xs → slice_index xs x < states_of a (left (form.guide_of f) s)) (sym c.as_slice.ensures)
+    (left-below old a f classes r.form r.same r.refined s r.inside space.0 space.1 shared.part shared.lefts shared.rights c.in_ok-shared.ensures))
 
 pub roots_of_pairs-requires-clause-rights : goal.roots_of_pairs-requires-clause-rights
 roots_of_pairs-requires-clause-rights c =
-    let g = c.args.g.now in
     let old = c.args.shelf.now in
     let a = c.args.a.now in
     let f = c.args.form.now in
     let classes = c.args.classes.now in
     let s = c.args.space in
     let r = c.requires in
-    let lefts : c.as_slice-lefts.result.now ≡ (part_at classes (left g s)).representatives = c.as_slice-lefts.ensures
-    ∙ ap (λ (p : SpaceClasses). p.representatives) (left-read g old a f classes r.form r.same r.refined s r.inside c.children.result
-    c.unwrap_or-left.result c.unwrap_or-left.ensures c.children.ensures.value c.index-classes-left.result) in
-    let rights : c.as_slice-rights.result.now ≡ (part_at classes (right g s)).representatives = c.as_slice-rights.ensures
-    ∙ ap (λ (p : SpaceClasses). p.representatives) (right-read g old a f classes r.form r.same r.refined s r.inside c.children.result
-    c.unwrap_or-left.result c.unwrap_or-left.ensures c.children.ensures.value c.index-classes-right.result) in
-    subst (λ (h : Spaces). (y : ℕ) → y < length c.as_slice-rights.result.now → slice_index c.as_slice-rights.result.now y < states_of a (right h s))
-    (sym r.auto.over)
-    (subst (λ (ys : List ℕ). (y : ℕ) → y < length ys → slice_index ys y < states_of a (right g s)) (sym rights)
-    (λ y y_in. representative-below g old a f classes r.form r.same r.refined (right g s) y (c.children.ensures.guide.right_inside s r.inside) y_in))
+    let space = space-of f s r.inside in
+    let shared = c.in_ok-shared.shared in
+    subst (λ (h : Spaces). (y : ℕ) → y < length c.as_slice-2.result.now → slice_index c.as_slice-2.result.now y < states_of a (right h s)) (sym r.auto.over)
+    (subst (λ (ys : List ℕ). (y : ℕ) → y < length ys → slice_index ys y < states_of a (right (form.guide_of f) s)) (sym c.as_slice-2.ensures)
+    (right-below old a f classes r.form r.same r.refined s r.inside space.0 space.1 shared.part shared.lefts shared.rights c.in_ok-shared.ensures))
 
-pub make_nodes-requires-clause-classes : goal.make_nodes-requires-clause-classes
-make_nodes-requires-clause-classes c =
-    let g = c.args.g.now in
+pub rename_roots-requires-clause-classes : goal.rename_roots-requires-clause-classes
+rename_roots-requires-clause-classes c =
     let old = c.args.shelf.now in
     let a = c.args.a.now in
     let f = c.args.form.now in
     let classes = c.args.classes.now in
     let s = c.args.space in
     let r = c.requires in
-    let numbers_are : c.as_slice-numbers.result.now ≡ (part_at classes s).classes = c.as_slice-numbers.ensures
-    ∙ ap (λ (p : SpaceClasses). p.classes) (part-there g old a f classes r.form r.same r.refined s r.inside c.index-classes-space.result
-    (slice_get_read classes (length classes) s c.index-classes-space.result refl (spaces-there g old a f classes r.form r.same r.refined s r.inside)
-    c.index-classes-space.is)) in
-    subst (All (λ class. class < 2 ^ 31)) (sym numbers_are) (small-classes g old a f classes r.form r.same r.refined s r.inside)
+    let space = space-of f s r.inside in
+    let shared = c.in_ok-shared.shared in
+    let own : c.as_slice-own.result.now ≡ (part_at classes s).classes = c.as_slice-own.ensures
+    ∙ ap (λ (p : SpaceClasses). p.classes) c.classes_of.ensures in
+    subst (All (λ class. class < 2 ^ 31)) (sym own) (small-classes f classes r.form r.refined s r.inside)
 
-pub references-requires-clause-classes : goal.references-requires-clause-classes
-references-requires-clause-classes c =
-    let g = c.args.g.now in
+pub returns-in_err-roots-clause-adds : goal.returns-in_err-roots-clause-adds
+returns-in_err-roots-clause-adds c =
     let old = c.args.shelf.now in
     let a = c.args.a.now in
     let f = c.args.form.now in
     let classes = c.args.classes.now in
     let s = c.args.space in
     let r = c.requires in
-    let numbers_are : c.as_slice-numbers.result.now ≡ (part_at classes s).classes = c.as_slice-numbers.ensures
-    ∙ ap (λ (p : SpaceClasses). p.classes) (part-there g old a f classes r.form r.same r.refined s r.inside c.index-classes-space.result
-    (slice_get_read classes (length classes) s c.index-classes-space.result refl (spaces-there g old a f classes r.form r.same r.refined s r.inside)
-    c.index-classes-space.is)) in
-    subst (All (λ class. class < 2 ^ 31)) (sym numbers_are) (small-classes g old a f classes r.form r.same r.refined s r.inside)
-
-pub bounds-numbers-initial : goal.bounds-numbers-initial
-bounds-numbers-initial c =
-    let g = c.args.g.now in
-    let old = c.args.shelf.now in
-    let a = c.args.a.now in
-    let f = c.args.form.now in
-    let classes = c.args.classes.now in
-    let s = c.args.space in
-    let r = c.requires in
-    let numbers_are : c.as_slice-numbers.result.now ≡ (part_at classes s).classes = c.as_slice-numbers.ensures
-    ∙ ap (λ (p : SpaceClasses). p.classes) (part-there g old a f classes r.form r.same r.refined s r.inside c.index-classes-space.result
-    (slice_get_read classes (length classes) s c.index-classes-space.result refl (spaces-there g old a f classes r.form r.same r.refined s r.inside)
-    c.index-classes-space.is)) in
-    let d = c.index-as_slice-space.result in
-    let is : (slice_index_or c.as_slice-3.result.now s d).initial ≡ (automaton_of f).initial s =
-    ap (λ (xs : List FormSpace). (slice_index_or xs s d).initial) c.as_slice-3.ensures
-    ∙ initial-read g old a f classes r.form r.same r.refined s r.inside d in
-    let within = initial-classed g old a f classes r.form r.same r.refined s r.inside in
-    let e = ap length numbers_are in
-    omega arith
-
-pub overflow_cast-result : goal.overflow_cast-result
-overflow_cast-result c =
-    let g = c.args.g.now in
-    let old = c.args.shelf.now in
-    let a = c.args.a.now in
-    let f = c.args.form.now in
-    let classes = c.args.classes.now in
-    let s = c.args.space in
-    let r = c.requires in
-    let is = c.len.ensures ∙ ap (λ (p : SpaceClasses). length p.representatives)
-    (part-there g old a f classes r.form r.same r.refined s r.inside c.index-classes-space.result
-    (slice_get_read classes (length classes) s c.index-classes-space.result refl (spaces-there g old a f classes r.form r.same r.refined s r.inside)
-    c.index-classes-space.is)) in
-    let few = few-classes g old a f classes r.form r.same r.refined s r.inside in
-    omega arith
-
-pub references-requires-clause-inside : goal.references-requires-clause-inside
-references-requires-clause-inside c =
-    let g = c.args.g.now in
-    let old = c.args.shelf.now in
-    let a = c.args.a.now in
-    let f = c.args.form.now in
-    let classes = c.args.classes.now in
-    let s = c.args.space in
-    let r = c.requires in
-    let lefts : c.as_slice-lefts.result.now ≡ (part_at classes (left g s)).representatives = c.as_slice-lefts.ensures
-    ∙ ap (λ (p : SpaceClasses). p.representatives) (left-read g old a f classes r.form r.same r.refined s r.inside c.children.result
-    c.unwrap_or-left.result c.unwrap_or-left.ensures c.children.ensures.value c.index-classes-left.result) in
-    let rights : c.as_slice-rights.result.now ≡ (part_at classes (right g s)).representatives = c.as_slice-rights.ensures
-    ∙ ap (λ (p : SpaceClasses). p.representatives) (right-read g old a f classes r.form r.same r.refined s r.inside c.children.result
-    c.unwrap_or-left.result c.unwrap_or-left.ensures c.children.ensures.value c.index-classes-right.result) in
-    let roots = c.in_ok-roots.roots in
-    let pairs : ArePairs old a s (part_at classes (left g s)).representatives (part_at classes (right g s)).representatives roots =
-    subst (λ (xs : List ℕ). ArePairs old a s xs (part_at classes (right g s)).representatives roots) lefts
-    (subst (λ (ys : List ℕ). ArePairs old a s c.as_slice-lefts.result.now ys roots) rights c.in_ok-roots.ensures.pairs) in
-    let listing = c.in_ok-listing.listing in
-    let is_listing : IsListing old roots listing = subst (λ (xs : List NodeRef). IsListing old xs listing) c.as_slice.ensures c.in_ok-listing.ensures in
-    let numbers = c.as_slice-numbers.result.now in
-    let numbers_are : numbers ≡ (part_at classes s).classes = c.as_slice-numbers.ensures
-    ∙ ap (λ (p : SpaceClasses). p.classes) (part-there g old a f classes r.form r.same r.refined s r.inside c.index-classes-space.result
-    (slice_get_read classes (length classes) s c.index-classes-space.result refl (spaces-there g old a f classes r.form r.same r.refined s r.inside)
-    c.index-classes-space.is)) in
-    let nodes = c.as_slice-2.result.now in
-    let new = c.make_nodes.new.shelf in
-    let many : length c.deref.result.now ≡ length nodes =
-    (let v = c.in_ok-refs.refs.ok.0 in let m = c.in_ok-refs.ensures.many in let e = ap length c.deref.ensures.value in omega arith) in
-    inside-read g old new a f classes r.form r.same r.refined s r.inside roots pairs listing is_listing nodes c.as_slice-4.result.now c.deref.result.now
-    c.as_slice-2.ensures c.as_slice-4.ensures many
-
-pub returns-in_err-refs-clause-adds : goal.returns-in_err-refs-clause-adds
-returns-in_err-refs-clause-adds c =
-    let g = c.args.g.now in
-    let old = c.args.shelf.now in
-    let a = c.args.a.now in
-    let f = c.args.form.now in
-    let classes = c.args.classes.now in
-    let s = c.args.space in
-    let r = c.requires in
-    let lefts : c.as_slice-lefts.result.now ≡ (part_at classes (left g s)).representatives = c.as_slice-lefts.ensures
-    ∙ ap (λ (p : SpaceClasses). p.representatives) (left-read g old a f classes r.form r.same r.refined s r.inside c.children.result
-    c.unwrap_or-left.result c.unwrap_or-left.ensures c.children.ensures.value c.index-classes-left.result) in
-    let rights : c.as_slice-rights.result.now ≡ (part_at classes (right g s)).representatives = c.as_slice-rights.ensures
-    ∙ ap (λ (p : SpaceClasses). p.representatives) (right-read g old a f classes r.form r.same r.refined s r.inside c.children.result
-    c.unwrap_or-left.result c.unwrap_or-left.ensures c.children.ensures.value c.index-classes-right.result) in
-    let roots = c.in_ok-roots.roots in
-    let pairs : ArePairs old a s (part_at classes (left g s)).representatives (part_at classes (right g s)).representatives roots =
-    subst (λ (xs : List ℕ). ArePairs old a s xs (part_at classes (right g s)).representatives roots) lefts
-    (subst (λ (ys : List ℕ). ArePairs old a s c.as_slice-lefts.result.now ys roots) rights c.in_ok-roots.ensures.pairs) in
-    let listing = c.in_ok-listing.listing in
-    let is_listing : IsListing old roots listing = subst (λ (xs : List NodeRef). IsListing old xs listing) c.as_slice.ensures c.in_ok-listing.ensures in
-    let numbers = c.as_slice-numbers.result.now in
-    let numbers_are : numbers ≡ (part_at classes s).classes = c.as_slice-numbers.ensures
-    ∙ ap (λ (p : SpaceClasses). p.classes) (part-there g old a f classes r.form r.same r.refined s r.inside c.index-classes-space.result
-    (slice_get_read classes (length classes) s c.index-classes-space.result refl (spaces-there g old a f classes r.form r.same r.refined s r.inside)
-    c.index-classes-space.is)) in
-    let nodes = c.as_slice-2.result.now in
-    let new = c.make_nodes.new.shelf in
-    let under = under-read g old new a f classes r.form r.same r.refined s r.inside roots pairs listing is_listing numbers nodes numbers_are
-    c.as_slice-2.ensures in
-    Adds-also (IsRenamed numbers nodes) (IsUnderClasses f classes) under old new c.make_nodes.ensures.adds
-
-pub returns-in_err-refs-clause-stuck : goal.returns-in_err-refs-clause-stuck
-returns-in_err-refs-clause-stuck c = λ stopped.
-    let g = c.args.g.now in
-    let old = c.args.shelf.now in
-    let a = c.args.a.now in
-    let f = c.args.form.now in
-    let classes = c.args.classes.now in
-    let s = c.args.space in
-    let r = c.requires in
-    let lefts : c.as_slice-lefts.result.now ≡ (part_at classes (left g s)).representatives = c.as_slice-lefts.ensures
-    ∙ ap (λ (p : SpaceClasses). p.representatives) (left-read g old a f classes r.form r.same r.refined s r.inside c.children.result
-    c.unwrap_or-left.result c.unwrap_or-left.ensures c.children.ensures.value c.index-classes-left.result) in
-    let rights : c.as_slice-rights.result.now ≡ (part_at classes (right g s)).representatives = c.as_slice-rights.ensures
-    ∙ ap (λ (p : SpaceClasses). p.representatives) (right-read g old a f classes r.form r.same r.refined s r.inside c.children.result
-    c.unwrap_or-left.result c.unwrap_or-left.ensures c.children.ensures.value c.index-classes-right.result) in
-    let roots = c.in_ok-roots.roots in
-    let pairs : ArePairs old a s (part_at classes (left g s)).representatives (part_at classes (right g s)).representatives roots =
-    subst (λ (xs : List ℕ). ArePairs old a s xs (part_at classes (right g s)).representatives roots) lefts
-    (subst (λ (ys : List ℕ). ArePairs old a s c.as_slice-lefts.result.now ys roots) rights c.in_ok-roots.ensures.pairs) in
-    let listing = c.in_ok-listing.listing in
-    let is_listing : IsListing old roots listing = subst (λ (xs : List NodeRef). IsListing old xs listing) c.as_slice.ensures c.in_ok-listing.ensures in
-    let numbers = c.as_slice-numbers.result.now in
-    let numbers_are : numbers ≡ (part_at classes s).classes = c.as_slice-numbers.ensures
-    ∙ ap (λ (p : SpaceClasses). p.classes) (part-there g old a f classes r.form r.same r.refined s r.inside c.index-classes-space.result
-    (slice_get_read classes (length classes) s c.index-classes-space.result refl (spaces-there g old a f classes r.form r.same r.refined s r.inside)
-    c.index-classes-space.is)) in
-    let nodes = c.as_slice-2.result.now in
-    let new = c.make_nodes.new.shelf in
-    let under = under-read g old new a f classes r.form r.same r.refined s r.inside roots pairs listing is_listing numbers nodes numbers_are
-    c.as_slice-2.ensures in
-    IsStuck-also (IsRenamed numbers nodes) (IsUnderClasses f classes) under new (c.make_nodes.ensures.stuck
-    (let why = rw stopped at c.from_residual-in_err-refs.ensures in c.in_err-refs.was ∙ (let is = why.1 in cc)))
-
-pub returns-in_err-references-clause-adds : goal.returns-in_err-references-clause-adds
-returns-in_err-references-clause-adds c =
-    let g = c.args.g.now in
-    let old = c.args.shelf.now in
-    let a = c.args.a.now in
-    let f = c.args.form.now in
-    let classes = c.args.classes.now in
-    let s = c.args.space in
-    let r = c.requires in
-    let lefts : c.as_slice-lefts.result.now ≡ (part_at classes (left g s)).representatives = c.as_slice-lefts.ensures
-    ∙ ap (λ (p : SpaceClasses). p.representatives) (left-read g old a f classes r.form r.same r.refined s r.inside c.children.result
-    c.unwrap_or-left.result c.unwrap_or-left.ensures c.children.ensures.value c.index-classes-left.result) in
-    let rights : c.as_slice-rights.result.now ≡ (part_at classes (right g s)).representatives = c.as_slice-rights.ensures
-    ∙ ap (λ (p : SpaceClasses). p.representatives) (right-read g old a f classes r.form r.same r.refined s r.inside c.children.result
-    c.unwrap_or-left.result c.unwrap_or-left.ensures c.children.ensures.value c.index-classes-right.result) in
-    let roots = c.in_ok-roots.roots in
-    let pairs : ArePairs old a s (part_at classes (left g s)).representatives (part_at classes (right g s)).representatives roots =
-    subst (λ (xs : List ℕ). ArePairs old a s xs (part_at classes (right g s)).representatives roots) lefts
-    (subst (λ (ys : List ℕ). ArePairs old a s c.as_slice-lefts.result.now ys roots) rights c.in_ok-roots.ensures.pairs) in
-    let listing = c.in_ok-listing.listing in
-    let is_listing : IsListing old roots listing = subst (λ (xs : List NodeRef). IsListing old xs listing) c.as_slice.ensures c.in_ok-listing.ensures in
-    let numbers = c.as_slice-numbers.result.now in
-    let numbers_are : numbers ≡ (part_at classes s).classes = c.as_slice-numbers.ensures
-    ∙ ap (λ (p : SpaceClasses). p.classes) (part-there g old a f classes r.form r.same r.refined s r.inside c.index-classes-space.result
-    (slice_get_read classes (length classes) s c.index-classes-space.result refl (spaces-there g old a f classes r.form r.same r.refined s r.inside)
-    c.index-classes-space.is)) in
-    let nodes = c.as_slice-2.result.now in
-    let new = c.make_nodes.new.shelf in
-    let under = under-read g old new a f classes r.form r.same r.refined s r.inside roots pairs listing is_listing numbers nodes numbers_are
-    c.as_slice-2.ensures in
-    Adds-also (IsRenamed numbers nodes) (IsUnderClasses f classes) under old new c.make_nodes.ensures.adds
+    let space = space-of f s r.inside in
+    let shared = c.in_ok-shared.shared in
+    let roots = c.in_ok-pairs.pairs in
+    let pairs : ArePairs old a s shared.lefts shared.rights roots =
+    subst (λ (xs : List ℕ). ArePairs old a s xs shared.rights roots) c.as_slice.ensures
+    (subst (λ (ys : List ℕ). ArePairs old a s c.as_slice.result.now ys roots) c.as_slice-2.ensures c.in_ok-pairs.ensures.pairs) in
+    let own : c.as_slice-own.result.now ≡ (part_at classes s).classes = c.as_slice-own.ensures
+    ∙ ap (λ (p : SpaceClasses). p.classes) c.classes_of.ensures in
+    let new = c.rename_roots.new.shelf in
+    let under : (h : Function) → IsUnderRenamed old c.as_slice-own.result.now c.as_slice-3.result.now h → IsUnderClasses f classes h = λ h is.
+    under-classes old a f classes r.form r.same r.refined s r.inside space.0 space.1 shared.part shared.lefts shared.rights c.in_ok-shared.ensures roots pairs h
+    (subst (λ (xs : List ℕ). IsUnderRenamed old xs roots h) own
+    (subst (λ (rs : List NodeRef). IsUnderRenamed old c.as_slice-own.result.now rs h) c.as_slice-3.ensures is)) in
+    Adds-also (IsUnderRenamed old c.as_slice-own.result.now c.as_slice-3.result.now) (IsUnderClasses f classes) under old new c.rename_roots.ensures.adds
 
 pub returns-clause-adds : goal.returns-clause-adds
 returns-clause-adds c =
-    let g = c.args.g.now in
     let old = c.args.shelf.now in
     let a = c.args.a.now in
     let f = c.args.form.now in
     let classes = c.args.classes.now in
     let s = c.args.space in
     let r = c.requires in
-    let lefts : c.as_slice-lefts.result.now ≡ (part_at classes (left g s)).representatives = c.as_slice-lefts.ensures
-    ∙ ap (λ (p : SpaceClasses). p.representatives) (left-read g old a f classes r.form r.same r.refined s r.inside c.children.result
-    c.unwrap_or-left.result c.unwrap_or-left.ensures c.children.ensures.value c.index-classes-left.result) in
-    let rights : c.as_slice-rights.result.now ≡ (part_at classes (right g s)).representatives = c.as_slice-rights.ensures
-    ∙ ap (λ (p : SpaceClasses). p.representatives) (right-read g old a f classes r.form r.same r.refined s r.inside c.children.result
-    c.unwrap_or-left.result c.unwrap_or-left.ensures c.children.ensures.value c.index-classes-right.result) in
-    let roots = c.in_ok-roots.roots in
-    let pairs : ArePairs old a s (part_at classes (left g s)).representatives (part_at classes (right g s)).representatives roots =
-    subst (λ (xs : List ℕ). ArePairs old a s xs (part_at classes (right g s)).representatives roots) lefts
-    (subst (λ (ys : List ℕ). ArePairs old a s c.as_slice-lefts.result.now ys roots) rights c.in_ok-roots.ensures.pairs) in
-    let listing = c.in_ok-listing.listing in
-    let is_listing : IsListing old roots listing = subst (λ (xs : List NodeRef). IsListing old xs listing) c.as_slice.ensures c.in_ok-listing.ensures in
-    let numbers = c.as_slice-numbers.result.now in
-    let numbers_are : numbers ≡ (part_at classes s).classes = c.as_slice-numbers.ensures
-    ∙ ap (λ (p : SpaceClasses). p.classes) (part-there g old a f classes r.form r.same r.refined s r.inside c.index-classes-space.result
-    (slice_get_read classes (length classes) s c.index-classes-space.result refl (spaces-there g old a f classes r.form r.same r.refined s r.inside)
-    c.index-classes-space.is)) in
-    let nodes = c.as_slice-2.result.now in
-    let new = c.make_nodes.new.shelf in
-    let under = under-read g old new a f classes r.form r.same r.refined s r.inside roots pairs listing is_listing numbers nodes numbers_are
-    c.as_slice-2.ensures in
-    Adds-also (IsRenamed numbers nodes) (IsUnderClasses f classes) under old new c.make_nodes.ensures.adds
+    let space = space-of f s r.inside in
+    let shared = c.in_ok-shared.shared in
+    let roots = c.in_ok-pairs.pairs in
+    let pairs : ArePairs old a s shared.lefts shared.rights roots =
+    subst (λ (xs : List ℕ). ArePairs old a s xs shared.rights roots) c.as_slice.ensures
+    (subst (λ (ys : List ℕ). ArePairs old a s c.as_slice.result.now ys roots) c.as_slice-2.ensures c.in_ok-pairs.ensures.pairs) in
+    let own : c.as_slice-own.result.now ≡ (part_at classes s).classes = c.as_slice-own.ensures
+    ∙ ap (λ (p : SpaceClasses). p.classes) c.classes_of.ensures in
+    let new = c.rename_roots.new.shelf in
+    let under : (h : Function) → IsUnderRenamed old c.as_slice-own.result.now c.as_slice-3.result.now h → IsUnderClasses f classes h = λ h is.
+    under-classes old a f classes r.form r.same r.refined s r.inside space.0 space.1 shared.part shared.lefts shared.rights c.in_ok-shared.ensures roots pairs h
+    (subst (λ (xs : List ℕ). IsUnderRenamed old xs roots h) own
+    (subst (λ (rs : List NodeRef). IsUnderRenamed old c.as_slice-own.result.now rs h) c.as_slice-3.ensures is)) in
+    Adds-also (IsUnderRenamed old c.as_slice-own.result.now c.as_slice-3.result.now) (IsUnderClasses f classes) under old new c.rename_roots.ensures.adds
 
-pub returns-clause-part : goal.returns-clause-part
-returns-clause-part c =
-    let g = c.args.g.now in
+pub returns-in_err-roots-clause-stuck : goal.returns-in_err-roots-clause-stuck
+returns-in_err-roots-clause-stuck c = λ stopped.
     let old = c.args.shelf.now in
     let a = c.args.a.now in
     let f = c.args.form.now in
     let classes = c.args.classes.now in
     let s = c.args.space in
     let r = c.requires in
-    let lefts : c.as_slice-lefts.result.now ≡ (part_at classes (left g s)).representatives = c.as_slice-lefts.ensures
-    ∙ ap (λ (p : SpaceClasses). p.representatives) (left-read g old a f classes r.form r.same r.refined s r.inside c.children.result
-    c.unwrap_or-left.result c.unwrap_or-left.ensures c.children.ensures.value c.index-classes-left.result) in
-    let rights : c.as_slice-rights.result.now ≡ (part_at classes (right g s)).representatives = c.as_slice-rights.ensures
-    ∙ ap (λ (p : SpaceClasses). p.representatives) (right-read g old a f classes r.form r.same r.refined s r.inside c.children.result
-    c.unwrap_or-left.result c.unwrap_or-left.ensures c.children.ensures.value c.index-classes-right.result) in
-    let roots = c.in_ok-roots.roots in
-    let pairs : ArePairs old a s (part_at classes (left g s)).representatives (part_at classes (right g s)).representatives roots =
-    subst (λ (xs : List ℕ). ArePairs old a s xs (part_at classes (right g s)).representatives roots) lefts
-    (subst (λ (ys : List ℕ). ArePairs old a s c.as_slice-lefts.result.now ys roots) rights c.in_ok-roots.ensures.pairs) in
-    let listing = c.in_ok-listing.listing in
-    let is_listing : IsListing old roots listing = subst (λ (xs : List NodeRef). IsListing old xs listing) c.as_slice.ensures c.in_ok-listing.ensures in
-    let numbers = c.as_slice-numbers.result.now in
-    let numbers_are : numbers ≡ (part_at classes s).classes = c.as_slice-numbers.ensures
-    ∙ ap (λ (p : SpaceClasses). p.classes) (part-there g old a f classes r.form r.same r.refined s r.inside c.index-classes-space.result
-    (slice_get_read classes (length classes) s c.index-classes-space.result refl (spaces-there g old a f classes r.form r.same r.refined s r.inside)
-    c.index-classes-space.is)) in
-    let nodes = c.as_slice-2.result.now in
-    let new = c.make_nodes.new.shelf in
-    let refs = c.in_ok-refs.refs.items in
-    let numbered : AreNumbered new (part_at classes s).classes listing.nodes refs =
-    subst (λ (ns : List ListedNode). AreNumbered new (part_at classes s).classes ns refs) c.as_slice-2.ensures
-    (subst (λ (xs : List ℕ). AreNumbered new xs nodes refs) numbers_are c.in_ok-refs.ensures.numbered) in
-    let references = c.in_ok-references.field-0 in
-    let stand : StandFor (part_at classes s).classes refs listing.roots references =
-    subst (λ (rs : List NodeRef). StandFor (part_at classes s).classes rs listing.roots references) c.deref.ensures.value
-    (subst (λ (ls : List Listed). StandFor (part_at classes s).classes c.deref.result.now ls references) c.as_slice-4.ensures
-    (subst (λ (xs : List ℕ). StandFor xs c.deref.result.now c.as_slice-4.result.now references) numbers_are c.in_ok-references.ensures)) in
-    let d = c.index-as_slice-space.result in
-    let initial_is : (slice_index_or c.as_slice-3.result.now s d).initial ≡ (automaton_of f).initial s =
-    ap (λ (xs : List FormSpace). (slice_index_or xs s d).initial) c.as_slice-3.ensures
-    ∙ initial-read g old a f classes r.form r.same r.refined s r.inside d in
-    IsQuotientSpace-made g old new a f classes r.form r.same r.refined s r.inside roots pairs listing is_listing refs references numbered stand
-    (record {
-      states = c.len.result;
-      initial = slice_index_or numbers (slice_index_or c.as_slice-3.result.now s d).initial 0;
-      roots = references;
-    })
-    (c.len.ensures ∙ ap (λ (p : SpaceClasses). length p.representatives)
-    (part-there g old a f classes r.form r.same r.refined s r.inside c.index-classes-space.result
-    (slice_get_read classes (length classes) s c.index-classes-space.result refl (spaces-there g old a f classes r.form r.same r.refined s r.inside)
-    c.index-classes-space.is)))
-    (ap (λ (k : ℕ). slice_index numbers k) initial_is ∙ ap (λ (xs : List ℕ). slice_index xs ((automaton_of f).initial s)) numbers_are)
-    refl
+    let space = space-of f s r.inside in
+    let shared = c.in_ok-shared.shared in
+    let roots = c.in_ok-pairs.pairs in
+    let pairs : ArePairs old a s shared.lefts shared.rights roots =
+    subst (λ (xs : List ℕ). ArePairs old a s xs shared.rights roots) c.as_slice.ensures
+    (subst (λ (ys : List ℕ). ArePairs old a s c.as_slice.result.now ys roots) c.as_slice-2.ensures c.in_ok-pairs.ensures.pairs) in
+    let own : c.as_slice-own.result.now ≡ (part_at classes s).classes = c.as_slice-own.ensures
+    ∙ ap (λ (p : SpaceClasses). p.classes) c.classes_of.ensures in
+    let new = c.rename_roots.new.shelf in
+    let under : (h : Function) → IsUnderRenamed old c.as_slice-own.result.now c.as_slice-3.result.now h → IsUnderClasses f classes h = λ h is.
+    under-classes old a f classes r.form r.same r.refined s r.inside space.0 space.1 shared.part shared.lefts shared.rights c.in_ok-shared.ensures roots pairs h
+    (subst (λ (xs : List ℕ). IsUnderRenamed old xs roots h) own
+    (subst (λ (rs : List NodeRef). IsUnderRenamed old c.as_slice-own.result.now rs h) c.as_slice-3.ensures is)) in
+    IsStuck-also (IsUnderRenamed old c.as_slice-own.result.now c.as_slice-3.result.now) (IsUnderClasses f classes) under new (c.rename_roots.ensures.stuck
+    (let why = rw stopped at c.from_residual-in_err-roots.ensures in c.in_err-roots.was ∙ (let is = why.1 in cc)))
+
+pub returns-clause-space : goal.returns-clause-space
+returns-clause-space c =
+    let old = c.args.shelf.now in
+    let a = c.args.a.now in
+    let f = c.args.form.now in
+    let classes = c.args.classes.now in
+    let s = c.args.space in
+    let r = c.requires in
+    let space = space-of f s r.inside in
+    let shared = c.in_ok-shared.shared in
+    let roots = c.in_ok-pairs.pairs in
+    let pairs : ArePairs old a s shared.lefts shared.rights roots =
+    subst (λ (xs : List ℕ). ArePairs old a s xs shared.rights roots) c.as_slice.ensures
+    (subst (λ (ys : List ℕ). ArePairs old a s c.as_slice.result.now ys roots) c.as_slice-2.ensures c.in_ok-pairs.ensures.pairs) in
+    let own : c.as_slice-own.result.now ≡ (part_at classes s).classes = c.as_slice-own.ensures
+    ∙ ap (λ (p : SpaceClasses). p.classes) c.classes_of.ensures in
+    let new = c.rename_roots.new.shelf in
+    let made = c.in_ok-roots.roots in
+    let renamed : AreRenamed old new (part_at classes s).classes roots made =
+    subst (λ (xs : List ℕ). AreRenamed old new xs roots made) own
+    (subst (λ (rs : List NodeRef). AreRenamed old new c.as_slice-own.result.now rs made) c.as_slice-3.ensures c.in_ok-roots.ensures.renamed) in
+    IsQuotientSpace-made old a f classes r.form r.same r.refined s r.inside space.0 space.1 shared.part shared.lefts shared.rights c.in_ok-shared.ensures
+    roots pairs new made renamed
+
+pub rename_roots-requires-clause-valid : goal.rename_roots-requires-clause-valid
+rename_roots-requires-clause-valid c =
+    subst (λ (rs : List NodeRef). All (IsValid c.args.shelf.now) rs) (sym c.as_slice-3.ensures) c.in_ok-pairs.ensures.valid
+
+pub returns-in_err-pairs-clause-adds : goal.returns-in_err-pairs-clause-adds
+returns-in_err-pairs-clause-adds c = Adds-none (IsUnderClasses c.args.form.now c.args.classes.now) c.args.shelf.now c.count.ensures.shelf
