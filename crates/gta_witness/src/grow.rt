@@ -3,6 +3,7 @@
 ghost use Rattle.std.specs.Prelude.{◌≡◌, ◌∷◌, ℕ, List, IfOk, None};
 ghost use Rattle.ws2s_core.specs.declared.label_tree.TreeNode.{TreeNode};
 ghost use Rattle.gta_witness.specs.declared.goal.Goal.TheVariants.{State};
+ghost use Rattle.gta_witness.specs.declared.goal.Weight.{Weight};
 ghost use Rattle.gta_witness.specs.declared.grow.Task.{Task};
 ghost use Rattle.gta_witness.specs.Searching.{found_by, IsSettled};
 ghost use Rattle.gta_witness.specs.Reading.{IsReadable};
@@ -36,7 +37,7 @@ fn visit(
     state: u32,
 ) -> Result<(), AllocError>
     requires readable { IsReadable form.now weigh.now (found_by search.now) }
-    requires settled { (w : ℕ) × IsSettled (found_by search.now) (State space state) w }
+    requires settled { (w : Weight) × IsSettled (found_by search.now) (State space state) w }
     ensures { (nodes : List TreeNode) (out : Want) → Grows form.now weigh.now (found_by search.now) nodes (Task.Visit space state ∷ tasks.old) made.old out
         → IfOk result (λ done. Grows form.now weigh.now (found_by search.now) nodes tasks.new made.new out) }
 {
@@ -102,7 +103,7 @@ pub(crate) fn grow(
     state: u32,
 ) -> Result<LabelTree, AllocError>
     requires readable { IsReadable form.now weigh.now (found_by search.now) }
-    requires settled { (w : ℕ) × IsSettled (found_by search.now) (State 0 state) w }
+    requires settled { (w : Weight) × IsSettled (found_by search.now) (State 0 state) w }
     ensures { IfOk result (IsTreeTo form.now weigh.now (found_by search.now) state) }
 {
     let mut nodes = Items::new(alloc);

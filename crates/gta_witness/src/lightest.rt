@@ -15,7 +15,7 @@ use bdd_walk::NoMemory;
 use gta_core::Auto;
 use gta_form::form_of;
 use gta_refine::Form;
-use std::alloc::Global;
+use std::alloc::{AllocError, Global};
 use std::collections::HashSet;
 use ws2s_core::{Guide, LabelTree, Track, TrackList};
 
@@ -47,8 +47,11 @@ fn least_of(
     match outcome.accepting {
         None => Ok(None),
         Some((state, weight)) => {
+            if weight.nodes == u32::MAX {
+                return Err(AllocError);
+            }
             let tree = grow(alloc, form, weigh, &outcome.search, state)?;
-            Ok(Some((tree, weight)))
+            Ok(Some((tree, weight.bits)))
         }
     }
 }
