@@ -34,7 +34,7 @@ use Rattle.gta_witness.specs.Lightest.{each_once}
 use Rattle.gta_witness.specs.Rules.{nothing, counted}
 use Rattle.gta_witness.specs.Searching.{Findings, IsSettled}
 use Rattle.gta_witness.specs.Reading.{HasSomeStep}
-use Rattle.gta_witness.specs.Growing.{IsTreeTo, Want, IsBuilt, AreBuilt, Leads, Runs, times_in, IsForest, nodes_of, Grows}
+use Rattle.gta_witness.specs.Growing.{IsTreeTo, Want, IsBuilt, AreBuilt, Leads, Runs, times_in, nodes_found, rounds, AreSmall, IsForest, nodes_of, Grows}
 use Rattle.gta_witness.proofs.SearchLemmas.{settled-once}
 
 -- how often a place is named
@@ -100,6 +100,9 @@ module _ (form : Form) (is_form : IsForm form) (tracks : List Track) (found : Fi
   Covers-child nodes None = λ t p deep. refl
   Covers-child nodes (Some k) = Covers-at nodes k
 
+  settled-nodes : (s q : ℕ) (w : Weight) → IsSettled found (State s q) w → nodes_found (found (State s q)) ≡ w.nodes
+  settled-nodes s q w settled = ap nodes_found settled.there ∙ ap (λ (x : Weight). x.nodes) settled.weighs
+
   -- no tree for an initial state
   pub none-built : (nodes : List TreeNode) (s q : ℕ) (w : Weight) → IsSpace g s → (automaton_of form).initial s ≡ q → nothing ≡ w →
       IsBuilt form tracks nodes None (record { space = s; state = q; weight = w })
@@ -119,6 +122,7 @@ module _ (form : Form) (is_form : IsForm form) (tracks : List Track) (found : Fi
       record {
         wants = record { space = s; state = q; weight = run.0 } ∷ grows.wants;
         built = (none-built nodes s q run.0 run.2 step.has.0 (step.has.1 ∙ same), grows.built);
+        small = grows.small.1;
         counts = let none : 0 ≡ run.0.nodes = ap (λ (x : Weight). x.nodes) (step.has.1 ∙ same) in let before = grows.counts in omega arith;
         runs = run.3;
         forest = record {
@@ -128,6 +132,32 @@ module _ (form : Form) (is_form : IsForm form) (tracks : List Track) (found : Fi
           once = grows.forest.once;
         };
       }
+
+  -- the nodes of the two sides, and the node above them
+  visit-parts : (s q l_space r_space : ℕ) (step : Step) → HasSomeStep form tracks found s q (Some step) → l_space ≡ left g s → r_space ≡ right g s →
+      nodes_found (found (State s q)) < 4294967295 →
+      nodes_found (found (State l_space step.left)) + nodes_found (found (State r_space step.right)) + 1 ≡ nodes_found (found (State s q))
+  visit-parts s q l_space r_space step has is_left is_right small =
+      let to = has.has in
+      let l = settled-nodes l_space step.left to.left_weight (subst (λ (k : ℕ). IsSettled found (State k step.left) to.left_weight) (sym is_left) to.of_left) in
+      let r = settled-nodes r_space step.right to.right_weight (subst (λ (k : ℕ). IsSettled found (State k step.right) to.right_weight) (sym is_right)
+      to.of_right) in
+      let here = settled-nodes s q has.weight has.settled in
+      all-counted to.left_weight.nodes to.right_weight.nodes has.weight.nodes (nodes_found (found (State l_space step.left)))
+      (nodes_found (found (State r_space step.right))) (nodes_found (found (State s q))) l r here (ap (λ (x : Weight). x.nodes) to.is_sum) small
+    where
+      all-counted : (l r w a b n : ℕ) → a ≡ l → b ≡ r → n ≡ w → counted (l + r + 1) ≡ w → n < 4294967295 → a + b + 1 ≡ n
+      all-counted l r w a b n is_l is_r is_w sum small = omega arith
+
+  pub visit-none-fewer : (s q : ℕ) (tasks : List Task) → rounds found tasks < rounds found (Visit s q ∷ tasks)
+  visit-none-fewer s q tasks = omega arith
+
+  pub visit-some-fewer : (nodes : List TreeNode) (s q l_space r_space : ℕ) (step : Step) (tasks : List Task) (made : List (Option ℕ)) (out : Want) →
+      Grows form tracks found nodes (Visit s q ∷ tasks) made out → HasSomeStep form tracks found s q (Some step) →
+      l_space ≡ left g s → r_space ≡ right g s →
+      rounds found (Visit l_space step.left ∷ Visit r_space step.right ∷ Join step.tracks ∷ tasks) < rounds found (Visit s q ∷ tasks)
+  visit-some-fewer nodes s q l_space r_space step tasks made out grows has is_left is_right =
+      let parts = visit-parts s q l_space r_space step has is_left is_right grows.small.0 in omega arith
 
   pub visit-some : (nodes : List TreeNode) (s q l_space r_space : ℕ) (step : Step) (tasks : List Task) (made : List (Option ℕ)) (out : Want) →
       Grows form tracks found nodes (Visit s q ∷ tasks) made out → HasSomeStep form tracks found s q (Some step) →
@@ -141,6 +171,9 @@ module _ (form : Form) (is_form : IsForm form) (tracks : List Track) (found : Fi
         wants = grows.wants;
         built = grows.built;
         counts = grows.counts;
+        small =
+            let parts = visit-parts s q l_space r_space step has is_left is_right grows.small.0 in
+            (let f = grows.small.0 in omega arith, (let f = grows.small.0 in omega arith, grows.small.1));
         runs = (
           to.left_weight,
           subst (λ (k : ℕ). IsSettled found (State k step.left) to.left_weight) (sym is_left) to.of_left,
@@ -298,25 +331,26 @@ module _ (form : Form) (is_form : IsForm form) (tracks : List Track) (found : Fi
       Grows form tracks found nodes (Join taken ∷ tasks) made out →
       Grows form tracks found (nodes ++ (record { tracks = taken; left = top None (rest made); right = top None made }) ∷ []) tasks
       (Some (length nodes) ∷ rest (rest made)) out
-  join-grows nodes taken tasks made out few grows = go made grows.wants grows.built grows.runs grows.counts grows.forest
+  join-grows nodes taken tasks made out few grows = go made grows.wants grows.built grows.runs grows.counts grows.small grows.forest
     where
       go : (made : List (Option ℕ)) (wants : List Want) → AreBuilt form tracks nodes made wants → Runs form tracks found (Join taken ∷ tasks) wants (out ∷ []) →
-          length nodes ≡ nodes_of wants → IsForest nodes made →
+          length nodes ≡ nodes_of wants → AreSmall found tasks → IsForest nodes made →
           Grows form tracks found (nodes ++ (record { tracks = taken; left = top None (rest made); right = top None made }) ∷ []) tasks
           (Some (length nodes) ∷ rest (rest made)) out
-      go [] [] built runs counts forest = absurd runs
-      go [] (want ∷ wants) built runs counts forest = absurd built
-      go (child ∷ made) [] built runs counts forest = absurd built
-      go (child ∷ []) (r ∷ []) built runs counts forest = absurd runs
-      go (child ∷ []) (r ∷ l ∷ wants) built runs counts forest = absurd built.1
-      go (child ∷ other ∷ made) (r ∷ []) built runs counts forest = absurd built.1
-      go (child ∷ other ∷ made) (r ∷ l ∷ wants) built runs counts forest =
+      go [] [] built runs counts small forest = absurd runs
+      go [] (want ∷ wants) built runs counts small forest = absurd built
+      go (child ∷ made) [] built runs counts small forest = absurd built
+      go (child ∷ []) (r ∷ []) built runs counts small forest = absurd runs
+      go (child ∷ []) (r ∷ l ∷ wants) built runs counts small forest = absurd built.1
+      go (child ∷ other ∷ made) (r ∷ []) built runs counts small forest = absurd built.1
+      go (child ∷ other ∷ made) (r ∷ l ∷ wants) built runs counts small forest =
           let node : TreeNode = record { tracks = taken; left = other; right = child } in
           record {
             wants = runs.0 ∷ wants;
             built = (new-built nodes node l r runs.0 built.1.0 built.0 runs.1, all-kept nodes node made wants built.1.1);
             counts = joined-counts (length nodes) (length (nodes ++ node ∷ [])) l.weight.nodes r.weight.nodes runs.0.weight.nodes (nodes_of wants) few
                 (longer nodes node) counts (ap (λ (x : Weight). x.nodes) runs.1.is_sum);
+            small = small;
             runs = runs.2;
             forest = new-forest nodes node made wants built.1.1 few built.1.0.inside built.0.inside forest;
           }
@@ -405,11 +439,15 @@ module _ (form : Form) (is_form : IsForm form) (tracks : List Track) (found : Fi
 
 -- the tree of a state is to be made
 pub grows-first : (form : Form) → IsForm form → (tracks : List Track) (found : Findings) (q : ℕ) (w : Weight) → IsSettled found (State 0 q) w →
-    Grows form tracks found [] (Visit 0 q ∷ []) [] (record { space = 0; state = q; weight = w })
-grows-first form is_form tracks found q w settled = record {
+    w.nodes < 4294967295 → Grows form tracks found [] (Visit 0 q ∷ []) [] (record { space = 0; state = q; weight = w })
+grows-first form is_form tracks found q w settled small = record {
   wants = [];
   built = tt;
   counts = refl;
+  small = (
+    let e : nodes_found (found (State 0 q)) ≡ w.nodes = ap nodes_found settled.there ∙ ap (λ (x : Weight). x.nodes) settled.weighs in omega arith,
+    tt,
+  );
   runs = (w, settled, is_form.guide.not_empty, refl);
   forest = record {
     few = omega arith;

@@ -7,7 +7,7 @@ use Rattle.std.proofs.lemmas.Option.{slice_get_within, get_or_from_slice_get}
 use Rattle.bdd_list.specs.declared.listing.Listed.{Listed}
 use Rattle.bdd_list.specs.declared.listing.Listed.TheVariants.{Leaf, Inner}
 use Rattle.bdd_list.specs.declared.listing.ListedNode.{ListedNode}
-use Rattle.bdd_list.specs.Listing.{function_of, function_in, node_at, first_track, AsksNoneBelow, AreOrdered}
+use Rattle.bdd_list.specs.Listing.{function_of, function_in, node_at, rank, first_track, AsksNoneBelow, AreOrdered}
 use Rattle.bdd_list.proofs.ListingLemmas.{function_in-leaf, function_in-inner, function_in-unasked}
 use Rattle.gta_theory.specs.Weights.{label_weight}
 use Rattle.gta_theory.specs.Guides.{left, right}
@@ -25,7 +25,7 @@ use Rattle.gta_witness.specs.declared.goal.Reason.TheVariants.{Initial, Member, 
 use Rattle.gta_witness.specs.Lightest.{is_among, each_once}
 use Rattle.gta_witness.specs.Rules.{Rule, initial, row, column, cell, low, high, goal_at, bit_cost, nothing, together, with_node, with_bits}
 use Rattle.gta_witness.specs.Searching.{Findings, IsSettled, Totals, IsJustified}
-use Rattle.gta_witness.specs.Reading.{IsReadable, HasReason, IsStepTo, AddsTrack, Climbs}
+use Rattle.gta_witness.specs.Reading.{IsReadable, HasReason, nodes_in, above_in, IsStepTo, AddsTrack, Climbs}
 use Rattle.gta_witness.proofs.SearchLemmas.{settled-entry, one-premise}
 use Rattle.gta_witness.proofs.WeighingLemmas.{label_weight-none, label_weight-more}
 
@@ -254,6 +254,54 @@ module _ (form : Form) (tracks : List Track) (found : Findings) (readable : IsRe
             or-no : (b : Bool) → b || false ≡ b
             or-no true = refl
             or-no false = refl
+
+    -- a node stands after its sides
+    side-before : (i : ℕ) (is_high : Bool) → HasReason found goal (Side i is_high) →
+        (rank climbs.listed ≤ i) × (i < length climbs.space.listing.nodes)
+    unfolding nodes
+    side-before i is_high has = let j = justified-by (Side i is_high) has in pick j.premises j.cost goal (Side i is_high) j.rule refl refl
+      where
+        node-in : (t k : ℕ) (space : FormSpace) (node : ListedNode) → slice_get form.spaces t ≡ Some space →
+            slice_get space.listing.nodes k ≡ Some node → t ≡ s → k ≡ i → slice_get climbs.space.listing.nodes i ≡ Some node
+        node-in t k space node at_space at is_s is_i =
+            let is_space : climbs.space ≡ space = one-space (slice_get form.spaces s) climbs.space space climbs.at_space
+            (ap (slice_get form.spaces) (sym is_s) ∙ at_space) in
+            ap (λ (p : FormSpace). slice_get p.listing.nodes i) is_space ∙ ap (slice_get space.listing.nodes) (sym is_i) ∙ at
+
+        pick : (premises : List Goal) (cost : Weight → Weight) (g : Goal) (reason : Reason) → Rule form (is_among tracks) premises cost g reason →
+            g ≡ goal → reason ≡ Side i is_high → (rank climbs.listed ≤ i) × (i < length climbs.space.listing.nodes)
+        pick _ _ _ _ (initial t space at) e r = absurd cc
+        pick _ _ _ _ (row t q' class space at at_class) e r = absurd cc
+        pick _ _ _ _ (column t q' class space at at_class) e r = absurd cc
+        pick _ _ _ _ (cell t k c at space listed at_space at_cell at_root) e r = absurd cc
+        pick _ _ _ _ (low t k space node at_space at) e r =
+            let same = goal_at-same t s node.low climbs.listed (e ∙ climbs.is_goal) in
+            let is_k : k ≡ i = cc in
+            let at_i = node-in t k space node at_space at same.0 is_k in
+            let inside : i < length climbs.space.listing.nodes = slice_get_within climbs.space.listing.nodes i node at_i in
+            let is_side : (node_at climbs.space.listing.nodes i).low ≡ climbs.listed =
+            ap (λ (n : ListedNode). n.low) (node-is climbs.space.listing.nodes i node at_i) ∙ same.1 in
+            (subst (λ (x : Listed). rank x ≤ i) is_side (ordered.low i inside).before, inside)
+        pick _ _ _ _ (high t k space node at_space at) e r =
+            let same = goal_at-same t s node.high climbs.listed (e ∙ climbs.is_goal) in
+            let is_k : k ≡ i = cc in
+            let at_i = node-in t k space node at_space at same.0 is_k in
+            let inside : i < length climbs.space.listing.nodes = slice_get_within climbs.space.listing.nodes i node at_i in
+            let is_side : (node_at climbs.space.listing.nodes i).high ≡ climbs.listed =
+            ap (λ (n : ListedNode). n.high) (node-is climbs.space.listing.nodes i node at_i) ∙ same.1 in
+            (subst (λ (x : Listed). rank x ≤ i) is_side (ordered.high i inside).before, inside)
+
+    pub fewer-above : (i : ℕ) (is_high : Bool) → HasReason found goal (Side i is_high) →
+        above_in (nodes_in (slice_get form.spaces s)) (Node s i) < above_in (nodes_in (slice_get form.spaces s)) goal
+    fewer-above i is_high has =
+        let before = side-before i is_high has in
+        let many : length climbs.space.listing.nodes ≡ nodes_in (slice_get form.spaces s) = sym (ap nodes_in climbs.at_space) in
+        subst (λ (x : Goal). above_in (nodes_in (slice_get form.spaces s)) (Node s i) < above_in (nodes_in (slice_get form.spaces s)) x)
+        (sym climbs.is_goal) (fewer (nodes_in (slice_get form.spaces s)) climbs.listed before.0 (subst (λ (n : ℕ). i < n) many before.1))
+      where
+        fewer : (many : ℕ) (x : Listed) → rank x ≤ i → i < many → above_in many (Node s i) < above_in many (goal_at s x)
+        fewer many (Leaf p) after inside = omega arith
+        fewer many (Inner j) after inside = omega arith
 
     -- at the initial state
     pub initial-step : HasReason found goal Initial → ((automaton_of form).initial s ≡ q) × (nothing ≡ w)

@@ -1,5 +1,5 @@
 -- A tree that is made from its leaves up.
-use Rattle.std.specs.Prelude.{◌≡◌, ℕ, ◌+◌, ◌<◌, ◌==◌, if◌then◌else◌, List, [], ◌∷◌, length, slice_get, Option, Some, None, IfSome}
+use Rattle.std.specs.Prelude.{◌≡◌, ℕ, suc, ◌+◌, ◌*◌, ◌<◌, ◌==◌, if◌then◌else◌, List, [], ◌∷◌, length, slice_get, Option, Some, None, IfSome}
 use Rattle.gta_theory.specs.Guides.{IsSpace, left, right}
 use Rattle.gta_theory.specs.Automata.{value}
 use Rattle.gta_theory.specs.Weights.{label_weight, weight}
@@ -11,6 +11,7 @@ use Rattle.gta_refine.specs.declared.form.Form.{Form}
 use Rattle.gta_refine.specs.Form.{guide_of, automaton_of}
 use Rattle.gta_witness.specs.declared.goal.Goal.TheVariants.{State}
 use Rattle.gta_witness.specs.declared.goal.Weight.{Weight}
+use Rattle.gta_witness.specs.declared.goal.Found.{Found}
 use Rattle.gta_witness.specs.declared.grow.Task.{Task}
 use Rattle.gta_witness.specs.declared.grow.Task.TheVariants.{Visit, Join}
 use Rattle.gta_witness.specs.Lightest.{each_once}
@@ -64,6 +65,23 @@ Runs form tracks found (Join taken ∷ tasks) (r ∷ []) out = ⊥
 Runs form tracks found (Join taken ∷ tasks) (r ∷ l ∷ wants) out =
     (want : Want) × Leads form tracks taken l r want × Runs form tracks found tasks (want ∷ wants) out
 
+-- how many nodes are counted for what is found
+abbrev pub nodes_found : Option Found → ℕ
+nodes_found None = 0
+nodes_found (Some entry) = entry.weight.nodes
+
+-- in how many rounds the tasks are done: for each node it and its two sides are visited, and it is made
+abbrev pub rounds : Findings → List Task → ℕ
+rounds found [] = 0
+rounds found (Visit s q ∷ tasks) = suc (3 * nodes_found (found (State s q))) + rounds found tasks
+rounds found (Join taken ∷ tasks) = suc (rounds found tasks)
+
+-- of what is to be visited all nodes are counted
+abbrev pub AreSmall : Findings → List Task → Type 0
+AreSmall found [] = Unit {0}
+AreSmall found (Visit s q ∷ tasks) = (nodes_found (found (State s q)) < 4294967295) × AreSmall found tasks
+AreSmall found (Join taken ∷ tasks) = AreSmall found tasks
+
 -- how often a place is named in the list
 abbrev pub times_in : List (Option ℕ) → ℕ → ℕ
 times_in [] k = 0
@@ -88,5 +106,6 @@ pub record Grows (form : Form) (tracks : List Track) (found : Findings) (nodes :
   pub wants : List Want
   pub built : AreBuilt form tracks nodes made wants
   pub counts : length nodes ≡ nodes_of wants
+  pub small : AreSmall found tasks
   pub runs : Runs form tracks found tasks wants (out ∷ [])
   pub forest : IsForest nodes made

@@ -1,5 +1,5 @@
 -- By which steps states have their weights, and how they are read.
-use Rattle.std.specs.Prelude.{◌≡◌, ℕ, ◌+◌, ◌≤◌, Bool, true, false, Option, Some, None, MatchOption, List, [], ◌∷◌, ◌++◌, slice_get}
+use Rattle.std.specs.Prelude.{◌≡◌, ℕ, suc, ◌+◌, ◌-◌, ◌≤◌, length, Bool, true, false, Option, Some, None, MatchOption, List, [], ◌∷◌, ◌++◌, slice_get}
 use Rattle.bdd_list.specs.declared.listing.Listed.{Listed}
 use Rattle.bdd_list.specs.declared.listing.ListedNode.{ListedNode}
 use Rattle.bdd_list.specs.Listing.{function_of, IsIn, first_track}
@@ -11,7 +11,7 @@ use Rattle.gta_refine.specs.declared.form.FormSpace.{FormSpace}
 use Rattle.gta_refine.specs.declared.form.Form.{Form}
 use Rattle.gta_refine.specs.Form.{guide_of, automaton_of, IsForm}
 use Rattle.gta_witness.specs.declared.goal.Goal.{Goal}
-use Rattle.gta_witness.specs.declared.goal.Goal.TheVariants.{State}
+use Rattle.gta_witness.specs.declared.goal.Goal.TheVariants.{State, Node}
 use Rattle.gta_witness.specs.declared.goal.Reason.{Reason}
 use Rattle.gta_witness.specs.declared.goal.Weight.{Weight}
 use Rattle.gta_witness.specs.declared.goal.Found.{Found}
@@ -31,6 +31,16 @@ pub record HasReason (found : Findings) (goal : Goal) (reason : Reason) : Type 0
   pub entry : Found
   pub there : found goal ≡ Some entry
   pub is_reason : entry.reason ≡ reason
+
+-- how many nodes the functions of a space have
+abbrev pub nodes_in : Option FormSpace → ℕ
+nodes_in None = 0
+nodes_in (Some space) = length space.listing.nodes
+
+-- how many goals the way up can still come to from this one, of so many nodes: those of the nodes after it
+abbrev pub above_in : ℕ → Goal → ℕ
+above_in many (Node s i) = many - i
+above_in many goal = suc many
 
 -- the step of the two settled states on the label of the tracks gives the state, and their weights its weight
 pub record IsStepTo (form : Form) (tracks : List ℕ) (found : Findings) (s q : ℕ) (w : Weight) (step : Step) : Type 0 where

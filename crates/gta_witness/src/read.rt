@@ -83,7 +83,7 @@ pub(crate) fn step_of(
 {
     let mut tracks = Items::new(alloc);
     let mut goal = Goal::State { space, state };
-    for _ in 0..u64::MAX {
+    loop {
         match reason_of(search, goal)? {
             Reason::Initial => return Ok(None),
             Reason::Member { .. } => return Err(AllocError),
@@ -108,5 +108,4 @@ pub(crate) fn step_of(
             }
         }
     }
-    Err(AllocError)
 }

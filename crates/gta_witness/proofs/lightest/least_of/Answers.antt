@@ -1,5 +1,5 @@
 -- A lightest tree of a form.
-use Rattle.std.proofs.Common.{◌≡◌, ℕ, Bool, Option, Some, None, subst}
+use Rattle.std.proofs.Common.{◌≡◌, ◌<◌, ℕ, Bool, Option, Some, None, subst, arith}
 use mathlib.Core.Path.{fun_ext}
 use Rattle.gta_witness.specs.declared.goal.Weight.{Weight}
 use Rattle.gta_witness.specs.Rules.{key}
@@ -32,7 +32,7 @@ grow-requires-clause-settled c =
     let form = c.args.form.now in
     let search = c.in_ok-outcome.outcome.search in
     let ends = subst (λ (o : Option (ℕ × Weight)). Ends form (weighs_in c.in_ok-weighed.weighed) search o) c.in-Some.is c.in_ok-outcome.ensures in
-    (c.in-Some.weight, ends.1.settled)
+    (c.in-Some.weight, ends.1.settled, let f = c.if-weight-ge4294967295.false in omega arith)
 
 pub returns-clause-least : goal.returns-clause-least
 returns-clause-least c =
