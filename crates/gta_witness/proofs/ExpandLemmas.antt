@@ -1,5 +1,5 @@
 -- What follows from a settled goal is covered.
-use Rattle.std.proofs.Common.{◌≡◌, ℕ, ◌+◌, ◌*◌, ◌≤◌, Bool, true, false, cond, [], ◌∷◌, Option, Some, None, inl, inr, ◌⊎◌, length}
+use Rattle.std.proofs.Common.{◌≡◌, ℕ, ◌+◌, ◌*◌, Bool, true, false, cond, [], ◌∷◌, Option, Some, None, inl, inr, ◌⊎◌, length}
 use Rattle.std.proofs.Common.{refl, sym, ap, subst, ◌∙◌, arith, Contains, slice_get}
 use Rattle.std.proofs.lemmas.Bool.{cases_lt}
 use Rattle.std.proofs.lemmas.Option.{slice_get_within}
@@ -13,7 +13,7 @@ use Rattle.gta_witness.specs.declared.goal.Goal.TheVariants.{State, Node, Row, C
 use Rattle.gta_witness.specs.declared.goal.Reason.TheVariants.{Member, Cell, Side}
 use Rattle.gta_witness.specs.declared.goal.Weight.{Weight}
 use Rattle.gta_witness.specs.declared.goal.Found.{Found}
-use Rattle.gta_witness.specs.Rules.{initial, row, column, cell, low, high, goal_at, bit_cost, key, nothing, together, with_node, with_bits}
+use Rattle.gta_witness.specs.Rules.{initial, row, column, cell, low, high, goal_at, bit_cost, nothing, together, with_node, with_bits}
 use Rattle.gta_witness.specs.Searching.{Findings, IsSettled, IsCovered, Totals, IsJustified, IsExpanded, Improves, settled_weight}
 use Rattle.gta_witness.specs.Following.{FollowsRow, FollowsColumn, FollowsState, FollowsCell, FollowsNode}
 use Rattle.gta_witness.proofs.SearchLemmas.{settled-once, together-nothing, one-premise}

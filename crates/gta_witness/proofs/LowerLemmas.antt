@@ -1,7 +1,7 @@
 -- No assignment weighs less than what was found for its value.
 use Rattle.std.proofs.Common.{◌≡◌, ◌≢◌, ℕ, zero, suc, ◌+◌, ◌*◌, ◌<◌, ◌≤◌, Bool, true, false, List, [], ◌∷◌, Option, Some, None, inl, inr, ◌⊎◌}
 use Rattle.std.proofs.Common.{refl, sym, ap, subst, ◌∙◌, arith, slice_get, length, if◌then◌else◌}
-use Rattle.std.specs.Prelude.{MatchOption, slice_index, nat_lt, min}
+use Rattle.std.specs.Prelude.{MatchOption, slice_index, nat_lt}
 use Rattle.std.proofs.lemmas.Bool.{false≢true, cases_Bool, cases_lt, ltb-true}
 use Rattle.std.proofs.lemmas.Option.{slice_get-get_or}
 use Rattle.labels.specs.Labels.{Label, empty_label, with_below}

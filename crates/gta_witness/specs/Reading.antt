@@ -1,5 +1,5 @@
 -- By which steps states have their weights, and how they are read.
-use Rattle.std.specs.Prelude.{◌≡◌, ℕ, suc, ◌+◌, ◌-◌, ◌≤◌, length, Bool, true, false, Option, Some, None, MatchOption, List, [], ◌∷◌, ◌++◌, slice_get}
+use Rattle.std.specs.Prelude.{◌≡◌, ℕ, suc, ◌-◌, ◌≤◌, length, Bool, true, false, Option, Some, None, MatchOption, List, [], ◌∷◌, ◌++◌, slice_get}
 use Rattle.bdd_list.specs.declared.listing.Listed.{Listed}
 use Rattle.bdd_list.specs.declared.listing.ListedNode.{ListedNode}
 use Rattle.bdd_list.specs.Listing.{function_of, IsIn, first_track}

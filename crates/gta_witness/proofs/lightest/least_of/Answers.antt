@@ -1,5 +1,5 @@
 -- A lightest tree of a form.
-use Rattle.std.proofs.Common.{◌≡◌, ◌<◌, ℕ, Bool, Option, Some, None, subst, arith}
+use Rattle.std.proofs.Common.{◌≡◌, ℕ, Bool, Option, Some, None, subst, arith}
 use mathlib.Core.Path.{fun_ext}
 use Rattle.gta_witness.specs.declared.goal.Weight.{Weight}
 use Rattle.gta_witness.specs.Rules.{key}
