@@ -26,13 +26,15 @@ use Rattle.ws2s_theory.proofs.TreesLemmas.{root-at}
 use Rattle.gta_refine.specs.declared.form.Form.{Form}
 use Rattle.gta_refine.specs.Form.{guide_of, automaton_of, IsForm}
 use Rattle.gta_witness.specs.declared.goal.Goal.TheVariants.{State}
+use Rattle.gta_witness.specs.declared.goal.Weight.{Weight}
 use Rattle.gta_witness.specs.declared.grow.Task.{Task}
 use Rattle.gta_witness.specs.declared.grow.Task.TheVariants.{Visit, Join}
 use Rattle.gta_witness.specs.declared.read.Step.{Step}
 use Rattle.gta_witness.specs.Lightest.{each_once}
+use Rattle.gta_witness.specs.Rules.{nothing, counted}
 use Rattle.gta_witness.specs.Searching.{Findings, IsSettled}
 use Rattle.gta_witness.specs.Reading.{HasSomeStep}
-use Rattle.gta_witness.specs.Growing.{IsTreeTo, Want, IsBuilt, AreBuilt, Leads, Runs, times_in, IsForest, Grows}
+use Rattle.gta_witness.specs.Growing.{IsTreeTo, Want, IsBuilt, AreBuilt, Leads, Runs, times_in, nodes_found, rounds, AreSmall, IsForest, nodes_of, Grows}
 use Rattle.gta_witness.proofs.SearchLemmas.{settled-once}
 
 -- how often a place is named
@@ -98,14 +100,17 @@ module _ (form : Form) (is_form : IsForm form) (tracks : List Track) (found : Fi
   Covers-child nodes None = λ t p deep. refl
   Covers-child nodes (Some k) = Covers-at nodes k
 
+  settled-nodes : (s q : ℕ) (w : Weight) → IsSettled found (State s q) w → nodes_found (found (State s q)) ≡ w.nodes
+  settled-nodes s q w settled = ap nodes_found settled.there ∙ ap (λ (x : Weight). x.nodes) settled.weighs
+
   -- no tree for an initial state
-  pub none-built : (nodes : List TreeNode) (s q w : ℕ) → IsSpace g s → (automaton_of form).initial s ≡ q → 0 ≡ w →
+  pub none-built : (nodes : List TreeNode) (s q : ℕ) (w : Weight) → IsSpace g s → (automaton_of form).initial s ≡ q → nothing ≡ w →
       IsBuilt form tracks nodes None (record { space = s; state = q; weight = w })
   none-built nodes s q w there is_q is_w = record {
     inside = tt;
     is_space = there;
     is_value = value-same g is_form.guide (automaton_of form) is_form.stable s (length nodes) 0 empty_assignment there (λ t p deep. refl) Covers-empty ∙ is_q;
-    weighs = weight-same ts (length nodes) 0 empty_assignment (λ t p deep. refl) Covers-empty ∙ is_w;
+    weighs = weight-same ts (length nodes) 0 empty_assignment (λ t p deep. refl) Covers-empty ∙ ap (λ (x : Weight). x.bits) is_w;
   }
 
   pub visit-none : (nodes : List TreeNode) (s q : ℕ) (tasks : List Task) (made : List (Option ℕ)) (out : Want) →
@@ -117,6 +122,8 @@ module _ (form : Form) (is_form : IsForm form) (tracks : List Track) (found : Fi
       record {
         wants = record { space = s; state = q; weight = run.0 } ∷ grows.wants;
         built = (none-built nodes s q run.0 run.2 step.has.0 (step.has.1 ∙ same), grows.built);
+        small = grows.small.1;
+        counts = let none : 0 ≡ run.0.nodes = ap (λ (x : Weight). x.nodes) (step.has.1 ∙ same) in let before = grows.counts in omega arith;
         runs = run.3;
         forest = record {
           few = grows.forest.few;
@@ -125,6 +132,32 @@ module _ (form : Form) (is_form : IsForm form) (tracks : List Track) (found : Fi
           once = grows.forest.once;
         };
       }
+
+  -- the nodes of the two sides, and the node above them
+  visit-parts : (s q l_space r_space : ℕ) (step : Step) → HasSomeStep form tracks found s q (Some step) → l_space ≡ left g s → r_space ≡ right g s →
+      nodes_found (found (State s q)) < 4294967295 →
+      nodes_found (found (State l_space step.left)) + nodes_found (found (State r_space step.right)) + 1 ≡ nodes_found (found (State s q))
+  visit-parts s q l_space r_space step has is_left is_right small =
+      let to = has.has in
+      let l = settled-nodes l_space step.left to.left_weight (subst (λ (k : ℕ). IsSettled found (State k step.left) to.left_weight) (sym is_left) to.of_left) in
+      let r = settled-nodes r_space step.right to.right_weight (subst (λ (k : ℕ). IsSettled found (State k step.right) to.right_weight) (sym is_right)
+      to.of_right) in
+      let here = settled-nodes s q has.weight has.settled in
+      all-counted to.left_weight.nodes to.right_weight.nodes has.weight.nodes (nodes_found (found (State l_space step.left)))
+      (nodes_found (found (State r_space step.right))) (nodes_found (found (State s q))) l r here (ap (λ (x : Weight). x.nodes) to.is_sum) small
+    where
+      all-counted : (l r w a b n : ℕ) → a ≡ l → b ≡ r → n ≡ w → counted (l + r + 1) ≡ w → n < 4294967295 → a + b + 1 ≡ n
+      all-counted l r w a b n is_l is_r is_w sum small = omega arith
+
+  pub visit-none-fewer : (s q : ℕ) (tasks : List Task) → rounds found tasks < rounds found (Visit s q ∷ tasks)
+  visit-none-fewer s q tasks = omega arith
+
+  pub visit-some-fewer : (nodes : List TreeNode) (s q l_space r_space : ℕ) (step : Step) (tasks : List Task) (made : List (Option ℕ)) (out : Want) →
+      Grows form tracks found nodes (Visit s q ∷ tasks) made out → HasSomeStep form tracks found s q (Some step) →
+      l_space ≡ left g s → r_space ≡ right g s →
+      rounds found (Visit l_space step.left ∷ Visit r_space step.right ∷ Join step.tracks ∷ tasks) < rounds found (Visit s q ∷ tasks)
+  visit-some-fewer nodes s q l_space r_space step tasks made out grows has is_left is_right =
+      let parts = visit-parts s q l_space r_space step has is_left is_right grows.small.0 in omega arith
 
   pub visit-some : (nodes : List TreeNode) (s q l_space r_space : ℕ) (step : Step) (tasks : List Task) (made : List (Option ℕ)) (out : Want) →
       Grows form tracks found nodes (Visit s q ∷ tasks) made out → HasSomeStep form tracks found s q (Some step) →
@@ -137,6 +170,10 @@ module _ (form : Form) (is_form : IsForm form) (tracks : List Track) (found : Fi
       record {
         wants = grows.wants;
         built = grows.built;
+        counts = grows.counts;
+        small =
+            let parts = visit-parts s q l_space r_space step has is_left is_right grows.small.0 in
+            (let f = grows.small.0 in omega arith, (let f = grows.small.0 in omega arith, grows.small.1));
         runs = (
           to.left_weight,
           subst (λ (k : ℕ). IsSettled found (State k step.left) to.left_weight) (sym is_left) to.of_left,
@@ -215,9 +252,9 @@ module _ (form : Form) (is_form : IsForm form) (tracks : List Track) (found : Fi
         ap (λ (p : ℕ). (automaton_of form).step want.space p (value g (automaton_of form) (right g want.space) n (child_at nodes node.right))
         (label_of node.tracks)) at_l
         ∙ ap (λ (p : ℕ). (automaton_of form).step want.space l.state p (label_of node.tracks)) at_r ∙ leads.gives in
-        let weighs : weight ts (suc n) b ≡ want.weight =
+        let weighs : weight ts (suc n) b ≡ want.weight.bits =
         ap (λ (u : ℕ). label_weight ts (label_of node.tracks) + (u + weight ts n (child_at nodes node.right))) of_left.weighs
-        ∙ ap (λ (u : ℕ). label_weight ts (label_of node.tracks) + (l.weight + u)) of_right.weighs ∙ leads.is_sum in
+        ∙ ap (λ (u : ℕ). label_weight ts (label_of node.tracks) + (l.weight.bits + u)) of_right.weighs ∙ ap (λ (x : Weight). x.bits) leads.is_sum in
         record {
           inside = let e = longer in omega arith;
           is_space = leads.is_space;
@@ -285,34 +322,41 @@ module _ (form : Form) (is_form : IsForm form) (tracks : List Track) (found : Fi
             let one : is_place n n ≡ 1 = ap (λ (b : Bool). cond b 1 0) (eq-eqb n n refl) in
             omega arith
 
+  -- few nodes are counted as they are
+  joined-counts : (n after l r w others : ℕ) → n < 4294967294 → after ≡ suc n → n ≡ r + (l + others) → counted (l + r + 1) ≡ w → after ≡ w + others
+  joined-counts n after l r w others few one_more counts is_sum = omega arith
+
   -- two trees are put under a node
   pub join-grows : (nodes : List TreeNode) (taken : List Track) (tasks : List Task) (made : List (Option ℕ)) (out : Want) → length nodes < 4294967294 →
       Grows form tracks found nodes (Join taken ∷ tasks) made out →
       Grows form tracks found (nodes ++ (record { tracks = taken; left = top None (rest made); right = top None made }) ∷ []) tasks
       (Some (length nodes) ∷ rest (rest made)) out
-  join-grows nodes taken tasks made out few grows = go made grows.wants grows.built grows.runs grows.forest
+  join-grows nodes taken tasks made out few grows = go made grows.wants grows.built grows.runs grows.counts grows.small grows.forest
     where
       go : (made : List (Option ℕ)) (wants : List Want) → AreBuilt form tracks nodes made wants → Runs form tracks found (Join taken ∷ tasks) wants (out ∷ []) →
-          IsForest nodes made →
+          length nodes ≡ nodes_of wants → AreSmall found tasks → IsForest nodes made →
           Grows form tracks found (nodes ++ (record { tracks = taken; left = top None (rest made); right = top None made }) ∷ []) tasks
           (Some (length nodes) ∷ rest (rest made)) out
-      go [] [] built runs forest = absurd runs
-      go [] (want ∷ wants) built runs forest = absurd built
-      go (child ∷ made) [] built runs forest = absurd built
-      go (child ∷ []) (r ∷ []) built runs forest = absurd runs
-      go (child ∷ []) (r ∷ l ∷ wants) built runs forest = absurd built.1
-      go (child ∷ other ∷ made) (r ∷ []) built runs forest = absurd built.1
-      go (child ∷ other ∷ made) (r ∷ l ∷ wants) built runs forest =
+      go [] [] built runs counts small forest = absurd runs
+      go [] (want ∷ wants) built runs counts small forest = absurd built
+      go (child ∷ made) [] built runs counts small forest = absurd built
+      go (child ∷ []) (r ∷ []) built runs counts small forest = absurd runs
+      go (child ∷ []) (r ∷ l ∷ wants) built runs counts small forest = absurd built.1
+      go (child ∷ other ∷ made) (r ∷ []) built runs counts small forest = absurd built.1
+      go (child ∷ other ∷ made) (r ∷ l ∷ wants) built runs counts small forest =
           let node : TreeNode = record { tracks = taken; left = other; right = child } in
           record {
             wants = runs.0 ∷ wants;
             built = (new-built nodes node l r runs.0 built.1.0 built.0 runs.1, all-kept nodes node made wants built.1.1);
+            counts = joined-counts (length nodes) (length (nodes ++ node ∷ [])) l.weight.nodes r.weight.nodes runs.0.weight.nodes (nodes_of wants) few
+                (longer nodes node) counts (ap (λ (x : Weight). x.nodes) runs.1.is_sum);
+            small = small;
             runs = runs.2;
             forest = new-forest nodes node made wants built.1.1 few built.1.0.inside built.0.inside forest;
           }
 
   -- nothing is left to do
-  module _ (nodes : List TreeNode) (made : List (Option ℕ)) (q w : ℕ)
+  module _ (nodes : List TreeNode) (made : List (Option ℕ)) (q : ℕ) (w : Weight)
       (grows : Grows form tracks found nodes [] made (record { space = 0; state = q; weight = w })) where
     out : Want
     out = record { space = 0; state = q; weight = w }
@@ -390,14 +434,20 @@ module _ (form : Form) (is_form : IsForm form) (tracks : List Track) (found : Fi
           settled = settled;
           is_value = ap (value g (automaton_of form) 0 (length nodes)) is ∙ end.2.is_value;
           weighs = ap (weight ts (length nodes)) is ∙ end.2.weighs;
+          counts = let all : nodes_of grows.wants ≡ w.nodes + 0 = ap nodes_of grows.runs in let counts = grows.counts in omega arith;
         }
 
 -- the tree of a state is to be made
-pub grows-first : (form : Form) → IsForm form → (tracks : List Track) (found : Findings) (q w : ℕ) → IsSettled found (State 0 q) w →
-    Grows form tracks found [] (Visit 0 q ∷ []) [] (record { space = 0; state = q; weight = w })
-grows-first form is_form tracks found q w settled = record {
+pub grows-first : (form : Form) → IsForm form → (tracks : List Track) (found : Findings) (q : ℕ) (w : Weight) → IsSettled found (State 0 q) w →
+    w.nodes < 4294967295 → Grows form tracks found [] (Visit 0 q ∷ []) [] (record { space = 0; state = q; weight = w })
+grows-first form is_form tracks found q w settled small = record {
   wants = [];
   built = tt;
+  counts = refl;
+  small = (
+    let e : nodes_found (found (State 0 q)) ≡ w.nodes = ap nodes_found settled.there ∙ ap (λ (x : Weight). x.nodes) settled.weighs in omega arith,
+    tt,
+  );
   runs = (w, settled, is_form.guide.not_empty, refl);
   forest = record {
     few = omega arith;

@@ -7,8 +7,9 @@ use Rattle.std.proofs.lemmas.Option.{slice_get_within, get_or_from_slice_get}
 use Rattle.bdd_list.specs.declared.listing.Listed.{Listed}
 use Rattle.bdd_list.specs.declared.listing.Listed.TheVariants.{Leaf, Inner}
 use Rattle.bdd_list.specs.declared.listing.ListedNode.{ListedNode}
-use Rattle.bdd_list.specs.Listing.{function_of, function_in, node_at, first_track, AsksNoneBelow, AreOrdered}
+use Rattle.bdd_list.specs.Listing.{function_of, function_in, node_at, rank, first_track, AsksNoneBelow, AreOrdered}
 use Rattle.bdd_list.proofs.ListingLemmas.{function_in-leaf, function_in-inner, function_in-unasked}
+use Rattle.gta_theory.specs.Weights.{label_weight}
 use Rattle.gta_theory.specs.Guides.{left, right}
 use Rattle.ws2s_core.specs.declared.track.Track.{Track}
 use Rattle.ws2s_theory.specs.Trees.{label_of}
@@ -18,13 +19,14 @@ use Rattle.gta_refine.specs.Form.{guide_of, automaton_of, cell_in, root_in}
 use Rattle.gta_refine.proofs.ReachLemmas.{left-at, right-at, initial-at, initial-form, step-at}
 use Rattle.gta_witness.specs.declared.goal.Goal.{Goal}
 use Rattle.gta_witness.specs.declared.goal.Goal.TheVariants.{State, Node, Row, Column}
+use Rattle.gta_witness.specs.declared.goal.Weight.{Weight}
 use Rattle.gta_witness.specs.declared.goal.Reason.{Reason}
 use Rattle.gta_witness.specs.declared.goal.Reason.TheVariants.{Initial, Member, Cell, Side}
 use Rattle.gta_witness.specs.Lightest.{is_among, each_once}
-use Rattle.gta_witness.specs.Rules.{Rule, initial, row, column, cell, low, high, goal_at, bit_cost}
+use Rattle.gta_witness.specs.Rules.{Rule, initial, row, column, cell, low, high, goal_at, bit_cost, nothing, together, with_node, with_bits}
 use Rattle.gta_witness.specs.Searching.{Findings, IsSettled, Totals, IsJustified}
-use Rattle.gta_witness.specs.Reading.{IsReadable, HasReason, IsStepTo, AddsTrack, Climbs}
-use Rattle.gta_witness.proofs.SearchLemmas.{settled-entry}
+use Rattle.gta_witness.specs.Reading.{IsReadable, HasReason, nodes_in, above_in, IsStepTo, AddsTrack, Climbs}
+use Rattle.gta_witness.proofs.SearchLemmas.{settled-entry, one-premise}
 use Rattle.gta_witness.proofs.WeighingLemmas.{label_weight-none, label_weight-more}
 
 one-space : (o : Option FormSpace) (x y : FormSpace) → o ≡ Some x → o ≡ Some y → x ≡ y
@@ -51,9 +53,15 @@ goal_at-same s t (Inner i) (Leaf p) e = absurd cc
 node-is : (nodes : List ListedNode) (i : ℕ) (node : ListedNode) → slice_get nodes i ≡ Some node → node_at nodes i ≡ node
 node-is nodes i node at = get_or_from_slice_get nodes i node (record { track = 0; low = Leaf 0; high = Leaf 0 }) at
 
+no-bits : (w : Weight) → with_bits 0 w ≡ w
+no-bits w = let bits : 0 + w.bits ≡ w.bits = omega arith in λ i. record { bits = bits i; nodes = w.nodes }
+
+more-bits : (k i j : ℕ) (w : Weight) → k ≡ i + j → with_bits k w ≡ with_bits j (with_bits i w)
+more-bits k i j w sum = let bits : k + w.bits ≡ j + (i + w.bits) = omega arith in λ n. record { bits = bits n; nodes = w.nodes }
+
 module _ (form : Form) (tracks : List Track) (found : Findings) (readable : IsReadable form tracks found) where
   -- at the state
-  pub Climbs-first : (s q w : ℕ) (space : FormSpace) → slice_get form.spaces s ≡ Some space → IsSettled found (State s q) w →
+  pub Climbs-first : (s q : ℕ) (w : Weight) (space : FormSpace) → slice_get form.spaces s ≡ Some space → IsSettled found (State s q) w →
       Climbs form tracks found s q w (State s q) []
   Climbs-first s q w space at settled = record {
     space = space;
@@ -65,11 +73,11 @@ module _ (form : Form) (tracks : List Track) (found : Findings) (readable : IsRe
     above = λ t e. absurd (false≢true e);
     weight = w;
     settled = settled;
-    is_sum = let n = label_weight-none (each_once tracks) (label_of []) (λ t. refl) in omega arith;
+    is_sum = ap (λ (k : ℕ). with_bits k w) (label_weight-none (each_once tracks) (label_of []) (λ t. refl)) ∙ no-bits w;
   }
 
   -- a state that is settled is of a space
-  pub has-space : (s q w : ℕ) → IsSettled found (State s q) w → (space : FormSpace) × (slice_get form.spaces s ≡ Some space)
+  pub has-space : (s q : ℕ) (w : Weight) → IsSettled found (State s q) w → (space : FormSpace) × (slice_get form.spaces s ≡ Some space)
   has-space s q w settled = let j = readable.justified (State s q) settled.entry settled.there in pick j.premises j.cost (State s q)
       settled.entry.reason j.rule refl
     where
@@ -78,7 +86,7 @@ module _ (form : Form) (tracks : List Track) (found : Findings) (readable : IsRe
       listed-space t space (Leaf p) at e = let is : t ≡ s = cc in (space, ap (slice_get form.spaces) (sym is) ∙ at)
       listed-space t space (Inner i) at e = absurd cc
 
-      pick : (premises : List Goal) (cost : ℕ) (goal : Goal) (reason : Reason) → Rule form (is_among tracks) premises cost goal reason →
+      pick : (premises : List Goal) (cost : Weight → Weight) (goal : Goal) (reason : Reason) → Rule form (is_among tracks) premises cost goal reason →
           goal ≡ State s q → (space : FormSpace) × (slice_get form.spaces s ≡ Some space)
       pick _ _ _ _ (initial t space at) e = let is : t ≡ s = cc in (space, ap (slice_get form.spaces) (sym is) ∙ at)
       pick _ _ _ _ (row t q' class space at at_class) e = absurd cc
@@ -87,7 +95,7 @@ module _ (form : Form) (tracks : List Track) (found : Findings) (readable : IsRe
       pick _ _ _ _ (low t i space node at_space at) e = listed-space t space node.low at_space e
       pick _ _ _ _ (high t i space node at_space at) e = listed-space t space node.high at_space e
 
-  module _ (s q w : ℕ) (goal : Goal) (taken : List Track) (climbs : Climbs form tracks found s q w goal taken) where
+  module _ (s q : ℕ) (w : Weight) (goal : Goal) (taken : List Track) (climbs : Climbs form tracks found s q w goal taken) where
     nodes : List ListedNode
     nodes = climbs.space.listing.nodes
 
@@ -125,8 +133,8 @@ module _ (form : Form) (tracks : List Track) (found : Findings) (readable : IsRe
     Climbs-low i has = let j = justified-by (Side i false) has in pick j.premises j.cost goal (Side i false) j.total j.rule j.totals refl refl
         (let e = j.weighs_so in e)
       where
-        pick : (premises : List Goal) (cost : ℕ) (g : Goal) (reason : Reason) (total : ℕ) → Rule form (is_among tracks) premises cost g reason →
-            Totals found premises total → g ≡ goal → reason ≡ Side i false → cost + total ≡ climbs.weight → Climbs form tracks found s q w (Node s i) taken
+        pick : (premises : List Goal) (cost : Weight → Weight) (g : Goal) (reason : Reason) (total : Weight) → Rule form (is_among tracks) premises cost g reason →
+            Totals found premises total → g ≡ goal → reason ≡ Side i false → cost total ≡ climbs.weight → Climbs form tracks found s q w (Node s i) taken
         pick _ _ _ _ total (initial t space at) totals e r sum = absurd cc
         pick _ _ _ _ total (row t q' class space at at_class) totals e r sum = absurd cc
         pick _ _ _ _ total (column t q' class space at at_class) totals e r sum = absurd cc
@@ -161,7 +169,7 @@ module _ (form : Form) (tracks : List Track) (found : Findings) (readable : IsRe
                   below.later set in omega arith;
               weight = totals.0;
               settled = premise;
-              is_sum = let a = totals.4 in let z = totals.3 in let c = climbs.is_sum in omega arith;
+              is_sum = ap (with_bits (label_weight (each_once tracks) (label_of taken))) (one-premise found (Node t k) total totals ∙ sum) ∙ climbs.is_sum;
             }
 
     -- from a high side to its node
@@ -172,8 +180,8 @@ module _ (form : Form) (tracks : List Track) (found : Findings) (readable : IsRe
     Climbs-high i space' node' at_space' at' has =
         let j = justified-by (Side i true) has in pick j.premises j.cost goal (Side i true) j.total j.rule j.totals refl refl (let e = j.weighs_so in e)
       where
-        pick : (premises : List Goal) (cost : ℕ) (g : Goal) (reason : Reason) (total : ℕ) → Rule form (is_among tracks) premises cost g reason →
-            Totals found premises total → g ≡ goal → reason ≡ Side i true → cost + total ≡ climbs.weight →
+        pick : (premises : List Goal) (cost : Weight → Weight) (g : Goal) (reason : Reason) (total : Weight) → Rule form (is_among tracks) premises cost g reason →
+            Totals found premises total → g ≡ goal → reason ≡ Side i true → cost total ≡ climbs.weight →
             Climbs form tracks found s q w (Node s i) (taken ++ (record { 0 = node'.track }) ∷ [])
         pick _ _ _ _ total (initial t space at) totals e r sum = absurd cc
         pick _ _ _ _ total (row t q' class space at at_class) totals e r sum = absurd cc
@@ -236,15 +244,67 @@ module _ (form : Form) (tracks : List Track) (found : Findings) (readable : IsRe
               ];
               weight = totals.0;
               settled = premise;
-              is_sum = let a = totals.4 in let z = totals.3 in let c = climbs.is_sum in omega arith;
+              is_sum = more-bits (label_weight (each_once tracks) (label_of (taken ++ (record { 0 = node'.track }) ∷ [])))
+                  (bit_cost (is_among tracks) node.track) (label_weight (each_once tracks) (label_of taken)) totals.0 (omega arith)
+                  ∙ ap (λ (x : Weight). with_bits (label_weight (each_once tracks) (label_of taken)) (with_bits (bit_cost (is_among tracks) node.track) x))
+                  (one-premise found (Node t k) total totals)
+                  ∙ ap (with_bits (label_weight (each_once tracks) (label_of taken))) sum ∙ climbs.is_sum;
             }
           where
             or-no : (b : Bool) → b || false ≡ b
             or-no true = refl
             or-no false = refl
 
+    -- a node stands after its sides
+    side-before : (i : ℕ) (is_high : Bool) → HasReason found goal (Side i is_high) →
+        (rank climbs.listed ≤ i) × (i < length climbs.space.listing.nodes)
+    unfolding nodes
+    side-before i is_high has = let j = justified-by (Side i is_high) has in pick j.premises j.cost goal (Side i is_high) j.rule refl refl
+      where
+        node-in : (t k : ℕ) (space : FormSpace) (node : ListedNode) → slice_get form.spaces t ≡ Some space →
+            slice_get space.listing.nodes k ≡ Some node → t ≡ s → k ≡ i → slice_get climbs.space.listing.nodes i ≡ Some node
+        node-in t k space node at_space at is_s is_i =
+            let is_space : climbs.space ≡ space = one-space (slice_get form.spaces s) climbs.space space climbs.at_space
+            (ap (slice_get form.spaces) (sym is_s) ∙ at_space) in
+            ap (λ (p : FormSpace). slice_get p.listing.nodes i) is_space ∙ ap (slice_get space.listing.nodes) (sym is_i) ∙ at
+
+        pick : (premises : List Goal) (cost : Weight → Weight) (g : Goal) (reason : Reason) → Rule form (is_among tracks) premises cost g reason →
+            g ≡ goal → reason ≡ Side i is_high → (rank climbs.listed ≤ i) × (i < length climbs.space.listing.nodes)
+        pick _ _ _ _ (initial t space at) e r = absurd cc
+        pick _ _ _ _ (row t q' class space at at_class) e r = absurd cc
+        pick _ _ _ _ (column t q' class space at at_class) e r = absurd cc
+        pick _ _ _ _ (cell t k c at space listed at_space at_cell at_root) e r = absurd cc
+        pick _ _ _ _ (low t k space node at_space at) e r =
+            let same = goal_at-same t s node.low climbs.listed (e ∙ climbs.is_goal) in
+            let is_k : k ≡ i = cc in
+            let at_i = node-in t k space node at_space at same.0 is_k in
+            let inside : i < length climbs.space.listing.nodes = slice_get_within climbs.space.listing.nodes i node at_i in
+            let is_side : (node_at climbs.space.listing.nodes i).low ≡ climbs.listed =
+            ap (λ (n : ListedNode). n.low) (node-is climbs.space.listing.nodes i node at_i) ∙ same.1 in
+            (subst (λ (x : Listed). rank x ≤ i) is_side (ordered.low i inside).before, inside)
+        pick _ _ _ _ (high t k space node at_space at) e r =
+            let same = goal_at-same t s node.high climbs.listed (e ∙ climbs.is_goal) in
+            let is_k : k ≡ i = cc in
+            let at_i = node-in t k space node at_space at same.0 is_k in
+            let inside : i < length climbs.space.listing.nodes = slice_get_within climbs.space.listing.nodes i node at_i in
+            let is_side : (node_at climbs.space.listing.nodes i).high ≡ climbs.listed =
+            ap (λ (n : ListedNode). n.high) (node-is climbs.space.listing.nodes i node at_i) ∙ same.1 in
+            (subst (λ (x : Listed). rank x ≤ i) is_side (ordered.high i inside).before, inside)
+
+    pub fewer-above : (i : ℕ) (is_high : Bool) → HasReason found goal (Side i is_high) →
+        above_in (nodes_in (slice_get form.spaces s)) (Node s i) < above_in (nodes_in (slice_get form.spaces s)) goal
+    fewer-above i is_high has =
+        let before = side-before i is_high has in
+        let many : length climbs.space.listing.nodes ≡ nodes_in (slice_get form.spaces s) = sym (ap nodes_in climbs.at_space) in
+        subst (λ (x : Goal). above_in (nodes_in (slice_get form.spaces s)) (Node s i) < above_in (nodes_in (slice_get form.spaces s)) x)
+        (sym climbs.is_goal) (fewer (nodes_in (slice_get form.spaces s)) climbs.listed before.0 (subst (λ (n : ℕ). i < n) many before.1))
+      where
+        fewer : (many : ℕ) (x : Listed) → rank x ≤ i → i < many → above_in many (Node s i) < above_in many (goal_at s x)
+        fewer many (Leaf p) after inside = omega arith
+        fewer many (Inner j) after inside = omega arith
+
     -- at the initial state
-    pub initial-step : HasReason found goal Initial → ((automaton_of form).initial s ≡ q) × (0 ≡ w)
+    pub initial-step : HasReason found goal Initial → ((automaton_of form).initial s ≡ q) × (nothing ≡ w)
     initial-step has = let j = justified-by Initial has in pick j.premises j.cost goal Initial j.total j.rule j.totals refl refl (let e = j.weighs_so in e)
       where
         no-tracks : (x : Listed) (p : ℕ) → climbs.listed ≡ x → x ≡ Leaf p → (t : ℕ) → label_of taken t ≡ false
@@ -261,8 +321,8 @@ module _ (form : Form) (tracks : List Track) (found : Findings) (readable : IsRe
             goal_at-leaf (Leaf o) e = (cc, let f : o ≡ p = cc in ap Leaf f)
             goal_at-leaf (Inner i) e = absurd cc
 
-        pick : (premises : List Goal) (cost : ℕ) (g : Goal) (reason : Reason) (total : ℕ) → Rule form (is_among tracks) premises cost g reason →
-            Totals found premises total → g ≡ goal → reason ≡ Initial → cost + total ≡ climbs.weight → ((automaton_of form).initial s ≡ q) × (0 ≡ w)
+        pick : (premises : List Goal) (cost : Weight → Weight) (g : Goal) (reason : Reason) (total : Weight) → Rule form (is_among tracks) premises cost g reason →
+            Totals found premises total → g ≡ goal → reason ≡ Initial → cost total ≡ climbs.weight → ((automaton_of form).initial s ≡ q) × (nothing ≡ w)
         pick _ _ _ _ total (initial t space at) totals e r sum =
             let same = leaf-is t space.initial climbs.listed (e ∙ climbs.is_goal) in
             let is_space : climbs.space ≡ space = one-space (slice_get form.spaces s) climbs.space space climbs.at_space
@@ -271,8 +331,10 @@ module _ (form : Form) (tracks : List Track) (found : Findings) (readable : IsRe
             ∙ ap (λ (x : Listed). function_in climbs.space.listing.nodes x (label_of taken)) (sym same.1) ∙ climbs.gives in
             let first : (automaton_of form).initial s ≡ space.initial = initial-form form s ∙ initial-at form s space
             (ap (slice_get form.spaces) (sym same.0) ∙ at) in
-            let none = label_weight-none (each_once tracks) (label_of taken) (no-tracks climbs.listed space.initial refl same.1) in
-            (first ∙ gives, let c = climbs.is_sum in let z = totals in omega arith)
+            let none = label_weight-none (each_once tracks) (label_of taken) (no-tracks climbs.listed space.initial refl same.1) in (
+              first ∙ gives,
+              totals ∙ sum ∙ sym (no-bits climbs.weight) ∙ sym (ap (λ (k : ℕ). with_bits k climbs.weight) none) ∙ climbs.is_sum,
+            )
         pick _ _ _ _ total (row t q' class space at at_class) totals e r sum = absurd cc
         pick _ _ _ _ total (column t q' class space at at_class) totals e r sum = absurd cc
         pick _ _ _ _ total (cell t k c at space listed at_space at_cell at_root) totals e r sum = absurd cc
@@ -280,7 +342,7 @@ module _ (form : Form) (tracks : List Track) (found : Findings) (readable : IsRe
         pick _ _ _ _ total (high t k space node at_space at) totals e r sum = absurd cc
 
   -- the state by which a class is settled
-  member-row : (t class l u : ℕ) (space : FormSpace) → slice_get form.spaces t ≡ Some space → HasReason found (Row t class) (Member l) →
+  member-row : (t class l : ℕ) (u : Weight) (space : FormSpace) → slice_get form.spaces t ≡ Some space → HasReason found (Row t class) (Member l) →
       IsSettled found (Row t class) u → (slice_get space.rows l ≡ Some class) × IsSettled found (State space.children.0 l) u
   member-row t class l u space at has settled =
       let j = readable.justified (Row t class) has.entry has.there in
@@ -291,8 +353,8 @@ module _ (form : Form) (tracks : List Track) (found : Findings) (readable : IsRe
       other t' (Leaf p) e = absurd cc
       other t' (Inner i) e = absurd cc
 
-      pick : (premises : List Goal) (cost : ℕ) (g : Goal) (reason : Reason) (total : ℕ) → Rule form (is_among tracks) premises cost g reason →
-          Totals found premises total → g ≡ Row t class → reason ≡ Member l → cost + total ≡ u →
+      pick : (premises : List Goal) (cost : Weight → Weight) (g : Goal) (reason : Reason) (total : Weight) → Rule form (is_among tracks) premises cost g reason →
+          Totals found premises total → g ≡ Row t class → reason ≡ Member l → cost total ≡ u →
           (slice_get space.rows l ≡ Some class) × IsSettled found (State space.children.0 l) u
       pick _ _ _ _ total (initial t' space' at') totals e r sum = absurd cc
       pick _ _ _ _ total (row t' q' class' space' at' at_class) totals e r sum =
@@ -300,10 +362,10 @@ module _ (form : Form) (tracks : List Track) (found : Findings) (readable : IsRe
           let is_class : class' ≡ class = cc in
           let is_l : q' ≡ l = cc in
           let is_space : space' ≡ space = one-space (slice_get form.spaces t) space' space (ap (slice_get form.spaces) (sym is_t) ∙ at') at in
-          let weight : totals.0 ≡ u = (let a = totals.4 in let z = totals.3 in omega arith) in (
+          let weight : totals.0 ≡ u = one-premise found _ total totals ∙ sum in (
             ap (λ (p : FormSpace). slice_get p.rows l) (sym is_space) ∙ ap (slice_get space'.rows) (sym is_l) ∙ at_class ∙ ap
                 (λ (k : ℕ). let o : Option ℕ = Some k in o) is_class,
-            subst (λ (k : ℕ). IsSettled found (State space.children.0 l) k) weight
+            subst (λ (k : Weight). IsSettled found (State space.children.0 l) k) weight
                 (subst (λ (p : FormSpace). IsSettled found (State p.children.0 l) totals.0) is_space
                 (subst (λ (k : ℕ). IsSettled found (State space'.children.0 k) totals.0) is_l totals.2)),
           )
@@ -312,15 +374,15 @@ module _ (form : Form) (tracks : List Track) (found : Findings) (readable : IsRe
       pick _ _ _ _ total (low t' k space' node at_space at') totals e r sum = absurd cc
       pick _ _ _ _ total (high t' k space' node at_space at') totals e r sum = absurd cc
 
-  member-column : (t class l u : ℕ) (space : FormSpace) → slice_get form.spaces t ≡ Some space → HasReason found (Column t class) (Member l) →
+  member-column : (t class l : ℕ) (u : Weight) (space : FormSpace) → slice_get form.spaces t ≡ Some space → HasReason found (Column t class) (Member l) →
       IsSettled found (Column t class) u → (slice_get space.columns l ≡ Some class) × IsSettled found (State space.children.1 l) u
   member-column t class l u space at has settled =
       let j = readable.justified (Column t class) has.entry has.there in
       let e = (settled-entry found (Column t class) u has.entry settled has.there).1 in
       pick j.premises j.cost (Column t class) has.entry.reason j.total j.rule j.totals refl has.is_reason (j.weighs_so ∙ e)
     where
-      pick : (premises : List Goal) (cost : ℕ) (g : Goal) (reason : Reason) (total : ℕ) → Rule form (is_among tracks) premises cost g reason →
-          Totals found premises total → g ≡ Column t class → reason ≡ Member l → cost + total ≡ u →
+      pick : (premises : List Goal) (cost : Weight → Weight) (g : Goal) (reason : Reason) (total : Weight) → Rule form (is_among tracks) premises cost g reason →
+          Totals found premises total → g ≡ Column t class → reason ≡ Member l → cost total ≡ u →
           (slice_get space.columns l ≡ Some class) × IsSettled found (State space.children.1 l) u
       pick _ _ _ _ total (initial t' space' at') totals e r sum = absurd cc
       pick _ _ _ _ total (row t' q' class' space' at' at_class) totals e r sum = absurd cc
@@ -329,10 +391,10 @@ module _ (form : Form) (tracks : List Track) (found : Findings) (readable : IsRe
           let is_class : class' ≡ class = cc in
           let is_l : q' ≡ l = cc in
           let is_space : space' ≡ space = one-space (slice_get form.spaces t) space' space (ap (slice_get form.spaces) (sym is_t) ∙ at') at in
-          let weight : totals.0 ≡ u = (let a = totals.4 in let z = totals.3 in omega arith) in (
+          let weight : totals.0 ≡ u = one-premise found _ total totals ∙ sum in (
             ap (λ (p : FormSpace). slice_get p.columns l) (sym is_space) ∙ ap (slice_get space'.columns) (sym is_l) ∙ at_class ∙ ap
                 (λ (k : ℕ). let o : Option ℕ = Some k in o) is_class,
-            subst (λ (k : ℕ). IsSettled found (State space.children.1 l) k) weight
+            subst (λ (k : Weight). IsSettled found (State space.children.1 l) k) weight
                 (subst (λ (p : FormSpace). IsSettled found (State p.children.1 l) totals.0) is_space
                 (subst (λ (k : ℕ). IsSettled found (State space'.children.1 k) totals.0) is_l totals.2)),
           )
@@ -344,15 +406,15 @@ module _ (form : Form) (tracks : List Track) (found : Findings) (readable : IsRe
   index-is xs i x at = get_or_from_slice_get xs i x 0 at
 
   -- at the function of two classes
-  module _ (s q w : ℕ) (goal : Goal) (taken : List Track) (climbs : Climbs form tracks found s q w goal taken) where
+  module _ (s q : ℕ) (w : Weight) (goal : Goal) (taken : List Track) (climbs : Climbs form tracks found s q w goal taken) where
     pub cell-step : (k c l r : ℕ) → HasReason found goal (Cell k c) → HasReason found (Row s k) (Member l) → HasReason found (Column s c) (Member r) →
         IsStepTo form (each_once tracks) found s q w (record { tracks = taken; left = l; right = r })
     cell-step k c l r has of_row of_column =
         let j = justified-by s q w goal taken climbs (Cell k c) has in pick j.premises j.cost goal (Cell k c) j.total j.rule j.totals refl refl
         (let e = j.weighs_so in e)
       where
-        pick : (premises : List Goal) (cost : ℕ) (g : Goal) (reason : Reason) (total : ℕ) → Rule form (is_among tracks) premises cost g reason →
-            Totals found premises total → g ≡ goal → reason ≡ Cell k c → cost + total ≡ climbs.weight →
+        pick : (premises : List Goal) (cost : Weight → Weight) (g : Goal) (reason : Reason) (total : Weight) → Rule form (is_among tracks) premises cost g reason →
+            Totals found premises total → g ≡ goal → reason ≡ Cell k c → cost total ≡ climbs.weight →
             IsStepTo form (each_once tracks) found s q w (record { tracks = taken; left = l; right = r })
         pick _ _ _ _ total (initial t space at) totals e is sum = absurd cc
         pick _ _ _ _ total (row t q' class space at at_class) totals e is sum = absurd cc
@@ -389,11 +451,14 @@ module _ (form : Form) (tracks : List Track) (found : Findings) (readable : IsRe
               gives = step-at form s space here l r (label_of taken)
                   ∙ ap (λ (x : Listed). function_of space.listing x (label_of taken)) root
                   ∙ ap (λ (p : FormSpace). function_of p.listing climbs.listed (label_of taken)) (sym is_space) ∙ climbs.gives;
-              is_sum = let a = totals.4 in let z = totals.3.3 in let b = totals.3.4 in let d = climbs.is_sum in omega arith;
+              is_sum = ap (λ (x : Weight). with_bits (label_weight (each_once tracks) (label_of taken)) (with_node (together u x)))
+                  (one-premise found (Column t c') totals.1 totals.3)
+                  ∙ ap (λ (x : Weight). with_bits (label_weight (each_once tracks) (label_of taken)) (with_node x)) totals.4
+                  ∙ ap (with_bits (label_weight (each_once tracks) (label_of taken))) sum ∙ climbs.is_sum;
             }
 
   -- a side, low or high
-  pub Climbs-side : (s q w i : ℕ) (is_high : Bool) (goal : Goal) (taken new : List Track) → Climbs form tracks found s q w goal taken →
+  pub Climbs-side : (s q : ℕ) (w : Weight) (i : ℕ) (is_high : Bool) (goal : Goal) (taken new : List Track) → Climbs form tracks found s q w goal taken →
       HasReason found goal (Side i is_high) → AddsTrack form taken new s i is_high → Climbs form tracks found s q w (Node s i) new
   Climbs-side s q w i false goal taken new climbs has adds =
       subst (Climbs form tracks found s q w (Node s i)) (sym adds) (Climbs-low s q w goal taken climbs i has)

@@ -56,6 +56,7 @@ module _ (g : Spaces) (shelf : Contents) (a : AutoView) (f : Form) (is_auto : Is
     accepted = accepts-auto (assignment_of nodes) lightest.accepted;
     weighs = lightest.weighs;
     least = λ n x covers accepts. lightest.least n x covers (accepts-form x accepts);
+    fewest = λ n m x covers accepts is_weight tree. lightest.fewest n m x covers (accepts-form x accepts) is_weight tree;
   }
 
   pub lightest-for : (weigh tracks : List Track) (nodes : List TreeNode) (w : ℕ) → weigh ≡ tracks →

@@ -11,9 +11,11 @@ use Rattle.gta_theory.proofs.ListsLemmas.{Contains-first, Contains-later, Contai
 use Rattle.gta_refine.specs.declared.form.Form.{Form}
 use Rattle.gta_witness.specs.declared.goal.Goal.{Goal}
 use Rattle.gta_witness.specs.declared.goal.Reason.{Reason}
+use Rattle.gta_witness.specs.declared.goal.Weight.{Weight}
 use Rattle.gta_witness.specs.declared.goal.Found.{Found}
 use Rattle.gta_witness.specs.declared.goal.Waiting.{Waiting}
 use Rattle.gta_witness.specs.declared.relax.Search.{Search}
+use Rattle.gta_witness.specs.Rules.{key, nothing, together}
 use Rattle.gta_witness.specs.Searching.{same_goal, Findings, found_by, IsSettled, IsCovered, Totals, IsJustified}
 use Rattle.gta_witness.specs.Searching.{IsSound, IsSearch, Improves, GoesOn, IsHigher}
 
@@ -40,31 +42,38 @@ same-or x y = elim (cases_Bool (same_goal x y)) [
 some-entry : (o : Option Found) (a b : Found) → o ≡ Some a → o ≡ Some b → a ≡ b
 some-entry o a b one other = let e : Some a ≡ Some b = sym one ∙ other in cc
 
+-- no tree adds nothing
+pub together-nothing : (w : Weight) → together w nothing ≡ w
+together-nothing w =
+    let bits : w.bits + 0 ≡ w.bits = omega arith in
+    let nodes : w.nodes + 0 ≡ w.nodes = omega arith in
+    λ i. record { bits = bits i; nodes = nodes i }
+
 -- what is settled has one weight
-pub settled-entry : (found : Findings) (goal : Goal) (w : ℕ) (entry : Found) → IsSettled found goal w → found goal ≡ Some entry →
+pub settled-entry : (found : Findings) (goal : Goal) (w : Weight) (entry : Found) → IsSettled found goal w → found goal ≡ Some entry →
     (entry.is_settled ≡ true) × (entry.weight ≡ w)
 settled-entry found goal w entry settled there =
     let same : settled.entry ≡ entry = some-entry (found goal) settled.entry entry settled.there there in
     (subst (λ (x : Found). x.is_settled ≡ true) same settled.settled, subst (λ (x : Found). x.weight ≡ w) same settled.weighs)
 
-pub settled-once : (found : Findings) (goal : Goal) (u w : ℕ) → IsSettled found goal u → IsSettled found goal w → u ≡ w
+pub settled-once : (found : Findings) (goal : Goal) (u w : Weight) → IsSettled found goal u → IsSettled found goal w → u ≡ w
 settled-once found goal u w one other = sym one.weighs ∙ (settled-entry found goal w one.entry other one.there).1
 
-pub IsCovered-settled : (found : Findings) (goal : Goal) (w : ℕ) → IsSettled found goal w → IsCovered found goal w
-IsCovered-settled found goal w settled = record { entry = settled.entry; there = settled.there; no_higher = let e = settled.weighs in omega arith }
+pub IsCovered-settled : (found : Findings) (goal : Goal) (w : Weight) → IsSettled found goal w → IsCovered found goal w
+IsCovered-settled found goal w settled = record { entry = settled.entry; there = settled.there; no_higher = let e = ap key settled.weighs in omega arith }
 
-pub IsCovered-more : (found : Findings) (goal : Goal) (u w : ℕ) → u ≤ w → IsCovered found goal u → IsCovered found goal w
+pub IsCovered-more : (found : Findings) (goal : Goal) (u w : Weight) → key u ≤ key w → IsCovered found goal u → IsCovered found goal w
 IsCovered-more found goal u w more covered = record { entry = covered.entry; there = covered.there; no_higher = let e = covered.no_higher in omega arith }
 
 -- sums of premises
-pub Totals-kept : (old new : Findings) → ((goal : Goal) (w : ℕ) → IsSettled old goal w → IsSettled new goal w) → (goals : List Goal) (w : ℕ) →
+pub Totals-kept : (old new : Findings) → ((goal : Goal) (w : Weight) → IsSettled old goal w → IsSettled new goal w) → (goals : List Goal) (w : Weight) →
     Totals old goals w → Totals new goals w
 Totals-kept old new kept [] w totals = totals
 Totals-kept old new kept (goal ∷ goals) w totals =
     (totals.0, totals.1, kept goal totals.0 totals.2, Totals-kept old new kept goals totals.1 totals.3, totals.4)
 
-pub IsJustified-kept : (form : Form) (weighs : ℕ → Bool) (old new : Findings) → ((goal : Goal) (w : ℕ) → IsSettled old goal w → IsSettled new goal w) →
-    (goal : Goal) (reason : Reason) (w : ℕ) → IsJustified form weighs old goal reason w → IsJustified form weighs new goal reason w
+pub IsJustified-kept : (form : Form) (weighs : ℕ → Bool) (old new : Findings) → ((goal : Goal) (w : Weight) → IsSettled old goal w → IsSettled new goal w) →
+    (goal : Goal) (reason : Reason) (w : Weight) → IsJustified form weighs old goal reason w → IsJustified form weighs new goal reason w
 IsJustified-kept form weighs old new kept goal reason w j = record {
   premises = j.premises;
   cost = j.cost;
@@ -73,6 +82,10 @@ IsJustified-kept form weighs old new kept goal reason w j = record {
   totals = Totals-kept old new kept j.premises j.total j.totals;
   weighs_so = j.weighs_so;
 }
+
+-- a single premise
+pub one-premise : (found : Findings) (goal : Goal) (total : Weight) (totals : Totals found (goal ∷ []) total) → totals.0 ≡ total
+one-premise found goal total totals = sym (together-nothing totals.0) ∙ ap (together totals.0) totals.3 ∙ totals.4
 
 -- going on
 pub Improves-refl : (found : Findings) → Improves found found
@@ -94,10 +107,10 @@ GoesOn-trans form weighs now a b c one other =
     record { is_search = other.is_search; improves = Improves-trans (found_by a) (found_by b) (found_by c) one.improves other.improves }
 
 -- a lower weight is put in
-module _ (form : Form) (weighs : ℕ → Bool) (now : ℕ) (old new : Search) (goal : Goal) (weight : ℕ) (reason : Reason) (waiting : Waiting)
-    (is : IsSearch form weighs now old) (ahead : now ≤ weight) (higher : IsHigher (found_by old goal) weight)
+module _ (form : Form) (weighs : ℕ → Bool) (now : ℕ) (old new : Search) (goal : Goal) (weight : Weight) (reason : Reason) (waiting : Waiting)
+    (is : IsSearch form weighs now old) (ahead : now ≤ key weight) (higher : IsHigher (found_by old goal) weight)
     (justified : IsJustified form weighs (found_by old) goal reason weight)
-    (is_goal : waiting.goal ≡ goal) (near : waiting.nearness + weight ≡ 18446744073709551615)
+    (is_goal : waiting.goal ≡ goal) (near : waiting.nearness + key weight ≡ 340282366920938463463374607431768211455)
     (updates : Updates same_goal old.found new.found goal (Some (record { weight = weight; reason = reason; is_settled = false })))
     (pushed : IsPermutation (waiting ∷ heap_items old.queue) (heap_items new.queue))
     (heap : IsHeap (on (λ (w : Waiting). w.nearness) nat_cmp) (heap_items new.queue)) where
@@ -111,17 +124,17 @@ module _ (form : Form) (weighs : ℕ → Bool) (now : ℕ) (old new : Search) (g
   at-other : (g : Goal) → same_goal goal g ≡ false → found_by new g ≡ found_by old g
   at-other g apart = updates.2 g apart
 
-  above : (e : Found) → found_by old goal ≡ Some e → weight < e.weight
+  above : (e : Found) → found_by old goal ≡ Some e → key weight < key e.weight
   above e there = subst (λ (o : Option Found). IsHigher o weight) there higher
 
-  not-settled : (w : ℕ) → IsSettled (found_by old) goal w → ⊥
+  not-settled : (w : Weight) → IsSettled (found_by old) goal w → ⊥
   not-settled w settled =
       let p = is.sound.passed goal w settled in
       let a = above settled.entry settled.there in
-      let e = settled.weighs in
+      let e = ap key settled.weighs in
       absurd (omega arith)
 
-  kept-settled : (g : Goal) (w : ℕ) → IsSettled (found_by old) g w → IsSettled (found_by new) g w
+  kept-settled : (g : Goal) (w : Weight) → IsSettled (found_by old) g w → IsSettled (found_by new) g w
   kept-settled g w settled = elim (same-or goal g) [
     | inl same ↦ absurd (not-settled w (subst (λ (x : Goal). IsSettled (found_by old) x w) (sym same) settled))
     | inr apart ↦ record { entry = settled.entry; there = at-other g apart ∙ settled.there; settled = settled.settled; weighs = settled.weighs }
@@ -165,7 +178,7 @@ module _ (form : Form) (weighs : ℕ → Bool) (now : ℕ) (old new : Search) (g
             waiting = waiting;
             there = Contains-permutation (waiting ∷ heap_items old.queue) (heap_items new.queue) waiting pushed (Contains-first waiting (heap_items old.queue));
             is_goal = is_goal ∙ same;
-            near = subst (λ (x : Found). waiting.nearness + x.weight ≡ 18446744073709551615) is_entry near;
+            near = subst (λ (x : Found). waiting.nearness + key x.weight ≡ 340282366920938463463374607431768211455) is_entry near;
           }
       | inr apart ↦
           let before = is.sound.waits g e (sym (at-other g apart) ∙ there) unsettled in
@@ -180,7 +193,7 @@ module _ (form : Form) (weighs : ℕ → Bool) (now : ℕ) (old new : Search) (g
     ahead = λ w there. elim (Contains-cases waiting w (heap_items old.queue)
         (Contains-permutation (heap_items new.queue) (waiting ∷ heap_items old.queue) w
         (IsPermutation-sym (waiting ∷ heap_items old.queue) (heap_items new.queue) pushed) there)) [
-          | inl same ↦ subst (λ (x : Waiting). now + x.nearness ≤ 18446744073709551615) same (omega arith)
+          | inl same ↦ subst (λ (x : Waiting). now + x.nearness ≤ 340282366920938463463374607431768211455) same (omega arith)
           | inr before ↦ is.sound.ahead w before
         ];
   }

@@ -17,11 +17,12 @@ use Rattle.gta_refine.specs.declared.form.Form.{Form}
 use Rattle.gta_witness.specs.declared.goal.Goal.{Goal}
 use Rattle.gta_witness.specs.declared.goal.Goal.TheVariants.{State, Node, Row, Column}
 use Rattle.gta_witness.specs.declared.goal.Reason.TheVariants.{Initial}
+use Rattle.gta_witness.specs.declared.goal.Weight.{Weight}
 use Rattle.gta_witness.specs.declared.goal.Found.{Found}
 use Rattle.gta_witness.specs.declared.goal.Waiting.{Waiting}
 use Rattle.gta_witness.specs.declared.relax.Search.{Search}
 use Rattle.gta_witness.specs.declared.expand.Lines.{Lines}
-use Rattle.gta_witness.specs.Rules.{initial, row, column, cell, low, high}
+use Rattle.gta_witness.specs.Rules.{initial, row, column, cell, low, high, key, nothing}
 use Rattle.gta_witness.specs.Searching.{same_goal, Findings, found_by, IsSettled, IsCovered, Totals, IsJustified, IsClosed, IsExpanded, Waits, IsSearch, GoesOn}
 use Rattle.gta_witness.specs.Searching.{AreListed, NoneLighter, Running, IsOver, IsAcceptingAt, IsTaken, AddsLine, AcceptsAt, IsStart}
 use Rattle.gta_witness.proofs.SearchLemmas.{same_goal-refl, same-or, settled-entry, settled-once, IsJustified-kept}
@@ -48,16 +49,16 @@ module _ (form : Form) (weighs : ℕ → Bool) (lines : Lines) (old mid : Search
   unfolding done
   settled-now = record { entry = done; there = at-goal; settled = refl; weighs = refl }
 
-  was-unsettled : (w : ℕ) → IsSettled (found_by old) goal w → ⊥
+  was-unsettled : (w : Weight) → IsSettled (found_by old) goal w → ⊥
   was-unsettled w settled = false≢true (sym taken.unsettled ∙ (settled-entry (found_by old) goal w entry settled taken.there).0)
 
-  settled-kept : (g : Goal) (w : ℕ) → IsSettled (found_by old) g w → IsSettled (found_by mid) g w
+  settled-kept : (g : Goal) (w : Weight) → IsSettled (found_by old) g w → IsSettled (found_by mid) g w
   settled-kept g w settled = elim (same-or goal g) [
     | inl same ↦ absurd (was-unsettled w (subst (λ (x : Goal). IsSettled (found_by old) x w) (sym same) settled))
     | inr apart ↦ record { entry = settled.entry; there = at-other g apart ∙ settled.there; settled = settled.settled; weighs = settled.weighs }
   ]
 
-  pub settled-back : (g : Goal) (w : ℕ) → IsSettled (found_by mid) g w → ((goal ≡ g) × (entry.weight ≡ w)) ⊎ IsSettled (found_by old) g w
+  pub settled-back : (g : Goal) (w : Weight) → IsSettled (found_by mid) g w → ((goal ≡ g) × (entry.weight ≡ w)) ⊎ IsSettled (found_by old) g w
   settled-back g w settled = elim (same-or goal g) [
     | inl same ↦ inl (
       same,
@@ -67,7 +68,7 @@ module _ (form : Form) (weighs : ℕ → Bool) (lines : Lines) (old mid : Search
     | inr apart ↦ inr (record { entry = settled.entry; there = sym (at-other g apart) ∙ settled.there; settled = settled.settled; weighs = settled.weighs })
   ]
 
-  covered-kept : (g : Goal) (w : ℕ) → IsCovered (found_by old) g w → IsCovered (found_by mid) g w
+  covered-kept : (g : Goal) (w : Weight) → IsCovered (found_by old) g w → IsCovered (found_by mid) g w
   unfolding done
   covered-kept g w covered = elim (same-or goal g) [
     | inl same ↦
@@ -75,12 +76,12 @@ module _ (form : Form) (weighs : ℕ → Bool) (lines : Lines) (old mid : Search
         record {
           entry = done;
           there = sym (ap (found_by mid) same) ∙ at-goal;
-          no_higher = subst (λ (x : Found). x.weight ≤ w) is covered.no_higher;
+          no_higher = subst (λ (x : Found). key x.weight ≤ key w) is covered.no_higher;
         }
     | inr apart ↦ record { entry = covered.entry; there = at-other g apart ∙ covered.there; no_higher = covered.no_higher }
   ]
 
-  pub settled-search : IsSearch form weighs entry.weight mid
+  pub settled-search : IsSearch form weighs (key entry.weight) mid
   unfolding done
   settled-search = record {
     sound = record {
@@ -95,7 +96,7 @@ module _ (form : Form) (weighs : ℕ → Bool) (lines : Lines) (old mid : Search
             (taken.justified g e (sym (at-other g apart) ∙ there))
       ];
       passed = λ g w settled. elim (settled-back g w settled) [
-        | inl here ↦ let e = here.1 in omega arith
+        | inl here ↦ let e = ap key here.1 in omega arith
         | inr before ↦ taken.passed g w before
       ];
       waits = λ g e there unsettled. elim (same-or goal g) [
@@ -130,9 +131,9 @@ module _ (form : Form) (weighs : ℕ → Bool) (lines : Lines) (old mid : Search
     }
 
     -- and expanded
-    module _ (new : Search) (on_now : GoesOn form weighs entry.weight mid new) (expanded : IsExpanded form weighs (found_by new) goal) where
+    module _ (new : Search) (on_now : GoesOn form weighs (key entry.weight) mid new) (expanded : IsExpanded form weighs (found_by new) goal) where
       premises-cases : (premises : List Goal) → Contains premises goal ⊎
-          ((total : ℕ) → Totals (found_by new) premises total → Totals (found_by old) premises total)
+          ((total : Weight) → Totals (found_by new) premises total → Totals (found_by old) premises total)
       premises-cases [] = inr (λ total totals. totals)
       premises-cases (g ∷ gs) = elim (same-or goal g) [
         | inl same ↦ inl (subst (λ (x : Goal). Contains (x ∷ gs) goal) same (Contains-first goal gs))
@@ -149,8 +150,8 @@ module _ (form : Form) (weighs : ℕ → Bool) (lines : Lines) (old mid : Search
       pub closed-now : IsClosed form weighs (found_by new)
       closed-now premises cost g reason rule total totals = elim (premises-cases premises) [
         | inl there ↦ expanded premises cost g reason rule there total totals
-        | inr back ↦ on_now.improves.covered g (cost + total)
-            (covered-kept g (cost + total) (taken.closed premises cost g reason rule total (back total totals)))
+        | inr back ↦ on_now.improves.covered g (cost total)
+            (covered-kept g (cost total) (taken.closed premises cost g reason rule total (back total totals)))
       ]
 
       listed-now : AreListed (found_by new) after.rows.items after.columns.items
@@ -159,7 +160,7 @@ module _ (form : Form) (weighs : ℕ → Bool) (lines : Lines) (old mid : Search
         column = λ t class w settled. settled-listed.column t class w (on_now.improves.no_more (Column t class) w settled);
       }
 
-      pub running-now : AcceptsAt form goal None → Running form weighs entry.weight after new
+      pub running-now : AcceptsAt form goal None → Running form weighs (key entry.weight) after new
       running-now none = record {
         is_search = on_now.is_search;
         closed = closed-now;
@@ -170,7 +171,7 @@ module _ (form : Form) (weighs : ℕ → Bool) (lines : Lines) (old mid : Search
         ];
       }
 
-      pub over-now : IsOver form weighs (found_by new) (Some entry.weight)
+      pub over-now : IsOver form weighs (found_by new) (Some (key entry.weight))
       over-now = record {
         justified = on_now.is_search.sound.justified;
         closed = closed-now;
@@ -180,7 +181,7 @@ module _ (form : Form) (weighs : ℕ → Bool) (lines : Lines) (old mid : Search
             let near = waits.near in
             omega arith;
         none = λ q w accepting settled. elim (settled-back (State 0 q) w (on_now.improves.no_more (State 0 q) w settled)) [
-          | inl here ↦ let e = here.1 in omega arith
+          | inl here ↦ let e = ap key here.1 in omega arith
           | inr before ↦ absurd (taken.none q w accepting before)
         ];
       }
@@ -207,24 +208,24 @@ module _ (form : Form) (weighs : ℕ → Bool) (now : ℕ) (lines : Lines) (old 
   among w there = Contains-permutation (first ∷ heap_items new.queue) (heap_items old.queue) w
       (IsPermutation-sym (heap_items old.queue) (first ∷ heap_items new.queue) popped) (Contains-later first w (heap_items new.queue) there)
 
-  pub first-ahead : now + first.nearness ≤ 18446744073709551615
+  pub first-ahead : now + first.nearness ≤ 340282366920938463463374607431768211455
   unfolding is
   first-ahead = is.sound.ahead first (Contains-permutation (first ∷ heap_items new.queue) (heap_items old.queue) first
       (IsPermutation-sym (heap_items old.queue) (first ∷ heap_items new.queue) popped) (Contains-first first (heap_items new.queue)))
 
   waits-still : (g : Goal) (e : Found) → Waits (heap_items old.queue) g e.weight →
-      ((first.goal ≡ g) × (first.nearness + e.weight ≡ 18446744073709551615)) ⊎ Waits (heap_items new.queue) g e.weight
+      ((first.goal ≡ g) × (first.nearness + key e.weight ≡ 340282366920938463463374607431768211455)) ⊎ Waits (heap_items new.queue) g e.weight
   waits-still g e waits = elim (Contains-cases first waits.waiting (heap_items new.queue)
       (Contains-permutation (heap_items old.queue) (first ∷ heap_items new.queue) waits.waiting popped waits.there)) [
         | inl one ↦ inl (
           ap (λ (w : Waiting). w.goal) one ∙ waits.is_goal,
-          ap (λ (w : Waiting). w.nearness + e.weight) one ∙ waits.near,
+          ap (λ (w : Waiting). w.nearness + key e.weight) one ∙ waits.near,
         )
         | inr there ↦ inr (record { waiting = waits.waiting; there = there; is_goal = waits.is_goal; near = waits.near })
       ]
 
   -- nothing changes where that was no longer so
-  pub stale-running : ((e : Found) → found_by old first.goal ≡ Some e → e.is_settled ≡ false → first.nearness + e.weight ≡ 18446744073709551615 → ⊥) →
+  pub stale-running : ((e : Found) → found_by old first.goal ≡ Some e → e.is_settled ≡ false → first.nearness + key e.weight ≡ 340282366920938463463374607431768211455 → ⊥) →
       Running form weighs now lines new
   unfolding is
   stale-running stale = record {
@@ -232,7 +233,7 @@ module _ (form : Form) (weighs : ℕ → Bool) (now : ℕ) (lines : Lines) (old 
       sound = record {
         justified = subst (λ (found : Findings). (g : Goal) (e : Found) → found g ≡ Some e → IsJustified form weighs found g e.reason e.weight)
             (sym same_found) is.sound.justified;
-        passed = subst (λ (found : Findings). (g : Goal) (w : ℕ) → IsSettled found g w → w ≤ now) (sym same_found) is.sound.passed;
+        passed = subst (λ (found : Findings). (g : Goal) (w : Weight) → IsSettled found g w → key w ≤ now) (sym same_found) is.sound.passed;
         waits = λ g e there unsettled.
             let before : found_by old g ≡ Some e = (sym (λ i. same_found i g)) ∙ there in
             elim (waits-still g e (is.sound.waits g e before unsettled)) [
@@ -249,7 +250,7 @@ module _ (form : Form) (weighs : ℕ → Bool) (now : ℕ) (lines : Lines) (old 
   }
 
   -- or the goal is to be settled
-  pub first-taken : (entry : Found) → found_by old first.goal ≡ Some entry → entry.is_settled ≡ false → first.nearness + entry.weight ≡ 18446744073709551615 →
+  pub first-taken : (entry : Found) → found_by old first.goal ≡ Some entry → entry.is_settled ≡ false → first.nearness + key entry.weight ≡ 340282366920938463463374607431768211455 →
       ((w : Waiting) → Contains (heap_items new.queue) w → w.nearness ≤ first.nearness) → IsTaken form weighs lines new first.goal entry
   unfolding is
   first-taken entry there unsettled near below = record {
@@ -257,7 +258,7 @@ module _ (form : Form) (weighs : ℕ → Bool) (now : ℕ) (lines : Lines) (old 
     unsettled = unsettled;
     justified = subst (λ (found : Findings). (g : Goal) (e : Found) → found g ≡ Some e → IsJustified form weighs found g e.reason e.weight)
         (sym same_found) is.sound.justified;
-    passed = subst (λ (found : Findings). (g : Goal) (w : ℕ) → IsSettled found g w → w ≤ entry.weight) (sym same_found)
+    passed = subst (λ (found : Findings). (g : Goal) (w : Weight) → IsSettled found g w → key w ≤ key entry.weight) (sym same_found)
         (λ g w settled. let p = is.sound.passed g w settled in let a = first-ahead in omega arith);
     waits = λ g e at unsettled_g apart.
         let before : found_by old g ≡ Some e = (sym (λ i. same_found i g)) ∙ at in
@@ -317,8 +318,7 @@ running-first form weighs lines search start = record {
 }
   where
     closed : IsClosed form weighs (found_by search)
-    closed _ _ _ _ (initial s space at) total totals =
-        subst (IsCovered (found_by search) (State s space.initial)) (let e : 0 ≡ 0 + total = (let t = totals in omega arith) in e) (start.initial s space at)
+    closed _ _ _ _ (initial s space at) total totals = subst (IsCovered (found_by search) (State s space.initial)) totals (start.initial s space at)
     closed _ _ _ _ (row t q class space at at_class) total totals = absurd (start.none (State space.children.0 q) totals.0 totals.2)
     closed _ _ _ _ (column t q class space at at_class) total totals = absurd (start.none (State space.children.1 q) totals.0 totals.2)
     closed _ _ _ _ (cell t r c at space listed at_space at_cell at_root) total totals = absurd (start.none (Row t r) totals.0 totals.2)
@@ -326,11 +326,11 @@ running-first form weighs lines search start = record {
     closed _ _ _ _ (high t i space node at_space at) total totals = absurd (start.none (Node t i) totals.0 totals.2)
 
 pub initial-justified : (form : Form) (weighs : ℕ → Bool) (found : Findings) (s : ℕ) (space : FormSpace) → slice_get form.spaces s ≡ Some space →
-    IsJustified form weighs found (State s space.initial) Initial 0
+    IsJustified form weighs found (State s space.initial) Initial nothing
 initial-justified form weighs found s space at = record {
   premises = [];
-  cost = 0;
-  total = 0;
+  cost = λ w. w;
+  total = nothing;
   rule = initial s space at;
   totals = refl;
   weighs_so = refl;

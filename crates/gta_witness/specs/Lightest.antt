@@ -1,8 +1,8 @@
--- What is given for an automaton: a tree of least weight that it accepts. (Knuth 1977, A Generalization of Dijkstra's
+-- What is given for an automaton: a tree of least weight that it accepts, with the fewest nodes. (Knuth 1977, A Generalization of Dijkstra's
 -- Algorithm.)
-use Rattle.std.specs.Prelude.{◌≡◌, ℕ, ◌≤◌, Bool, ◌==◌, if◌then◌else◌, List, [], ◌∷◌, length}
+use Rattle.std.specs.Prelude.{◌≡◌, ℕ, suc, ◌+◌, ◌≤◌, Bool, true, false, ◌==◌, if◌then◌else◌, List, [], ◌∷◌, length}
 use Rattle.std.specs.List.{list_any}
-use Rattle.gta_theory.specs.Assignments.{Assignment, Covers}
+use Rattle.gta_theory.specs.Assignments.{Assignment, Covers, half}
 use Rattle.gta_theory.specs.Guides.{Spaces}
 use Rattle.gta_theory.specs.Automata.{Automaton, Accepts}
 use Rattle.gta_theory.specs.Weights.{weight}
@@ -24,9 +24,17 @@ each_once (track ∷ tracks) = if is_among tracks track.0 then each_once tracks 
 abbrev pub HasWeight : List Track → List TreeNode → ℕ → Type 0
 HasWeight tracks nodes w = weight (each_once tracks) (length nodes) (assignment_of nodes) ≡ w
 
--- the automaton accepts the tree, which has that weight, and no assignment that it accepts weighs less
+-- a tree of so many nodes stands for the assignment: no node for the empty one; otherwise a root, and below it trees that
+-- stand for the halves
+pub data HasTree : ℕ → Assignment → Type 0 where
+  none : (a : Assignment) → Covers 0 a → HasTree 0 a
+  root : (l r : ℕ) (a : Assignment) → HasTree l (half false a) → HasTree r (half true a) → HasTree (suc (l + r)) a
+
+-- the automaton accepts the tree, which has that weight; no assignment that it accepts weighs less, and no tree of one
+-- that weighs the same has fewer nodes
 pub record IsLightestTree {Q : Type 0} (g : Spaces) (A : Automaton Q) (tracks : List Track) (nodes : List TreeNode) (w : ℕ) :
     Type 0 where
   pub accepted : Accepts g A (assignment_of nodes)
   pub weighs : HasWeight tracks nodes w
   pub least : (n : ℕ) (a : Assignment) → Covers n a → Accepts g A a → w ≤ weight (each_once tracks) n a
+  pub fewest : (n m : ℕ) (a : Assignment) → Covers n a → Accepts g A a → weight (each_once tracks) n a ≡ w → HasTree m a → length nodes ≤ m

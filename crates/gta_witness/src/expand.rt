@@ -2,11 +2,11 @@
 
 ghost use Rattle.std.specs.Prelude.{◌≡◌, ◌≤◌, ◌+◌, ◌⊎◌, IfOk, length, All, Contains};
 ghost use Rattle.gta_witness.specs.declared.goal.Goal.TheVariants.{State, Node, Row, Column};
-ghost use Rattle.gta_witness.specs.Rules.{bit_cost};
+ghost use Rattle.gta_witness.specs.Rules.{bit_cost, key};
 ghost use Rattle.gta_witness.specs.Searching.{found_by, weighs_in, IsSettled, IsSearch, GoesOn, AreListed, IsExpanded, list_at};
 ghost use Rattle.gta_witness.specs.Following.{FollowsRow, FollowsColumn, FollowsState, FollowsCell, FollowsNode};
 
-use crate::goal::{Goal, Reason, goal_of};
+use crate::goal::{Goal, Reason, Weight, goal_of};
 use crate::relax::{Search, relax};
 use gta_refine::Form;
 use plain_data::Items;
@@ -28,11 +28,11 @@ fn expand_to_row(
     t: u32,
     space: u32,
     state: u32,
-    weight: u64,
+    weight: Weight,
 ) -> Result<(), AllocError>
-    requires search { IsSearch form.now (weighs_in weighed.now) weight search.old }
+    requires search { IsSearch form.now (weighs_in weighed.now) (key weight) search.old }
     requires settled { IsSettled (found_by search.old) (State space state) weight }
-    ensures goes_on { IfOk result (λ done. GoesOn form.now (weighs_in weighed.now) weight search.old search.new) }
+    ensures goes_on { IfOk result (λ done. GoesOn form.now (weighs_in weighed.now) (key weight) search.old search.new) }
     ensures row { IfOk result (λ done. FollowsRow form.now (found_by search.new) t space state weight) }
 {
     let Some(part) = form.spaces.get(t as usize) else {
@@ -60,11 +60,11 @@ fn expand_to_column(
     t: u32,
     space: u32,
     state: u32,
-    weight: u64,
+    weight: Weight,
 ) -> Result<(), AllocError>
-    requires search { IsSearch form.now (weighs_in weighed.now) weight search.old }
+    requires search { IsSearch form.now (weighs_in weighed.now) (key weight) search.old }
     requires settled { IsSettled (found_by search.old) (State space state) weight }
-    ensures goes_on { IfOk result (λ done. GoesOn form.now (weighs_in weighed.now) weight search.old search.new) }
+    ensures goes_on { IfOk result (λ done. GoesOn form.now (weighs_in weighed.now) (key weight) search.old search.new) }
     ensures column { IfOk result (λ done. FollowsColumn form.now (found_by search.new) t space state weight) }
 {
     let Some(part) = form.spaces.get(t as usize) else {
@@ -91,11 +91,11 @@ fn expand_state(
     search: &mut Search,
     space: u32,
     state: u32,
-    weight: u64,
+    weight: Weight,
 ) -> Result<(), AllocError>
-    requires search { IsSearch form.now (weighs_in weighed.now) weight search.old }
+    requires search { IsSearch form.now (weighs_in weighed.now) (key weight) search.old }
     requires settled { IsSettled (found_by search.old) (State space state) weight }
-    ensures goes_on { IfOk result (λ done. GoesOn form.now (weighs_in weighed.now) weight search.old search.new) }
+    ensures goes_on { IfOk result (λ done. GoesOn form.now (weighs_in weighed.now) (key weight) search.old search.new) }
     ensures expanded { IfOk result (λ done. IsExpanded form.now (weighs_in weighed.now) (found_by search.new) (State space state)) }
 {
     if form.spaces.len() > u32::MAX as usize {
@@ -117,11 +117,11 @@ fn expand_cell(
     space: u32,
     row: u32,
     column: u32,
-    weight: u64,
+    weight: Weight,
 ) -> Result<(), AllocError>
-    requires search { IsSearch form.now (weighs_in weighed.now) weight search.old }
+    requires search { IsSearch form.now (weighs_in weighed.now) (key weight) search.old }
     requires settled { IsSettled (found_by search.old) (Row space row) weight ⊎ IsSettled (found_by search.old) (Column space column) weight }
-    ensures goes_on { IfOk result (λ done. GoesOn form.now (weighs_in weighed.now) weight search.old search.new) }
+    ensures goes_on { IfOk result (λ done. GoesOn form.now (weighs_in weighed.now) (key weight) search.old search.new) }
     ensures cell { IfOk result (λ done. FollowsCell form.now (found_by search.new) space row column) }
 {
     let Some(left) = search.settled(Goal::Row { space, class: row }) else {
@@ -146,10 +146,8 @@ fn expand_cell(
         return Ok(());
     };
     let goal = goal_of(space, *listed);
-    if left > u64::MAX - right {
-        return Err(AllocError);
-    }
-    relax(search, goal, left + right, Reason::Cell { row, column })?;
+    let sum = left.under_node(right)?;
+    relax(search, goal, sum, Reason::Cell { row, column })?;
     Ok(())
 }
 
@@ -161,11 +159,11 @@ fn expand_row(
     search: &mut Search,
     space: u32,
     row: u32,
-    weight: u64,
+    weight: Weight,
 ) -> Result<(), AllocError>
-    requires search { IsSearch form.now (weighs_in weighed.now) weight search.old }
+    requires search { IsSearch form.now (weighs_in weighed.now) (key weight) search.old }
     requires settled { IsSettled (found_by search.old) (Row space row) weight }
-    ensures goes_on { IfOk result (λ done. GoesOn form.now (weighs_in weighed.now) weight search.old search.new) }
+    ensures goes_on { IfOk result (λ done. GoesOn form.now (weighs_in weighed.now) (key weight) search.old search.new) }
     ensures cells { IfOk result (λ done. All (FollowsCell form.now (found_by search.new) space row) columns.now) }
 {
     for column in columns {
@@ -182,11 +180,11 @@ fn expand_column(
     search: &mut Search,
     space: u32,
     column: u32,
-    weight: u64,
+    weight: Weight,
 ) -> Result<(), AllocError>
-    requires search { IsSearch form.now (weighs_in weighed.now) weight search.old }
+    requires search { IsSearch form.now (weighs_in weighed.now) (key weight) search.old }
     requires settled { IsSettled (found_by search.old) (Column space column) weight }
-    ensures goes_on { IfOk result (λ done. GoesOn form.now (weighs_in weighed.now) weight search.old search.new) }
+    ensures goes_on { IfOk result (λ done. GoesOn form.now (weighs_in weighed.now) (key weight) search.old search.new) }
     ensures cells { IfOk result (λ done. All (λ row. FollowsCell form.now (found_by search.new) space row column) rows.now) }
 {
     for row in rows {
@@ -210,11 +208,11 @@ fn expand_node(
     search: &mut Search,
     space: u32,
     index: u32,
-    weight: u64,
+    weight: Weight,
 ) -> Result<(), AllocError>
-    requires search { IsSearch form.now (weighs_in weighed.now) weight search.old }
+    requires search { IsSearch form.now (weighs_in weighed.now) (key weight) search.old }
     requires settled { IsSettled (found_by search.old) (Node space index) weight }
-    ensures goes_on { IfOk result (λ done. GoesOn form.now (weighs_in weighed.now) weight search.old search.new) }
+    ensures goes_on { IfOk result (λ done. GoesOn form.now (weighs_in weighed.now) (key weight) search.old search.new) }
     ensures node { IfOk result (λ done. FollowsNode form.now (weighs_in weighed.now) (found_by search.new) space index weight) }
 {
     let Some(part) = form.spaces.get(space as usize) else {
@@ -226,10 +224,7 @@ fn expand_node(
     let node = *node;
     let low = goal_of(space, node.low);
     let high = goal_of(space, node.high);
-    let cost = cost(weighed, node.track);
-    if weight > u64::MAX - cost {
-        return Err(AllocError);
-    }
+    let more = weight.with_bits(cost(weighed, node.track))?;
     relax(
         search,
         low,
@@ -242,7 +237,7 @@ fn expand_node(
     relax(
         search,
         high,
-        cost + weight,
+        more,
         Reason::Side {
             index,
             is_high: true,
@@ -268,12 +263,12 @@ pub(crate) fn expand(
     lines: &Lines,
     search: &mut Search,
     goal: Goal,
-    weight: u64,
+    weight: Weight,
 ) -> Result<(), AllocError>
-    requires search { IsSearch form.now (weighs_in weighed.now) weight search.old }
+    requires search { IsSearch form.now (weighs_in weighed.now) (key weight) search.old }
     requires settled { IsSettled (found_by search.old) goal weight }
     requires listed { AreListed (found_by search.old) lines.now.rows.items lines.now.columns.items }
-    ensures goes_on { IfOk result (λ done. GoesOn form.now (weighs_in weighed.now) weight search.old search.new) }
+    ensures goes_on { IfOk result (λ done. GoesOn form.now (weighs_in weighed.now) (key weight) search.old search.new) }
     ensures expanded { IfOk result (λ done. IsExpanded form.now (weighs_in weighed.now) (found_by search.new) goal) }
 {
     match goal {

@@ -3,11 +3,12 @@
 ghost use Rattle.std.specs.Ordering.{nat_cmp, on, as_partial_cmp};
 ghost use Rattle.std.specs.Cmp.{partial_order_from_own_ties};
 ghost use Rattle.std.specs.Cmp.Rules.{comparing};
-ghost use Rattle.std.specs.Prelude.{◌≡◌, nat_eq};
+ghost use Rattle.std.specs.Prelude.{◌≡◌, ◌≤◌, IfOk, nat_eq};
 ghost use Rattle.std.proofs.Common.{rules, refl};
-ghost use Rattle.gta_witness.specs.Rules.{goal_at};
+ghost use Rattle.gta_witness.specs.Rules.{goal_at, key, with_bits, with_node, together};
 
 use bdd_list::Listed;
+use std::alloc::AllocError;
 use std::cmp::Ordering;
 
 /// What has a least weight.
@@ -21,6 +22,54 @@ pub(crate) enum Goal {
     Row { space: u32, class: u32 },
     /// A class of states of a space's right child.
     Column { space: u32, class: u32 },
+}
+
+/// What a tree weighs: its bits, and where these are the same its nodes.
+#[derive(Clone, Copy, Debug)]
+pub(crate) struct Weight {
+    pub bits: u64,
+    /// The greatest number stands for all from there on, since no tree has room for as many nodes.
+    pub nodes: u32,
+}
+
+impl Weight {
+    /// Its place in the order of weights.
+    #[inline]
+    pub(crate) fn key(self) -> u128
+        ensures { result ≡ key self }
+    {
+        self.bits as u128 * 4_294_967_296 + self.nodes as u128
+    }
+
+    /// The weight with more bits.
+    #[inline]
+    pub(crate) fn with_bits(self, bits: u64) -> Result<Weight, AllocError>
+        ensures { IfOk result (λ sum. sum ≡ with_bits bits self) }
+    {
+        if bits > u64::MAX - self.bits {
+            return Err(AllocError);
+        }
+        Ok(Weight {
+            bits: bits + self.bits,
+            nodes: self.nodes,
+        })
+    }
+
+    /// The weight of two trees under a node.
+    #[inline]
+    pub(crate) fn under_node(self, other: Weight) -> Result<Weight, AllocError>
+        ensures value { IfOk result (λ sum. sum ≡ with_node (together self other)) }
+        ensures no_less { IfOk result (λ sum. key self ≤ key sum) }
+        ensures no_less_other { IfOk result (λ sum. key other ≤ key sum) }
+    {
+        if self.bits > u64::MAX - other.bits {
+            return Err(AllocError);
+        }
+        Ok(Weight {
+            bits: self.bits + other.bits,
+            nodes: self.nodes.saturating_add(other.nodes).saturating_add(1),
+        })
+    }
 }
 
 /// By what a goal has its weight.
@@ -39,7 +88,7 @@ pub(crate) enum Reason {
 /// What is found for a goal.
 #[derive(Clone, Copy, Debug)]
 pub(crate) struct Found {
-    pub weight: u64,
+    pub weight: Weight,
     pub reason: Reason,
     /// No lower weight can be found any more.
     pub is_settled: bool,
@@ -59,8 +108,8 @@ pub(crate) fn goal_of(space: u32, listed: Listed) -> Goal
 /// A goal that waits in the queue, where the lowest weight is the greatest.
 #[derive(Clone, Copy, Drop)]
 pub(crate) struct Waiting {
-    /// How far the weight is below the greatest number.
-    pub nearness: u64,
+    /// How far the weight's place is below the greatest number.
+    pub nearness: u128,
     pub goal: Goal,
 }
 

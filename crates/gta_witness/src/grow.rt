@@ -1,12 +1,13 @@
 //! The tree of a state: children are made before their parents, by a stack, so that no call goes deep.
 
-ghost use Rattle.std.specs.Prelude.{◌≡◌, ◌∷◌, ℕ, List, IfOk, None};
+ghost use Rattle.std.specs.Prelude.{◌≡◌, ◌<◌, ◌∷◌, List, IfOk, None};
 ghost use Rattle.ws2s_core.specs.declared.label_tree.TreeNode.{TreeNode};
 ghost use Rattle.gta_witness.specs.declared.goal.Goal.TheVariants.{State};
+ghost use Rattle.gta_witness.specs.declared.goal.Weight.{Weight};
 ghost use Rattle.gta_witness.specs.declared.grow.Task.{Task};
 ghost use Rattle.gta_witness.specs.Searching.{found_by, IsSettled};
 ghost use Rattle.gta_witness.specs.Reading.{IsReadable};
-ghost use Rattle.gta_witness.specs.Growing.{Want, Grows, IsTreeTo};
+ghost use Rattle.gta_witness.specs.Growing.{Want, rounds, Grows, IsTreeTo};
 
 use crate::read::step_of;
 use crate::relax::Search;
@@ -36,9 +37,10 @@ fn visit(
     state: u32,
 ) -> Result<(), AllocError>
     requires readable { IsReadable form.now weigh.now (found_by search.now) }
-    requires settled { (w : ℕ) × IsSettled (found_by search.now) (State space state) w }
+    requires settled { (w : Weight) × IsSettled (found_by search.now) (State space state) w }
     ensures { (nodes : List TreeNode) (out : Want) → Grows form.now weigh.now (found_by search.now) nodes (Task.Visit space state ∷ tasks.old) made.old out
-        → IfOk result (λ done. Grows form.now weigh.now (found_by search.now) nodes tasks.new made.new out) }
+        → IfOk result (λ done. Grows form.now weigh.now (found_by search.now) nodes tasks.new made.new out
+        × (rounds (found_by search.now) tasks.new < rounds (found_by search.now) (Task.Visit space state ∷ tasks.old))) }
 {
     match step_of(alloc, form, weigh, search, space, state)? {
         None => {
@@ -102,14 +104,14 @@ pub(crate) fn grow(
     state: u32,
 ) -> Result<LabelTree, AllocError>
     requires readable { IsReadable form.now weigh.now (found_by search.now) }
-    requires settled { (w : ℕ) × IsSettled (found_by search.now) (State 0 state) w }
+    requires settled { (w : Weight) × IsSettled (found_by search.now) (State 0 state) w × (w.nodes < 4294967295) }
     ensures { IfOk result (IsTreeTo form.now weigh.now (found_by search.now) state) }
 {
     let mut nodes = Items::new(alloc);
     let mut made = Stack::new(alloc);
     let mut tasks = Stack::new(alloc);
     tasks.push(Task::Visit { space: 0, state })?;
-    for _ in 0..u64::MAX {
+    loop {
         match tasks.pop() {
             None => return Ok(LabelTree::new(nodes)),
             Some(Task::Visit { space, state }) => {
@@ -122,5 +124,4 @@ pub(crate) fn grow(
             }
         }
     }
-    Err(AllocError)
 }

@@ -15,7 +15,7 @@ use bdd_walk::NoMemory;
 use gta_core::Auto;
 use gta_form::form_of;
 use gta_refine::Form;
-use std::alloc::Global;
+use std::alloc::{AllocError, Global};
 use std::collections::HashSet;
 use ws2s_core::{Guide, LabelTree, Track, TrackList};
 
@@ -47,18 +47,22 @@ fn least_of(
     match outcome.accepting {
         None => Ok(None),
         Some((state, weight)) => {
+            if weight.nodes >= u32::MAX {
+                return Err(AllocError);
+            }
             let tree = grow(alloc, form, weigh, &outcome.search, state)?;
-            Ok(Some((tree, weight)))
+            Ok(Some((tree, weight.bits)))
         }
     }
 }
 
-/// An accepted tree with the fewest bits on the given tracks, and their number. `None` exactly where nothing is accepted.
-/// A track that is given more than once counts once.
+/// An accepted tree with the fewest bits on the given tracks, and their number; no tree with as few bits that is accepted
+/// has fewer nodes. `None` exactly where nothing is accepted. A track that is given more than once counts once.
 ///
 /// # Errors
 ///
-/// Want of memory; a tree with 2^64 bits or more counts as one that has no room.
+/// Want of memory; also where a sum on the way has 2^64 bits or more, and where each tree with the fewest bits has
+/// 2^32 - 1 nodes or more: such trees have no room.
 pub fn least(
     alloc: Global,
     g: &Guide,

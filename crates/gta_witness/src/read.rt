@@ -2,6 +2,7 @@
 
 ghost use Rattle.std.specs.Prelude.{◌≡◌, ℕ, Some, IfOk};
 ghost use Rattle.gta_witness.specs.declared.goal.Goal.TheVariants.{State};
+ghost use Rattle.gta_witness.specs.declared.goal.Weight.{Weight};
 ghost use Rattle.gta_witness.specs.declared.goal.Reason.TheVariants.{Member};
 ghost use Rattle.gta_witness.specs.Searching.{found_by, IsSettled};
 ghost use Rattle.gta_witness.specs.Reading.{IsReadable, HasReason, HasSomeStep, AddsTrack};
@@ -77,12 +78,12 @@ pub(crate) fn step_of(
     state: u32,
 ) -> Result<Option<Step>, AllocError>
     requires readable { IsReadable form.now weigh.now (found_by search.now) }
-    requires settled { (w : ℕ) × IsSettled (found_by search.now) (State space state) w }
+    requires settled { (w : Weight) × IsSettled (found_by search.now) (State space state) w }
     ensures { IfOk result (HasSomeStep form.now weigh.now (found_by search.now) space state) }
 {
     let mut tracks = Items::new(alloc);
     let mut goal = Goal::State { space, state };
-    for _ in 0..u64::MAX {
+    loop {
         match reason_of(search, goal)? {
             Reason::Initial => return Ok(None),
             Reason::Member { .. } => return Err(AllocError),
@@ -107,5 +108,4 @@ pub(crate) fn step_of(
             }
         }
     }
-    Err(AllocError)
 }

@@ -4,9 +4,10 @@ ghost use Rattle.std.specs.Prelude.{◌≡◌, ◌≤◌, ℕ, Bool, IfOk, None}
 ghost use Rattle.std.specs.BinaryHeap.{heap_items};
 ghost use Rattle.gta_refine.specs.declared.form.Form.{Form};
 ghost use Rattle.gta_witness.specs.declared.goal.Goal.{Goal};
+ghost use Rattle.gta_witness.specs.Rules.{key};
 ghost use Rattle.gta_witness.specs.Searching.{found_by, settled_weight, IsHigher, IsSearch, GoesOn, IsCovered, IsJustified};
 
-use crate::goal::{Found, Goal, Reason, Waiting};
+use crate::goal::{Found, Goal, Reason, Waiting, Weight};
 use std::alloc::{AllocError, Global};
 use std::collections::{BinaryHeap, HashMap};
 
@@ -40,7 +41,7 @@ impl Search {
 
     /// The weight of a goal that is settled.
     #[inline]
-    pub(crate) fn settled(&self, goal: Goal) -> Option<u64>
+    pub(crate) fn settled(&self, goal: Goal) -> Option<Weight>
         ensures { result ≡ settled_weight (found_by self.now goal) }
     {
         let found = self.at(goal)?;
@@ -56,15 +57,15 @@ impl Search {
 pub(crate) fn relax(
     search: &mut Search,
     goal: Goal,
-    weight: u64,
+    weight: Weight,
     reason: Reason,
 ) -> Result<(), AllocError>
-    ensures { (form : Form) (weighs : ℕ → Bool) (now : ℕ) → IsSearch form weighs now search.old → now ≤ weight
+    ensures { (form : Form) (weighs : ℕ → Bool) (now : ℕ) → IsSearch form weighs now search.old → now ≤ key weight
         → IsJustified form weighs (found_by search.old) goal reason weight
         → IfOk result (λ done. GoesOn form weighs now search.old search.new × IsCovered (found_by search.new) goal weight) }
 {
     if let Some(found) = search.at(goal) {
-        if found.weight <= weight {
+        if found.weight.key() <= weight.key() {
             return Ok(());
         }
     }
@@ -72,14 +73,14 @@ pub(crate) fn relax(
 }
 
 /// Gives a goal a lower weight.
-fn put(search: &mut Search, goal: Goal, weight: u64, reason: Reason) -> Result<(), AllocError>
-    ensures { (form : Form) (weighs : ℕ → Bool) (now : ℕ) → IsSearch form weighs now search.old → now ≤ weight
+fn put(search: &mut Search, goal: Goal, weight: Weight, reason: Reason) -> Result<(), AllocError>
+    ensures { (form : Form) (weighs : ℕ → Bool) (now : ℕ) → IsSearch form weighs now search.old → now ≤ key weight
         → IsHigher (found_by search.old goal) weight
         → IsJustified form weighs (found_by search.old) goal reason weight
         → IfOk result (λ done. GoesOn form weighs now search.old search.new × IsCovered (found_by search.new) goal weight) }
 {
     search.queue.push(Waiting {
-        nearness: u64::MAX - weight,
+        nearness: u128::MAX - weight.key(),
         goal,
     })?;
     search.found.insert(

@@ -6,7 +6,7 @@ ghost use Rattle.gta_refine.specs.Form.{automaton_of};
 ghost use Rattle.gta_witness.specs.Searching.{same_goal, weighs_in, found_by, list_at, Ends, Stands, Running, IsStart, IsTaken, AddsTo, AddsLine, AcceptsAt};
 
 use crate::expand::{Lines, expand};
-use crate::goal::{Found, Goal, Reason};
+use crate::goal::{Found, Goal, Reason, Weight};
 use crate::relax::{Search, relax};
 use gta_refine::Form;
 use plain_data::Items;
@@ -20,7 +20,7 @@ pub(crate) enum Turn {
     /// Nothing waits.
     Over,
     /// A lightest accepting state, and its weight.
-    Accepting { state: u32, weight: u64 },
+    Accepting { state: u32, weight: Weight },
 }
 
 /// The initial states weigh nothing.
@@ -32,12 +32,13 @@ fn start(alloc: Global, form: &Form, weighed: &HashSet<u32>) -> Result<Search, A
         return Err(AllocError);
     }
     let many = form.spaces.len() as u32;
+    let nothing = Weight { bits: 0, nodes: 0 };
     for s in 0..many {
         let goal = Goal::State {
             space: s,
             state: form.spaces.as_slice()[s as usize].initial,
         };
-        relax(&mut search, goal, 0, Reason::Initial)?;
+        relax(&mut search, goal, nothing, Reason::Initial)?;
     }
     Ok(search)
 }
@@ -166,7 +167,7 @@ fn advance(
     if found.is_settled {
         return Ok(Turn::More);
     }
-    if found.weight != u64::MAX - first.nearness {
+    if found.weight.key() != u128::MAX - first.nearness {
         return Ok(Turn::More);
     }
     settle_goal(form, weighed, lines, search, first.goal, found)
@@ -176,7 +177,7 @@ fn advance(
 #[derive(Drop)]
 pub(crate) struct Outcome {
     pub search: Search,
-    pub accepting: Option<(u32, u64)>,
+    pub accepting: Option<(u32, Weight)>,
 }
 
 /// Least weights until an accepting state of space 0 has one.

@@ -1,15 +1,19 @@
 -- Two classes come to where their function begins.
-use Rattle.std.proofs.Common.{◌≤◌, ◌+◌, ℕ, sym, refl, arith, inl, inr, ◌⊎◌}
+use Rattle.std.proofs.Common.{◌≤◌, ℕ, sym, ap, arith, inl, inr, ◌⊎◌}
 use Rattle.gta_witness.specs.declared.goal.Goal.TheVariants.{Row, Column}
+use Rattle.gta_witness.specs.declared.goal.Weight.{Weight}
+use Rattle.gta_witness.specs.Rules.{key}
 use Rattle.gta_witness.specs.Searching.{found_by, weighs_in, Findings, IsSettled}
 use Rattle.gta_witness.proofs.SearchLemmas.{settled-once}
 use Rattle.gta_witness.proofs.ExpandLemmas.{cell-justified, cell-follows, IsSettled-weight}
 use Rattle.gta_witness.proofs.expand.expand_cell.Goals as goal
 
-ahead : (found : Findings) (t r c u v w : ℕ) → IsSettled found (Row t r) w ⊎ IsSettled found (Column t c) w → IsSettled found (Row t r) u →
-    IsSettled found (Column t c) v → w ≤ u + v
-ahead found t r c u v w (inl one) of_row of_column = let e = settled-once found (Row t r) w u one of_row in omega arith
-ahead found t r c u v w (inr other) of_row of_column = let e = settled-once found (Column t c) w v other of_column in omega arith
+ahead : (found : Findings) (t r c : ℕ) (u v w sum : Weight) → IsSettled found (Row t r) w ⊎ IsSettled found (Column t c) w →
+    IsSettled found (Row t r) u → IsSettled found (Column t c) v → key u ≤ key sum → key v ≤ key sum → key w ≤ key sum
+ahead found t r c u v w sum (inl one) of_row of_column no_less no_less_other =
+    let e = ap key (settled-once found (Row t r) w u one of_row) in omega arith
+ahead found t r c u v w sum (inr other) of_row of_column no_less no_less_other =
+    let e = ap key (settled-once found (Column t c) w v other of_column) in omega arith
 
 pub returns-clause-goes_on : goal.returns-clause-goes_on
 returns-clause-goes_on c =
@@ -19,12 +23,13 @@ returns-clause-goes_on c =
     let t = c.args.space in
     let of_row = IsSettled-weight found (Row t c.args.row) c.in-Some.left c.in-Some.ensures in
     let of_column = IsSettled-weight found (Column t c.args.column) c.in-Some-settled.right c.in-Some-settled.ensures in
-    (c.in_ok-relax.ensures form weighs c.args.weight c.requires.search
-    (ahead found t c.args.row c.args.column c.in-Some.left c.in-Some-settled.right c.args.weight c.requires.settled of_row of_column)
+    (c.in_ok-relax.ensures form weighs (key c.args.weight) c.requires.search
+    (ahead found t c.args.row c.args.column c.in-Some.left c.in-Some-settled.right c.args.weight c.in_ok-sum.sum c.requires.settled of_row of_column
+    c.in_ok-sum.ensures.no_less c.in_ok-sum.ensures.no_less_other)
     (cell-justified form weighs found t c.args.row c.args.column c.in-Some-get-2.cell.now c.in-Some.left c.in-Some-settled.right
-    (c.in-Some.left + c.in-Some-settled.right) c.in-Some-get.part.now c.in-Some-get-3.listed.now c.goal_of-goal.result
+    c.in_ok-sum.sum c.in-Some-get.part.now c.in-Some-get-3.listed.now c.goal_of-goal.result
     (sym c.in-Some-get.ensures.value) (sym c.in-Some-get-2.ensures.value) (sym c.in-Some-get-3.ensures.value) c.goal_of-goal.ensures
-    of_row of_column refl)).0
+    of_row of_column (sym c.in_ok-sum.ensures.value))).0
 
 pub returns-clause-cell : goal.returns-clause-cell
 returns-clause-cell c =
@@ -34,13 +39,14 @@ returns-clause-cell c =
     let t = c.args.space in
     let of_row = IsSettled-weight found (Row t c.args.row) c.in-Some.left c.in-Some.ensures in
     let of_column = IsSettled-weight found (Column t c.args.column) c.in-Some-settled.right c.in-Some-settled.ensures in
-    let both = c.in_ok-relax.ensures form weighs c.args.weight c.requires.search
-    (ahead found t c.args.row c.args.column c.in-Some.left c.in-Some-settled.right c.args.weight c.requires.settled of_row of_column)
+    let both = c.in_ok-relax.ensures form weighs (key c.args.weight) c.requires.search
+    (ahead found t c.args.row c.args.column c.in-Some.left c.in-Some-settled.right c.args.weight c.in_ok-sum.sum c.requires.settled of_row of_column
+    c.in_ok-sum.ensures.no_less c.in_ok-sum.ensures.no_less_other)
     (cell-justified form weighs found t c.args.row c.args.column c.in-Some-get-2.cell.now c.in-Some.left c.in-Some-settled.right
-    (c.in-Some.left + c.in-Some-settled.right) c.in-Some-get.part.now c.in-Some-get-3.listed.now c.goal_of-goal.result
+    c.in_ok-sum.sum c.in-Some-get.part.now c.in-Some-get-3.listed.now c.goal_of-goal.result
     (sym c.in-Some-get.ensures.value) (sym c.in-Some-get-2.ensures.value) (sym c.in-Some-get-3.ensures.value) c.goal_of-goal.ensures
-    of_row of_column refl) in
+    of_row of_column (sym c.in_ok-sum.ensures.value)) in
     cell-follows form weighs found (found_by c.relax.new.search) t c.args.row c.args.column c.in-Some-get-2.cell.now c.in-Some.left c.in-Some-settled.right
-    (c.in-Some.left + c.in-Some-settled.right) c.in-Some-get.part.now c.in-Some-get-3.listed.now c.goal_of-goal.result
+    c.in_ok-sum.sum c.in-Some-get.part.now c.in-Some-get-3.listed.now c.goal_of-goal.result
     (sym c.in-Some-get.ensures.value) (sym c.in-Some-get-2.ensures.value) (sym c.in-Some-get-3.ensures.value) c.goal_of-goal.ensures
-    of_row of_column refl both.0.improves both.1
+    of_row of_column (sym c.in_ok-sum.ensures.value) both.0.improves both.1

@@ -4,6 +4,7 @@ use Rattle.std.specs.Prelude.{slice_index_or}
 use Rattle.std.proofs.lemmas.Bool.{cases_lt}
 use Rattle.std.proofs.lemmas.List.{get_or_default}
 use Rattle.gta_witness.specs.declared.goal.Goal.TheVariants.{Column}
+use Rattle.gta_witness.specs.Rules.{key}
 use Rattle.gta_witness.specs.Searching.{found_by, weighs_in}
 use Rattle.gta_witness.specs.Following.{FollowsCell}
 use Rattle.gta_witness.proofs.SearchLemmas.{GoesOn-trans}
@@ -19,7 +20,7 @@ expand_cell-requires-clause-settled c =
 
 pub loop-row-preserved : goal.loop-row-preserved
 loop-row-preserved c = record {
-  goes_on = GoesOn-trans c.args.form.now (weighs_in c.args.weighed.now) c.args.weight c.args.search.now c.loop-row.search c.expand_cell.new.search
+  goes_on = GoesOn-trans c.args.form.now (weighs_in c.args.weighed.now) (key c.args.weight) c.args.search.now c.loop-row.search c.expand_cell.new.search
       c.loop-row.invariant.goes_on c.in_ok-expand_cell.ensures.goes_on;
   cells = λ k d below. elim (cases_lt k c.loop-row.row-index) [
     | inl before ↦ FollowsCell-kept c.args.form.now (weighs_in c.args.weighed.now) (found_by c.loop-row.search) (found_by c.expand_cell.new.search) c.args.space

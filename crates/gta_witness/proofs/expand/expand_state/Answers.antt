@@ -1,6 +1,7 @@
 -- The classes of a state.
 use Rattle.std.proofs.Common.{◌≡◌, ℕ, length, subst, arith}
 use Rattle.gta_witness.specs.declared.goal.Goal.TheVariants.{State}
+use Rattle.gta_witness.specs.Rules.{key}
 use Rattle.gta_witness.specs.Searching.{found_by, weighs_in}
 use Rattle.gta_witness.specs.Following.{FollowsState}
 use Rattle.gta_witness.proofs.SearchLemmas.{GoesOn-trans}
@@ -20,8 +21,8 @@ loop-t-preserved c =
     let one = c.in_ok-expand_to_row.ensures.goes_on in
     let two = c.in_ok-expand_to_column.ensures.goes_on in
     record {
-      goes_on = GoesOn-trans form weighs c.args.weight c.args.search.now c.loop-t.search c.expand_to_column.new.search c.loop-t.invariant.goes_on
-          (GoesOn-trans form weighs c.args.weight c.loop-t.search c.expand_to_row.new.search c.expand_to_column.new.search one two);
+      goes_on = GoesOn-trans form weighs (key c.args.weight) c.args.search.now c.loop-t.search c.expand_to_column.new.search c.loop-t.invariant.goes_on
+          (GoesOn-trans form weighs (key c.args.weight) c.loop-t.search c.expand_to_row.new.search c.expand_to_column.new.search one two);
       follows = FollowsState-more form weighs (found_by c.loop-t.search) (found_by c.expand_to_row.new.search) (found_by c.expand_to_column.new.search)
           c.loop-t.t c.args.space c.args.state c.args.weight c.loop-t.invariant.follows one.improves c.in_ok-expand_to_row.ensures.row two.improves
           c.in_ok-expand_to_column.ensures.column;

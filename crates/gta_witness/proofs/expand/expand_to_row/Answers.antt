@@ -1,5 +1,6 @@
 -- A state comes to its row.
 use Rattle.std.proofs.Common.{◌≡◌, sym, arith}
+use Rattle.gta_witness.specs.Rules.{key}
 use Rattle.gta_witness.specs.Searching.{found_by, weighs_in}
 use Rattle.gta_witness.proofs.ExpandLemmas.{row-justified, row-follows}
 use Rattle.gta_witness.proofs.expand.expand_to_row.Goals as goal
@@ -10,7 +11,7 @@ returns-clause-goes_on c =
     let weighs = weighs_in c.args.weighed.now in
     let part = c.in-Some.part.now in
     let child : part.children.0 ≡ c.args.space = (let f = c.if-part-space.false in omega arith) in
-    (c.in_ok-relax.ensures form weighs c.args.weight c.requires.search (omega arith)
+    (c.in_ok-relax.ensures form weighs (key c.args.weight) c.requires.search (omega arith)
     (row-justified form weighs (found_by c.args.search.now) c.args.t c.args.space c.args.state c.in-Some-get.class.now c.args.weight part
     (sym c.in-Some.ensures.value) child (sym c.in-Some-get.ensures.value) c.requires.settled)).0
 
@@ -22,6 +23,6 @@ returns-clause-row c =
     let child : part.children.0 ≡ c.args.space = (let f = c.if-part-space.false in omega arith) in
     row-follows form weighs (found_by c.relax.new.search) c.args.t c.args.space c.args.state c.in-Some-get.class.now c.args.weight part
     (sym c.in-Some.ensures.value) (sym c.in-Some-get.ensures.value)
-    (c.in_ok-relax.ensures form weighs c.args.weight c.requires.search (omega arith)
+    (c.in_ok-relax.ensures form weighs (key c.args.weight) c.requires.search (omega arith)
     (row-justified form weighs (found_by c.args.search.now) c.args.t c.args.space c.args.state c.in-Some-get.class.now c.args.weight part
     (sym c.in-Some.ensures.value) child (sym c.in-Some-get.ensures.value) c.requires.settled)).1

@@ -4,6 +4,7 @@ use Rattle.std.proofs.lemmas.Bool.{false≢true}
 use Rattle.std.specs.BinaryHeap.{heap_items}
 use Rattle.gta_witness.specs.declared.goal.Found.{Found}
 use Rattle.gta_witness.specs.declared.relax.Search.{Search}
+use Rattle.gta_witness.specs.Rules.{key}
 use Rattle.gta_witness.specs.Searching.{weighs_in, found_by}
 use Rattle.gta_witness.proofs.SettleLemmas.{over-none, stale-running, first-taken, first-ahead, none-nearer, no-elements}
 use Rattle.gta_witness.proofs.search.advance.Goals as goal
@@ -45,8 +46,8 @@ returns-then-found c =
           false≢true (sym unsettled ∙ ap (λ (x : Found). x.is_settled) same ∙ c.if-found.true)),
     )
 
-pub returns-then-found-first : goal.returns-then-found-first
-returns-then-found-first c =
+pub returns-then-key-first : goal.returns-then-key-first
+returns-then-key-first c =
     let now = c.requires.0 in
     let running = c.requires.1 in
     let new : Search = record { found = c.args.search.now.found; queue = c.pop.new.self } in
@@ -56,7 +57,10 @@ returns-then-found-first c =
           (λ i. c.args.search.now.found)
           c.in-Some.ensures.permutation order.0 (λ e there unsettled near.
           let same : e ≡ c.in-Some-at.found = same-found (found_by c.args.search.now c.in-Some.first.goal) e c.in-Some-at.found there c.in-Some-at.ensures in
-          let weight : e.weight ≡ c.in-Some-at.found.weight = ap (λ (x : Found). x.weight) same in let other = c.if-found-first.true in absurd (omega arith)),
+          let weight : key e.weight ≡ key c.in-Some-at.found.weight = ap (λ (x : Found). key x.weight) same in
+          let is_key = c.key.ensures in
+          let other = c.if-key-first.true in
+          absurd (omega arith)),
     )
 
 pub settle_goal-requires : goal.settle_goal-requires
@@ -69,7 +73,8 @@ settle_goal-requires c =
     let weighs = weighs_in c.args.weighed.now in
     let ahead = first-ahead form weighs now c.args.lines.now c.args.search.now new c.in-Some.first running (λ i. c.args.search.now.found)
     c.in-Some.ensures.permutation order.0 in
-    let near : c.in-Some.first.nearness + c.in-Some-at.found.weight ≡ 18446744073709551615 = (let e = c.if-found-first.false in omega arith) in
+    let near : c.in-Some.first.nearness + key c.in-Some-at.found.weight ≡ 340282366920938463463374607431768211455 =
+    (let is_key = c.key.ensures in let e = c.if-key-first.false in omega arith) in
     first-taken form weighs now c.args.lines.now c.args.search.now new c.in-Some.first running (λ i. c.args.search.now.found)
     c.in-Some.ensures.permutation order.0 c.in-Some-at.found (sym c.in-Some-at.ensures) c.if-found.false near
     (none-nearer c.in-Some.first (heap_items c.pop.new.self) (c.in-Some.ensures.below_top running.is_search.heap))

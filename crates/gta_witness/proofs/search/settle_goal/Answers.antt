@@ -1,4 +1,5 @@
 -- A goal is settled.
+use Rattle.gta_witness.specs.Rules.{key}
 use Rattle.gta_witness.specs.Searching.{weighs_in}
 use Rattle.gta_witness.proofs.SettleLemmas.{settled-search, settled-now, settled-listed, running-now, over-now, accepting-now}
 use Rattle.gta_witness.proofs.search.settle_goal.Goals as goal
@@ -27,7 +28,7 @@ returns-in-Some c = (
 
 pub returns-in-None : goal.returns-in-None
 returns-in-None c = (
-  c.args.found.weight,
+  key c.args.found.weight,
   running-now c.args.form.now (weighs_in c.args.weighed.now) c.args.lines.now c.args.search.now c.settle.new.search
       c.args.goal c.args.found c.requires c.in_ok-settle.ensures.found c.in_ok-settle.ensures.queue c.add_line.new.lines c.in_ok-add_line.ensures
       c.expand.new.search c.in_ok-expand.ensures.goes_on c.in_ok-expand.ensures.expanded c.in-None.ensures,

@@ -5,6 +5,7 @@ use Rattle.std.proofs.lemmas.Bool.{cases_lt}
 use Rattle.std.proofs.lemmas.Option.{slice_get_within, slice_get-get_or}
 use Rattle.gta_refine.specs.declared.form.FormSpace.{FormSpace}
 use Rattle.gta_witness.specs.declared.goal.Goal.TheVariants.{State}
+use Rattle.gta_witness.specs.Rules.{nothing}
 use Rattle.gta_witness.specs.Searching.{weighs_in, found_by, IsCovered}
 use Rattle.gta_witness.proofs.SettleLemmas.{initial-justified}
 use Rattle.gta_witness.proofs.search.start.Goals as goal
@@ -34,12 +35,12 @@ loop-s-preserved c =
     record {
       is_search = both.0.is_search;
       initial = λ k space below there. elim (cases_lt k s) [
-        | inl before ↦ both.0.improves.covered (State k space.initial) 0 (c.loop-s.invariant.initial k space before there)
+        | inl before ↦ both.0.improves.covered (State k space.initial) nothing (c.loop-s.invariant.initial k space before there)
         | inr here ↦
             let e : s ≡ k = omega arith in
             let same = same-space (slice_get form.spaces s) part space at (ap (slice_get form.spaces) e ∙ there) in
-            subst (λ (j : ℕ). IsCovered (found_by c.relax.new.search) (State j space.initial) 0) e
-            (subst (λ (p : FormSpace). IsCovered (found_by c.relax.new.search) (State s p.initial) 0) same both.1)
+            subst (λ (j : ℕ). IsCovered (found_by c.relax.new.search) (State j space.initial) nothing) e
+            (subst (λ (p : FormSpace). IsCovered (found_by c.relax.new.search) (State s p.initial) nothing) same both.1)
       ];
       none = λ g w settled. c.loop-s.invariant.none g w (both.0.improves.no_more g w settled);
     }
