@@ -1,0 +1,4 @@
+pub mod IndexLemmas
+pub mod SpacesLemmas
+pub mod StepsLemmas
+pub mod TracksLemmas

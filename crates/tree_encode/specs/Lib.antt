@@ -1,0 +1,4 @@
+pub mod Counting
+pub mod Layouts
+pub mod Spaces
+pub mod Tracks
