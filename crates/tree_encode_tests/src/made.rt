@@ -1,11 +1,14 @@
 //! Tables made by hand. A change that a table doesn't allow is left out.
 
-ghost use Rattle.std.specs.Prelude.{◌≡◌, ◌<◌, length, None, IsTrue};
-ghost use Rattle.store_core.specs.Tables.{place_of, field_names, fields_of, owner_type, KnowsOwner};
+ghost use Rattle.std.specs.Prelude.{◌≡◌, ◌<◌, length, None, IsTrue, IfOk, OnOk};
+ghost use Rattle.std.specs.List.{AllByRecursion};
+ghost use Rattle.store_core.specs.Tables.{place_of, field_names, fields_of, owner_type, KnowsOwner, KnowsVariant, KnowsVarKind};
+ghost use Rattle.tree_encode_tests.specs.Known.{KnowsVars};
 
 use plain_data::Items;
 use std::alloc::{AllocError, Global};
 use store_core::{FieldKind, Owner, Route, TypeId, TypeTable, VarKind, VarTable, VariantId};
+use tree_encode::VariantList;
 
 /// The only type, or the first of two.
 pub(crate) const FIRST: TypeId = TypeId(0);
@@ -92,18 +95,42 @@ pub(crate) fn add_pointer(
     Ok(())
 }
 
-pub(crate) fn add_var(vars: &mut VarTable, name: &[u8], kind: VarKind) -> Result<(), AllocError> {
-    if vars.find(name).is_none() && vars.vars() < 9 {
+/// Whether the type that a variable names is there.
+fn is_known_kind(types: &TypeTable, kind: VarKind) -> bool
+    ensures { IsTrue result → KnowsVarKind types.now kind }
+{
+    match kind {
+        VarKind::Bool | VarKind::LogicBool => true,
+        VarKind::Data(ty) | VarKind::Pointer(ty) | VarKind::LogicSet(ty) => ty.0 < types.types(),
+    }
+}
+
+fn add_var(
+    types: &TypeTable,
+    vars: &mut VarTable,
+    name: &[u8],
+    kind: VarKind,
+) -> Result<(), AllocError>
+    requires { KnowsVars types.now vars.old }
+    ensures { OnOk result (KnowsVars types.now vars.new) }
+{
+    if is_known_kind(types, kind) && vars.find(name).is_none() && vars.vars() < 9 {
         vars.add(name, kind)?;
     }
     Ok(())
 }
 
 /// The variables with these names and kinds.
-pub(crate) fn made_vars(alloc: Global, kinds: &[(&str, VarKind)]) -> Result<VarTable, AllocError> {
+pub(crate) fn made_vars(
+    alloc: Global,
+    types: &TypeTable,
+    kinds: &[(&str, VarKind)],
+) -> Result<VarTable, AllocError>
+    ensures { IfOk result (λ vars. KnowsVars types.now vars) }
+{
     let mut vars = VarTable::new(alloc);
     for (name, kind) in kinds {
-        add_var(&mut vars, name.as_bytes(), *kind)?;
+        add_var(types, &mut vars, name.as_bytes(), *kind)?;
     }
     Ok(vars)
 }
@@ -111,4 +138,24 @@ pub(crate) fn made_vars(alloc: Global, kinds: &[(&str, VarKind)]) -> Result<VarT
 /// A variant of a type.
 pub(crate) fn variant(ty: TypeId, index: u32) -> VariantId {
     VariantId { ty, index }
+}
+
+const PLAIN: VariantId = VariantId {
+    ty: FIRST,
+    index: 0,
+};
+
+/// One spare of the first type's first variant, or none.
+pub(crate) fn made_spares(
+    alloc: Global,
+    types: &TypeTable,
+    one: bool,
+) -> Result<VariantList, AllocError>
+    ensures { IfOk result (λ spares. AllByRecursion (KnowsVariant types.now) spares) }
+{
+    if one && types.variants(FIRST) > 0 {
+        Items::from_slice(alloc, &[PLAIN])
+    } else {
+        Ok(Items::new(alloc))
+    }
 }

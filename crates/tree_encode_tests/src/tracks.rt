@@ -1,9 +1,9 @@
 //! The tracks, slots and children of a layout with variants and all kinds of variables.
 
 use crate::made::{
-    FIRST, SECOND, add_bool, add_data, add_pointer, add_type, add_variant, made_vars, variant,
+    FIRST, SECOND, add_bool, add_data, add_pointer, add_type, add_variant, made_spares, made_vars,
+    variant,
 };
-use plain_data::Items;
 use std::alloc::{AllocError, Global};
 use std::test::Fail;
 use store_core::{FieldId, Owner, TypeId, TypeTable, VarId, VarKind};
@@ -25,6 +25,14 @@ fn add_fields(alloc: Global, types: &mut TypeTable) -> Result<(), AllocError> {
     add_pointer(alloc, types, Owner::Common(SECOND), b"up", SECOND)?;
     add_bool(types, Owner::Variant(variant(SECOND, 1)), b"on")?;
     add_data(types, Owner::Variant(variant(SECOND, 1)), b"left", SECOND)
+}
+
+/// Both types, with their fields.
+pub(crate) fn made_types(alloc: Global) -> Result<TypeTable, AllocError> {
+    let mut types = TypeTable::new(alloc);
+    add_two(&mut types)?;
+    add_fields(alloc, &mut types)?;
+    Ok(types)
 }
 
 const VARS: [(&str, VarKind); 6] = [
@@ -80,11 +88,9 @@ fn children_are_counted(layout: &Layout<'_>) -> bool {
 #[test]
 fn each_part_has_its_number(rt: HostRuntime) -> Result<(), Fail> {
     let alloc = rt.alloc();
-    let mut types = TypeTable::new(alloc);
-    add_two(&mut types)?;
-    add_fields(alloc, &mut types)?;
-    let vars = made_vars(alloc, &VARS)?;
-    let spares = Items::new(alloc);
+    let types = made_types(alloc)?;
+    let vars = made_vars(alloc, &types, &VARS)?;
+    let spares = made_spares(alloc, &types, false)?;
     let layout = Layout::new(alloc, &types, &vars, &spares)?;
     assert!(rt; variants_have_tracks(&layout));
     assert!(rt; bools_have_tracks(&layout));
