@@ -145,15 +145,11 @@ const PLAIN: VariantId = VariantId {
     index: 0,
 };
 
-/// One spare of the first type's first variant, or none.
-pub(crate) fn made_spares(
-    alloc: Global,
-    types: &TypeTable,
-    one: bool,
-) -> Result<VariantList, AllocError>
+/// One spare of the first type's first variant, where it is there.
+pub(crate) fn made_spares(alloc: Global, types: &TypeTable) -> Result<VariantList, AllocError>
     ensures { IfOk result (λ spares. AllByRecursion (KnowsVariant types.now) spares) }
 {
-    if one && types.variants(FIRST) > 0 {
+    if types.variants(FIRST) > 0 {
         Items::from_slice(alloc, &[PLAIN])
     } else {
         Ok(Items::new(alloc))

@@ -90,7 +90,7 @@ fn each_part_has_its_number(rt: HostRuntime) -> Result<(), Fail> {
     let alloc = rt.alloc();
     let types = made_types(alloc)?;
     let vars = made_vars(alloc, &types, &VARS)?;
-    let spares = made_spares(alloc, &types, false)?;
+    let spares = made_spares(alloc, &types)?;
     let layout = Layout::new(alloc, &types, &vars, &spares)?;
     assert!(rt; variants_have_tracks(&layout));
     assert!(rt; bools_have_tracks(&layout));
