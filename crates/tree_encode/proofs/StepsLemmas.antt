@@ -1,5 +1,5 @@
 -- One step of each loop that makes spaces.
-use Rattle.std.proofs.Common.{◌≡◌, ℕ, suc, ◌+◌, ◌-◌, ◌<◌, cond, eqb, inl, inr, List, [], ◌∷◌, ◌++◌, length, map, drop, slice_get, get_or, Some, refl, sym, ap, ◌∙◌, append_assoc, length-append, length-drop, drop-cons, arith}
+use Rattle.std.proofs.Common.{◌≡◌, ℕ, suc, ◌+◌, ◌<◌, cond, eqb, inl, inr, List, [], ◌∷◌, ◌++◌, length, map, drop, slice_get, get_or, Some, refl, sym, ap, ◌∙◌, append_assoc, length-append, length-drop, drop-cons, arith}
 use Rattle.std.proofs.Math.Dec.{eqb-suc-zero}
 use Rattle.std.proofs.lemmas.List.{length-map}
 use Rattle.std.specs.Prelude.{flat_map}

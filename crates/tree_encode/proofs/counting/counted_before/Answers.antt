@@ -1,4 +1,4 @@
-use Rattle.std.proofs.Common.{◌≤◌, ◌+◌, sym, ◌∙◌, arith}
+use Rattle.std.proofs.Common.{sym, ◌∙◌, arith}
 use Rattle.store_core.specs.Tables.{fields_of}
 use Rattle.tree_encode.specs.Counting.{is_counted}
 use Rattle.tree_encode.proofs.IndexLemmas.{counted-yes, counted-no}

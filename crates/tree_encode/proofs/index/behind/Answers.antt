@@ -1,6 +1,6 @@
-use Rattle.std.proofs.Common.{◌≡◌, ◌+◌, max, take, sym, ap, ◌∙◌}
+use Rattle.std.proofs.Common.{◌+◌, max, take, sym, ap, ◌∙◌}
 use Rattle.std.specs.Prelude.{count_by}
-use Rattle.store_core.specs.Tables.{fields_of, variant_count}
+use Rattle.store_core.specs.Tables.{fields_of}
 use Rattle.tree_encode.specs.declared.index.First.{First}
 use Rattle.tree_encode.specs.declared.counting.Counted.TheVariants.{Bools, Children}
 use Rattle.tree_encode.specs.Counting.{is_counted, variants_in, bools_in}

@@ -1,6 +1,6 @@
-use Rattle.std.proofs.Common.{◌≡◌, ◌∙◌, List, map, ap, arith}
+use Rattle.std.proofs.Common.{◌∙◌, List, map, ap, arith}
 use Rattle.store_core.specs.declared.ids.TypeId.{TypeId}
-use Rattle.tree_encode.specs.Spaces.{row, first_space}
+use Rattle.tree_encode.specs.Spaces.{first_space}
 use Rattle.tree_encode.proofs.StepsLemmas.{rows-next}
 use Rattle.tree_encode.proofs.spaces.push_rows.Goals as goal
 

@@ -1,4 +1,4 @@
-use Rattle.std.proofs.Common.{◌≡◌, ◌+◌, ◌∙◌, ◌++◌, List, ℕ, max, length, take, map, ap}
+use Rattle.std.proofs.Common.{◌+◌, ◌∙◌, ◌++◌, List, ℕ, max, length, take, map, ap}
 use Rattle.std.proofs.Math.Seq.{take-length}
 use Rattle.store_core.specs.declared.ids.TypeId.{TypeId}
 use Rattle.tree_encode.specs.declared.index.First.{First}

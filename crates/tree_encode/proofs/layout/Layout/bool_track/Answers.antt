@@ -1,9 +1,9 @@
-use Rattle.std.proofs.Common.{◌≡◌, ◌<◌, ◌≤◌, length, take, sym, ap, ◌∙◌, arith}
+use Rattle.std.proofs.Common.{◌≡◌, take, sym, ap, ◌∙◌, arith}
 use Rattle.std.proofs.Math.Seq.{take-length}
 use Rattle.store_core.specs.Tables.{fields_of}
 use Rattle.tree_encode.specs.declared.index.First.{First}
 use Rattle.tree_encode.specs.declared.counting.Counted.TheVariants.{Bools}
-use Rattle.tree_encode.specs.Counting.{is_counted, variants_in, bools_in}
+use Rattle.tree_encode.specs.Counting.{is_counted, variants_in}
 use Rattle.tree_encode.proofs.IndexLemmas.{counted-inside, bools-room}
 use Rattle.tree_encode.proofs.layout.Layout.bool_track.Goals as goal
 

@@ -1,4 +1,4 @@
-use Rattle.std.proofs.Common.{◌≡◌, ◌<◌, ap, arith}
+use Rattle.std.proofs.Common.{◌<◌, ap, arith}
 use Rattle.store_core.specs.Tables.{variant_count}
 use Rattle.tree_encode.specs.declared.index.First.{First}
 use Rattle.tree_encode.proofs.IndexLemmas.{variants-room}
