@@ -85,18 +85,28 @@ fn children_are_counted(layout: &Layout<'_>) -> bool {
         && layout.child(field(SECOND, 0)).is_none()
 }
 
+fn is_numbered(layout: &Layout<'_>) -> bool {
+    layout.types().types() == 2
+        && layout.vars().vars() == 6
+        && variants_have_tracks(layout)
+        && bools_have_tracks(layout)
+        && vars_have_tracks(layout)
+        && slots_are_counted(layout)
+        && children_are_counted(layout)
+}
+
+/// Whether the layout of all variables over the types has the numbers worked out by hand.
+fn has_numbers(alloc: Global, types: &TypeTable) -> Result<bool, AllocError> {
+    let vars = made_vars(alloc, types, &VARS)?;
+    let spares = made_spares(alloc, types)?;
+    let layout = Layout::new(alloc, types, &vars, &spares)?;
+    Ok(is_numbered(&layout))
+}
+
 #[test]
 fn each_part_has_its_number(rt: HostRuntime) -> Result<(), Fail> {
-    let alloc = rt.alloc();
-    let types = made_types(alloc)?;
-    let vars = made_vars(alloc, &types, &VARS)?;
-    let spares = made_spares(alloc, &types)?;
-    let layout = Layout::new(alloc, &types, &vars, &spares)?;
-    assert!(rt; variants_have_tracks(&layout));
-    assert!(rt; bools_have_tracks(&layout));
-    assert!(rt; vars_have_tracks(&layout));
-    assert!(rt; slots_are_counted(&layout));
-    assert!(rt; children_are_counted(&layout));
-    assert!(rt; layout.types().types() == 2 && layout.vars().vars() == 6);
+    let types = made_types(rt.alloc())?;
+    let numbered = has_numbers(rt.alloc(), &types)?;
+    assert!(rt; numbered);
     Ok(())
 }
