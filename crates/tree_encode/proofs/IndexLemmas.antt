@@ -68,11 +68,13 @@ sum-more f xs i x is =
 
 pub count-more : {X : Type 0} (p : X → Bool) (xs : List X) (i : ℕ) → i < length xs →
     count_by p (take (i + 1) xs) ≡ count_by p (take i xs) + cond (option_map_or p (slice_get xs i) false) 1 0
-count-more p xs i inside = elim (slice_get_cases xs i).1 as (λ _. count_by p (take (i + 1) xs) ≡ count_by p (take i xs) + cond (option_map_or p (slice_get xs i) false) 1 0) [
-  | inl found ↦ sum-more (λ x. cond (p x) 1 0) xs i found.0 found.2
-      ∙ ap (λ o. count_by p (take i xs) + cond (option_map_or p o false) 1 0) (sym found.2)
-  | inr past ↦ absurd (omega (arith, past.0, inside))
-]
+count-more p xs i inside =
+    elim (slice_get_cases xs i).1
+    as (λ _. count_by p (take (i + 1) xs) ≡ count_by p (take i xs) + cond (option_map_or p (slice_get xs i) false) 1 0) [
+      | inl found ↦ sum-more (λ x. cond (p x) 1 0) xs i found.0 found.2
+          ∙ ap (λ o. count_by p (take i xs) + cond (option_map_or p o false) 1 0) (sym found.2)
+      | inr past ↦ absurd (omega (arith, past.0, inside))
+    ]
 
 -- one element more that is counted, or isn't
 pub counted-yes : {X : Type 0} (p : X → Bool) (xs : List X) (i count new : ℕ) → i < length xs → count ≡ count_by p (take i xs) →

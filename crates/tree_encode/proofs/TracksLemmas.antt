@@ -70,7 +70,8 @@ get-variants_from n (s ∷ ts) (suc k) j t is inside =
     let sum : variants_in (s ∷ take k ts) ≡ count_of_variants s + variants_in (take k ts) = sum_by-cons count_of_variants s (take k ts) in
     let at : variants_in (s ∷ take k ts) + j ≡ count_of_variants s + (variants_in (take k ts) + j) = omega (arith, sum) in
     ap (λ i. slice_get (variants_from n (s ∷ ts)) i) at
-    ∙ in_second (variants_at n 0 (count_of_variants s)) (variants_from (suc n) ts) (count_of_variants s) (variants_in (take k ts) + j) (variant_at (suc n + k) j)
+    ∙ in_second (variants_at n 0 (count_of_variants s)) (variants_from (suc n) ts) (count_of_variants s) (variants_in (take k ts) + j)
+    (variant_at (suc n + k) j)
     (sym (length-variants_at n 0 (count_of_variants s))) (get-variants_from (suc n) ts k j t is inside)
     ∙ ap (λ i. Some (variant_at i j)) e
 
@@ -82,7 +83,8 @@ field_at_index ty index = record { ty = record { 0 = ty }; index = index }
 abbrev first_bools : ℕ → ℕ → FieldEntry → List FieldEntry → Bool → List FieldId
 first_bools ty i f fs b = cond b (field_at_index ty i ∷ bools_at ty (suc i) fs) (bools_at ty (suc i) fs)
 
-length-first_bools : (ty i : ℕ) (f : FieldEntry) (fs : List FieldEntry) (b : Bool) → length (first_bools ty i f fs b) ≡ cond b 1 0 + length (bools_at ty (suc i) fs)
+length-first_bools : (ty i : ℕ) (f : FieldEntry) (fs : List FieldEntry) (b : Bool) →
+    length (first_bools ty i f fs b) ≡ cond b 1 0 + length (bools_at ty (suc i) fs)
 length-first_bools ty i f fs true = (let e : suc (length (bools_at ty (suc i) fs)) ≡ 1 + length (bools_at ty (suc i) fs) = omega arith in e)
 length-first_bools ty i f fs false = sym (zero-add (length (bools_at ty (suc i) fs)))
 
@@ -95,7 +97,8 @@ length-bools_at ty i (f ∷ fs) =
 
 get-first_bools : (ty i m : ℕ) (f : FieldEntry) (fs : List FieldEntry) (b : Bool) (x : FieldId) → slice_get (bools_at ty (suc i) fs) m ≡ Some x →
     slice_get (first_bools ty i f fs b) (cond b 1 0 + m) ≡ Some x
-get-first_bools ty i m f fs true x is = (let e : 1 + m ≡ suc m = omega arith in ap (λ k. slice_get (field_at_index ty i ∷ bools_at ty (suc i) fs) k) e ∙ is)
+get-first_bools ty i m f fs true x is =
+    (let e : 1 + m ≡ suc m = omega arith in ap (λ k. slice_get (field_at_index ty i ∷ bools_at ty (suc i) fs) k) e ∙ is)
 get-first_bools ty i m f fs false x is = ap (λ k. slice_get (bools_at ty (suc i) fs) k) (zero-add m) ∙ is
 
 get-bools_at : (ty i : ℕ) (fs : List FieldEntry) (k : ℕ) (f : FieldEntry) → slice_get fs k ≡ Some f → is_counted Bools f ≡ true →
@@ -109,7 +112,8 @@ get-bools_at ty i (g ∷ fs) zero f is counted =
 get-bools_at ty i (g ∷ fs) (suc k) f is counted =
     let e : suc i + k ≡ i + suc k = omega arith in
     ap (λ j. slice_get (bools_at ty i (g ∷ fs)) j) (sum_by-cons (λ x. cond (is_counted Bools x) 1 0) g (take k fs))
-    ∙ get-first_bools ty i (count_by (is_counted Bools) (take k fs)) g fs (is_counted Bools g) (field_at_index ty (suc i + k)) (get-bools_at ty (suc i) fs k f is counted)
+    ∙ get-first_bools ty i (count_by (is_counted Bools) (take k fs)) g fs (is_counted Bools g) (field_at_index ty (suc i + k))
+    (get-bools_at ty (suc i) fs k f is counted)
     ∙ ap (λ j. Some (field_at_index ty j)) e
 
 length-bools_from : (n : ℕ) (ts : List TypeEntry) → length (bools_from n ts) ≡ bools_in ts
@@ -204,10 +208,12 @@ typed types v inside = elim (slice_get_cases types v.ty.0).1 as (λ _. (t : Type
 -- the type of a field that is there
 pub fielded : (types : List TypeEntry) (f : FieldId) (entry : FieldEntry) → slice_get (fields_of types f.ty) f.index ≡ Some entry →
     (t : TypeEntry) × (slice_get types f.ty.0 ≡ Some t) × (fields_of types f.ty ≡ t.fields)
-fielded types f entry is = elim (slice_get_cases types f.ty.0).1 as (λ _. (t : TypeEntry) × (slice_get types f.ty.0 ≡ Some t) × (fields_of types f.ty ≡ t.fields)) [
-  | inl found ↦ (found.0, found.2, ap (λ o. option_map_or (λ t. t.fields) o []) found.2)
-  | inr past ↦ absurd (let none : None ≡ Some entry = ap (λ o. slice_get (option_map_or (λ t. t.fields) o []) f.index) (sym past.1) ∙ is in cc)
-]
+fielded types f entry is =
+    elim (slice_get_cases types f.ty.0).1
+    as (λ _. (t : TypeEntry) × (slice_get types f.ty.0 ≡ Some t) × (fields_of types f.ty ≡ t.fields)) [
+      | inl found ↦ (found.0, found.2, ap (λ o. option_map_or (λ t. t.fields) o []) found.2)
+      | inr past ↦ absurd (let none : None ≡ Some entry = ap (λ o. slice_get (option_map_or (λ t. t.fields) o []) f.index) (sym past.1) ∙ is in cc)
+    ]
 
 pub track-variant : (types : List TypeEntry) (vars : List VarEntry) (v : VariantId) (t : Track) → variant_track types v ≡ Some t →
     slice_get (tracks_of types vars) t.0 ≡ Some (of_variant v)
