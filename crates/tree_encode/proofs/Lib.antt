@@ -1,0 +1,7 @@
+pub mod ApartLemmas
+pub mod IndexLemmas
+pub mod PlacesLemmas
+pub mod PositionsLemmas
+pub mod SpacesLemmas
+pub mod StepsLemmas
+pub mod TracksLemmas

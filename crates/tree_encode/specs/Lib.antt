@@ -1,0 +1,5 @@
+pub mod Counting
+pub mod Layouts
+pub mod Positions
+pub mod Spaces
+pub mod Tracks

@@ -1,0 +1,9 @@
+//! Tests of layouts and their guides. The crate has nothing else.
+#![tactic(auto)]
+
+#[cfg(test)]
+mod guides;
+#[cfg(test)]
+mod made;
+#[cfg(test)]
+mod tracks;
