@@ -73,7 +73,8 @@ module _ (form : Form) (weighs : ℕ → Bool) where
     weighs_so = refl;
   }
 
-  pub cell-justified : (found : Findings) (t r c at : ℕ) (u v w : Weight) (space : FormSpace) (listed : Listed) (goal : Goal) → slice_get form.spaces t ≡ Some space →
+  pub cell-justified : (found : Findings) (t r c at : ℕ) (u v w : Weight) (space : FormSpace) (listed : Listed) (goal : Goal) →
+      slice_get form.spaces t ≡ Some space →
       slice_get space.cells (r * space.width + c) ≡ Some at → slice_get space.listing.roots at ≡ Some listed → goal ≡ goal_at t listed →
       IsSettled found (Row t r) u → IsSettled found (Column t c) v → with_node (together u v) ≡ w → IsJustified form weighs found goal (Cell r c) w
   cell-justified found t r c at u v w space listed goal at_space at_cell at_root is_goal of_row of_column sum =
@@ -99,7 +100,8 @@ module _ (form : Form) (weighs : ℕ → Bool) where
         weighs_so = refl;
       })
 
-  pub high-justified : (found : Findings) (t i : ℕ) (w all : Weight) (space : FormSpace) (node : ListedNode) (goal : Goal) → slice_get form.spaces t ≡ Some space →
+  pub high-justified : (found : Findings) (t i : ℕ) (w all : Weight) (space : FormSpace) (node : ListedNode) (goal : Goal) →
+      slice_get form.spaces t ≡ Some space →
       slice_get space.listing.nodes i ≡ Some node → goal ≡ goal_at t node.high → with_bits (bit_cost weighs node.track) w ≡ all → IsSettled found (Node t i) w →
       IsJustified form weighs found goal (Side i true) all
   high-justified found t i w all space node goal at_space at is_goal sum settled =
@@ -126,7 +128,8 @@ module _ (form : Form) (weighs : ℕ → Bool) where
       let here : slice_get space.columns q ≡ Some class' = ap (λ (p : FormSpace). slice_get p.columns q) same ∙ at_class' in
       subst (λ (k : ℕ). IsCovered found (Column t k) w) (same-some (slice_get space.columns q) class class' at_class here) covered
 
-  pub cell-follows : (old found : Findings) (t r c at : ℕ) (u v w : Weight) (space : FormSpace) (listed : Listed) (goal : Goal) → slice_get form.spaces t ≡ Some space →
+  pub cell-follows : (old found : Findings) (t r c at : ℕ) (u v w : Weight) (space : FormSpace) (listed : Listed) (goal : Goal) →
+      slice_get form.spaces t ≡ Some space →
       slice_get space.cells (r * space.width + c) ≡ Some at → slice_get space.listing.roots at ≡ Some listed → goal ≡ goal_at t listed →
       IsSettled old (Row t r) u → IsSettled old (Column t c) v → with_node (together u v) ≡ w → Improves old found → IsCovered found goal w →
       FollowsCell form found t r c
@@ -144,7 +147,8 @@ module _ (form : Form) (weighs : ℕ → Bool) where
       subst (IsCovered found (goal_at t listed')) sum
       (subst (λ (x : Listed). IsCovered found (goal_at t x) w) same_listed (subst (λ (x : Goal). IsCovered found x w) is_goal covered))
 
-  pub node-follows : (mid found : Findings) (t i : ℕ) (w all : Weight) (space : FormSpace) (node : ListedNode) (one other : Goal) → slice_get form.spaces t ≡ Some space →
+  pub node-follows : (mid found : Findings) (t i : ℕ) (w all : Weight) (space : FormSpace) (node : ListedNode) (one other : Goal) →
+      slice_get form.spaces t ≡ Some space →
       slice_get space.listing.nodes i ≡ Some node → one ≡ goal_at t node.low → other ≡ goal_at t node.high → with_bits (bit_cost weighs node.track) w ≡ all →
       Improves mid found → IsCovered mid one w → IsCovered found other all → FollowsNode form weighs found t i w
   node-follows mid found t i w all space node one other at_space at is_low is_high sum improves in_low in_high = record {

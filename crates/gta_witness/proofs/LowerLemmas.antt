@@ -137,7 +137,11 @@ module _ (form : Form) (is_form : IsForm form) (tracks : List Track) (found : Fi
     down : (k : ℕ) (x : Listed) (t : ℕ) (u : Weight) → rank x ≤ k → IsIn space.listing.nodes x → AsksNoneBelow space.listing.nodes t x →
         IsSettled found (goal_at s x) u → Low (State s (function_in space.listing.nodes x m)) (with_bits (label_weight ts (above t m)) u)
     down k (Leaf p) t u within inside asks settled =
-        subst (λ (y : ℕ). Low (State s y) (with_bits (label_weight ts (above t m)) u)) (sym (function_in-leaf space.listing.nodes p m)) (inl (u, settled, omega arith))
+        subst (λ (y : ℕ). Low (State s y) (with_bits (label_weight ts (above t m)) u)) (sym (function_in-leaf space.listing.nodes p m)) (inl (
+          u,
+          settled,
+          omega arith,
+        ))
     down zero (Inner i) t u within inside asks settled = absurd (omega arith)
     down (suc k) (Inner i) t u within inside asks settled =
         let node = node_at space.listing.nodes i in

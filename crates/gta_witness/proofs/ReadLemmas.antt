@@ -133,7 +133,8 @@ module _ (form : Form) (tracks : List Track) (found : Findings) (readable : IsRe
     Climbs-low i has = let j = justified-by (Side i false) has in pick j.premises j.cost goal (Side i false) j.total j.rule j.totals refl refl
         (let e = j.weighs_so in e)
       where
-        pick : (premises : List Goal) (cost : Weight → Weight) (g : Goal) (reason : Reason) (total : Weight) → Rule form (is_among tracks) premises cost g reason →
+        pick : (premises : List Goal) (cost : Weight → Weight) (g : Goal) (reason : Reason) (total : Weight) →
+            Rule form (is_among tracks) premises cost g reason →
             Totals found premises total → g ≡ goal → reason ≡ Side i false → cost total ≡ climbs.weight → Climbs form tracks found s q w (Node s i) taken
         pick _ _ _ _ total (initial t space at) totals e r sum = absurd cc
         pick _ _ _ _ total (row t q' class space at at_class) totals e r sum = absurd cc
@@ -180,7 +181,8 @@ module _ (form : Form) (tracks : List Track) (found : Findings) (readable : IsRe
     Climbs-high i space' node' at_space' at' has =
         let j = justified-by (Side i true) has in pick j.premises j.cost goal (Side i true) j.total j.rule j.totals refl refl (let e = j.weighs_so in e)
       where
-        pick : (premises : List Goal) (cost : Weight → Weight) (g : Goal) (reason : Reason) (total : Weight) → Rule form (is_among tracks) premises cost g reason →
+        pick : (premises : List Goal) (cost : Weight → Weight) (g : Goal) (reason : Reason) (total : Weight) →
+            Rule form (is_among tracks) premises cost g reason →
             Totals found premises total → g ≡ goal → reason ≡ Side i true → cost total ≡ climbs.weight →
             Climbs form tracks found s q w (Node s i) (taken ++ (record { 0 = node'.track }) ∷ [])
         pick _ _ _ _ total (initial t space at) totals e r sum = absurd cc
@@ -321,7 +323,8 @@ module _ (form : Form) (tracks : List Track) (found : Findings) (readable : IsRe
             goal_at-leaf (Leaf o) e = (cc, let f : o ≡ p = cc in ap Leaf f)
             goal_at-leaf (Inner i) e = absurd cc
 
-        pick : (premises : List Goal) (cost : Weight → Weight) (g : Goal) (reason : Reason) (total : Weight) → Rule form (is_among tracks) premises cost g reason →
+        pick : (premises : List Goal) (cost : Weight → Weight) (g : Goal) (reason : Reason) (total : Weight) →
+            Rule form (is_among tracks) premises cost g reason →
             Totals found premises total → g ≡ goal → reason ≡ Initial → cost total ≡ climbs.weight → ((automaton_of form).initial s ≡ q) × (nothing ≡ w)
         pick _ _ _ _ total (initial t space at) totals e r sum =
             let same = leaf-is t space.initial climbs.listed (e ∙ climbs.is_goal) in
@@ -353,7 +356,8 @@ module _ (form : Form) (tracks : List Track) (found : Findings) (readable : IsRe
       other t' (Leaf p) e = absurd cc
       other t' (Inner i) e = absurd cc
 
-      pick : (premises : List Goal) (cost : Weight → Weight) (g : Goal) (reason : Reason) (total : Weight) → Rule form (is_among tracks) premises cost g reason →
+      pick : (premises : List Goal) (cost : Weight → Weight) (g : Goal) (reason : Reason) (total : Weight) →
+          Rule form (is_among tracks) premises cost g reason →
           Totals found premises total → g ≡ Row t class → reason ≡ Member l → cost total ≡ u →
           (slice_get space.rows l ≡ Some class) × IsSettled found (State space.children.0 l) u
       pick _ _ _ _ total (initial t' space' at') totals e r sum = absurd cc
@@ -381,7 +385,8 @@ module _ (form : Form) (tracks : List Track) (found : Findings) (readable : IsRe
       let e = (settled-entry found (Column t class) u has.entry settled has.there).1 in
       pick j.premises j.cost (Column t class) has.entry.reason j.total j.rule j.totals refl has.is_reason (j.weighs_so ∙ e)
     where
-      pick : (premises : List Goal) (cost : Weight → Weight) (g : Goal) (reason : Reason) (total : Weight) → Rule form (is_among tracks) premises cost g reason →
+      pick : (premises : List Goal) (cost : Weight → Weight) (g : Goal) (reason : Reason) (total : Weight) →
+          Rule form (is_among tracks) premises cost g reason →
           Totals found premises total → g ≡ Column t class → reason ≡ Member l → cost total ≡ u →
           (slice_get space.columns l ≡ Some class) × IsSettled found (State space.children.1 l) u
       pick _ _ _ _ total (initial t' space' at') totals e r sum = absurd cc
@@ -413,7 +418,8 @@ module _ (form : Form) (tracks : List Track) (found : Findings) (readable : IsRe
         let j = justified-by s q w goal taken climbs (Cell k c) has in pick j.premises j.cost goal (Cell k c) j.total j.rule j.totals refl refl
         (let e = j.weighs_so in e)
       where
-        pick : (premises : List Goal) (cost : Weight → Weight) (g : Goal) (reason : Reason) (total : Weight) → Rule form (is_among tracks) premises cost g reason →
+        pick : (premises : List Goal) (cost : Weight → Weight) (g : Goal) (reason : Reason) (total : Weight) →
+            Rule form (is_among tracks) premises cost g reason →
             Totals found premises total → g ≡ goal → reason ≡ Cell k c → cost total ≡ climbs.weight →
             IsStepTo form (each_once tracks) found s q w (record { tracks = taken; left = l; right = r })
         pick _ _ _ _ total (initial t space at) totals e is sum = absurd cc

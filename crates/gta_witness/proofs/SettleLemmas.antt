@@ -225,7 +225,8 @@ module _ (form : Form) (weighs : ℕ → Bool) (now : ℕ) (lines : Lines) (old 
       ]
 
   -- nothing changes where that was no longer so
-  pub stale-running : ((e : Found) → found_by old first.goal ≡ Some e → e.is_settled ≡ false → first.nearness + key e.weight ≡ 340282366920938463463374607431768211455 → ⊥) →
+  pub stale-running : ((e : Found) → found_by old first.goal ≡ Some e → e.is_settled ≡ false →
+      first.nearness + key e.weight ≡ 340282366920938463463374607431768211455 → ⊥) →
       Running form weighs now lines new
   unfolding is
   stale-running stale = record {
@@ -250,7 +251,8 @@ module _ (form : Form) (weighs : ℕ → Bool) (now : ℕ) (lines : Lines) (old 
   }
 
   -- or the goal is to be settled
-  pub first-taken : (entry : Found) → found_by old first.goal ≡ Some entry → entry.is_settled ≡ false → first.nearness + key entry.weight ≡ 340282366920938463463374607431768211455 →
+  pub first-taken : (entry : Found) → found_by old first.goal ≡ Some entry → entry.is_settled ≡ false →
+      first.nearness + key entry.weight ≡ 340282366920938463463374607431768211455 →
       ((w : Waiting) → Contains (heap_items new.queue) w → w.nearness ≤ first.nearness) → IsTaken form weighs lines new first.goal entry
   unfolding is
   first-taken entry there unsettled near below = record {

@@ -64,5 +64,6 @@ loop-tracks-smaller c =
     let weigh = c.args.weigh.now in
     let found = found_by c.args.search.now in
     let at = c.loop-tracks.invariant in
-    fewer-above form weigh found c.requires.readable c.args.space c.args.state at.0 c.loop-tracks.goal c.loop-tracks.tracks at.2 c.in-Side.index c.in-Side.is_high
+    fewer-above form weigh found c.requires.readable c.args.space c.args.state at.0 c.loop-tracks.goal c.loop-tracks.tracks at.2 c.in-Side.index
+    c.in-Side.is_high
     (subst (HasReason found c.loop-tracks.goal) c.in-Side.is c.in_ok-reason_of.ensures)
