@@ -1,0 +1,74 @@
+-- Automata that stand in a shelf, each with a table of its own, and no other table beside them.
+use Rattle.std.specs.Prelude.{◌≡◌, ◌≢◌, ℕ, ◌+◌, List, [], ◌∷◌, ◌++◌, map, All, AllPairs, Contains, IsSome}
+use Rattle.std.specs.List.{sum_by}
+use Rattle.bdd_nodes.specs.Shelf.{Contents, IsShelf, roots_of, limit_of}
+use Rattle.gta_theory.specs.Guides.{Spaces}
+use Rattle.gta_theory.specs.Numbered.{Below}
+use Rattle.gta_core.specs.Auto.{AutoView, states_of, automaton_of, IsAuto}
+use Rattle.gta_core.specs.Changes.{KeepsTable}
+use Rattle.gta_core.specs.Sizes.{IsSized}
+use Rattle.ws2s_core.specs.declared.formula.Formula.{Formula}
+use Rattle.ws2s_core.specs.declared.node.FormulaId.{FormulaId}
+use Rattle.ws2s_core.specs.Recognising.{IsMinimalOf}
+
+-- one of the automata has the table
+pub record IsTableAmong (autos : List AutoView) (table : ℕ) : Type 0 where
+  pub auto : AutoView
+  pub there : Contains autos auto
+  pub has : auto.table ≡ table
+
+-- these are automata of the shelf, no two share a table, and no other table is registered
+pub record Holds (g : Spaces) (shelf : Contents) (autos : List AutoView) : Type 0 where
+  pub shelf : IsShelf shelf
+  pub autos : All (IsAuto g shelf) autos
+  pub apart : AllPairs (λ a b. a.table ≢ b.table) autos
+  pub whole : (table : ℕ) → IsSome (roots_of shelf table) → IsTableAmong autos table
+
+-- no table is registered
+abbrev pub HasNoTables : Contents → Type 0
+HasNoTables shelf = (table : ℕ) → IsSome (roots_of shelf table) → ⊥
+
+-- the automaton is a minimal one of the formula
+abbrev pub IsMinimalFor : Spaces → Contents → AutoView → Formula → Type 0
+IsMinimalFor g shelf a f = IsMinimalOf g (automaton_of shelf a) (Below (states_of a)) f
+
+-- the automata are minimal ones of the formulas, in the same order
+pub data AreMinimalFor (g : Spaces) (shelf : Contents) : List AutoView → List Formula → Type 0 where
+  none : AreMinimalFor g shelf [] []
+  more : (a : AutoView) (f : Formula) (autos : List AutoView) (formulas : List Formula) → IsMinimalFor g shelf a f →
+      AreMinimalFor g shelf autos formulas → AreMinimalFor g shelf (a ∷ autos) (f ∷ formulas)
+
+-- the automata that are kept
+abbrev pub kept_autos : List (FormulaId × AutoView) → List AutoView
+kept_autos = map (λ entry. entry.1)
+
+-- the automata, some others and those that are kept, in this order
+abbrev pub beside : List AutoView → List AutoView → List (FormulaId × AutoView) → List AutoView
+beside autos others kept = autos ++ (others ++ kept_autos kept)
+
+-- the shelf holds the automata beside some others and those that are kept
+pub record HoldsBeside (g : Spaces) (shelf : Contents) (autos : List AutoView) (kept : List (FormulaId × AutoView)) :
+    Type 0 where
+  pub others : List AutoView
+  pub holds : Holds g shelf (beside autos others kept)
+
+-- the Sizes of the automata have that sum
+pub record HaveSum (g : Spaces) (shelf : Contents) (autos : List AutoView) (sum : ℕ) : Type 0 where
+  pub sized : List (AutoView × ℕ)
+  pub are : map (λ auto. auto.0) sized ≡ autos
+  pub each : All (IsSized g shelf) sized
+  pub is_sum : sum_by (λ auto. auto.1) sized ≡ sum
+
+-- what is kept is some of what was, each with its table as it was
+pub record KeepsSome (old new : Contents) (before after : List (FormulaId × AutoView)) : Type 0 where
+  pub entries : (entry : FormulaId × AutoView) → Contains after entry → Contains before entry
+  pub tables : (entry : FormulaId × AutoView) → Contains after entry → KeepsTable old new (entry.1).table
+
+-- From one shelf to the next the automata in `gone` were let go of and those in `come` came, and others stand as they were.
+pub record Passes (g : Spaces) (old new : Contents) (gone come : List AutoView)
+    (before after : List (FormulaId × AutoView)) : Type 0 where
+  pub kept : KeepsSome old new before after
+  pub holds : (others : List AutoView) → Holds g old (beside gone others before) → Holds g new (beside come others after)
+  pub others : (others : List AutoView) (other : AutoView) → Holds g old (beside gone others before) → Contains others other →
+      KeepsTable old new other.table
+  pub limit : limit_of new ≡ limit_of old
