@@ -1,5 +1,5 @@
 -- What deciding a formula gives. (Thatcher and Wright 1968; Doner 1970; examples: the MONA 1.4 User Manual.)
-use Rattle.std.specs.Prelude.{◌≡◌, ℕ, ◌≤◌, Unit, List, length}
+use Rattle.std.specs.Prelude.{◌≡◌, ℕ, ◌≤◌, List, length}
 use Rattle.gta_theory.specs.Assignments.{Assignment, Covers}
 use Rattle.gta_theory.specs.Weights.{weight}
 use Rattle.gta_witness.specs.Lightest.{each_once, HasWeight}

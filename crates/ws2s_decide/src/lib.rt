@@ -4,6 +4,7 @@
 mod building;
 mod decider;
 mod deciding;
+mod laws;
 mod machine;
 mod verdict;
 
