@@ -1,5 +1,5 @@
 -- Automata that stand in a shelf, each with a table of its own, and no other table beside them.
-use Rattle.std.specs.Prelude.{◌≡◌, ◌≢◌, ℕ, ◌+◌, List, [], ◌∷◌, ◌++◌, map, All, AllPairs, Contains, IsSome}
+use Rattle.std.specs.Prelude.{◌≡◌, ℕ, ◌+◌, ◌==◌, if◌then◌else◌, is_some, List, [], ◌∷◌, ◌++◌, map, All, Contains, IsSome}
 use Rattle.std.specs.List.{sum_by}
 use Rattle.bdd_nodes.specs.Shelf.{Contents, IsShelf, roots_of, limit_of}
 use Rattle.gta_theory.specs.Guides.{Spaces}
@@ -11,18 +11,20 @@ use Rattle.ws2s_core.specs.declared.formula.Formula.{Formula}
 use Rattle.ws2s_core.specs.declared.node.FormulaId.{FormulaId}
 use Rattle.ws2s_core.specs.Recognising.{IsMinimalOf}
 
--- one of the automata has the table
-pub record IsTableAmong (autos : List AutoView) (table : ℕ) : Type 0 where
-  pub auto : AutoView
-  pub there : Contains autos auto
-  pub has : auto.table ≡ table
+-- how many of the automata have the table
+abbrev pub times : List AutoView → ℕ → ℕ
+times [] table = 0
+times (a ∷ autos) table = (if a.table == table then 1 else 0) + times autos table
 
--- these are automata of the shelf, no two share a table, and no other table is registered
+-- once where the table is registered, and else not at all
+abbrev pub registered : Contents → ℕ → ℕ
+registered shelf table = if is_some (roots_of shelf table) then 1 else 0
+
+-- these are automata of the shelf, and exactly the registered tables are theirs, each that of one of them
 pub record Holds (g : Spaces) (shelf : Contents) (autos : List AutoView) : Type 0 where
-  pub shelf : IsShelf shelf
-  pub autos : All (IsAuto g shelf) autos
-  pub apart : AllPairs (λ a b. a.table ≢ b.table) autos
-  pub whole : (table : ℕ) → IsSome (roots_of shelf table) → IsTableAmong autos table
+  pub is_shelf : IsShelf shelf
+  pub each : (a : AutoView) → Contains autos a → IsAuto g shelf a
+  pub tables : (table : ℕ) → times autos table ≡ registered shelf table
 
 -- no table is registered
 abbrev pub HasNoTables : Contents → Type 0

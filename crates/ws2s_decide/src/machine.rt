@@ -111,3 +111,87 @@ fn push_atom(
     let auto = build_atom(alloc, g, f, kept, shelf)?;
     push(machine, auto, shelf)
 }
+
+/// Does a task.
+fn step(
+    alloc: Global,
+    g: &Guide,
+    interner: &Interner,
+    task: Task,
+    machine: &mut Machine,
+    kept: &mut Kept,
+    shelf: &mut Shelf,
+) -> Result<(), Stop> {
+    match task {
+        Task::Visit(id) => visit(alloc, g, interner, id, machine, kept, shelf)?,
+        Task::Negate => {
+            if let Some(a) = machine.automata.pop() {
+                push(machine, complement(a), shelf)?;
+            }
+        }
+        Task::Conjoin(id) => {
+            if let Some(b) = machine.automata.pop() {
+                if let Some(a) = machine.automata.pop() {
+                    let auto = conjoin(alloc, g, a, b, kept, shelf)?;
+                    kept.keep(alloc, id, &auto, shelf)?;
+                    push(machine, auto, shelf)?;
+                }
+            }
+        }
+        Task::Quantify(t, id) => {
+            if let Some(a) = machine.automata.pop() {
+                let auto = quantify(alloc, g, a, t, kept, shelf)?;
+                kept.keep(alloc, id, &auto, shelf)?;
+                push(machine, auto, shelf)?;
+            }
+        }
+    }
+    Ok(())
+}
+
+/// Does all tasks.
+fn run(
+    alloc: Global,
+    g: &Guide,
+    interner: &Interner,
+    machine: &mut Machine,
+    kept: &mut Kept,
+    shelf: &mut Shelf,
+) -> Result<(), Stop> {
+    while let Some(task) = machine.tasks.pop() {
+        step(alloc, g, interner, task, machine, kept, shelf)?;
+    }
+    Ok(())
+}
+
+/// The minimal automaton of the formula.
+pub fn automaton_of(
+    alloc: Global,
+    g: &Guide,
+    interner: &Interner,
+    id: FormulaId,
+    kept: &mut Kept,
+    shelf: &mut Shelf,
+) -> Result<Auto, Stop> {
+    let mut machine = Machine {
+        tasks: Stack::new(alloc),
+        automata: Stack::new(alloc),
+    };
+    machine.tasks.push(Task::Visit(id))?;
+    let ended = run(alloc, g, interner, &mut machine, kept, shelf);
+    let Machine { tasks, mut automata } = machine;
+    drop(tasks);
+    let last = automata.pop();
+    while let Some(auto) = automata.pop() {
+        release(auto, shelf);
+    }
+    match (ended, last) {
+        (Ok(()), Some(auto)) => Ok(auto),
+        (Ok(()), None) => Err(Stop::NoMemory),
+        (Err(stop), Some(auto)) => {
+            release(auto, shelf);
+            Err(stop)
+        }
+        (Err(stop), None) => Err(stop),
+    }
+}
