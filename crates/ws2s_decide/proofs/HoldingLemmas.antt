@@ -1,14 +1,18 @@
 -- On automata that stand in a shelf: what releasing, registering, making nodes and collecting leave of them.
 use Rattle.std.proofs.Common.{◌≡◌, ◌≢◌, ℕ, ◌+◌, ◌≤◌, ◌==◌, ◌⊎◌, inl, inr, if◌then◌else◌, is_some, Bool, true, false, List, [], ◌∷◌, ◌++◌, map, Option, Some, None, IsSome, Contains, option_map, option_and_then, slice_get, zero, suc, length, refl, sym, ◌∙◌, ap, subst, arith}
+use mathlib.Core.Path.{fun_ext}
 use Rattle.std.proofs.lemmas.Bool.{eq-eqb}
 use Rattle.std.proofs.lemmas.Bool.Decides.{eqb_tells}
 use Rattle.bdd_nodes.specs.declared.node_ref.NodeRef.{NodeRef}
 use Rattle.bdd_nodes.specs.Shelf.{Contents, IsShelf, roots_of, root_of, state_of}
-use Rattle.bdd_nodes.specs.Changes.{DropsTable}
+use Rattle.bdd_nodes.specs.Changes.{Keeps, SameTables, DropsTable, MovesRoots}
+use Rattle.bdd_nodes.specs.Roots.{Registered, roots_under, root_under}
+use Rattle.bdd_nodes.proofs.UnderLemmas.{roots_of-unused}
+use Rattle.labels.specs.Labels.{Label, Function}
 use Rattle.gta_theory.specs.Guides.{Spaces}
 use Rattle.gta_core.specs.Auto.{AutoView, IsAuto}
-use Rattle.gta_core.specs.Changes.{KeepsTable}
-use Rattle.gta_core.proofs.AutoLemmas.{functions-same, IsAuto-kept}
+use Rattle.gta_core.specs.Changes.{KeepsTable, RegistersTable}
+use Rattle.gta_core.proofs.AutoLemmas.{functions-same, KeepsTable-grown, KeepsTable-moved, IsAuto-kept}
 use Rattle.ws2s_decide.specs.Holding.{times, registered, Holds}
 
 -- how often a table comes in two lists together
@@ -58,6 +62,30 @@ KeepsTable-dropped old new number other drops isnt =
       functions = λ place. functions-same old new drops.nodes (root_of new number place)
           ∙ ap (λ (o : Option (List NodeRef)). option_map (state_of old) (option_and_then (λ (rs : List NodeRef). slice_get rs place) o)) same;
     }
+
+-- as many tables are registered where roots moved
+registered-moved : (old new : Contents) → MovesRoots old new → (t : ℕ) → registered new t ≡ registered old t
+registered-moved old new moves t = pick (roots_of old t) (roots_of new t) (moves.lengths t) where
+  pick : (was now : Option (List NodeRef)) → option_map length now ≡ option_map length was →
+      ◌≡◌ {A = ℕ} (if is_some now then 1 else 0) (if is_some was then 1 else 0)
+  pick None None same = refl
+  pick None (Some now) same = absurd cc
+  pick (Some was) None same = absurd cc
+  pick (Some was) (Some now) same = refl
+
+-- every table where nodes are made and tables stay as they are
+KeepsTable-joins : (old new : Contents) → IsShelf old → Keeps old new → SameTables old new → (number : ℕ) → KeepsTable old new number
+KeepsTable-joins old new is_shelf keeps same number = record {
+  registered = λ there. ap (λ (roots : Registered). is_some (roots_under roots.tables number)) same ∙ there;
+  functions = λ place.
+      ap (λ (roots : Registered). option_map (state_of new) (root_under roots.tables number place)) same
+      ∙ at place (root_of old number place) refl;
+} where
+  at : (place : ℕ) (o : Option NodeRef) → root_of old number place ≡ o → option_map (state_of new) o ≡ option_map (state_of old) o
+  at place None is = refl
+  at place (Some r) is =
+      ap (λ (f : Function). let o : Option Function = Some f in o)
+      (fun_ext (λ (label : Label). keeps.states r label (is_shelf.roots number place r is)))
 
 module _ (g : Spaces) where
   -- the tables of automata that are held are registered
@@ -111,3 +139,59 @@ module _ (g : Spaces) where
     } where
       later : (b : AutoView) → Contains xs b → Contains (a ∷ xs) b
       later b (k, lt, is) = (suc k, omega (arith, lt), is)
+
+  -- where each registered table stays registered and no other is, and automata stay, they are still held
+  pub Holds-kept : (old new : Contents) (xs : List AutoView) → Holds g old xs → IsShelf new →
+      ((t : ℕ) → registered new t ≡ registered old t) → ((a : AutoView) → Contains xs a → KeepsTable old new a.table) → Holds g new xs
+  Holds-kept old new xs holds is_shelf same keeps = record {
+    is_shelf = is_shelf;
+    each = λ a there. IsAuto-kept old new a (keeps a there) g (holds.each a there);
+    tables = λ t. holds.tables t ∙ sym (same t);
+  }
+
+  -- nodes are made, and tables stay as they are
+  pub Holds-still : (old new : Contents) (xs : List AutoView) → Holds g old xs → IsShelf new → Keeps old new → SameTables old new →
+      Holds g new xs
+  Holds-still old new xs holds is_shelf keeps same =
+      Holds-kept old new xs holds is_shelf (λ t. ap (λ (roots : Registered). if is_some (roots_under roots.tables t) then 1 else 0) same)
+      (λ a there. KeepsTable-joins old new holds.is_shelf keeps same a.table)
+
+  -- nodes are collected
+  pub Holds-collected : (old new : Contents) (xs : List AutoView) → Holds g old xs → IsShelf new → MovesRoots old new → Holds g new xs
+  Holds-collected old new xs holds is_shelf moves =
+      Holds-kept old new xs holds is_shelf (λ t. registered-moved old new moves t) (λ a there. KeepsTable-moved old new moves a.table)
+
+  -- a table is registered while nodes are made
+  module _ (old new : Contents) (c : AutoView) (xs : List AutoView) (holds : Holds g old xs) (is_shelf : IsShelf new)
+      (keeps : Keeps old new) (registers : RegistersTable old new c.table) (auto : IsAuto g new c) where
+    unused : roots_of old c.table ≡ None
+    unused = roots_of-unused old holds.is_shelf c.table (omega (arith, registers.number))
+
+    pub kept-registers : (a : AutoView) → Contains xs a → KeepsTable old new a.table
+    kept-registers a there = KeepsTable-grown old new a.table c.table holds.is_shelf keeps registers (Holds-registered old xs holds a there)
+
+    tables-registers : (t : ℕ) → times (c ∷ xs) t ≡ registered new t
+    tables-registers t = pick (eqb_tells c.table t) where
+      none_before : times xs c.table ≡ 0
+      none_before = holds.tables c.table ∙ ap (λ (o : Option (List NodeRef)). if is_some o then 1 else 0) unused
+
+      pick : (((c.table == t) ≡ true) × (c.table ≡ t)) ⊎ (((c.table == t) ≡ false) × (c.table ≢ t)) → times (c ∷ xs) t ≡ registered new t
+      pick (inl (equal, is)) =
+          let e : times (c ∷ xs) c.table ≡ 1 + times xs c.table = times-head c xs c.table refl in
+          let one : registered new c.table ≡ 1 = registered-some new c.table registers.registered in
+          subst (λ (u : ℕ). times (c ∷ xs) u ≡ registered new u) is (omega (arith, e, one, none_before))
+      pick (inr (unequal, isnt)) =
+          times-other c xs t isnt ∙ holds.tables t
+          ∙ sym (ap (λ (o : Option (List NodeRef)). if is_some o then 1 else 0) (registers.others t (λ is. isnt (sym is))))
+
+    pub Holds-registers : Holds g new (c ∷ xs)
+    Holds-registers = record {
+      is_shelf = is_shelf;
+      each = inside;
+      tables = tables-registers;
+    } where
+      inside : (b : AutoView) → Contains (c ∷ xs) b → IsAuto g new b
+      inside b (zero, lt, is) = subst (IsAuto g new) is auto
+      inside b (suc k, lt, is) =
+          (let there : Contains xs b = (k, omega (arith, lt), is) in
+          IsAuto-kept old new b (kept-registers b there) g (holds.each b there))

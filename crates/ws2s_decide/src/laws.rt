@@ -2,8 +2,9 @@
 
 ghost use Rattle.std.specs.Prelude.{◌<◌, ℕ, List, [], ◌∷◌};
 ghost use Rattle.bdd_nodes.specs.Shelf.{Contents, IsShelf};
-ghost use Rattle.bdd_nodes.specs.Changes.{DropsTable};
-ghost use Rattle.gta_core.specs.Auto.{AutoView};
+ghost use Rattle.bdd_nodes.specs.Changes.{DropsTable, Keeps, SameTables, MovesRoots};
+ghost use Rattle.gta_core.specs.Changes.{RegistersTable};
+ghost use Rattle.gta_core.specs.Auto.{AutoView, IsAuto};
 ghost use Rattle.ws2s_decide.specs.Holding.{Holds};
 ghost use Rattle.gta_theory.specs.Guides.{Spaces, IsGuide};
 ghost use Rattle.ws2s_core.specs.declared.formula.Formula.{Formula};
@@ -19,4 +20,11 @@ pub fn visits_are_taken_apart()
 pub fn held_automata_are_released()
     ensures { (g : Spaces) (old new : Contents) (a : AutoView) (xs : List AutoView) → Holds g old (a ∷ xs) → IsShelf new →
         DropsTable old new a.table → Holds g new xs }
+{}
+
+pub fn held_automata_outlive_changes()
+    ensures registered { (g : Spaces) (old new : Contents) (c : AutoView) (xs : List AutoView) → Holds g old xs → IsShelf new → Keeps old new →
+        RegistersTable old new c.table → IsAuto g new c → Holds g new (c ∷ xs) }
+    ensures made { (g : Spaces) (old new : Contents) (xs : List AutoView) → Holds g old xs → IsShelf new → Keeps old new → SameTables old new → Holds g new xs }
+    ensures collected { (g : Spaces) (old new : Contents) (xs : List AutoView) → Holds g old xs → IsShelf new → MovesRoots old new → Holds g new xs }
 {}
