@@ -20,7 +20,7 @@ pub times-append : (xs ys : List AutoView) (t : ℕ) → times (xs ++ ys) t ≡ 
 times-append [] ys t = omega arith
 times-append (x ∷ xs) ys t = (let e = times-append xs ys t in omega arith)
 
-registered-some : (shelf : Contents) (t : ℕ) → IsSome (roots_of shelf t) → registered shelf t ≡ 1
+pub registered-some : (shelf : Contents) (t : ℕ) → IsSome (roots_of shelf t) → registered shelf t ≡ 1
 registered-some shelf t some = ap (λ (b : Bool). if b then 1 else 0) some
 
 registered-le : (shelf : Contents) (t : ℕ) → registered shelf t ≤ 1
@@ -39,7 +39,7 @@ some-registered shelf t = pick (is_some (roots_of shelf t)) where
 times-head : (a : AutoView) (xs : List AutoView) (t : ℕ) → a.table ≡ t → times (a ∷ xs) t ≡ 1 + times xs t
 times-head a xs t is = ap (λ (b : Bool). (if b then 1 else 0) + times xs t) (eq-eqb a.table t is)
 
-times-other : (a : AutoView) (xs : List AutoView) (t : ℕ) → a.table ≢ t → times (a ∷ xs) t ≡ times xs t
+pub times-other : (a : AutoView) (xs : List AutoView) (t : ℕ) → a.table ≢ t → times (a ∷ xs) t ≡ times xs t
 times-other a xs t isnt = pick (eqb_tells a.table t) where
   pick : (((a.table == t) ≡ true) × (a.table ≡ t)) ⊎ (((a.table == t) ≡ false) × (a.table ≢ t)) → times (a ∷ xs) t ≡ times xs t
   pick (inl (equal, is)) = absurd (isnt is)

@@ -1,11 +1,11 @@
 //! Visits taken apart.
 
-ghost use Rattle.std.specs.Prelude.{◌<◌, ℕ, List, [], ◌∷◌};
+ghost use Rattle.std.specs.Prelude.{◌<◌, ◌≤◌, ℕ, List, [], ◌∷◌};
 ghost use Rattle.bdd_nodes.specs.Shelf.{Contents, IsShelf};
-ghost use Rattle.bdd_nodes.specs.Changes.{DropsTable, Keeps, SameTables, MovesRoots};
+ghost use Rattle.bdd_nodes.specs.Changes.{CountsHeld, DropsTable, Keeps, SameTables, MovesRoots};
 ghost use Rattle.gta_core.specs.Changes.{RegistersTable};
 ghost use Rattle.gta_core.specs.Auto.{AutoView, IsAuto};
-ghost use Rattle.ws2s_decide.specs.Holding.{Holds};
+ghost use Rattle.ws2s_decide.specs.Holding.{Holds, HaveSum};
 ghost use Rattle.gta_theory.specs.Guides.{Spaces, IsGuide};
 ghost use Rattle.ws2s_core.specs.declared.formula.Formula.{Formula};
 ghost use Rattle.ws2s_core.specs.declared.formula.Formula.TheVariants.{And};
@@ -27,4 +27,9 @@ pub fn held_automata_outlive_changes()
         RegistersTable old new c.table → IsAuto g new c → Holds g new (c ∷ xs) }
     ensures made { (g : Spaces) (old new : Contents) (xs : List AutoView) → Holds g old xs → IsShelf new → Keeps old new → SameTables old new → Holds g new xs }
     ensures collected { (g : Spaces) (old new : Contents) (xs : List AutoView) → Holds g old xs → IsShelf new → MovesRoots old new → Holds g new xs }
+{}
+
+pub fn held_automata_have_room()
+    ensures { (g : Spaces) (shelf : Contents) (autos : List AutoView) (sum count : ℕ) → Holds g shelf autos → HaveSum g shelf autos sum →
+        CountsHeld shelf count → count ≤ sum }
 {}
