@@ -1,3 +1,4 @@
 pub mod HoldingLemmas
 pub mod RoomLemmas
+pub mod SumsLemmas
 pub mod TasksLemmas

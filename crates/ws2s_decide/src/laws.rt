@@ -9,7 +9,7 @@ ghost use Rattle.ws2s_decide.specs.Holding.{Holds, HaveSum};
 ghost use Rattle.gta_theory.specs.Guides.{Spaces, IsGuide};
 ghost use Rattle.ws2s_core.specs.declared.formula.Formula.{Formula};
 ghost use Rattle.ws2s_core.specs.declared.formula.Formula.TheVariants.{And};
-ghost use Rattle.ws2s_decide.specs.Tasks.{Step, visit, conjoin, steps_left, Within};
+ghost use Rattle.ws2s_decide.specs.Tasks.{Step, visit, conjoin, steps_left, Within, HasSum};
 
 pub fn visits_are_taken_apart()
     ensures within { (g : Spaces) (n : ℕ) (f h : Formula) (steps : List Step) (stack : List Formula) → IsGuide g → Within g n (visit (And f h) ∷ steps) stack →
@@ -32,4 +32,8 @@ pub fn held_automata_outlive_changes()
 pub fn held_automata_have_room()
     ensures { (g : Spaces) (shelf : Contents) (autos : List AutoView) (sum count : ℕ) → Holds g shelf autos → HaveSum g shelf autos sum →
         CountsHeld shelf count → count ≤ sum }
+{}
+
+pub fn formulas_have_sums()
+    ensures { (g : Spaces) (formulas : List Formula) → IsGuide g → (n : ℕ) × HasSum g formulas n }
 {}
