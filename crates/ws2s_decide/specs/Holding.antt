@@ -4,6 +4,7 @@ use Rattle.std.specs.List.{sum_by}
 use Rattle.bdd_nodes.specs.Shelf.{Contents, IsShelf, roots_of, limit_of}
 use Rattle.gta_theory.specs.Guides.{Spaces}
 use Rattle.gta_theory.specs.Numbered.{Below}
+use Rattle.gta_theory.specs.Sizes.{SizeOf}
 use Rattle.gta_core.specs.Auto.{AutoView, states_of, automaton_of, IsAuto}
 use Rattle.gta_core.specs.Changes.{KeepsTable}
 use Rattle.gta_core.specs.Sizes.{IsSized}
@@ -74,3 +75,7 @@ pub record Passes (g : Spaces) (old new : Contents) (gone come : List AutoView)
   pub others : (others : List AutoView) (other : AutoView) → Holds g old (beside gone others before) → Contains others other →
       KeepsTable old new other.table
   pub limit : limit_of new ≡ limit_of old
+
+-- every automaton of the shelf has a Size
+abbrev pub HaveSizes : Spaces → Contents → Type 0
+HaveSizes g shelf = (a : AutoView) → IsAuto g shelf a → (n : ℕ) × SizeOf g (automaton_of shelf a) (Below (states_of a)) n

@@ -1,11 +1,11 @@
 //! Visits taken apart.
 
-ghost use Rattle.std.specs.Prelude.{◌<◌, ◌≤◌, ℕ, List, [], ◌∷◌};
+ghost use Rattle.std.specs.Prelude.{◌<◌, ◌≤◌, Contains, ℕ, List, [], ◌∷◌};
 ghost use Rattle.bdd_nodes.specs.Shelf.{Contents, IsShelf};
 ghost use Rattle.bdd_nodes.specs.Changes.{CountsHeld, DropsTable, Keeps, SameTables, MovesRoots};
 ghost use Rattle.gta_core.specs.Changes.{RegistersTable};
 ghost use Rattle.gta_core.specs.Auto.{AutoView, IsAuto};
-ghost use Rattle.ws2s_decide.specs.Holding.{Holds, HaveSum};
+ghost use Rattle.ws2s_decide.specs.Holding.{Holds, HaveSum, HaveSizes, AreMinimalFor};
 ghost use Rattle.gta_theory.specs.Guides.{Spaces, IsGuide};
 ghost use Rattle.ws2s_core.specs.declared.formula.Formula.{Formula};
 ghost use Rattle.ws2s_core.specs.declared.formula.Formula.TheVariants.{And};
@@ -36,4 +36,9 @@ pub fn held_automata_have_room()
 
 pub fn formulas_have_sums()
     ensures { (g : Spaces) (formulas : List Formula) → IsGuide g → (n : ℕ) × HasSum g formulas n }
+{}
+
+pub fn stacks_have_the_sums_of_their_formulas()
+    ensures { (g : Spaces) (shelf : Contents) (autos : List AutoView) (stack : List Formula) (s : ℕ) → IsGuide g → HaveSizes g shelf →
+        ((a : AutoView) → Contains autos a → IsAuto g shelf a) → AreMinimalFor g shelf autos stack → HasSum g stack s → HaveSum g shelf autos s }
 {}
