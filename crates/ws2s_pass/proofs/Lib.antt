@@ -3,10 +3,6 @@ pub mod ConstantsLemmas
 pub mod FlatteningLemmas
 pub mod FoldingLemmas
 pub mod LeftConstantsLemmas
-pub mod NarrowedPartsLemmas
-pub mod NarrowingLemmas
 pub mod PartsLemmas
 pub mod RewritingLemmas
-pub mod ScopesLemmas
-pub mod SinkingLemmas
 pub mod UsingLemmas

@@ -2,8 +2,5 @@ pub mod Applying
 pub mod Constants
 pub mod Flattening
 pub mod Folding
-pub mod Narrowing
 pub mod Rewriting
-pub mod Scopes
-pub mod Sinking
 pub mod Using

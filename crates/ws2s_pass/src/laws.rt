@@ -3,12 +3,11 @@
 ghost use Rattle.std.specs.Prelude.{◌≡◌, ◌⊎◌, Bool, IsTrue};
 ghost use Rattle.ws2s_core.specs.declared.track.Track.{Track};
 ghost use Rattle.ws2s_core.specs.declared.formula.Formula.{Formula};
-ghost use Rattle.ws2s_core.specs.declared.formula.Formula.TheVariants.{And, Not, Ex2};
+ghost use Rattle.ws2s_core.specs.declared.formula.Formula.TheVariants.{Not, Ex2};
 ghost use Rattle.ws2s_core.specs.Parts.{IsPart};
 ghost use Rattle.ws2s_core.specs.Tracks.{IsFree};
 ghost use Rattle.ws2s_pass.specs.Constants.{is_constant, constant_formula, without_constants};
 ghost use Rattle.ws2s_pass.specs.Flattening.{flattened};
-ghost use Rattle.ws2s_pass.specs.Narrowing.{narrowed};
 ghost use Rattle.ws2s_pass.specs.Using.{without_unused};
 
 /// Where `flatten_not` went no negation of a negation stands anywhere.
@@ -19,11 +18,6 @@ pub fn flattened_formulas_negate_no_negation()
 /// Where `drop_unused` went every quantifier's track is free under it.
 pub fn left_quantifiers_are_used()
     ensures { (f g : Formula) (t : Track) → IsPart (without_unused f) (Ex2 t g) → IsFree t.0 g }
-{}
-
-/// Where `narrow_scope` went no quantifier stands before a conjunction one side of which hasn't its track free.
-pub fn narrow_quantifiers_bind_both_sides()
-    ensures { (f g h : Formula) (t : Track) → IsPart (narrowed f) (Ex2 t (And g h)) → IsFree t.0 g × IsFree t.0 h }
 {}
 
 /// Where `fold_constants` went a constant is left only where it is the whole formula, or where the whole formula is one of

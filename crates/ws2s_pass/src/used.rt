@@ -13,22 +13,13 @@ use ws2s_core::{Formula, Track};
 /// A formula with the numbers of its free tracks.
 #[derive(Drop)]
 pub struct Part {
-    pub(crate) formula: Formula,
-    pub(crate) free: HashSet<u32>,
-    ghost told: { HasFree free formula },
-}
-
-impl Part {
-    /// Whether the track is free in the formula.
-    pub(crate) fn has_free(&self, track: Track) -> bool
-        ensures { result ≡ is_free track.0 self.now.formula }
-    {
-        self.free.contains(&track.0)
-    }
+    pub formula: Formula,
+    pub free: HashSet<u32>,
+    pub ghost told: { HasFree free formula },
 }
 
 /// An atom with its tracks.
-pub(crate) fn atom(alloc: Global, formula: Formula, x: Track, y: Track) -> Result<Part, AllocError>
+pub fn atom(alloc: Global, formula: Formula, x: Track, y: Track) -> Result<Part, AllocError>
     requires { (t : ℕ) → is_free t formula ≡ (x.0 == t) || (y.0 == t) }
     ensures { IfOk result (λ made. made.formula ≡ formula) }
 {
@@ -47,7 +38,8 @@ fn insert(tracks: &mut HashSet<u32>, x: Track) -> Result<(), AllocError>
     }
 }
 
-pub(crate) fn conjunction(alloc: Global, left: Part, right: Part) -> Result<Part, AllocError>
+/// The conjunction of both, with the tracks of both.
+pub fn conjunction(alloc: Global, left: Part, right: Part) -> Result<Part, AllocError>
     ensures { IfOk result (λ made. made.formula ≡ And left.formula right.formula) }
 {
     let Part { formula, free } = left;
@@ -79,7 +71,8 @@ fn add_all(both: &mut HashSet<u32>, others: &HashSet<u32>) -> Result<(), AllocEr
     both.extend(others.iter().copied())
 }
 
-pub(crate) fn negation(alloc: Global, inner: Part) -> Result<Part, AllocError>
+/// The negation, which has the same tracks.
+pub fn negation(alloc: Global, inner: Part) -> Result<Part, AllocError>
     ensures { IfOk result (λ made. made.formula ≡ Not inner.formula) }
 {
     let Part { formula, free } = inner;

@@ -3,7 +3,8 @@
 use crate::formulas::{formula, is};
 use std::alloc::{AllocError, Global};
 use std::test::Fail;
-use ws2s_pass::{drop_unused, flatten_not, fold_constants, narrow_scope};
+use ws2s_narrow::narrow_scope;
+use ws2s_pass::{drop_unused, flatten_not, fold_constants};
 
 /// A formula, and what `flatten_not`, `drop_unused`, `fold_constants` and `narrow_scope` make of it.
 type Row = [&'static str; 5];

@@ -1,0 +1,7 @@
+pub mod HandingLemmas
+pub mod MovingLemmas
+pub mod NarrowLemmas
+pub mod NarrowedPartsLemmas
+pub mod NarrowingLemmas
+pub mod SharingLemmas
+pub mod WaitingLemmas

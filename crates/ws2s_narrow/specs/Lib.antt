@@ -1,0 +1,5 @@
+pub mod Narrowing
+pub mod Pending
+pub mod Reading
+pub mod Taking
+pub mod Waiting

@@ -1,5 +1,0 @@
-use Rattle.ws2s_pass.proofs.NarrowedPartsLemmas.{narrowed-part}
-use Rattle.ws2s_pass.proofs.laws.narrow_quantifiers_bind_both_sides.Goals as goal
-
-pub returns : goal.returns
-returns c = narrowed-part
