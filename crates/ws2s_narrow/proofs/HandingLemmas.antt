@@ -1,5 +1,7 @@
 -- On quantifiers that go over from those that wait before a conjunction to those that wait before one side.
-use Rattle.std.proofs.Common.{◌≡◌, ◌≢◌, ℕ, ◌+◌, ◌<◌, ◌≤◌, min, Bool, true, false, cond, not, ◌&&◌, ◌||◌, eqb, nat_eq, List, [], ◌∷◌, ◌++◌, take, drop, drop-cons, add-one, length, get_or, Option, Some, None, Contains, refl, sym, ap, subst, ◌∙◌, arith, inl, inr, ◌⊎◌, eqb-true, eq-eqb, IfSome}
+use Rattle.std.proofs.Common.{◌≡◌, ◌≢◌, ℕ, ◌+◌, ◌<◌, ◌≤◌, min, Bool, true, false, cond, not, ◌&&◌, ◌||◌, eqb, nat_eq, List, [], ◌∷◌, ◌++◌, take}
+use Rattle.std.proofs.Common.{drop, drop-cons, add-one, length, get_or, Option, Some, None, Contains, refl, sym, ap, subst, ◌∙◌, arith, inl}
+use Rattle.std.proofs.Common.{inr, ◌⊎◌, eqb-true, eq-eqb, IfSome}
 use Rattle.std.proofs.lemmas.Bool.{false≢true, cases_lt}
 use Rattle.std.proofs.lemmas.List.{drop_all}
 use Rattle.std.proofs.lemmas.List.Folds.{list_any_more, list_any_kept}
@@ -13,9 +15,11 @@ use Rattle.std.specs.HashMap.{get, Updates}
 use Rattle.ws2s_narrow.specs.declared.pending.Waiting.{Waiting}
 use Rattle.ws2s_narrow.specs.declared.pending.Pending.{Pending}
 use Rattle.ws2s_narrow.specs.declared.sharing.Sharing.{Sharing}
-use Rattle.ws2s_narrow.specs.Pending.{has, IsPlacedIn, IsPlaced, Quantifies, IsAmong, IsIdle, Goes, Stays, HandsOver, stays, goes, HandsIdle, stays_idle, goes_idle, IsLeastAmong, lesser_of, BeginsAmong, idle_at}
+use Rattle.ws2s_narrow.specs.Pending.{has, IsPlacedIn, IsPlaced, Quantifies, IsAmong, IsIdle, Goes, Stays, HandsOver, stays, goes, HandsIdle}
+use Rattle.ws2s_narrow.specs.Pending.{stays_idle, goes_idle, IsLeastAmong, lesser_of, BeginsAmong, idle_at}
 use Rattle.ws2s_narrow.specs.Waiting.{Ascends, Woven}
-use Rattle.ws2s_narrow.proofs.MovingLemmas.{All-weaker, All-zip, All-remove, All-insert, All-found, All-removed, All-woven, Ascends-woven, Ascends-remove, Woven-moved, Woven-all, All-at, All-parts, found-first}
+use Rattle.ws2s_narrow.proofs.MovingLemmas.{All-weaker, All-zip, All-remove, All-insert, All-found, All-removed, All-woven, Ascends-woven, Ascends-remove}
+use Rattle.ws2s_narrow.proofs.MovingLemmas.{Woven-moved, Woven-all, All-at, All-parts, found-first}
 
 -- one track more
 has-more : (u : ℕ) (tracks : List ℕ) (i : ℕ) → i < length tracks → has u (take (i + 1) tracks) ≡ has u (take i tracks) || nat_eq u (get_or tracks i 0)
@@ -315,7 +319,8 @@ none-from track place waiting is only = All-weaker (λ next. Quantifies track ne
 
 pub some-from : (track number : ℕ) (place : Option ℕ) (waiting : List (ℕ × Waiting)) → place ≡ Some number →
     AllByRecursion (λ next. Quantifies track next → place ≡ Some next.0) waiting → AllByRecursion (λ next. Quantifies track next → number ≡ next.0) waiting
-some-from track number place waiting is only = All-weaker (λ next. Quantifies track next → place ≡ Some next.0) (λ next. Quantifies track next → number ≡ next.0)
+some-from track number place waiting is only = All-weaker (λ next. Quantifies track next → place ≡ Some next.0) (λ next. Quantifies track next →
+    number ≡ next.0)
     (λ next at q. let e : Some number ≡ Some next.0 = sym is ∙ at q in cc) waiting only
 
 -- what goes over is what goes, and what stays is what stays

@@ -1,5 +1,6 @@
 -- On lists in order of which elements move one by one to another list.
-use Rattle.std.proofs.Common.{◌≡◌, ◌≢◌, ℕ, ◌<◌, ◌≤◌, Bool, true, false, cond, List, [], ◌∷◌, ◌++◌, Option, Some, None, All, refl, sym, ap, subst, ◌∙◌, arith, inl, inr, ◌⊎◌}
+use Rattle.std.proofs.Common.{◌≡◌, ◌≢◌, ℕ, ◌<◌, ◌≤◌, Bool, true, false, cond, List, [], ◌∷◌, ◌++◌, Some, All, refl, sym, ap, subst}
+use Rattle.std.proofs.Common.{◌∙◌, arith, inl, inr}
 use Rattle.std.proofs.lemmas.Bool.{false≢true, cases_lt, cases_eq}
 use Rattle.std.proofs.lemmas.List.Elements.{All-head, All-tail}
 use Rattle.std.proofs.lemmas.Map.Keys.{sorted_head, sorted_tail}
@@ -90,7 +91,8 @@ module _ {X : Type 0} where
   All-found P k v [] h found = absurd cc
   All-found P k v (e ∷ es) h found = pick (λ later. All-found P k v es h.1 later) (nat_cmp k e.0) refl found
     where
-      pick : (lookup (is_at (nat_cmp k)) es ≡ Some v → P (k, v)) → (o : Ordering) → nat_cmp k e.0 ≡ o → cond (is_eq o) (Some e.1) (lookup (is_at (nat_cmp k)) es) ≡ Some v → P (k, v)
+      pick : (lookup (is_at (nat_cmp k)) es ≡ Some v → P (k, v)) → (o : Ordering) → nat_cmp k e.0 ≡ o → cond (is_eq o) (Some e.1) (lookup (is_at
+          (nat_cmp k)) es) ≡ Some v → P (k, v)
       pick rest Less is found = rest found
       pick rest Equal is found =
           let number : e.0 ≡ k = sym (cmp-tells k e.0 Equal is) in
@@ -103,7 +105,8 @@ module _ {X : Type 0} where
   All-removed k [] h = tt
   All-removed k (e ∷ es) h = pick (All-removed k es h.1) (nat_cmp k e.0) refl
     where
-      pick : AllByRecursion (λ (d : ℕ × X). d.0 ≢ k) (remove_entry (is_at (nat_cmp k)) es) → (o : Ordering) → nat_cmp k e.0 ≡ o → AllByRecursion (λ (d : ℕ × X). d.0 ≢ k) (cond (is_eq o) es (e ∷ remove_entry (is_at (nat_cmp k)) es))
+      pick : AllByRecursion (λ (d : ℕ × X). d.0 ≢ k) (remove_entry (is_at (nat_cmp k)) es) → (o : Ordering) → nat_cmp k e.0 ≡ o → AllByRecursion (λ
+          (d : ℕ × X). d.0 ≢ k) (cond (is_eq o) es (e ∷ remove_entry (is_at (nat_cmp k)) es))
       pick rest Less is = ((λ same. let below : k < e.0 = cmp-tells k e.0 Less is in omega arith), rest)
       pick rest Equal is = All-weaker (λ (d : ℕ × X). e.0 < d.0) (λ (d : ℕ × X). d.0 ≢ k)
           (λ d above same. let number : k ≡ e.0 = cmp-tells k e.0 Equal is in omega arith) es h.0
@@ -188,7 +191,8 @@ module _ {X : Type 0} where
   All-at P k [] h found = tt
   All-at P k (e ∷ es) h found = pick (λ later. All-at P k es h.1 later) (nat_cmp k e.0) refl
     where
-      pick : (((v : X) → lookup (is_at (nat_cmp k)) es ≡ Some v → P v) → AllByRecursion (λ (d : ℕ × X). d.0 ≡ k → P d.1) es) → (o : Ordering) → nat_cmp k e.0 ≡ o → AllByRecursion (λ (d : ℕ × X). d.0 ≡ k → P d.1) (e ∷ es)
+      pick : (((v : X) → lookup (is_at (nat_cmp k)) es ≡ Some v → P v) → AllByRecursion (λ (d : ℕ × X). d.0 ≡ k → P d.1) es) → (o : Ordering) →
+          nat_cmp k e.0 ≡ o → AllByRecursion (λ (d : ℕ × X). d.0 ≡ k → P d.1) (e ∷ es)
       pick rest Less is = (
         (λ same. let below : k < e.0 = cmp-tells k e.0 Less is in absurd (omega arith)),
         rest (λ v there. found v (ap (λ (o : Ordering). cond (is_eq o) (Some e.1) (lookup (is_at (nat_cmp k)) es)) is ∙ there)),

@@ -1,12 +1,14 @@
 -- On steps that are taken from the whole down.
-use Rattle.std.proofs.Common.{◌≡◌, ℕ, ◌+◌, ◌<◌, ◌≤◌, Bool, true, false, cond, not, ◌||◌, ◌&&◌, List, [], ◌∷◌, ◌++◌, length, reverse, Option, Some, None, IsSome, option_and_then, suc, eqb, eq-eqb, rules, refl, sym, ap, subst, ◌∙◌, arith, append_assoc}
+use Rattle.std.proofs.Common.{◌≡◌, ℕ, ◌<◌, ◌≤◌, Bool, true, false, cond, not, ◌&&◌, List, [], ◌∷◌, ◌++◌, length, reverse, Option}
+use Rattle.std.proofs.Common.{Some, None, IsSome, option_and_then, suc, eqb, eq-eqb, rules, refl, sym, ap, subst, ◌∙◌, arith}
 use Rattle.std.proofs.lemmas.Bool.{false≢true}
 use Rattle.std.proofs.lemmas.List.{reverse-append, length-reverse}
 use Rattle.std.specs.List.{AllByRecursion}
 use Rattle.ws2s_core.specs.declared.track.Track.{Track}
 use Rattle.ws2s_core.specs.declared.formula.Formula.{Formula}
 use Rattle.ws2s_core.specs.declared.formula.Formula.TheVariants.{Sub, Single, Succ0, Succ1, Root, And, Not, Ex2}
-use Rattle.ws2s_core.specs.declared.formula.Formula.TheVariants.{rolls-Sub, rolls-Single, rolls-Succ0, rolls-Succ1, rolls-Root, rolls-And, rolls-Not, rolls-Ex2}
+use Rattle.ws2s_core.specs.declared.formula.Formula.TheVariants.{rolls-Sub, rolls-Single, rolls-Succ0, rolls-Succ1, rolls-Root, rolls-And, rolls-Not}
+use Rattle.ws2s_core.specs.declared.formula.Formula.TheVariants.{rolls-Ex2}
 use Rattle.ws2s_core.specs.declared.postfix.Symbol.{Symbol}
 use Rattle.ws2s_core.specs.Postfix.{run_on, applied}
 use Rattle.ws2s_core.specs.Tracks.{is_free}
@@ -20,10 +22,11 @@ use Rattle.ws2s_narrow.specs.Pending.{has, Tells, IsSound, IsAmong, BeginsAmong,
 use Rattle.ws2s_narrow.specs.Reading.{atom_of, LeadTo}
 use Rattle.ws2s_narrow.specs.Taking.{quantifiers, Divides, into_left, into_right, Takes, takes_atom, takes_and, takes_not, takes_ex2}
 use Rattle.ws2s_narrow.specs.Waiting.{brought, wrapped, AreTold, Woven}
-use Rattle.ws2s_narrow.proofs.NarrowingLemmas.{sunk-Sub, sunk-Single, sunk-Succ0, sunk-Succ1, sunk-Root, sunk-And, sunk-Not, sunk-Ex2, free-sunk}
+use Rattle.ws2s_narrow.proofs.NarrowingLemmas.{sunk-Sub, sunk-Single, sunk-Succ0, sunk-Succ1, sunk-Root, sunk-Not, free-sunk}
 use Rattle.ws2s_narrow.proofs.MovingLemmas.{All-weaker, All-zip, All-parts, All-woven, Woven-turned}
-use Rattle.ws2s_narrow.proofs.WaitingLemmas.{brought-other, free-narrowed, narrowed-Sub, narrowed-Single, narrowed-Succ0, narrowed-Succ1, narrowed-Root, narrowed-And, narrowed-Not, narrowed-Ex2}
-use Rattle.ws2s_narrow.proofs.WaitingLemmas.{GoesLeft, GoesRight, StaysBefore, BeginsWithOne, Divided, divided}
+use Rattle.ws2s_narrow.proofs.WaitingLemmas.{brought-other, free-narrowed, narrowed-Sub, narrowed-Single, narrowed-Succ0, narrowed-Succ1, narrowed-Root}
+use Rattle.ws2s_narrow.proofs.WaitingLemmas.{narrowed-And, narrowed-Not, narrowed-Ex2}
+use Rattle.ws2s_narrow.proofs.WaitingLemmas.{GoesLeft, GoesRight, BeginsWithOne, Divided, divided}
 
 -- quantifiers come before the formula
 run-quantifiers : (waiting : List (ℕ × Waiting)) (rest : List Symbol) (f : Formula) (fs : List Formula) →

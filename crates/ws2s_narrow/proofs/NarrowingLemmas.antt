@@ -11,7 +11,8 @@ use Rattle.ws2s_core.proofs.FormulaLemmas.{formula-induction, fold-Sub, fold-Sin
 use Rattle.ws2s_theory.proofs.ContextsLemmas.{Same-sym, Same-outside_right, Same-outside_left}
 use Rattle.ws2s_pass.specs.Rewriting.{IsRewriting}
 use Rattle.ws2s_narrow.specs.Narrowing.{Entered, entered_node, stays_before, sunk, narrowed_node, narrowed}
-use Rattle.ws2s_pass.proofs.RewritingLemmas.{IsRewriting-refl, IsRewriting-is, IsRewriting-trans, IsRewriting-and, IsRewriting-fold, count-And, count-Ex2, free-And, free-Ex2}
+use Rattle.ws2s_pass.proofs.RewritingLemmas.{IsRewriting-refl, IsRewriting-is, IsRewriting-trans, IsRewriting-and, IsRewriting-fold, count-And}
+use Rattle.ws2s_pass.proofs.RewritingLemmas.{count-Ex2, free-And, free-Ex2}
 
 module _ (t : Track) where
   abbrev entered : Formula → Entered

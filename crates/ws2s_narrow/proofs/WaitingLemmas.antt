@@ -3,16 +3,16 @@ use Rattle.std.proofs.Common.{◌≡◌, ℕ, Bool, true, false, cond, eqb, ◌|
 use Rattle.std.proofs.lemmas.Bool.{false≢true}
 use Rattle.std.specs.List.{AllByRecursion}
 use Rattle.ws2s_core.specs.declared.track.Track.{Track}
-use Rattle.ws2s_core.specs.declared.formula.Formula.{Formula, roll-Formula, out-Formula}
+use Rattle.ws2s_core.specs.declared.formula.Formula.{Formula}
 use Rattle.ws2s_core.specs.declared.formula.Formula.TheVariants.{Sub, Single, Succ0, Succ1, Root, And, Not, Ex2, rolls-Sub}
 use Rattle.ws2s_core.specs.declared.formula.Formula.TheVariants.{rolls-Single, rolls-Succ0, rolls-Succ1, rolls-Root, rolls-And, rolls-Not}
-use Rattle.ws2s_core.specs.Tracks.{is_free, is_free_in_node}
+use Rattle.ws2s_core.specs.Tracks.{is_free}
 use Rattle.ws2s_core.proofs.FormulaLemmas.{formula-induction, fold-Sub, fold-Single, fold-Succ0, fold-Succ1, fold-Root, fold-And, fold-Not, fold-Ex2}
 use Rattle.ws2s_pass.proofs.RewritingLemmas.{free-And, free-Not, free-Ex2}
 use Rattle.ws2s_narrow.specs.declared.pending.Waiting.{Waiting}
 use Rattle.ws2s_narrow.specs.Narrowing.{sunk, narrowed, narrowed_node}
 use Rattle.ws2s_narrow.specs.Waiting.{brought, wrapped, AreTold, Woven, none, one, other}
-use Rattle.ws2s_narrow.proofs.NarrowingLemmas.{sunk-Sub, sunk-Single, sunk-Succ0, sunk-Succ1, sunk-Root, sunk-And, sunk-Not, sunk-Ex2, free-sunk}
+use Rattle.ws2s_narrow.proofs.NarrowingLemmas.{sunk-And, sunk-Ex2, free-sunk}
 
 -- quantifiers stay before one that stays
 pub brought-Ex2 : (waiting : List (ℕ × Waiting)) (t : Track) (f : Formula) → brought waiting (Ex2 t f) ≡ wrapped waiting (Ex2 t f)

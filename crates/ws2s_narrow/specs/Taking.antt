@@ -1,6 +1,6 @@
 -- A formula's steps taken from the whole down: what comes to the symbols, and what waits then. Symbols are read from the
 -- last one to the first.
-use Rattle.std.specs.Prelude.{◌≡◌, ℕ, true, false, List, [], ◌∷◌, ◌++◌, map}
+use Rattle.std.specs.Prelude.{◌≡◌, ℕ, true, false, List, [], ◌∷◌, ◌++◌}
 use Rattle.std.specs.List.{AllByRecursion}
 use Rattle.ws2s_core.specs.declared.postfix.Symbol.{Symbol}
 use Rattle.ws2s_narrow.specs.declared.pending.Waiting.{Waiting}

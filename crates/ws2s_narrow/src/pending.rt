@@ -5,7 +5,8 @@ ghost use Rattle.std.specs.List.{AllByRecursion};
 ghost use Rattle.std.specs.Ordering.{nat_cmp};
 ghost use Rattle.std.specs.BTreeMap.{get, IsOrdered};
 ghost use Rattle.std.specs.HashMap.{get as place_in};
-ghost use Rattle.ws2s_narrow.specs.Pending.{has, IsPlacedIn, IsPlaced, IsSound, Quantifies, Goes, Stays, IsAmong, IsIdle, IsLeastAmong, lesser_of, BeginsAmong, HandsOver, HandsIdle, idle_at};
+ghost use Rattle.ws2s_narrow.specs.Pending.{has, IsPlacedIn, IsPlaced, IsSound, Quantifies, Goes, Stays, IsAmong, IsIdle, IsLeastAmong, lesser_of};
+ghost use Rattle.ws2s_narrow.specs.Pending.{BeginsAmong, HandsOver, HandsIdle, idle_at};
 ghost use Rattle.ws2s_narrow.specs.Waiting.{Ascends, Woven};
 
 use crate::sharing::Sharing;

@@ -1,8 +1,8 @@
-use Rattle.std.proofs.Common.{◌≡◌, Some, None, true, false, refl, sym, ap, ◌∙◌, rules, arith}
+use Rattle.std.proofs.Common.{◌≡◌, Some, true, rules, arith}
 use Rattle.std.proofs.lemmas.Grind.{common_steps}
 use Rattle.std.specs.Ordering.{nat_cmp}
 use Rattle.std.specs.BTreeMap.{get}
-use Rattle.ws2s_narrow.specs.Pending.{HandsIdle, stays_idle, goes_idle, idle_at}
+use Rattle.ws2s_narrow.specs.Pending.{goes_idle, idle_at}
 use Rattle.ws2s_narrow.proofs.HandingLemmas.{idle-there}
 use Rattle.ws2s_narrow.proofs.pending.hand_idle.Goals as goal
 

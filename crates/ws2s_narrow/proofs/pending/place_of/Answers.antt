@@ -1,4 +1,4 @@
-use Rattle.std.proofs.Common.{◌≡◌, Some, None, false, ◌&&◌, ◌==◌, ◌∙◌, sym, ap, rules, arith, nat_eq}
+use Rattle.std.proofs.Common.{◌≡◌, Some, None, false, ◌&&◌, ◌==◌, ◌∙◌, sym, rules, arith, nat_eq}
 use Rattle.std.proofs.lemmas.Grind.{common_steps}
 use Rattle.std.specs.Ordering.{nat_cmp}
 use Rattle.std.specs.HashMap.{get as place_in}
@@ -23,7 +23,13 @@ pub returns-clause-only : goal.returns-clause-only
 returns-clause-only c = λ idle placed.
     let number : place_in nat_eq c.args.places.now c.args.track ≡ Some c.in_ok-number.field-0.now = first_of (search rules, grind (arith, common_steps)) in
     let there : get nat_cmp c.args.waiting.now c.in_ok-number.field-0.now ≡ Some c.in_ok-next.next.now = first_of (search rules, grind (arith, common_steps)) in
-    let differs : c.in_ok-next.next.now.used && (c.in_ok-next.next.now.track.0 == c.args.track) ≡ false = first_of (search rules, grind (arith, common_steps)) in
+    let differs : c.in_ok-next.next.now.used && (c.in_ok-next.next.now.track.0 == c.args.track) ≡ false = first_of (
+      search rules,
+      grind (
+        arith,
+        common_steps,
+      ),
+    ) in
     none-at c.args.track _ c.args.waiting.now.entries
     (not-there (place_in nat_eq c.args.places.now) idle c.args.waiting.now.entries c.args.track placed c.in_ok-number.field-0.now number c.requires
     (λ next found. same-next c.args.track c.in_ok-next.next.now next (sym there ∙ found) differs))

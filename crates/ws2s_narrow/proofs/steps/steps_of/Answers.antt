@@ -1,9 +1,8 @@
-use Rattle.std.proofs.Common.{◌≡◌, [], ◌∷◌, drop, reverse, map, ap, ◌∙◌, sym, subst, rules, arith}
+use Rattle.std.proofs.Common.{drop, reverse, map, ap, ◌∙◌, rules, arith}
 use Rattle.std.proofs.lemmas.Grind.{common_steps}
 use Rattle.ws2s_core.specs.Postfix.{postfix_of, run_on}
 use Rattle.ws2s_core.proofs.PostfixLemmas.{run_on-whole, applied-next}
 use Rattle.ws2s_narrow.specs.declared.sharing.Read.{Read}
-use Rattle.ws2s_narrow.specs.Reading.{LeadTo}
 use Rattle.ws2s_narrow.proofs.steps.steps_of.Goals as goal
 
 pub loop-symbol-init : goal.loop-symbol-init

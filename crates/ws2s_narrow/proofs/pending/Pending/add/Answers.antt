@@ -1,7 +1,6 @@
-use Rattle.std.proofs.Common.{◌≡◌, ◌∷◌, ◌∙◌, ℕ, true, sym, subst, rules, arith, nat_eq}
+use Rattle.std.proofs.Common.{◌≡◌, ◌∷◌, ◌∙◌, true, sym, subst, nat_eq}
 use Rattle.std.specs.List.{AllByRecursion}
 use Rattle.std.specs.HashMap.{get}
-use Rattle.ws2s_narrow.specs.declared.pending.Waiting.{Waiting}
 use Rattle.ws2s_narrow.specs.Pending.{IsPlacedIn, Quantifies}
 use Rattle.ws2s_narrow.specs.Waiting.{Ascends}
 use Rattle.ws2s_narrow.proofs.MovingLemmas.{insert-first, All-zip}

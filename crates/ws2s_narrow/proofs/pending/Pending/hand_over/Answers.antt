@@ -1,8 +1,8 @@
-use Rattle.std.proofs.Common.{◌≡◌, Some, None, refl, sym, ◌∙◌, rules, arith, nat_eq}
+use Rattle.std.proofs.Common.{◌≡◌, Some, refl, sym, ◌∙◌, rules, arith}
 use Rattle.std.proofs.lemmas.Grind.{common_steps}
 use Rattle.std.specs.Ordering.{nat_cmp}
 use Rattle.std.specs.BTreeMap.{get}
-use Rattle.ws2s_narrow.specs.Pending.{HandsOver, stays, goes, Quantifies}
+use Rattle.ws2s_narrow.specs.Pending.{stays, goes}
 use Rattle.ws2s_narrow.proofs.HandingLemmas.{none-from, some-from, quantifies-same}
 use Rattle.ws2s_narrow.proofs.pending.Pending.hand_over.Goals as goal
 

@@ -1,7 +1,7 @@
-use Rattle.std.proofs.Common.{◌≡◌, ◌∷◌, [], ◌+◌, drop, slice_index, get_or, sym, subst, ap, ◌∙◌, rules, arith, refl, nat_eq}
+use Rattle.std.proofs.Common.{◌≡◌, ◌+◌, drop, get_or, subst, rules, arith, refl, nat_eq}
 use Rattle.std.proofs.lemmas.Grind.{common_steps}
 use Rattle.std.specs.HashMap.{get}
-use Rattle.ws2s_narrow.proofs.HandingLemmas.{HalfwayIdle, HalfwayIdle-start, HalfwayIdle-more, none-idle, placed-used, idle-next, idle-end, placed-at}
+use Rattle.ws2s_narrow.proofs.HandingLemmas.{HalfwayIdle, HalfwayIdle-start, HalfwayIdle-more, none-idle, idle-next, idle-end, placed-at}
 use Rattle.ws2s_narrow.proofs.pending.Pending.part_with_idle.Goals as goal
 
 pub loop-number-init : goal.loop-number-init

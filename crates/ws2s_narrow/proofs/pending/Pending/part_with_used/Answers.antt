@@ -2,7 +2,7 @@ use Rattle.std.proofs.Common.{◌≡◌, take, subst, rules, arith}
 use Rattle.std.proofs.lemmas.Grind.{common_steps}
 use Rattle.std.specs.List.{AllByRecursion}
 use Rattle.ws2s_narrow.specs.Pending.{IsAmong}
-use Rattle.ws2s_narrow.proofs.HandingLemmas.{Halfway, Halfway-start, Halfway-more, Halfway-placed, Halfway-ascends}
+use Rattle.ws2s_narrow.proofs.HandingLemmas.{Halfway-start, Halfway-more, Halfway-placed, Halfway-ascends}
 use Rattle.ws2s_narrow.proofs.pending.Pending.part_with_used.Goals as goal
 
 pub loop-track-init : goal.loop-track-init

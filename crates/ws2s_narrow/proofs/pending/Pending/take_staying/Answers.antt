@@ -1,5 +1,4 @@
-use Rattle.std.proofs.Common.{◌≡◌, sym, subst, rules, arith, nat_eq}
-use Rattle.std.proofs.lemmas.Grind.{common_steps}
+use Rattle.std.proofs.Common.{subst, nat_eq}
 use Rattle.std.specs.HashMap.{get}
 use Rattle.ws2s_narrow.proofs.MovingLemmas.{Ascends-first, Ascends-ordered}
 use Rattle.ws2s_narrow.specs.Waiting.{Ascends}
