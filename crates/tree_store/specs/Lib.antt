@@ -1,0 +1,4 @@
+pub mod Encoding
+pub mod Growing
+pub mod Rows
+pub mod Spots
