@@ -1,7 +1,6 @@
 pub mod AddsLemmas
 pub mod EncodingLemmas
 pub mod GrowingLemmas
-pub mod HasLemmas
 pub mod LabelLemmas
 pub mod RowsLemmas
 pub mod SpotsLemmas

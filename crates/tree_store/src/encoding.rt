@@ -2,7 +2,6 @@
 
 ghost use Rattle.std.specs.Prelude.{IfOk};
 ghost use Rattle.tree_store.specs.Encoding.{IsTreeOf};
-ghost use Rattle.store_core.specs.Stores.{Fits};
 
 use crate::grow::{grown, turned};
 use crate::rows::rows_of;
@@ -21,7 +20,6 @@ use ws2s_core::LabelTree;
 ///
 /// Want of memory, also where the tree has more nodes than a `LabelTree` holds.
 pub fn encode(alloc: Global, l: &Layout<'_>, store: &Store) -> Result<LabelTree, AllocError>
-    requires { Fits l.now.types l.now.vars store.now }
     ensures { IfOk result (λ tree. IsTreeOf l.now.types l.now.vars store.now tree) }
 {
     let rows = rows_of(alloc, l)?;

@@ -1,7 +1,6 @@
 //! The tracks of a node.
 
-ghost use Rattle.std.specs.Prelude.{◌≡◌, ◌↔◌, ◌<◌, [], length, true, IsTrue, IfOk, OnOk, Some, IsSomeAnd, Contains};
-ghost use Rattle.store_core.specs.CellLists.{AreRising};
+ghost use Rattle.std.specs.Prelude.{◌≡◌, ◌↔◌, ◌<◌, [], length, true, IsTrue, IfOk, OnOk, Some};
 ghost use Rattle.ws2s_core.specs.declared.track.Track.{Track};
 ghost use Rattle.store_core.specs.declared.ids.VariantId.{VariantId};
 ghost use Rattle.store_core.specs.declared.ids.FieldId.{FieldId};
@@ -18,6 +17,7 @@ use crate::rows::Rows;
 use crate::spots::{Spot, row_of};
 use std::alloc::{AllocError, Global};
 use store_core::{CellId, FieldId, Store, Value, VarId};
+use store_sat::has;
 use tree_encode::Layout;
 use ws2s_core::{Track, TrackList};
 
@@ -29,14 +29,6 @@ fn push_where(tracks: &mut TrackList, is_on: bool, track: Option<Track>) -> Resu
         tracks.push(track)?;
     }
     Ok(())
-}
-
-/// Whether the cell is one of these, whose numbers rise.
-fn has(cells: &[CellId], cell: CellId) -> bool
-    requires { AreRising cells.now }
-    ensures { IsTrue result ↔ Contains cells.now cell }
-{
-    cells.binary_search_by_key(&cell.0, |c| c.0).is_ok()
 }
 
 /// Whether the value is the cell, or a set that holds it.
