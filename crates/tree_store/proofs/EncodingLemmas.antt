@@ -1,5 +1,5 @@
 -- The tree that is made stands for the assignment of the store.
-use Rattle.std.proofs.Common.{◌≡◌, ◌↔◌, ◌⊎◌, ℕ, zero, suc, ◌-◌, ◌≤◌, IsTrue, inl, inr, List, [], length, map, reverse, slice_get, Option, Some, None, refl, sym, ap, ◌∙◌, subst, arith}
+use Rattle.std.proofs.Common.{◌≡◌, ℕ, zero, suc, ◌-◌, ◌≤◌, IsTrue, inl, inr, List, length, map, reverse, slice_get, Some, sym, ap, ◌∙◌, subst, arith}
 use Rattle.std.proofs.lemmas.Option.{slice_get_within}
 use Rattle.gta_theory.specs.Assignments.{Position}
 use Rattle.ws2s_core.specs.declared.track.Track.{Track}
@@ -15,7 +15,7 @@ use Rattle.tree_store.specs.declared.spots.Spot.{Spot}
 use Rattle.tree_store.specs.declared.spots.Spot.TheVariants.{Slot, Child}
 use Rattle.tree_store.specs.Encoding.{track_of, CellIsOn, RootIsOn, IsOn, IsTreeOf}
 use Rattle.tree_store.specs.Rows.{IsRows}
-use Rattle.tree_store.specs.Spots.{spot_at, HasTrack, SpotHasTrack}
+use Rattle.tree_store.specs.Spots.{spot_at, SpotHasTrack}
 use Rattle.tree_store.specs.Growing.{IsGrown, turned_node}
 use Rattle.tree_store.proofs.SpotsLemmas.{cell-placed, placed-spot, root-word}
 use Rattle.tree_store.proofs.TurningLemmas.{root-reads}

@@ -1,5 +1,5 @@
 -- The tracks that a cell is on.
-use Rattle.std.proofs.Common.{◌≡◌, ◌↔◌, ◌⊎◌, ℕ, ◌+◌, ◌<◌, Bool, true, IsTrue, inl, inr, List, length, slice_get, option_map, Option, Some, None, IsSomeAnd, Contains, refl, sym, ap, ◌∙◌, subst, arith}
+use Rattle.std.proofs.Common.{◌≡◌, ◌↔◌, ◌⊎◌, ℕ, ◌+◌, ◌<◌, Bool, true, IsTrue, inl, inr, List, length, slice_get, option_map, Option, Some, None, IsSomeAnd, Contains, refl, sym, ap, ◌∙◌, subst}
 use Rattle.std.proofs.lemmas.Bool.{ltb-true}
 use Rattle.std.proofs.lemmas.Option.{slice_get-get_or, slice_get_within, get_or_from_slice_get}
 use Rattle.ws2s_core.specs.declared.track.Track.{Track}
@@ -12,15 +12,13 @@ use Rattle.store_core.specs.Tables.{TypeEntry, VarEntry, fields_of}
 use Rattle.store_core.specs.Stores.{StoreMap, CellEntry, cell_of, field_value}
 use Rattle.store_core.proofs.FittingLemmas.{IsSomeAnd-at}
 use Rattle.routing_expr.specs.Walks.{IsOfVariant}
-use Rattle.tree_encode.specs.declared.counting.Counted.TheVariants.{Bools}
-use Rattle.tree_encode.specs.Counting.{is_counted, rank, variants_in, bools_in}
-use Rattle.tree_encode.specs.Tracks.{TrackUse, of_variant, of_bool, of_var, track_at, variant_track, bool_track, var_track}
+use Rattle.tree_encode.specs.Counting.{variants_in, bools_in}
+use Rattle.tree_encode.specs.Tracks.{of_variant, of_bool, of_var, track_at, variant_track, bool_track, var_track}
 use Rattle.tree_encode.proofs.TracksLemmas.{cond-some, and_then-some}
 use Rattle.tree_encode.proofs.PositionsLemmas.{own_type}
 use Rattle.tree_store.specs.declared.rows.Row.{Row}
 use Rattle.tree_store.specs.declared.rows.Rows.{Rows}
-use Rattle.tree_store.specs.Rows.{IsRow, IsRows, field_in, var_number}
-use Rattle.tree_store.specs.Encoding.{track_of, CellIsOn}
+use Rattle.tree_store.specs.Rows.{IsRow, IsRows, var_number}
 use Rattle.tree_store.specs.Spots.{row_of, IsOnAt, HasTrack, BoolIsOn, Adds}
 use Rattle.tree_store.proofs.AddsLemmas.{Adds-both, Adds-same}
 use Rattle.tree_store.proofs.SpotsLemmas.{row-is}

@@ -5,3 +5,4 @@ pub mod LabelLemmas
 pub mod RowsLemmas
 pub mod SpotsLemmas
 pub mod TurningLemmas
+pub mod WeighingLemmas

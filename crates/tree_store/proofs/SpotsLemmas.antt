@@ -1,5 +1,5 @@
 -- The way down the tree of a store leads to the positions of its cells.
-use Rattle.std.proofs.Common.{◌≡◌, ℕ, zero, suc, ◌+◌, ◌<◌, Bool, true, false, cond, nat_lt, inl, inr, List, [], ◌∷◌, ◌++◌, length, slice_get, unwrap_or, option_map, Option, Some, None, IsSome, IsSomeAnd, take, refl, sym, ap, ◌∙◌, subst, append_assoc, append-nil, arith}
+use Rattle.std.proofs.Common.{◌≡◌, ℕ, zero, suc, ◌+◌, ◌<◌, Bool, true, false, cond, nat_lt, inl, inr, List, [], ◌∷◌, ◌++◌, length, slice_get, unwrap_or, option_map, Option, Some, None, IsSomeAnd, take, refl, sym, ap, ◌∙◌, subst, append_assoc, append-nil, arith}
 use Rattle.std.specs.Prelude.{is_some, count_by}
 use Rattle.std.specs.Option.{option_and_then}
 use Rattle.std.proofs.lemmas.Bool.{ltb-true, lt-ltb}
@@ -33,7 +33,7 @@ use Rattle.tree_store.specs.declared.rows.Row.{Row}
 use Rattle.tree_store.specs.declared.rows.Rows.{Rows}
 use Rattle.tree_store.specs.declared.spots.Spot.{Spot}
 use Rattle.tree_store.specs.declared.spots.Spot.TheVariants.{Slot, Child}
-use Rattle.tree_store.specs.Rows.{number_in, field_in, IsRow, IsRows}
+use Rattle.tree_store.specs.Rows.{IsRow, IsRows}
 use Rattle.tree_store.specs.Spots.{named_cell, row_of, cell_below, number_after, spot_after, spot_below, spot_at}
 use Rattle.tree_store.proofs.RowsLemmas.{counts-at}
 
@@ -116,7 +116,7 @@ number-after-is i count less = ap (λ b. cond b (Some (i + 1)) None) (lt-ltb (i 
 
 -- ---- in a `Some`
 
-of-some : {X : Type 0} (P : X → Type 0) (o : Option X) (x : X) → o ≡ Some x → P x → IsSomeAnd o P
+pub of-some : {X : Type 0} (P : X → Type 0) (o : Option X) (x : X) → o ≡ Some x → P x → IsSomeAnd o P
 of-some P o x is h = subst (λ p. IsSomeAnd p P) (sym is) h
 
 pub present : {X : Type 0} (xs : List X) (k : ℕ) → k < length xs → (x : X) × (slice_get xs k ≡ Some x)

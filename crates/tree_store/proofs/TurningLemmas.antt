@@ -1,17 +1,17 @@
 -- A tree that was made from the root down, turned about.
-use Rattle.std.proofs.Common.{◌≡◌, ◌≢◌, ◌↔◌, ℕ, zero, suc, ◌+◌, ◌-◌, ◌<◌, ◌≤◌, IsTrue, true, false, cond, eqb, inl, inr, List, [], ◌∷◌, ◌++◌, length, map, reverse, slice_get, get_or, Bool, ◌==◌, unwrap_or, option_map, Option, Some, None, IfSome, Contains, refl, sym, ap, ◌∙◌, subst, arith, eq-eqb, ne_eqb, length-append}
+use Rattle.std.proofs.Common.{◌≡◌, ◌≢◌, ◌↔◌, ℕ, suc, ◌+◌, ◌-◌, ◌<◌, ◌≤◌, IsTrue, true, false, cond, inl, inr, List, [], ◌∷◌, ◌++◌, length, map, reverse, slice_get, get_or, Bool, ◌==◌, option_map, Option, Some, None, IfSome, Contains, refl, sym, ap, ◌∙◌, subst, arith, eq-eqb, ne_eqb}
 use Rattle.std.specs.List.{list_any}
 use Rattle.std.specs.Option.{option_and_then}
-use Rattle.std.proofs.lemmas.Bool.{cases_lt, cases_eq, eqb-true}
+use Rattle.std.proofs.lemmas.Bool.{cases_eq, eqb-true}
 use Rattle.std.proofs.lemmas.List.Folds.{Any-from_list_any, list_any-from_Any}
 use Rattle.gta_theory.proofs.ListsLemmas.{Contains-none}
 use Rattle.std.proofs.lemmas.List.{length-map, length-reverse, reverse-append, get_or-reverse, map-append}
-use Rattle.std.proofs.lemmas.Option.{slice_get_within, slice_get_cases, slice_get-map, slice_get-get_or, get_or_from_slice_get}
-use Rattle.gta_theory.specs.Assignments.{Position, Assignment, half, root_label, empty_assignment}
+use Rattle.std.proofs.lemmas.Option.{slice_get_within, slice_get-map, slice_get-get_or, get_or_from_slice_get}
+use Rattle.gta_theory.specs.Assignments.{Position, Assignment}
 use Rattle.ws2s_core.specs.declared.track.Track.{Track}
 use Rattle.ws2s_core.specs.declared.label_tree.TreeNode.{TreeNode}
 use Rattle.ws2s_core.specs.LabelTrees.{IsTree, times_named, assignment_of}
-use Rattle.ws2s_theory.specs.Trees.{assignment_at, child_at, label_of, last_place}
+use Rattle.ws2s_theory.specs.Trees.{assignment_at, child_at, last_place}
 use Rattle.ws2s_theory.proofs.JoiningLemmas.{hits, times-cons, hits-same}
 use Rattle.ws2s_theory.proofs.TreesLemmas.{label-at, left-at, right-at, root-at}
 use Rattle.store_core.specs.Tables.{TypeEntry, VarEntry}

@@ -1,5 +1,5 @@
 -- Which positions a store has on the tracks of its tree. (Klarlund and Schwartzbach 1993: a store as a labelled backbone.)
-use Rattle.std.specs.Prelude.{◌≡◌, ◌≤◌, ◌↔◌, ◌⊎◌, ℕ, true, false, IsTrue, List, [], Option, Some, None, IsSomeAnd, Contains}
+use Rattle.std.specs.Prelude.{◌≡◌, ◌≤◌, ◌↔◌, ◌⊎◌, ℕ, true, false, IsTrue, List, [], Option, Some, IsSomeAnd, Contains}
 use Rattle.gta_theory.specs.Assignments.{Position, Assignment}
 use Rattle.ws2s_core.specs.declared.track.Track.{Track}
 use Rattle.ws2s_core.specs.declared.label_tree.TreeNode.{TreeNode}

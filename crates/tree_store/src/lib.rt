@@ -7,6 +7,7 @@
 
 mod encoding;
 mod grow;
+pub mod laws;
 mod rows;
 mod spots;
 mod tracks;

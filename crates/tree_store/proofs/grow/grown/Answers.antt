@@ -1,7 +1,7 @@
-use Rattle.std.proofs.Common.{◌≡◌, ◌++◌, ◌∙◌, ℕ, List, length, slice_get, option_map, option_to_list, Option, sym, ap}
+use Rattle.std.proofs.Common.{◌++◌, ◌∙◌, length, slice_get, option_map, option_to_list, Option, sym, ap}
 use Rattle.std.specs.Option.{option_copied}
 use Rattle.tree_store.specs.declared.spots.Spot.{Spot}
-use Rattle.tree_store.proofs.GrowingLemmas.{IsGrown-none, IsGrown-more}
+use Rattle.tree_store.proofs.GrowingLemmas.{IsGrown-more}
 use Rattle.tree_store.proofs.grow.grown.Goals as goal
 
 pub loop-spot-preserved : goal.loop-spot-preserved

@@ -1,4 +1,4 @@
-use Rattle.std.proofs.Common.{◌≡◌, ◌∙◌, ℕ, List, [], Option, Some, None, sym, subst, IfOk}
+use Rattle.std.proofs.Common.{◌∙◌, ℕ, [], sym, subst, IfOk}
 use Rattle.tree_store.specs.declared.spots.Spot.{Spot}
 use Rattle.tree_store.specs.declared.spots.Spot.TheVariants.{Slot, Child}
 use Rattle.tree_store.specs.Spots.{SpotHasTrack, Adds}
