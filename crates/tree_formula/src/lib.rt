@@ -5,6 +5,7 @@
 #![tactic(auto)]
 
 mod cells;
+pub mod laws;
 mod types;
 mod variables;
 mod variants;
