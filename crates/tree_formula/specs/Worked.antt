@@ -22,14 +22,26 @@ list_types = record {
 abbrev pub list_vars : List VarEntry
 list_vars = record { name = 120 ∷ []; kind = var.Data (record { 0 = 0 }) } ∷ []
 
+-- the position on track 2 is in the slot
+abbrev pub in_slot : Formula
+in_slot = Ex2 (t 3) (And (Root (t 3)) (Succ0 (t 3) (t 2)))
+
+-- and is a cell
+abbrev pub cell_in_slot : Formula
+cell_in_slot = And in_slot (Sub (t 2) (t 0))
+
+-- it is the child of a cell, of track 0
+abbrev pub is_child : Formula
+is_child = Ex2 (t 3) (And (Single (t 3)) (And (Sub (t 3) (t 0)) (Succ0 (t 3) (t 2))))
+
 -- each cell, of track 0, is in the slot or the child of a cell
 abbrev pub list_reached : Formula
-list_reached = Not (Ex2 (t 2) (And (Single (t 2)) (Not (Not (And (Sub (t 2) (t 0)) (Not (Not (And (Not (Ex2 (t 3) (And (Root (t 3)) (Succ0 (t 3) (t 2))))) (Not (Ex2 (t 3) (And (Single (t 3)) (And (Sub (t 3) (t 0)) (Succ0 (t 3) (t 2))))))))))))))
+list_reached = Not (Ex2 (t 2) (And (Single (t 2)) (Not (Not (And (Sub (t 2) (t 0)) (Not (Not (And (Not in_slot) (Not is_child)))))))))
 
 -- x, of track 1, is the cell in the slot, where one is there
 abbrev pub list_named : Formula
 list_named =
-    Not (Ex2 (t 2) (And (Single (t 2)) (Not (And (Not (And (Sub (t 2) (t 1)) (Not (And (Ex2 (t 3) (And (Root (t 3)) (Succ0 (t 3) (t 2)))) (Sub (t 2) (t 0)))))) (Not (And (And (Ex2 (t 3) (And (Root (t 3)) (Succ0 (t 3) (t 2)))) (Sub (t 2) (t 0))) (Not (Sub (t 2) (t 1)))))))))
+    Not (Ex2 (t 2) (And (Single (t 2)) (Not (And (Not (And (Sub (t 2) (t 1)) (Not cell_in_slot))) (Not (And cell_in_slot (Not (Sub (t 2) (t 1)))))))))
 
 abbrev pub list_formula : Formula
 list_formula = And list_reached list_named
