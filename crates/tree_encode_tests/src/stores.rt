@@ -2,7 +2,7 @@
 
 use crate::made::{made_spares, made_vars};
 use crate::tracks::{VARS, made_types};
-use std::alloc::Global;
+use std::alloc::{AllocError, Global};
 use std::process::Abort;
 use std::test::Fail;
 use store_text::read_store;
@@ -60,12 +60,28 @@ fn stands_for(tree: &LabelTree, wanted: &[(&str, &[u32])]) -> bool {
     marks(tree) == count
 }
 
-fn check(
-    rt: &impl Abort,
-    alloc: Global,
-    text: &str,
-    wanted: &[(&str, &[u32])],
-) -> Result<(), Fail> {
+/// The text of the store with these values of the variables and these cells.
+fn spelled(alloc: Global, values: &[&str], cells: &[&str]) -> Result<String, AllocError> {
+    let mut text = String::from_str(alloc, "store\n")?;
+    for ((name, _), value) in VARS.iter().zip(values) {
+        text.push_str("var ")?;
+        text.push_str(name)?;
+        text.push_str(" ")?;
+        text.push_str(value)?;
+        text.push_str("\n")?;
+    }
+    for cell in cells {
+        text.push_str("cell ")?;
+        text.push_str(cell)?;
+        text.push_str("\n")?;
+    }
+    text.push_str("end\n")?;
+    Ok(text)
+}
+
+fn check(rt: &impl Abort, alloc: Global, row: &Row<'_>) -> Result<(), Fail> {
+    let (values, cells, wanted) = row;
+    let text = spelled(alloc, values, cells)?;
     let types = made_types(alloc)?;
     let vars = made_vars(alloc, &types, &VARS)?;
     let spares = made_spares(alloc, &types)?;
@@ -77,45 +93,70 @@ fn check(
     Ok(())
 }
 
-const ROWS: [(&str, &[(&str, &[u32])]); 11] = [
+/// The values of the variables, the cells, and the tracks of the positions that have any.
+type Row<'a> = ([&'a str; 6], &'a [&'a str], &'a [(&'a str, &'a [u32])]);
+
+const ROWS: [Row<'static>; 11] = [
+    (["null", "null", "null", "false", "{}", "false"], &[], &[]),
     (
-        "store\nvar x null\nvar p null\nvar t null\nvar b false\nvar S {}\nvar l false\nend\n",
+        ["null", "null", "null", "true", "{}", "true"],
         &[],
-    ),
-    (
-        "store\nvar x null\nvar p null\nvar t null\nvar b true\nvar S {}\nvar l true\nend\n",
         &[("", &[8, 10])],
     ),
     (
-        "store\nvar x 1\nvar p null\nvar t null\nvar b false\nvar S {}\nvar l false\ncell 1 Node next=null red=false tree=null\nend\n",
+        ["1", "null", "null", "false", "{}", "false"],
+        &["1 Node next=null red=false tree=null"],
         &[("0", &[0, 5])],
     ),
     (
-        "store\nvar x 1\nvar p 1\nvar t null\nvar b false\nvar S {}\nvar l false\ncell 1 Node next=null red=true tree=null\nend\n",
+        ["1", "1", "null", "false", "{}", "false"],
+        &["1 Node next=null red=true tree=null"],
         &[("0", &[0, 3, 5, 6])],
     ),
     (
-        "store\nvar x 1\nvar p 3\nvar t null\nvar b false\nvar S {}\nvar l false\ncell 1 Node next=2 red=false tree=null\ncell 2 Node next=3 red=true tree=null\ncell 3 Node next=null red=false tree=null\nend\n",
+        ["1", "3", "null", "false", "{}", "false"],
+        &[
+            "1 Node next=2 red=false tree=null",
+            "2 Node next=3 red=true tree=null",
+            "3 Node next=null red=false tree=null",
+        ],
         &[("0", &[0, 5]), ("00", &[0, 3]), ("000", &[0, 6])],
     ),
     (
-        "store\nvar x 1\nvar p null\nvar t null\nvar b false\nvar S {1 3}\nvar l false\ncell 1 Node next=2 red=false tree=null\ncell 2 Node next=3 red=false tree=null\ncell 3 Node next=null red=false tree=null\nend\n",
+        ["1", "null", "null", "false", "{1 3}", "false"],
+        &[
+            "1 Node next=2 red=false tree=null",
+            "2 Node next=3 red=false tree=null",
+            "3 Node next=null red=false tree=null",
+        ],
         &[("0", &[0, 5, 9]), ("00", &[0]), ("000", &[0, 9])],
     ),
     (
-        "store\nvar x 1\nvar p null\nvar t null\nvar b false\nvar S {}\nvar l false\ncell 1 Node next=null red=false tree=2\ncell 2 Tree:leaf up=null\nend\n",
+        ["1", "null", "null", "false", "{}", "false"],
+        &["1 Node next=null red=false tree=2", "2 Tree:leaf up=null"],
         &[("0", &[0, 5]), ("010", &[1])],
     ),
     (
-        "store\nvar x null\nvar p null\nvar t 1\nvar b false\nvar S {}\nvar l false\ncell 1 Tree:leaf up=null\nend\n",
+        ["null", "null", "1", "false", "{}", "false"],
+        &["1 Tree:leaf up=null"],
         &[("10", &[1, 7])],
     ),
     (
-        "store\nvar x null\nvar p null\nvar t 1\nvar b false\nvar S {}\nvar l false\ncell 1 Tree:inner up=null on=false left=2\ncell 2 Tree:inner up=null on=true left=3\ncell 3 Tree:leaf up=null\nend\n",
+        ["null", "null", "1", "false", "{}", "false"],
+        &[
+            "1 Tree:inner up=null on=false left=2",
+            "2 Tree:inner up=null on=true left=3",
+            "3 Tree:leaf up=null",
+        ],
         &[("10", &[2, 7]), ("100", &[2, 4]), ("1000", &[1])],
     ),
     (
-        "store\nvar x 9\nvar p 4\nvar t 7\nvar b true\nvar S {4 9}\nvar l false\ncell 4 Node next=null red=false tree=null\ncell 7 Tree:leaf up=null\ncell 9 Node next=4 red=false tree=null\nend\n",
+        ["9", "4", "7", "true", "{4 9}", "false"],
+        &[
+            "4 Node next=null red=false tree=null",
+            "7 Tree:leaf up=null",
+            "9 Node next=4 red=false tree=null",
+        ],
         &[
             ("", &[8]),
             ("0", &[0, 5, 9]),
@@ -124,7 +165,13 @@ const ROWS: [(&str, &[(&str, &[u32])]); 11] = [
         ],
     ),
     (
-        "store\nvar x 1\nvar p null\nvar t null\nvar b false\nvar S {}\nvar l true\ncell 1 Node next=2 red=false tree=3\ncell 2 Node next=null red=false tree=4\ncell 3 Tree:leaf up=null\ncell 4 Tree:inner up=null on=true left=null\nend\n",
+        ["1", "null", "null", "false", "{}", "true"],
+        &[
+            "1 Node next=2 red=false tree=3",
+            "2 Node next=null red=false tree=4",
+            "3 Tree:leaf up=null",
+            "4 Tree:inner up=null on=true left=null",
+        ],
         &[
             ("", &[10]),
             ("0", &[0, 5]),
@@ -138,8 +185,8 @@ const ROWS: [(&str, &[(&str, &[u32])]); 11] = [
 /// Variants, two types, bools, logic sets, pointer variables, an empty store and numbers with gaps.
 #[test]
 fn small_stores_have_their_trees(rt: HostRuntime) -> Result<(), Fail> {
-    for (text, wanted) in ROWS {
-        check(&rt, rt.alloc(), text, wanted)?;
+    for row in &ROWS {
+        check(&rt, rt.alloc(), row)?;
     }
     Ok(())
 }

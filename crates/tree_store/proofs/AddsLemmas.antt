@@ -55,7 +55,9 @@ Adds-push P tracks track is = record {
 
 -- one track, if there is one and it is to be added
 pub Adds-where : (tracks : List Track) (on : Bool) (track : Track) → on ≡ true → Adds (λ t. IsTrue on × (Some track ≡ Some t)) tracks (tracks ++ track ∷ [])
-Adds-where tracks on track is_on = Adds-push (λ t. IsTrue on × (Some track ≡ Some t)) tracks track (λ t. (λ is. one track t is.1, λ same. (is_on, ap (λ u. Some u) same)))
+Adds-where tracks on track is_on =
+    Adds-push (λ t. IsTrue on × (Some track ≡ Some t)) tracks track
+    (λ t. (λ is. one track t is.1, λ same. (is_on, ap (λ u. Some u) same)))
   where
     one : (a b : Track) → Some a ≡ Some b → a ≡ b
     one a b e = cc

@@ -73,7 +73,8 @@ module _ (types : List TypeEntry) (vars : List VarEntry) (s : StoreMap) (rows : 
         spot-few types vars s q t has past);
   }
     where
-      there : (what : TrackUse) (t : Track) (p : Position) → track_of types vars what ≡ Some t → IsTrue (assignment_of turned t.0 p) → IsOn types vars s what p
+      there : (what : TrackUse) (t : Track) (p : Position) → track_of types vars what ≡ Some t → IsTrue (assignment_of turned t.0 p) →
+          IsOn types vars s what p
       there what t p is found =
           let (q, at, has) = (root-reads types vars s rows spots nodes grown whole t.0 p).0 found in
           spot-on what t p is q at has

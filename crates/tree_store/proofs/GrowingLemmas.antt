@@ -25,7 +25,8 @@ times-append xs ys k =
     ap (sum_by (λ child. cond (eqb child k) 1 0)) (flat_map-append children_of xs ys)
     ∙ sum_by-append (λ child. cond (eqb child k) 1 0) (flat_map children_of xs) (flat_map children_of ys)
 
-pub times-push : (nodes : List TreeNode) (node : TreeNode) (k : ℕ) → times_named (nodes ++ node ∷ []) k ≡ times_named nodes k + (hits node.left k + hits node.right k)
+pub times-push : (nodes : List TreeNode) (node : TreeNode) (k : ℕ) →
+    times_named (nodes ++ node ∷ []) k ≡ times_named nodes k + (hits node.left k + hits node.right k)
 times-push nodes node k =
     let one = times-cons node [] k in
     let all = times-append nodes (node ∷ []) k in
@@ -78,7 +79,8 @@ hits-past spots (Some spot) m past =
 -- ---- one node more
 
 module _ (types : List TypeEntry) (vars : List VarEntry) (s : StoreMap) (rows : Rows) where
-  IsNodeAt-more : (spots more : List Spot) (k : ℕ) (node : TreeNode) → IsNodeAt types vars s rows spots k node → IsNodeAt types vars s rows (spots ++ more) k node
+  IsNodeAt-more : (spots more : List Spot) (k : ℕ) (node : TreeNode) → IsNodeAt types vars s rows spots k node →
+      IsNodeAt types vars s rows (spots ++ more) k node
   IsNodeAt-more spots more k node is = record {
     spot = is.spot;
     here = slice_get-front spots more k (slice_get_within spots k is.spot is.here) ∙ is.here;
@@ -137,7 +139,8 @@ module _ (types : List TypeEntry) (vars : List VarEntry) (s : StoreMap) (rows : 
       in_new : (k : ℕ) (x : Spot) → slice_get spots k ≡ Some x → slice_get new k ≡ Some x
       in_new k x at =
           let in_mid : slice_get mid k ≡ Some x =
-          ap (λ (xs : List Spot). slice_get xs k) mid_is ∙ slice_get-front spots (option_to_list (spot_below rows s spot)) k (slice_get_within spots k x at) ∙ at in
+          ap (λ (xs : List Spot). slice_get xs k) mid_is ∙ slice_get-front spots (option_to_list (spot_below rows s spot)) k (slice_get_within spots
+          k x at) ∙ at in
           ap (λ (xs : List Spot). slice_get xs k) new_is
           ∙ slice_get-front mid (option_to_list (spot_after rows s spot)) k (slice_get_within mid k x in_mid) ∙ in_mid
 
@@ -149,10 +152,12 @@ module _ (types : List TypeEntry) (vars : List VarEntry) (s : StoreMap) (rows : 
         left = subst (λ (xs : List Spot). LinksTo xs (length nodes) (spot_below rows s spot) left) (sym new_is)
             (LinksTo-more mid (option_to_list (spot_after rows s spot)) (length nodes) (spot_below rows s spot) left
             (subst (λ (o : Option ℕ). LinksTo mid (length nodes) (spot_below rows s spot) o) (sym left_is)
-            (subst (λ (xs : List Spot). LinksTo xs (length nodes) (spot_below rows s spot) (option_map (λ (x : Spot). length spots) (spot_below rows s spot))) (sym mid_is)
+            (subst (λ (xs : List Spot). LinksTo xs (length nodes) (spot_below rows s spot) (option_map (λ (x : Spot). length spots) (spot_below rows
+            s spot))) (sym mid_is)
             (LinksTo-new spots (length nodes) (spot_below rows s spot) inside))));
         right = subst (λ (o : Option ℕ). LinksTo new (length nodes) (spot_after rows s spot) o) (sym right_is)
-            (subst (λ (xs : List Spot). LinksTo xs (length nodes) (spot_after rows s spot) (option_map (λ (x : Spot). length mid) (spot_after rows s spot))) (sym new_is)
+            (subst (λ (xs : List Spot). LinksTo xs (length nodes) (spot_after rows s spot) (option_map (λ (x : Spot). length mid) (spot_after rows s
+            spot))) (sym new_is)
             (LinksTo-new mid (length nodes) (spot_after rows s spot) (omega (arith, inside, to_mid))));
       }
 

@@ -56,7 +56,8 @@ bool-inside types f t is =
     let (entry, has, then) = and_then-some _ (slice_get (fields_of types f.ty) f.index) t is in
     slice_get_within (fields_of types f.ty) f.index entry has
 
-pub bools-meant : (types : List TypeEntry) (vars : List VarEntry) (s : StoreMap) (rows : Rows) (is : IsRows types vars rows) (c : CellId) (row : Row) (t : Track) →
+pub bools-meant : (types : List TypeEntry) (vars : List VarEntry) (s : StoreMap) (rows : Rows) (is : IsRows types vars rows) (c : CellId) (row : Row)
+    (t : Track) →
     row_of rows s c ≡ Some row →
     ((f : FieldId) × (bool_track types f ≡ Some t) × (field_value s c f ≡ Some (value.Bool true)))
     ↔ ((k : ℕ) × (k < length row.bools) × BoolIsOn s c (slice_get row.bools k) t)
@@ -132,8 +133,11 @@ root-meant types vars s t = (there, λ (v, track, on). (of_var v, track, on))
 pub bool-meant : (s : StoreMap) (c : CellId) (field : Option (FieldId × Track)) (pair : FieldId × Track) (on : Bool) (t : Track) → field ≡ Some pair →
     IsTrue on ↔ (field_value s c pair.0 ≡ Some (value.Bool true)) → BoolIsOn s c field t ↔ (IsTrue on × (Some pair.1 ≡ Some t))
 bool-meant s c field pair on t is meant = (
-  λ (other, same, holds, track). let e : pair ≡ other = one pair other (sym is ∙ same) in
-      (meant.1 (subst (λ (p : FieldId × Track). field_value s c p.0 ≡ Some (value.Bool true)) (sym e) holds), ap (λ u. Some u) (ap (λ (p : FieldId × Track). p.1) e ∙ track)),
+  λ (other, same, holds, track). let e : pair ≡ other = one pair other (sym is ∙ same) in (
+    meant.1 (subst (λ (p : FieldId × Track). field_value s c p.0 ≡ Some (value.Bool true)) (sym e) holds),
+    ap (λ u. Some u) (ap (λ (p : FieldId ×
+        Track). p.1) e ∙ track),
+  ),
   λ both. (pair, is, meant.0 both.0, track-one pair.1 t both.1),
 )
   where
@@ -160,4 +164,5 @@ cell-tracks types vars s c old one two new variants bools names =
 pub root-tracks : (types : List TypeEntry) (vars : List VarEntry) (s : StoreMap) (old new : List Track) →
     Adds (λ t. (v : VarId) × (var_track types vars v ≡ Some t) × IsOnAt s (of_var v) None) old new → Adds (HasTrack types vars s None) old new
 root-tracks types vars s old new names =
-    Adds-same (λ t. (v : VarId) × (var_track types vars v ≡ Some t) × IsOnAt s (of_var v) None) (HasTrack types vars s None) old new names (root-meant types vars s)
+    Adds-same (λ t. (v : VarId) × (var_track types vars v ≡ Some t) × IsOnAt s (of_var v) None) (HasTrack types vars s None) old new names
+    (root-meant types vars s)

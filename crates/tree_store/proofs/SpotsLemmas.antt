@@ -140,9 +140,11 @@ module _ (types : List TypeEntry) (vars : List VarEntry) (s : StoreMap) (rows : 
       (cell, there, is.types.each cell.variant.ty.0 row has)
 
   -- a data field leads to the cell below a child
-  child-leads : (c d : CellId) (j : ℕ) → cell_below rows s (Child c j) ≡ Some d → (f : FieldId) × Leads types s DataAlone f c d × (child_number types f ≡ Some j)
+  child-leads : (c d : CellId) (j : ℕ) → cell_below rows s (Child c j) ≡ Some d →
+      (f : FieldId) × Leads types s DataAlone f c d × (child_number types f ≡ Some j)
   child-leads c d j at =
-      let (row, is_row, then) = and_then-some (λ (row : Row). option_and_then (λ f. named_cell s (field_value s c f)) (slice_get row.children j)) (row_of rows s c) d at in
+      let (row, is_row, then) = and_then-some (λ (row : Row). option_and_then (λ f. named_cell s (field_value s c f)) (slice_get row.children j))
+      (row_of rows s c) d at in
       let (f, there, names) = and_then-some (λ f. named_cell s (field_value s c f)) (slice_get row.children j) d then in
       let (cell, of_cell, right) = row-is c row is_row in
       let ty = cell.variant.ty in
@@ -160,7 +162,8 @@ module _ (types : List TypeEntry) (vars : List VarEntry) (s : StoreMap) (rows : 
 
   -- and the cell below a child is where the field leads
   leads-child : (f : FieldId) (c d : CellId) → Leads types s DataAlone f c d →
-      (row : Row) × (j : ℕ) × (row_of rows s c ≡ Some row) × (child_number types f ≡ Some j) × (j < length row.children) × (cell_below rows s (Child c j) ≡ Some d)
+      (row : Row) × (j : ℕ) × (row_of rows s c ≡ Some row) × (child_number types f ≡ Some j) × (j < length row.children) × (cell_below rows s (Child
+      c j) ≡ Some d)
   leads-child f c d leads =
       let (cell, there, typed) = own_type s c f (value.Cell (Some d)) leads.value in
       let (entry, has, is_data) = IsSomeAnd-at (field_at types f) (λ e. IsFollowed DataAlone e.kind) leads.kind in
@@ -173,19 +176,22 @@ module _ (types : List TypeEntry) (vars : List VarEntry) (s : StoreMap) (rows : 
       let child : slice_get row.children (rank Children types f) ≡ Some f =
       right.children.all f.index (rank Children types f) (slice_get_within (fields_of types f.ty) f.index entry has) number in
       let is_row : row_of rows s c ≡ Some row =
-      ap (λ o. option_and_then (λ (x : CellEntry). slice_get rows.types x.variant.ty.0) o) there ∙ ap (λ (y : TypeId). slice_get rows.types y.0) typed ∙ row_at in (
+      ap (λ o. option_and_then (λ (x : CellEntry). slice_get rows.types x.variant.ty.0) o) there ∙ ap (λ (y : TypeId). slice_get rows.types y.0)
+      typed ∙ row_at in (
         row,
         rank Children types f,
         is_row,
         number,
         slice_get_within row.children (rank Children types f) f child,
-        ap (λ o. option_and_then (λ (r : Row). option_and_then (λ g. named_cell s (field_value s c g)) (slice_get r.children (rank Children types f))) o) is_row
+        ap (λ o. option_and_then (λ (r : Row). option_and_then (λ g. named_cell s (field_value s c g)) (slice_get r.children (rank Children types
+            f))) o) is_row
             ∙ ap (λ o. option_and_then (λ g. named_cell s (field_value s c g)) o) child
             ∙ named-live s (field_value s c f) d leads.value leads.live,
       )
 
   -- the variable of a slot names the cell below it
-  slot-names : (i : ℕ) (d : CellId) → cell_below rows s (Slot i) ≡ Some d → (v : VarId) × Names types vars s (place.Var v) d × IsLive s d × (slot_of_var vars v ≡ Some i)
+  slot-names : (i : ℕ) (d : CellId) → cell_below rows s (Slot i) ≡ Some d →
+      (v : VarId) × Names types vars s (place.Var v) d × IsLive s d × (slot_of_var vars v ≡ Some i)
   slot-names i d at =
       let (v, there, names) = and_then-some (λ v. named_cell s (var_value s v)) (slice_get rows.slots i) d at in
       let (k, inside, number, same) = is.slots.each i v there in
@@ -316,7 +322,8 @@ module _ (types : List TypeEntry) (vars : List VarEntry) (s : StoreMap) (rows : 
   below-spot : (spot : Spot) (d : CellId) (w : Position) → cell_below rows s spot ≡ Some d → spot_at rows s spot (false ∷ w) ≡ spot_at rows s (Child d 0) w
   below-spot spot d w at = ap (λ o. option_and_then (λ next. spot_at rows s next w) (option_map (λ c. Child c 0) o)) at
 
-  child-reached : (fields : List FieldId) (c d : CellId) → LeadsAlong types s fields c d → spot_at rows s (Child c 0) (below types [] fields) ≡ Some (Child d 0)
+  child-reached : (fields : List FieldId) (c d : CellId) → LeadsAlong types s fields c d →
+      spot_at rows s (Child c 0) (below types [] fields) ≡ Some (Child d 0)
   child-reached [] c d stays = ap (λ x. Some (Child x 0)) stays.0
   child-reached (f ∷ fields) c d (b, leads, along) =
       let (row, j, is_row, number, inside, at) = leads-child f c b leads in

@@ -124,7 +124,8 @@ here-is (t ∷ tracks) label i x at = pick (label t) refl i at (λ j there. here
     pick true is (suc i) at rest = let (k, there, on, root) = rest i at in (suc k, there, on, root)
     pick false is i at rest = let (k, there, on, root) = rest i at in (suc k, there, on, root)
 
-is-here : (tracks : List ℕ) (label : Label) (k t : ℕ) → slice_get tracks k ≡ Some t → label t ≡ true → (i : ℕ) × (slice_get (here tracks label) i ≡ Some (t, []))
+is-here : (tracks : List ℕ) (label : Label) (k t : ℕ) → slice_get tracks k ≡ Some t → label t ≡ true →
+    (i : ℕ) × (slice_get (here tracks label) i ≡ Some (t, []))
 is-here [] label k t at on = absurd (let none : None ≡ Some t = at in cc)
 is-here (u ∷ tracks) label zero t at on =
     let same : u ≡ t = cc in
@@ -234,15 +235,19 @@ are-marks : (tracks : List ℕ) (n : ℕ) (a : Assignment) (k t : ℕ) (p : Posi
     (i : ℕ) × (slice_get (marks tracks n a) i ≡ Some (t, p))
 are-marks tracks zero a k t p at on short = absurd (omega (arith, short))
 are-marks tracks (suc n) a k t [] at on short =
-    let (i, there) = is-here tracks (root_label a) k t at on in
-    (i, in_first (here tracks (root_label a)) (map (under false) (marks tracks n (half false a)) ++ map (under true) (marks tracks n (half true a))) i (t, []) there)
+    let (i, there) = is-here tracks (root_label a) k t at on in (
+      i,
+      in_first (here tracks (root_label a)) (map (under false) (marks tracks n (half false a)) ++ map (under true) (marks tracks n (half true a)))
+          i (t, []) there,
+    )
 are-marks tracks (suc n) a k t (false ∷ p) at on short =
     let l = marks tracks n (half false a) in
     let r = marks tracks n (half true a) in
     let (i, there) = are-marks tracks n (half false a) k t p at on (omega (arith, short)) in (
       length (here tracks (root_label a)) + i,
       in_second (here tracks (root_label a)) (map (under false) l ++ map (under true) r) i (t, false ∷ p)
-          (in_first (map (under false) l) (map (under true) r) i (t, false ∷ p) (slice_get-map (under false) l i ∙ ap (λ o. option_map (under false) o) there)),
+          (in_first (map (under false) l) (map (under true) r) i (t, false ∷ p) (slice_get-map (under false) l i ∙ ap (λ o. option_map (under false)
+          o) there)),
     )
 are-marks tracks (suc n) a k t (true ∷ p) at on short =
     let l = marks tracks n (half false a) in
@@ -299,7 +304,8 @@ module _ (types : List TypeEntry) (vars : List VarEntry) (s : StoreMap) (a : Ass
   mark-of-cell : (c : CellId) → IsLive s c → (i : ℕ) × (x : ℕ × Position) × (slice_get (marks tracks n a) i ≡ Some x) × IsMark x c
   mark-of-cell c live = pick (cell_of s c) refl live
     where
-      pick : (o : Option CellEntry) → cell_of s c ≡ o → is_some o ≡ true → (i : ℕ) × (x : ℕ × Position) × (slice_get (marks tracks n a) i ≡ Some x) × IsMark x c
+      pick : (o : Option CellEntry) → cell_of s c ≡ o → is_some o ≡ true →
+          (i : ℕ) × (x : ℕ × Position) × (slice_get (marks tracks n a) i ≡ Some x) × IsMark x c
       pick None at e = absurd (let no : false ≡ true = e in cc)
       pick (Some cell) at e =
           let cell_fits : CellFits types s cell = IfSome-at (cell_of s c) (CellFits types s) cell at (fits.cells c) in
@@ -343,7 +349,9 @@ module _ (types : List TypeEntry) (vars : List VarEntry) (s : StoreMap) (a : Ass
   key-one c d e = cc
 
   no-more : weight tracks n a ≤ length (keys s.cells)
-  no-more = omega (arith, length-marks tracks n a, matched-le (length (keys s.cells)) (length (marks tracks n a)) Pairs (record { partner = partner; once = once }))
+  no-more =
+      let matched = matched-le (length (keys s.cells)) (length (marks tracks n a)) Pairs (record { partner = partner; once = once }) in
+      omega (arith, length-marks tracks n a, matched)
     where
       partner : (i : ℕ) → i < length (marks tracks n a) → (j : ℕ) × (j < length (keys s.cells)) × Pairs i j
       partner i inside =
@@ -359,7 +367,9 @@ module _ (types : List TypeEntry) (vars : List VarEntry) (s : StoreMap) (a : Ass
           (marks-once tracks n a tracks-once).once i k y (at ∙ ap (λ p. Some p) e) found
 
   no-fewer : length (keys s.cells) ≤ weight tracks n a
-  no-fewer = omega (arith, length-marks tracks n a, matched-le (length (marks tracks n a)) (length (keys s.cells)) (λ j i. Pairs i j) (record { partner = partner; once = once }))
+  no-fewer =
+      let matched = matched-le (length (marks tracks n a)) (length (keys s.cells)) (λ j i. Pairs i j) (record { partner = partner; once = once }) in
+      omega (arith, length-marks tracks n a, matched)
     where
       partner : (j : ℕ) → j < length (keys s.cells) → (i : ℕ) × (i < length (marks tracks n a)) × Pairs i j
       partner j inside =

@@ -119,7 +119,8 @@ fn push_bools(
     cell: CellId,
 ) -> Result<(), AllocError>
     requires { IsRows l.now.types l.now.vars rows.now }
-    ensures { OnOk result (Adds (λ t. (f : FieldId) × (bool_track l.now.types f ≡ Some t) × (field_value store.now cell f ≡ Some (Value.Bool true))) tracks.old tracks.new) }
+    ensures { OnOk result (Adds (λ t. (f : FieldId) × (bool_track l.now.types f ≡ Some t)
+        × (field_value store.now cell f ≡ Some (Value.Bool true))) tracks.old tracks.new) }
 {
     if let Some(row) = row_of(rows, store, cell) {
         for place in 0..row.bools.len() {

@@ -6,5 +6,6 @@ use Rattle.tree_formula.proofs.cells.of_each.Goals as goal
 
 pub loop-index-preserved : goal.loop-index-preserved
 loop-index-preserved c =
-    map-next (λ (v : VariantId). is_of c.args.l.now.types v c.args.a) (variant_in c.args.ty) c.loop-index.index c.loop-index.parts.items c.push.new.self.items c.loop-index.invariant
+    map-next (λ (v : VariantId). is_of c.args.l.now.types v c.args.a) (variant_in c.args.ty) c.loop-index.index c.loop-index.parts.items
+    c.push.new.self.items c.loop-index.invariant
     (c.in_ok-push.ensures.items ∙ ap (λ f. c.loop-index.parts.items ++ f ∷ []) c.is_of.ensures)

@@ -4,5 +4,6 @@ use Rattle.tree_formula.proofs.whole.push_types.Goals as goal
 
 pub loop-index-preserved : goal.loop-index-preserved
 loop-index-preserved c =
-    flat-next (type_parts c.args.next c.args.l.now.types c.args.l.now.vars) type_id c.loop-index.index c.args.parts.now.items c.loop-index.parts.items c.push_type.new.parts.items c.loop-index.invariant
+    flat-next (type_parts c.args.next c.args.l.now.types c.args.l.now.vars) type_id c.loop-index.index c.args.parts.now.items
+    c.loop-index.parts.items c.push_type.new.parts.items c.loop-index.invariant
     c.in_ok-push_type.ensures

@@ -17,6 +17,7 @@ loop-index-preserved c =
       | else-is_some w ↦
           numbered-kept (is_counted Children) (field_in c.args.ty) (fields_of c.args.l.now.types c.args.ty) c.loop-index.index c.loop-index.fields
           c.if-is_some.fields c.child.result c.is_some.result
-          (omega (arith, c.fields-index-end.ensures, ap (λ (ts : List TypeEntry). length (fields_of ts c.args.ty)) c.types.ensures.value)) c.loop-index.invariant
+          (omega (arith, c.fields-index-end.ensures, ap (λ (ts : List TypeEntry). length (fields_of ts c.args.ty)) c.types.ensures.value))
+          c.loop-index.invariant
           c.child.ensures c.is_some.ensures w.if-is_some.false w.fields-is
     ]

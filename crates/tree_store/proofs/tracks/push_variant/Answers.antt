@@ -13,4 +13,5 @@ returns-in_ok-push_where c =
     Adds-same (λ (t : Track). IsTrue true × (c.variant_track.result ≡ Some t))
     (λ (t : Track). (x : VariantId) × (variant_track types x ≡ Some t) × IsOfVariant c.args.store.now x c.args.cell) c.args.tracks.now c.push_where.new.tracks
     c.in_ok-push_where.ensures
-    (λ t. variant-meant types c.args.store.now c.args.cell c.in-Some.variant c.variant_track.result t (sym c.variant_of.ensures ∙ c.in-Some.is) c.variant_track.ensures)
+    (λ t. variant-meant types c.args.store.now c.args.cell c.in-Some.variant c.variant_track.result t (sym c.variant_of.ensures ∙ c.in-Some.is)
+    c.variant_track.ensures)

@@ -11,7 +11,8 @@ use Rattle.tree_store.proofs.tracks.push_vars.Goals as goal
 
 pub loop-index-init : goal.loop-index-init
 loop-index-init c =
-    Adds-none_yet (λ (k : ℕ) (t : Track). (var_track c.args.l.now.types c.args.l.now.vars (var_number k) ≡ Some t) × IsOnAt c.args.store.now (of_var (var_number k)) c.args.at)
+    Adds-none_yet (λ (k : ℕ) (t : Track). (var_track c.args.l.now.types c.args.l.now.vars (var_number k) ≡ Some t) × IsOnAt c.args.store.now (of_var
+    (var_number k)) c.args.at)
     c.args.tracks.now
 
 pub loop-index-preserved : goal.loop-index-preserved
