@@ -6,4 +6,6 @@ mod guides;
 #[cfg(test)]
 mod made;
 #[cfg(test)]
+mod stores;
+#[cfg(test)]
 mod tracks;

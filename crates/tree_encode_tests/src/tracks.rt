@@ -35,7 +35,7 @@ pub(crate) fn made_types(alloc: Global) -> Result<TypeTable, AllocError> {
     Ok(types)
 }
 
-const VARS: [(&str, VarKind); 6] = [
+pub(crate) const VARS: [(&str, VarKind); 6] = [
     ("x", VarKind::Data(FIRST)),
     ("p", VarKind::Pointer(FIRST)),
     ("t", VarKind::Data(SECOND)),

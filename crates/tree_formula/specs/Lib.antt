@@ -1,0 +1,2 @@
+pub mod WellEncoded
+pub mod Worked

@@ -1,0 +1,5 @@
+pub mod Encoding
+pub mod Growing
+pub mod Rows
+pub mod Spots
+pub mod Weighing
