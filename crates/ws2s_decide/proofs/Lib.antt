@@ -1,0 +1,4 @@
+pub mod HoldingLemmas
+pub mod RoomLemmas
+pub mod SumsLemmas
+pub mod TasksLemmas

@@ -1,0 +1,4 @@
+pub mod Deciding
+pub mod Holding
+pub mod Tasks
+pub mod Going

@@ -1,0 +1,12 @@
+//! Deciding core formulas of WS2S.
+#![tactic(auto)]
+
+mod building;
+mod decider;
+mod deciding;
+mod laws;
+mod machine;
+mod verdict;
+
+pub use decider::{Decider, decide};
+pub use verdict::Verdict;
