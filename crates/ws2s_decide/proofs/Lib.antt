@@ -1,4 +1,6 @@
+pub mod ComplementLemmas
+pub mod GoingLemmas
 pub mod HoldingLemmas
-pub mod RoomLemmas
+pub mod StepsLemmas
 pub mod SumsLemmas
 pub mod TasksLemmas

@@ -1,4 +1,5 @@
 pub mod Deciding
-pub mod Holding
-pub mod Tasks
 pub mod Going
+pub mod Holding
+pub mod Keeping
+pub mod Tasks

@@ -5,10 +5,12 @@ use Rattle.gta_theory.specs.Guides.{Spaces}
 use Rattle.ws2s_core.specs.declared.track.Track.{Track}
 use Rattle.ws2s_core.specs.declared.formula.Formula.{Formula}
 use Rattle.ws2s_core.specs.declared.formula.Formula.TheVariants.{And, Not, Ex2}
+use Rattle.ws2s_core.specs.declared.node.FormulaId.{FormulaId}
+use Rattle.ws2s_core.specs.declared.node.Node.{Node}
 use Rattle.ws2s_core.specs.Nodes.{formula_at}
 use Rattle.ws2s_core.specs.Sizes.{node_count}
 use Rattle.ws2s_theory.specs.Peaks.{HasMinimalSize, HasProductSize, HasSubsetSize, HasPeak}
-use Rattle.ws2s_decide.specs.declared.machine.Task.{Task}
+use Rattle.ws2s_decide.specs.declared.task.Task.{Task}
 
 -- a step: to make the automaton of a formula; to turn the last one over; to conjoin the last two, or to drop a track of the
 -- last one, which gives the automaton of that formula
@@ -24,6 +26,20 @@ step_of formulas (Task.Visit id) = visit (formula_at formulas id.0)
 step_of formulas Task.Negate = negate
 step_of formulas (Task.Conjoin id) = conjoin (formula_at formulas id.0)
 step_of formulas (Task.Quantify t id) = quantify t (formula_at formulas id.0)
+
+-- the formula of the node is no atom
+abbrev pub IsCompound : Node → Type 0
+IsCompound (Node.And f h) = Unit {0}
+IsCompound (Node.Not f) = Unit {0}
+IsCompound (Node.Ex2 t f) = Unit {0}
+IsCompound node = ⊥
+
+-- the tasks for a formula that is no atom, by its node, before others: visits of its parts, and what makes it of them
+abbrev pub tasks_for : FormulaId → Node → List Task → List Task
+tasks_for id (Node.And f h) tasks = Task.Visit f ∷ Task.Visit h ∷ Task.Conjoin id ∷ tasks
+tasks_for id (Node.Not f) tasks = Task.Visit f ∷ Task.Negate ∷ tasks
+tasks_for id (Node.Ex2 t f) tasks = Task.Visit f ∷ Task.Quantify t id ∷ tasks
+tasks_for id node tasks = tasks
 
 -- the steps, one after the other, make one formula of the stack, the last made first
 abbrev pub Makes : List Step → List Formula → Formula → Type 0

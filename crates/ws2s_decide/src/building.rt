@@ -1,106 +1,35 @@
-//! Automata that are built on a shelf, beside those that wait and those that are kept.
+//! Automata that are built beside those that wait and those that are kept. Each builder is tried once more, in the room
+//! that is left where nothing is kept, before its `Limit` is answered.
 
-ghost use Rattle.std.specs.Prelude.{◌≡◌, ◌<◌, ◌≤◌, ◌+◌, ℕ, List, [], ◌∷◌, Err, IfOk, OnErr, IfSome};
-ghost use Rattle.bdd_nodes.specs.Shelf.{Contents, count_of, limit_of};
-ghost use Rattle.gta_theory.specs.Guides.{Spaces};
-ghost use Rattle.gta_core.specs.Auto.{AutoView, automaton_of, IsAuto};
+ghost use Rattle.std.specs.Prelude.{◌≡◌, ◌<◌, ◌+◌, ℕ, List, [], ◌∷◌, Err, IfOk, OnErr};
+ghost use Rattle.bdd_nodes.specs.Shelf.{limit_of};
+ghost use Rattle.gta_core.specs.Auto.{AutoView, automaton_of, states_of};
+ghost use Rattle.gta_atom.specs.Atom.{IsAtom};
+ghost use Rattle.gta_product.specs.Product.{IsProductOf};
+ghost use Rattle.gta_project.specs.Project.{IsSubsetOf};
 ghost use Rattle.ws2s_core.specs.declared.formula.Formula.{Formula};
 ghost use Rattle.ws2s_core.specs.declared.formula.Formula.TheVariants.{And, Ex2};
+ghost use Rattle.ws2s_core.specs.Recognising.{Recognises};
 ghost use Rattle.ws2s_theory.specs.Peaks.{HasMinimalSize, HasProductSize, HasSubsetSize};
-ghost use Rattle.ws2s_decide.specs.Holding.{Holds, HoldsBeside, IsMinimalFor, HaveSum, KeepsSome, Passes, beside, kept_autos};
+ghost use Rattle.ws2s_decide.specs.Holding.{Holds, HoldsBeside, IsMinimalFor, HaveSum, Passes, beside};
 
+use crate::kept::Kept;
 use bdd_nodes::Shelf;
-use bdd_walk::{NoMemory, Stop};
+use bdd_walk::Stop;
 use gta_atom::atom;
 use gta_core::{Auto, release};
 use gta_minimise::minimise;
 use gta_product::product;
 use gta_project::project;
-use lru::LruCache;
-use std::alloc::{AllocError, Global};
-use std::num::NonZeroUsize;
-use ws2s_core::{Formula, FormulaId, Guide, Track};
+use std::alloc::Global;
+use ws2s_core::{Formula, Guide, Track};
 
-/// The minimal automata of formulas that may be asked for again, by the formulas' numbers.
-#[derive(Drop)]
-pub struct Kept {
-    pub automata: LruCache<FormulaId, Auto>,
-}
-
-impl Kept {
-    /// Keeps nothing.
-    pub fn new(alloc: Global) -> Result<Kept, NoMemory>
-        ensures { IfOk result (λ kept. kept.automata.entries ≡ []) }
-    {
-        let most = NonZeroUsize::new(256).unwrap();
-        Ok(Kept {
-            automata: LruCache::new(alloc, most)?,
-        })
-    }
-
-    /// A copy of the automaton that is kept for the formula, with a table of its own.
-    pub fn copy_of(
-        &mut self,
-        alloc: Global,
-        id: FormulaId,
-        shelf: &mut Shelf,
-    ) -> Result<Option<Auto>, NoMemory> {
-        match self.automata.get(&id) {
-            Some(kept) => Ok(Some(kept.copy(alloc, shelf)?)),
-            None => Ok(None),
-        }
-    }
-
-    /// Keeps a copy of the automaton.
-    pub fn keep(
-        &mut self,
-        alloc: Global,
-        id: FormulaId,
-        auto: &Auto,
-        shelf: &mut Shelf,
-    ) -> Result<(), NoMemory> {
-        if self.automata.len() == 256 {
-            if let Some((_, oldest)) = self.automata.pop_lru() {
-                release(oldest, shelf);
-            }
-        }
-        let copy = auto.copy(alloc, shelf)?;
-        match self.automata.put(id, copy) {
-            Ok(Some(before)) => {
-                release(before, shelf);
-                Ok(())
-            }
-            Ok(None) => Ok(()),
-            Err(refused) => {
-                let (_, copy) = refused.value;
-                release(copy, shelf);
-                Err(AllocError)
-            }
-        }
-    }
-
-    /// Releases all that is kept.
-    pub fn release_all(&mut self, shelf: &mut Shelf) {
-        while let Some((_, auto)) = self.automata.pop_lru() {
-            release(auto, shelf);
-        }
-    }
-
-    /// Lets go of what is kept and of the nodes that nothing needs. What is left are nodes of the automata that wait: no more
-    /// than the sum of their Sizes.
-    pub fn make_room(&mut self, shelf: &mut Shelf)
-        requires { (g : Spaces) × HoldsBeside g shelf.old [] self.old.automata.entries }
-        ensures passes { (g : Spaces) → Passes g shelf.old shelf.new [] [] self.old.automata.entries self.new.automata.entries }
-        ensures empty { self.new.automata.entries ≡ [] }
-        ensures room { (g : Spaces) (others : List AutoView) (sum : ℕ) → Holds g shelf.old (beside [] others self.old.automata.entries) →
-            HaveSum g shelf.old others sum → count_of shelf.new ≤ sum }
-    {
-        self.release_all(shelf);
-        shelf.collect();
-    }
-}
-
-/// The minimal automaton that accepts where both do. The two are let go of.
+/// The minimal automaton that accepts where both do. The two are let go of, whatever the answer.
+///
+/// # Errors
+///
+/// `Limit` only where the Sizes of the others that wait, of the two, of their product and of the result are together more
+/// than the shelf's limit; want of memory.
 pub fn conjoin(
     alloc: Global,
     g: &Guide,
@@ -109,13 +38,13 @@ pub fn conjoin(
     kept: &mut Kept,
     shelf: &mut Shelf,
 ) -> Result<Auto, Stop>
-    requires { HoldsBeside g.now shelf.old (a ∷ b ∷ []) kept.old.automata.entries }
-    ensures ok { IfOk result (λ c. Passes g.now shelf.old shelf.new (a ∷ b ∷ []) (c ∷ []) kept.old.automata.entries kept.new.automata.entries) }
+    requires { HoldsBeside g.now shelf.old (a ∷ b ∷ []) kept.old }
+    ensures ok { IfOk result (λ c. Passes g.now shelf.old shelf.new (a ∷ b ∷ []) (c ∷ []) kept.old kept.new) }
     ensures minimal { IfOk result (λ c. (f h : Formula) → IsMinimalFor g.now shelf.old a f → IsMinimalFor g.now shelf.old b h →
         IsMinimalFor g.now shelf.new c (And f h)) }
-    ensures err { OnErr result (Passes g.now shelf.old shelf.new (a ∷ b ∷ []) [] kept.old.automata.entries kept.new.automata.entries) }
+    ensures err { OnErr result (Passes g.now shelf.old shelf.new (a ∷ b ∷ []) [] kept.old kept.new) }
     ensures limit { result ≡ Err Stop.Limit → (others : List AutoView) (f h : Formula) (s n m p r : ℕ) →
-        Holds g.now shelf.old (beside (a ∷ b ∷ []) others kept.old.automata.entries) →
+        Holds g.now shelf.old (beside (a ∷ b ∷ []) others kept.old) →
         IsMinimalFor g.now shelf.old a f → IsMinimalFor g.now shelf.old b h → HaveSum g.now shelf.old others s →
         HasMinimalSize g.now f n → HasMinimalSize g.now h m → HasProductSize g.now f h p → HasMinimalSize g.now (And f h) r →
         limit_of shelf.old < s + (n + m + p + r) }
@@ -129,7 +58,13 @@ pub fn conjoin(
     minimal
 }
 
-/// The minimal automaton that accepts where some set for the track is accepted. The one it is made of is let go of.
+/// The minimal automaton that accepts where some set for the track is accepted. The one that it is made of is let go of,
+/// whatever the answer.
+///
+/// # Errors
+///
+/// `Limit` only where the Sizes of the others that wait, of the automaton, of its subset automaton and of the result are
+/// together more than the shelf's limit; want of memory.
 pub fn quantify(
     alloc: Global,
     g: &Guide,
@@ -138,12 +73,12 @@ pub fn quantify(
     kept: &mut Kept,
     shelf: &mut Shelf,
 ) -> Result<Auto, Stop>
-    requires { HoldsBeside g.now shelf.old (a ∷ []) kept.old.automata.entries }
-    ensures ok { IfOk result (λ c. Passes g.now shelf.old shelf.new (a ∷ []) (c ∷ []) kept.old.automata.entries kept.new.automata.entries) }
+    requires { HoldsBeside g.now shelf.old (a ∷ []) kept.old }
+    ensures ok { IfOk result (λ c. Passes g.now shelf.old shelf.new (a ∷ []) (c ∷ []) kept.old kept.new) }
     ensures minimal { IfOk result (λ c. (f : Formula) → IsMinimalFor g.now shelf.old a f → IsMinimalFor g.now shelf.new c (Ex2 t f)) }
-    ensures err { OnErr result (Passes g.now shelf.old shelf.new (a ∷ []) [] kept.old.automata.entries kept.new.automata.entries) }
+    ensures err { OnErr result (Passes g.now shelf.old shelf.new (a ∷ []) [] kept.old kept.new) }
     ensures limit { result ≡ Err Stop.Limit → (others : List AutoView) (f : Formula) (s n p r : ℕ) →
-        Holds g.now shelf.old (beside (a ∷ []) others kept.old.automata.entries) →
+        Holds g.now shelf.old (beside (a ∷ []) others kept.old) →
         IsMinimalFor g.now shelf.old a f → HaveSum g.now shelf.old others s →
         HasMinimalSize g.now f n → HasSubsetSize g.now t f p → HasMinimalSize g.now (Ex2 t f) r →
         limit_of shelf.old < s + (n + p + r) }
@@ -157,13 +92,27 @@ pub fn quantify(
 }
 
 /// The minimal automaton of an atom.
+///
+/// # Errors
+///
+/// `Limit` only where the Sizes of the others that wait and of the result are together more than the shelf's limit; want of
+/// memory.
 pub fn build_atom(
     alloc: Global,
     g: &Guide,
     f: &Formula,
     kept: &mut Kept,
     shelf: &mut Shelf,
-) -> Result<Auto, Stop> {
+) -> Result<Auto, Stop>
+    requires atom { IsAtom f.now }
+    requires held { HoldsBeside g.now shelf.old [] kept.old }
+    ensures ok { IfOk result (λ c. Passes g.now shelf.old shelf.new [] (c ∷ []) kept.old kept.new) }
+    ensures minimal { IfOk result (λ c. IsMinimalFor g.now shelf.new c f.now) }
+    ensures err { OnErr result (Passes g.now shelf.old shelf.new [] [] kept.old kept.new) }
+    ensures limit { result ≡ Err Stop.Limit → (others : List AutoView) (s n : ℕ) →
+        Holds g.now shelf.old (beside [] others kept.old) → HaveSum g.now shelf.old others s → HasMinimalSize g.now f.now n →
+        limit_of shelf.old < s + n }
+{
     match atom(alloc, g, f, shelf) {
         Err(Stop::Limit) => {
             kept.make_room(shelf);

@@ -1,4 +1,4 @@
-//! What deciding a formula gives.
+//! What is found of a formula.
 
 use ws2s_core::LabelTree;
 
@@ -7,8 +7,8 @@ use ws2s_core::LabelTree;
 pub enum Verdict {
     /// No assignment satisfies it.
     None,
-    /// This tree satisfies it, and no tree weighs less.
+    /// This tree satisfies it, and has this weight, which is the least.
     Witness(LabelTree, u64),
-    /// Its peak is above the limit.
+    /// The shelf has too little room: the formula's Peak exceeds its limit.
     Limit,
 }
