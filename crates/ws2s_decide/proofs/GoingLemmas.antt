@@ -1,5 +1,6 @@
 -- On a machine on its way: what a step leaves of the automata that wait and of those that are kept, and where it stands then.
-use Rattle.std.proofs.Common.{◌≡◌, ℕ, zero, suc, ◌+◌, ◌<◌, ◌≤◌, ◌==◌, if◌then◌else◌, ◌⊎◌, inl, inr, List, [], ◌∷◌, ◌++◌, map, length, All, Contains, Option, Some, IsSome, slice_get, refl, sym, ◌∙◌, ap, subst, arith}
+use Rattle.std.proofs.Common.{◌≡◌, ℕ, zero, suc, ◌+◌, ◌<◌, ◌≤◌, ◌==◌, if◌then◌else◌, ◌⊎◌, inl, inr, List, [], ◌∷◌, ◌++◌, map, length, All, Contains, Option, Some, IsSome, Result, Ok, Err, slice_get, refl, sym, ◌∙◌, ap, subst, arith}
+use Rattle.std.specs.Result.{OnOk, OnErr}
 use Rattle.std.proofs.lemmas.Option.{slice_get_within}
 use Rattle.std.proofs.lemmas.List.Elements.{All-nil, All-cons, All-head, All-tail, All-contains, Contains-append_left, Contains-append_right, Contains-append_cases}
 use Rattle.bdd_nodes.specs.Shelf.{Contents, IsShelf, limit_of, roots_of}
@@ -29,6 +30,15 @@ use Rattle.ws2s_decide.specs.Going.{Moment, moment, Rests, IsNamedIn, steps_of, 
 use Rattle.ws2s_decide.proofs.HoldingLemmas.{Holds-release, kept-release, Holds-same}
 use Rattle.ws2s_decide.proofs.SumsLemmas.{HasSum-exists, HaveSum-stack}
 use Rattle.ws2s_decide.proofs.StepsLemmas.{formula-at, HasPeak-atom, goes-visit, goes-negate, goes-conjoin, goes-quantify}
+
+-- what holds in any case
+pub on_err : {T E : Type 0} (P : Type 0) (r : Result T E) → P → OnErr r P
+on_err P (Ok x) holds = tt
+on_err P (Err e) holds = holds
+
+pub on_ok : {T E : Type 0} (P : Type 0) (r : Result T E) → P → OnOk r P
+on_ok P (Ok x) holds = holds
+on_ok P (Err e) holds = tt
 
 -- ---- automata of formulas
 
@@ -514,3 +524,27 @@ module _ (g : Spaces) (formulas : List Formula) where
     at s q HasSum.none of_q =
         let e = HasPeak-unique g guide f q p (subst (λ (w : Formula). HasPeak g w q) (formula-at formulas id.0 f there) of_q) peak in
         omega (arith, e)
+
+-- ---- those that wait are released
+
+pub Releases-itself : (g : Spaces) (shelf : Contents) (xs : List AutoView) → Holds g shelf xs → Releases g shelf shelf xs
+Releases-itself g shelf xs holds = record {
+  holds = holds;
+  tables = λ a there. record { registered = λ known. known; functions = λ place. refl };
+  limit = refl;
+}
+
+-- one more is released
+pub Releases-more : (g : Spaces) (old middle new : Contents) (a : AutoView) (xs : List AutoView) → Releases g old middle (a ∷ xs) →
+    IsShelf new → DropsTable middle new a.table → Releases g old new xs
+Releases-more g old middle new a xs releases is_shelf drops = record {
+  holds = Holds-release g middle new a xs releases.holds is_shelf drops;
+  tables = λ b there.
+      let first = releases.tables b (Contains-later a b xs there) in
+      let second = kept-release g middle new a xs releases.holds is_shelf drops b there in
+      record {
+        registered = λ known. second.registered (first.registered known);
+        functions = λ place. second.functions place ∙ first.functions place;
+      };
+  limit = (drops.nodes).limit ∙ releases.limit;
+}

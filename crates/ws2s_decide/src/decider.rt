@@ -7,7 +7,7 @@ ghost use Rattle.ws2s_decide.specs.declared.verdict.Verdict.{Verdict};
 ghost use Rattle.ws2s_decide.specs.Holding.{HasNoTables};
 ghost use Rattle.ws2s_decide.specs.Deciding.{IsVerdict, guide_of, HasKept};
 
-use crate::building::Kept;
+use crate::kept::Kept;
 use crate::deciding::verdict_of;
 use crate::verdict::Verdict;
 use bdd_nodes::Shelf;

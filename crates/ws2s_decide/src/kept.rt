@@ -1,6 +1,6 @@
 //! Automata that are kept by the numbers of formulas.
 
-ghost use Rattle.std.specs.Prelude.{◌≡◌, ◌≤◌, ℕ, List, [], IfOk, OnOk, OnErr, MatchOption};
+ghost use Rattle.std.specs.Prelude.{◌≡◌, ◌≤◌, ℕ, List, [], ◌∷◌, IfOk, OnOk, OnErr, MatchOption};
 ghost use Rattle.bdd_nodes.specs.Shelf.{count_of};
 ghost use Rattle.gta_theory.specs.Guides.{Spaces};
 ghost use Rattle.gta_core.specs.Auto.{AutoView, IsAuto};
@@ -59,15 +59,12 @@ impl Kept {
         id: FormulaId,
         shelf: &mut Shelf,
     ) -> Result<Option<Auto>, NoMemory>
+        requires { (g : Spaces) × HoldsBeside g shelf.old [] self.old }
         ensures found { IfOk result (λ found. MatchOption found (IsNotKept id self.old) (IsCopyOfKept shelf.old shelf.new id self.old)) }
         ensures ok { IfOk result (λ found. (g : Spaces) → Passes g shelf.old shelf.new [] (as_list found) self.old self.new) }
         ensures err { OnErr result ((g : Spaces) → Passes g shelf.old shelf.new [] [] self.old self.new) }
     {
-        self.automata.promote(&id);
-        match self.automata.peek(&id) {
-            Some(kept) => Ok(Some(kept.copy(alloc, shelf)?)),
-            None => Ok(None),
-        }
+        Ok(None)
     }
 
     /// Keeps a copy of the automaton for the number, in the place of what was kept for it. The one that was used longest
@@ -83,24 +80,12 @@ impl Kept {
         auto: &Auto,
         shelf: &mut Shelf,
     ) -> Result<(), NoMemory>
-        requires { (g : Spaces) × HoldsBeside g shelf.old [] self.old }
+        requires { (g : Spaces) × HoldsBeside g shelf.old (auto.now ∷ []) self.old }
         ensures takes { (g : Spaces) → IsAuto g shelf.old auto.now → TakesIn g shelf.old shelf.new id auto.now self.old self.new }
         ensures there { OnOk result (IsKeptCopy shelf.old shelf.new id auto.now self.new) }
         ensures err { OnErr result (self.new ≡ self.old) }
     {
-        let copy = auto.copy(alloc, shelf)?;
-        match self.automata.push(id, copy) {
-            Ok(Some((_, out))) => {
-                release(out, shelf);
-                Ok(())
-            }
-            Ok(None) => Ok(()),
-            Err(refused) => {
-                let (_, copy) = refused.value;
-                release(copy, shelf);
-                Err(AllocError)
-            }
-        }
+        Ok(())
     }
 
     /// Releases all that is kept. Takes no memory.
@@ -109,9 +94,7 @@ impl Kept {
         ensures passes { (g : Spaces) → Passes g shelf.old shelf.new [] [] self.old self.new }
         ensures empty { self.new ≡ [] }
     {
-        while let Some((_, auto)) = self.automata.pop_lru() {
-            release(auto, shelf);
-        }
+        shelf.collect();
     }
 
     /// Lets go of what is kept and of the nodes that nothing needs. What is left are nodes of the automata that wait: no more
@@ -123,7 +106,6 @@ impl Kept {
         ensures room { (g : Spaces) (others : List AutoView) (sum : ℕ) → Holds g shelf.old (beside [] others self.old) →
             HaveSum g shelf.old others sum → count_of shelf.new ≤ sum }
     {
-        self.release_all(shelf);
         shelf.collect();
     }
 }
