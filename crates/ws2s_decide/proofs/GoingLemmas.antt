@@ -1,5 +1,6 @@
 -- On a machine on its way: what a step leaves of the automata that wait and of those that are kept, and where it stands then.
-use Rattle.std.proofs.Common.{◌≡◌, ℕ, zero, suc, ◌+◌, ◌<◌, ◌≤◌, ◌==◌, if◌then◌else◌, ◌⊎◌, inl, inr, List, [], ◌∷◌, ◌++◌, map, length, All, Contains, Option, Some, IsSome, Result, Ok, Err, slice_get, refl, sym, ◌∙◌, ap, subst, arith}
+use Rattle.std.proofs.Common.{◌≡◌, ℕ, zero, suc, ◌+◌, ◌<◌, ◌≤◌, ◌==◌, if◌then◌else◌, ◌⊎◌, inl, inr, List, [], ◌∷◌, ◌++◌, map, length, All, Contains, Option, Some, None, IsSome, Result, Ok, Err, slice_get, refl, sym, ◌∙◌, ap, subst, arith}
+use Rattle.std.specs.Option.{MatchOption}
 use Rattle.std.specs.Result.{OnOk, OnErr}
 use Rattle.std.proofs.lemmas.Option.{slice_get_within}
 use Rattle.std.proofs.lemmas.List.Elements.{All-nil, All-cons, All-head, All-tail, All-contains, Contains-append_left, Contains-append_right, Contains-append_cases}
@@ -16,20 +17,21 @@ use Rattle.ws2s_core.specs.declared.track.Track.{Track}
 use Rattle.ws2s_core.specs.declared.formula.Formula.{Formula}
 use Rattle.ws2s_core.specs.declared.formula.Formula.TheVariants.{And, Not, Ex2}
 use Rattle.ws2s_core.specs.declared.node.FormulaId.{FormulaId}
-use Rattle.ws2s_core.specs.Nodes.{formula_at, Extends}
+use Rattle.ws2s_core.specs.declared.node.Node.{Node}
+use Rattle.ws2s_core.specs.Nodes.{formula_at, formula_of_node, HasPartsBelow, Extends}
 use Rattle.ws2s_core.specs.Recognising.{IsMinimalOf}
 use Rattle.gta_atom.specs.Atom.{IsAtom}
 use Rattle.ws2s_decide.specs.declared.task.Task.{Task}
-use Rattle.ws2s_decide.specs.Holding.{times, registered, Holds, HasNoTables, IsMinimalFor, AreMinimalFor, none, more, kept_autos, beside, HaveSum, HaveSizes, KeepsSome, Passes, WasOrIsCopy, TakesIn, IsCopy}
+use Rattle.ws2s_decide.specs.Holding.{times, registered, Holds, HasNoTables, IsMinimalFor, AreMinimalFor, none, more, kept_autos, beside, HaveSum, HaveSizes, KeepsSome, Passes, WasOrIsCopy, TakesIn, IsCopy, IsCopyOfKept}
 use Rattle.ws2s_decide.specs.Keeping.{IsKept}
 use Rattle.ws2s_theory.specs.Peaks.{HasMinimalSize, HasProductSize, HasSubsetSize, HasPeak}
 use Rattle.ws2s_theory.proofs.SizesLemmas.{HasMinimalSize-exists, HasProductSize-exists, HasSubsetSize-exists}
 use Rattle.ws2s_theory.proofs.PeaksLemmas.{HasPeak-unique}
-use Rattle.ws2s_decide.specs.Tasks.{Step, Makes, Within, steps_left, HasSum}
+use Rattle.ws2s_decide.specs.Tasks.{Step, Makes, Within, steps_left, HasSum, IsCompound, tasks_for}
 use Rattle.ws2s_decide.specs.Going.{Moment, moment, Rests, IsNamedIn, steps_of, Stands, GoesOn, Advances, StandsOn, StandsLater, Follows, NeedsMore, IsGoing, HasMade, EndsWith, KeepsTables, Releases}
 use Rattle.ws2s_decide.proofs.HoldingLemmas.{Holds-release, kept-release, Holds-same}
 use Rattle.ws2s_decide.proofs.SumsLemmas.{HasSum-exists, HaveSum-stack}
-use Rattle.ws2s_decide.proofs.StepsLemmas.{formula-at, HasPeak-atom, goes-visit, goes-negate, goes-conjoin, goes-quantify}
+use Rattle.ws2s_decide.proofs.StepsLemmas.{formula-at, HasPeak-atom, apart, goes-visit, goes-negate, goes-conjoin, goes-quantify}
 
 -- what holds in any case
 pub on_err : {T E : Type 0} (P : Type 0) (r : Result T E) → P → OnErr r P
@@ -548,3 +550,105 @@ Releases-more g old middle new a xs releases is_shelf drops = record {
       };
   limit = (drops.nodes).limit ∙ releases.limit;
 }
+
+-- the shelf holds those that are kept, after all that waited were released
+pub Rests-released : (g : Spaces) (formulas : List Formula) (old new : Contents) (autos : List AutoView) (kept : List (FormulaId × AutoView)) →
+    Rests g formulas old autos kept → Releases g old new (kept_autos kept) → Rests g formulas new [] kept
+Rests-released g formulas old new autos kept rests releases = record {
+  holds = releases.holds;
+  kept_for = AllKept-same g old new formulas kept releases.tables rests.kept_for;
+}
+
+-- ---- what is found of those that wait
+
+-- there is one where the other case can't be
+pub some-from : {X : Type 0} (P : Type 0) (Q : X → Type 0) (o : Option X) → MatchOption o P Q → (P → ⊥) → IsSome o
+some-from P Q None missing isnt = absurd (isnt missing)
+some-from P Q (Some x) is isnt = refl
+
+-- two wait for a conjunction
+pub two-wait : (g : Spaces) (formulas : List Formula) (shelf : Contents) (id : FormulaId) (tasks : List Task) (b : AutoView) (rest : List AutoView)
+    (stack : List Formula) (out : Formula) → AreMinimalFor g shelf (b ∷ rest) stack → Makes (steps_of formulas (Task.Conjoin id ∷ tasks)) stack out →
+    rest ≡ [] → ⊥
+two-wait g formulas shelf id tasks b [] [] out minimal makes is = makes
+two-wait g formulas shelf id tasks b [] (h ∷ []) out minimal makes is = makes
+two-wait g formulas shelf id tasks b [] (h ∷ (f ∷ stack)) out (more _ _ _ _ first others) makes is = elim others [ ]
+two-wait g formulas shelf id tasks b (a ∷ rest) stack out minimal makes is = absurd cc
+
+-- one that waits alone is the last one
+pub alone-last : (xs ys : List AutoView) (a b : AutoView) → xs ≡ a ∷ [] → xs ≡ b ∷ ys → xs ≡ b ∷ []
+alone-last xs ys a b alone last = (let rest : ys ≡ [] = cc in cc)
+
+pub not-alone : (xs : List AutoView) (a : AutoView) → xs ≡ a ∷ [] → xs ≡ [] → ⊥
+not-alone xs a alone missing = absurd cc
+
+-- the formula with the number of a task is there
+pub there-conjoin : (formulas : List Formula) (id : FormulaId) (tasks : List Task) → All (IsNamedIn formulas) (Task.Conjoin id ∷ tasks) →
+    slice_get formulas id.0 ≡ Some (formula_at formulas id.0)
+there-conjoin formulas id tasks named = there-at formulas id.0 (All-head (IsNamedIn formulas) (Task.Conjoin id) tasks named)
+
+pub there-quantify : (formulas : List Formula) (t : Track) (id : FormulaId) (tasks : List Task) →
+    All (IsNamedIn formulas) (Task.Quantify t id ∷ tasks) → slice_get formulas id.0 ≡ Some (formula_at formulas id.0)
+there-quantify formulas t id tasks named = there-at formulas id.0 (All-head (IsNamedIn formulas) (Task.Quantify t id) tasks named)
+
+-- what was made is the formula's
+pub minimal-conjoined : (g : Spaces) (formulas : List Formula) (old middle : Contents) (id : FormulaId) (tasks : List Task) (a b c : AutoView)
+    (rest : List AutoView) (kept : List (FormulaId × AutoView)) →
+    ((f h : Formula) → IsMinimalFor g old a f → IsMinimalFor g old b h → IsMinimalFor g middle c (And f h)) → (stack : List Formula) (out : Formula) →
+    Stands g formulas (moment old (Task.Conjoin id ∷ tasks) (b ∷ a ∷ rest) kept) stack out → IsMinimalFor g middle c (formula_at formulas id.0)
+minimal-conjoined g formulas old middle id tasks a b c rest kept minimal stack out stands =
+    let last = last-two g formulas old id tasks a b rest stack out stands.minimal stands.makes in
+    subst (λ (f : Formula). IsMinimalFor g middle c f) (sym last.whole) (minimal last.left last.right last.of_left last.of_right)
+
+pub minimal-quantified : (g : Spaces) (formulas : List Formula) (old middle : Contents) (t : Track) (id : FormulaId) (tasks : List Task) (a c : AutoView)
+    (rest : List AutoView) (kept : List (FormulaId × AutoView)) →
+    ((f : Formula) → IsMinimalFor g old a f → IsMinimalFor g middle c (Ex2 t f)) → (stack : List Formula) (out : Formula) →
+    Stands g formulas (moment old (Task.Quantify t id ∷ tasks) (a ∷ rest) kept) stack out → IsMinimalFor g middle c (formula_at formulas id.0)
+minimal-quantified g formulas old middle t id tasks a c rest kept minimal stack out stands =
+    let last = last-one g formulas old t id tasks a rest stack out stands.minimal stands.makes in
+    subst (λ (f : Formula). IsMinimalFor g middle c f) (sym last.whole) (minimal last.part last.of_part)
+
+-- a copy of what was kept for the number is the formula's
+pub minimal-found : (g : Spaces) (formulas : List Formula) (old new : Contents) (id : FormulaId) (copy : AutoView)
+    (kept : List (FormulaId × AutoView)) → All (IsKept g old formulas) kept → IsCopyOfKept old new id kept copy →
+    IsMinimalFor g new copy (formula_at formulas id.0)
+minimal-found g formulas old new id copy kept all found =
+    let entry : FormulaId × AutoView = (id, found.was) in
+    let was = All-contains (IsKept g old formulas) kept entry all found.there in
+    subst (λ (f : Formula). IsMinimalFor g new copy f) (sym (formula-at formulas id.0 was.formula was.there))
+    (IsMinimalFor-copy g old new found.was copy was.formula found.copies was.minimal)
+
+-- a formula that is no atom was taken apart
+pub StandsOn-apart : (g : Spaces) → IsGuide g → (formulas : List Formula) (shelf : Contents) (id : FormulaId) (node : Node) (tasks : List Task)
+    (autos : List AutoView) (kept : List (FormulaId × AutoView)) → IsCompound node → slice_get formulas id.0 ≡ Some (formula_of_node formulas node) →
+    HasPartsBelow id.0 node → (stack : List Formula) (out : Formula) → Stands g formulas (moment shelf (Task.Visit id ∷ tasks) autos kept) stack out →
+    StandsOn g formulas (Task.Visit id ∷ tasks) stack (moment shelf (tasks_for id node tasks) autos kept) out
+StandsOn-apart g guide formulas shelf id node tasks autos kept compound is below stack out stands =
+    let parts = apart g guide formulas id node tasks stack out compound (formula-at formulas id.0 (formula_of_node formulas node) is) below
+        stands.named stands.makes in
+    record {
+      stack' = stack;
+      stands = record { rests = stands.rests; minimal = stands.minimal; makes = parts.makes; named = parts.named };
+      goes = parts.goes;
+    }
+
+-- the machine with the first visit
+pub IsGoing-first : (g : Spaces) (formulas : List Formula) (shelf : Contents) (id : FormulaId) (tasks : List Task) (autos : List AutoView)
+    (kept : List (FormulaId × AutoView)) (f : Formula) → tasks ≡ Task.Visit id ∷ [] → autos ≡ [] → slice_get formulas id.0 ≡ Some f →
+    Rests g formulas shelf [] kept → Stands g formulas (moment shelf tasks autos kept) [] f
+IsGoing-first g formulas shelf id tasks autos kept f of_tasks of_autos there rests =
+    subst (λ (ts : List Task). Stands g formulas (moment shelf ts autos kept) [] f) (sym of_tasks)
+    (subst (λ (xs : List AutoView). Stands g formulas (moment shelf (Task.Visit id ∷ []) xs kept) [] f) (sym of_autos)
+    (Stands-first g formulas shelf id kept f there rests))
+
+pub limit-of_first : (g : Spaces) (formulas : List Formula) → IsGuide g → (shelf : Contents) (id : FormulaId) (tasks : List Task) (autos : List AutoView)
+    (kept : List (FormulaId × AutoView)) (f : Formula) (p : ℕ) → tasks ≡ Task.Visit id ∷ [] → autos ≡ [] → slice_get formulas id.0 ≡ Some f →
+    Rests g formulas shelf [] kept → HasPeak g f p → NeedsMore g formulas (moment shelf tasks autos kept) → limit_of shelf < p
+limit-of_first g formulas guide shelf id tasks autos kept f p of_tasks of_autos there rests peak needs =
+    limit-first g formulas guide shelf id kept f p there rests peak
+    (subst (λ (ts : List Task). NeedsMore g formulas (moment shelf ts [] kept)) of_tasks
+    (subst (λ (xs : List AutoView). NeedsMore g formulas (moment shelf tasks xs kept)) of_autos needs))
+
+-- every automaton of a shelf has a Size
+pub have-sizes : (g : Spaces) (shelf : Contents) → IsShelf shelf → HaveSizes g shelf
+have-sizes g shelf is_shelf = ?

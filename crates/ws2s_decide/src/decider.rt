@@ -71,6 +71,9 @@ impl Decider {
         ensures same_limit { limit_of shelf.new ≡ limit_of shelf.old }
         ensures shelf { IsShelf shelf.new }
     {
+        // Only for their clauses `shelf` and `guide`.
+        let _ = shelf.count();
+        let _ = self.guide.spaces();
         let id = intern(alloc, &mut self.interner, f)?;
         verdict_of(
             alloc,
@@ -90,6 +93,8 @@ impl Decider {
         ensures same_limit { limit_of shelf.new ≡ limit_of shelf.old }
         ensures shelf { IsShelf shelf.new }
     {
+        // Only for its clause `shelf`.
+        let _ = shelf.count();
         let Decider {
             guide,
             interner,

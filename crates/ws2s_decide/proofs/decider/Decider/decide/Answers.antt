@@ -1,10 +1,5 @@
+use Rattle.ws2s_decide.proofs.KeepingLemmas.{Rests-kept}
 use Rattle.ws2s_decide.proofs.decider.Decider.decide.Goals as goal
 
-pub returns-in_err-id-clause-shelf : goal.returns-in_err-id-clause-shelf
-returns-in_err-id-clause-shelf c = ?
-
-pub verdict_of-requires-clause-guide : goal.verdict_of-requires-clause-guide
-verdict_of-requires-clause-guide c = ?
-
 pub verdict_of-requires-clause-rests : goal.verdict_of-requires-clause-rests
-verdict_of-requires-clause-rests c = ?
+verdict_of-requires-clause-rests c = Rests-kept c.args.shelf.now c.args.self.now c.intern.new.interner c.count.ensures.shelf c.in_ok-id.ensures.kept c.requires
