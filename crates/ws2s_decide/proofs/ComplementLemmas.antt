@@ -17,7 +17,7 @@ use Rattle.ws2s_core.specs.declared.formula.Formula.TheVariants.{Not}
 use Rattle.ws2s_core.specs.Satisfaction.{WSat}
 use Rattle.ws2s_core.specs.Recognising.{Recognises, IsMinimalOf}
 use Rattle.ws2s_core.proofs.SatisfactionLemmas.{WSat-Not}
-use Rattle.ws2s_decide.specs.Holding.{IsMinimalFor}
+use Rattle.gta_keep.specs.Holding.{IsMinimalFor}
 
 not-injective : (b c : Bool) → not b ≡ not c → b ≡ c
 not-injective true true e = refl

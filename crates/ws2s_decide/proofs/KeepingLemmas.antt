@@ -10,11 +10,11 @@ use Rattle.ws2s_core.specs.declared.formula.Formula.{Formula}
 use Rattle.ws2s_core.specs.declared.node.FormulaId.{FormulaId}
 use Rattle.ws2s_core.specs.Nodes.{Extends}
 use Rattle.ws2s_decide.specs.declared.decider.Decider.{Decider}
-use Rattle.ws2s_decide.specs.Holding.{times, registered, Holds, HasNoTables, kept_autos}
+use Rattle.gta_keep.specs.Holding.{times, registered, Holds, HasNoTables, kept_autos}
 use Rattle.ws2s_decide.specs.Keeping.{IsKept}
 use Rattle.ws2s_decide.specs.Deciding.{HasKept}
 use Rattle.ws2s_decide.specs.Going.{Rests}
-use Rattle.ws2s_decide.proofs.GoingLemmas.{AllKept-extends}
+use Rattle.ws2s_decide.proofs.RestsLemmas.{AllKept-extends}
 
 -- no table is registered where nothing is held
 pub registered-none : (shelf : Contents) (t : ℕ) → (IsSome (roots_of shelf t) → ⊥) → 0 ≡ registered shelf t

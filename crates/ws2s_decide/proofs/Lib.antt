@@ -1,7 +1,10 @@
 pub mod ComplementLemmas
-pub mod GoingLemmas
-pub mod HoldingLemmas
+pub mod EndsLemmas
 pub mod KeepingLemmas
+pub mod LastLemmas
+pub mod NeedsLemmas
+pub mod RestsLemmas
+pub mod StandsLemmas
 pub mod StepsLemmas
 pub mod SumsLemmas
 pub mod TasksLemmas

@@ -10,7 +10,7 @@ use Rattle.ws2s_core.specs.declared.track.Track.{Track}
 use Rattle.ws2s_core.specs.declared.formula.Formula.{Formula}
 use Rattle.ws2s_core.specs.declared.label_tree.TreeNode.{TreeNode}
 use Rattle.ws2s_core.specs.LabelTrees.{assignment_of}
-use Rattle.ws2s_decide.specs.Holding.{IsMinimalFor}
+use Rattle.gta_keep.specs.Holding.{IsMinimalFor}
 use Rattle.ws2s_decide.specs.Deciding.{IsUnsatisfiable, IsLightestModel}
 
 module _ (g : Spaces) (shelf : Contents) (a : AutoView) (f : Formula) (minimal : IsMinimalFor g shelf a f) where

@@ -14,7 +14,7 @@ use Rattle.ws2s_core.specs.LabelTrees.{assignment_of}
 use Rattle.ws2s_core.specs.Satisfaction.{WSat}
 use Rattle.ws2s_decide.specs.declared.verdict.Verdict.{Verdict}
 use Rattle.ws2s_decide.specs.declared.decider.Decider.{Decider}
-use Rattle.ws2s_decide.specs.Holding.{times, registered, kept_autos}
+use Rattle.gta_keep.specs.Holding.{times, registered, kept_autos}
 use Rattle.ws2s_decide.specs.Keeping.{IsKept}
 
 -- no assignment of finite sets satisfies the formula

@@ -7,7 +7,7 @@ use Rattle.gta_core.specs.Changes.{KeepsTable}
 use Rattle.ws2s_core.specs.declared.formula.Formula.{Formula}
 use Rattle.ws2s_core.specs.declared.node.FormulaId.{FormulaId}
 use Rattle.ws2s_decide.specs.declared.task.Task.{Task}
-use Rattle.ws2s_decide.specs.Holding.{Holds, IsMinimalFor, AreMinimalFor, beside}
+use Rattle.gta_keep.specs.Holding.{Holds, IsMinimalFor, AreMinimalFor, beside}
 use Rattle.ws2s_decide.specs.Keeping.{IsKept}
 use Rattle.ws2s_decide.specs.Tasks.{Step, step_of, Makes, Within, steps_left}
 

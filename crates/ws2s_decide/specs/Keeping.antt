@@ -5,7 +5,7 @@ use Rattle.gta_theory.specs.Guides.{Spaces}
 use Rattle.gta_core.specs.Auto.{AutoView}
 use Rattle.ws2s_core.specs.declared.formula.Formula.{Formula}
 use Rattle.ws2s_core.specs.declared.node.FormulaId.{FormulaId}
-use Rattle.ws2s_decide.specs.Holding.{IsMinimalFor}
+use Rattle.gta_keep.specs.Holding.{IsMinimalFor}
 
 -- the automaton that is kept under a number is a minimal one of the formula that has this number
 pub record IsKept (g : Spaces) (shelf : Contents) (formulas : List Formula) (entry : FormulaId × AutoView) : Type 0 where

@@ -4,10 +4,10 @@ ghost use Rattle.std.specs.Prelude.{◌≡◌, ◌<◌, ℕ, Ok, IfOk};
 ghost use Rattle.bdd_nodes.specs.Shelf.{Contents, IsShelf, limit_of};
 ghost use Rattle.ws2s_theory.specs.Peaks.{HasPeak};
 ghost use Rattle.ws2s_decide.specs.declared.verdict.Verdict.{Verdict};
-ghost use Rattle.ws2s_decide.specs.Holding.{HasNoTables};
+ghost use Rattle.gta_keep.specs.Holding.{HasNoTables};
 ghost use Rattle.ws2s_decide.specs.Deciding.{IsVerdict, guide_of, HasKept};
 
-use crate::kept::Kept;
+use gta_keep::Kept;
 use crate::deciding::verdict_of;
 use crate::verdict::Verdict;
 use bdd_nodes::Shelf;

@@ -8,11 +8,11 @@ ghost use Rattle.gta_core.specs.Auto.{IsAuto};
 ghost use Rattle.ws2s_core.specs.declared.formula.Formula.{Formula};
 ghost use Rattle.ws2s_theory.specs.Peaks.{HasPeak};
 ghost use Rattle.ws2s_decide.specs.declared.verdict.Verdict.{Verdict};
-ghost use Rattle.ws2s_decide.specs.Holding.{IsMinimalFor};
+ghost use Rattle.gta_keep.specs.Holding.{IsMinimalFor};
 ghost use Rattle.ws2s_decide.specs.Going.{Rests};
 ghost use Rattle.ws2s_decide.specs.Deciding.{IsVerdict};
 
-use crate::kept::Kept;
+use gta_keep::Kept;
 use crate::machine::automaton_of;
 use crate::verdict::Verdict;
 use bdd_nodes::Shelf;

@@ -5,10 +5,8 @@
 //! in which order, and what is kept is for the proofs of this crate alone: `specs/Tasks.antt` and `specs/Going.antt`.
 #![tactic(auto)]
 
-mod building;
 mod decider;
 mod deciding;
-mod kept;
 mod machine;
 mod making;
 mod task;

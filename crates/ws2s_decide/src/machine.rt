@@ -6,10 +6,10 @@ ghost use Rattle.gta_theory.specs.Guides.{IsGuide};
 ghost use Rattle.ws2s_core.specs.declared.formula.Formula.{Formula};
 ghost use Rattle.ws2s_theory.specs.Peaks.{HasPeak};
 ghost use Rattle.ws2s_decide.specs.declared.task.Task.TheVariants as task;
-ghost use Rattle.ws2s_decide.specs.Holding.{IsMinimalFor};
+ghost use Rattle.gta_keep.specs.Holding.{IsMinimalFor};
 ghost use Rattle.ws2s_decide.specs.Going.{moment, Rests, IsGoing, Advances, EndsWith, NeedsMore};
 
-use crate::kept::Kept;
+use gta_keep::Kept;
 use crate::making::{make_conjunction, make_negation, make_quantified};
 use crate::task::Task;
 use crate::visiting::visit;

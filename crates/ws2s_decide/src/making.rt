@@ -5,11 +5,11 @@ ghost use Rattle.bdd_nodes.specs.Shelf.{limit_of};
 ghost use Rattle.gta_theory.specs.Guides.{Spaces, IsGuide};
 ghost use Rattle.ws2s_core.specs.declared.formula.Formula.{Formula};
 ghost use Rattle.ws2s_decide.specs.declared.task.Task.TheVariants as task;
-ghost use Rattle.ws2s_decide.specs.Holding.{IsMinimalFor};
+ghost use Rattle.gta_keep.specs.Holding.{IsMinimalFor};
 ghost use Rattle.ws2s_decide.specs.Going.{moment, Rests, IsGoing, Advances, KeepsTables, NeedsMore};
 
-use crate::building::{conjoin, quantify};
-use crate::kept::Kept;
+use gta_keep::{conjoin, quantify};
+use gta_keep::Kept;
 use crate::machine::Machine;
 use bdd_nodes::Shelf;
 use bdd_walk::{NoMemory, Stop};

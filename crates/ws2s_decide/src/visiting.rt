@@ -10,8 +10,8 @@ ghost use Rattle.ws2s_decide.specs.declared.task.Task.TheVariants as task;
 ghost use Rattle.ws2s_decide.specs.Tasks.{IsCompound};
 ghost use Rattle.ws2s_decide.specs.Going.{moment, Rests, IsGoing, Advances, NeedsMore};
 
-use crate::building::build_atom;
-use crate::kept::Kept;
+use gta_keep::build_atom;
+use gta_keep::Kept;
 use crate::machine::Machine;
 use crate::task::take_apart;
 use bdd_nodes::Shelf;

@@ -5,7 +5,7 @@ ghost use Rattle.bdd_nodes.specs.Shelf.{IsShelf, roots_of};
 ghost use Rattle.bdd_nodes.specs.Changes.{DropsTable};
 ghost use Rattle.gta_theory.specs.Guides.{Spaces};
 ghost use Rattle.gta_core.specs.Auto.{AutoView};
-ghost use Rattle.ws2s_decide.specs.Holding.{Holds};
+ghost use Rattle.gta_keep.specs.Holding.{Holds};
 ghost use Rattle.ws2s_decide.specs.Going.{Releases};
 
 use bdd_nodes::Shelf;

@@ -1,5 +1,5 @@
 use Rattle.std.proofs.Common.{[]}
-use Rattle.ws2s_decide.proofs.GoingLemmas.{Rests-release}
+use Rattle.ws2s_decide.proofs.RestsLemmas.{Rests-release}
 use Rattle.ws2s_decide.proofs.deciding.verdict_of.Goals as goal
 
 pub returns-in-Ok-clause-rests : goal.returns-in-Ok-clause-rests

@@ -5,9 +5,11 @@ use Rattle.bdd_nodes.specs.Shelf.{Contents, limit_of}
 use Rattle.gta_core.specs.Auto.{AutoView}
 use Rattle.ws2s_core.specs.declared.formula.Formula.{Formula}
 use Rattle.ws2s_decide.specs.declared.task.Task.{Task}
-use Rattle.ws2s_decide.specs.Holding.{IsMinimalFor, kept_autos}
+use Rattle.gta_keep.specs.Holding.{IsMinimalFor, kept_autos}
 use Rattle.ws2s_decide.specs.Going.{moment, Rests}
-use Rattle.ws2s_decide.proofs.GoingLemmas.{some-from, not-alone, alone-last, IsGoing-first, limit-of_first, Rests-released}
+use Rattle.ws2s_decide.proofs.EndsLemmas.{IsGoing-first, limit-of_first}
+use Rattle.ws2s_decide.proofs.LastLemmas.{some-from, not-alone, alone-last}
+use Rattle.ws2s_decide.proofs.RestsLemmas.{Rests-released}
 use Rattle.ws2s_decide.proofs.machine.automaton_of.Goals as goal
 use Rattle.ws2s_decide.proofs.machine.automaton_of.Goals.{in-Ok, in-Err}
 

@@ -2,7 +2,7 @@ use Rattle.std.proofs.Common.{◌≡◌, ◌<◌, List, [], ◌∷◌, sym, ◌�
 use Rattle.ws2s_decide.specs.declared.task.Task.{Task}
 use Rattle.ws2s_decide.specs.Tasks.{steps_left}
 use Rattle.ws2s_decide.specs.Going.{moment, steps_of, IsGoing, Follows}
-use Rattle.ws2s_decide.proofs.GoingLemmas.{IsGoing-follows, Follows-step, NeedsMore-follows, ends}
+use Rattle.ws2s_decide.proofs.EndsLemmas.{IsGoing-follows, Follows-step, NeedsMore-follows, ends}
 use Rattle.ws2s_decide.proofs.machine.run.Goals as goal
 
 pub step-requires-clause-going : goal.step-requires-clause-going

@@ -3,10 +3,10 @@ use Rattle.bdd_nodes.specs.Shelf.{Contents}
 use Rattle.gta_theory.proofs.ListsLemmas.{Contains-first}
 use Rattle.gta_core.specs.Auto.{AutoView}
 use Rattle.gta_core.specs.Changes.{KeepsTable}
-use Rattle.ws2s_decide.specs.Holding.{kept_autos}
+use Rattle.gta_keep.specs.Holding.{kept_autos}
 use Rattle.ws2s_decide.specs.Going.{Rests}
-use Rattle.ws2s_decide.proofs.HoldingLemmas.{Holds-registered}
-use Rattle.ws2s_decide.proofs.GoingLemmas.{on_ok, Rests-taken, Rests-release}
+use Rattle.gta_keep.proofs.HoldingLemmas.{Holds-registered}
+use Rattle.ws2s_decide.proofs.RestsLemmas.{on_ok, Rests-taken, Rests-release}
 use Rattle.ws2s_decide.proofs.making.come.Goals as goal
 
 pub keep-keeping-requires : goal.keep-keeping-requires

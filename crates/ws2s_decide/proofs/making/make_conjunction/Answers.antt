@@ -2,9 +2,13 @@ use Rattle.std.proofs.Common.{◌≡◌, List, [], ◌∷◌, ◌++◌, sym, ◌
 use Rattle.gta_core.specs.Auto.{AutoView}
 use Rattle.ws2s_core.specs.Nodes.{formula_at}
 use Rattle.ws2s_decide.specs.declared.task.Task.{Task}
-use Rattle.ws2s_decide.specs.Holding.{kept_autos, beside}
+use Rattle.gta_keep.specs.Holding.{kept_autos, beside}
 use Rattle.ws2s_decide.specs.Going.{moment, Rests, Stands, StandsOn, NeedsMore, KeepsTables}
-use Rattle.ws2s_decide.proofs.GoingLemmas.{on_err, some-from, two-wait, Holds-swap, Rests-gone, Rests-made, minimal-conjoined, there-conjoin, StandsOn-conjoined, needs-conjoin, have-sizes}
+use Rattle.gta_keep.proofs.AutoSizesLemmas.{HaveSizes-shelf}
+use Rattle.ws2s_decide.proofs.LastLemmas.{some-from, two-wait, minimal-conjoined, there-conjoin}
+use Rattle.ws2s_decide.proofs.NeedsLemmas.{needs-conjoin}
+use Rattle.ws2s_decide.proofs.RestsLemmas.{on_err, Holds-swap, Rests-gone, Rests-made}
+use Rattle.ws2s_decide.proofs.StandsLemmas.{StandsOn-conjoined}
 use Rattle.ws2s_decide.proofs.making.make_conjunction.Goals as goal
 
 pub unwrap-a-requires : goal.unwrap-a-requires
@@ -42,7 +46,7 @@ returns-in_err-auto-clause-limit c = λ stopped.
     subst (λ (xs : List AutoView). NeedsMore c.args.g.now c.args.interner.now
     (moment c.args.shelf.now (Task.Conjoin c.args.id ∷ c.args.machine.now.tasks) xs c.args.kept.now)) (sym popped)
     (needs-conjoin c.args.g.now c.requires.guide c.args.interner.now c.args.shelf.now
-    (have-sizes c.args.g.now c.args.shelf.now c.requires.going.stands.rests.holds.is_shelf) c.args.id c.args.machine.now.tasks
+    (HaveSizes-shelf c.args.g.now c.args.shelf.now c.requires.going.stands.rests.holds.is_shelf) c.args.id c.args.machine.now.tasks
     c.unwrap-a.result c.unwrap-b.result c.pop-2.new.self c.args.kept.now
     (c.conjoin.ensures.limit (let why = rw stopped at c.from_residual.ensures in c.in_err-auto.was ∙ (let is = why.1 in cc))))
 

@@ -3,10 +3,11 @@ use Rattle.bdd_nodes.specs.Shelf.{Contents}
 use Rattle.gta_theory.proofs.ListsLemmas.{Contains-first}
 use Rattle.gta_core.specs.Auto.{AutoView}
 use Rattle.ws2s_decide.specs.declared.task.Task.{Task}
-use Rattle.ws2s_decide.specs.Holding.{kept_autos}
+use Rattle.gta_keep.specs.Holding.{kept_autos}
 use Rattle.ws2s_decide.specs.Going.{moment, Rests, Stands, StandsOn}
 use Rattle.ws2s_decide.proofs.ComplementLemmas.{IsMinimalFor-turned}
-use Rattle.ws2s_decide.proofs.GoingLemmas.{on_err, Rests-turned, Rests-release, StandsOn-turned}
+use Rattle.ws2s_decide.proofs.RestsLemmas.{on_err, Rests-turned, Rests-release}
+use Rattle.ws2s_decide.proofs.StandsLemmas.{StandsOn-turned}
 use Rattle.ws2s_decide.proofs.making.make_negation.Goals as goal
 
 pub returns-in_err-push-clause-err : goal.returns-in_err-push-clause-err

@@ -2,9 +2,13 @@ use Rattle.std.proofs.Common.{◌≡◌, List, [], ◌∷◌, ◌++◌, sym, ◌
 use Rattle.gta_core.specs.Auto.{AutoView}
 use Rattle.ws2s_core.specs.Nodes.{formula_at}
 use Rattle.ws2s_decide.specs.declared.task.Task.{Task}
-use Rattle.ws2s_decide.specs.Holding.{kept_autos, beside}
+use Rattle.gta_keep.specs.Holding.{kept_autos, beside}
 use Rattle.ws2s_decide.specs.Going.{moment, Rests, Stands, StandsOn, NeedsMore, KeepsTables}
-use Rattle.ws2s_decide.proofs.GoingLemmas.{on_err, Rests-gone, Rests-made, minimal-quantified, there-quantify, StandsOn-quantified, needs-quantify, have-sizes}
+use Rattle.gta_keep.proofs.AutoSizesLemmas.{HaveSizes-shelf}
+use Rattle.ws2s_decide.proofs.LastLemmas.{minimal-quantified, there-quantify}
+use Rattle.ws2s_decide.proofs.NeedsLemmas.{needs-quantify}
+use Rattle.ws2s_decide.proofs.RestsLemmas.{on_err, Rests-gone, Rests-made}
+use Rattle.ws2s_decide.proofs.StandsLemmas.{StandsOn-quantified}
 use Rattle.ws2s_decide.proofs.making.make_quantified.Goals as goal
 
 pub returns-in_err-auto-clause-err : goal.returns-in_err-auto-clause-err
@@ -21,7 +25,7 @@ returns-in_err-auto-clause-limit c = λ stopped.
     subst (λ (xs : List AutoView). NeedsMore c.args.g.now c.args.interner.now
     (moment c.args.shelf.now (Task.Quantify c.args.t c.args.id ∷ c.args.machine.now.tasks) xs c.args.kept.now)) (sym popped)
     (needs-quantify c.args.g.now c.requires.guide c.args.interner.now c.args.shelf.now
-    (have-sizes c.args.g.now c.args.shelf.now c.requires.going.stands.rests.holds.is_shelf) c.args.t c.args.id c.args.machine.now.tasks
+    (HaveSizes-shelf c.args.g.now c.args.shelf.now c.requires.going.stands.rests.holds.is_shelf) c.args.t c.args.id c.args.machine.now.tasks
     c.unwrap-a.result c.pop.new.self c.args.kept.now
     (c.quantify.ensures.limit (let why = rw stopped at c.from_residual.ensures in c.in_err-auto.was ∙ (let is = why.1 in cc))))
 

@@ -4,10 +4,11 @@ use Rattle.bdd_nodes.specs.Shelf.{Contents, limit_of}
 use Rattle.gta_theory.proofs.ListsLemmas.{Contains-first}
 use Rattle.gta_core.specs.Auto.{AutoView}
 use Rattle.ws2s_decide.specs.declared.task.Task.{Task}
-use Rattle.ws2s_decide.specs.Holding.{kept_autos}
+use Rattle.gta_keep.specs.Holding.{kept_autos}
 use Rattle.ws2s_decide.specs.Going.{moment, Rests, StandsOn, NeedsMore}
-use Rattle.ws2s_decide.proofs.HoldingLemmas.{Holds-registered}
-use Rattle.ws2s_decide.proofs.GoingLemmas.{on_err, Rests-passed, Rests-come, Rests-release, Stands-passed, StandsOn-come, minimal-found}
+use Rattle.gta_keep.proofs.HoldingLemmas.{Holds-registered}
+use Rattle.ws2s_decide.proofs.RestsLemmas.{on_err, Rests-passed, Rests-come, Rests-release}
+use Rattle.ws2s_decide.proofs.StandsLemmas.{Stands-passed, StandsOn-come, minimal-found}
 use Rattle.ws2s_decide.proofs.visiting.visit.Goals as goal
 
 pub returns-in_err-copy-clause-err : goal.returns-in_err-copy-clause-err

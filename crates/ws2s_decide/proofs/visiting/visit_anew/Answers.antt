@@ -1,7 +1,7 @@
 use Rattle.std.proofs.Common.{◌≡◌, List, ◌∷◌, refl, sym, subst}
 use Rattle.ws2s_decide.specs.declared.task.Task.{Task}
 use Rattle.ws2s_decide.specs.Going.{moment, StandsOn}
-use Rattle.ws2s_decide.proofs.GoingLemmas.{StandsOn-apart}
+use Rattle.ws2s_decide.proofs.StandsLemmas.{StandsOn-apart}
 use Rattle.ws2s_decide.proofs.visiting.visit_anew.Goals as goal
 
 pub returns-in_ok-take_apart-in-None-clause-ok : goal.returns-in_ok-take_apart-in-None-clause-ok

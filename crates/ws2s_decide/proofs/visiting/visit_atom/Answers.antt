@@ -4,11 +4,14 @@ use Rattle.gta_theory.proofs.ListsLemmas.{Contains-first}
 use Rattle.gta_core.specs.Auto.{AutoView}
 use Rattle.ws2s_core.specs.declared.formula.Formula.{Formula}
 use Rattle.ws2s_decide.specs.declared.task.Task.{Task}
-use Rattle.ws2s_decide.specs.Holding.{IsMinimalFor, kept_autos}
+use Rattle.gta_keep.specs.Holding.{IsMinimalFor, kept_autos}
 use Rattle.ws2s_decide.specs.Going.{moment, Rests, StandsOn}
-use Rattle.ws2s_decide.proofs.HoldingLemmas.{Holds-registered}
+use Rattle.gta_keep.proofs.HoldingLemmas.{Holds-registered}
 use Rattle.ws2s_decide.proofs.StepsLemmas.{formula-at}
-use Rattle.ws2s_decide.proofs.GoingLemmas.{on_err, Rests-passed, Rests-come, Rests-release, StandsOn-come, needs-atom, have-sizes}
+use Rattle.gta_keep.proofs.AutoSizesLemmas.{HaveSizes-shelf}
+use Rattle.ws2s_decide.proofs.NeedsLemmas.{needs-atom}
+use Rattle.ws2s_decide.proofs.RestsLemmas.{on_err, Rests-passed, Rests-come, Rests-release}
+use Rattle.ws2s_decide.proofs.StandsLemmas.{StandsOn-come}
 use Rattle.ws2s_decide.proofs.visiting.visit_atom.Goals as goal
 
 pub returns-in_err-auto-clause-err : goal.returns-in_err-auto-clause-err
@@ -19,7 +22,7 @@ returns-in_err-auto-clause-err c = on_err _ c.from_residual.result
 pub returns-in_err-auto-clause-limit : goal.returns-in_err-auto-clause-limit
 returns-in_err-auto-clause-limit c = λ stopped.
     needs-atom c.args.g.now c.requires.guide c.args.interner.now c.args.shelf.now
-    (have-sizes c.args.g.now c.args.shelf.now c.requires.going.stands.rests.holds.is_shelf)
+    (HaveSizes-shelf c.args.g.now c.args.shelf.now c.requires.going.stands.rests.holds.is_shelf)
     c.args.atom.now c.args.id c.args.machine.now.tasks c.args.machine.now.automata c.args.kept.now c.requires.atom c.requires.there
     (c.build_atom.ensures.limit (let why = rw stopped at c.from_residual.ensures in c.in_err-auto.was ∙ (let is = why.1 in cc)))
 

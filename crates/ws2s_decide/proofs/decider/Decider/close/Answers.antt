@@ -1,7 +1,7 @@
 use Rattle.std.proofs.Common.{List, [], subst}
 use Rattle.gta_core.specs.Auto.{AutoView}
 use Rattle.ws2s_core.specs.declared.node.FormulaId.{FormulaId}
-use Rattle.ws2s_decide.specs.Holding.{Holds, beside}
+use Rattle.gta_keep.specs.Holding.{Holds, beside}
 use Rattle.ws2s_decide.proofs.KeepingLemmas.{HasNoTables-held}
 use Rattle.ws2s_decide.proofs.decider.Decider.close.Goals as goal
 

@@ -2,8 +2,8 @@ use Rattle.std.proofs.Common.{List, ◌∷◌, ◌++◌, Contains, sym, subst}
 use Rattle.gta_theory.proofs.ListsLemmas.{Contains-first}
 use Rattle.gta_core.specs.Auto.{AutoView}
 use Rattle.ws2s_decide.specs.Going.{Releases}
-use Rattle.ws2s_decide.proofs.HoldingLemmas.{Holds-registered}
-use Rattle.ws2s_decide.proofs.GoingLemmas.{Releases-more}
+use Rattle.gta_keep.proofs.HoldingLemmas.{Holds-registered}
+use Rattle.ws2s_decide.proofs.RestsLemmas.{Releases-more}
 use Rattle.ws2s_decide.proofs.waiting.Waiting.release_all.Goals as goal
 
 pub release-requires : goal.release-requires

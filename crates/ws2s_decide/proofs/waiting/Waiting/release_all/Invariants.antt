@@ -1,7 +1,7 @@
 use Rattle.std.proofs.Common.{List, ◌++◌, length}
 use Rattle.gta_theory.specs.Guides.{Spaces}
 use Rattle.gta_core.specs.Auto.{AutoView}
-use Rattle.ws2s_decide.specs.Holding.{Holds}
+use Rattle.gta_keep.specs.Holding.{Holds}
 use Rattle.ws2s_decide.specs.Going.{Releases}
 use Rattle.ws2s_decide.proofs.waiting.Waiting.release_all.Given as goal
 

@@ -1,7 +1,0 @@
-use Rattle.ws2s_decide.proofs.kept.Kept.release_all.Goals as goal
-
-pub returns-clause-passes : goal.returns-clause-passes
-returns-clause-passes c = ?
-
-pub returns-clause-empty : goal.returns-clause-empty
-returns-clause-empty c = ?
