@@ -1,12 +1,11 @@
 -- On the automaton turned over: it is a minimal automaton of the negation.
-use Rattle.std.proofs.Common.{◌≡◌, ◌≢◌, ℕ, zero, suc, ◌<◌, Bool, true, false, not, nat_lt, ◌↔◌, IsTrue, [], ◌∷◌, refl, sym, ◌∙◌, ap, subst, arith}
+use Rattle.std.proofs.Common.{◌≡◌, ℕ, zero, suc, Bool, true, false, not, nat_lt, ◌↔◌, IsTrue, [], ◌∷◌, refl, sym, ◌∙◌, ap, subst}
 use Rattle.std.proofs.lemmas.Bool.{ltb-true}
-use Rattle.labels.specs.Labels.{Label}
 use Rattle.bdd_nodes.specs.Shelf.{Contents}
 use Rattle.gta_theory.specs.Assignments.{Position, Assignment, Covers, half, root_label}
 use Rattle.gta_theory.specs.Guides.{Spaces, IsGuide, IsSpace, left, right, space_at}
 use Rattle.gta_theory.specs.Automata.{Automaton, value, IsStable, Accepts}
-use Rattle.gta_theory.specs.Constructions.{IsReached, IsClosed}
+use Rattle.gta_theory.specs.Constructions.{IsClosed}
 use Rattle.gta_theory.specs.Minimal.{value_with, IsMinimal}
 use Rattle.gta_theory.specs.Numbered.{Below}
 use Rattle.gta_theory.proofs.AutomataLemmas.{IsClosed-reached}
@@ -14,8 +13,7 @@ use Rattle.gta_core.specs.Auto.{AutoView, states_of, automaton_of, IsAuto}
 use Rattle.gta_product.specs.Complement.{IsComplement}
 use Rattle.ws2s_core.specs.declared.formula.Formula.{Formula}
 use Rattle.ws2s_core.specs.declared.formula.Formula.TheVariants.{Not}
-use Rattle.ws2s_core.specs.Satisfaction.{WSat}
-use Rattle.ws2s_core.specs.Recognising.{Recognises, IsMinimalOf}
+use Rattle.ws2s_core.specs.Recognising.{Recognises}
 use Rattle.ws2s_core.proofs.SatisfactionLemmas.{WSat-Not}
 use Rattle.gta_keep.specs.Holding.{IsMinimalFor}
 

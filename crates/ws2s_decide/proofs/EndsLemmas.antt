@@ -1,38 +1,20 @@
 -- On a machine from its first task to its last.
-use Rattle.std.proofs.Common.{◌≡◌, ℕ, zero, suc, ◌+◌, ◌<◌, ◌≤◌, ◌==◌, if◌then◌else◌, ◌⊎◌, inl, inr, List, [], ◌∷◌, ◌++◌, map, length, All, Contains, Option, Some, None, IsSome, Result, Ok, Err, slice_get, refl, sym, ◌∙◌, ap, subst, arith}
-use Rattle.std.specs.Option.{MatchOption}
-use Rattle.std.specs.Result.{OnOk, OnErr}
+use Rattle.std.proofs.Common.{◌≡◌, ℕ, ◌+◌, ◌<◌, ◌≤◌, List, [], ◌∷◌, Some, slice_get, refl, sym, subst, arith}
 use Rattle.std.proofs.lemmas.Option.{slice_get_within}
-use Rattle.std.proofs.lemmas.List.Elements.{All-nil, All-cons, All-head, All-tail, All-contains, Contains-append_left, Contains-append_right, Contains-append_cases}
-use Rattle.bdd_nodes.specs.Shelf.{Contents, IsShelf, limit_of, roots_of}
-use Rattle.bdd_nodes.specs.Changes.{DropsTable}
+use Rattle.std.proofs.lemmas.List.Elements.{All-nil, All-cons}
+use Rattle.bdd_nodes.specs.Shelf.{Contents, limit_of}
 use Rattle.gta_theory.specs.Guides.{Spaces, IsGuide}
-use Rattle.gta_theory.specs.Numbered.{Below}
-use Rattle.gta_theory.proofs.ListsLemmas.{Contains-first, Contains-later, Contains-cases, Contains-none, All-from_contains, Contains-map}
-use Rattle.gta_theory.proofs.ListedLemmas.{slice_get-front}
-use Rattle.gta_core.specs.Auto.{AutoView, states_of, automaton_of, IsAuto}
-use Rattle.gta_core.specs.Changes.{KeepsTable}
-use Rattle.gta_core.proofs.AutoLemmas.{automaton_of-kept}
-use Rattle.ws2s_core.specs.declared.track.Track.{Track}
+use Rattle.gta_core.specs.Auto.{AutoView}
 use Rattle.ws2s_core.specs.declared.formula.Formula.{Formula}
-use Rattle.ws2s_core.specs.declared.formula.Formula.TheVariants.{And, Not, Ex2}
 use Rattle.ws2s_core.specs.declared.node.FormulaId.{FormulaId}
-use Rattle.ws2s_core.specs.declared.node.Node.{Node}
-use Rattle.ws2s_core.specs.Nodes.{formula_at, formula_of_node, HasPartsBelow, Extends}
-use Rattle.ws2s_core.specs.Recognising.{IsMinimalOf}
-use Rattle.gta_atom.specs.Atom.{IsAtom}
+use Rattle.ws2s_core.specs.Nodes.{formula_at}
 use Rattle.ws2s_decide.specs.declared.task.Task.{Task}
-use Rattle.gta_keep.specs.Holding.{times, registered, Holds, HasNoTables, IsMinimalFor, AreMinimalFor, none, more, kept_autos, beside, HaveSum, HaveSizes, KeepsSome, Passes, WasOrIsCopy, TakesIn, IsCopy, IsCopyOfKept}
-use Rattle.ws2s_decide.specs.Keeping.{IsKept}
-use Rattle.ws2s_theory.specs.Peaks.{HasMinimalSize, HasProductSize, HasSubsetSize, HasPeak}
-use Rattle.ws2s_theory.proofs.SizesLemmas.{HasMinimalSize-exists, HasProductSize-exists, HasSubsetSize-exists}
+use Rattle.gta_keep.specs.Holding.{IsMinimalFor, AreMinimalFor, none, more}
+use Rattle.ws2s_theory.specs.Peaks.{HasPeak}
 use Rattle.ws2s_theory.proofs.PeaksLemmas.{HasPeak-unique}
-use Rattle.ws2s_decide.specs.Tasks.{Step, Makes, Within, steps_left, HasSum, IsCompound, tasks_for}
-use Rattle.ws2s_decide.specs.Going.{Moment, moment, Rests, IsNamedIn, steps_of, Stands, GoesOn, Advances, StandsOn, StandsLater, Follows, NeedsMore, IsGoing, HasMade, EndsWith, KeepsTables, Releases}
-use Rattle.gta_keep.proofs.HoldingLemmas.{Holds-release, kept-release, Holds-same}
-use Rattle.ws2s_decide.proofs.SumsLemmas.{HasSum-exists, HaveSum-stack}
-use Rattle.ws2s_decide.proofs.StepsLemmas.{formula-at, HasPeak-atom, apart, goes-visit, goes-negate, goes-conjoin, goes-quantify}
-use Rattle.gta_keep.proofs.CopyLemmas.{IsMinimalFor-kept, IsMinimalFor-copy}
+use Rattle.ws2s_decide.specs.Tasks.{Makes, HasSum}
+use Rattle.ws2s_decide.specs.Going.{Moment, moment, Rests, IsNamedIn, steps_of, Stands, Advances, Follows, NeedsMore, IsGoing, HasMade, EndsWith}
+use Rattle.ws2s_decide.proofs.StepsLemmas.{formula-at}
 
 -- ---- from the first task to the last
 

@@ -1,17 +1,11 @@
 -- On what a decider keeps: where it is ready for a formula, and what is left of it.
-use Rattle.std.proofs.Common.{◌≡◌, ℕ, ◌+◌, if◌then◌else◌, is_some, Bool, true, false, List, [], ◌∷◌, ◌++◌, All, Contains, Option, IsSome, refl, sym, ◌∙◌, ap, subst, arith}
-use Rattle.std.proofs.lemmas.List.Elements.{All-nil}
-use Rattle.bdd_nodes.specs.declared.node_ref.NodeRef.{NodeRef}
-use Rattle.bdd_nodes.specs.Shelf.{Contents, IsShelf, roots_of}
+use Rattle.std.proofs.Common.{◌≡◌, if◌then◌else◌, Bool, List, [], ap, arith}
+use Rattle.bdd_nodes.specs.Shelf.{Contents, IsShelf}
 use Rattle.gta_theory.specs.Guides.{Spaces}
-use Rattle.gta_theory.proofs.ListsLemmas.{Contains-none}
-use Rattle.gta_core.specs.Auto.{AutoView, IsAuto}
 use Rattle.ws2s_core.specs.declared.formula.Formula.{Formula}
-use Rattle.ws2s_core.specs.declared.node.FormulaId.{FormulaId}
 use Rattle.ws2s_core.specs.Nodes.{Extends}
 use Rattle.ws2s_decide.specs.declared.decider.Decider.{Decider}
-use Rattle.gta_keep.specs.Holding.{times, registered, Holds, HasNoTables, kept_autos}
-use Rattle.ws2s_decide.specs.Keeping.{IsKept}
+use Rattle.gta_keep.specs.Holding.{registered, Holds, HasNoTables}
 use Rattle.ws2s_decide.specs.Deciding.{HasKept}
 use Rattle.ws2s_decide.specs.Going.{Rests}
 use Rattle.ws2s_decide.proofs.RestsLemmas.{AllKept-extends}

@@ -1,5 +1,5 @@
 -- On single steps: a visit taken apart goes on, and so does each step done. And what a number stands for.
-use Rattle.std.proofs.Common.{◌≡◌, ℕ, ◌<◌, ◌≤◌, ◌*◌, ◌^◌, List, [], ◌∷◌, length, All, Option, Some, IsTrue, true, false, slice_get, unwrap_or, option_map, refl, sym, ◌∙◌, ap, subst, arith}
+use Rattle.std.proofs.Common.{◌≡◌, ℕ, ◌<◌, ◌≤◌, ◌^◌, List, [], ◌∷◌, length, All, Option, Some, slice_get, unwrap_or, sym, ◌∙◌, ap, subst, arith}
 use Rattle.std.proofs.Math.Nat.{one-le-pow}
 use Rattle.std.proofs.lemmas.Bool.{false≢true}
 use Rattle.std.proofs.lemmas.List.Elements.{All-cons, All-head, All-tail}
@@ -17,7 +17,7 @@ use Rattle.ws2s_core.proofs.SizesLemmas.{power_of_order}
 use Rattle.ws2s_theory.specs.Peaks.{HasMinimalSize, HasPeak}
 use Rattle.ws2s_theory.proofs.PeaksLemmas.{HasPeak-Sub, HasPeak-Single, HasPeak-Succ0, HasPeak-Succ1, HasPeak-Root}
 use Rattle.ws2s_decide.specs.declared.task.Task.{Task}
-use Rattle.ws2s_decide.specs.Tasks.{Step, visit, negate, conjoin, quantify, steps_left, Within, Makes, IsCompound, tasks_for}
+use Rattle.ws2s_decide.specs.Tasks.{Step, visit, negate, conjoin, quantify, Makes, IsCompound, tasks_for}
 use Rattle.ws2s_decide.specs.Going.{GoesOn, IsNamedIn, steps_of}
 use Rattle.ws2s_decide.proofs.TasksLemmas.{fewer-And, fewer-Not, fewer-Ex2, within-And, within-Not, within-Ex2}
 

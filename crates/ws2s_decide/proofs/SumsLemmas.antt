@@ -1,6 +1,5 @@
 -- On the sums of Sizes of the automata on a stack, by the formulas that they are minimal automata of.
-use Rattle.std.proofs.Common.{◌≡◌, ℕ, zero, suc, ◌+◌, List, [], ◌∷◌, map, length, All, Contains, refl, sym, ◌∙◌, ap, subst, arith}
-use Rattle.std.specs.List.{sum_by}
+use Rattle.std.proofs.Common.{◌≡◌, ℕ, suc, ◌+◌, List, [], ◌∷◌, Contains, refl, ◌∙◌, ap, subst, arith}
 use Rattle.std.proofs.lemmas.Bool.{cases_eq}
 use Rattle.std.proofs.lemmas.List.Elements.{All-cons}
 use Rattle.std.proofs.lemmas.List.Sums.{sum_by-cons}
@@ -11,9 +10,8 @@ use Rattle.gta_theory.specs.Numbered.{Below}
 use Rattle.gta_core.specs.Auto.{AutoView, states_of, automaton_of, IsAuto}
 use Rattle.gta_core.specs.Sizes.{IsSized}
 use Rattle.ws2s_core.specs.declared.formula.Formula.{Formula}
-use Rattle.ws2s_theory.specs.Peaks.{HasMinimalSize}
 use Rattle.ws2s_theory.proofs.SizesLemmas.{HasMinimalSize-exists, minimal-size}
-use Rattle.gta_keep.specs.Holding.{HaveSum, HaveSizes, IsMinimalFor, AreMinimalFor}
+use Rattle.gta_keep.specs.Holding.{HaveSum, HaveSizes, AreMinimalFor}
 use Rattle.ws2s_decide.specs.Tasks.{HasSum}
 
 module _ (g : Spaces) (guide : IsGuide g) where

@@ -1,5 +1,5 @@
 -- On steps: a visit may be taken apart into the visits of the parts, and what comes up on the way stays within the same bound.
-use Rattle.std.proofs.Common.{◌≡◌, ℕ, ◌+◌, ◌*◌, ◌≤◌, ◌<◌, max, List, [], ◌∷◌, sym, subst, arith}
+use Rattle.std.proofs.Common.{◌≡◌, ℕ, ◌+◌, ◌≤◌, ◌<◌, max, List, ◌∷◌, sym, subst, arith}
 use Rattle.std.proofs.Math.Nat.{le-max_left, le-max_right}
 use Rattle.gta_theory.specs.Guides.{Spaces, IsGuide}
 use Rattle.ws2s_core.specs.declared.track.Track.{Track}
@@ -7,10 +7,10 @@ use Rattle.ws2s_core.specs.declared.formula.Formula.{Formula}
 use Rattle.ws2s_core.specs.declared.formula.Formula.TheVariants.{And, Not, Ex2}
 use Rattle.ws2s_core.proofs.FormulaLemmas.{fold-And, fold-Not, fold-Ex2}
 use Rattle.ws2s_core.specs.Sizes.{node_count, count_of_node}
-use Rattle.ws2s_theory.specs.Peaks.{HasMinimalSize, HasProductSize, HasSubsetSize, HasPeak, IsPeakOfAnd, IsPeakOfEx2}
+use Rattle.ws2s_theory.specs.Peaks.{HasPeak, IsPeakOfAnd}
 use Rattle.ws2s_theory.proofs.PeaksLemmas.{HasPeak-And, HasPeak-Not, HasPeak-Ex2, HasPeak-exists, HasPeak-unique}
 use Rattle.ws2s_theory.proofs.SizesLemmas.{HasMinimalSize-unique, HasProductSize-unique, HasSubsetSize-unique}
-use Rattle.ws2s_decide.specs.Tasks.{Step, visit, negate, conjoin, quantify, Makes, steps_left, HasSum, more, Within, ConjoinsWithin, QuantifiesWithin}
+use Rattle.ws2s_decide.specs.Tasks.{Step, visit, negate, conjoin, quantify, steps_left, HasSum, more, Within, ConjoinsWithin, QuantifiesWithin}
 
 -- ---- how many steps are to come
 

@@ -1,6 +1,6 @@
 -- On the verdict by a formula's automaton.
-use Rattle.std.proofs.Common.{◌≡◌, ℕ, List, refl}
-use Rattle.gta_theory.specs.Assignments.{Assignment, Covers}
+use Rattle.std.proofs.Common.{ℕ, List}
+use Rattle.gta_theory.specs.Assignments.{Assignment}
 use Rattle.gta_theory.specs.Guides.{Spaces}
 use Rattle.gta_theory.specs.Automata.{Accepts}
 use Rattle.bdd_nodes.specs.Shelf.{Contents}

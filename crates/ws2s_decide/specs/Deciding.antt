@@ -1,6 +1,6 @@
 -- What deciding a formula gives, and what a decider keeps for the next one. (Thatcher and Wright 1968; Doner 1970; examples:
 -- the MONA 1.4 User Manual.)
-use Rattle.std.specs.Prelude.{◌≡◌, ℕ, ◌≤◌, List, length, All, Contains}
+use Rattle.std.specs.Prelude.{◌≡◌, ℕ, ◌≤◌, List, All, Contains}
 use Rattle.bdd_nodes.specs.Shelf.{Contents}
 use Rattle.gta_theory.specs.Assignments.{Assignment, Covers}
 use Rattle.gta_theory.specs.Guides.{Spaces}

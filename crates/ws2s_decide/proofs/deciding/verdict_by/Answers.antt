@@ -1,4 +1,3 @@
-use Rattle.std.proofs.Common.{List}
 use Rattle.ws2s_decide.proofs.VerdictLemmas.{IsUnsatisfiable-none, IsLightestModel-tree}
 use Rattle.ws2s_decide.proofs.deciding.verdict_by.Goals as goal
 

@@ -1,12 +1,10 @@
-use Rattle.std.proofs.Common.{◌≡◌, List, [], ◌∷◌, ◌++◌, Ok, Err, Result, refl, sym, ◌∙◌, ap, subst}
-use Rattle.std.specs.Result.{IfOk, OnErr}
+use Rattle.std.proofs.Common.{◌≡◌, List, [], ◌∷◌, Err, sym, ◌∙◌, ap, subst}
 use Rattle.bdd_walk.specs.declared.stop.Stop.{Stop}
 use Rattle.bdd_nodes.specs.Shelf.{Contents, limit_of}
 use Rattle.gta_core.specs.Auto.{AutoView}
-use Rattle.ws2s_core.specs.declared.formula.Formula.{Formula}
 use Rattle.ws2s_decide.specs.declared.task.Task.{Task}
 use Rattle.gta_keep.specs.Holding.{IsMinimalFor, kept_autos}
-use Rattle.ws2s_decide.specs.Going.{moment, Rests}
+use Rattle.ws2s_decide.specs.Going.{Rests}
 use Rattle.ws2s_decide.proofs.EndsLemmas.{IsGoing-first, limit-of_first}
 use Rattle.ws2s_decide.proofs.LastLemmas.{some-from, not-alone, alone-last}
 use Rattle.ws2s_decide.proofs.RestsLemmas.{Rests-released}

@@ -1,4 +1,4 @@
-use Rattle.std.proofs.Common.{◌≡◌, ◌<◌, List, [], ◌∷◌, sym, ◌∙◌, subst}
+use Rattle.std.proofs.Common.{◌<◌, List, ◌∷◌, sym, ◌∙◌, subst}
 use Rattle.ws2s_decide.specs.declared.task.Task.{Task}
 use Rattle.ws2s_decide.specs.Tasks.{steps_left}
 use Rattle.ws2s_decide.specs.Going.{moment, steps_of, IsGoing, Follows}

@@ -1,9 +1,9 @@
-use Rattle.std.proofs.Common.{◌≡◌, List, [], ◌∷◌, ◌++◌, sym, ◌∙◌, ap, subst}
+use Rattle.std.proofs.Common.{List, [], ◌∷◌, ◌++◌, sym, ◌∙◌, ap, subst}
 use Rattle.gta_core.specs.Auto.{AutoView}
 use Rattle.ws2s_core.specs.Nodes.{formula_at}
 use Rattle.ws2s_decide.specs.declared.task.Task.{Task}
-use Rattle.gta_keep.specs.Holding.{kept_autos, beside}
-use Rattle.ws2s_decide.specs.Going.{moment, Rests, Stands, StandsOn, NeedsMore, KeepsTables}
+use Rattle.gta_keep.specs.Holding.{kept_autos}
+use Rattle.ws2s_decide.specs.Going.{moment, Rests, Stands, StandsOn, NeedsMore}
 use Rattle.gta_keep.proofs.AutoSizesLemmas.{HaveSizes-shelf}
 use Rattle.ws2s_decide.proofs.LastLemmas.{some-from, two-wait, minimal-conjoined, there-conjoin}
 use Rattle.ws2s_decide.proofs.NeedsLemmas.{needs-conjoin}

@@ -1,11 +1,11 @@
-use Rattle.std.proofs.Common.{◌≡◌, ℕ, ◌<◌, List, ◌∷◌, ◌++◌, sym, ◌∙◌, ap, subst}
+use Rattle.std.proofs.Common.{ℕ, ◌<◌, List, ◌∷◌, ◌++◌, sym, ◌∙◌, ap, subst}
 use Rattle.std.proofs.lemmas.Result.{on_ok_weaker}
 use Rattle.bdd_nodes.specs.Shelf.{Contents, limit_of}
 use Rattle.gta_theory.proofs.ListsLemmas.{Contains-first}
 use Rattle.gta_core.specs.Auto.{AutoView}
 use Rattle.ws2s_decide.specs.declared.task.Task.{Task}
 use Rattle.gta_keep.specs.Holding.{kept_autos}
-use Rattle.ws2s_decide.specs.Going.{moment, Rests, StandsOn, NeedsMore}
+use Rattle.ws2s_decide.specs.Going.{moment, Rests, StandsOn}
 use Rattle.gta_keep.proofs.HoldingLemmas.{Holds-registered}
 use Rattle.ws2s_decide.proofs.RestsLemmas.{on_err, Rests-passed, Rests-come, Rests-release}
 use Rattle.ws2s_decide.proofs.StandsLemmas.{Stands-passed, StandsOn-come, minimal-found}

@@ -1,4 +1,4 @@
-use Rattle.std.proofs.Common.{◌≡◌, List, ◌∷◌, refl, sym, subst}
+use Rattle.std.proofs.Common.{List, ◌∷◌, refl, sym, subst}
 use Rattle.ws2s_decide.specs.declared.task.Task.{Task}
 use Rattle.ws2s_decide.specs.Going.{moment, StandsOn}
 use Rattle.ws2s_decide.proofs.StandsLemmas.{StandsOn-apart}

@@ -1,4 +1,4 @@
-use Rattle.std.proofs.Common.{List, ◌∷◌, ◌++◌, Contains, sym, subst}
+use Rattle.std.proofs.Common.{List, ◌++◌, Contains, sym, subst}
 use Rattle.gta_theory.proofs.ListsLemmas.{Contains-first}
 use Rattle.gta_core.specs.Auto.{AutoView}
 use Rattle.ws2s_decide.specs.Going.{Releases}
