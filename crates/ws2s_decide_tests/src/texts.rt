@@ -82,9 +82,18 @@ const TEXTS: [(&[u8], Found); 12] = [
     (b"ws2s; var2 X; ~empty(X);", Found::Tree(1, 1)),
     (b"ws2s; var2 X, Y; X sub Y; ~empty(X);", Found::Tree(2, 1)),
     (b"ws2s; var2 X, Y; X sub Y; ~(Y sub X);", Found::Tree(1, 1)),
-    (b"ws2s; var2 X; root in X; all1 p: p in X => p.0 in X;", Found::Unsatisfiable),
-    (b"ws2s; var2 X; root.1 in X; all1 p: p.1 in X => p in X;", Found::Tree(2, 2)),
-    (b"ws2s; var1 p, q; var2 X; p in X; q in X; p ~= q;", Found::Tree(4, 2)),
+    (
+        b"ws2s; var2 X; root in X; all1 p: p in X => p.0 in X;",
+        Found::Unsatisfiable,
+    ),
+    (
+        b"ws2s; var2 X; root.1 in X; all1 p: p.1 in X => p in X;",
+        Found::Tree(2, 2),
+    ),
+    (
+        b"ws2s; var1 p, q; var2 X; p in X; q in X; p ~= q;",
+        Found::Tree(4, 2),
+    ),
 ];
 
 #[test]
@@ -102,10 +111,26 @@ fn formulas_are_decided_one_after_the_other(rt: HostRuntime) -> Result<(), Fail>
     let mut shelf = Shelf::open(alloc, 1000)?;
     let mut decider = Decider::new(alloc, Guide::plain(alloc)?)?;
     for (text, holds, breaks) in [
-        (b"ws2s; var2 X; root in X;".as_slice(), Found::Tree(1, 1), Found::Tree(0, 0)),
-        (b"ws2s; all1 p: p.0 ~= p.1;".as_slice(), Found::Tree(0, 0), Found::Unsatisfiable),
-        (b"ws2s; var2 X; root in X; ~(root in X);".as_slice(), Found::Unsatisfiable, Found::Tree(0, 0)),
-        (b"ws2s; var2 X; root in X;".as_slice(), Found::Tree(1, 1), Found::Tree(0, 0)),
+        (
+            b"ws2s; var2 X; root in X;".as_slice(),
+            Found::Tree(1, 1),
+            Found::Tree(0, 0),
+        ),
+        (
+            b"ws2s; all1 p: p.0 ~= p.1;".as_slice(),
+            Found::Tree(0, 0),
+            Found::Unsatisfiable,
+        ),
+        (
+            b"ws2s; var2 X; root in X; ~(root in X);".as_slice(),
+            Found::Unsatisfiable,
+            Found::Tree(0, 0),
+        ),
+        (
+            b"ws2s; var2 X; root in X;".as_slice(),
+            Found::Tree(1, 1),
+            Found::Tree(0, 0),
+        ),
     ] {
         assert!(rt; both(alloc, text, &mut decider, &mut shelf)? == (holds, breaks));
     }
