@@ -1,4 +1,2 @@
-pub mod HoldingLemmas
-pub mod RoomLemmas
 pub mod SumsLemmas
 pub mod TasksLemmas

@@ -13,7 +13,7 @@ use Rattle.gta_core.specs.Sizes.{IsSized}
 use Rattle.ws2s_core.specs.declared.formula.Formula.{Formula}
 use Rattle.ws2s_theory.specs.Peaks.{HasMinimalSize}
 use Rattle.ws2s_theory.proofs.SizesLemmas.{HasMinimalSize-exists, minimal-size}
-use Rattle.ws2s_decide.specs.Holding.{HaveSum, HaveSizes, IsMinimalFor, AreMinimalFor}
+use Rattle.gta_keep.specs.Holding.{HaveSum, HaveSizes, IsMinimalFor, AreMinimalFor}
 use Rattle.ws2s_decide.specs.Tasks.{HasSum}
 
 module _ (g : Spaces) (guide : IsGuide g) where

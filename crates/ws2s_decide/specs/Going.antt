@@ -6,7 +6,7 @@ use Rattle.gta_core.specs.Auto.{AutoView}
 use Rattle.ws2s_core.specs.declared.formula.Formula.{Formula}
 use Rattle.ws2s_core.specs.declared.node.FormulaId.{FormulaId}
 use Rattle.ws2s_decide.specs.declared.machine.Task.{Task}
-use Rattle.ws2s_decide.specs.Holding.{Holds, IsMinimalFor, AreMinimalFor, beside}
+use Rattle.gta_keep.specs.Holding.{Holds, IsMinimalFor, AreMinimalFor, beside}
 use Rattle.ws2s_decide.specs.Tasks.{Step, step_of, Makes, Within, steps_left}
 
 -- the automaton that is kept for a formula's number is a minimal one of the formula

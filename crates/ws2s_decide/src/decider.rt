@@ -1,6 +1,6 @@
 //! A decider of formulas, one after the other, which keeps finished automata.
 
-use crate::building::Kept;
+use gta_keep::Kept;
 use crate::deciding::verdict_of;
 use crate::verdict::Verdict;
 use bdd_nodes::Shelf;

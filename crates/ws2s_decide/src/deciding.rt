@@ -1,6 +1,6 @@
 //! The verdict on a formula.
 
-use crate::building::Kept;
+use gta_keep::Kept;
 use crate::machine::automaton_of;
 use crate::verdict::Verdict;
 use bdd_nodes::Shelf;

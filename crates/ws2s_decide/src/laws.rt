@@ -1,11 +1,9 @@
 //! Visits taken apart.
 
-ghost use Rattle.std.specs.Prelude.{◌<◌, ◌≤◌, Contains, ℕ, List, [], ◌∷◌};
-ghost use Rattle.bdd_nodes.specs.Shelf.{Contents, IsShelf};
-ghost use Rattle.bdd_nodes.specs.Changes.{CountsHeld, DropsTable, Keeps, SameTables, MovesRoots};
-ghost use Rattle.gta_core.specs.Changes.{RegistersTable};
+ghost use Rattle.std.specs.Prelude.{◌<◌, Contains, ℕ, List, [], ◌∷◌};
+ghost use Rattle.bdd_nodes.specs.Shelf.{Contents};
 ghost use Rattle.gta_core.specs.Auto.{AutoView, IsAuto};
-ghost use Rattle.ws2s_decide.specs.Holding.{Holds, HaveSum, HaveSizes, AreMinimalFor};
+ghost use Rattle.gta_keep.specs.Holding.{HaveSum, HaveSizes, AreMinimalFor};
 ghost use Rattle.gta_theory.specs.Guides.{Spaces, IsGuide};
 ghost use Rattle.ws2s_core.specs.declared.formula.Formula.{Formula};
 ghost use Rattle.ws2s_core.specs.declared.formula.Formula.TheVariants.{And};
@@ -15,23 +13,6 @@ pub fn visits_are_taken_apart()
     ensures within { (g : Spaces) (n : ℕ) (f h : Formula) (steps : List Step) (stack : List Formula) → IsGuide g → Within g n (visit (And f h) ∷ steps) stack →
         Within g n (visit f ∷ visit h ∷ conjoin (And f h) ∷ steps) stack }
     ensures fewer { (f h : Formula) (steps : List Step) → steps_left (visit f ∷ visit h ∷ conjoin (And f h) ∷ steps) < steps_left (visit (And f h) ∷ steps) }
-{}
-
-pub fn held_automata_are_released()
-    ensures { (g : Spaces) (old new : Contents) (a : AutoView) (xs : List AutoView) → Holds g old (a ∷ xs) → IsShelf new →
-        DropsTable old new a.table → Holds g new xs }
-{}
-
-pub fn held_automata_outlive_changes()
-    ensures registered { (g : Spaces) (old new : Contents) (c : AutoView) (xs : List AutoView) → Holds g old xs → IsShelf new → Keeps old new →
-        RegistersTable old new c.table → IsAuto g new c → Holds g new (c ∷ xs) }
-    ensures made { (g : Spaces) (old new : Contents) (xs : List AutoView) → Holds g old xs → IsShelf new → Keeps old new → SameTables old new → Holds g new xs }
-    ensures collected { (g : Spaces) (old new : Contents) (xs : List AutoView) → Holds g old xs → IsShelf new → MovesRoots old new → Holds g new xs }
-{}
-
-pub fn held_automata_have_room()
-    ensures { (g : Spaces) (shelf : Contents) (autos : List AutoView) (sum count : ℕ) → Holds g shelf autos → HaveSum g shelf autos sum →
-        CountsHeld shelf count → count ≤ sum }
 {}
 
 pub fn formulas_have_sums()

@@ -1,7 +1,6 @@
 //! Deciding core formulas of WS2S.
 #![tactic(auto)]
 
-mod building;
 mod decider;
 mod deciding;
 mod laws;

@@ -6,11 +6,11 @@ ghost use Rattle.gta_core.specs.Auto.{AutoView};
 ghost use Rattle.ws2s_core.specs.declared.formula.Formula.{Formula};
 ghost use Rattle.ws2s_core.specs.Nodes.{formula_of_node, HasPartsBelow};
 ghost use Rattle.ws2s_decide.specs.declared.machine.Task.TheVariants as task;
-ghost use Rattle.ws2s_decide.specs.Holding.{Holds, IsMinimalFor, beside};
+ghost use Rattle.gta_keep.specs.Holding.{Holds, IsMinimalFor, beside};
 ghost use Rattle.ws2s_decide.specs.Tasks.{Within, HasPeak};
 ghost use Rattle.ws2s_decide.specs.Going.{IsKept, Stands, StandsOn, steps_of};
 
-use crate::building::{Kept, build_atom, conjoin, quantify};
+use gta_keep::{Kept, build_atom, conjoin, quantify};
 use bdd_nodes::Shelf;
 use bdd_walk::Stop;
 use gta_core::{Auto, release};
@@ -50,14 +50,14 @@ fn visit(
     shelf: &mut Shelf,
 ) -> Result<(), Stop>
     requires { (stack : List Formula) × (out : Formula) × Stands g.now shelf.old interner.now (task.Visit id ∷ machine.old.tasks)
-        machine.old.automata kept.old.automata.entries stack out }
+        machine.old.automata kept.old stack out }
     ensures ok { OnOk result ((stack : List Formula) (out : Formula) → Stands g.now shelf.old interner.now (task.Visit id ∷ machine.old.tasks)
-        machine.old.automata kept.old.automata.entries stack out →
+        machine.old.automata kept.old stack out →
         StandsOn g.now shelf.new interner.now (steps_of interner.now (task.Visit id ∷ machine.old.tasks)) stack
-        machine.new.tasks machine.new.automata kept.new.automata.entries out) }
-    ensures err { OnErr result (Holds g.now shelf.new (beside machine.new.automata [] kept.new.automata.entries)) }
+        machine.new.tasks machine.new.automata kept.new out) }
+    ensures err { OnErr result (Holds g.now shelf.new (beside machine.new.automata [] kept.new)) }
     ensures limit { result ≡ Err Stop.Limit → (stack : List Formula) (out : Formula) (n : ℕ) →
-        Stands g.now shelf.old interner.now (task.Visit id ∷ machine.old.tasks) machine.old.automata kept.old.automata.entries stack out →
+        Stands g.now shelf.old interner.now (task.Visit id ∷ machine.old.tasks) machine.old.automata kept.old stack out →
         Within g.now n (steps_of interner.now (task.Visit id ∷ machine.old.tasks)) stack → limit_of shelf.old < n }
     ensures same_limit { limit_of shelf.new ≡ limit_of shelf.old }
 {

@@ -1,5 +1,5 @@
 -- Automata that stand in a shelf, each with a table of its own, and no other table beside them.
-use Rattle.std.specs.Prelude.{◌≡◌, ℕ, ◌+◌, ◌==◌, if◌then◌else◌, is_some, List, [], ◌∷◌, ◌++◌, map, All, Contains, IsSome}
+use Rattle.std.specs.Prelude.{◌≡◌, ℕ, ◌+◌, ◌==◌, ◌⊎◌, if◌then◌else◌, is_some, List, [], ◌∷◌, ◌++◌, map, All, Contains, IsSome, Option, None, Some}
 use Rattle.std.specs.List.{sum_by}
 use Rattle.bdd_nodes.specs.Shelf.{Contents, IsShelf, roots_of, limit_of}
 use Rattle.gta_theory.specs.Guides.{Spaces}
@@ -62,6 +62,34 @@ pub record HaveSum (g : Spaces) (shelf : Contents) (autos : List AutoView) (sum 
   pub each : All (IsSized g shelf) sized
   pub is_sum : sum_by (λ auto. auto.1) sized ≡ sum
 
+-- the automaton as it stands in the second shelf is the other one as it stood in the first, over as many states
+pub record IsCopy (old new : Contents) (was now : AutoView) : Type 0 where
+  pub automaton : automaton_of new now ≡ automaton_of old was
+  pub states : (s : ℕ) → states_of now s ≡ states_of was s
+
+-- nothing is kept for the number
+abbrev pub IsNotKept : FormulaId → List (FormulaId × AutoView) → Type 0
+IsNotKept id kept = (auto : AutoView) → Contains kept (id, auto) → ⊥
+
+-- the automaton is a copy of one that was kept for the number
+pub record IsCopyOfKept (old new : Contents) (id : FormulaId) (before : List (FormulaId × AutoView)) (copy : AutoView) :
+    Type 0 where
+  pub was : AutoView
+  pub there : Contains before (id, was)
+  pub copies : IsCopy old new was copy
+
+-- a copy of the automaton is kept for the number
+pub record IsKeptCopy (old new : Contents) (id : FormulaId) (auto : AutoView) (after : List (FormulaId × AutoView)) :
+    Type 0 where
+  pub now : AutoView
+  pub there : Contains after (id, now)
+  pub copies : IsCopy old new auto now
+
+-- the automaton that was found, if any
+abbrev pub as_list : Option AutoView → List AutoView
+as_list None = []
+as_list (Some auto) = auto ∷ []
+
 -- what is kept is some of what was, each with its table as it was
 pub record KeepsSome (old new : Contents) (before after : List (FormulaId × AutoView)) : Type 0 where
   pub entries : (entry : FormulaId × AutoView) → Contains after entry → Contains before entry
@@ -73,6 +101,20 @@ pub record Passes (g : Spaces) (old new : Contents) (gone come : List AutoView)
   pub kept : KeepsSome old new before after
   pub holds : (others : List AutoView) → Holds g old (beside gone others before) → Holds g new (beside come others after)
   pub others : (others : List AutoView) (other : AutoView) → Holds g old (beside gone others before) → Contains others other →
+      KeepsTable old new other.table
+  pub limit : limit_of new ≡ limit_of old
+
+-- an entry that is kept was kept, with its table as it was, or it is the number with a copy of the automaton
+abbrev pub WasOrIsCopy : Contents → Contents → FormulaId → AutoView → List (FormulaId × AutoView) → FormulaId × AutoView → Type 0
+WasOrIsCopy old new id auto before entry =
+    (Contains before entry × KeepsTable old new (entry.1).table) ⊎ ((entry.0 ≡ id) × IsCopy old new auto entry.1)
+
+-- From one shelf to the next at most a copy of the automaton came to what is kept, and others stand as they were.
+pub record TakesIn (g : Spaces) (old new : Contents) (id : FormulaId) (auto : AutoView)
+    (before after : List (FormulaId × AutoView)) : Type 0 where
+  pub entries : (entry : FormulaId × AutoView) → Contains after entry → WasOrIsCopy old new id auto before entry
+  pub holds : (others : List AutoView) → Holds g old (beside [] others before) → Holds g new (beside [] others after)
+  pub others : (others : List AutoView) (other : AutoView) → Holds g old (beside [] others before) → Contains others other →
       KeepsTable old new other.table
   pub limit : limit_of new ≡ limit_of old
 

@@ -8,8 +8,8 @@ use Rattle.gta_theory.specs.Guides.{Spaces}
 use Rattle.gta_core.specs.Auto.{AutoView}
 use Rattle.gta_core.specs.Sizes.{IsSized, IsTableOf}
 use Rattle.gta_core.proofs.SizeLemmas.{held-le}
-use Rattle.ws2s_decide.specs.Holding.{times, registered, Holds, HaveSum}
-use Rattle.ws2s_decide.proofs.HoldingLemmas.{times-other, registered-some}
+use Rattle.gta_keep.specs.Holding.{times, registered, Holds, HaveSum}
+use Rattle.gta_keep.proofs.HoldingLemmas.{times-other, registered-some}
 
 
 -- a table that one of them has is that of one of them

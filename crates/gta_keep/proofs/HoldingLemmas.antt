@@ -13,7 +13,7 @@ use Rattle.gta_theory.specs.Guides.{Spaces}
 use Rattle.gta_core.specs.Auto.{AutoView, IsAuto}
 use Rattle.gta_core.specs.Changes.{KeepsTable, RegistersTable}
 use Rattle.gta_core.proofs.AutoLemmas.{functions-same, KeepsTable-grown, KeepsTable-moved, IsAuto-kept}
-use Rattle.ws2s_decide.specs.Holding.{times, registered, Holds}
+use Rattle.gta_keep.specs.Holding.{times, registered, Holds}
 
 -- how often a table comes in two lists together
 pub times-append : (xs ys : List AutoView) (t : ℕ) → times (xs ++ ys) t ≡ times xs t + times ys t
