@@ -74,7 +74,7 @@ registered-moved old new moves t = pick (roots_of old t) (roots_of new t) (moves
   pick (Some was) (Some now) same = refl
 
 -- every table where nodes are made and tables stay as they are
-KeepsTable-joins : (old new : Contents) → IsShelf old → Keeps old new → SameTables old new → (number : ℕ) → KeepsTable old new number
+pub KeepsTable-joins : (old new : Contents) → IsShelf old → Keeps old new → SameTables old new → (number : ℕ) → KeepsTable old new number
 KeepsTable-joins old new is_shelf keeps same number = record {
   registered = λ there. ap (λ (roots : Registered). is_some (roots_under roots.tables number)) same ∙ there;
   functions = λ place.

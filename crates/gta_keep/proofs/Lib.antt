@@ -1,2 +1,9 @@
+pub mod AutoSizesLemmas
+pub mod BuildLemmas
+pub mod CopyLemmas
 pub mod HoldingLemmas
+pub mod KeptLemmas
+pub mod LimitLemmas
+pub mod PassesLemmas
 pub mod RoomLemmas
+pub mod SumLemmas

@@ -12,6 +12,7 @@ ghost use Rattle.ws2s_core.specs.declared.formula.Formula.TheVariants.{And, Ex2}
 ghost use Rattle.ws2s_core.specs.Recognising.{Recognises};
 ghost use Rattle.ws2s_theory.specs.Peaks.{HasMinimalSize, HasProductSize, HasSubsetSize};
 ghost use Rattle.gta_keep.specs.Holding.{Holds, HoldsBeside, IsMinimalFor, HaveSum, Passes, beside};
+ghost use Rattle.gta_keep.specs.Limits.{PairsLimit, SetsLimit, MinimalLimit};
 
 use crate::kept::Kept;
 use bdd_nodes::Shelf;
@@ -49,13 +50,8 @@ pub fn conjoin(
         HasMinimalSize g.now f n → HasMinimalSize g.now h m → HasProductSize g.now f h p → HasMinimalSize g.now (And f h) r →
         limit_of shelf.old < s + (n + m + p + r) }
 {
-    let pairs = build_product(alloc, g, &a, &b, kept, shelf);
-    release(a, shelf);
-    release(b, shelf);
-    let pairs = pairs?;
-    let minimal = build_minimal(alloc, g, &pairs, kept, shelf);
-    release(pairs, shelf);
-    minimal
+    let pairs = pair_up(alloc, g, a, b, kept, shelf)?;
+    minimal_of(alloc, g, pairs, kept, shelf)
 }
 
 /// The minimal automaton that accepts where some set for the track is accepted. The one that it is made of is let go of,
@@ -83,12 +79,8 @@ pub fn quantify(
         HasMinimalSize g.now f n → HasSubsetSize g.now t f p → HasMinimalSize g.now (Ex2 t f) r →
         limit_of shelf.old < s + (n + p + r) }
 {
-    let sets = build_projection(alloc, g, &a, t, kept, shelf);
-    release(a, shelf);
-    let sets = sets?;
-    let minimal = build_minimal(alloc, g, &sets, kept, shelf);
-    release(sets, shelf);
-    minimal
+    let sets = drop_track(alloc, g, a, t, kept, shelf)?;
+    minimal_of(alloc, g, sets, kept, shelf)
 }
 
 /// The minimal automaton of an atom.
@@ -122,22 +114,68 @@ pub fn build_atom(
     }
 }
 
-fn build_minimal(
+/// The automaton of pairs of states. The two are let go of.
+fn pair_up(
     alloc: Global,
     g: &Guide,
-    a: &Auto,
+    a: Auto,
+    b: Auto,
     kept: &mut Kept,
     shelf: &mut Shelf,
-) -> Result<Auto, Stop> {
-    match minimise(alloc, g, a, shelf) {
-        Err(Stop::Limit) => {
-            kept.make_room(shelf);
-            minimise(alloc, g, a, shelf)
-        }
-        answer => answer,
-    }
+) -> Result<Auto, Stop>
+    requires { HoldsBeside g.now shelf.old (a ∷ b ∷ []) kept.old }
+    ensures ok { IfOk result (λ c. Passes g.now shelf.old shelf.new (a ∷ b ∷ []) (c ∷ []) kept.old kept.new) }
+    ensures product { IfOk result (λ c. IsProductOf g.now (automaton_of shelf.old a) (automaton_of shelf.old b)
+        (automaton_of shelf.new c) (states_of c)) }
+    ensures err { OnErr result (Passes g.now shelf.old shelf.new (a ∷ b ∷ []) [] kept.old kept.new) }
+    ensures limit { result ≡ Err Stop.Limit → PairsLimit g.now shelf.old a b kept.old }
+{
+    let pairs = build_product(alloc, g, &a, &b, kept, shelf);
+    release(a, shelf);
+    release(b, shelf);
+    pairs
 }
 
+/// The automaton of sets of states that drops the track. The one that it is made of is let go of.
+fn drop_track(
+    alloc: Global,
+    g: &Guide,
+    a: Auto,
+    t: Track,
+    kept: &mut Kept,
+    shelf: &mut Shelf,
+) -> Result<Auto, Stop>
+    requires { HoldsBeside g.now shelf.old (a ∷ []) kept.old }
+    ensures ok { IfOk result (λ c. Passes g.now shelf.old shelf.new (a ∷ []) (c ∷ []) kept.old kept.new) }
+    ensures subset { IfOk result (λ c. IsSubsetOf g.now (automaton_of shelf.old a) t.0 (automaton_of shelf.new c) (states_of c)) }
+    ensures err { OnErr result (Passes g.now shelf.old shelf.new (a ∷ []) [] kept.old kept.new) }
+    ensures limit { result ≡ Err Stop.Limit → SetsLimit g.now shelf.old a t kept.old }
+{
+    let sets = build_projection(alloc, g, &a, t, kept, shelf);
+    release(a, shelf);
+    sets
+}
+
+/// The minimal automaton that accepts the same. The one that it is made of is let go of.
+fn minimal_of(
+    alloc: Global,
+    g: &Guide,
+    a: Auto,
+    kept: &mut Kept,
+    shelf: &mut Shelf,
+) -> Result<Auto, Stop>
+    requires { HoldsBeside g.now shelf.old (a ∷ []) kept.old }
+    ensures ok { IfOk result (λ c. Passes g.now shelf.old shelf.new (a ∷ []) (c ∷ []) kept.old kept.new) }
+    ensures minimal { IfOk result (λ c. (f : Formula) → Recognises g.now (automaton_of shelf.old a) f → IsMinimalFor g.now shelf.new c f) }
+    ensures err { OnErr result (Passes g.now shelf.old shelf.new (a ∷ []) [] kept.old kept.new) }
+    ensures limit { result ≡ Err Stop.Limit → MinimalLimit g.now shelf.old a kept.old }
+{
+    let minimal = build_minimal(alloc, g, &a, kept, shelf);
+    release(a, shelf);
+    minimal
+}
+
+/// The automaton of pairs of states, beside the two.
 fn build_product(
     alloc: Global,
     g: &Guide,
@@ -145,7 +183,16 @@ fn build_product(
     b: &Auto,
     kept: &mut Kept,
     shelf: &mut Shelf,
-) -> Result<Auto, Stop> {
+) -> Result<Auto, Stop>
+    requires { HoldsBeside g.now shelf.old (a.now ∷ b.now ∷ []) kept.old }
+    ensures ok { IfOk result (λ c. Passes g.now shelf.old shelf.new (a.now ∷ b.now ∷ []) (c ∷ a.now ∷ b.now ∷ []) kept.old kept.new) }
+    ensures product { IfOk result (λ c. IsProductOf g.now (automaton_of shelf.old a.now) (automaton_of shelf.old b.now)
+        (automaton_of shelf.new c) (states_of c)) }
+    ensures err { OnErr result (Passes g.now shelf.old shelf.new [] [] kept.old kept.new) }
+    ensures limit { result ≡ Err Stop.Limit → PairsLimit g.now shelf.old a.now b.now kept.old }
+{
+    // Only for its clause `guide`.
+    let _ = g.spaces();
     match product(alloc, g, a, b, shelf) {
         Err(Stop::Limit) => {
             kept.make_room(shelf);
@@ -155,6 +202,7 @@ fn build_product(
     }
 }
 
+/// The automaton of sets of states that drops the track, beside the one that it is made of.
 fn build_projection(
     alloc: Global,
     g: &Guide,
@@ -162,11 +210,42 @@ fn build_projection(
     t: Track,
     kept: &mut Kept,
     shelf: &mut Shelf,
-) -> Result<Auto, Stop> {
+) -> Result<Auto, Stop>
+    requires { HoldsBeside g.now shelf.old (a.now ∷ []) kept.old }
+    ensures ok { IfOk result (λ c. Passes g.now shelf.old shelf.new (a.now ∷ []) (c ∷ a.now ∷ []) kept.old kept.new) }
+    ensures subset { IfOk result (λ c. IsSubsetOf g.now (automaton_of shelf.old a.now) t.0 (automaton_of shelf.new c) (states_of c)) }
+    ensures err { OnErr result (Passes g.now shelf.old shelf.new [] [] kept.old kept.new) }
+    ensures limit { result ≡ Err Stop.Limit → SetsLimit g.now shelf.old a.now t kept.old }
+{
+    // Only for its clause `guide`.
+    let _ = g.spaces();
     match project(alloc, g, a, t, shelf) {
         Err(Stop::Limit) => {
             kept.make_room(shelf);
             project(alloc, g, a, t, shelf)
+        }
+        answer => answer,
+    }
+}
+
+/// The minimal automaton that accepts the same, beside the one that it is made of.
+fn build_minimal(
+    alloc: Global,
+    g: &Guide,
+    a: &Auto,
+    kept: &mut Kept,
+    shelf: &mut Shelf,
+) -> Result<Auto, Stop>
+    requires { HoldsBeside g.now shelf.old (a.now ∷ []) kept.old }
+    ensures ok { IfOk result (λ c. Passes g.now shelf.old shelf.new (a.now ∷ []) (c ∷ a.now ∷ []) kept.old kept.new) }
+    ensures minimal { IfOk result (λ c. (f : Formula) → Recognises g.now (automaton_of shelf.old a.now) f → IsMinimalFor g.now shelf.new c f) }
+    ensures err { OnErr result (Passes g.now shelf.old shelf.new [] [] kept.old kept.new) }
+    ensures limit { result ≡ Err Stop.Limit → MinimalLimit g.now shelf.old a.now kept.old }
+{
+    match minimise(alloc, g, a, shelf) {
+        Err(Stop::Limit) => {
+            kept.make_room(shelf);
+            minimise(alloc, g, a, shelf)
         }
         answer => answer,
     }

@@ -1,6 +1,6 @@
 //! Automata that are kept by the numbers of formulas.
 
-ghost use Rattle.std.specs.Prelude.{◌≡◌, ◌≤◌, ℕ, List, [], IfOk, OnOk, OnErr, MatchOption};
+ghost use Rattle.std.specs.Prelude.{◌≡◌, ◌≤◌, ℕ, List, [], ◌∷◌, IfOk, OnOk, OnErr, MatchOption};
 ghost use Rattle.bdd_nodes.specs.Shelf.{count_of};
 ghost use Rattle.gta_theory.specs.Guides.{Spaces};
 ghost use Rattle.gta_core.specs.Auto.{AutoView, IsAuto};
@@ -59,6 +59,7 @@ impl Kept {
         id: FormulaId,
         shelf: &mut Shelf,
     ) -> Result<Option<Auto>, NoMemory>
+        requires { (g : Spaces) × HoldsBeside g shelf.old [] self.old }
         ensures found { IfOk result (λ found. MatchOption found (IsNotKept id self.old) (IsCopyOfKept shelf.old shelf.new id self.old)) }
         ensures ok { IfOk result (λ found. (g : Spaces) → Passes g shelf.old shelf.new [] (as_list found) self.old self.new) }
         ensures err { OnErr result ((g : Spaces) → Passes g shelf.old shelf.new [] [] self.old self.new) }
@@ -83,11 +84,13 @@ impl Kept {
         auto: &Auto,
         shelf: &mut Shelf,
     ) -> Result<(), NoMemory>
-        requires { (g : Spaces) × HoldsBeside g shelf.old [] self.old }
+        requires { (g : Spaces) × HoldsBeside g shelf.old (auto.now ∷ []) self.old }
         ensures takes { (g : Spaces) → IsAuto g shelf.old auto.now → TakesIn g shelf.old shelf.new id auto.now self.old self.new }
         ensures there { OnOk result (IsKeptCopy shelf.old shelf.new id auto.now self.new) }
         ensures err { OnErr result (self.new ≡ self.old) }
     {
+        // Only for its clause `valid`.
+        let _ = self.automata.len();
         let copy = auto.copy(alloc, shelf)?;
         match self.automata.push(id, copy) {
             Ok(Some((_, out))) => {
