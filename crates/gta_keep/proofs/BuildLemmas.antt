@@ -1,6 +1,6 @@
 -- On automata that are built of minimal ones: what they recognise, and that the builders' limits are licensed by Sizes of
 -- formulas.
-use Rattle.std.proofs.Common.{◌≡◌, ℕ, ◌+◌, ◌<◌, Bool, IsTrue, nat_lt, sym, ◌∙◌, ap, subst, arith}
+use Rattle.std.proofs.Common.{◌≡◌, ℕ, max, IsTrue, sym, ◌∙◌, ap, subst, arith}
 use Rattle.std.proofs.lemmas.Bool.{cases_eq}
 use Rattle.bdd_nodes.specs.Shelf.{Contents, IsShelf}
 use Rattle.gta_theory.specs.Guides.{Spaces, IsGuide}
@@ -18,6 +18,7 @@ use Rattle.ws2s_core.specs.declared.track.Track.{Track}
 use Rattle.ws2s_core.specs.declared.formula.Formula.{Formula}
 use Rattle.ws2s_core.specs.Recognising.{Recognises}
 use Rattle.ws2s_theory.specs.Peaks.{HasMinimalSize, HasProductSize, HasSubsetSize}
+use Rattle.ws2s_theory.proofs.FormsLemmas.{LooksBelow-more}
 use Rattle.ws2s_theory.proofs.SizesLemmas.{product-size, subset-size}
 use Rattle.gta_keep.specs.Holding.{IsMinimalFor}
 use Rattle.gta_keep.proofs.AutoSizesLemmas.{above_tracks, LooksBelow-auto}
@@ -45,9 +46,11 @@ module _ (g : Spaces) (guide : IsGuide g) (shelf : Contents) (is_shelf : IsShelf
   SizedProduct-of a b auto_a auto_b f h of_a of_b n has =
       let A = automaton_of shelf a in
       let B = automaton_of shelf b in
-      let k = above_tracks shelf.nodes in
-      let looks_A = LooksBelow-auto g shelf is_shelf a in
-      let looks_B = LooksBelow-auto g shelf is_shelf b in
+      let k_A = above_tracks g shelf is_shelf a in
+      let k_B = above_tracks g shelf is_shelf b in
+      let k : ℕ = max k_A k_B in
+      let looks_A = LooksBelow-more g A (Below (states_of a)) k_A k (omega arith) (LooksBelow-auto g shelf is_shelf a) in
+      let looks_B = LooksBelow-more g B (Below (states_of b)) k_B k (omega arith) (LooksBelow-auto g shelf is_shelf b) in
       let found = IsProduct-exists g A B (states_of a) (states_of b) k guide auto_a.stable auto_a.closed looks_A auto_b.stable auto_b.closed looks_B in
       let looks = LooksBelow-product g guide A (Below (states_of a)) auto_a.stable (of_a.minimal).reached B (Below (states_of b)) auto_b.stable
       (of_b.minimal).reached found.0 (Below found.1) found.2 found.3 k looks_A looks_B in
@@ -66,7 +69,7 @@ module _ (g : Spaces) (guide : IsGuide g) (shelf : Contents) (is_shelf : IsShelf
       HasSubsetSize g t f n → SizedSubset g (automaton_of shelf a) t.0 n
   SizedSubset-of a auto t f of_a n has =
       let A = automaton_of shelf a in
-      let k = above_tracks shelf.nodes in
+      let k = above_tracks g shelf is_shelf a in
       let looks_A = LooksBelow-auto g shelf is_shelf a in
       let found = IsSubset-exists g guide A auto.stable (states_of a) auto.closed k looks_A t.0 in
       let looks = LooksBelow-subset g guide A (Below (states_of a)) auto.stable (of_a.minimal).reached t.0 found.0 (Below found.1)

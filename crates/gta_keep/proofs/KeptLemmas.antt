@@ -1,17 +1,20 @@
 -- On what is kept: which automata are there after a use, a fall out, and a new one.
-use Rattle.std.proofs.Common.{◌≡◌, ℕ, ◌+◌, ◌-◌, ◌<◌, ◌≤◌, ◌==◌, ◌⊎◌, inl, inr, if◌then◌else◌, zero, suc, Bool, true, false, cond, Option, Some, None, List, [], ◌∷◌, ◌++◌, take, length, Contains, slice_get, option_map, refl, sym, ◌∙◌, ap, subst, arith}
+use Rattle.std.proofs.Common.{◌≡◌, ℕ, ◌+◌, ◌-◌, ◌<◌, ◌≤◌, ◌==◌, ◌⊎◌, inl, inr, if◌then◌else◌, zero, suc, Bool, true, false, cond, Option, Some, None, List, [], ◌∷◌, ◌++◌, take, length, Contains, IsSome, slice_get, option_map, refl, sym, ◌∙◌, ap, subst, arith}
 use Rattle.std.specs.Map.{lookup, lookup_entry, remove_entry}
+use Rattle.std.proofs.lemmas.Bool.{false≢true}
 use Rattle.std.specs.Option.{option_map_or}
 use Rattle.std.proofs.lemmas.List.Elements.{Contains-append_left, Contains-append_right}
 use Rattle.lru.specs.LruCache.{LruCache, promoted, put_entries, displaced, last_entry}
-use Rattle.lru.proofs.CallerLemmas.{Contains-promoted, Contains-take, Contains-lookup_entry, Contains-put_entries}
-use Rattle.bdd_nodes.specs.Shelf.{Contents}
+use Rattle.lru.proofs.CallerLemmas.{Contains-promoted, Contains-take, Contains-lookup, Contains-lookup_entry, Contains-put_entries}
+use Rattle.bdd_nodes.specs.Shelf.{Contents, IsShelf, roots_of}
+use Rattle.bdd_nodes.specs.Changes.{DropsTable}
 use Rattle.gta_theory.specs.Guides.{Spaces}
-use Rattle.gta_core.specs.Auto.{AutoView}
+use Rattle.gta_core.specs.Auto.{AutoView, IsAuto}
+use Rattle.gta_core.specs.Changes.{AddsOneTable}
 use Rattle.gta_core.proofs.AutoLemmas.{past-none}
 use Rattle.ws2s_core.specs.declared.node.FormulaId.{FormulaId}
-use Rattle.gta_keep.specs.Holding.{times, Holds, Passes, beside, kept_autos}
-use Rattle.gta_keep.proofs.PassesLemmas.{Entries, Contains-kept, Contains-entry, Holds-order, Passes-order}
+use Rattle.gta_keep.specs.Holding.{times, Holds, HoldsBeside, Passes, beside, kept_autos}
+use Rattle.gta_keep.proofs.PassesLemmas.{Entries, Contains-kept, Contains-entry, Contains-beside, Holds-order, Passes-order, Passes-both, Passes-beside, Passes-added, Passes-release, HoldsBeside-after}
 
 -- once where the automaton has the table
 abbrev pub once : AutoView → ℕ → ℕ
@@ -85,10 +88,62 @@ Passes-popped g shelf kept e is =
     inside a (zero, lt, same) = subst (Contains (kept_autos kept)) same (Contains-kept kept e (Contains-at kept (length kept - 1) e is))
     inside a (suc k, lt, same) = absurd (omega (arith, lt))
 
+-- it is registered
+pub popped-registered : (h : Spaces) (shelf : Contents) (kept : Entries) → HoldsBeside h shelf [] kept → (e : FormulaId × AutoView) →
+    Some e ≡ last_entry kept → IsSome (roots_of shelf (e.1).table)
+popped-registered h shelf kept held e is =
+    (held.holds.each e.1 (Contains-beside [] held.others kept e (Contains-at kept (length kept - 1) e (sym is)))).registered
+
+-- and it is let go of
+module _ (h : Spaces) (old new : Contents) (kept after : Entries) (held : HoldsBeside h old [] kept) (e : FormulaId × AutoView)
+    (is : Some e ≡ last_entry kept) (are : after ≡ take (length kept - 1) kept) (is_shelf : IsShelf new) (drops : DropsTable old new (e.1).table) where
+  falls : (g : Spaces) → Passes g old old [] (e.1 ∷ []) kept after
+  falls g = subst (λ (es : Entries). Passes g old old [] (e.1 ∷ []) kept es) (sym are) (Passes-popped g old kept e (sym is))
+
+  pub popped-passes : (g : Spaces) → Passes g old new [] [] kept after
+  popped-passes g =
+      Passes-both g old old new [] (e.1 ∷ []) [] kept after after (falls g)
+      (Passes-release g old new e.1 [] after h (HoldsBeside-after h old old [] (e.1 ∷ []) kept after (falls h) held) is_shelf drops)
+
+  pub popped-held : HoldsBeside h new [] after
+  popped-held = HoldsBeside-after h old new [] [] kept after (popped-passes h) held
+
 -- nothing falls out where nothing is kept
-pub none-popped : (kept : Entries) → last_entry kept ≡ None → kept ≡ []
-none-popped [] is = refl
-none-popped (f ∷ kept) is = absurd (let le = past-none (f ∷ kept) (length (f ∷ kept) - 1) is in let none : ⊥ = omega (arith, le) in none)
+pub none-popped : (kept after : Entries) → None ≡ last_entry kept → after ≡ take (length kept - 1) kept → (kept ≡ []) × (after ≡ [])
+none-popped [] after is are = (refl, are)
+none-popped (f ∷ kept) after is are =
+    absurd (let le = past-none (f ∷ kept) (length (f ∷ kept) - 1) (sym is) in let none : ⊥ = omega (arith, le) in none)
+
+-- ---- one is looked up
+
+module _ (test : FormulaId → Bool) (id : FormulaId) where
+  pub found-entry : ((x : FormulaId) → test x ≡ true → id ≡ x) → (kept : Entries) (was : AutoView) → Some was ≡ lookup test kept →
+      Contains kept (id, was)
+  found-entry exact kept was is =
+      let (key, there, passes) = Contains-lookup test kept was (sym is) in
+      subst (λ (i : FormulaId). Contains kept (i, was)) (sym (exact key passes)) there
+
+  pub none-entry : test id ≡ true → (kept : Entries) → None ≡ lookup test kept → (auto : AutoView) → Contains kept (id, auto) → ⊥
+  none-entry passes [] is auto (k, lt, at) = let none : ⊥ = omega (arith, lt) in none
+  none-entry passes (f ∷ kept) is auto there = (elim (test f.0) as (λ y. test f.0 ≡ y → ⊥) [
+    | true ↦ λ equal. absurd (let is' = rw equal at is in cc)
+    | false ↦ λ unequal. past (none-entry passes kept (rw unequal at is) auto) unequal there
+  ]) refl where
+    past : (Contains kept (id, auto) → ⊥) → test f.0 ≡ false → Contains (f ∷ kept) (id, auto) → ⊥
+    past rest unequal (zero, lt, at) = false≢true (sym unequal ∙ ap (λ (e : FormulaId × AutoView). test e.0) at ∙ passes)
+    past rest unequal (suc k, lt, at) = rest (k, omega (arith, lt), at)
+
+-- a copy of it comes, and it is the last that was used
+pub copied-passes : (test : FormulaId → Bool) (h : Spaces) (old new : Contents) (kept after : Entries) → HoldsBeside h old [] kept →
+    (id : FormulaId) (was copy : AutoView) → Contains kept (id, was) → IsShelf new → AddsOneTable old new copy.table →
+    ((g : Spaces) → IsAuto g old was → IsAuto g new copy) → after ≡ promoted test kept → (g : Spaces) →
+    Passes g old new [] (copy ∷ []) kept after
+copied-passes test h old new kept after held id was copy there is_shelf one autos are g =
+    let entry : FormulaId × AutoView = (id, was) in
+    Passes-both g old new new [] (copy ∷ []) (copy ∷ []) kept kept after
+    (Passes-added g old new copy [] kept h held is_shelf one (λ others holds. autos g (holds.each was (Contains-beside [] others kept entry there))))
+    (Passes-beside g new new (copy ∷ []) kept after
+    (subst (λ (es : Entries). Passes g new new [] [] kept es) (sym are) (Passes-promoted test g new kept)))
 
 -- ---- a new one comes
 

@@ -2,8 +2,10 @@ pub mod AutoSizesLemmas
 pub mod BuildLemmas
 pub mod CopyLemmas
 pub mod HoldingLemmas
+pub mod KeepingLemmas
 pub mod KeptLemmas
 pub mod LimitLemmas
+pub mod MadeLemmas
 pub mod PassesLemmas
 pub mod RoomLemmas
 pub mod SumLemmas

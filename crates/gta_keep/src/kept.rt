@@ -64,11 +64,14 @@ impl Kept {
         ensures ok { IfOk result (λ found. (g : Spaces) → Passes g shelf.old shelf.new [] (as_list found) self.old self.new) }
         ensures err { OnErr result ((g : Spaces) → Passes g shelf.old shelf.new [] [] self.old self.new) }
     {
+        // Only for its clause `shelf`.
+        let _ = shelf.count();
+        let copy = match self.automata.peek(&id) {
+            Some(kept) => kept.copy(alloc, shelf)?,
+            None => return Ok(None),
+        };
         self.automata.promote(&id);
-        match self.automata.peek(&id) {
-            Some(kept) => Ok(Some(kept.copy(alloc, shelf)?)),
-            None => Ok(None),
-        }
+        Ok(Some(copy))
     }
 
     /// Keeps a copy of the automaton for the number, in the place of what was kept for it. The one that was used longest
