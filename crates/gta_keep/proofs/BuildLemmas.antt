@@ -1,6 +1,6 @@
 -- On automata that are built of minimal ones: what they recognise, and that the builders' limits are licensed by Sizes of
 -- formulas.
-use Rattle.std.proofs.Common.{◌≡◌, ℕ, max, IsTrue, sym, ◌∙◌, ap, subst, arith}
+use Rattle.std.proofs.Common.{◌≡◌, ℕ, max, Bool, IsTrue, sym, ◌∙◌, ap, subst, arith}
 use Rattle.std.proofs.lemmas.Bool.{cases_eq}
 use Rattle.bdd_nodes.specs.Shelf.{Contents, IsShelf}
 use Rattle.gta_theory.specs.Guides.{Spaces, IsGuide}

@@ -1,3 +1,4 @@
+pub mod AnswerLemmas
 pub mod AutoSizesLemmas
 pub mod BuildLemmas
 pub mod CopyLemmas
@@ -9,3 +10,4 @@ pub mod MadeLemmas
 pub mod PassesLemmas
 pub mod RoomLemmas
 pub mod SumLemmas
+pub mod TriedLemmas
