@@ -50,6 +50,8 @@ pub fn conjoin(
         HasMinimalSize g.now f n → HasMinimalSize g.now h m → HasProductSize g.now f h p → HasMinimalSize g.now (And f h) r →
         limit_of shelf.old < s + (n + m + p + r) }
 {
+    // Only for its clause `guide`.
+    let _ = g.spaces();
     let pairs = pair_up(alloc, g, a, b, kept, shelf)?;
     minimal_of(alloc, g, pairs, kept, shelf)
 }
@@ -79,6 +81,8 @@ pub fn quantify(
         HasMinimalSize g.now f n → HasSubsetSize g.now t f p → HasMinimalSize g.now (Ex2 t f) r →
         limit_of shelf.old < s + (n + p + r) }
 {
+    // Only for its clause `guide`.
+    let _ = g.spaces();
     let sets = drop_track(alloc, g, a, t, kept, shelf)?;
     minimal_of(alloc, g, sets, kept, shelf)
 }

@@ -62,9 +62,31 @@ returns-clause-takes c = λ g is.
           subst (λ (s : Contents). TakesIn g old s c.args.id auto c.args.self.now after) ends
           (subst (λ (es : Entries). TakesIn g old mid c.args.id auto es after) (sym first)
           (takes-none c.requires.0 old mid kept c.args.id auto copy held copied.shelf copied.table copied.auto equal_ids exact cap few copied.same
-          copied.states after are w.in-Ok-None.ensures.old g is))
-      | in-Err w ↦ let d = w.release-in-Err.ensures.dropped in let e = w.in-Err in let f = w.in-Err.ensures in ?
+          copied.states after are (sym w.in-Ok-None.field-0-is ∙ w.in-Ok-None.ensures.old) g is))
+      | in-Err w ↦
+          let new = w.release-in-Err.new.shelf in
+          let ends : new ≡ c.match-push.shelf = cc in
+          let stays : c.args.self.now ≡ after = first ∙ sym (ap (λ (x : LruCache FormulaId AutoView). x.entries) w.in-Err.ensures.err) in
+          let d = w.release-in-Err.ensures.dropped in
+          let e = w.in-Err.ensures.value_returned in ?
     ]
 
 pub returns-clause-there : goal.returns-clause-there
-returns-clause-there c = ?
+returns-clause-there c =
+    let kept = c.self.inside.automata.entries in
+    let cap = c.self.inside.automata.cap in
+    let few = c.len.ensures.valid.1 in
+    let old = c.args.shelf.now in
+    let mid = c.copy.new.shelf in
+    let auto = c.args.auto.now in
+    let after = c.push.new.self.entries in
+    let first : c.args.self.now ≡ kept = cc in
+    let copy = c.in_ok-copy.copy in
+    let copied = c.in_ok-copy.ensures in
+    let held : HoldsBeside c.requires.0 old (auto ∷ []) kept =
+    subst (λ (es : Entries). HoldsBeside c.requires.0 old (auto ∷ []) es) first c.requires.1 in
+    elim c.match-push.branch [
+      | in-Ok-Some w ↦ let r = w.result-is in ?
+      | in-Ok-None w ↦ ?
+      | in-Err w ↦ ?
+    ]
