@@ -1,13 +1,12 @@
-use Rattle.std.proofs.Common.{◌≡◌, ◌≤◌, eqb, eqb-true, length, Some, None, Option, OnOk, List, [], ◌∷◌, Bool, true, ap, refl, sym, ◌∙◌, subst}
-use Rattle.lru.specs.LruCache.{LruCache, displaced, put_entries}
+use Rattle.std.proofs.Common.{◌≡◌, eqb, eqb-true, [], ◌∷◌, Bool, true, ap, refl, sym, ◌∙◌, subst}
+use Rattle.lru.specs.LruCache.{LruCache, put_entries}
 use Rattle.bdd_nodes.specs.Shelf.{Contents}
 use Rattle.bdd_nodes.specs.Changes.{DropsTable}
-use Rattle.gta_theory.specs.Guides.{Spaces}
-use Rattle.gta_core.specs.Auto.{AutoView, IsAuto}
+use Rattle.gta_core.specs.Auto.{AutoView}
 use Rattle.ws2s_core.specs.declared.node.FormulaId.{FormulaId}
 use Rattle.gta_keep.specs.Holding.{HoldsBeside, IsKeptCopy, TakesIn}
 use Rattle.gta_keep.proofs.PassesLemmas.{Entries}
-use Rattle.gta_keep.proofs.KeepingLemmas.{registered-copy, takes-refused, takes-none, kept-none, registered-out, takes-out, kept-out}
+use Rattle.gta_keep.proofs.KeepingLemmas.{takes-refused, takes-none, kept-none, registered-out, takes-out, kept-out}
 use Rattle.gta_keep.proofs.kept.Kept.keep.Goals as goal
 use Rattle.gta_keep.proofs.kept.Kept.keep.Goals.{in-Ok-Some, in-Ok-None, in-Err}
 
