@@ -63,40 +63,52 @@ module _ (v : Vocabulary) (scope : List Entry) where
   pub typed-Truth : (p : Path) → typed_assertion v scope (form.Truth p) ≡ truth_of v.types scope p
   typed-Truth p = typed_form _ (Assertion-F.Truth p) (sym (form.rolls-Truth p))
 
-  pub fault-Same : (t : Term) (operator : Pos) (u : Term) → assertion_fault v scope (form.Same t operator u) ≡ compared_fault v.types scope t operator u
+  pub fault-Same : (t : Term) (operator : Pos) (u : Term) →
+      assertion_fault v scope (form.Same t operator u) ≡ compared_fault v.types scope t operator u
   fault-Same t operator u = fault_form _ (Assertion-F.Same t operator u) (sym (form.rolls-Same t operator u))
 
-  pub typed-Same : (t : Term) (operator : Pos) (u : Term) → typed_assertion v scope (form.Same t operator u) ≡ same_of v.types scope t u
+  pub typed-Same : (t : Term) (operator : Pos) (u : Term) →
+      typed_assertion v scope (form.Same t operator u) ≡ same_of v.types scope t u
   typed-Same t operator u = typed_form _ (Assertion-F.Same t operator u) (sym (form.rolls-Same t operator u))
 
-  pub fault-Differ : (t : Term) (operator : Pos) (u : Term) → assertion_fault v scope (form.Differ t operator u) ≡ compared_fault v.types scope t operator u
+  pub fault-Differ : (t : Term) (operator : Pos) (u : Term) →
+      assertion_fault v scope (form.Differ t operator u) ≡ compared_fault v.types scope t operator u
   fault-Differ t operator u = fault_form _ (Assertion-F.Differ t operator u) (sym (form.rolls-Differ t operator u))
 
-  pub typed-Differ : (t : Term) (operator : Pos) (u : Term) → typed_assertion v scope (form.Differ t operator u) ≡ negated (same_of v.types scope t u)
+  pub typed-Differ : (t : Term) (operator : Pos) (u : Term) →
+      typed_assertion v scope (form.Differ t operator u) ≡ negated (same_of v.types scope t u)
   typed-Differ t operator u = typed_form _ (Assertion-F.Differ t operator u) (sym (form.rolls-Differ t operator u))
 
-  pub fault-Member : (t : Term) (word : Pos) (set : Name) → assertion_fault v scope (form.Member t word set) ≡ member_fault v.types scope t word set
+  pub fault-Member : (t : Term) (word : Pos) (set : Name) →
+      assertion_fault v scope (form.Member t word set) ≡ member_fault v.types scope t word set
   fault-Member t word set = fault_form _ (Assertion-F.Member t word set) (sym (form.rolls-Member t word set))
 
-  pub typed-Member : (t : Term) (word : Pos) (set : Name) → typed_assertion v scope (form.Member t word set) ≡ member_of v.types scope t set
+  pub typed-Member : (t : Term) (word : Pos) (set : Name) →
+      typed_assertion v scope (form.Member t word set) ≡ member_of v.types scope t set
   typed-Member t word set = typed_form _ (Assertion-F.Member t word set) (sym (form.rolls-Member t word set))
 
-  pub fault-Subset : (t : Term) (word : Pos) (other : Name) → assertion_fault v scope (form.Subset t word other) ≡ subset_fault scope t word other
+  pub fault-Subset : (t : Term) (word : Pos) (other : Name) →
+      assertion_fault v scope (form.Subset t word other) ≡ subset_fault scope t word other
   fault-Subset t word other = fault_form _ (Assertion-F.Subset t word other) (sym (form.rolls-Subset t word other))
 
-  pub typed-Subset : (t : Term) (word : Pos) (other : Name) → typed_assertion v scope (form.Subset t word other) ≡ subset_of scope t other
+  pub typed-Subset : (t : Term) (word : Pos) (other : Name) →
+      typed_assertion v scope (form.Subset t word other) ≡ subset_of scope t other
   typed-Subset t word other = typed_form _ (Assertion-F.Subset t word other) (sym (form.rolls-Subset t word other))
 
-  pub fault-Walk : (t : Term) (angle : Pos) (along : Route) (u : Term) → assertion_fault v scope (form.Walk t angle along u) ≡ walk_fault v scope t angle along u
+  pub fault-Walk : (t : Term) (angle : Pos) (along : Route) (u : Term) →
+      assertion_fault v scope (form.Walk t angle along u) ≡ walk_fault v scope t angle along u
   fault-Walk t angle along u = fault_form _ (Assertion-F.Walk t angle along u) (sym (form.rolls-Walk t angle along u))
 
-  pub typed-Walk : (t : Term) (angle : Pos) (along : Route) (u : Term) → typed_assertion v scope (form.Walk t angle along u) ≡ walk_of v scope t along u
+  pub typed-Walk : (t : Term) (angle : Pos) (along : Route) (u : Term) →
+      typed_assertion v scope (form.Walk t angle along u) ≡ walk_of v scope t along u
   typed-Walk t angle along u = typed_form _ (Assertion-F.Walk t angle along u) (sym (form.rolls-Walk t angle along u))
 
-  pub fault-Is : (t : Term) (colon : Pos) (variant : Name) → assertion_fault v scope (form.Is t colon variant) ≡ variant_test_fault v.types scope t colon variant
+  pub fault-Is : (t : Term) (colon : Pos) (variant : Name) →
+      assertion_fault v scope (form.Is t colon variant) ≡ variant_test_fault v.types scope t colon variant
   fault-Is t colon variant = fault_form _ (Assertion-F.Is t colon variant) (sym (form.rolls-Is t colon variant))
 
-  pub typed-Is : (t : Term) (colon : Pos) (variant : Name) → typed_assertion v scope (form.Is t colon variant) ≡ is_of v.types scope t variant
+  pub typed-Is : (t : Term) (colon : Pos) (variant : Name) →
+      typed_assertion v scope (form.Is t colon variant) ≡ is_of v.types scope t variant
   typed-Is t colon variant = typed_form _ (Assertion-F.Is t colon variant) (sym (form.rolls-Is t colon variant))
 
   pub fault-Use : (p : Name) (paths : List Path) → assertion_fault v scope (form.Use p paths) ≡ use_fault v scope p paths
@@ -108,46 +120,56 @@ module _ (v : Vocabulary) (scope : List Entry) where
   pub fault-Not : (place : Pos) (a : source.Assertion) → assertion_fault v scope (form.Not place a) ≡ assertion_fault v scope a
   fault-Not place a = fault_form _ (Assertion-F.Not place a) (sym (form.rolls-Not place a))
 
-  pub typed-Not : (place : Pos) (a : source.Assertion) → typed_assertion v scope (form.Not place a) ≡ negated (typed_assertion v scope a)
+  pub typed-Not : (place : Pos) (a : source.Assertion) →
+      typed_assertion v scope (form.Not place a) ≡ negated (typed_assertion v scope a)
   typed-Not place a = typed_form _ (Assertion-F.Not place a) (sym (form.rolls-Not place a))
 
   pub fault-And : (first : source.Assertion) (others : List source.Assertion) →
       assertion_fault v scope (form.And first others) ≡ (assertion_fault v scope first >> first_of (assertion_fault v scope) others)
   fault-And first others =
-      fault_form _ (Assertion-F.And first others) (sym (form.rolls-And first others)) ∙ ap (λ rest. assertion_fault v scope first >> rest) (each_fault others)
+      fault_form _ (Assertion-F.And first others) (sym (form.rolls-And first others))
+      ∙ ap (λ rest. assertion_fault v scope first >> rest) (each_fault others)
 
   pub typed-And : (first : source.Assertion) (others : List source.Assertion) →
       typed_assertion v scope (form.And first others) ≡ chained connective.And (typed_assertion v scope first) (map (typed_assertion v scope) others)
   typed-And first others =
-      typed_form _ (Assertion-F.And first others) (sym (form.rolls-And first others)) ∙ ap (chained connective.And (typed_assertion v scope first)) (each_typed others)
+      typed_form _ (Assertion-F.And first others) (sym (form.rolls-And first others))
+      ∙ ap (chained connective.And (typed_assertion v scope first)) (each_typed others)
 
   pub fault-Or : (first : source.Assertion) (others : List source.Assertion) →
       assertion_fault v scope (form.Or first others) ≡ (assertion_fault v scope first >> first_of (assertion_fault v scope) others)
   fault-Or first others =
-      fault_form _ (Assertion-F.Or first others) (sym (form.rolls-Or first others)) ∙ ap (λ rest. assertion_fault v scope first >> rest) (each_fault others)
+      fault_form _ (Assertion-F.Or first others) (sym (form.rolls-Or first others))
+      ∙ ap (λ rest. assertion_fault v scope first >> rest) (each_fault others)
 
   pub typed-Or : (first : source.Assertion) (others : List source.Assertion) →
       typed_assertion v scope (form.Or first others) ≡ chained connective.Or (typed_assertion v scope first) (map (typed_assertion v scope) others)
   typed-Or first others =
-      typed_form _ (Assertion-F.Or first others) (sym (form.rolls-Or first others)) ∙ ap (chained connective.Or (typed_assertion v scope first)) (each_typed others)
+      typed_form _ (Assertion-F.Or first others) (sym (form.rolls-Or first others))
+      ∙ ap (chained connective.Or (typed_assertion v scope first)) (each_typed others)
 
-  pub fault-Imp : (a : source.Assertion) (place : Pos) (b : source.Assertion) → assertion_fault v scope (form.Imp a place b) ≡ (assertion_fault v scope a >> assertion_fault v scope b)
+  pub fault-Imp : (a : source.Assertion) (place : Pos) (b : source.Assertion) →
+      assertion_fault v scope (form.Imp a place b) ≡ (assertion_fault v scope a >> assertion_fault v scope b)
   fault-Imp a place b = fault_form _ (Assertion-F.Imp a place b) (sym (form.rolls-Imp a place b))
 
-  pub typed-Imp : (a : source.Assertion) (place : Pos) (b : source.Assertion) → typed_assertion v scope (form.Imp a place b) ≡ connected connective.Imp (typed_assertion v scope a) (typed_assertion v scope b)
+  pub typed-Imp : (a : source.Assertion) (place : Pos) (b : source.Assertion) →
+      typed_assertion v scope (form.Imp a place b) ≡ connected connective.Imp (typed_assertion v scope a) (typed_assertion v scope b)
   typed-Imp a place b = typed_form _ (Assertion-F.Imp a place b) (sym (form.rolls-Imp a place b))
 
   pub fault-Iff : (first : source.Assertion) (others : List source.Assertion) →
       assertion_fault v scope (form.Iff first others) ≡ (assertion_fault v scope first >> first_of (assertion_fault v scope) others)
   fault-Iff first others =
-      fault_form _ (Assertion-F.Iff first others) (sym (form.rolls-Iff first others)) ∙ ap (λ rest. assertion_fault v scope first >> rest) (each_fault others)
+      fault_form _ (Assertion-F.Iff first others) (sym (form.rolls-Iff first others))
+      ∙ ap (λ rest. assertion_fault v scope first >> rest) (each_fault others)
 
   pub typed-Iff : (first : source.Assertion) (others : List source.Assertion) →
       typed_assertion v scope (form.Iff first others) ≡ chained connective.Iff (typed_assertion v scope first) (map (typed_assertion v scope) others)
   typed-Iff first others =
-      typed_form _ (Assertion-F.Iff first others) (sym (form.rolls-Iff first others)) ∙ ap (chained connective.Iff (typed_assertion v scope first)) (each_typed others)
+      typed_form _ (Assertion-F.Iff first others) (sym (form.rolls-Iff first others))
+      ∙ ap (chained connective.Iff (typed_assertion v scope first)) (each_typed others)
 
-  pub fault-Quantified : (q : Quantifier) (a : source.Assertion) → assertion_fault v scope (form.Quantified q a) ≡ inside_fault v scope q a
+  pub fault-Quantified : (q : Quantifier) (a : source.Assertion) →
+      assertion_fault v scope (form.Quantified q a) ≡ inside_fault v scope q a
   fault-Quantified q a = fault_form _ (Assertion-F.Quantified q a) (sym (form.rolls-Quantified q a))
 
   pub typed-Quantified : (q : Quantifier) (a : source.Assertion) → typed_assertion v scope (form.Quantified q a) ≡ governed v scope q a

@@ -3,7 +3,8 @@
 ghost use Rattle.std.specs.Prelude.{◌≡◌, None, IfOk, IfErr, OnOk};
 ghost use Rattle.pale_tables.specs.Faults.{IsStop};
 ghost use Rattle.pale_terms.specs.Scopes.{meaning_of, base_fault, set_fault};
-ghost use Rattle.pale_terms.specs.Terms.{field_under, sort_behind, typed_field, typed_fields, sort_along, typed_path, typed_term, term_at, term_in, is_reference};
+ghost use Rattle.pale_terms.specs.Terms.{field_under, sort_behind, typed_field, typed_fields, sort_along, typed_path, typed_term};
+ghost use Rattle.pale_terms.specs.Terms.{term_at, term_in, is_reference};
 ghost use Rattle.pale_terms.specs.Terms.{cell_type, variant_under, variant_test, are_alike, field_fault, fields_fault, path_fault, term_fault};
 ghost use Rattle.pale_terms.specs.Terms.{reference_fault, compared_fault, cell_fault, variant_test_fault, set_path_fault};
 
