@@ -10,7 +10,7 @@ use Rattle.store_logic.specs.declared.assertion.Assertion.{Assertion, out-Assert
 use Rattle.store_logic.specs.declared.assertion.Assertion.TheOpen.{Assertion-F}
 use Rattle.store_logic.specs.declared.assertion.Assertion.TheFolds.{ind-Assertion, map-Assertion, fold-roll-Assertion}
 use Rattle.store_logic.specs.declared.pred.PredDef.{PredDef}
-use Rattle.store_logic.specs.Expansion.{with_bodies, expanded_bodies}
+use Rattle.store_logic.specs.Expansion.{with_bodies, expanded_bodies, expansion}
 use Rattle.store_logic.specs.Sizes.{node_count}
 use Rattle.store_logic.specs.Postfix.{parts_of, form_count, form_count_of_node}
 use Rattle.store_logic.specs.ExpandingSizes.{sized, capped, own_size_of_node, own_size, part_times_of_node, part_times, total_size}
@@ -18,6 +18,7 @@ use Rattle.store_logic.proofs.ExpandingLists.{all-append, all-first, all-second}
 use Rattle.store_logic.proofs.ExpandingSizeLemmas.{sized-split, capped-bodies}
 use Rattle.store_expand.specs.declared.size.Uncounted.{Uncounted}
 use Rattle.store_expand.specs.Counting.{counted, counted_parts}
+use Rattle.store_expand.specs.Sizes.{sizes_of}
 
 -- it counts as often as a part of an assertion that isn't too large
 abbrev pub CountsOften : Assertion × ℕ → Type 0
@@ -29,17 +30,25 @@ forms_left pending = sum_by (λ part. form_count part.0) pending
 
 -- ---- the bodies of the predicates so far
 
-pub sizes-next : (preds : List PredDef) (k : ℕ) (p : PredDef) (sizes : List ℕ) (size : ℕ) → p ≡ get_or preds k p → k < length preds →
-    sizes ≡ map (λ b. capped (node_count b)) (expanded_bodies (reverse (take k preds))) → size ≡ capped (sized sizes p.body) →
-    sizes ++ size ∷ [] ≡ map (λ b. capped (node_count b)) (expanded_bodies (reverse (take (k + 1) preds)))
-sizes-next preds k p sizes size at inside are is =
-    let size_is : size ≡ capped (node_count (with_bodies (expanded_bodies (reverse (take k preds))) p.body)) =
-    is ∙ ap (λ (l : List ℕ). capped (sized l p.body)) are ∙ capped-bodies (expanded_bodies (reverse (take k preds))) p.body in
+pub sizes-added : (preds : List PredDef) (p : PredDef) (sizes : List ℕ) (size : ℕ) → sizes ≡ sizes_of preds → size ≡ capped (sized sizes p.body) →
+    sizes ++ size ∷ [] ≡ sizes_of (preds ++ p ∷ [])
+sizes-added preds p sizes size are is =
+    let size_is : size ≡ capped (node_count (with_bodies (expanded_bodies (reverse preds)) p.body)) =
+    is ∙ ap (λ (l : List ℕ). capped (sized l p.body)) are ∙ capped-bodies (expanded_bodies (reverse preds)) p.body in
     ap₂ (λ (l : List ℕ) (n : ℕ). l ++ n ∷ []) are size_is
-    ∙ sym (map_push (λ b. capped (node_count b)) (expanded_bodies (reverse (take k preds))) (with_bodies (expanded_bodies (reverse (take k preds))) p.body))
-    ∙ sym (ap (λ (l : List PredDef). map (λ b. capped (node_count b)) (expanded_bodies (reverse l)))
-    (take_more preds k p inside ∙ ap (λ (q : PredDef). take k preds ++ q ∷ []) (sym at))
-    ∙ ap (λ (l : List PredDef). map (λ b. capped (node_count b)) (expanded_bodies l)) (reverse-append (take k preds) (p ∷ [])))
+    ∙ sym (map_push (λ b. capped (node_count b)) (expanded_bodies (reverse preds)) (with_bodies (expanded_bodies (reverse preds)) p.body))
+    ∙ sym (ap (λ (l : List PredDef). map (λ b. capped (node_count b)) (expanded_bodies l)) (reverse-append preds (p ∷ [])))
+
+pub sizes-next : (preds : List PredDef) (k : ℕ) (p : PredDef) (sizes : List ℕ) (size : ℕ) → p ≡ get_or preds k p → k < length preds →
+    sizes ≡ sizes_of (take k preds) → size ≡ capped (sized sizes p.body) → sizes ++ size ∷ [] ≡ sizes_of (take (k + 1) preds)
+sizes-next preds k p sizes size at inside are is =
+    sizes-added (take k preds) p sizes size are is
+    ∙ sym (ap sizes_of (take_more preds k p inside ∙ ap (λ (q : PredDef). take k preds ++ q ∷ []) (sym at)))
+
+-- what is counted
+pub size-is : (sizes : List ℕ) (preds : List PredDef) (a : Assertion) (size : ℕ) → sizes ≡ sizes_of preds → size ≡ capped (sized sizes a) →
+    size ≡ capped (node_count (expansion preds a))
+size-is sizes preds a size are is = is ∙ ap (λ (l : List ℕ). capped (sized l a)) are ∙ capped-bodies (expanded_bodies (reverse preds)) a
 
 -- ---- one step of the count
 

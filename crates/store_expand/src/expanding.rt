@@ -9,6 +9,7 @@ ghost use Rattle.store_logic.specs.Satisfaction.{Sat};
 ghost use Rattle.store_logic.specs.Expansion.{expansion, IsTooBig};
 ghost use Rattle.store_logic.specs.Sizes.{node_count};
 ghost use Rattle.store_logic.specs.Uses.{CanExpand, uses_in};
+ghost use Rattle.store_expand.specs.Sizes.{sizes_of};
 
 use crate::building::build;
 use crate::size::{MAX_NODES, body_sizes, size_with};
@@ -60,7 +61,26 @@ pub fn expand(alloc: Global, preds: &Preds, assertion: &Assertion) -> Result<Ass
     ensures whole { IfOk result (λ expanded. uses_in expanded ≡ []) }
 {
     let sizes = body_sizes(alloc, preds.as_slice())?;
-    if size_with(alloc, sizes.as_slice(), assertion)? > MAX_NODES {
+    expand_with(alloc, preds, sizes.as_slice(), assertion)
+}
+
+/// The same where the bodies have these sizes.
+pub(crate) fn expand_with(
+    alloc: Global,
+    preds: &Preds,
+    sizes: &[u64],
+    assertion: &Assertion,
+) -> Result<Assertion, ExpandFault>
+    requires can { CanExpand preds.now assertion.now }
+    requires sizes { sizes.now ≡ sizes_of preds.now }
+    ensures value { IfOk result (λ expanded. expanded ≡ expansion preds.now assertion.now) }
+    ensures small { IfOk result (λ expanded. node_count expanded ≤ 65536) }
+    ensures too_big { result ≡ Err ExpandFault.TooBig → IsTooBig preds.now assertion.now }
+    ensures sound { IfOk result (λ expanded. (types : List TypeEntry) (vars : List VarEntry) (s : StoreMap) (on : Region) (e : Environment) →
+        Sat types vars preds.now s on e assertion.now ↔ Sat types vars [] s on e expanded) }
+    ensures whole { IfOk result (λ expanded. uses_in expanded ≡ []) }
+{
+    if size_with(alloc, sizes, assertion)? > MAX_NODES {
         return Err(ExpandFault::TooBig);
     }
     let expanded = build(alloc, preds.as_slice(), assertion)?;

@@ -11,5 +11,7 @@ mod expanding;
 mod fill;
 mod places;
 mod size;
+mod sized;
 
 pub use expanding::{ExpandFault, expand};
+pub use sized::SizedPreds;

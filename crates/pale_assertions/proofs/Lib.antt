@@ -1,0 +1,2 @@
+pub mod AssertionLemmas
+pub mod HeadLemmas

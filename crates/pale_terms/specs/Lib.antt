@@ -1,0 +1,4 @@
+pub mod Sorts
+pub mod Visibles
+pub mod Scopes
+pub mod Terms
