@@ -1,0 +1,13 @@
+pub mod AnswerLemmas
+pub mod AutoSizesLemmas
+pub mod BuildLemmas
+pub mod CopyLemmas
+pub mod HoldingLemmas
+pub mod KeepingLemmas
+pub mod KeptLemmas
+pub mod LimitLemmas
+pub mod MadeLemmas
+pub mod PassesLemmas
+pub mod RoomLemmas
+pub mod SumLemmas
+pub mod TriedLemmas

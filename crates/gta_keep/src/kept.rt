@@ -1,0 +1,135 @@
+//! Automata that are kept by the numbers of formulas.
+
+ghost use Rattle.std.specs.Prelude.{◌≡◌, ◌≤◌, ℕ, List, [], ◌∷◌, IfOk, OnOk, OnErr, MatchOption};
+ghost use Rattle.bdd_nodes.specs.Shelf.{count_of};
+ghost use Rattle.gta_theory.specs.Guides.{Spaces};
+ghost use Rattle.gta_core.specs.Auto.{AutoView, IsAuto};
+ghost use Rattle.gta_keep.specs.Holding.{Holds, HoldsBeside, HaveSum, IsCopyOfKept, IsNotKept, IsKeptCopy, Passes, TakesIn, as_list, beside};
+
+use bdd_nodes::Shelf;
+use bdd_walk::NoMemory;
+use gta_core::{Auto, release};
+use lru::LruCache;
+use std::alloc::{AllocError, Global};
+use std::marker::Model;
+use std::num::NonZeroUsize;
+use ws2s_core::FormulaId;
+
+/// Automata of formulas that may be asked for again, by the formulas' numbers, at most 256 of them. Contracts see the list
+/// of them, the last one used first. Each has a table of its own in one shelf, so they are released before they are
+/// dropped.
+#[derive(Drop)]
+pub struct Kept {
+    automata: LruCache<FormulaId, Auto>,
+}
+
+impl Model for Kept {
+    ghost use Rattle.std.specs.Prelude.{List};
+    ghost use Rattle.gta_core.specs.Auto.{AutoView};
+    ghost use Rattle.ws2s_core.specs.declared.node.FormulaId.{FormulaId};
+
+    ghost Value = { List (FormulaId × AutoView) };
+
+    ghost view = { λ kept. kept.automata.entries };
+}
+
+impl Kept {
+    /// Keeps nothing.
+    ///
+    /// # Errors
+    ///
+    /// Want of memory.
+    pub fn new(alloc: Global) -> Result<Kept, NoMemory>
+        ensures { IfOk result (λ kept. kept ≡ []) }
+    {
+        let most = NonZeroUsize::new(256).unwrap();
+        Ok(Kept {
+            automata: LruCache::new(alloc, most)?,
+        })
+    }
+
+    /// A copy of the automaton that is kept for the number, with a table of its own; `None` exactly where none is.
+    ///
+    /// # Errors
+    ///
+    /// Want of memory.
+    pub fn copy_of(
+        &mut self,
+        alloc: Global,
+        id: FormulaId,
+        shelf: &mut Shelf,
+    ) -> Result<Option<Auto>, NoMemory>
+        requires { (g : Spaces) × HoldsBeside g shelf.old [] self.old }
+        ensures found { IfOk result (λ found. MatchOption found (IsNotKept id self.old) (IsCopyOfKept shelf.old shelf.new id self.old)) }
+        ensures ok { IfOk result (λ found. (g : Spaces) → Passes g shelf.old shelf.new [] (as_list found) self.old self.new) }
+        ensures err { OnErr result ((g : Spaces) → Passes g shelf.old shelf.new [] [] self.old self.new) }
+    {
+        // Only for its clause `shelf`.
+        let _ = shelf.count();
+        let copy = match self.automata.peek(&id) {
+            Some(kept) => kept.copy(alloc, shelf)?,
+            None => return Ok(None),
+        };
+        self.automata.promote(&id);
+        Ok(Some(copy))
+    }
+
+    /// Keeps a copy of the automaton for the number, in the place of what was kept for it. The one that was used longest
+    /// ago is let go of where there are too many.
+    ///
+    /// # Errors
+    ///
+    /// Want of memory. What was kept is kept.
+    pub fn keep(
+        &mut self,
+        alloc: Global,
+        id: FormulaId,
+        auto: &Auto,
+        shelf: &mut Shelf,
+    ) -> Result<(), NoMemory>
+        requires { (g : Spaces) × HoldsBeside g shelf.old (auto.now ∷ []) self.old }
+        ensures takes { (g : Spaces) → IsAuto g shelf.old auto.now → TakesIn g shelf.old shelf.new id auto.now self.old self.new }
+        ensures there { OnOk result (IsKeptCopy shelf.old shelf.new id auto.now self.new) }
+        ensures err { OnErr result (self.new ≡ self.old) }
+    {
+        // Only for its clause `valid`.
+        let _ = self.automata.len();
+        let copy = auto.copy(alloc, shelf)?;
+        match self.automata.push(id, copy) {
+            Ok(Some((_, out))) => {
+                release(out, shelf);
+                Ok(())
+            }
+            Ok(None) => Ok(()),
+            Err(refused) => {
+                let (_, copy) = refused.value;
+                release(copy, shelf);
+                Err(AllocError)
+            }
+        }
+    }
+
+    /// Releases all that is kept. Takes no memory.
+    pub fn release_all(&mut self, shelf: &mut Shelf)
+        requires { (g : Spaces) × HoldsBeside g shelf.old [] self.old }
+        ensures passes { (g : Spaces) → Passes g shelf.old shelf.new [] [] self.old self.new }
+        ensures empty { self.new ≡ [] }
+    {
+        while let Some((_, auto)) = self.automata.pop_lru() {
+            release(auto, shelf);
+        }
+    }
+
+    /// Lets go of what is kept and of the nodes that nothing needs. What is left are nodes of the automata that wait: no more
+    /// than the sum of their Sizes. Takes no memory.
+    pub fn make_room(&mut self, shelf: &mut Shelf)
+        requires { (g : Spaces) × HoldsBeside g shelf.old [] self.old }
+        ensures passes { (g : Spaces) → Passes g shelf.old shelf.new [] [] self.old self.new }
+        ensures empty { self.new ≡ [] }
+        ensures room { (g : Spaces) (others : List AutoView) (sum : ℕ) → Holds g shelf.old (beside [] others self.old) →
+            HaveSum g shelf.old others sum → count_of shelf.new ≤ sum }
+    {
+        self.release_all(shelf);
+        shelf.collect();
+    }
+}

@@ -1,0 +1,116 @@
+-- On a machine from its first task to its last.
+use Rattle.std.proofs.Common.{◌≡◌, ℕ, zero, suc, ◌+◌, ◌<◌, ◌≤◌, ◌==◌, if◌then◌else◌, ◌⊎◌, inl, inr, List, [], ◌∷◌, ◌++◌, map, length, All, Contains, Option, Some, None, IsSome, Result, Ok, Err, slice_get, refl, sym, ◌∙◌, ap, subst, arith}
+use Rattle.std.specs.Option.{MatchOption}
+use Rattle.std.specs.Result.{OnOk, OnErr}
+use Rattle.std.proofs.lemmas.Option.{slice_get_within}
+use Rattle.std.proofs.lemmas.List.Elements.{All-nil, All-cons, All-head, All-tail, All-contains, Contains-append_left, Contains-append_right, Contains-append_cases}
+use Rattle.bdd_nodes.specs.Shelf.{Contents, IsShelf, limit_of, roots_of}
+use Rattle.bdd_nodes.specs.Changes.{DropsTable}
+use Rattle.gta_theory.specs.Guides.{Spaces, IsGuide}
+use Rattle.gta_theory.specs.Numbered.{Below}
+use Rattle.gta_theory.proofs.ListsLemmas.{Contains-first, Contains-later, Contains-cases, Contains-none, All-from_contains, Contains-map}
+use Rattle.gta_theory.proofs.ListedLemmas.{slice_get-front}
+use Rattle.gta_core.specs.Auto.{AutoView, states_of, automaton_of, IsAuto}
+use Rattle.gta_core.specs.Changes.{KeepsTable}
+use Rattle.gta_core.proofs.AutoLemmas.{automaton_of-kept}
+use Rattle.ws2s_core.specs.declared.track.Track.{Track}
+use Rattle.ws2s_core.specs.declared.formula.Formula.{Formula}
+use Rattle.ws2s_core.specs.declared.formula.Formula.TheVariants.{And, Not, Ex2}
+use Rattle.ws2s_core.specs.declared.node.FormulaId.{FormulaId}
+use Rattle.ws2s_core.specs.declared.node.Node.{Node}
+use Rattle.ws2s_core.specs.Nodes.{formula_at, formula_of_node, HasPartsBelow, Extends}
+use Rattle.ws2s_core.specs.Recognising.{IsMinimalOf}
+use Rattle.gta_atom.specs.Atom.{IsAtom}
+use Rattle.ws2s_decide.specs.declared.task.Task.{Task}
+use Rattle.gta_keep.specs.Holding.{times, registered, Holds, HasNoTables, IsMinimalFor, AreMinimalFor, none, more, kept_autos, beside, HaveSum, HaveSizes, KeepsSome, Passes, WasOrIsCopy, TakesIn, IsCopy, IsCopyOfKept}
+use Rattle.ws2s_decide.specs.Keeping.{IsKept}
+use Rattle.ws2s_theory.specs.Peaks.{HasMinimalSize, HasProductSize, HasSubsetSize, HasPeak}
+use Rattle.ws2s_theory.proofs.SizesLemmas.{HasMinimalSize-exists, HasProductSize-exists, HasSubsetSize-exists}
+use Rattle.ws2s_theory.proofs.PeaksLemmas.{HasPeak-unique}
+use Rattle.ws2s_decide.specs.Tasks.{Step, Makes, Within, steps_left, HasSum, IsCompound, tasks_for}
+use Rattle.ws2s_decide.specs.Going.{Moment, moment, Rests, IsNamedIn, steps_of, Stands, GoesOn, Advances, StandsOn, StandsLater, Follows, NeedsMore, IsGoing, HasMade, EndsWith, KeepsTables, Releases}
+use Rattle.gta_keep.proofs.HoldingLemmas.{Holds-release, kept-release, Holds-same}
+use Rattle.ws2s_decide.proofs.SumsLemmas.{HasSum-exists, HaveSum-stack}
+use Rattle.ws2s_decide.proofs.StepsLemmas.{formula-at, HasPeak-atom, apart, goes-visit, goes-negate, goes-conjoin, goes-quantify}
+use Rattle.gta_keep.proofs.CopyLemmas.{IsMinimalFor-kept, IsMinimalFor-copy}
+
+-- ---- from the first task to the last
+
+module _ (g : Spaces) (formulas : List Formula) where
+  pub Follows-itself : (now : Moment) → Follows g formulas now now
+  Follows-itself now stack out stands = record { stack' = stack; stands = stands; within = λ n within. within }
+
+  pub Follows-step : (old middle new : Moment) → Follows g formulas old middle → Advances g formulas middle new → Follows g formulas old new
+  Follows-step old middle new follows advances stack out stands =
+      let later = follows stack out stands in
+      let on = advances later.stack' out later.stands in
+      record { stack' = on.stack'; stands = on.stands; within = λ n within. (on.goes).within n (later.within n within) }
+
+  pub IsGoing-follows : (old new : Moment) → Follows g formulas old new → IsGoing g formulas old → IsGoing g formulas new
+  IsGoing-follows old new follows going =
+      let later = follows going.stack going.out going.stands in
+      record { stack = later.stack'; out = going.out; stands = later.stands }
+
+  pub NeedsMore-follows : (old new : Moment) → Follows g formulas old new → limit_of new.shelf ≡ limit_of old.shelf → NeedsMore g formulas new →
+      NeedsMore g formulas old
+  NeedsMore-follows old new follows same needs stack out n stands within =
+      let later = follows stack out stands in
+      subst (λ (limit : ℕ). limit < n) same (needs later.stack' out n later.stands (later.within n within))
+
+  -- where nothing is to be done, the formula's automaton waits alone
+  made : (now : Moment) (automata : List AutoView) (stack : List Formula) (out : Formula) → now.automata ≡ automata →
+      Rests g formulas now.shelf now.automata now.kept → AreMinimalFor g now.shelf automata stack → Makes [] stack out → HasMade g formulas now out
+  made now (a ∷ []) (f ∷ []) out is rests (more _ _ _ _ first none) makes = record {
+    auto = a;
+    alone = is;
+    minimal = subst (IsMinimalFor g now.shelf a) makes first;
+    rests = rests;
+  }
+  made now [] [] out is rests minimal makes = absurd makes
+  made now (a ∷ autos) [] out is rests minimal makes = absurd makes
+  made now autos (h ∷ (f ∷ stack)) out is rests minimal makes = absurd makes
+  made now [] (f ∷ []) out is rests minimal makes = elim minimal [ ]
+  made now (a ∷ (b ∷ autos)) (f ∷ []) out is rests (more _ _ _ _ first others) makes = elim others [ ]
+
+  pub ends : (old now : Moment) → now.tasks ≡ [] → Follows g formulas old now → EndsWith g formulas old now
+  ends old now is follows stack out stands =
+      let later = follows stack out stands in
+      made now now.automata later.stack' out refl (later.stands).rests (later.stands).minimal
+      (subst (λ (tasks : List Task). Makes (steps_of formulas tasks) later.stack' out) is (later.stands).makes)
+
+  -- the first visit
+  pub Stands-first : (shelf : Contents) (id : FormulaId) (kept : List (FormulaId × AutoView)) (f : Formula) → slice_get formulas id.0 ≡ Some f →
+      Rests g formulas shelf [] kept → Stands g formulas (moment shelf (Task.Visit id ∷ []) [] kept) [] f
+  Stands-first shelf id kept f there rests = record {
+    rests = rests;
+    minimal = none;
+    makes = formula-at formulas id.0 f there;
+    named = All-cons (IsNamedIn formulas) (Task.Visit id) [] (slice_get_within formulas id.0 f there) (All-nil (IsNamedIn formulas));
+  }
+
+  pub limit-first : IsGuide g → (shelf : Contents) (id : FormulaId) (kept : List (FormulaId × AutoView)) (f : Formula) (p : ℕ) →
+      slice_get formulas id.0 ≡ Some f → Rests g formulas shelf [] kept → HasPeak g f p →
+      NeedsMore g formulas (moment shelf (Task.Visit id ∷ []) [] kept) → limit_of shelf < p
+  limit-first guide shelf id kept f p there rests peak needs =
+      needs [] f p (Stands-first shelf id kept f there rests) (at, tt) where
+    at : (s q : ℕ) → HasSum g [] s → HasPeak g (formula_at formulas id.0) q → s + q ≤ p
+    at s q HasSum.none of_q =
+        let e = HasPeak-unique g guide f q p (subst (λ (w : Formula). HasPeak g w q) (formula-at formulas id.0 f there) of_q) peak in
+        omega (arith, e)
+
+-- the machine with the first visit
+pub IsGoing-first : (g : Spaces) (formulas : List Formula) (shelf : Contents) (id : FormulaId) (tasks : List Task) (autos : List AutoView)
+    (kept : List (FormulaId × AutoView)) (f : Formula) → tasks ≡ Task.Visit id ∷ [] → autos ≡ [] → slice_get formulas id.0 ≡ Some f →
+    Rests g formulas shelf [] kept → Stands g formulas (moment shelf tasks autos kept) [] f
+IsGoing-first g formulas shelf id tasks autos kept f of_tasks of_autos there rests =
+    subst (λ (ts : List Task). Stands g formulas (moment shelf ts autos kept) [] f) (sym of_tasks)
+    (subst (λ (xs : List AutoView). Stands g formulas (moment shelf (Task.Visit id ∷ []) xs kept) [] f) (sym of_autos)
+    (Stands-first g formulas shelf id kept f there rests))
+
+pub limit-of_first : (g : Spaces) (formulas : List Formula) → IsGuide g → (shelf : Contents) (id : FormulaId) (tasks : List Task) (autos : List AutoView)
+    (kept : List (FormulaId × AutoView)) (f : Formula) (p : ℕ) → tasks ≡ Task.Visit id ∷ [] → autos ≡ [] → slice_get formulas id.0 ≡ Some f →
+    Rests g formulas shelf [] kept → HasPeak g f p → NeedsMore g formulas (moment shelf tasks autos kept) → limit_of shelf < p
+limit-of_first g formulas guide shelf id tasks autos kept f p of_tasks of_autos there rests peak needs =
+    limit-first g formulas guide shelf id kept f p there rests peak
+    (subst (λ (ts : List Task). NeedsMore g formulas (moment shelf ts [] kept)) of_tasks
+    (subst (λ (xs : List AutoView). NeedsMore g formulas (moment shelf tasks xs kept)) of_autos needs))

@@ -1,0 +1,11 @@
+pub mod ComplementLemmas
+pub mod EndsLemmas
+pub mod KeepingLemmas
+pub mod LastLemmas
+pub mod NeedsLemmas
+pub mod RestsLemmas
+pub mod StandsLemmas
+pub mod StepsLemmas
+pub mod SumsLemmas
+pub mod TasksLemmas
+pub mod VerdictLemmas

@@ -1,0 +1,4 @@
+use Rattle.ws2s_decide.proofs.decider.decide.Goals as goal
+
+pub decide-verdict-requires : goal.decide-verdict-requires
+decide-verdict-requires c = c.in_ok-decider.ensures.kept c.args.shelf.now c.requires

@@ -1,0 +1,4 @@
+pub mod Deciding
+pub mod Going
+pub mod Keeping
+pub mod Tasks

@@ -1,0 +1,154 @@
+//! Deciders: formulas decided one after the other, and once.
+
+ghost use Rattle.std.specs.Prelude.{◌≡◌, ◌<◌, ℕ, Ok, IfOk};
+ghost use Rattle.bdd_nodes.specs.Shelf.{Contents, IsShelf, limit_of};
+ghost use Rattle.ws2s_theory.specs.Peaks.{HasPeak};
+ghost use Rattle.ws2s_decide.specs.declared.verdict.Verdict.{Verdict};
+ghost use Rattle.gta_keep.specs.Holding.{HasNoTables};
+ghost use Rattle.ws2s_decide.specs.Deciding.{IsVerdict, guide_of, HasKept};
+
+use gta_keep::Kept;
+use crate::deciding::verdict_of;
+use crate::verdict::Verdict;
+use bdd_nodes::Shelf;
+use bdd_walk::NoMemory;
+use plain_data::Items;
+use std::alloc::Global;
+use ws2s_core::{Formula, Guide, Interner, TrackList, intern};
+
+/// Decides formulas under one guide, one after the other, on one shelf: what two formulas share is built once where it is
+/// still kept. In a clause `HasKept` says that the tables of the shelf are those of the automata that it keeps.
+#[derive(Drop)]
+pub struct Decider {
+    guide: Guide,
+    /// The formulas that have a number.
+    interner: Interner,
+    /// Automata of formulas, by their numbers.
+    kept: Kept,
+}
+
+impl Decider {
+    /// A decider under the guide, which keeps nothing yet.
+    ///
+    /// # Errors
+    ///
+    /// Want of memory.
+    pub fn new(alloc: Global, guide: Guide) -> Result<Decider, NoMemory>
+        ensures guide { IfOk result (λ decider. guide_of decider ≡ guide) }
+        ensures kept { IfOk result (λ decider. (shelf : Contents) → HasNoTables shelf → HasKept shelf decider) }
+    {
+        Ok(Decider {
+            guide,
+            interner: Interner::new(alloc),
+            kept: Kept::new(alloc)?,
+        })
+    }
+
+    /// Decides a formula: [`Verdict::None`] exactly where no assignment satisfies it; otherwise a tree that satisfies it,
+    /// of least weight on the tracks `weigh`, with that weight, a track that is given more than once counted once; or
+    /// [`Verdict::Limit`], only where the formula's Peak exceeds the shelf's limit. Some of the automata that were built are
+    /// kept for the next formula.
+    ///
+    /// # Errors
+    ///
+    /// Want of memory; also where a weight on the way, or the tree's number of nodes, has no room in its integer.
+    pub fn decide(
+        &mut self,
+        alloc: Global,
+        f: &Formula,
+        weigh: &TrackList,
+        shelf: &mut Shelf,
+    ) -> Result<Verdict, NoMemory>
+        requires { HasKept shelf.old self.old }
+
+        // The answer.
+        ensures value { IfOk result (IsVerdict weigh.now f.now) }
+        ensures limit { result ≡ Ok Verdict.Limit → (p : ℕ) → HasPeak (guide_of self.old) f.now p → limit_of shelf.old < p }
+
+        // What the call leaves, whatever it answers.
+        ensures kept { HasKept shelf.new self.new }
+        ensures guide { guide_of self.new ≡ guide_of self.old }
+        ensures same_limit { limit_of shelf.new ≡ limit_of shelf.old }
+        ensures shelf { IsShelf shelf.new }
+    {
+        // Only for their clauses `shelf` and `guide`.
+        let _ = shelf.count();
+        let _ = self.guide.spaces();
+        let id = intern(alloc, &mut self.interner, f)?;
+        verdict_of(
+            alloc,
+            &self.guide,
+            &self.interner,
+            id,
+            weigh,
+            &mut self.kept,
+            shelf,
+        )
+    }
+
+    /// Releases all that is kept. Takes no memory.
+    pub fn close(self, shelf: &mut Shelf)
+        requires { HasKept shelf.old self }
+        ensures tables { HasNoTables shelf.new }
+        ensures same_limit { limit_of shelf.new ≡ limit_of shelf.old }
+        ensures shelf { IsShelf shelf.new }
+    {
+        // Only for its clause `shelf`.
+        let _ = shelf.count();
+        let Decider {
+            guide,
+            interner,
+            mut kept,
+        } = self;
+        drop(guide);
+        drop(interner);
+        kept.release_all(shelf);
+        drop(kept);
+    }
+}
+
+/// Decides a formula under a guide, by a [`Decider`] that is used once: [`Verdict::None`] exactly where no assignment
+/// satisfies it; otherwise a tree that satisfies it, of least weight on the tracks `weigh`, with that weight, a track that
+/// is given more than once counted once; or [`Verdict::Limit`], only where the formula's Peak under the guide exceeds the
+/// shelf's limit. The shelf has no table at the call, and none afterwards.
+///
+/// # Errors
+///
+/// Want of memory; also where a weight on the way, or the tree's number of nodes, has no room in its integer.
+pub fn decide(
+    alloc: Global,
+    f: &Formula,
+    g: &Guide,
+    weigh: &TrackList,
+    shelf: &mut Shelf,
+) -> Result<Verdict, NoMemory>
+    requires { HasNoTables shelf.old }
+
+    // The answer.
+    ensures value { IfOk result (IsVerdict weigh.now f.now) }
+    ensures limit { result ≡ Ok Verdict.Limit → (p : ℕ) → HasPeak g.now f.now p → limit_of shelf.old < p }
+
+    // What the call leaves, whatever it answers.
+    ensures tables { HasNoTables shelf.new }
+    ensures same_limit { limit_of shelf.new ≡ limit_of shelf.old }
+    ensures shelf { IsShelf shelf.new }
+{
+    // Only for its clause `shelf`.
+    let _ = shelf.count();
+    let guide = copy_of(alloc, g)?;
+    let mut decider = Decider::new(alloc, guide)?;
+    let verdict = decider.decide(alloc, f, weigh, shelf);
+    decider.close(shelf);
+    verdict
+}
+
+/// An equal guide.
+fn copy_of(alloc: Global, g: &Guide) -> Result<Guide, NoMemory>
+    ensures { IfOk result (λ copy. copy ≡ g.now) }
+{
+    let mut children = Items::new(alloc);
+    for space in 0..g.spaces() {
+        children.push(g.children(space).unwrap_or((0, 0)))?;
+    }
+    Guide::new(alloc, children)
+}

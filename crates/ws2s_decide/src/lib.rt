@@ -1,0 +1,18 @@
+//! Deciding core formulas of WS2S.
+//!
+//! The minimal automaton of a formula is made part by part, by a machine with a stack of tasks and a stack of automata, and
+//! a lightest tree that it accepts is the verdict. `specs/Deciding.antt` says what a verdict is. Which automata are built,
+//! in which order, and what is kept is for the proofs of this crate alone: `specs/Tasks.antt` and `specs/Going.antt`.
+#![tactic(auto)]
+
+mod decider;
+mod deciding;
+mod machine;
+mod making;
+mod task;
+mod verdict;
+mod visiting;
+mod waiting;
+
+pub use decider::{Decider, decide};
+pub use verdict::Verdict;

@@ -1,0 +1,120 @@
+//! The minimal automaton of a formula, task by task.
+
+ghost use Rattle.std.specs.Prelude.{◌≡◌, ◌<◌, ℕ, List, [], ◌∷◌, Some, Err, IfOk, OnOk, OnErr, slice_get};
+ghost use Rattle.bdd_nodes.specs.Shelf.{limit_of};
+ghost use Rattle.gta_theory.specs.Guides.{IsGuide};
+ghost use Rattle.ws2s_core.specs.declared.formula.Formula.{Formula};
+ghost use Rattle.ws2s_theory.specs.Peaks.{HasPeak};
+ghost use Rattle.ws2s_decide.specs.declared.task.Task.TheVariants as task;
+ghost use Rattle.gta_keep.specs.Holding.{IsMinimalFor};
+ghost use Rattle.ws2s_decide.specs.Going.{moment, Rests, IsGoing, Advances, EndsWith, NeedsMore};
+
+use gta_keep::Kept;
+use crate::making::{make_conjunction, make_negation, make_quantified};
+use crate::task::Task;
+use crate::visiting::visit;
+use crate::waiting::Waiting;
+use bdd_nodes::Shelf;
+use bdd_walk::Stop;
+use gta_core::Auto;
+use plain_data::Stack;
+use std::alloc::Global;
+use ws2s_core::{FormulaId, Guide, Interner};
+
+/// What is still to be done, the next task on top, and the automata that wait for it.
+#[derive(Drop)]
+pub(crate) struct Machine {
+    pub(crate) tasks: Stack<Task>,
+    pub(crate) automata: Waiting,
+}
+
+/// Does a task.
+fn step(
+    alloc: Global,
+    g: &Guide,
+    interner: &Interner,
+    task: Task,
+    machine: &mut Machine,
+    kept: &mut Kept,
+    shelf: &mut Shelf,
+) -> Result<(), Stop>
+    requires guide { IsGuide g.now }
+    requires going { IsGoing g.now interner.now (moment shelf.old (task ∷ machine.old.tasks) machine.old.automata kept.old) }
+    ensures ok { OnOk result (Advances g.now interner.now (moment shelf.old (task ∷ machine.old.tasks) machine.old.automata kept.old)
+        (moment shelf.new machine.new.tasks machine.new.automata kept.new)) }
+    ensures err { OnErr result (Rests g.now interner.now shelf.new machine.new.automata kept.new) }
+    ensures limit { result ≡ Err Stop.Limit →
+        NeedsMore g.now interner.now (moment shelf.old (task ∷ machine.old.tasks) machine.old.automata kept.old) }
+    ensures same_limit { limit_of shelf.new ≡ limit_of shelf.old }
+{
+    match task {
+        Task::Visit(id) => visit(alloc, g, interner, id, machine, kept, shelf),
+        Task::Negate => make_negation(g, interner, machine, kept, shelf),
+        Task::Conjoin(id) => make_conjunction(alloc, g, interner, id, machine, kept, shelf),
+        Task::Quantify(t, id) => make_quantified(alloc, g, interner, t, id, machine, kept, shelf),
+    }
+}
+
+/// Does all tasks.
+fn run(
+    alloc: Global,
+    g: &Guide,
+    interner: &Interner,
+    machine: &mut Machine,
+    kept: &mut Kept,
+    shelf: &mut Shelf,
+) -> Result<(), Stop>
+    requires guide { IsGuide g.now }
+    requires going { IsGoing g.now interner.now (moment shelf.old machine.old.tasks machine.old.automata kept.old) }
+    ensures ok { OnOk result (EndsWith g.now interner.now (moment shelf.old machine.old.tasks machine.old.automata kept.old)
+        (moment shelf.new machine.new.tasks machine.new.automata kept.new)) }
+    ensures err { OnErr result (Rests g.now interner.now shelf.new machine.new.automata kept.new) }
+    ensures limit { result ≡ Err Stop.Limit →
+        NeedsMore g.now interner.now (moment shelf.old machine.old.tasks machine.old.automata kept.old) }
+    ensures same_limit { limit_of shelf.new ≡ limit_of shelf.old }
+{
+    while let Some(task) = machine.tasks.pop() {
+        step(alloc, g, interner, task, machine, kept, shelf)?;
+    }
+    Ok(())
+}
+
+/// The minimal automaton of the formula with the number.
+///
+/// # Errors
+///
+/// `Limit` only where the formula's Peak exceeds the shelf's limit; want of memory.
+pub(crate) fn automaton_of(
+    alloc: Global,
+    g: &Guide,
+    interner: &Interner,
+    id: FormulaId,
+    kept: &mut Kept,
+    shelf: &mut Shelf,
+) -> Result<Auto, Stop>
+    requires guide { IsGuide g.now }
+    requires there { (f : Formula) × (slice_get interner.now id.0 ≡ Some f) }
+    requires rests { Rests g.now interner.now shelf.old [] kept.old }
+    ensures ok { IfOk result (λ auto. Rests g.now interner.now shelf.new (auto ∷ []) kept.new) }
+    ensures minimal { IfOk result (λ auto. (f : Formula) → slice_get interner.now id.0 ≡ Some f → IsMinimalFor g.now shelf.new auto f) }
+    ensures err { OnErr result (Rests g.now interner.now shelf.new [] kept.new) }
+    ensures limit { result ≡ Err Stop.Limit → (f : Formula) (p : ℕ) → slice_get interner.now id.0 ≡ Some f → HasPeak g.now f p →
+        limit_of shelf.old < p }
+    ensures same_limit { limit_of shelf.new ≡ limit_of shelf.old }
+{
+    let mut machine = Machine {
+        tasks: Stack::new(alloc),
+        automata: Waiting::new(alloc),
+    };
+    machine.tasks.push(Task::Visit(id))?;
+    let ended = run(alloc, g, interner, &mut machine, kept, shelf);
+    let last = match ended {
+        Ok(()) => Ok(machine.automata.pop().unwrap()),
+        Err(stop) => {
+            machine.automata.release_all(shelf);
+            Err(stop)
+        }
+    };
+    drop(machine);
+    last
+}
