@@ -1,9 +1,8 @@
 -- On what was made while what it was made of is let go of, and on the two steps of a whole: a construction and the minimal
 -- automaton of it.
-use Rattle.std.proofs.Common.{◌≡◌, ℕ, ◌+◌, ◌<◌, zero, suc, Ok, Err, IfOk, OnErr, List, [], ◌∷◌, Contains, refl, sym, ◌∙◌, ap, subst, arith}
+use Rattle.std.proofs.Common.{◌≡◌, ℕ, ◌+◌, ◌<◌, Ok, Err, IfOk, OnErr, List, [], ◌∷◌, Contains, refl, sym, subst, arith}
 use Rattle.std.proofs.lemmas.Bool.{cases_eq}
 use Rattle.bdd_nodes.specs.Shelf.{Contents, IsShelf, limit_of}
-use Rattle.bdd_walk.specs.declared.stop.Stop.{Stop}
 use Rattle.gta_theory.specs.Guides.{Spaces, IsGuide}
 use Rattle.gta_theory.specs.Automata.{Automaton}
 use Rattle.gta_theory.specs.Numbered.{Below}

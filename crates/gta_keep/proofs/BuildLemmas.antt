@@ -1,10 +1,10 @@
 -- On automata that are built of minimal ones: what they recognise, and that the builders' limits are licensed by Sizes of
 -- formulas.
-use Rattle.std.proofs.Common.{◌≡◌, ℕ, max, Bool, IsTrue, sym, ◌∙◌, ap, subst, arith}
+use Rattle.std.proofs.Common.{◌≡◌, ℕ, max, Bool, IsTrue, subst, arith}
 use Rattle.std.proofs.lemmas.Bool.{cases_eq}
 use Rattle.bdd_nodes.specs.Shelf.{Contents, IsShelf}
 use Rattle.gta_theory.specs.Guides.{Spaces, IsGuide}
-use Rattle.gta_theory.specs.Automata.{Automaton, Has}
+use Rattle.gta_theory.specs.Automata.{Automaton}
 use Rattle.gta_theory.specs.Constructions.{IsProduct, IsSubset}
 use Rattle.gta_theory.specs.Numbered.{Below}
 use Rattle.gta_theory.specs.Sizes.{SizeOf}

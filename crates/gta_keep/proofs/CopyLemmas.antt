@@ -1,5 +1,5 @@
 -- On automata that stay, and on copies: what holds of the one holds of the other.
-use Rattle.std.proofs.Common.{◌≡◌, ℕ, refl, sym, ◌∙◌, ap, subst}
+use Rattle.std.proofs.Common.{ℕ, sym, subst}
 use mathlib.Core.Path.{fun_ext}
 use Rattle.bdd_nodes.specs.Shelf.{Contents}
 use Rattle.gta_theory.specs.Guides.{Spaces}

@@ -1,5 +1,5 @@
 -- On keeping a copy of an automaton: what the shelf holds then, whatever falls out.
-use Rattle.std.proofs.Common.{◌≡◌, ℕ, ◌≤◌, ◌⊎◌, inl, inr, zero, suc, Bool, true, Option, Some, None, List, [], ◌∷◌, length, Contains, IsSome, refl, sym, ◌∙◌, ap, subst, arith}
+use Rattle.std.proofs.Common.{◌≡◌, ℕ, ◌≤◌, ◌⊎◌, inl, inr, Bool, true, Option, Some, None, List, [], ◌∷◌, length, Contains, IsSome, refl, sym, ◌∙◌, ap, subst, arith}
 use Rattle.lru.specs.LruCache.{LruCache, put_entries, displaced}
 use Rattle.bdd_nodes.specs.Shelf.{Contents, IsShelf, roots_of}
 use Rattle.bdd_nodes.specs.Changes.{DropsTable}

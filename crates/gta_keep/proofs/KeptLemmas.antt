@@ -1,9 +1,9 @@
 -- On what is kept: which automata are there after a use, a fall out, and a new one.
-use Rattle.std.proofs.Common.{◌≡◌, ℕ, ◌+◌, ◌-◌, ◌<◌, ◌≤◌, ◌==◌, ◌⊎◌, inl, inr, if◌then◌else◌, zero, suc, Bool, true, false, cond, Option, Some, None, List, [], ◌∷◌, ◌++◌, take, length, Contains, IsSome, slice_get, option_map, refl, sym, ◌∙◌, ap, subst, arith}
+use Rattle.std.proofs.Common.{◌≡◌, ℕ, ◌+◌, ◌-◌, ◌≤◌, ◌==◌, ◌⊎◌, inl, inr, if◌then◌else◌, zero, suc, Bool, true, false, Option, Some, None, List, [], ◌∷◌, ◌++◌, take, length, Contains, IsSome, slice_get, option_map, refl, sym, ◌∙◌, ap, subst, arith}
 use Rattle.std.specs.Map.{lookup, lookup_entry, remove_entry}
 use Rattle.std.proofs.lemmas.Bool.{false≢true}
 use Rattle.std.specs.Option.{option_map_or}
-use Rattle.std.proofs.lemmas.List.Elements.{Contains-append_left, Contains-append_right}
+use Rattle.std.proofs.lemmas.List.Elements.{Contains-append_right}
 use Rattle.lru.specs.LruCache.{LruCache, promoted, put_entries, displaced, last_entry}
 use Rattle.lru.proofs.CallerLemmas.{Contains-promoted, Contains-take, Contains-lookup, Contains-lookup_entry, Contains-put_entries}
 use Rattle.bdd_nodes.specs.Shelf.{Contents, IsShelf, roots_of}
@@ -152,9 +152,9 @@ lookup-entry : (test : FormulaId → Bool) (kept : Entries) →
 lookup-entry test [] = refl
 lookup-entry test (f ∷ kept) = (elim (test f.0) as (λ y. test f.0 ≡ y →
     lookup test (f ∷ kept) ≡ option_map (λ (e : FormulaId × AutoView). e.1) (lookup_entry test (f ∷ kept))) [
-  | true ↦ λ passes. rw passes refl
-  | false ↦ λ fails. rw fails (lookup-entry test kept)
-]) refl
+      | true ↦ λ passes. rw passes refl
+      | false ↦ λ fails. rw fails (lookup-entry test kept)
+    ]) refl
 
 module _ (eq : FormulaId → FormulaId → Bool) (c : LruCache FormulaId AutoView) (few : length c.entries ≤ c.cap) (id : FormulaId) (copy : AutoView) where
   abbrev put_of : Option (FormulaId × AutoView) → Entries

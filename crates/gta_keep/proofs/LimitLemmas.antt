@@ -1,12 +1,11 @@
 -- On a builder's second limit: in the room that is left it is licensed by the Sizes of what waits and of what is built.
-use Rattle.std.proofs.Common.{◌≡◌, ℕ, ◌+◌, ◌<◌, ◌≤◌, Bool, IsTrue, nat_lt, zero, suc, List, [], ◌∷◌, ◌++◌, Contains, refl, sym, ◌∙◌, ap, subst, arith}
-use Rattle.bdd_nodes.specs.Shelf.{Contents, IsShelf, count_of, limit_of}
+use Rattle.std.proofs.Common.{ℕ, ◌+◌, ◌<◌, ◌≤◌, Bool, IsTrue, nat_lt, List, [], ◌∷◌, Contains, refl, sym, subst, arith}
+use Rattle.bdd_nodes.specs.Shelf.{Contents, count_of, limit_of}
 use Rattle.gta_theory.specs.Guides.{Spaces, IsGuide}
 use Rattle.gta_theory.specs.Automata.{Automaton, Has}
 use Rattle.gta_theory.specs.Constructions.{IsProduct, IsSubset}
-use Rattle.gta_theory.specs.Numbered.{Below}
 use Rattle.gta_theory.specs.Sizes.{SizeOf}
-use Rattle.gta_core.specs.Auto.{AutoView, states_of, automaton_of, IsAuto}
+use Rattle.gta_core.specs.Auto.{AutoView, automaton_of, IsAuto}
 use Rattle.gta_core.specs.Changes.{KeepsTable}
 use Rattle.gta_core.proofs.AutoLemmas.{automaton_of-kept}
 use Rattle.gta_minimise.specs.Minimised.{HasMinimisedSize}
@@ -17,8 +16,8 @@ use Rattle.ws2s_theory.specs.Peaks.{HasMinimalSize}
 use Rattle.gta_keep.specs.Holding.{Holds, HaveSum, Passes, beside}
 use Rattle.gta_keep.specs.Limits.{PairsLimit, SetsLimit, MinimalLimit}
 use Rattle.gta_keep.proofs.CopyLemmas.{IsMinimalFor-kept}
-use Rattle.gta_keep.proofs.PassesLemmas.{Entries, Passes-both, Contains-other}
-use Rattle.gta_keep.proofs.SumLemmas.{SizeOf-kept, HaveSum-kept, HaveSum-more, SizeOf-minimal}
+use Rattle.gta_keep.proofs.PassesLemmas.{Entries, Passes-both}
+use Rattle.gta_keep.proofs.SumLemmas.{HaveSum-kept, HaveSum-more, SizeOf-minimal}
 use Rattle.gta_keep.proofs.BuildLemmas.{SizedProduct-of, SizedSubset-of, HasMinimisedSize-of}
 
 -- what each builder's limit says

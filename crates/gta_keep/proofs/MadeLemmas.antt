@@ -1,13 +1,13 @@
 -- On what a builder answers: what comes with an automaton that it made, and what stays where it made none.
-use Rattle.std.proofs.Common.{◌≡◌, ℕ, ◌+◌, ◌<◌, ◌≤◌, zero, suc, Result, Ok, Err, IfOk, OnErr, ◌⊎◌, inl, inr, List, [], ◌∷◌, ◌++◌, Contains, IsSome, refl, sym, ◌∙◌, ap, subst, arith, append-nil}
+use Rattle.std.proofs.Common.{◌≡◌, ℕ, ◌≤◌, Result, Ok, Err, IfOk, OnErr, inl, inr, List, [], ◌∷◌, ◌++◌, Contains, IsSome, refl, ◌∙◌, ap, subst, arith, append-nil}
 use Rattle.std.proofs.lemmas.List.Elements.{Contains-append_left, Contains-append_right, Contains-append_cases}
-use Rattle.bdd_nodes.specs.Shelf.{Contents, IsShelf, roots_of, count_of, limit_of}
+use Rattle.bdd_nodes.specs.Shelf.{Contents, IsShelf, roots_of, limit_of}
 use Rattle.bdd_nodes.specs.Changes.{Keeps, SameTables, DropsTable, CountsHeld}
 use Rattle.bdd_walk.specs.declared.stop.Stop.{Stop}
 use Rattle.gta_theory.specs.Guides.{Spaces}
 use Rattle.gta_core.specs.Auto.{AutoView, IsAuto}
 use Rattle.gta_core.specs.Changes.{KeepsTable, RegistersTable}
-use Rattle.gta_keep.specs.Holding.{times, Holds, HoldsBeside, HaveSum, Passes, beside, kept_autos}
+use Rattle.gta_keep.specs.Holding.{Holds, HoldsBeside, HaveSum, Passes, beside, kept_autos}
 use Rattle.gta_keep.proofs.HoldingLemmas.{times-append, kept-release}
 use Rattle.gta_keep.proofs.PassesLemmas.{Entries, Passes-both, Passes-beside, Passes-made, Passes-registers, Passes-order, Passes-release, HoldsBeside-after}
 use Rattle.gta_keep.proofs.RoomLemmas.{room-sum}

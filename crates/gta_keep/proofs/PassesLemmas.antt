@@ -1,7 +1,7 @@
 -- On what comes and goes beside others: one change after the other, and what each change of a shelf is.
-use Rattle.std.proofs.Common.{◌≡◌, ◌≢◌, ℕ, ◌+◌, ◌<◌, ◌⊎◌, inl, inr, zero, suc, List, [], ◌∷◌, ◌++◌, length, Contains, Option, is_some, refl, sym, ◌∙◌, ap, subst, arith, append_assoc}
+use Rattle.std.proofs.Common.{◌≡◌, ℕ, ◌+◌, inl, inr, zero, suc, List, [], ◌∷◌, ◌++◌, Contains, Option, is_some, refl, sym, ◌∙◌, ap, subst, arith, append_assoc}
 use Rattle.std.proofs.lemmas.List.Elements.{Contains-append_left, Contains-append_right, Contains-append_cases}
-use Rattle.bdd_nodes.specs.Shelf.{Contents, IsShelf, roots_of, limit_of}
+use Rattle.bdd_nodes.specs.Shelf.{Contents, IsShelf, limit_of}
 use Rattle.bdd_nodes.specs.declared.node_ref.NodeRef.{NodeRef}
 use Rattle.bdd_nodes.specs.Changes.{Keeps, SameTables, DropsTable, MovesRoots}
 use Rattle.bdd_nodes.proofs.CallerLemmas.{Keeps-same}
@@ -125,32 +125,32 @@ module _ (g : Spaces) where
       Holds g shelf (beside xs others before) → Holds g shelf (beside ys others after)
   Holds-order shelf xs ys others before after same waits keeps holds =
       Holds-same g shelf (beside xs others before) (beside ys others after) order inside holds where
-    order : (t : ℕ) → times (beside ys others after) t ≡ times (beside xs others before) t
-    order t =
-        let e = same t in
-        let x = times-append xs (others ++ kept_autos before) t in
-        let y = times-append ys (others ++ kept_autos after) t in
-        let u = times-append others (kept_autos before) t in
-        let v = times-append others (kept_autos after) t in
-        omega arith
+        order : (t : ℕ) → times (beside ys others after) t ≡ times (beside xs others before) t
+        order t =
+            let e = same t in
+            let x = times-append xs (others ++ kept_autos before) t in
+            let y = times-append ys (others ++ kept_autos after) t in
+            let u = times-append others (kept_autos before) t in
+            let v = times-append others (kept_autos after) t in
+            omega arith
 
-    among : (a : AutoView) → Contains (xs ++ kept_autos before) a → Contains (beside xs others before) a
-    among a there = elim (Contains-append_cases xs (kept_autos before) a there) [
-      | inl first ↦ Contains-append_left xs (others ++ kept_autos before) a first
-      | inr later ↦ Contains-append_right xs (others ++ kept_autos before) a (Contains-append_right others (kept_autos before) a later)
-    ]
+        among : (a : AutoView) → Contains (xs ++ kept_autos before) a → Contains (beside xs others before) a
+        among a there = elim (Contains-append_cases xs (kept_autos before) a there) [
+          | inl first ↦ Contains-append_left xs (others ++ kept_autos before) a first
+          | inr later ↦ Contains-append_right xs (others ++ kept_autos before) a (Contains-append_right others (kept_autos before) a later)
+        ]
 
-    rest : (a : AutoView) → Contains (others ++ kept_autos after) a → Contains (beside xs others before) a
-    rest a there = elim (Contains-append_cases others (kept_autos after) a there) [
-      | inl other ↦ Contains-other xs others before a other
-      | inr later ↦ among a (keeps a later)
-    ]
+        rest : (a : AutoView) → Contains (others ++ kept_autos after) a → Contains (beside xs others before) a
+        rest a there = elim (Contains-append_cases others (kept_autos after) a there) [
+          | inl other ↦ Contains-other xs others before a other
+          | inr later ↦ among a (keeps a later)
+        ]
 
-    inside : (a : AutoView) → Contains (beside ys others after) a → Contains (beside xs others before) a
-    inside a there = elim (Contains-append_cases ys (others ++ kept_autos after) a there) [
-      | inl first ↦ among a (waits a first)
-      | inr later ↦ rest a later
-    ]
+        inside : (a : AutoView) → Contains (beside ys others after) a → Contains (beside xs others before) a
+        inside a there = elim (Contains-append_cases ys (others ++ kept_autos after) a there) [
+          | inl first ↦ among a (waits a first)
+          | inr later ↦ rest a later
+        ]
 
   pub Passes-order : (shelf : Contents) (xs ys : List AutoView) (before after : Entries) →
       ((t : ℕ) → times ys t + times (kept_autos after) t ≡ times xs t + times (kept_autos before) t) →

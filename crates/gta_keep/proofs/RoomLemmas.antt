@@ -1,16 +1,14 @@
 -- On the room that collecting leaves: the nodes of automata that are held are no more than the sum of their Sizes.
-use Rattle.std.proofs.Common.{◌≡◌, ◌≢◌, ℕ, zero, suc, ◌+◌, ◌≤◌, ◌==◌, ◌⊎◌, inl, inr, true, false, List, [], ◌∷◌, map, length, All, IsSome, Contains, refl, sym, ◌∙◌, ap, subst, arith}
-use Rattle.std.specs.List.{sum_by}
+use Rattle.std.proofs.Common.{◌≡◌, ◌≢◌, ℕ, suc, ◌≤◌, ◌==◌, ◌⊎◌, inl, inr, true, false, List, [], ◌∷◌, map, IsSome, refl, sym, subst, arith}
 use Rattle.std.proofs.lemmas.Bool.Decides.{eqb_tells}
 use Rattle.bdd_nodes.specs.Shelf.{Contents, roots_of}
 use Rattle.bdd_nodes.specs.Changes.{CountsHeld}
 use Rattle.gta_theory.specs.Guides.{Spaces}
 use Rattle.gta_core.specs.Auto.{AutoView}
-use Rattle.gta_core.specs.Sizes.{IsSized, IsTableOf}
+use Rattle.gta_core.specs.Sizes.{IsTableOf}
 use Rattle.gta_core.proofs.SizeLemmas.{held-le}
-use Rattle.gta_keep.specs.Holding.{times, registered, Holds, HaveSum}
+use Rattle.gta_keep.specs.Holding.{times, Holds, HaveSum}
 use Rattle.gta_keep.proofs.HoldingLemmas.{times-other, registered-some}
-
 
 -- a table that one of them has is that of one of them
 times-table : (sized : List (AutoView × ℕ)) (t : ℕ) → 1 ≤ times (map (λ auto. auto.0) sized) t → IsTableOf sized t

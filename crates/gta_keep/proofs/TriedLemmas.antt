@@ -1,5 +1,5 @@
 -- On a builder's two tries: what its answer is about when what is kept was let go of between them.
-use Rattle.std.proofs.Common.{◌≡◌, ℕ, zero, suc, ◌↔◌, Ok, Err, IfOk, List, [], ◌∷◌, Contains, refl, sym, ◌∙◌, ap, subst, arith}
+use Rattle.std.proofs.Common.{◌≡◌, ℕ, ◌↔◌, Ok, Err, IfOk, List, [], Contains, subst}
 use Rattle.bdd_nodes.specs.Shelf.{Contents, IsShelf, limit_of}
 use Rattle.bdd_nodes.specs.Changes.{Keeps, SameTables}
 use Rattle.gta_theory.specs.Assignments.{Assignment}
@@ -8,7 +8,6 @@ use Rattle.gta_theory.specs.Automata.{Automaton, Accepts}
 use Rattle.gta_theory.specs.Minimal.{IsMinimal}
 use Rattle.gta_theory.specs.Numbered.{Below}
 use Rattle.gta_core.specs.Auto.{AutoView, states_of, automaton_of, IsAuto}
-use Rattle.gta_core.specs.Changes.{KeepsTable}
 use Rattle.gta_core.proofs.AutoLemmas.{automaton_of-kept}
 use Rattle.gta_product.specs.Product.{IsProductOf}
 use Rattle.gta_project.specs.Project.{IsSubsetOf}

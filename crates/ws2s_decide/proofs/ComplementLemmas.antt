@@ -96,8 +96,8 @@ module _ (g : Spaces) (guide : IsGuide g) (A C : Automaton ℕ) (count count' : 
     apart = λ s p q there has_p has_q differ.
         let t = minimal.apart s p q there (to_old s p has_p) (to_old s q has_q) differ in
         let at : (x : ℕ) → Below count s x →
-            C.accepting (value_with g C 0 t.hole x t.depth t.assignment) ≡ not (A.accepting (value_with g A 0 t.hole x t.depth t.assignment)) =
-            λ x below. accepting-turned t.hole t.depth x t.assignment (subst (λ (k : ℕ). Below count k x) (sym t.is_there) below) in
+        C.accepting (value_with g C 0 t.hole x t.depth t.assignment) ≡ not (A.accepting (value_with g A 0 t.hole x t.depth t.assignment)) =
+        λ x below. accepting-turned t.hole t.depth x t.assignment (subst (λ (k : ℕ). Below count k x) (sym t.is_there) below) in
         record {
           hole = t.hole;
           assignment = t.assignment;

@@ -37,9 +37,6 @@ use Rattle.gta_keep.proofs.CopyLemmas.{IsMinimalFor-kept, IsMinimalFor-copy}
 -- ---- from the first task to the last
 
 module _ (g : Spaces) (formulas : List Formula) where
-  pub Follows-itself : (now : Moment) → Follows g formulas now now
-  Follows-itself now stack out stands = record { stack' = stack; stands = stands; within = λ n within. within }
-
   pub Follows-step : (old middle new : Moment) → Follows g formulas old middle → Advances g formulas middle new → Follows g formulas old new
   Follows-step old middle new follows advances stack out stands =
       let later = follows stack out stands in
@@ -93,10 +90,10 @@ module _ (g : Spaces) (formulas : List Formula) where
       NeedsMore g formulas (moment shelf (Task.Visit id ∷ []) [] kept) → limit_of shelf < p
   limit-first guide shelf id kept f p there rests peak needs =
       needs [] f p (Stands-first shelf id kept f there rests) (at, tt) where
-    at : (s q : ℕ) → HasSum g [] s → HasPeak g (formula_at formulas id.0) q → s + q ≤ p
-    at s q HasSum.none of_q =
-        let e = HasPeak-unique g guide f q p (subst (λ (w : Formula). HasPeak g w q) (formula-at formulas id.0 f there) of_q) peak in
-        omega (arith, e)
+        at : (s q : ℕ) → HasSum g [] s → HasPeak g (formula_at formulas id.0) q → s + q ≤ p
+        at s q HasSum.none of_q =
+            let e = HasPeak-unique g guide f q p (subst (λ (w : Formula). HasPeak g w q) (formula-at formulas id.0 f there) of_q) peak in
+            omega (arith, e)
 
 -- the machine with the first visit
 pub IsGoing-first : (g : Spaces) (formulas : List Formula) (shelf : Contents) (id : FormulaId) (tasks : List Task) (autos : List AutoView)

@@ -17,36 +17,16 @@ use Rattle.ws2s_decide.specs.Going.{Rests}
 use Rattle.ws2s_decide.proofs.RestsLemmas.{AllKept-extends}
 
 -- no table is registered where nothing is held
-pub registered-none : (shelf : Contents) (t : ℕ) → (IsSome (roots_of shelf t) → ⊥) → 0 ≡ registered shelf t
-registered-none shelf t none = pick (is_some (roots_of shelf t)) none where
-  pick : (b : Bool) → (b ≡ true → ⊥) → ◌≡◌ {A = ℕ} 0 (if b then 1 else 0)
-  pick true isnt = absurd (isnt refl)
-  pick false isnt = refl
-
 pub HasNoTables-held : (g : Spaces) (shelf : Contents) → Holds g shelf [] → HasNoTables shelf
 HasNoTables-held g shelf holds t some =
     let one : registered shelf t ≡ 1 = ap (λ (b : Bool). if b then 1 else 0) some in
     let zero = holds.tables t in
     omega (arith, one, zero)
 
-module _ (shelf : Contents) where
-  -- a decider that keeps nothing
-  pub HasKept-new : (decider : Decider) → decider.kept ≡ [] → HasNoTables shelf → HasKept shelf decider
-  HasKept-new decider is none = record {
-    each = subst (λ (kept : List (FormulaId × AutoView)). (a : AutoView) → Contains (kept_autos kept) a → IsAuto decider.guide shelf a) (sym is)
-        (λ a there. absurd (Contains-none a there));
-    tables = subst (λ (kept : List (FormulaId × AutoView)). (t : ℕ) → times (kept_autos kept) t ≡ registered shelf t) (sym is)
-        (λ t. registered-none shelf t (none t));
-    minimal = subst (All (IsKept decider.guide shelf decider.interner)) (sym is) (All-nil (IsKept decider.guide shelf decider.interner));
-  }
-
-  -- ready for a formula, which may have got a number
-  pub Rests-kept : (decider : Decider) (formulas : List Formula) → IsShelf shelf → Extends decider.interner formulas → HasKept shelf decider →
-      Rests decider.guide formulas shelf [] decider.kept
-  Rests-kept decider formulas is_shelf extends has = record {
-    holds = record { is_shelf = is_shelf; each = has.each; tables = has.tables };
-    kept_for = AllKept-extends decider.guide shelf decider.interner formulas decider.kept extends has.minimal;
-  }
-
-  pub HasKept-rests : (decider : Decider) → Rests decider.guide decider.interner shelf [] decider.kept → HasKept shelf decider
-  HasKept-rests decider rests = record { each = (rests.holds).each; tables = (rests.holds).tables; minimal = rests.kept_for }
+-- ready for a formula, which may have got a number
+pub Rests-kept : (shelf : Contents) (decider : Decider) (formulas : List Formula) → IsShelf shelf → Extends decider.interner formulas →
+    HasKept shelf decider → Rests decider.guide formulas shelf [] decider.kept
+Rests-kept shelf decider formulas is_shelf extends has = record {
+  holds = record { is_shelf = is_shelf; each = has.each; tables = has.tables };
+  kept_for = AllKept-extends decider.guide shelf decider.interner formulas decider.kept extends has.minimal;
+}

@@ -56,7 +56,7 @@ module _ (g : Spaces) (guide : IsGuide g) (formulas : List Formula) where
         let peak = subst (λ (w : Formula). HasPeak g w size.0) (sym (formula-at formulas id.0 f there)) (HasPeak-atom g f atom size.0 size.1) in
         let le = within.0 sum.0 size.0 sum.1 peak in
         let lt = limit autos sum.0 size.0 (stands.rests).holds
-            (waiting-sum autos (kept_autos kept) stack sum.0 (stands.rests).holds stands.minimal sum.1) size.1 in
+        (waiting-sum autos (kept_autos kept) stack sum.0 (stands.rests).holds stands.minimal sum.1) size.1 in
         omega (arith, le, lt)
 
     -- a conjunction has no room
@@ -77,11 +77,11 @@ module _ (g : Spaces) (guide : IsGuide g) (formulas : List Formula) where
         let within' = subst (λ (s : List Formula). Within g n (steps_of formulas (Task.Conjoin id ∷ tasks)) s) last.is within in
         let le = within'.0 sum.0 first.0 second.0 product.0 result.0 sum.1 first.1 second.1 product.1 result.1 in
         let each = λ (x : AutoView) (there : Contains rest x). holds.each x
-            (Contains-later a x (b ∷ rest ++ kept_autos kept) (Contains-later b x (rest ++ kept_autos kept)
-            (Contains-append_left rest (kept_autos kept) x there))) in
+        (Contains-later a x (b ∷ rest ++ kept_autos kept) (Contains-later b x (rest ++ kept_autos kept)
+        (Contains-append_left rest (kept_autos kept) x there))) in
         let have = HaveSum-stack g guide shelf sizes rest last.below sum.0 each last.others sum.1 in
         let lt = limit rest last.left last.right sum.0 first.0 second.0 product.0 result.0 holds last.of_left last.of_right have
-            first.1 second.1 product.1 result.1 in
+        first.1 second.1 product.1 result.1 in
         omega (arith, le, lt)
 
     -- a quantifier has no room
@@ -101,7 +101,7 @@ module _ (g : Spaces) (guide : IsGuide g) (formulas : List Formula) where
         let within' = subst (λ (s : List Formula). Within g n (steps_of formulas (Task.Quantify t id ∷ tasks)) s) last.is within in
         let le = within'.0 sum.0 part.0 subset.0 result.0 sum.1 part.1 subset.1 result.1 in
         let each = λ (x : AutoView) (there : Contains rest x). holds.each x
-            (Contains-later a x (rest ++ kept_autos kept) (Contains-append_left rest (kept_autos kept) x there)) in
+        (Contains-later a x (rest ++ kept_autos kept) (Contains-append_left rest (kept_autos kept) x there)) in
         let have = HaveSum-stack g guide shelf sizes rest last.below sum.0 each last.others sum.1 in
         let lt = limit rest last.part sum.0 part.0 subset.0 result.0 holds last.of_part have part.1 subset.1 result.1 in
         omega (arith, le, lt)

@@ -79,13 +79,13 @@ module _ (g : Spaces) (old new : Contents) where
         slice_get formulas id.0 ≡ Some f → IsMinimalFor g old auto f → All (IsKept g old formulas) before → All (IsKept g new formulas) after
     AllKept-taken id auto before after f entries there minimal kept = All-from_contains (IsKept g new formulas) after (λ entry inside.
         pick entry (entries entry inside)) where
-      pick : (entry : FormulaId × AutoView) → WasOrIsCopy old new id auto before entry → IsKept g new formulas entry
-      pick entry (inl was) = IsKept-kept entry was.1 (All-contains (IsKept g old formulas) before entry kept was.0)
-      pick entry (inr copy) = record {
-        formula = f;
-        there = ap (λ (k : FormulaId). slice_get formulas k.0) copy.0 ∙ there;
-        minimal = IsMinimalFor-copy g old new auto entry.1 f copy.1 minimal;
-      }
+          pick : (entry : FormulaId × AutoView) → WasOrIsCopy old new id auto before entry → IsKept g new formulas entry
+          pick entry (inl was) = IsKept-kept entry was.1 (All-contains (IsKept g old formulas) before entry kept was.0)
+          pick entry (inr copy) = record {
+            formula = f;
+            there = ap (λ (k : FormulaId). slice_get formulas k.0) copy.0 ∙ there;
+            minimal = IsMinimalFor-copy g old new auto entry.1 f copy.1 minimal;
+          }
 
 -- what is kept is kept for more formulas too
 pub AllKept-extends : (g : Spaces) (shelf : Contents) (formulas formulas' : List Formula) (kept : List (FormulaId × AutoView)) →
@@ -192,13 +192,6 @@ Rests-turned g formulas shelf a c rest kept same auto rests = record {
   pick x (inr later) = (rests.holds).each x (Contains-later a x (rest ++ kept_autos kept) later)
 
 -- ---- those that wait are released
-
-pub Releases-itself : (g : Spaces) (shelf : Contents) (xs : List AutoView) → Holds g shelf xs → Releases g shelf shelf xs
-Releases-itself g shelf xs holds = record {
-  holds = holds;
-  tables = λ a there. record { registered = λ known. known; functions = λ place. refl };
-  limit = refl;
-}
 
 -- one more is released
 pub Releases-more : (g : Spaces) (old middle new : Contents) (a : AutoView) (xs : List AutoView) → Releases g old middle (a ∷ xs) →

@@ -85,7 +85,7 @@ pub StandsOn-apart : (g : Spaces) → IsGuide g → (formulas : List Formula) (s
     StandsOn g formulas (Task.Visit id ∷ tasks) stack (moment shelf (tasks_for id node tasks) autos kept) out
 StandsOn-apart g guide formulas shelf id node tasks autos kept compound is below stack out stands =
     let parts = apart g guide formulas id node tasks stack out compound (formula-at formulas id.0 (formula_of_node formulas node) is) below
-        stands.named stands.makes in
+    stands.named stands.makes in
     record {
       stack' = stack;
       stands = record { rests = stands.rests; minimal = stands.minimal; makes = parts.makes; named = parts.named };

@@ -7,11 +7,11 @@ ghost use Rattle.ws2s_decide.specs.declared.verdict.Verdict.{Verdict};
 ghost use Rattle.gta_keep.specs.Holding.{HasNoTables};
 ghost use Rattle.ws2s_decide.specs.Deciding.{IsVerdict, guide_of, HasKept};
 
-use gta_keep::Kept;
 use crate::deciding::verdict_of;
 use crate::verdict::Verdict;
 use bdd_nodes::Shelf;
 use bdd_walk::NoMemory;
+use gta_keep::Kept;
 use plain_data::Items;
 use std::alloc::Global;
 use ws2s_core::{Formula, Guide, Interner, TrackList, intern};

@@ -12,12 +12,12 @@ ghost use Rattle.gta_keep.specs.Holding.{IsMinimalFor};
 ghost use Rattle.ws2s_decide.specs.Going.{Rests};
 ghost use Rattle.ws2s_decide.specs.Deciding.{IsVerdict};
 
-use gta_keep::Kept;
 use crate::machine::automaton_of;
 use crate::verdict::Verdict;
 use bdd_nodes::Shelf;
 use bdd_walk::{NoMemory, Stop};
 use gta_core::{Auto, release};
+use gta_keep::Kept;
 use gta_witness::least;
 use std::alloc::{AllocError, Global};
 use ws2s_core::{FormulaId, Guide, Interner, TrackList};

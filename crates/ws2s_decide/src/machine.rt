@@ -9,7 +9,6 @@ ghost use Rattle.ws2s_decide.specs.declared.task.Task.TheVariants as task;
 ghost use Rattle.gta_keep.specs.Holding.{IsMinimalFor};
 ghost use Rattle.ws2s_decide.specs.Going.{moment, Rests, IsGoing, Advances, EndsWith, NeedsMore};
 
-use gta_keep::Kept;
 use crate::making::{make_conjunction, make_negation, make_quantified};
 use crate::task::Task;
 use crate::visiting::visit;
@@ -17,6 +16,7 @@ use crate::waiting::Waiting;
 use bdd_nodes::Shelf;
 use bdd_walk::Stop;
 use gta_core::Auto;
+use gta_keep::Kept;
 use plain_data::Stack;
 use std::alloc::Global;
 use ws2s_core::{FormulaId, Guide, Interner};

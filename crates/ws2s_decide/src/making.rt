@@ -8,12 +8,11 @@ ghost use Rattle.ws2s_decide.specs.declared.task.Task.TheVariants as task;
 ghost use Rattle.gta_keep.specs.Holding.{IsMinimalFor};
 ghost use Rattle.ws2s_decide.specs.Going.{moment, Rests, IsGoing, Advances, KeepsTables, NeedsMore};
 
-use gta_keep::{conjoin, quantify};
-use gta_keep::Kept;
 use crate::machine::Machine;
 use bdd_nodes::Shelf;
 use bdd_walk::{NoMemory, Stop};
 use gta_core::Auto;
+use gta_keep::{Kept, conjoin, quantify};
 use gta_product::complement;
 use std::alloc::Global;
 use ws2s_core::{FormulaId, Guide, Interner, Track};

@@ -21,11 +21,7 @@ pub(crate) enum Task {
 }
 
 /// Puts first what a formula that is no atom needs: visits of its parts, and then what makes it of them.
-pub(crate) fn take_apart(
-    id: FormulaId,
-    node: Node,
-    tasks: &mut Stack<Task>,
-) -> Result<(), NoMemory>
+pub(crate) fn take_apart(id: FormulaId, node: Node, tasks: &mut Stack<Task>) -> Result<(), NoMemory>
     ensures { OnOk result (tasks.new ≡ tasks_for id node tasks.old) }
 {
     match node {
@@ -42,10 +38,7 @@ pub(crate) fn take_apart(
             tasks.push(Task::Quantify(t, id))?;
             tasks.push(Task::Visit(f))
         }
-        Node::Sub(_, _)
-        | Node::Single(_)
-        | Node::Succ0(_, _)
-        | Node::Succ1(_, _)
-        | Node::Root(_) => Ok(()),
+        Node::Sub(_, _) | Node::Single(_) | Node::Succ0(_, _) | Node::Succ1(_, _) | Node::Root(_) =>
+            Ok(()),
     }
 }

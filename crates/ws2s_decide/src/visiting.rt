@@ -10,12 +10,11 @@ ghost use Rattle.ws2s_decide.specs.declared.task.Task.TheVariants as task;
 ghost use Rattle.ws2s_decide.specs.Tasks.{IsCompound};
 ghost use Rattle.ws2s_decide.specs.Going.{moment, Rests, IsGoing, Advances, NeedsMore};
 
-use gta_keep::build_atom;
-use gta_keep::Kept;
 use crate::machine::Machine;
 use crate::task::take_apart;
 use bdd_nodes::Shelf;
 use bdd_walk::Stop;
+use gta_keep::{Kept, build_atom};
 use std::alloc::Global;
 use ws2s_core::{Formula, FormulaId, Guide, Interner, Node};
 

@@ -16,7 +16,7 @@ fn found_tree(tree: &LabelTree, weight: u64) -> Found {
     Found::Tree(weight, tree.nodes().len())
 }
 
-pub fn found(verdict: Verdict) -> Found {
+pub fn outcome_of(verdict: Verdict) -> Found {
     match verdict {
         Verdict::None => Found::Unsatisfiable,
         Verdict::Witness(tree, weight) => found_tree(&tree, weight),

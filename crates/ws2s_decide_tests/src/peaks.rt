@@ -1,6 +1,6 @@
 //! Conjunctions that fit in little room because what isn't needed any more is collected.
 
-use crate::found::{Found, found};
+use crate::found::{Found, outcome_of};
 use bdd_nodes::Shelf;
 use plain_data::Items;
 use std::alloc::{AllocError, Global};
@@ -29,7 +29,7 @@ fn in_fourteen_nodes(alloc: Global, f: &Formula) -> Result<Found, Fail> {
     let mut shelf = Shelf::open(alloc, 14)?;
     let none = Items::new(alloc);
     let verdict = decide(alloc, f, &g, &none, &mut shelf)?;
-    Ok(found(verdict))
+    Ok(outcome_of(verdict))
 }
 
 #[test]

@@ -1,6 +1,6 @@
 //! Formulas that have few parts, each of which stands in many places.
 
-use crate::found::{Found, found};
+use crate::found::{Found, outcome_of};
 use bdd_nodes::{RefList, Shelf, TableId};
 use plain_data::Items;
 use std::alloc::{AllocError, Global};
@@ -25,7 +25,7 @@ fn decided(alloc: Global, f: &Formula) -> Result<(Found, TableId), Fail> {
     let weigh = Items::from_slice(alloc, &[Track(0)])?;
     let verdict = decide(alloc, f, &g, &weigh, &mut shelf)?;
     let next = shelf.add_table(RefList::new(alloc))?;
-    Ok((found(verdict), next))
+    Ok((outcome_of(verdict), next))
 }
 
 /// The number of a table that is added after so many others.

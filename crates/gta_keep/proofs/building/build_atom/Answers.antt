@@ -9,9 +9,11 @@ make_room-requires c =
     let g = c.args.g.now in
     let was = c.args.shelf.now in
     let kept = c.args.kept.now in
-    let made = c.in-Err-Limit.ensures in
-    (g, HoldsBeside-after g was c.atom.new.shelf [] [] kept kept
-    (Passes-made g was c.atom.new.shelf kept c.requires.held.holds.is_shelf made.shelf made.kept made.err made.same_limit) c.requires.held)
+    let made = c.in-Err-Limit.ensures in (
+      g,
+      HoldsBeside-after g was c.atom.new.shelf [] [] kept kept
+          (Passes-made g was c.atom.new.shelf kept c.requires.held.holds.is_shelf made.shelf made.kept made.err made.same_limit) c.requires.held,
+    )
 
 pub returns-in-Err-Limit-clause-ok : goal.returns-in-Err-Limit-clause-ok
 returns-in-Err-Limit-clause-ok c =

@@ -1,10 +1,8 @@
-use Rattle.std.proofs.Common.{◌+◌, ◌<◌, IfOk, List, [], ◌∷◌, sym, ◌∙◌, arith}
-use Rattle.gta_core.specs.Auto.{AutoView}
+use Rattle.std.proofs.Common.{[], ◌∷◌, ◌∙◌, arith}
 use Rattle.ws2s_core.specs.declared.formula.Formula.TheVariants.{And}
-use Rattle.gta_keep.specs.Holding.{Passes, IsMinimalFor}
 use Rattle.gta_keep.proofs.PassesLemmas.{HoldsBeside-after}
 use Rattle.gta_keep.proofs.MadeLemmas.{IfOk-map}
-use Rattle.gta_keep.proofs.AnswerLemmas.{then-ok, then-err, then-limit, then-minimal, recognises-product, size-product}
+use Rattle.gta_keep.proofs.AnswerLemmas.{then-ok, then-err, then-limit, recognises-product, size-product}
 use Rattle.gta_keep.proofs.building.conjoin.Goals as goal
 
 pub returns-in_err-pairs-clause-limit : goal.returns-in_err-pairs-clause-limit

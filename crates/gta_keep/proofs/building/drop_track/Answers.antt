@@ -1,4 +1,4 @@
-use Rattle.std.proofs.Common.{List, [], ◌∷◌, refl, sym, subst, arith}
+use Rattle.std.proofs.Common.{[], ◌∷◌}
 use Rattle.gta_keep.proofs.MadeLemmas.{registered-one, passes-one, stays-one, made-ok, made-err}
 use Rattle.gta_keep.proofs.AnswerLemmas.{answer-subset-stays}
 use Rattle.gta_keep.proofs.building.drop_track.Goals as goal

@@ -1,4 +1,4 @@
-use Rattle.std.proofs.Common.{List, [], ◌∷◌}
+use Rattle.std.proofs.Common.{[], ◌∷◌}
 use Rattle.gta_keep.proofs.MadeLemmas.{registered-first, registered-second, passes-two, stays-two, made-ok, made-err}
 use Rattle.gta_keep.proofs.AnswerLemmas.{answer-product-stays}
 use Rattle.gta_keep.proofs.building.pair_up.Goals as goal

@@ -1,7 +1,5 @@
-use Rattle.std.proofs.Common.{◌+◌, ◌<◌, IfOk, List, [], ◌∷◌, sym, ◌∙◌, arith}
-use Rattle.gta_core.specs.Auto.{AutoView}
+use Rattle.std.proofs.Common.{[], ◌∷◌, ◌∙◌, arith}
 use Rattle.ws2s_core.specs.declared.formula.Formula.TheVariants.{Ex2}
-use Rattle.gta_keep.specs.Holding.{Passes, IsMinimalFor}
 use Rattle.gta_keep.proofs.PassesLemmas.{HoldsBeside-after}
 use Rattle.gta_keep.proofs.MadeLemmas.{IfOk-map}
 use Rattle.gta_keep.proofs.AnswerLemmas.{then-ok, then-err, then-limit, recognises-subset, size-subset}

@@ -16,7 +16,7 @@ loop-space-preserved c =
     let space = c.loop-space.space in
     let inside : space < length g = omega arith in
     let is : c.unwrap_or.result ≡ unwrap_or (slice_get g space) (0, 0) =
-        c.unwrap_or.ensures ∙ ap (λ (pair : Option (ℕ × ℕ)). unwrap_or pair (0, 0)) c.children.ensures.value in
+    c.unwrap_or.ensures ∙ ap (λ (pair : Option (ℕ × ℕ)). unwrap_or pair (0, 0)) c.children.ensures.value in
     c.in_ok-push.ensures.ok
     ∙ ap₂ (λ (xs : List (ℕ × ℕ)) (x : ℕ × ℕ). xs ++ x ∷ []) c.loop-space.invariant (is ∙ unwrap_or-slice_get g space (0, 0))
     ∙ sym (take_more g space (0, 0) inside)

@@ -27,8 +27,8 @@ unwrap-requires c =
     let formulas = c.args.interner.now in
     let f = c.requires.there.0 in
     let stands = IsGoing-first g formulas c.args.shelf.now c.args.id c.push.new.self c.new-2.result c.args.kept.now f
-        (c.in_ok-push.ensures.ok ∙ ap (λ (tasks : List Task). Task.Visit c.args.id ∷ tasks) c.new.ensures) c.new-2.ensures c.requires.there.1
-        c.requires.rests in
+    (c.in_ok-push.ensures.ok ∙ ap (λ (tasks : List Task). Task.Visit c.args.id ∷ tasks) c.new.ensures) c.new-2.ensures c.requires.there.1
+    c.requires.rests in
     let made = c.in-Ok.ensures.ok [] f stands in
     some-from _ _ c.pop.result c.pop.ensures (λ missing. not-alone c.run-ended.new.machine.automata made.auto made.alone missing.0)
 
@@ -38,8 +38,8 @@ returns-clause-ok c =
     let formulas = c.args.interner.now in
     let f = c.requires.there.0 in
     let stands = IsGoing-first g formulas c.args.shelf.now c.args.id c.push.new.self c.new-2.result c.args.kept.now f
-        (c.in_ok-push.ensures.ok ∙ ap (λ (tasks : List Task). Task.Visit c.args.id ∷ tasks) c.new.ensures) c.new-2.ensures c.requires.there.1
-        c.requires.rests in
+    (c.in_ok-push.ensures.ok ∙ ap (λ (tasks : List Task). Task.Visit c.args.id ∷ tasks) c.new.ensures) c.new-2.ensures c.requires.there.1
+    c.requires.rests in
     elim c.match-ended.branch [
       | in-Ok w ↦
           (let made = w.in-Ok.ensures.ok [] f stands in
@@ -56,8 +56,8 @@ returns-clause-minimal c =
           let g = c.args.g.now in
           let formulas = c.args.interner.now in
           let stands = IsGoing-first g formulas c.args.shelf.now c.args.id c.push.new.self c.new-2.result c.args.kept.now f
-              (c.in_ok-push.ensures.ok ∙ ap (λ (tasks : List Task). Task.Visit c.args.id ∷ tasks) c.new.ensures) c.new-2.ensures there
-              c.requires.rests in
+          (c.in_ok-push.ensures.ok ∙ ap (λ (tasks : List Task). Task.Visit c.args.id ∷ tasks) c.new.ensures) c.new-2.ensures there
+          c.requires.rests in
           let made = w.in-Ok.ensures.ok [] f stands in
           let same : made.auto ≡ w.unwrap.result = (let first = made.alone in let last = rw w.unwrap.ensures at w.pop.ensures in cc) in
           rw w.shelf-is (subst (λ (auto : AutoView). IsMinimalFor g c.run-ended.new.shelf auto f) same made.minimal))

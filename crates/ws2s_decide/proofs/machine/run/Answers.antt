@@ -17,9 +17,9 @@ pub loop-task-smaller : goal.loop-task-smaller
 loop-task-smaller c =
     let l = c.loop-task in
     let going = subst (λ (tasks : List Task). IsGoing c.args.g.now c.args.interner.now (moment l.shelf tasks l.machine.automata l.kept)) c.in-Some.ensures
-        (IsGoing-follows c.args.g.now c.args.interner.now
-        (moment c.args.shelf.now c.args.machine.now.tasks c.args.machine.now.automata c.args.kept.now)
-        (moment l.shelf l.machine.tasks l.machine.automata l.kept) l.invariant.follows c.requires.going) in
+    (IsGoing-follows c.args.g.now c.args.interner.now
+    (moment c.args.shelf.now c.args.machine.now.tasks c.args.machine.now.automata c.args.kept.now)
+    (moment l.shelf l.machine.tasks l.machine.automata l.kept) l.invariant.follows c.requires.going) in
     let on = c.in_ok-step.ensures.ok going.stack going.out going.stands in
     subst (λ (tasks : List Task). steps_left (steps_of c.args.interner.now c.step.new.machine.tasks) < steps_left (steps_of c.args.interner.now tasks))
     (sym c.in-Some.ensures) on.goes.fewer

@@ -28,7 +28,7 @@ returns-in_err-push-clause-rests c = λ g formulas f rests minimal there.
     let auto = rests.holds.each c.args.auto (Contains-first c.args.auto (autos ++ kept_autos c.args.kept.now)) in
     let takes = c.keep-keeping.ensures.takes g auto in
     let kept = Rests-taken g formulas c.args.shelf.now c.keep-keeping.new.shelf c.args.id c.args.auto (c.args.auto ∷ autos) c.args.kept.now
-        c.keep-keeping.new.self f takes there minimal rests in
+    c.keep-keeping.new.self f takes there minimal rests in
     subst (λ (xs : List AutoView). Rests g formulas c.push.new.shelf xs c.keep-keeping.new.self) (sym c.in_err-push.ensures.err)
     (Rests-release g formulas c.keep-keeping.new.shelf c.push.new.shelf c.args.auto autos c.keep-keeping.new.self kept
     c.in_err-push.ensures.shelf c.in_err-push.ensures.dropped)
@@ -47,6 +47,6 @@ returns-clause-rests c = λ g formulas f rests minimal there.
     let auto = rests.holds.each c.args.auto (Contains-first c.args.auto (autos ++ kept_autos c.args.kept.now)) in
     let takes = c.keep-keeping.ensures.takes g auto in
     let kept = Rests-taken g formulas c.args.shelf.now c.keep-keeping.new.shelf c.args.id c.args.auto (c.args.auto ∷ autos) c.args.kept.now
-        c.keep-keeping.new.self f takes there minimal rests in
+    c.keep-keeping.new.self f takes there minimal rests in
     subst (λ (xs : List AutoView). Rests g formulas c.push.new.shelf xs c.keep-keeping.new.self) (sym c.in_ok-push.ensures.ok)
     (subst (λ (now : Contents). Rests g formulas now (c.args.auto ∷ autos) c.keep-keeping.new.self) (sym c.in_ok-push.ensures.same) kept)

@@ -32,8 +32,7 @@ returns-in_err-auto-clause-limit c = λ stopped.
 pub come-requires : goal.come-requires
 come-requires c =
     let popped = rw c.unwrap-a.ensures at c.pop.ensures in
-    let rests = subst (λ (xs : List AutoView). Rests c.args.g.now c.args.interner.now c.args.shelf.now xs c.args.kept.now) popped c.requires.going.stands.rests in
-    (
+    let rests = subst (λ (xs : List AutoView). Rests c.args.g.now c.args.interner.now c.args.shelf.now xs c.args.kept.now) popped c.requires.going.stands.rests in (
       c.args.g.now,
       c.args.interner.now,
       Rests-made c.args.g.now c.args.interner.now c.args.shelf.now c.quantify.new.shelf (c.unwrap-a.result ∷ []) c.in_ok-auto.auto
@@ -47,9 +46,9 @@ returns-in_err-come-clause-err c =
     let going = c.requires.going in
     let popped = rw c.unwrap-a.ensures at c.pop.ensures in
     let stands = subst (λ (xs : List AutoView). Stands g formulas
-        (moment c.args.shelf.now (Task.Quantify c.args.t c.args.id ∷ c.args.machine.now.tasks) xs c.args.kept.now) going.stack going.out) popped going.stands in
+    (moment c.args.shelf.now (Task.Quantify c.args.t c.args.id ∷ c.args.machine.now.tasks) xs c.args.kept.now) going.stack going.out) popped going.stands in
     let made = Rests-made g formulas c.args.shelf.now c.quantify.new.shelf (c.unwrap-a.result ∷ []) c.in_ok-auto.auto
-        c.pop.new.self c.args.kept.now c.quantify.new.kept c.in_ok-auto.ensures.ok stands.rests.holds stands.rests.kept_for in
+    c.pop.new.self c.args.kept.now c.quantify.new.kept c.in_ok-auto.ensures.ok stands.rests.holds stands.rests.kept_for in
     on_err _ c.from_residual-in_err-come.result
     (c.come.ensures.rests g formulas (formula_at formulas c.args.id.0) made
     (minimal-quantified g formulas c.args.shelf.now c.quantify.new.shelf c.args.t c.args.id c.args.machine.now.tasks c.unwrap-a.result
@@ -63,13 +62,13 @@ returns-clause-ok c = λ stack out stood.
     let tasks = c.args.machine.now.tasks in
     let popped = rw c.unwrap-a.ensures at c.pop.ensures in
     let stands = subst (λ (xs : List AutoView). Stands g formulas
-        (moment c.args.shelf.now (Task.Quantify c.args.t c.args.id ∷ tasks) xs c.args.kept.now) stack out) popped stood in
+    (moment c.args.shelf.now (Task.Quantify c.args.t c.args.id ∷ tasks) xs c.args.kept.now) stack out) popped stood in
     let made = Rests-made g formulas c.args.shelf.now c.quantify.new.shelf (c.unwrap-a.result ∷ []) c.in_ok-auto.auto
-        c.pop.new.self c.args.kept.now c.quantify.new.kept c.in_ok-auto.ensures.ok stands.rests.holds stands.rests.kept_for in
+    c.pop.new.self c.args.kept.now c.quantify.new.kept c.in_ok-auto.ensures.ok stands.rests.holds stands.rests.kept_for in
     let came = c.come.ensures.rests g formulas (formula_at formulas c.args.id.0) made
-        (minimal-quantified g formulas c.args.shelf.now c.quantify.new.shelf c.args.t c.args.id tasks c.unwrap-a.result
-        c.in_ok-auto.auto c.pop.new.self c.args.kept.now c.in_ok-auto.ensures.minimal stack out stands)
-        (there-quantify formulas c.args.t c.args.id tasks stands.named) in
+    (minimal-quantified g formulas c.args.shelf.now c.quantify.new.shelf c.args.t c.args.id tasks c.unwrap-a.result
+    c.in_ok-auto.auto c.pop.new.self c.args.kept.now c.in_ok-auto.ensures.minimal stack out stands)
+    (there-quantify formulas c.args.t c.args.id tasks stands.named) in
     let rests = subst (λ (xs : List AutoView). Rests g formulas c.come.new.shelf xs c.come.new.kept) c.in_ok-come.ensures.ok came in
     subst (λ (xs : List AutoView). StandsOn g formulas (Task.Quantify c.args.t c.args.id ∷ tasks) stack
     (moment c.come.new.shelf c.come.new.machine.tasks xs c.come.new.kept) out) (sym c.in_ok-come.ensures.ok)

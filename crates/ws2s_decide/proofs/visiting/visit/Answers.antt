@@ -23,7 +23,7 @@ pub push-requires : goal.push-requires
 push-requires c =
     let passes = (rw c.in-Some.is at c.in_ok-copy.ensures.ok) c.args.g.now in
     let rests = Rests-come c.args.g.now c.args.interner.now c.args.shelf.now c.copy_of.new.shelf c.in-Some.copy c.args.machine.now.automata
-        c.args.kept.now c.copy_of.new.self passes c.requires.going.stands.rests in
+    c.args.kept.now c.copy_of.new.self passes c.requires.going.stands.rests in
     Holds-registered c.args.g.now c.copy_of.new.shelf (c.in-Some.copy ∷ (c.args.machine.now.automata ++ kept_autos c.copy_of.new.self)) rests.holds
     c.in-Some.copy (Contains-first c.in-Some.copy (c.args.machine.now.automata ++ kept_autos c.copy_of.new.self))
 
@@ -31,7 +31,7 @@ pub returns-in_err-push-in-Some-clause-err : goal.returns-in_err-push-in-Some-cl
 returns-in_err-push-in-Some-clause-err c =
     let passes = (rw c.in-Some.is at c.in_ok-copy.ensures.ok) c.args.g.now in
     let rests = Rests-come c.args.g.now c.args.interner.now c.args.shelf.now c.copy_of.new.shelf c.in-Some.copy c.args.machine.now.automata
-        c.args.kept.now c.copy_of.new.self passes c.requires.going.stands.rests in
+    c.args.kept.now c.copy_of.new.self passes c.requires.going.stands.rests in
     on_err _ c.from_residual-in_err-push-in-Some.result
     (subst (λ (xs : List AutoView). Rests c.args.g.now c.args.interner.now c.push.new.shelf xs c.copy_of.new.self) (sym c.in_err-push-in-Some.ensures.err)
     (Rests-release c.args.g.now c.args.interner.now c.copy_of.new.shelf c.push.new.shelf c.in-Some.copy c.args.machine.now.automata
@@ -86,8 +86,8 @@ pub returns-in-None-clause-limit : goal.returns-in-None-clause-limit
 returns-in-None-clause-limit c = λ stopped stack out n stands within.
     let passes = (rw c.in-None.is at c.in_ok-copy.ensures.ok) c.args.g.now in
     let less = c.visit_anew.ensures.limit stopped stack out n
-        (Stands-passed c.args.g.now c.args.interner.now c.args.shelf.now c.copy_of.new.shelf (Task.Visit c.args.id ∷ c.args.machine.now.tasks)
-        c.args.machine.now.automata c.args.kept.now c.copy_of.new.self passes stack out stands) within in
+    (Stands-passed c.args.g.now c.args.interner.now c.args.shelf.now c.copy_of.new.shelf (Task.Visit c.args.id ∷ c.args.machine.now.tasks)
+    c.args.machine.now.automata c.args.kept.now c.copy_of.new.self passes stack out stands) within in
     subst (λ (limit : ℕ). limit < n) passes.limit less
 
 pub returns-in-None-clause-same_limit : goal.returns-in-None-clause-same_limit

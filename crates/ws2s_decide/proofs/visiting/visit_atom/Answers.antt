@@ -29,14 +29,14 @@ returns-in_err-auto-clause-limit c = λ stopped.
 pub push-requires : goal.push-requires
 push-requires c =
     let rests = Rests-come c.args.g.now c.args.interner.now c.args.shelf.now c.build_atom.new.shelf c.in_ok-auto.auto c.args.machine.now.automata
-        c.args.kept.now c.build_atom.new.kept c.in_ok-auto.ensures.ok c.requires.going.stands.rests in
+    c.args.kept.now c.build_atom.new.kept c.in_ok-auto.ensures.ok c.requires.going.stands.rests in
     Holds-registered c.args.g.now c.build_atom.new.shelf (c.in_ok-auto.auto ∷ (c.args.machine.now.automata ++ kept_autos c.build_atom.new.kept))
     rests.holds c.in_ok-auto.auto (Contains-first c.in_ok-auto.auto (c.args.machine.now.automata ++ kept_autos c.build_atom.new.kept))
 
 pub returns-in_err-push-clause-err : goal.returns-in_err-push-clause-err
 returns-in_err-push-clause-err c =
     let rests = Rests-come c.args.g.now c.args.interner.now c.args.shelf.now c.build_atom.new.shelf c.in_ok-auto.auto c.args.machine.now.automata
-        c.args.kept.now c.build_atom.new.kept c.in_ok-auto.ensures.ok c.requires.going.stands.rests in
+    c.args.kept.now c.build_atom.new.kept c.in_ok-auto.ensures.ok c.requires.going.stands.rests in
     on_err _ c.from_residual-in_err-push.result
     (subst (λ (xs : List AutoView). Rests c.args.g.now c.args.interner.now c.push.new.shelf xs c.build_atom.new.kept) (sym c.in_err-push.ensures.err)
     (Rests-release c.args.g.now c.args.interner.now c.build_atom.new.shelf c.push.new.shelf c.in_ok-auto.auto c.args.machine.now.automata

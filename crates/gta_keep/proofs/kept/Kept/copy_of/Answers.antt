@@ -1,4 +1,4 @@
-use Rattle.std.proofs.Common.{◌≡◌, eqb, eqb-true, eq-eqb, Some, None, List, [], Bool, true, ap, refl, sym, subst}
+use Rattle.std.proofs.Common.{◌≡◌, eqb, eqb-true, eq-eqb, Some, None, Bool, true, ap, refl, subst}
 use Rattle.std.specs.Map.{lookup}
 use Rattle.lru.specs.LruCache.{LruCache, promoted}
 use Rattle.gta_core.specs.Auto.{AutoView}

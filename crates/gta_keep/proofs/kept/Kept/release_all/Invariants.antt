@@ -1,4 +1,4 @@
-use Rattle.std.proofs.Common.{List, [], length}
+use Rattle.std.proofs.Common.{[], length}
 use Rattle.gta_theory.specs.Guides.{Spaces}
 use Rattle.gta_keep.specs.Holding.{HoldsBeside, Passes}
 use Rattle.gta_keep.proofs.kept.Kept.release_all.Given as goal
