@@ -13,13 +13,16 @@ use Rattle.pale_io.specs.declared.stops.WriteStop.TheVariants.{Failed, NoMemory}
 use Rattle.pale_top.specs.declared.status.Status.{Status}
 use Rattle.pale_top.specs.declared.status.Status.TheVariants.{Good, Bad, Words, Text, Limit, Memory, ReadFault, WriteFault}
 use Rattle.pale_top.specs.declared.words.Mode.{Mode}
-use Rattle.pale_top.specs.declared.words.Mode.TheVariants.{Check, Format}
+use Rattle.pale_top.specs.declared.words.Mode.TheVariants.{Check, Format, Ws2s}
 use Rattle.pale_top.specs.declared.words.Settings.{Settings}
 use Rattle.pale_top.specs.Words.{Gives, IsRefused}
 use Rattle.pale_top.proofs.WrittenLemmas.{Wrote-weaker, WroteAtMost-weaker}
 use Rattle.pale_top.specs.Formatting.{Formats}
 use Rattle.pale_top.specs.Formatting as formatting
-use Rattle.pale_top.specs.Output.{Answers, Begins, CallOutput, Checks, too_long, not_yet, report, EndsBy, IsAnswer, IsCutShort, Output, check, format}
+use Rattle.pale_top.specs.Deciding.{Decides, Says}
+use Rattle.ws2s_syntax.specs.Checked.{Text as WsText}
+use Rattle.pale_top.specs.Deciding as deciding
+use Rattle.pale_top.specs.Output.{Answers, Begins, CallOutput, Checks, too_long, not_yet, report, EndsBy, IsAnswer, IsCutShort, Output, check, format, ws2s}
 use Rattle.pale_top.specs.Output.{given, Reports, Wrote, WroteAtMost, status_of}
 use Rattle.pale_top.specs.Report.{too_long_line}
 use Rattle.pale_top.specs.Texts.{most_bytes}
@@ -59,6 +62,7 @@ abbrev IsGiven : Status → Type 0
 IsGiven Good = Unit {0}
 IsGiven Bad = Unit {0}
 IsGiven Text = Unit {0}
+IsGiven Limit = Unit {0}
 IsGiven status = ⊥
 
 triple_given : (judged : BoolJudged) → IsGiven (status_of judged)
@@ -80,9 +84,22 @@ formatted_given text output status (formatting.stray refusal within stop) = tt
 formatted_given text output status (formatting.unparsed list refusal within lexed stop) = tt
 formatted_given text output status (formatting.program list tree within lexed parsed) = tt
 
+said_given : (limit : ℕ) (tree : WsText) (output : List ℕ) (status : Status) → Says limit tree output status → IsGiven status
+said_given limit tree output status (deciding.big big) = tt
+said_given limit tree output status (deciding.unsatisfiable small answer) = tt
+said_given limit tree output status (deciding.valid small answer) = tt
+said_given limit tree output status (deciding.satisfiable nodes lines small answer example) = tt
+said_given limit tree output status (deciding.above small answer) = tt
+
+decided_given : (limit : ℕ) (text output : List ℕ) (status : Status) → Decides limit text output status → IsGiven status
+decided_given limit text output status (deciding.too_long more) = tt
+decided_given limit text output status (deciding.refused refusal within is) = tt
+decided_given limit text output status (deciding.read tree o s within is says) = said_given limit tree o s says
+
 output_given : (settings : Settings) (text output : List ℕ) (status : Status) → Output settings text output status → IsGiven status
 output_given settings text output status (check is written answer checks) = checked_given text output status checks
 output_given settings text output status (format is written answer formats) = formatted_given text output status formats
+output_given settings text output status (ws2s is written answer decides) = decided_given settings.limit text output status decides
 
 -- such an output isn't cut short
 given_whole : (status : Status) → IsGiven status → IsCutShort status → ⊥
@@ -132,6 +149,7 @@ too_long_output settings text more = by_mode settings.mode refl
     by_mode : (mode : Mode) → settings.mode ≡ mode → Output settings text too_long_line Text
     by_mode Check is = check is too_long_line Text (too_long more)
     by_mode Format is = format is too_long_line Text (formatting.too_long more)
+    by_mode Ws2s is = ws2s is too_long_line Text (deciding.too_long more)
 
 -- ---- a call that says one line
 
@@ -172,13 +190,6 @@ module _ (words : List (List ℕ)) (settings : Settings) (gives : Gives words se
     told = begins.told;
     wrote = WroteAtMost-weaker (Output settings begins.text) (CallOutput words begins.text) (given settings gives) before after begins.wrote;
   }
-
--- no mode has an output with the status of the limit
-pub not_limit : (settings : Settings) (left before after : Option (List ℕ)) (status : Status)
-    → (IsAnswer status → Answers (Output settings) left before after status) → status ≡ Limit → ⊥
-not_limit settings left before after status answers is =
-    let answer = answers (subst IsAnswer (sym is) tt) in
-    subst IsGiven is (output_given settings answer.text answer.wrote.output status answer.wrote.allowed)
 
 -- words that give settings aren't refused
 pub not_refused : (words : List (List ℕ)) (settings : Settings) → Gives words settings → IsRefused words → ⊥

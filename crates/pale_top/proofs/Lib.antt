@@ -1,6 +1,7 @@
 mod ArgsLemmas
 mod CallLemmas
 mod CommandLemmas
+mod DecidingLemmas
 mod OutputLemmas
 mod ReadLemmas
 mod ReportLemmas

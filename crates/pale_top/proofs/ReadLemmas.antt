@@ -21,7 +21,7 @@ use Rattle.clap.specs.declared.parser.matches.ArgMatches.{ArgMatches}
 use Rattle.clap.proofs.CallerLemmas.{default_present, present_has_entry, required_present}
 use Rattle.clap.proofs.WalkLemmas.{first_value-rows, list_any-map, one_text-rows}
 use Rattle.pale_top.specs.declared.words.Mode.{Mode}
-use Rattle.pale_top.specs.declared.words.Mode.TheVariants.{Check, Format}
+use Rattle.pale_top.specs.declared.words.Mode.TheVariants.{Check, Format, Ws2s}
 use Rattle.pale_top.specs.Words.{HasMode, HasNumber, HasValues, IsModeParser, command_with, mode_name, mode_names}
 use Rattle.pale_top.proofs.ArgsLemmas.{globals, id_is, negates, plain, required, rules_of, some_arg, takes, three, wants_default}
 use Rattle.pale_top.proofs.ValueLemmas.{value_held}
@@ -41,13 +41,14 @@ entry_found (x ∷ xs) id has = go has.0 has.1 has.2 (bytes_eq x.0.now id) refl 
 
 -- a text that is among the names is a mode's
 named_mode : (t : Text) → list_any (λ name. same_text false name t) mode_names ≡ true → (mode : Mode) × (t ≡ mode_name mode)
-named_mode t among = go (bytes_eq (codes "check") t) (bytes_eq (codes "format") t) refl refl among
+named_mode t among = go (bytes_eq (codes "check") t) (bytes_eq (codes "format") t) (bytes_eq (codes "ws2s") t) refl refl refl among
   where
-    go : (check format : Bool) → bytes_eq (codes "check") t ≡ check → bytes_eq (codes "format") t ≡ format → (check || (format || false)) ≡ true
-        → (mode : Mode) × (t ≡ mode_name mode)
-    go true format same other some = (Check, sym ((bytes_eq-Decides (codes "check") t).0 same))
-    go false true other same some = (Format, sym ((bytes_eq-Decides (codes "format") t).0 same))
-    go false false one other some = absurd (true≢false (sym some))
+    go : (check format ws2s : Bool) → bytes_eq (codes "check") t ≡ check → bytes_eq (codes "format") t ≡ format → bytes_eq (codes "ws2s") t ≡ ws2s
+        → (check || (format || (ws2s || false))) ≡ true → (mode : Mode) × (t ≡ mode_name mode)
+    go true format ws2s same other third some = (Check, sym ((bytes_eq-Decides (codes "check") t).0 same))
+    go false true ws2s other same third some = (Format, sym ((bytes_eq-Decides (codes "format") t).0 same))
+    go false false true other another same some = (Ws2s, sym ((bytes_eq-Decides (codes "ws2s") t).0 same))
+    go false false false one other another some = absurd (true≢false (sym some))
 
 accepted_mode : (parser : ValueParser) → IsModeParser parser → (t : Text) → Accepts false parser t → (mode : Mode) × (t ≡ mode_name mode)
 accepted_mode parser is t accepted =
@@ -76,7 +77,7 @@ module _ (old : Command) (m : ArgMatches) (p : IsParsedFrom old m) (parser : Val
   -- an option of ours has a number in its range
   has_number : (k : ℕ) (id : Text) (low high : ℕ) → k < 3 → (slice_index_or (rules_of parser) k (rule_of d)).parser ≡ Some (Signed (pos low) (pos high))
       → (slice_index_or (rules_of parser) k (rule_of d)).id ≡ id → 0 < length (slice_index_or (rules_of parser) k (rule_of d)).defaults → high < 2 ^ 32
-      → HasNumber id (rows_of (found_of m))
+      → HasNumber low high id (rows_of (found_of m))
   has_number k id low high lt takes_numbers name some fits =
       let f = found_of m in
       let inside : k < length (args_of old) = omega (arith, three old parser is) in
@@ -85,7 +86,7 @@ module _ (old : Command) (m : ArgMatches) (p : IsParsedFrom old m) (parser : Val
       (takes old parser is k d (Signed (pos low) (pos high)) lt takes_numbers) (globals old parser is)
       (entry_found f.entries.items (slice_index_or (args_of old) k d).id.now entry) in
       let one = subst (λ (i : Text). one_text f i ≡ Some (without_minus held.0)) (id_is old parser is k d lt ∙ name) held.2 in
-      (low, high, held.0, fits, held.3, sym (one_text-rows f id) ∙ one)
+      (held.0, fits, held.3, sym (one_text-rows f id) ∙ one)
 
   pub has_values : HasValues (rows_of (found_of m))
   has_values = record {

@@ -1,5 +1,5 @@
 -- What two writes leave, one after the other.
-use Rattle.std.proofs.Common.{◌≡◌, ◌∙◌, ◌+◌, ◌<◌, ◌≤◌, ℕ, List, ◌++◌, length, take, refl, ap, sym, arith, Option, Some, None, append_assoc}
+use Rattle.std.proofs.Common.{◌≡◌, ◌∙◌, ◌+◌, ◌<◌, ◌≤◌, ℕ, List, ◌++◌, length, take, refl, ap, sym, subst, arith, Option, Some, None, append_assoc}
 use Rattle.std.proofs.Common.{length-append, Result, Ok, Err, inl, inr}
 use Rattle.std.specs.Prelude.{IfOk, OnErr}
 use Rattle.std.proofs.lemmas.List.{take-append-le}
@@ -85,3 +85,14 @@ module _ (A B : List ℕ → Status → Type 0) (follows : (output : List ℕ) (
   pub begun-weaker : (outcome : Result Status WriteStop) → OnErr outcome (WroteAtMost A before after) → OnErr outcome (WroteAtMost B before after)
   begun-weaker (Ok status) begun = tt
   begun-weaker (Err stop) begun = WroteAtMost-weaker begun
+
+-- what a line that is said leaves, where it is an allowed output
+module _ (Allowed : List ℕ → Status → Type 0) (before after : Option (List ℕ)) (line : List ℕ) (answer : Status) (allowed : Allowed line answer) where
+  pub said_whole : (outcome : Result Status WriteStop) → IfOk outcome (λ s. (s ≡ answer) × WritesAll before after line) →
+      IfOk outcome (Wrote Allowed before after)
+  said_whole (Ok status) said = subst (λ (s : Status). Wrote Allowed before after s) (sym said.0) (line_written Allowed before after line answer allowed said.1)
+  said_whole (Err stop) said = tt
+
+  pub said_begun : (outcome : Result Status WriteStop) → OnErr outcome (WritesFront before after line) → OnErr outcome (WroteAtMost Allowed before after)
+  said_begun (Ok status) begun = tt
+  said_begun (Err stop) begun = line_begun Allowed before after line answer allowed begun

@@ -1,3 +1,4 @@
+pub mod Deciding
 pub mod Formatting
 pub mod Output
 pub mod Report

@@ -1,6 +1,6 @@
 -- The command line of `pale`, as a command of `clap`, and what it gives for the words of a call.
 -- `clap`'s own definitions say what such a command reads: `fault_of` the kinds of error that a list of words has, and `matches_of` the values that it gives.
-use Rattle.std.specs.Prelude.{◌≡◌, ◌≢◌, ◌<◌, ◌^◌, ℕ, List, [], ◌∷◌, map, codes, Option, Some, pos, true, option_map}
+use Rattle.std.specs.Prelude.{◌≡◌, ◌≢◌, ◌<◌, ◌≤◌, ◌^◌, ℕ, List, [], ◌∷◌, map, codes, Option, Some, pos, true, option_map}
 use Rattle.std.specs.Borrow.{Bor}
 use Rattle.std.specs.Str.Parse.{digits_value, without_leading_plus}
 use Rattle.clap.specs.Words.{App, IsSignedIn, Rule, Row, Text, fault_of, first_of, matches_of, new_app, new_rule, one_of, with_rule, without_minus}
@@ -8,7 +8,7 @@ use Rattle.clap.specs.declared.builder.action.ArgAction.TheVariants.{Set}
 use Rattle.clap.specs.declared.builder.value_parser.ValueParser.{ValueParser}
 use Rattle.clap.specs.declared.builder.value_parser.ValueParser.TheVariants.{Names, Signed}
 use Rattle.pale_top.specs.declared.words.Mode.{Mode}
-use Rattle.pale_top.specs.declared.words.Mode.TheVariants.{Check, Format}
+use Rattle.pale_top.specs.declared.words.Mode.TheVariants.{Check, Format, Ws2s}
 use Rattle.pale_top.specs.declared.words.Settings.{Settings}
 
 -- ---- the command
@@ -17,10 +17,11 @@ use Rattle.pale_top.specs.declared.words.Settings.{Settings}
 abbrev pub mode_name : Mode → Text
 mode_name Check = codes "check"
 mode_name Format = codes "format"
+mode_name Ws2s = codes "ws2s"
 
 -- the names of all modes
 abbrev pub mode_names : List Text
-mode_names = mode_name Check ∷ mode_name Format ∷ []
+mode_names = mode_name Check ∷ mode_name Format ∷ mode_name Ws2s ∷ []
 
 -- a value that is lent; where it stands is of no account
 abbrev pub lent : {X : Type 0} → X → Bor X
@@ -83,20 +84,26 @@ number_of id rows = option_map (λ text. digits_value 10 (without_leading_plus t
 abbrev pub HasMode : List Row → Type 0
 HasMode rows = (mode : Mode) × (first_of (codes "mode") rows ≡ Some (mode_name mode))
 
-abbrev pub HasNumber : Text → List Row → Type 0
-HasNumber id rows = (low : ℕ) × (high : ℕ) × (text : Text) × (high < 2 ^ 32) × IsSignedIn (pos low) (pos high) text
+-- from `low` to `high`
+abbrev pub HasNumber : ℕ → ℕ → Text → List Row → Type 0
+HasNumber low high id rows = (text : Text) × (high < 2 ^ 32) × IsSignedIn (pos low) (pos high) text
     × (one_of id rows ≡ Some (without_minus text))
 
 pub record HasValues (rows : List Row) : Type 0 where
   pub mode : HasMode rows
-  pub limit : HasNumber (codes "limit") rows
-  pub seed : HasNumber (codes "seed") rows
+  pub limit : HasNumber 1 16000000 (codes "limit") rows
+  pub seed : HasNumber 0 1000000 (codes "seed") rows
 
--- the values are the mode and the numbers of the settings
+-- a number of nodes that a shelf may have
+abbrev pub IsLimit : ℕ → Type 0
+IsLimit limit = (1 ≤ limit) × (limit ≤ 16000000)
+
+-- the values are the mode and the numbers of the settings, and the limit is one that the option takes
 pub record HasSettings (rows : List Row) (settings : Settings) : Type 0 where
   pub mode : first_of (codes "mode") rows ≡ Some (mode_name settings.mode)
   pub limit : number_of (codes "limit") rows ≡ Some settings.limit
   pub seed : number_of (codes "seed") rows ≡ Some settings.seed
+  pub in_range : IsLimit settings.limit
 
 -- the command takes the words, and gives these settings for them
 pub record Gives (words : List Text) (settings : Settings) : Type 0 where

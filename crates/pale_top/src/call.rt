@@ -7,9 +7,10 @@ ghost use Rattle.pale_io.specs.Whole.{ReadsFront};
 ghost use Rattle.pale_top.specs.Output.{Answers, Begins, IsAnswer, IsCutShort, CallOutput, Output, Wrote, WroteAtMost};
 ghost use Rattle.pale_top.specs.Report.{too_long_line, usage_line};
 ghost use Rattle.pale_top.specs.Texts.{most_bytes};
-ghost use Rattle.pale_top.specs.Words.{IsRefused};
+ghost use Rattle.pale_top.specs.Words.{IsLimit, IsRefused};
 
 use crate::check::check_text;
+use crate::decide::decide_text;
 use crate::format::format_text;
 use crate::writing::{ended, say};
 use crate::{Mode, Settings, Status, WordsStop, read_words};
@@ -26,7 +27,8 @@ fn answer_text<K: Sink>(
     text: &[u8],
     sink: &mut K,
 ) -> Result<Status, WriteStop>
-    requires { length text.now ≤ most_bytes }
+    requires within { length text.now ≤ most_bytes }
+    requires limit { IsLimit settings.limit }
     ensures ok { IfOk result (Wrote (Output settings text.now) (K.written sink.old) (K.written sink.new)) }
     ensures err { OnErr result (WroteAtMost (Output settings text.now) (K.written sink.old) (K.written sink.new)) }
     ensures failed { IsErrOf result WriteStop.Failed → Rose (K.faults sink.old) (K.faults sink.new) }
@@ -35,6 +37,7 @@ fn answer_text<K: Sink>(
     match settings.mode {
         Mode::Check => check_text(alloc, text, sink),
         Mode::Format => format_text(alloc, text, sink),
+        Mode::Ws2s => decide_text(alloc, settings.limit, text, sink),
     }
 }
 
@@ -45,6 +48,7 @@ fn answer<S: Source, K: Sink>(
     source: &mut S,
     sink: &mut K,
 ) -> Status
+    requires { IsLimit settings.limit }
     ensures answer { IsAnswer result → Answers (Output settings) (S.left source.old) (K.written sink.old) (K.written sink.new) result }
     ensures begins { IsCutShort result → Begins (Output settings) (S.left source.old) (K.written sink.old) (K.written sink.new) }
 
@@ -69,7 +73,7 @@ fn answer<S: Source, K: Sink>(
 ///
 /// The words are read first. Where they are refused, the usage line is written, and the source is not read.
 /// `Memory` is want of memory, `ReadFault` a fault of the source, after which nothing was written, and `WriteFault` a
-/// fault of the sink. `Limit` doesn't come.
+/// fault of the sink. `Limit` comes in the mode `ws2s` alone.
 pub fn pale_main<S: Source, K: Sink>(
     alloc: Global,
     words: &Vec<String>,
@@ -82,7 +86,6 @@ pub fn pale_main<S: Source, K: Sink>(
     // At want of memory and at a fault of the sink, it begins such an output.
     ensures begins { IsCutShort result → Begins (CallOutput (map string_bytes words.now.items))
         (S.left source.old) (K.written sink.old) (K.written sink.new) }
-    ensures limit { result ≢ Status.Limit }
 
     // The causes of the two faults.
     ensures read_fault { result ≡ Status.ReadFault → Rose (S.faults source.old) (S.faults source.new) }

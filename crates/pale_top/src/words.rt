@@ -1,5 +1,5 @@
 //! The words of a call: one mode and two numbers, read by `clap`.
-ghost use Rattle.std.specs.Prelude.{◌≡◌, false, pos, ◌≢◌, IfOk, IfNone, IfSome, IsErrOf, IfErr, map, codes, option_map, Some};
+ghost use Rattle.std.specs.Prelude.{◌≡◌, ◌≤◌, ℕ, false, pos, ◌≢◌, IfOk, IfNone, IfSome, IsErrOf, IfErr, map, codes, option_map, Some};
 ghost use Rattle.std.specs.String.{string_bytes};
 ghost use Rattle.clap.specs.Words.{app_of, first_of, rule_of, found_of, kind_of, rows_of};
 
@@ -15,6 +15,8 @@ pub enum Mode {
     Check,
     /// Writes a program in its canonical spelling.
     Format,
+    /// Answers a WS2S text.
+    Ws2s,
 }
 
 /// What the words of a call ask for.
@@ -50,7 +52,7 @@ ghost use Rattle.clap.specs.declared.builder.value_parser.ValueParser.TheVariant
 ghost use Rattle.pale_top.specs.Words.{Gives, HasMode, HasNumber, HasSettings, HasValues, number_of, mode_rule, number_rule, IsRefused, IsModeParser};
 ghost use Rattle.pale_top.specs.Words.{mode_name, command_with};
 
-static MODE_NAMES: [&str; 2] = ["check", "format"];
+static MODE_NAMES: [&str; 3] = ["check", "format", "ws2s"];
 
 impl Mode {
     /// The mode of this name.
@@ -61,6 +63,7 @@ impl Mode {
         match name {
             "check" => Some(Mode::Check),
             "format" => Some(Mode::Format),
+            "ws2s" => Some(Mode::Ws2s),
             _ => None,
         }
     }
@@ -135,8 +138,9 @@ fn mode_in(matches: &ArgMatches<'_>) -> Mode
 }
 
 fn number_in(matches: &ArgMatches<'_>, id: &str) -> u32
-    requires { HasNumber id.now (rows_of (found_of matches.now)) }
-    ensures { number_of id.now (rows_of (found_of matches.now)) ≡ Some result }
+    requires { (low : ℕ) × (high : ℕ) × HasNumber low high id.now (rows_of (found_of matches.now)) }
+    ensures value { number_of id.now (rows_of (found_of matches.now)) ≡ Some result }
+    ensures range { (low high : ℕ) → HasNumber low high id.now (rows_of (found_of matches.now)) → (low ≤ result) × (result ≤ high) }
 {
     matches.get_one::<u32>(id).unwrap()
 }

@@ -1,5 +1,6 @@
 use Rattle.pale_top.specs.Formatting.{Formats}
-use Rattle.pale_top.specs.Output.{Checks, Output, check, format}
+use Rattle.pale_top.specs.Output.{Checks, Output, check, format, ws2s}
+use Rattle.pale_top.specs.Deciding.{Decides}
 use Rattle.pale_top.proofs.WrittenLemmas.{begun-weaker, whole-weaker}
 use Rattle.pale_top.proofs.call.answer_text.Goals as goal
 
@@ -22,3 +23,13 @@ pub returns-in-Format-clause-err : goal.returns-in-Format-clause-err
 returns-in-Format-clause-err g c =
     begun-weaker (Formats c.args.text.now) (Output c.args.settings c.args.text.now) (format c.in-Format.is)
     (g.K.Sink.written c.args.sink.now) (g.K.Sink.written c.format_text.new.sink) c.format_text.result c.format_text.ensures.err
+
+pub returns-in-Ws2s-clause-ok : goal.returns-in-Ws2s-clause-ok
+returns-in-Ws2s-clause-ok g c =
+    whole-weaker (Decides c.args.settings.limit c.args.text.now) (Output c.args.settings c.args.text.now) (ws2s c.in-Ws2s.is)
+    (g.K.Sink.written c.args.sink.now) (g.K.Sink.written c.decide_text.new.sink) c.decide_text.result c.decide_text.ensures.ok
+
+pub returns-in-Ws2s-clause-err : goal.returns-in-Ws2s-clause-err
+returns-in-Ws2s-clause-err g c =
+    begun-weaker (Decides c.args.settings.limit c.args.text.now) (Output c.args.settings c.args.text.now) (ws2s c.in-Ws2s.is)
+    (g.K.Sink.written c.args.sink.now) (g.K.Sink.written c.decide_text.new.sink) c.decide_text.result c.decide_text.ensures.err

@@ -3,7 +3,7 @@ use Rattle.std.specs.String.{string_bytes}
 use Rattle.pale_top.specs.declared.status.Status.TheVariants.{Words}
 use Rattle.pale_top.specs.Output.{CallOutput, refused}
 use Rattle.pale_top.specs.Report.{usage_line}
-use Rattle.pale_top.proofs.CallLemmas.{call_answers, call_begins, line_answers, line_begins, not_limit, not_refused, some_text}
+use Rattle.pale_top.proofs.CallLemmas.{call_answers, call_begins, line_answers, line_begins, not_refused, some_text}
 use Rattle.pale_top.proofs.call.pale_main.Goals as goal
 
 pub returns-in-Ok-clause-answer : goal.returns-in-Ok-clause-answer
@@ -17,11 +17,6 @@ returns-in-Ok-clause-begins g c cut =
     call_begins (map string_bytes c.args.words.now.items) c.in-Ok.settings c.in-Ok.ensures.ok (g.S.Source.left c.args.source.now)
     (g.K.Sink.written c.args.sink.now)
     (g.K.Sink.written c.answer.new.sink) (c.answer.ensures.begins cut)
-
-pub returns-in-Ok-clause-limit : goal.returns-in-Ok-clause-limit
-returns-in-Ok-clause-limit g c =
-    not_limit c.in-Ok.settings (g.S.Source.left c.args.source.now) (g.K.Sink.written c.args.sink.now) (g.K.Sink.written c.answer.new.sink)
-    c.answer.result c.answer.ensures.answer
 
 pub returns-in-Ok-clause-unread : goal.returns-in-Ok-clause-unread
 returns-in-Ok-clause-unread g c refuses = absurd (not_refused (map string_bytes c.args.words.now.items) c.in-Ok.settings c.in-Ok.ensures.ok refuses)

@@ -1,0 +1,66 @@
+-- From verdicts on a text's two formulas to the answer.
+use Rattle.std.proofs.Common.{◌≡◌, ◌≢◌, ℕ, zero, suc, ◌+◌, ◌<◌, ◌≤◌, ◌==◌, max, Bool, true, false, cond, List, [], ◌∷◌, length, Some, None, IsSome, refl, sym, ap, subst, ◌∙◌, arith, ne_eqb}
+use mathlib.Core.Bool.{true≢false}
+use Rattle.bdd_nodes.specs.Shelf.{empty_shelf}
+use Rattle.gta_keep.specs.Holding.{HasNoTables}
+use Rattle.gta_theory.specs.Assignments.{Assignment, Covers}
+use Rattle.gta_theory.specs.Weights.{weight}
+use Rattle.gta_witness.specs.Lightest.{each_once, is_among}
+use Rattle.ws2s_core.specs.declared.formula.Formula.{Formula}
+use Rattle.ws2s_core.specs.declared.track.Track.{Track}
+use Rattle.ws2s_core.specs.declared.label_tree.TreeNode.{TreeNode}
+use Rattle.ws2s_core.specs.LabelTrees.{assignment_of}
+use Rattle.ws2s_core.proofs.LabelTreesLemmas.{Covers-tree}
+use Rattle.ws2s_theory.specs.Peaks.{HasPeak}
+use Rattle.ws2s_syntax.specs.Checked.{Text}
+use Rattle.ws2s_reduce.specs.Answer.{MeansText, MeansBroken, free_from}
+use Rattle.ws2s_reduce.specs.Reducing.{holds_of, breaks_of}
+use Rattle.ws2s_decide.specs.Deciding as deciding
+use Rattle.ws2s_answer.specs.Answering.{IsModel, numbers_from, total_size, IsUnsatisfiable, IsValid, IsLeastModel, IsExample, IsPeakAbove, plain}
+
+pub unsatisfiable : (text : Text) (f : Formula) → MeansText text f → deciding.IsUnsatisfiable f → IsUnsatisfiable text
+unsatisfiable text f means none n a covers model = none n a covers ((means a).1 (model.free, model.gives, model.satisfies))
+
+pub valid : (text : Text) (f : Formula) → MeansBroken text f → deciding.IsUnsatisfiable f → IsValid text
+valid text f means none n a free covers gives = λ not. none n a covers ((means a).1 (free, gives, not))
+
+not_among : (n k t : ℕ) → t < n → is_among (free_from n k) t ≡ false
+not_among n zero t less = refl
+not_among n (suc k) t less =
+    ap (λ b. cond b true (is_among (free_from (suc n) k) t)) (ne_eqb n t (λ e. omega (arith, less, e))) ∙ not_among (suc n) k t (omega (arith, less))
+
+each_once-free : (n k : ℕ) → each_once (free_from n k) ≡ numbers_from n k
+each_once-free n zero = refl
+each_once-free n (suc k) =
+    ap (λ b. cond b (each_once (free_from (suc n) k)) (n ∷ each_once (free_from (suc n) k))) (not_among (suc n) k n (omega arith))
+    ∙ ap (λ ts. n ∷ ts) (each_once-free (suc n) k)
+
+pub least_model : (text : Text) (f : Formula) (tracks : List Track) (nodes : List TreeNode) (w : ℕ) → MeansText text f →
+    tracks ≡ free_from 0 (length text.free) → deciding.IsLightestModel tracks f nodes w → IsLeastModel text nodes
+least_model text f tracks nodes w means free lightest =
+    let counted : each_once tracks ≡ numbers_from 0 (length text.free) = ap each_once free ∙ each_once-free 0 (length text.free) in
+    let model = (means (assignment_of nodes)).0 lightest.satisfies in
+    let weighs : total_size text (length nodes) (assignment_of nodes) ≡ w =
+        ap (λ ts. weight ts (length nodes) (assignment_of nodes)) (sym counted) ∙ lightest.weighs in
+    record {
+      model = record { free = model.0; gives = model.1; satisfies = model.2 };
+      least = λ n a covers other.
+          let less = lightest.least n a covers ((means a).1 (other.free, other.gives, other.satisfies)) in
+          let size : weight (each_once tracks) n a ≡ total_size text n a = ap (λ ts. weight ts n a) counted in
+          omega (arith, less, size, weighs);
+    }
+
+pub not_valid : (text : Text) (f : Formula) (tracks : List Track) (nodes : List TreeNode) (w : ℕ) → MeansBroken text f →
+    deciding.IsLightestModel tracks f nodes w → IsValid text → ⊥
+not_valid text f tracks nodes w means lightest is_valid =
+    let broken = (means (assignment_of nodes)).0 lightest.satisfies in
+    is_valid (length nodes) (assignment_of nodes) broken.0 (Covers-tree nodes) broken.1 broken.2
+
+pub above_holds : (limit : ℕ) (text : Text) → ((p : ℕ) → HasPeak plain (holds_of text) p → limit < p) → IsPeakAbove limit text
+above_holds limit text above p q holds breaks = omega (arith, above p holds)
+
+pub above_breaks : (limit : ℕ) (text : Text) → ((q : ℕ) → HasPeak plain (breaks_of text) q → limit < q) → IsPeakAbove limit text
+above_breaks limit text above p q holds breaks = omega (arith, above q breaks)
+
+pub HasNoTables-empty : (limit : ℕ) → HasNoTables (empty_shelf limit)
+HasNoTables-empty limit table there = true≢false (sym there)

@@ -1,0 +1,4 @@
+pub mod HangingLemmas
+pub mod LinesLemmas
+pub mod ListLemmas
+pub mod TextsLemmas
