@@ -70,4 +70,4 @@ pub HaveOnePosition-example : (limit : ℕ) (text : Text) (given : Answer) (node
     HaveOnePosition text.free (assignment_of nodes)
 HaveOnePosition-example limit text given nodes same is_true =
     let example : IsExample text nodes = subst (IsAnswer limit text) same is_true in
-    HaveOnePosition-given text (assignment_of nodes) (example.model).free (example.model).gives
+    HaveOnePosition-given text (assignment_of nodes) ((example.least).model).free ((example.least).model).gives

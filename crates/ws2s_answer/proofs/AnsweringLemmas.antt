@@ -1,5 +1,5 @@
 -- From verdicts on a text's two formulas to the answer.
-use Rattle.std.proofs.Common.{◌≡◌, ◌≢◌, ℕ, zero, suc, ◌+◌, ◌<◌, ◌≤◌, ◌==◌, max, Bool, true, false, cond, List, [], ◌∷◌, length, Some, None, IsSome, refl, sym, ap, subst, ◌∙◌, arith, ne_eqb}
+use Rattle.std.proofs.Common.{◌≡◌, ◌≢◌, ℕ, zero, suc, ◌+◌, ◌<◌, ◌≤◌, ◌==◌, max, ◌||◌, Bool, true, false, cond, List, [], ◌∷◌, length, Some, None, IsSome, refl, sym, ap, subst, ◌∙◌, arith, ne_eqb}
 use mathlib.Core.Bool.{true≢false}
 use Rattle.bdd_nodes.specs.Shelf.{empty_shelf}
 use Rattle.gta_keep.specs.Holding.{HasNoTables}
@@ -27,7 +27,7 @@ valid text f means none n a free covers gives = λ not. none n a covers ((means 
 not_among : (n k t : ℕ) → t < n → is_among (free_from n k) t ≡ false
 not_among n zero t less = refl
 not_among n (suc k) t less =
-    ap (λ b. cond b true (is_among (free_from (suc n) k) t)) (ne_eqb n t (λ e. omega (arith, less, e))) ∙ not_among (suc n) k t (omega (arith, less))
+    ap (λ b. b || is_among (free_from (suc n) k) t) (ne_eqb n t (λ e. omega (arith, less, e))) ∙ not_among (suc n) k t (omega (arith, less))
 
 each_once-free : (n k : ℕ) → each_once (free_from n k) ≡ numbers_from n k
 each_once-free n zero = refl
