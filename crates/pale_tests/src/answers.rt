@@ -18,12 +18,7 @@ static TEXTS: &[(&str, &str, &str, u8)] = &[
         0,
     ),
     // The example has the fewest positions in all.
-    (
-        "",
-        "ws2s; var2 X; empty(X);",
-        "satisfiable\nX = {}\n",
-        0,
-    ),
+    ("", "ws2s; var2 X; empty(X);", "satisfiable\nX = {}\n", 0),
     (
         "",
         "ws2s; var2 X; root.1 in X & root.0.1 in X & root in X;",
@@ -62,24 +57,17 @@ static TEXTS: &[(&str, &str, &str, u8)] = &[
     ("", "", "refused 1:1 syntax\n", 3),
     ("", "ws2s; %", "refused 1:7 char\n", 3),
     ("", "ws2s; p in X;", "refused 1:7 unknown\n", 3),
-    (
-        "",
-        "ws2s; var1 p, p;",
-        "refused 1:15 duplicate\n",
-        3,
-    ),
-    (
-        "",
-        "ws2s; var2 X; X in X;",
-        "refused 1:15 kind\n",
-        3,
-    ),
+    ("", "ws2s; var1 p, p;", "refused 1:15 duplicate\n", 3),
+    ("", "ws2s; var2 X; X in X;", "refused 1:15 kind\n", 3),
 ];
 
 #[test]
 fn texts_have_their_answers(rt: HostRuntime) -> Result<(), Fail> {
     for (words, text, want, status) in TEXTS {
-        assert!(rt; answers(rt.alloc(), words, text.as_bytes(), want.as_bytes(), *status)?, "{text}");
+        assert!(rt;
+            answers(rt.alloc(), words, text.as_bytes(), want.as_bytes(), *status)?,
+            "{text}"
+        );
     }
     Ok(())
 }

@@ -1,6 +1,6 @@
 -- What is said of a WS2S text. (The answers are those of MONA: Klarlund and Møller, MONA Version 1.4 User Manual; what decides them:
 -- Thatcher and Wright 1968.)
-use Rattle.std.specs.Prelude.{◌≡◌, ℕ, zero, suc, ◌<◌, ◌≤◌, max, List, [], ◌∷◌, length}
+use Rattle.std.specs.Prelude.{ℕ, zero, suc, ◌<◌, ◌≤◌, max, List, [], ◌∷◌, length}
 use Rattle.gta_theory.specs.Assignments.{Assignment, Covers}
 use Rattle.gta_theory.specs.Guides.{Spaces}
 use Rattle.gta_theory.specs.Weights.{weight}
