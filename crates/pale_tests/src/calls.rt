@@ -13,13 +13,11 @@ pub fn words_of(alloc: Global, line: &str) -> Result<Vec<String>, AllocError> {
     Ok(words)
 }
 
-/// What `pale MODE` writes for a text, and its status.
-fn called(alloc: Global, mode: &str, text: &[u8]) -> Result<(Vec<u8>, u8), AllocError> {
-    let mut words = words_of(alloc, "pale")?;
-    words.push(String::from_str(alloc, mode)?)?;
+/// What the program writes for words and a text, and its status.
+fn called(alloc: Global, words: &Vec<String>, text: &[u8]) -> Result<(Vec<u8>, u8), AllocError> {
     let mut source = CleanSource::new(Vec::from_slice(alloc, text)?);
     let mut sink = CleanSink::new(alloc);
-    let status = pale_main(alloc, &words, &mut source, &mut sink);
+    let status = pale_main(alloc, words, &mut source, &mut sink);
     Ok((Vec::from_slice(alloc, sink.written())?, status.number()))
 }
 
@@ -31,7 +29,23 @@ pub fn writes(
     want: &[u8],
     number: u8,
 ) -> Result<bool, AllocError> {
-    let (written, status) = called(alloc, mode, text)?;
+    let mut words = words_of(alloc, "pale")?;
+    words.push(String::from_str(alloc, mode)?)?;
+    let (written, status) = called(alloc, &words, text)?;
+    Ok(written.as_slice() == want && status == number)
+}
+
+/// Whether `pale ws2s`, with these words behind it, writes this for a text, with this status.
+pub fn answers(
+    alloc: Global,
+    more: &str,
+    text: &[u8],
+    want: &[u8],
+    number: u8,
+) -> Result<bool, AllocError> {
+    let mut words = words_of(alloc, "pale ws2s")?;
+    words.append(&mut words_of(alloc, more)?)?;
+    let (written, status) = called(alloc, &words, text)?;
     Ok(written.as_slice() == want && status == number)
 }
 

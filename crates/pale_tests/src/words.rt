@@ -27,6 +27,7 @@ fn words_give_their_settings_or_are_refused(rt: HostRuntime) -> Result<(), Fail>
         ("pale", refused),
         ("pale check", given(Mode::Check, 2_000_000, 0)),
         ("--help check", given(Mode::Check, 2_000_000, 0)),
+        ("pale ws2s --limit 58", given(Mode::Ws2s, 58, 0)),
         ("pale check extra", refused),
         ("pale check check", refused),
         ("pale CHECK", refused),

@@ -1,5 +1,6 @@
 -- On answers to WS2S texts.
-use Rattle.std.proofs.Common.{◌≡◌, ◌∙◌, ℕ, zero, suc, ◌+◌, Bool, true, false, List, [], ◌∷◌, ◌++◌, codes, map, slice_get, Some, cond, refl, sym, ap, subst, arith}
+use Rattle.std.proofs.Common.{◌≡◌, ◌∙◌, ℕ, zero, suc, ◌+◌, Bool, false, List, [], ◌∷◌, ◌++◌, codes, map, slice_get, Some, cond, sym, ap}
+use Rattle.std.proofs.Common.{subst, arith}
 use Rattle.gta_theory.specs.Assignments.{Position, Assignment, IsOnly}
 use Rattle.ws2s_syntax.specs.declared.declaration.Class.{Class}
 use Rattle.ws2s_syntax.specs.declared.declaration.Free.{Free}
@@ -60,7 +61,8 @@ module _ (limit : ℕ) (text : Text) (given : Answer) (is_true : IsAnswer limit 
   pub says_above : given ≡ answer.Limit → (line : List ℕ) → line ≡ codes "limit\n" → Says limit text line (status_of given)
   says_above same line is = says answer.Limit same line (λ holds. subst (λ l. Says limit text l Limit) (sym is) (above small holds))
 
-  pub says_satisfiable : (nodes : List TreeNode) → given ≡ answer.Example nodes → (report lines : List ℕ) → IsExampleText text.free (assignment_of nodes) lines →
+  pub says_satisfiable : (nodes : List TreeNode) → given ≡ answer.Example nodes → (report lines : List ℕ) →
+      IsExampleText text.free (assignment_of nodes) lines →
       report ≡ codes "satisfiable\n" ++ lines → Says limit text report (status_of given)
   says_satisfiable nodes same report lines example is = says (answer.Example nodes) same report
       (λ holds. subst (λ l. Says limit text l Good) (sym is) (satisfiable nodes lines small holds example))
@@ -70,4 +72,4 @@ pub HaveOnePosition-example : (limit : ℕ) (text : Text) (given : Answer) (node
     HaveOnePosition text.free (assignment_of nodes)
 HaveOnePosition-example limit text given nodes same is_true =
     let example : IsExample text nodes = subst (IsAnswer limit text) same is_true in
-    HaveOnePosition-given text (assignment_of nodes) (example.model).free (example.model).gives
+    HaveOnePosition-given text (assignment_of nodes) ((example.least).model).free ((example.least).model).gives

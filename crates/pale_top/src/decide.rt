@@ -30,7 +30,11 @@ fn line(alloc: Global, bytes: &[u8]) -> Result<Vec<u8>, AllocError>
 }
 
 /// What is written of a text that is satisfiable, with the example.
-fn example_report(alloc: Global, text: &Ws2sText, example: &LabelTree) -> Result<Vec<u8>, AllocError>
+fn example_report(
+    alloc: Global,
+    text: &Ws2sText,
+    example: &LabelTree,
+) -> Result<Vec<u8>, AllocError>
     requires { HaveOnePosition text.now.free (assignment_of example.now) }
     ensures { IfOk result (λ report. (lines : List ℕ) × IsExampleText text.now.free (assignment_of example.now) lines
         × (report.items ≡ codes "satisfiable\n" ++ lines)) }

@@ -1,9 +1,9 @@
 -- From verdicts on a text's two formulas to the answer.
-use Rattle.std.proofs.Common.{◌≡◌, ◌≢◌, ℕ, zero, suc, ◌+◌, ◌<◌, ◌≤◌, ◌==◌, max, Bool, true, false, cond, List, [], ◌∷◌, length, Some, None, IsSome, refl, sym, ap, subst, ◌∙◌, arith, ne_eqb}
+use Rattle.std.proofs.Common.{◌≡◌, ℕ, zero, suc, ◌<◌, ◌||◌, false, cond, List, ◌∷◌, length}
+use Rattle.std.proofs.Common.{refl, sym, ap, ◌∙◌, arith, ne_eqb}
 use mathlib.Core.Bool.{true≢false}
 use Rattle.bdd_nodes.specs.Shelf.{empty_shelf}
 use Rattle.gta_keep.specs.Holding.{HasNoTables}
-use Rattle.gta_theory.specs.Assignments.{Assignment, Covers}
 use Rattle.gta_theory.specs.Weights.{weight}
 use Rattle.gta_witness.specs.Lightest.{each_once, is_among}
 use Rattle.ws2s_core.specs.declared.formula.Formula.{Formula}
@@ -16,7 +16,7 @@ use Rattle.ws2s_syntax.specs.Checked.{Text}
 use Rattle.ws2s_reduce.specs.Answer.{MeansText, MeansBroken, free_from}
 use Rattle.ws2s_reduce.specs.Reducing.{holds_of, breaks_of}
 use Rattle.ws2s_decide.specs.Deciding as deciding
-use Rattle.ws2s_answer.specs.Answering.{IsModel, numbers_from, total_size, IsUnsatisfiable, IsValid, IsLeastModel, IsExample, IsPeakAbove, plain}
+use Rattle.ws2s_answer.specs.Answering.{numbers_from, total_size, IsUnsatisfiable, IsValid, IsLeastModel, IsPeakAbove, plain}
 
 pub unsatisfiable : (text : Text) (f : Formula) → MeansText text f → deciding.IsUnsatisfiable f → IsUnsatisfiable text
 unsatisfiable text f means none n a covers model = none n a covers ((means a).1 (model.free, model.gives, model.satisfies))
@@ -27,7 +27,7 @@ valid text f means none n a free covers gives = λ not. none n a covers ((means 
 not_among : (n k t : ℕ) → t < n → is_among (free_from n k) t ≡ false
 not_among n zero t less = refl
 not_among n (suc k) t less =
-    ap (λ b. cond b true (is_among (free_from (suc n) k) t)) (ne_eqb n t (λ e. omega (arith, less, e))) ∙ not_among (suc n) k t (omega (arith, less))
+    ap (λ b. b || is_among (free_from (suc n) k) t) (ne_eqb n t (λ e. omega (arith, less, e))) ∙ not_among (suc n) k t (omega (arith, less))
 
 each_once-free : (n k : ℕ) → each_once (free_from n k) ≡ numbers_from n k
 each_once-free n zero = refl
@@ -41,7 +41,7 @@ least_model text f tracks nodes w means free lightest =
     let counted : each_once tracks ≡ numbers_from 0 (length text.free) = ap each_once free ∙ each_once-free 0 (length text.free) in
     let model = (means (assignment_of nodes)).0 lightest.satisfies in
     let weighs : total_size text (length nodes) (assignment_of nodes) ≡ w =
-        ap (λ ts. weight ts (length nodes) (assignment_of nodes)) (sym counted) ∙ lightest.weighs in
+    ap (λ ts. weight ts (length nodes) (assignment_of nodes)) (sym counted) ∙ lightest.weighs in
     record {
       model = record { free = model.0; gives = model.1; satisfies = model.2 };
       least = λ n a covers other.

@@ -1,6 +1,6 @@
 -- What is said of a WS2S text. (The answers are those of MONA: Klarlund and Møller, MONA Version 1.4 User Manual; what decides them:
 -- Thatcher and Wright 1968.)
-use Rattle.std.specs.Prelude.{◌≡◌, ℕ, zero, suc, ◌<◌, ◌≤◌, max, List, [], ◌∷◌, length}
+use Rattle.std.specs.Prelude.{ℕ, zero, suc, ◌<◌, ◌≤◌, max, List, [], ◌∷◌, length}
 use Rattle.gta_theory.specs.Assignments.{Assignment, Covers}
 use Rattle.gta_theory.specs.Guides.{Spaces}
 use Rattle.gta_theory.specs.Weights.{weight}
@@ -35,10 +35,14 @@ IsUnsatisfiable text = (n : ℕ) (a : Assignment) → Covers n a → IsModel tex
 abbrev pub IsValid : Text → Type 0
 IsValid text = (n : ℕ) (a : Assignment) (free : List Value) → Covers n a → Gives a text free → Classically (Satisfies text free)
 
--- the tree is a model, no other has a smaller total size, and the text isn't valid
-pub record IsExample (text : Text) (nodes : List TreeNode) : Type 0 where
+-- the tree is a model, and no other has a smaller total size
+pub record IsLeastModel (text : Text) (nodes : List TreeNode) : Type 0 where
   pub model : IsModel text (assignment_of nodes)
   pub least : (n : ℕ) (a : Assignment) → Covers n a → IsModel text a → total_size text (length nodes) (assignment_of nodes) ≤ total_size text n a
+
+-- the tree is a least model of a text that isn't valid
+pub record IsExample (text : Text) (nodes : List TreeNode) : Type 0 where
+  pub least : IsLeastModel text nodes
   pub not_valid : IsValid text → ⊥
 
 -- the guide with one space

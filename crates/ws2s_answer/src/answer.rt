@@ -1,13 +1,18 @@
 //! The answer to a text.
 
 ghost use Rattle.std.specs.Prelude.{◌≡◌, ◌≤◌, IfOk, IfErr};
+ghost use Rattle.bdd_nodes.specs.Shelf.{limit_of};
+ghost use Rattle.ws2s_decide.specs.Deciding.{guide_of, HasKept};
+ghost use Rattle.ws2s_reduce.specs.Answer.{IsReduced, MeansText, MeansBroken};
 ghost use Rattle.ws2s_reduce.specs.Reducing.{holds_of, breaks_of};
 ghost use Rattle.ws2s_reduce.specs.Sizes.{IsSmall};
-ghost use Rattle.ws2s_answer.specs.Answering.{IsAnswer};
+ghost use Rattle.ws2s_answer.specs.Answering.{IsAnswer, IsLeastModel, plain};
 
-use std::alloc::Global;
-use ws2s_core::LabelTree;
-use ws2s_reduce::ReduceFault;
+use bdd_nodes::Shelf;
+use std::alloc::{AllocError, Global};
+use ws2s_core::{Formula, Guide, LabelTree, TrackList};
+use ws2s_decide::{Decider, Verdict};
+use ws2s_reduce::{ReduceFault, Reduced, reduce};
 use ws2s_syntax::Ws2sText;
 
 /// What is said of a text.
@@ -23,6 +28,56 @@ pub enum Answer {
     Limit,
 }
 
+/// The answer where the example is a least model of the text.
+fn answer_with(
+    alloc: Global,
+    text: &Ws2sText,
+    example: LabelTree,
+    breaks: &Formula,
+    decider: &mut Decider,
+    shelf: &mut Shelf,
+) -> Result<Answer, AllocError>
+    requires least { IsLeastModel text.now example }
+    requires means { MeansBroken text.now breaks.now }
+    requires breaks { breaks.now ≡ breaks_of text.now }
+    requires kept { HasKept shelf.old decider.old }
+    requires guide { guide_of decider.old ≡ plain }
+    ensures value { IfOk result (IsAnswer (limit_of shelf.old) text.now) }
+    ensures kept { HasKept shelf.new decider.new }
+{
+    let none = TrackList::new(alloc);
+    match decider.decide(alloc, breaks, &none, shelf)? {
+        Verdict::None => Ok(Answer::Valid),
+        Verdict::Witness(_, _) => Ok(Answer::Example(example)),
+        Verdict::Limit => Ok(Answer::Limit),
+    }
+}
+
+/// The answer by the two formulas of a text.
+fn answer_by(
+    alloc: Global,
+    text: &Ws2sText,
+    reduced: &Reduced,
+    decider: &mut Decider,
+    shelf: &mut Shelf,
+) -> Result<Answer, AllocError>
+    requires reduced { IsReduced text.now reduced.now }
+    requires holds { MeansText text.now reduced.now.holds }
+    requires breaks { MeansBroken text.now reduced.now.breaks }
+    requires kept { HasKept shelf.old decider.old }
+    requires guide { guide_of decider.old ≡ plain }
+    ensures value { IfOk result (IsAnswer (limit_of shelf.old) text.now) }
+    ensures kept { HasKept shelf.new decider.new }
+{
+    match decider.decide(alloc, &reduced.holds, &reduced.free, shelf)? {
+        Verdict::None => Ok(Answer::Unsatisfiable),
+        Verdict::Witness(example, _) => {
+            answer_with(alloc, text, example, &reduced.breaks, decider, shelf)
+        }
+        Verdict::Limit => Ok(Answer::Limit),
+    }
+}
+
 /// The answer to a text, by decision nodes of which there are at most `limit` at a time.
 ///
 /// # Errors
@@ -36,5 +91,11 @@ pub fn answer_of(alloc: Global, text: &Ws2sText, limit: u32) -> Result<Answer, R
     ensures big { IfErr result (λ fault. fault ≡ ReduceFault.BigFormula →
         (IsSmall (holds_of text.now) × IsSmall (breaks_of text.now)) → ⊥) }
 {
-    Err(ReduceFault::NoMemory)
+    let reduced = reduce(alloc, text)?;
+    let mut shelf = Shelf::open(alloc, limit)?;
+    let guide = Guide::plain(alloc)?;
+    let mut decider = Decider::new(alloc, guide)?;
+    let answer = answer_by(alloc, text, &reduced, &mut decider, &mut shelf);
+    decider.close(&mut shelf);
+    Ok(answer?)
 }

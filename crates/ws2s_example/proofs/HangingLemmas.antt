@@ -1,11 +1,12 @@
 -- On where the nodes of a tree hang: each has one parent and one position, and what the tree has at positions.
-use Rattle.std.proofs.Common.{◌≡◌, ◌≢◌, ◌⊎◌, ℕ, zero, suc, ◌+◌, ◌*◌, ◌-◌, ◌<◌, ◌≤◌, Bool, true, false, IsTrue, cond, eqb, List, [], ◌∷◌, ◌++◌, length, reverse}
-use Rattle.std.proofs.Common.{replicate, slice_get, slice_set, Option, Some, None, IfSome, refl, sym, ap, subst, ◌∙◌, inl, inr, arith, eq-eqb, ne_eqb, append_assoc, append-nil}
+use Rattle.std.proofs.Common.{◌≡◌, ℕ, zero, suc, ◌+◌, ◌*◌, ◌-◌, ◌<◌, ◌≤◌, Bool, true, false, IsTrue, cond, List, [], ◌∷◌, ◌++◌, length}
+use Rattle.std.proofs.Common.{replicate, slice_get, slice_set, Option, Some, None, IfSome, refl, sym, ap, subst, ◌∙◌, inl, inr, arith, ne_eqb}
+use Rattle.std.proofs.Common.{append_assoc, append-nil}
 use mathlib.Core.Bool.{true≢false}
 use Rattle.std.proofs.lemmas.Bool.{cases_lt, cases_eq, lt-ltb}
 use Rattle.std.proofs.lemmas.List.{length-set, length-replicate}
 use Rattle.std.proofs.lemmas.Option.{slice_get_within}
-use Rattle.gta_theory.specs.Assignments.{Position, Assignment}
+use Rattle.gta_theory.specs.Assignments.{Position}
 use Rattle.ws2s_core.specs.declared.label_tree.TreeNode.{TreeNode}
 use Rattle.ws2s_core.specs.LabelTrees.{IsTree, times_named, assignment_of}
 use Rattle.ws2s_theory.specs.Trees.{assignment_at, child_at, label_of, StandsAt, at_root, at_left, at_right}
@@ -95,19 +96,24 @@ module _ (nodes : List TreeNode) (tree : IsTree nodes) where
 
   one-before : (a b k : ℕ) (x y : Bool) → a < b → HasChild nodes a x k → HasChild nodes b y k → ⊥
   one-before a b k x y less has other =
-      omega (arith, named-two nodes a b k has.node other.node less has.there other.there, named-by x has.node k has.is_child,
-      named-by y other.node k other.is_child, named-once a k x has)
+      omega (
+        arith,
+        named-two nodes a b k has.node other.node less has.there other.there,
+        named-by x has.node k has.is_child,
+        named-by y other.node k other.is_child,
+        named-once a k x has,
+      )
 
   -- a node is the child of one node, on one side
   pub one-parent : (a b k : ℕ) (x y : Bool) → HasChild nodes a x k → HasChild nodes b y k → (a ≡ b) × (x ≡ y)
   one-parent a b k x y has other = elim (cases_lt a b) as (λ _. (a ≡ b) × (x ≡ y)) [
-      inl less ↦ absurd (one-before a b k x y less has other)
+    | inl less ↦ absurd (one-before a b k x y less has other)
     | inr le ↦ elim (cases_lt b a) as (λ _. (a ≡ b) × (x ≡ y)) [
-          inl less ↦ absurd (one-before b a k y x less other has)
-        | inr ge ↦
-            let same : b ≡ a = omega arith in
-            (sym same, same-side a k x y has (subst (λ (n : ℕ). HasChild nodes n y k) same other))
-      ]
+      | inl less ↦ absurd (one-before b a k y x less other has)
+      | inr ge ↦
+          let same : b ≡ a = omega arith in
+          (sym same, same-side a k x y has (subst (λ (n : ℕ). HasChild nodes n y k) same other))
+    ]
   ]
 
   pub stands-child : (a k : ℕ) (x : Bool) (q : Position) → HasChild nodes a x k → StandsAt nodes a q → StandsAt nodes k (q ++ x ∷ [])
@@ -147,7 +153,7 @@ module _ (nodes : List TreeNode) (tree : IsTree nodes) where
   -- a node that is nobody's child is the root
   pub root-without_parent : (k : ℕ) → k < length nodes → ((a : ℕ) (x : Bool) → HasChild nodes a x k → ⊥) → suc k ≡ length nodes
   root-without_parent k inside none = elim (cases_lt (k + 1) (length nodes)) as (λ _. suc k ≡ length nodes) [
-      inl less ↦ absurd (omega (arith, tree.once k less, named-never nodes k none))
+    | inl less ↦ absurd (omega (arith, tree.once k less, named-never nodes k none))
     | inr le ↦ omega arith
   ]
 
@@ -200,7 +206,7 @@ so_far-more nodes tree seen parent x node hangings there is so_far = pick (child
     kept : (child : ℕ) (hanging : Option Hanging) → (child_by x node ≡ Some child → ⊥) → IsHangingSoFar nodes seen child hanging →
         IsHangingSoFar nodes (suc seen) child hanging
     kept child None other before = λ p y less has. elim (cases_lt (2 * p + bit y) seen) as (λ _. ⊥) [
-        inl earlier ↦ before p y earlier has
+      | inl earlier ↦ before p y earlier has
       | inr late ↦
           let same = half-step p parent y x (omega (arith, less, late, is)) in
           let is_node : has.node ≡ node = some (sym has.there ∙ ap (slice_get nodes) same.0 ∙ there) in
@@ -217,13 +223,13 @@ so_far-more nodes tree seen parent x node hangings there is so_far = pick (child
         let has = found j at in
         let inside : j < length hangings = omega (arith, child-before nodes tree parent j x has, parent-inside nodes tree parent j x has, so_far.long) in
         let is_set : hung (Some j) here hangings ≡ slice_set hangings j (Some here) =
-            ap (λ (b : Bool). cond b (slice_set hangings j (Some here)) hangings) (lt-ltb j (length hangings) inside) in
+        ap (λ (b : Bool). cond b (slice_set hangings j (Some here)) hangings) (lt-ltb j (length hangings) inside) in
         subst (HangingsSoFar nodes (suc seen)) (sym is_set) (record {
           long = length-set hangings j (Some here) ∙ so_far.long;
           each = λ child hanging on. elim (cases_eq child j) as (λ _. IsHangingSoFar nodes (suc seen) child hanging) [
-              inl same ↦
+            | inl same ↦
                 let is_here : Some here ≡ hanging =
-                    some (sym (get-set hangings j (Some here) inside) ∙ ap (slice_get (slice_set hangings j (Some here))) (sym same) ∙ on) in
+                some (sym (get-set hangings j (Some here) inside) ∙ ap (slice_get (slice_set hangings j (Some here))) (sym same) ∙ on) in
                 subst (IsHangingSoFar nodes (suc seen) child) is_here (subst (HasChild nodes parent x) (sym same) has)
             | inr other ↦ kept child hanging (λ named. other (some (sym named ∙ at)))
                 (so_far.each child hanging (sym (get-set_other hangings j child (Some here) other) ∙ on))
@@ -300,7 +306,7 @@ module _ (nodes : List TreeNode) (tree : IsTree nodes) (t : ℕ) where
   -- a position that the tree has on the track is that of a node with the track
   pub has_bit : (p : Position) → IsTrue (assignment_of nodes t p) → HasBit nodes t p
   has_bit p bit = elim (cases_lt 0 (length nodes)) as (λ _. HasBit nodes t p) [
-      inl some ↦
+    | inl some ↦
         let last : suc (length nodes - 1) ≡ length nodes = omega arith in
         has_bit-at (length nodes - 1) [] p (omega arith) (at_root (length nodes - 1) last) bit
     | inr none ↦ absurd (empty nodes (omega arith) bit)

@@ -1,8 +1,6 @@
 -- On the lines of an example.
-use Rattle.std.proofs.Common.{◌≡◌, ℕ, zero, suc, ◌+◌, Bool, true, false, IsTrue, cond, List, [], ◌∷◌, ◌++◌, length, Contains, codes, slice_get, Some}
+use Rattle.std.proofs.Common.{◌≡◌, ℕ, suc, ◌+◌, Bool, true, false, cond, List, [], ◌∷◌, ◌++◌, length, Contains, codes}
 use Rattle.std.proofs.Common.{refl, sym, ap, subst, ◌∙◌, arith, append_assoc, append-nil}
-use mathlib.Core.Bool.{true≢false}
-use Rattle.std.specs.List.{flat_map}
 use Rattle.std.specs.List.Sorted.{IsStrictlySortedBy}
 use Rattle.std.specs.Ordering.{nat_cmp, ordering_reverse}
 use Rattle.std.specs.Cmp.Lexicographic.{slice_cmp, nat_list_cmp_total}
@@ -11,7 +9,7 @@ use Rattle.std.specs.declared.cmp.Ordering.TheVariants.{Less, Equal, Greater}
 use Rattle.gta_theory.specs.Assignments.{Position, PositionSet, Assignment, IsOnly}
 use Rattle.gta_theory.proofs.ListsLemmas.{Contains-first, Contains-later, Contains-none}
 use Rattle.ws2s_syntax.specs.declared.declaration.Free.{Free}
-use Rattle.ws2s_example.specs.Examples.{position_text, AreTextsOf, listed_text, others_text, value_text, IsValueText, one, many, line_of, AreLines, none, more}
+use Rattle.ws2s_example.specs.Examples.{position_text, AreTextsOf, listed_text, value_text, IsValueText, one, many, line_of, AreLines, none, more}
 
 -- no text is below itself
 not_below : (o : Ordering) → o ≡ ordering_reverse o → o ≡ Less → ⊥
@@ -36,16 +34,16 @@ IsValueText-texts variable set texts are one_position = pick variable.set refl
     pick : (is_set : Bool) → variable.set ≡ is_set → IsValueText variable set (value_text variable texts)
     pick true is =
         let shows : codes "{" ++ listed_text texts ++ codes "}" ≡ value_text variable texts =
-            ap (λ (b : Bool). cond b (codes "{" ++ listed_text texts ++ codes "}") (listed_text texts)) (sym is) in
+        ap (λ (b : Bool). cond b (codes "{" ++ listed_text texts ++ codes "}") (listed_text texts)) (sym is) in
         subst (IsValueText variable set) shows (many texts is are)
     pick false is =
         let u = one_position is in
         let only : (other : List ℕ) → Contains texts other → other ≡ position_text u.0 =
-            λ other h. let has = (are.each other).0 h in has.2 ∙ ap position_text ((u.1 has.0).0 has.1) in
+        λ other h. let has = (are.each other).0 h in has.2 ∙ ap position_text ((u.1 has.0).0 has.1) in
         let there = (are.each (position_text u.0)).1 (u.0, (u.1 u.0).1 refl, refl) in
         let shows : position_text u.0 ≡ value_text variable texts =
-            sym (one-text texts (position_text u.0) are.ascend only there)
-            ∙ ap (λ (b : Bool). cond b (codes "{" ++ listed_text texts ++ codes "}") (listed_text texts)) (sym is) in
+        sym (one-text texts (position_text u.0) are.ascend only there)
+        ∙ ap (λ (b : Bool). cond b (codes "{" ++ listed_text texts ++ codes "}") (listed_text texts)) (sym is) in
         subst (IsValueText variable set) shows (one u.0 is u.1)
 
 -- a line more

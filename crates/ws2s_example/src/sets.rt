@@ -114,7 +114,14 @@ pub fn sets_of(
     let mut sets = empty_sets(alloc, count)?;
     for (place, node) in nodes.iter().enumerate() {
         let tracks = node.tracks.as_slice();
-        note_node(alloc, &mut sets, nodes, hangings.as_slice(), place as u32, tracks)?;
+        note_node(
+            alloc,
+            &mut sets,
+            nodes,
+            hangings.as_slice(),
+            place as u32,
+            tracks,
+        )?;
     }
     Ok(sets)
 }

@@ -1,8 +1,7 @@
-use Rattle.std.proofs.Common.{List, ℕ, rules, subst, sym, ◌∙◌}
+use Rattle.std.proofs.Common.{List, ℕ, subst, sym, ◌∙◌}
 use Rattle.ws2s_read.specs.TextReading.{IsReadStop}
 use Rattle.pale_top.specs.declared.status.Status.TheVariants.{Text}
 use Rattle.pale_top.specs.Deciding.{Says, Decides, read, refused}
-use Rattle.pale_top.specs.Report.{refused_line}
 use Rattle.pale_top.proofs.WrittenLemmas.{said_whole, said_begun, whole-weaker, begun-weaker}
 use Rattle.pale_top.proofs.decide.decide_text.Goals as goal
 

@@ -20,7 +20,7 @@ module _ {E : Type 0} (Gives : List ℕ → Result ℕ E → Type 0) (parses : (
 pub unwrap-requires : goal.unwrap-requires
 unwrap-requires c =
     let got = read_in (λ bs r. ParsesUnsigned 32 10 bs r × ExplainsUnsignedError 10 bs r × HasUnsignedDigitsIfOk bs r) (λ u x reads. reads.0)
-        c.args.matches.now c.args.id.now c.get_one.result c.get_one.ensures.value c.requires.0 c.requires.1 c.requires.2 in
+    c.args.matches.now c.args.id.now c.get_one.result c.get_one.ensures.value c.requires.0 c.requires.1 c.requires.2 in
     subst (λ (o : Option ℕ). IsSome o) (sym got.1) refl
 
 pub returns-clause-value : goal.returns-clause-value
@@ -35,6 +35,6 @@ returns-clause-value c =
 pub returns-clause-range : goal.returns-clause-range
 returns-clause-range c low high given =
     let got = read_in (λ bs r. ParsesUnsigned 32 10 bs r × ExplainsUnsignedError 10 bs r × HasUnsignedDigitsIfOk bs r) (λ u x reads. reads.0)
-        c.args.matches.now c.args.id.now c.get_one.result c.get_one.ensures.value low high given in
+    c.args.matches.now c.args.id.now c.get_one.result c.get_one.ensures.value low high given in
     let same : got.0 ≡ c.unwrap.result = cc (sym got.1 ∙ c.unwrap.ensures) in
     subst (λ n. (low ≤ n) × (n ≤ high)) same (got.2, got.3)

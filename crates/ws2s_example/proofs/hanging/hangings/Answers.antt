@@ -1,6 +1,6 @@
 use Rattle.std.proofs.Common.{◌≡◌, ◌*◌, suc, arith, subst, sym, slice_get, Some, true, false}
 use Rattle.ws2s_example.proofs.ListLemmas.{at-place}
-use Rattle.ws2s_example.proofs.HangingLemmas.{HangingsSoFar, so_far-start, so_far-more, so_far-end}
+use Rattle.ws2s_example.proofs.HangingLemmas.{HangingsSoFar, so_far-more, so_far-end}
 use Rattle.ws2s_example.proofs.hanging.hangings.Goals as goal
 
 pub loop-place-preserved : goal.loop-place-preserved

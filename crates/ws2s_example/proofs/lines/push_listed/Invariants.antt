@@ -1,5 +1,4 @@
-use Rattle.std.proofs.Common.{◌≡◌, ◌++◌, codes, map, if◌then◌else◌}
-use Rattle.std.specs.List.{flat_map}
+use Rattle.std.proofs.Common.{◌≡◌, ◌++◌, map, if◌then◌else◌}
 use Rattle.ws2s_example.specs.Examples.{listed_text, others_text}
 use Rattle.ws2s_example.specs.Texts.{texts_of}
 use Rattle.ws2s_example.proofs.lines.push_listed.Given as goal
