@@ -6,4 +6,6 @@ mod chains;
 #[cfg(test)]
 mod made;
 #[cfg(test)]
+mod sized;
+#[cfg(test)]
 mod uses;
