@@ -1,17 +1,18 @@
 -- Scopes as they are kept.
-use Rattle.std.proofs.Common.{◌≡◌, ℕ, ◌-◌, List, length, Option, Some, None, refl, sym, ap, ◌∙◌, slice_get, position}
+use Rattle.std.proofs.Common.{◌≡◌, ℕ, zero, suc, ◌-◌, Bool, true, false, cond, List, [], ◌∷◌, length, Option, Some, None, refl, sym, ap, ◌∙◌, slice_get, position}
 use Rattle.std.specs.Option.{option_map, option_and_then}
-use Rattle.std.specs.Map.{keys_of}
+use Rattle.std.specs.Map.{keys_of, values_of}
 use Rattle.std.specs.Str.{bytes_eq}
 use Rattle.std.specs.declared.vec.Vec.{Vec}
 use Rattle.std.specs.declared.alloc.Global.{Global}
 use Rattle.std.proofs.lemmas.Option.{slice_get-map}
 use Rattle.std.proofs.lemmas.List.{length-map}
 use Rattle.store_core.specs.Tables.{place_of}
-use Rattle.store_core.proofs.Names.{position-keys}
+use Rattle.store_core.proofs.Names.{position-keys, position-cons, position_none-cons}
 use Rattle.pale_terms.specs.declared.scope.Visible.{Visible}
 use Rattle.pale_terms.specs.Visibles.{Entry, entry_of, entries_of}
-use Rattle.pale_terms.specs.Scopes.{visible_names, sight_of}
+use Rattle.pale_terms.specs.Scopes.{visible_names, sight_of, allowed, with_may}
+use Rattle.indexmap.specs.Layout.{set_value_at}
 
 -- the place of a name among the keys
 pub place-kept : (name : List ℕ) (es : List (Vec ℕ Global × Visible)) →
@@ -36,3 +37,43 @@ sight-kept name es place key v found at =
     ap (option_and_then (sighted (entries_of es))) (sym (place-kept name es) ∙ found)
     ∙ ap (option_map (λ (e : Entry). (e.visible, length (entries_of es) - 1 - place))) (slice_get-map entry_of es place ∙ ap (option_map entry_of) at)
     ∙ ap (λ n. Some (v, n - 1 - place)) (length-map es entry_of)
+
+some-inj : {X : Type 0} {x y : X} → Some x ≡ Some y → x ≡ y
+some-inj e = cc
+
+no-suc : (r : Option ℕ) → option_map suc r ≡ Some 0 → ⊥
+no-suc None e = absurd (cc)
+no-suc (Some k) e = absurd (cc)
+
+suc-inj : (r : Option ℕ) (place : ℕ) → option_map suc r ≡ Some (suc place) → r ≡ Some place
+suc-inj None place e = absurd (cc)
+suc-inj (Some k) place e = cc
+
+-- a name that isn't visible changes nothing
+pub allowed-missing : (name : List ℕ) (may : Bool) (scope : List Entry) → place_of name (visible_names scope) ≡ None →
+    allowed name may scope ≡ scope
+allowed-missing name may [] none = refl
+allowed-missing name may (e ∷ scope) none =
+    let split = position_none-cons (bytes_eq name) e.name (visible_names scope) none in
+    ap (λ b. cond b (with_may may e ∷ scope) (e ∷ allowed name may scope)) split.0 ∙ ap (λ s. e ∷ s) (allowed-missing name may scope split.1)
+
+-- a visible name has its value written
+pub allowed-written : (name : List ℕ) (may : Bool) (es : List (Vec ℕ Global × Visible)) (place : ℕ) (v : Visible) →
+    place_of name (visible_names (entries_of es)) ≡ Some place → slice_get (values_of es) place ≡ Some v →
+    entries_of (set_value_at es place (record v { may = may })) ≡ allowed name may (entries_of es)
+allowed-written name may [] place v found at = absurd (cc)
+allowed-written name may (e ∷ es) place v found at =
+    by (bytes_eq name e.0.items) refl place (sym (position-cons (bytes_eq name) e.0.items (visible_names (entries_of es))) ∙ found) at
+  where
+    by : (b : Bool) → bytes_eq name e.0.items ≡ b → (place : ℕ) →
+        cond b (Some 0) (option_map suc (place_of name (visible_names (entries_of es)))) ≡ Some place →
+        slice_get (values_of (e ∷ es)) place ≡ Some v →
+        entries_of (set_value_at (e ∷ es) place (record v { may = may })) ≡ allowed name may (entries_of (e ∷ es))
+    by true is zero found at =
+        ap (λ w. record { name = e.0.items; visible = record w { may = may } } ∷ entries_of es) (sym (some-inj at))
+        ∙ sym (ap (λ b. cond b (with_may may (entry_of e) ∷ entries_of es) (entry_of e ∷ allowed name may (entries_of es))) is)
+    by true is (suc place) found at = absurd (cc)
+    by false is zero found at = absurd (no-suc (place_of name (visible_names (entries_of es))) found)
+    by false is (suc place) found at =
+        ap (λ s. entry_of e ∷ s) (allowed-written name may es place v (suc-inj (place_of name (visible_names (entries_of es))) place found) at)
+        ∙ sym (ap (λ b. cond b (with_may may (entry_of e) ∷ entries_of es) (entry_of e ∷ allowed name may (entries_of es))) is)

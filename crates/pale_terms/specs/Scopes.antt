@@ -1,5 +1,6 @@
 -- Scopes: what each name stands for at a place in an assertion or a condition, and whether the place may name it.
-use Rattle.std.specs.Prelude.{ℕ, ◌-◌, ◌&&◌, Bool, false, not, List, map, length, slice_get, Option, option_map, is_some, unwrap_or}
+use Rattle.std.specs.Prelude.{ℕ, ◌-◌, ◌&&◌, Bool, false, not, List, [], ◌∷◌, map, length, slice_get, Option, option_map, is_some, unwrap_or, if◌then◌else◌}
+use Rattle.std.specs.Str.{bytes_eq}
 use Rattle.std.specs.Option.{option_and_then}
 use Rattle.pale_text.specs.declared.refusal.RefusalKind.TheVariants as kind
 use Rattle.pale_syntax.specs.declared.tree.names.Name.{Name}
@@ -49,6 +50,16 @@ may_begin_path m = m.may && not (is_set m.sort)
 -- it may stand where a set does
 abbrev pub may_be_set : Meaning → Bool
 may_be_set m = m.may && is_set m.sort
+
+-- ---- what a place may name
+
+abbrev pub with_may : Bool → Entry → Entry
+with_may may e = record e { visible = record e.visible { may = may } }
+
+-- the scope where what is visible under the name has this permission
+abbrev pub allowed : List ℕ → Bool → List Entry → List Entry
+allowed name may [] = []
+allowed name may (e ∷ scope) = if bytes_eq name e.name then with_may may e ∷ scope else e ∷ allowed name may scope
 
 -- ---- faults
 

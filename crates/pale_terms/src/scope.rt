@@ -3,7 +3,7 @@
 ghost use Rattle.std.specs.Prelude.{◌≡◌, ◌<◌, [], ◌∷◌, ◌++◌, Some, None, length, take, is_some, IfOk, IfErr, IfSome, OnOk, OnErr};
 ghost use Rattle.pale_tables.specs.Faults.{IsStop};
 ghost use Rattle.store_core.specs.Tables.{place_of};
-ghost use Rattle.pale_terms.specs.Scopes.{visible_names, sight_of, base_of, meaning_of, visible_fault, new_name_fault, may_begin_path, may_be_set};
+ghost use Rattle.pale_terms.specs.Scopes.{visible_names, sight_of, base_of, meaning_of, visible_fault, new_name_fault, may_begin_path, may_be_set, allowed};
 
 use crate::sort::Sort;
 use indexmap::IndexMap;
@@ -158,6 +158,18 @@ impl Scope {
         let key = Vec::from_slice(*self.visible.allocator(), name)?;
         self.visible.insert(key, visible)?;
         Ok(())
+    }
+
+    /// Says whether the place may name what is visible under a name. Where nothing is, it changes nothing. Takes no memory.
+    pub fn allow(&mut self, name: &[u8], may: bool)
+        ensures { self.new ≡ allowed name.now may self.old }
+    {
+        let Some(place) = self.visible.get_index_of(name) else {
+            return;
+        };
+        if let Some(visible) = self.visible.get_index_mut(place) {
+            visible.may = may;
+        }
     }
 
     /// Leaves so many names visible, those that became visible first. Takes no memory.
