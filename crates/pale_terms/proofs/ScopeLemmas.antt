@@ -57,23 +57,28 @@ allowed-missing name may (e ∷ scope) none =
     let split = position_none-cons (bytes_eq name) e.name (visible_names scope) none in
     ap (λ b. cond b (with_may may e ∷ scope) (e ∷ allowed name may scope)) split.0 ∙ ap (λ s. e ∷ s) (allowed-missing name may scope split.1)
 
+-- what is written at the place of a name among the first one and the others
+written-cons : (name : List ℕ) (may : Bool) (e : Vec ℕ Global × Visible) (es : List (Vec ℕ Global × Visible)) (v : Visible) →
+    ((place : ℕ) → place_of name (visible_names (entries_of es)) ≡ Some place → slice_get (values_of es) place ≡ Some v →
+    entries_of (set_value_at es place (record v { may = may })) ≡ allowed name may (entries_of es)) →
+    (b : Bool) → bytes_eq name e.0.items ≡ b → (place : ℕ) →
+    cond b (Some 0) (option_map suc (place_of name (visible_names (entries_of es)))) ≡ Some place →
+    slice_get (values_of (e ∷ es)) place ≡ Some v →
+    entries_of (set_value_at (e ∷ es) place (record v { may = may })) ≡ allowed name may (entries_of (e ∷ es))
+written-cons name may e es v others true is zero found at =
+    ap (λ w. record { name = e.0.items; visible = record w { may = may } } ∷ entries_of es) (sym (some-inj at))
+    ∙ sym (ap (λ b. cond b (with_may may (entry_of e) ∷ entries_of es) (entry_of e ∷ allowed name may (entries_of es))) is)
+written-cons name may e es v others true is (suc place) found at = absurd (cc)
+written-cons name may e es v others false is zero found at = absurd (no-suc (place_of name (visible_names (entries_of es))) found)
+written-cons name may e es v others false is (suc place) found at =
+    ap (λ s. entry_of e ∷ s) (others place (suc-inj (place_of name (visible_names (entries_of es))) place found) at)
+    ∙ sym (ap (λ b. cond b (with_may may (entry_of e) ∷ entries_of es) (entry_of e ∷ allowed name may (entries_of es))) is)
+
 -- a visible name has its value written
 pub allowed-written : (name : List ℕ) (may : Bool) (es : List (Vec ℕ Global × Visible)) (place : ℕ) (v : Visible) →
     place_of name (visible_names (entries_of es)) ≡ Some place → slice_get (values_of es) place ≡ Some v →
     entries_of (set_value_at es place (record v { may = may })) ≡ allowed name may (entries_of es)
 allowed-written name may [] place v found at = absurd (cc)
 allowed-written name may (e ∷ es) place v found at =
-    by (bytes_eq name e.0.items) refl place (sym (position-cons (bytes_eq name) e.0.items (visible_names (entries_of es))) ∙ found) at
-  where
-    by : (b : Bool) → bytes_eq name e.0.items ≡ b → (place : ℕ) →
-        cond b (Some 0) (option_map suc (place_of name (visible_names (entries_of es)))) ≡ Some place →
-        slice_get (values_of (e ∷ es)) place ≡ Some v →
-        entries_of (set_value_at (e ∷ es) place (record v { may = may })) ≡ allowed name may (entries_of (e ∷ es))
-    by true is zero found at =
-        ap (λ w. record { name = e.0.items; visible = record w { may = may } } ∷ entries_of es) (sym (some-inj at))
-        ∙ sym (ap (λ b. cond b (with_may may (entry_of e) ∷ entries_of es) (entry_of e ∷ allowed name may (entries_of es))) is)
-    by true is (suc place) found at = absurd (cc)
-    by false is zero found at = absurd (no-suc (place_of name (visible_names (entries_of es))) found)
-    by false is (suc place) found at =
-        ap (λ s. entry_of e ∷ s) (allowed-written name may es place v (suc-inj (place_of name (visible_names (entries_of es))) place found) at)
-        ∙ sym (ap (λ b. cond b (with_may may (entry_of e) ∷ entries_of es) (entry_of e ∷ allowed name may (entries_of es))) is)
+    written-cons name may e es v (λ k there here. allowed-written name may es k v there here) (bytes_eq name e.0.items) refl place
+    (sym (position-cons (bytes_eq name) e.0.items (visible_names (entries_of es))) ∙ found) at

@@ -167,9 +167,10 @@ impl Scope {
         let Some(place) = self.visible.get_index_of(name) else {
             return;
         };
-        if let Some(visible) = self.visible.get_index_mut(place) {
-            visible.may = may;
-        }
+        let Some(visible) = self.visible.get_index_mut(place) else {
+            unreachable!()
+        };
+        visible.may = may;
     }
 
     /// Leaves so many names visible, those that became visible first. Takes no memory.
