@@ -52,7 +52,7 @@ along-append types (Cell ty) (f ∷ more) fields middle is = by (f.ty.0 == ty.0)
 -- the name of a path has a sort from which the fields lead to this one
 pub record Leads (types : List TypeEntry) (scope : Scope) (name : Base) (fields : List FieldId) (s : Sort) : Type 0 where
   pub start : Sort
-  pub name : base_sort scope name ≡ Some start
+  pub stands : base_sort scope name ≡ Some start
   pub along : sort_along types start fields ≡ Some s
 
 pub leads-of : (types : List TypeEntry) (scope : Scope) (name : Base) (fields : List FieldId) (s : Sort) → TermFits types scope (term.At name fields) s →
@@ -61,7 +61,7 @@ leads-of types scope name fields s fits = by (base_sort scope name) refl fits
   where
     by : (o : Option Sort) → base_sort scope name ≡ o → option_and_then (λ start. sort_along types start fields) o ≡ Some s → Leads types scope name fields s
     by None at is = absurd cc
-    by (Some start) at is = record { start = start; name = at; along = is }
+    by (Some start) at is = record { start = start; stands = at; along = is }
 
 pub leads-fits : (types : List TypeEntry) (scope : Scope) (name : Base) (fields : List FieldId) (s start : Sort) → base_sort scope name ≡ Some start →
     sort_along types start fields ≡ Some s → TermFits types scope (term.At name fields) s
@@ -134,7 +134,7 @@ module _ (types : List TypeEntry) (scope : Scope) (args : List Arg) (own : List 
   path-fits b term.Null start fields s is along = tt
   path-fits b (term.At name more) start fields s is along =
       let from = leads-of types scope name more start is in
-      leads-fits types (outer b) (shifted_base (length b) name) (more ++ fields) s from.start (base-shifted b name from.start from.name)
+      leads-fits types (outer b) (shifted_base (length b) name) (more ++ fields) s from.start (base-shifted b name from.start from.stands)
       (along-append types from.start more fields start from.along ∙ along)
 
   param-is : (k : ℕ) (x : Arg) → slice_get args k ≡ Some x → option_map_or arg_term (slice_get args k) term.Null ≡ arg_term x
@@ -143,13 +143,13 @@ module _ (types : List TypeEntry) (scope : Scope) (args : List Arg) (own : List 
   term-filled : (b : List Sort) (t : Term) (s : Sort) → TermFits types (inner b) t s → IsNullOr types (outer b) (filled_term (args_for args) (length b) t) s
   term-filled b term.Null s fits = tt
   term-filled b (term.At (base.Var v) fields) s fits =
-      let from = leads-of types (inner b) (base.Var v) fields s fits in let no : None ≡ Some from.start = from.name in absurd cc
+      let from = leads-of types (inner b) (base.Var v) fields s fits in let no : None ≡ Some from.start = from.stands in absurd cc
   term-filled b (term.At (base.Bound k) fields) s fits =
       let from = leads-of types (inner b) (base.Bound k) fields s fits in
-      leads-fits types (outer b) (base.Bound k) fields s from.start (bound-outer b k from.start from.name) from.along
+      leads-fits types (outer b) (base.Bound k) fields s from.start (bound-outer b k from.start from.stands) from.along
   term-filled b (term.At (base.Param k) fields) s fits =
       let from = leads-of types (inner b) (base.Param k) fields s fits in
-      let x = arg-at types scope args own given k from.start from.name in
+      let x = arg-at types scope args own given k from.start from.stands in
       subst (λ (u : Term). IsNullOr types (outer b) (path_from (of_term (shifted_term (length b) u)) fields) s) (sym (param-is k x.arg x.at))
       (path-fits b (arg_term x.arg) from.start fields s (arg-null-or types scope x.arg from.start x.fits) from.along)
 

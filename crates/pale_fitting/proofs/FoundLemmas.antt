@@ -79,8 +79,8 @@ found-map P Q g so (x ∷ xs) f = by (found-map P Q g so xs) (in-cons P x xs f)
 
 -- what a filter keeps comes from an item
 pub in-filter : {X Y : Type 0} (g : X → Option Y) (xs : List X) (y : Y) → IsFound (λ z. z ≡ y) (filter_map g xs) → IsFound (λ x. g x ≡ Some y) xs
-in-filter g [] y f = let no : None ≡ Some f.item = f.at in absurd cc
-in-filter g (x ∷ xs) y f = by (in-filter g xs y) (g x) refl f
+in-filter {X = X} {Y = Y} g [] y f = let no : None ≡ Some f.item = f.at in absurd cc
+in-filter {X = X} {Y = Y} g (x ∷ xs) y f = by (in-filter g xs y) (g x) refl f
   where
     then_ : (IsFound (λ z. z ≡ y) (filter_map g xs) → IsFound (λ x. g x ≡ Some y) xs) → (z : Y) → g x ≡ Some z →
         (z ≡ y) ⊎ IsFound (λ w. w ≡ y) (filter_map g xs) → IsFound (λ x. g x ≡ Some y) (x ∷ xs)
