@@ -34,7 +34,7 @@ use Rattle.pale_assertions.proofs.AssertionLemmas.{fault_form, typed_form}
 use Rattle.pale_fitting.specs.Standing.{sort_in, StandFor, pred_sorts}
 use Rattle.pale_fitting.specs.Naming.{AreNamesOf}
 use Rattle.pale_fitting.proofs.FitForms.{Fits-True, Fits-False, Fits-Not, Fits-And, Fits-Or, Fits-Imp, Fits-Iff, Fits-Ex, Fits-All, Fits-ExSet, Fits-AllSet}
-use Rattle.pale_fitting.proofs.StandingLemmas.{deeper, deeper-preds, binds}
+use Rattle.pale_fitting.proofs.BindingLemmas.{deeper, deeper-preds, binds}
 use Rattle.pale_fitting.proofs.AtomFitLemmas.{truth-of-fits, same-of-fits, is-of-fits, member-of-fits, subset-of-fits, walk-of-fits, use-of-fits}
 
 module _ (types : List TypeEntry) where

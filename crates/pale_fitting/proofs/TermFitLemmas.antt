@@ -123,7 +123,7 @@ field-step : (types : List TypeEntry) (from : Sort) (f : Name) → field_fault t
 unfolding field_fault typed_field sort_behind
 field-step types sort.Truth f none more s along = absurd cc
 field-step types (sort.Cell ty) f none more s along =
-    by (place_of f.bytes (field_names (fields_of types ty))) refl (needed _ _ _ (both _ _ none).1) along
+    by (place_of f.bytes (field_names (fields_of types ty))) refl (needed _ _ _ none) along
   where
     by : (o : Option ℕ) → place_of f.bytes (field_names (fields_of types ty)) ≡ o → is_some (option_map (λ i. let x : FieldId = record { ty = ty; index = i } in x) o) ≡ true →
         logic.sort_along types (sort_in (option_map_or (λ (entry : FieldEntry). held entry.kind)
