@@ -152,8 +152,8 @@ module _ (types : List TypeEntry) (entries : List Entry) (scope : Scope) (stand 
   arguments-fit [] paths count none = tt
   arguments-fit (s ∷ sorts) [] count none = absurd (omega arith)
   arguments-fit (s ∷ sorts) (p ∷ paths) count none =
-      let parts = both _ _ none in
       let rest : length paths ≡ length sorts = omega arith in
+      let parts = both _ _ none in
       (argument-fits s p parts.0, arguments-fit sorts paths rest parts.1)
 
 -- ---- uses and walks

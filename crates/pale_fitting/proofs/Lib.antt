@@ -1,0 +1,16 @@
+mod ActFitLemmas
+mod AssertionFitLemmas
+mod AtomFitLemmas
+mod BindingLemmas
+mod CodeFitLemmas
+mod DeclarationLemmas
+mod ExpansionLemmas
+mod FitForms
+mod FoundLemmas
+mod NamingLemmas
+mod ParameterLemmas
+mod ProcedureLemmas
+mod RouteFitLemmas
+mod StandingLemmas
+mod TermFitLemmas
+mod UseLemmas

@@ -41,7 +41,7 @@ pub and-parts : (a b : Bool) → (a && b) ≡ true → (a ≡ true) × (b ≡ tr
 and-parts true b is = (refl, is)
 and-parts false b is = absurd cc
 
-same-number : (m n : ℕ) → (m == n) ≡ true → m ≡ n
+pub same-number : (m n : ℕ) → (m == n) ≡ true → m ≡ n
 same-number m n is = grind arith
 
 number-same : (n : ℕ) → (n == n) ≡ true
