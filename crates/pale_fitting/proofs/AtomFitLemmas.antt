@@ -105,7 +105,7 @@ module _ (types : List TypeEntry) (entries : List Entry) (scope : Scope) (stand 
       let left = set-path-name entries p parts.0 in
       let right = set-name entries other more.0 in
       let same : left.ty ≡ right.ty =
-          one-set-type (meaning_of entries p.base).sort (meaning_of entries other).sort left.ty right.ty left.is right.is (needed _ _ _ more.1) in
+      one-set-type (meaning_of entries p.base).sort (meaning_of entries other).sort left.ty right.ty left.is right.is (needed _ _ _ more.1) in
       (Fits-Subset types scope (meaning_of entries p.base).base (meaning_of entries other).base).1 (record {
         ty = right.ty;
         left = subst (λ u. BaseFits scope (meaning_of entries p.base).base (logic.Set u)) same (set-fits p.base left);

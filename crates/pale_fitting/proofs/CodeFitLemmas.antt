@@ -74,7 +74,7 @@ module _ (vars : List VarEntry) where
       option_and_then (λ (entry : VarEntry). code_sort entry.kind) (var_at vars (var_in (base_of e.visible.origin after))) ≡ Some (sort_in e.visible.sort)
   entry-code e after is may =
       subst (λ o. option_and_then (λ (entry : VarEntry). code_sort entry.kind) (var_at vars (var_in (base_of o after))) ≡ Some (sort_in e.visible.sort))
-      (sym is.origin) (by (var_at vars is.var) is.sort (is.code may))
+      (sym is.variable.origin) (by (var_at vars is.variable.var) is.variable.sort (is.code may))
     where
       by : (o : Option VarEntry) → IsSomeAnd o (λ entry. e.visible.sort ≡ kept entry.kind) → IsSomeAnd o (λ entry. IsSome (code_sort entry.kind)) →
           option_and_then (λ (entry : VarEntry). code_sort entry.kind) o ≡ Some (sort_in e.visible.sort)

@@ -25,9 +25,10 @@ use Rattle.pale_fitting.specs.Declaring.{DeclarationsFit}
 use Rattle.pale_fitting.proofs.ParameterLemmas.{parameters-stand}
 use Rattle.pale_fitting.proofs.AssertionFitLemmas.{assertion-fits}
 
-pub bracketed-fits : (d : Declared) (entries : List Entry) (b : Bracketed) → bracketed_fault d entries b ≡ None → assertion_fault d.vocabulary entries b.assertion ≡ None
+-- an assertion in its brackets has no fault
+pub assertion-none : (d : Declared) (entries : List Entry) (b : Bracketed) → bracketed_fault d entries b ≡ None → assertion_fault d.vocabulary entries b.assertion ≡ None
 unfolding bracketed_fault
-bracketed-fits d entries b none = (both _ _ none).0
+assertion-none d entries b none = (both _ _ none).0
 
 reverse-push : {X : Type 0} (xs : List X) (x : X) → reverse (xs ++ x ∷ []) ≡ x ∷ reverse xs
 reverse-push xs x = reverse-append xs (x ∷ [])
@@ -38,18 +39,9 @@ sorts-push (h ∷ heads) head = ap (λ (l : List (List logic.Sort)). map sort_in
 
 -- one predicate more
 module _ (d : Declared) (fit : DeclarationsFit d) (p : PredicateDeclaration) (none : predicate_fault d p ≡ None) where
-  types : List TypeEntry
-  types = d.vocabulary.types
-
-  params : List Sort
-  params = map (sort_of d.vocabulary.types) p.parameters
-
-  body : Assertion
-  body = typed_assertion d.vocabulary (params_of d p) p.body.assertion
-
   body-none : assertion_fault d.vocabulary (params_of d p) p.body.assertion ≡ None
   unfolding predicate_fault
-  body-none = bracketed-fits d (params_of d p) p.body (both _ _ none).1
+  body-none = assertion-none d (params_of d p) p.body (both _ _ none).1
 
   body-fits : FitsIn d.vocabulary.types (typed_assertion d.vocabulary (params_of d p) p.body.assertion)
       (record { vars = []; bound = []; params = map sort_in (map (sort_of d.vocabulary.types) p.parameters); preds = pred_sorts d.vocabulary.preds })
@@ -68,11 +60,12 @@ module _ (d : Declared) (fit : DeclarationsFit d) (p : PredicateDeclaration) (no
         preds =
             subst (λ (l : List PredDef). PredsFit d.vocabulary.types l (reverse (pred_sorts (d.vocabulary.preds ++ head ∷ [])))) (sym (reverse-push d.preds def))
             (subst (λ (l : List (List logic.Sort)). PredsFit d.vocabulary.types (def ∷ reverse d.preds) l)
-            (sym (ap reverse (sorts-push d.vocabulary.preds head) ∙ reverse-push (pred_sorts d.vocabulary.preds) (map sort_in own)))
-            (length-map own sort_in,
-            subst (λ (l : List (List logic.Sort)). FitsIn d.vocabulary.types def.body (record { vars = []; bound = []; params = map sort_in own; preds = l }))
-            (sym (reverse-reverse (pred_sorts d.vocabulary.preds))) body-fits,
-            fit.preds));
+            (sym (ap reverse (sorts-push d.vocabulary.preds head) ∙ reverse-push (pred_sorts d.vocabulary.preds) (map sort_in own))) (
+              length-map own sort_in,
+              subst (λ (l : List (List logic.Sort)). FitsIn d.vocabulary.types def.body (record { vars = []; bound = []; params = map sort_in own; preds = l }))
+                  (sym (reverse-reverse (pred_sorts d.vocabulary.preds))) body-fits,
+              fit.preds,
+            ));
       }
 
 all-fit : (ps : List PredicateDeclaration) (d : Declared) → DeclarationsFit d → predicates_fault d ps ≡ None → DeclarationsFit (fold with_pred d ps)

@@ -1,16 +1,16 @@
-mod ActFitLemmas
-mod AssertionFitLemmas
-mod AtomFitLemmas
-mod BindingLemmas
-mod CodeFitLemmas
-mod DeclarationLemmas
-mod ExpansionLemmas
-mod FitForms
-mod FoundLemmas
-mod NamingLemmas
-mod ParameterLemmas
-mod ProcedureLemmas
-mod RouteFitLemmas
-mod StandingLemmas
-mod TermFitLemmas
-mod UseLemmas
+pub mod ActFitLemmas
+pub mod AssertionFitLemmas
+pub mod AtomFitLemmas
+pub mod BindingLemmas
+pub mod CodeFitLemmas
+pub mod DeclarationLemmas
+pub mod ExpansionLemmas
+pub mod FitForms
+pub mod FoundLemmas
+pub mod NamingLemmas
+pub mod ParameterLemmas
+pub mod ProcedureLemmas
+pub mod RouteFitLemmas
+pub mod StandingLemmas
+pub mod TermFitLemmas
+pub mod UseLemmas

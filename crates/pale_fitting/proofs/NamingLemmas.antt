@@ -48,28 +48,28 @@ variant-there types names all ty name = by (variant_named names ty name) refl
 
 -- the fields of a declaration, in its type
 module _ (names : TypeNames) (P : FieldDeclaration → Type 0) (Q : FieldEntry → Type 0) (so : (only : Option ℕ) (f : FieldDeclaration) → P f → Q (field_entry names only f))
-    where
-  in-variants : (index : ℕ) (variants : List VariantDeclaration) → IsFound P (flat_map (λ (v : VariantDeclaration). v.fields) variants) →
-      IsFound Q (variant_fields names index variants)
-  in-variants index [] f = let no : None ≡ Some f.item = f.at in absurd cc
-  in-variants index (v ∷ variants) f =
-      by (in-variants (index + 1) variants) (in-append P v.fields (flat_map (λ (w : VariantDeclaration). w.fields) variants) f)
-    where
-      by : (IsFound P (flat_map (λ (w : VariantDeclaration). w.fields) variants) → IsFound Q (variant_fields names (index + 1) variants)) →
-          IsFound P v.fields ⊎ IsFound P (flat_map (λ (w : VariantDeclaration). w.fields) variants) →
-          IsFound Q (map (field_entry names (Some index)) v.fields ++ variant_fields names (index + 1) variants)
-      by rest (inl here) = to-first Q (map (field_entry names (Some index)) v.fields) (variant_fields names (index + 1) variants)
-          (found-map P Q (field_entry names (Some index)) (so (Some index)) v.fields here)
-      by rest (inr later) = to-second Q (map (field_entry names (Some index)) v.fields) (variant_fields names (index + 1) variants) (rest later)
+  where
+    in-variants : (index : ℕ) (variants : List VariantDeclaration) → IsFound P (flat_map (λ (v : VariantDeclaration). v.fields) variants) →
+        IsFound Q (variant_fields names index variants)
+    in-variants index [] f = let no : None ≡ Some f.item = f.at in absurd cc
+    in-variants index (v ∷ variants) f =
+        by (in-variants (index + 1) variants) (in-append P v.fields (flat_map (λ (w : VariantDeclaration). w.fields) variants) f)
+      where
+        by : (IsFound P (flat_map (λ (w : VariantDeclaration). w.fields) variants) → IsFound Q (variant_fields names (index + 1) variants)) →
+            IsFound P v.fields ⊎ IsFound P (flat_map (λ (w : VariantDeclaration). w.fields) variants) →
+            IsFound Q (map (field_entry names (Some index)) v.fields ++ variant_fields names (index + 1) variants)
+        by rest (inl here) = to-first Q (map (field_entry names (Some index)) v.fields) (variant_fields names (index + 1) variants)
+            (found-map P Q (field_entry names (Some index)) (so (Some index)) v.fields here)
+        by rest (inr later) = to-second Q (map (field_entry names (Some index)) v.fields) (variant_fields names (index + 1) variants) (rest later)
 
-  in-type : (t : TypeDeclaration) → IsFound P (fields_in t) → IsFound Q ((type_entry names t).fields)
-  in-type t f = by (in-append P t.fields (flat_map (λ (v : VariantDeclaration). v.fields) t.variants) f)
-    where
-      by : IsFound P t.fields ⊎ IsFound P (flat_map (λ (v : VariantDeclaration). v.fields) t.variants) →
-          IsFound Q (map (field_entry names None) t.fields ++ variant_fields names 0 t.variants)
-      by (inl common) = to-first Q (map (field_entry names None) t.fields) (variant_fields names 0 t.variants)
-          (found-map P Q (field_entry names None) (so None) t.fields common)
-      by (inr own) = to-second Q (map (field_entry names None) t.fields) (variant_fields names 0 t.variants) (in-variants 0 t.variants own)
+    in-type : (t : TypeDeclaration) → IsFound P (fields_in t) → IsFound Q ((type_entry names t).fields)
+    in-type t f = by (in-append P t.fields (flat_map (λ (v : VariantDeclaration). v.fields) t.variants) f)
+      where
+        by : IsFound P t.fields ⊎ IsFound P (flat_map (λ (v : VariantDeclaration). v.fields) t.variants) →
+            IsFound Q (map (field_entry names None) t.fields ++ variant_fields names 0 t.variants)
+        by (inl common) = to-first Q (map (field_entry names None) t.fields) (variant_fields names 0 t.variants)
+            (found-map P Q (field_entry names None) (so None) t.fields common)
+        by (inr own) = to-second Q (map (field_entry names None) t.fields) (variant_fields names 0 t.variants) (in-variants 0 t.variants own)
 
 -- a field of the name, of a kind that this is so of
 abbrev Suits : (FieldKind → Type 0) → List ℕ → FieldEntry → Type 0
@@ -80,7 +80,7 @@ field-in : (IsSo : FieldKind → Type 0) (name : List ℕ) (types : List TypeEnt
 field-in IsSo name types f =
     let entry = f.so in
     let at : slice_get (fields_of types (record { 0 = f.place })) entry.place ≡ Some entry.item =
-        ap (λ (o : Option TypeEntry). slice_get (option_map_or (λ (t : TypeEntry). t.fields) o []) entry.place) f.at ∙ entry.at in
+    ap (λ (o : Option TypeEntry). slice_get (option_map_or (λ (t : TypeEntry). t.fields) o []) entry.place) f.at ∙ entry.at in
     record {
       field = record { ty = record { 0 = f.place }; index = entry.place };
       named = subst (λ (o : Option FieldEntry). IsSomeAnd o (λ e. e.name ≡ name)) (sym at) entry.so.0;

@@ -351,6 +351,8 @@ module _ (types : List TypeEntry) (preds : List PredDef) where
       known k own at =
           let inside : k < length scope.preds = slice_get-within scope.preds k own at in
           let same : length scope.preds ≡ length preds =
-              ap length (sym (reverse-reverse scope.preds)) ∙ counted (reverse preds) (reverse scope.preds) fit ∙ ap length (reverse-reverse preds) in
-          (omega arith, pred-of (reverse preds) [] (reverse scope.preds) fit whole k own
-          (ap (λ (xs : List (List Sort)). slice_get xs k) (reverse-reverse scope.preds) ∙ at))
+          ap length (sym (reverse-reverse scope.preds)) ∙ counted (reverse preds) (reverse scope.preds) fit ∙ ap length (reverse-reverse preds) in (
+            omega arith,
+            pred-of (reverse preds) [] (reverse scope.preds) fit whole k own
+                (ap (λ (xs : List (List Sort)). slice_get xs k) (reverse-reverse scope.preds) ∙ at),
+          )

@@ -45,18 +45,17 @@ pub record IsVariable (vars : List VarEntry) (e : Entry) : Type 0 where
   pub origin : e.visible.origin ≡ origin.Variable var
   pub sort : IsSomeAnd (var_at vars var) (λ entry. e.visible.sort ≡ kept entry.kind)
 
+-- the visible names are those of variables of the table
+abbrev pub AreVariables : List VarEntry → List Entry → Type 0
+AreVariables vars entries = AllByRecursion (IsVariable vars) entries
+
 -- ---- code
 
 -- and where code may use it, it is no logic variable
 pub record IsCodeVariable (vars : List VarEntry) (e : Entry) : Type 0 where
-  pub var : VarId
-  pub origin : e.visible.origin ≡ origin.Variable var
-  pub sort : IsSomeAnd (var_at vars var) (λ entry. e.visible.sort ≡ kept entry.kind)
-  pub code : IsTrue e.visible.may → IsSomeAnd (var_at vars var) (λ entry. IsSome (code_sort entry.kind))
+  pub variable : IsVariable vars e
+  pub code : IsTrue e.visible.may → IsSomeAnd (var_at vars variable.var) (λ entry. IsSome (code_sort entry.kind))
 
--- the visible names are those of variables
-abbrev pub AreVariables : List VarEntry → List Entry → Type 0
-AreVariables vars entries = AllByRecursion (IsVariable vars) entries
-
+-- as far as code may use them, the visible names are those of variables that aren't logic variables
 abbrev pub AreCodeVariables : List VarEntry → List Entry → Type 0
 AreCodeVariables vars entries = AllByRecursion (IsCodeVariable vars) entries

@@ -12,7 +12,8 @@ mod declarations;
 pub use assertions::{
     assertions_of_procedures_can_be_expanded, assertions_of_procedures_fit,
     assertions_that_fit_can_be_expanded, assertions_without_fault_fit, expansions_fit,
-    expansions_of_procedures_fit, variables_stand_for_their_table,
+    expansions_of_procedures_fit, paths_without_fault_fit, variables_stand_for_their_table,
+    variant_tests_without_fault_fit,
 };
 pub use code::{
     assignments_without_fault_fit, conditions_without_fault_fit, frees_without_fault_fit,
