@@ -1,51 +1,36 @@
 -- The assignment of a backbone lays it out.
-use Rattle.std.proofs.Common.{◌≡◌, ℕ, ◌↔◌, ◌⊎◌, inl, inr, Bool, true, List, [], ◌∷◌, ◌++◌, take, unwrap_or, IsTrue, IsSomeAnd, IfSome, All, Contains, Option, Some, None, refl, sym, ap, ◌∙◌, subst}
+use Rattle.std.proofs.Common.{◌≡◌, ℕ, ◌⊎◌, inl, inr, true, List, take, unwrap_or, IsTrue, IsSomeAnd, IfSome, Some, refl, sym, ap, ◌∙◌, subst}
 use Rattle.std.specs.Prelude.{count_by}
-use Rattle.std.proofs.lemmas.List.Elements.{All-contains}
 use Rattle.gta_theory.specs.Assignments.{Position, Assignment}
-use Rattle.ws2s_core.specs.declared.track.Track.{Track}
 use Rattle.ws2s_forms.specs.Places.{child_of, slot_of}
 use Rattle.store_core.specs.declared.ids.TypeId.{TypeId}
 use Rattle.store_core.specs.declared.ids.VariantId.{VariantId}
 use Rattle.store_core.specs.declared.ids.FieldId.{FieldId}
 use Rattle.store_core.specs.declared.ids.VarId.{VarId}
 use Rattle.store_core.specs.declared.ids.CellId.{CellId}
-use Rattle.store_core.specs.declared.kind.FieldKind.{FieldKind}
 use Rattle.store_core.specs.declared.kind.FieldKind.TheVariants as field
-use Rattle.store_core.specs.declared.kind.VarKind.{VarKind}
 use Rattle.store_core.specs.declared.kind.VarKind.TheVariants as var
 use Rattle.store_core.specs.declared.value.Value.{Value}
 use Rattle.store_core.specs.declared.value.Value.TheVariants as value
 use Rattle.store_core.specs.Tables.{TypeEntry, VarEntry, field_at, var_at}
-use Rattle.store_core.specs.Stores.{StoreMap, CellEntry, IsLive, cell_of, field_value, var_value, VarFits, Fits}
-use Rattle.store_core.proofs.FittingLemmas.{IfSome-from, IfSome-at, IsSomeAnd-at, var_at_value}
+use Rattle.store_core.specs.Stores.{StoreMap, CellEntry, cell_of, field_value, var_value, Fits}
+use Rattle.store_core.proofs.FittingLemmas.{IfSome-at, IsSomeAnd-at}
 use Rattle.routing_expr.specs.declared.fault.Place.TheVariants as place
 use Rattle.routing_expr.specs.Walks.{DataAlone, IsFollowed, Leads, IsOfType, IsOfVariant}
-use Rattle.routing_expr.specs.WellFormed.{IsDataVar, Names, HoldsOfType, VarHoldsLive, FieldHoldsLive, SetHoldsLive, IsBackbone}
-use Rattle.routing_laws.specs.Paths.{StandsAt, LeadsAlong}
+use Rattle.routing_expr.specs.WellFormed.{IsDataVar, Names, VarHoldsLive, FieldHoldsLive, IsBackbone}
+use Rattle.routing_laws.specs.Paths.{LeadsAlong}
 use Rattle.tree_encode.specs.declared.counting.Counted.TheVariants.{Children}
-use Rattle.tree_encode.specs.Counting.{rank, is_data_var, is_data_kind}
-use Rattle.tree_encode.specs.Tracks.{of_bool, of_var, bool_track, var_track, slot_of_var, child_number}
+use Rattle.tree_encode.specs.Counting.{rank, is_data_var}
+use Rattle.tree_encode.specs.Tracks.{of_bool, bool_track, slot_of_var, child_number}
 use Rattle.tree_encode.specs.Positions.{below, path_position, IsPlaced}
 use Rattle.tree_encode.proofs.PositionsLemmas.{data_field, data_var, numbered, slotted}
-use Rattle.tree_encode.proofs.ApartLemmas.{placed-apart, one-position}
-use Rattle.tree_store.specs.Encoding.{NamesCell, CellIsOn, RootIsOn, IsOn, IsAssignmentOf}
+use Rattle.tree_encode.proofs.ApartLemmas.{placed-apart}
+use Rattle.tree_store.specs.Encoding.{IsAssignmentOf}
 use Rattle.tree_store.proofs.SpotsLemmas.{of-some}
-use Rattle.tree_shapes.specs.Shapes.{IsCellOf, IsCellIn, HasFieldAt, IsTrueAt, IsSlotFor, IsChildFor, HasCellsIn, VarLaysOut, LaysOut}
+use Rattle.tree_shapes.specs.Shapes.{IsCellOf, IsCellIn, HasFieldAt, IsTrueAt, IsSlotFor, IsChildFor}
 use Rattle.tree_meaning.specs.Premises.{SetsHoldLive}
-use Rattle.tree_meaning.proofs.WordsLemmas.{slots-apart, slot-ends, slot-not_child, count-one}
-use Rattle.tree_meaning.proofs.StoresLemmas.{HasLastStep, last-step, below-last, below-ends, placed-live, typed-marked, marked-cell, marked-typed, held-had}
-
--- data variables with one slot are one variable
-pub slot-var : (vars : List VarEntry) (v w : VarId) (x y : VarEntry) → var_at vars v ≡ Some x → IsDataVar x.kind → var_at vars w ≡ Some y → IsDataVar y.kind →
-    unwrap_or (slot_of_var vars v) 0 ≡ unwrap_or (slot_of_var vars w) 0 → v ≡ w
-slot-var vars v w x y there is_data found is_too e =
-    let (ty, kind) = data_var x.kind is_data in
-    let (uy, sort) = data_var y.kind is_too in
-    let number : v.0 ≡ w.0 =
-    count-one is_data_var vars v.0 w.0 x y there (ap (λ k. is_data_kind k) kind) found (ap (λ k. is_data_kind k) sort)
-    (sym (ap (λ o. unwrap_or o 0) (slotted vars v x ty there kind)) ∙ e ∙ ap (λ o. unwrap_or o 0) (slotted vars w y uy found sort)) in
-    λ i. record { 0 = number i }
+use Rattle.tree_meaning.proofs.WordsLemmas.{slots-apart, slot-ends, slot-not_child}
+use Rattle.tree_meaning.proofs.StoresLemmas.{last-step, below-last, below-ends, marked-cell, marked-typed, held-had}
 
 -- a path that ends at a slot has no field
 pub slot-path : (types : List TypeEntry) (vars : List VarEntry) (s : StoreMap) (v : VarId) (fields : List FieldId) (a b : CellId) (i : ℕ) →

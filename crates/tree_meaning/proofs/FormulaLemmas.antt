@@ -1,10 +1,10 @@
 -- The formula is satisfied exactly where a backbone is laid out.
-use Rattle.std.proofs.Common.{◌≡◌, ℕ, ◌<◌, ◌≤◌, ◌+◌, take, ◌↔◌, ◌⊎◌, inl, inr, true, cond, nat_lt, IsTrue, IfSome, IsSomeAnd, List, [], ◌∷◌, ◌++◌, length, flat_map, unwrap_or, Option, Some, None, All, Contains, refl, sym, ap, ◌∙◌, subst, arith}
+use Rattle.std.proofs.Common.{◌≡◌, ℕ, ◌<◌, ◌≤◌, ◌+◌, take, ◌↔◌, ◌⊎◌, inl, inr, cond, nat_lt, IsTrue, IfSome, List, [], ◌∷◌, ◌++◌, length, flat_map, unwrap_or, Some, None, Contains, sym, ap, subst, arith}
 use Rattle.std.proofs.lemmas.Bool.{cases_order, lt-ltb, ltb-true}
 use Rattle.std.proofs.lemmas.Option.{slice_get_within}
 use Rattle.std.proofs.lemmas.List.Elements.{All-contains, Contains-append_left, Contains-append_right, Contains-append_cases}
 use Rattle.gta_theory.specs.Assignments.{Position, Assignment, IsFinite}
-use Rattle.gta_theory.proofs.ListsLemmas.{Contains-first, Contains-later, Contains-none, Contains-cases, Contains-flat_map, All-from_contains}
+use Rattle.gta_theory.proofs.ListsLemmas.{Contains-first, Contains-later, Contains-cases, Contains-flat_map, All-from_contains}
 use Rattle.ws2s_core.specs.declared.track.Track.{Track}
 use Rattle.ws2s_core.specs.declared.formula.Formula.{Formula}
 use Rattle.ws2s_core.specs.Satisfaction.{WSat}
@@ -25,7 +25,7 @@ use Rattle.tree_shapes.specs.Shapes.{IsCellOf, IsCellIn, HasFieldAt, IsTrueAt, I
 use Rattle.tree_meaning.specs.Premises.{OwnersAreThere}
 use Rattle.tree_meaning.proofs.ListsLemmas.{Contains-named, named-inside, flat_map-inside, Contains-one, cond-inside, listed-inside, Contains-listed}
 use Rattle.tree_meaning.proofs.TablesLemmas.{number_of_var, cell-known, track-few, var-there, type-known, field-known}
-use Rattle.tree_meaning.proofs.PlacesLemmas.{are_reached-means, type-one}
+use Rattle.tree_meaning.proofs.PlacesLemmas.{are_reached-means}
 use Rattle.tree_meaning.proofs.WithinLemmas.{is_had-means}
 use Rattle.tree_meaning.proofs.VarsLemmas.{var_part-means}
 use Rattle.tree_meaning.proofs.VariantsLemmas.{are_apart-means}
@@ -146,12 +146,12 @@ module _ (types : List TypeEntry) (vars : List VarEntry) (owners : OwnersAreTher
         elim (Contains-cases (are_reached next types vars ty) f (flat_map (field_part next types) (fields_in types ty)) h) as (λ _. WSat f a) [
           | inl is ↦ subst (λ g. WSat g a) is ((are_reached-means types vars owners a next few finite ty).1 (laid.placed ty))
           | inr later ↦ (
-            let (field, among, of_field) = flat_map-inside (field_part next types) (fields_in types ty) f later in
-            let (t, is, at) = listed-inside (λ b. is_had next types field b ∷ []) (bool_track types field) f of_field in
-            let (entry, there) = bool-there types field t is in
-            subst (λ g. WSat g a) (Contains-one (is_had next types field t) f at)
-            ((is_had-means types vars a next few finite t (track-few types vars (of_bool field) t is) field entry owners there).1
-            (λ p on. laid.bools field p (of-some (λ u. IsTrue (a u.0 p)) (bool_track types field) t is on))))
+              let (field, among, of_field) = flat_map-inside (field_part next types) (fields_in types ty) f later in
+              let (t, is, at) = listed-inside (λ b. is_had next types field b ∷ []) (bool_track types field) f of_field in
+              let (entry, there) = bool-there types field t is in
+              subst (λ g. WSat g a) (Contains-one (is_had next types field t) f at)
+              ((is_had-means types vars a next few finite t (track-few types vars (of_bool field) t is) field entry owners there).1
+              (λ p on. laid.bools field p (of-some (λ u. IsTrue (a u.0 p)) (bool_track types field) t is on))))
         ]
 
     var-holds : (v : VarId) (f : Formula) → Contains (var_parts next types vars v) f → WSat f a

@@ -1,5 +1,6 @@
 -- The variables of a backbone on the tracks of its assignment.
-use Rattle.std.proofs.Common.{◌≡◌, ℕ, ◌↔◌, inl, inr, Bool, true, List, [], unwrap_or, IsTrue, IfSome, All, Contains, Option, Some, None, refl, sym, ap, ◌∙◌, subst}
+use Rattle.std.proofs.Common.{◌≡◌, inl, inr, true, List, [], take, unwrap_or, IsTrue, IfSome, Some, refl, sym, ap, ◌∙◌, subst}
+use Rattle.std.specs.Prelude.{count_by}
 use Rattle.std.proofs.lemmas.List.Elements.{All-contains}
 use Rattle.gta_theory.specs.Assignments.{Position, Assignment}
 use Rattle.ws2s_core.specs.declared.track.Track.{Track}
@@ -14,18 +15,20 @@ use Rattle.store_core.specs.declared.value.Value.TheVariants as value
 use Rattle.store_core.specs.Tables.{TypeEntry, VarEntry, var_at}
 use Rattle.store_core.specs.Stores.{StoreMap, var_value, VarFits, Fits}
 use Rattle.store_core.proofs.FittingLemmas.{IfSome-from, IfSome-at, IsSomeAnd-at, var_at_value}
-use Rattle.routing_expr.specs.declared.fault.Place.TheVariants as place
 use Rattle.routing_expr.specs.Walks.{IsOfType}
 use Rattle.routing_expr.specs.WellFormed.{IsDataVar, VarHoldsLive, SetHoldsLive, IsBackbone}
+use Rattle.tree_encode.specs.Counting.{is_data_var}
 use Rattle.tree_encode.specs.Tracks.{of_var, var_track, slot_of_var}
 use Rattle.tree_encode.specs.Positions.{IsPlaced}
+use Rattle.tree_encode.proofs.PositionsLemmas.{data_var, slotted}
 use Rattle.tree_encode.proofs.ApartLemmas.{one-position}
 use Rattle.tree_store.specs.Encoding.{NamesCell, IsAssignmentOf}
 use Rattle.tree_store.proofs.SpotsLemmas.{of-some}
 use Rattle.tree_shapes.specs.Shapes.{HasRootAtMost, HasCellsIn, VarLaysOut, LaysOut}
 use Rattle.tree_meaning.specs.Premises.{SetsHoldLive}
+use Rattle.tree_meaning.proofs.NumbersLemmas.{variables-apart}
 use Rattle.tree_meaning.proofs.StoresLemmas.{placed-live, typed-marked, marked-typed}
-use Rattle.tree_meaning.proofs.BackboneLemmas.{slot-var, slot-path, holds-live, data-named, all-placed, all-apart, all-bools}
+use Rattle.tree_meaning.proofs.BackboneLemmas.{slot-path, holds-live, data-named, all-placed, all-apart, all-bools}
 
 -- ---- values that fit their kinds
 
@@ -125,7 +128,12 @@ module _ (types : List TypeEntry) (vars : List VarEntry) (s : StoreMap) (a : Ass
         let (number, root) = slot-path types vars s placed.var placed.fields placed.at.root c (unwrap_or (slot_of_var vars v) 0) placed.at.along
         (sym both.0 ∙ placed.position) in
         let (other, found, is_data) = IsSomeAnd-at (var_at vars placed.var) (λ e. IsDataVar e.kind) placed.at.named.place in
-        let same : v ≡ placed.var = slot-var vars v placed.var entry other there (subst IsDataVar (sym sort) tt) found is_data number in
+        let (uy, is_sort) = data_var other.kind is_data in
+        let own = slotted vars v entry ty there sort in
+        let slot = slotted vars placed.var other uy found is_sort in
+        let same : v ≡ placed.var =
+        variables-apart vars v placed.var (count_by is_data_var (take v.0 vars)) own
+        (slot ∙ ap (λ n. Some n) (sym (ap (λ o. unwrap_or o 0) slot) ∙ sym number ∙ ap (λ o. unwrap_or o 0) own)) in
         let holds : var_value s v ≡ Some (value.Cell (Some c)) =
         ap (λ w. var_value s w) same ∙ placed.at.named.value ∙ ap (λ r. Some (value.Cell (Some r))) root in
         (means.tracks (of_var v) x p is).1 (inr (c, placed, of-some (λ z. NamesCell z c) (var_value s v) (value.Cell (Some c)) holds refl))),

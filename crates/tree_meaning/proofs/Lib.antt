@@ -3,6 +3,7 @@ pub mod FormulaLemmas
 pub mod HoldersLemmas
 pub mod ListsLemmas
 pub mod MarksLemmas
+pub mod NumbersLemmas
 pub mod PlacesLemmas
 pub mod StandingLemmas
 pub mod StoresLemmas

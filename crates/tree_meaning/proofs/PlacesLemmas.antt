@@ -1,9 +1,9 @@
 -- The places where a cell of a type may stand: slots, and children of cells.
-use Rattle.std.proofs.Common.{◌≡◌, ℕ, suc, ◌<◌, ◌≤◌, ◌↔◌, ◌⊎◌, inl, inr, true, cond, ◌==◌, IsSomeAnd, List, [], ◌∷◌, ◌++◌, length, flat_map, Option, Some, None, Contains, refl, sym, ap, ◌∙◌, subst, arith}
+use Rattle.std.proofs.Common.{◌≡◌, ℕ, suc, ◌<◌, ◌≤◌, ◌↔◌, ◌⊎◌, inl, inr, cond, ◌==◌, List, [], ◌∷◌, length, flat_map, Option, Some, None, Contains, refl, sym, ap, ◌∙◌, subst, arith}
 use Rattle.std.proofs.lemmas.Bool.{eqb-true, eq-eqb}
 use Rattle.std.proofs.lemmas.Option.{slice_get_within}
 use Rattle.std.proofs.lemmas.List.Elements.{Contains-append_left, Contains-append_right, Contains-append_cases}
-use Rattle.gta_theory.specs.Assignments.{Position, Assignment, IsFinite, IsOnly}
+use Rattle.gta_theory.specs.Assignments.{Position, Assignment, IsFinite}
 use Rattle.gta_theory.proofs.ListsLemmas.{Contains-first, Contains-none, Contains-flat_map}
 use Rattle.ws2s_core.specs.declared.formula.Formula.{Formula}
 use Rattle.ws2s_core.specs.declared.formula.Formula.TheVariants.{And}
@@ -16,7 +16,6 @@ use Rattle.ws2s_forms.proofs.GoingLemmas.{WSat-go, WSat-slot}
 use Rattle.ws2s_forms.proofs.LawsLemmas.{law-ex1, law-all1, law-imp, law-or_list}
 use Rattle.store_core.specs.declared.ids.TypeId.{TypeId}
 use Rattle.store_core.specs.declared.ids.FieldId.{FieldId}
-use Rattle.store_core.specs.declared.ids.VarId.{VarId}
 use Rattle.store_core.specs.declared.kind.FieldKind.{FieldKind}
 use Rattle.store_core.specs.declared.kind.FieldKind.TheVariants as field
 use Rattle.store_core.specs.declared.kind.VarKind.{VarKind}
@@ -96,11 +95,14 @@ module _ (types : List TypeEntry) (vars : List VarEntry) (owners : OwnersAreTher
             let q = h.0 in
             let bound = StandsOn-further (track_count types vars) a b x p next q few stands in
             let still = StandsOn-still (track_count types vars) a b x p next q few stands below in
-            some.1 (q, (WSat-And (has (suc next) types along next) (child (suc next) j next x) (with_position b next q)).1 (
-              (has-means types vars a (with_position b next q) next q bound (suc next) along entry owners there).1 h.1,
-              (WSat-go j (suc next) next x (with_position b next q) (omega arith) (omega (arith, below))).1
-                  (q, bound.only, IsOnly-along (with_position b next q x) p (child_of j q) h.2 still.only),
-            ))),
+            some.1 (
+              q,
+              (WSat-And (has (suc next) types along next) (child (suc next) j next x) (with_position b next q)).1 (
+                (has-means types vars a (with_position b next q) next q bound (suc next) along entry owners there).1 h.1,
+                (WSat-go j (suc next) next x (with_position b next q) (omega arith) (omega (arith, below))).1
+                    (q, bound.only, IsOnly-along (with_position b next q x) p (child_of j q) h.2 still.only),
+              ),
+            )),
       )
 
   abbrev slots : TypeId → List Formula

@@ -1,11 +1,10 @@
 -- What the words for cells mean where a track has one position.
-use Rattle.std.proofs.Common.{◌≡◌, ◌≢◌, ℕ, suc, ◌<◌, ◌≤◌, ◌↔◌, IsTrue, IsSomeAnd, List, map, Option, Some, None, Contains, refl, sym, ap, ◌∙◌, subst, arith}
+use Rattle.std.proofs.Common.{◌≡◌, ◌≢◌, ℕ, ◌<◌, ◌≤◌, ◌↔◌, IsTrue, IsSomeAnd, List, map, Option, Some, None, refl, sym, ap, ◌∙◌, subst, arith}
 use Rattle.std.specs.Option.{option_map_or}
-use Rattle.gta_theory.specs.Assignments.{Position, PositionSet, Assignment, IsFinite, IsOnly, replace}
+use Rattle.gta_theory.specs.Assignments.{Position, PositionSet, Assignment, IsFinite, IsOnly}
 use Rattle.gta_theory.proofs.AssignmentsLemmas.{replace-same, replace-other}
 use Rattle.gta_theory.proofs.ListsLemmas.{Contains-map, Contains-mapped}
 use Rattle.ws2s_core.specs.declared.track.Track.{Track}
-use Rattle.ws2s_core.specs.declared.formula.Formula.{Formula}
 use Rattle.ws2s_core.specs.declared.formula.Formula.TheVariants.{Sub}
 use Rattle.ws2s_core.specs.Satisfaction.{WSat}
 use Rattle.ws2s_forms.specs.Forms.{track, or_list}
@@ -16,8 +15,8 @@ use Rattle.store_core.specs.declared.ids.TypeId.{TypeId}
 use Rattle.store_core.specs.declared.ids.VariantId.{VariantId}
 use Rattle.store_core.specs.declared.ids.FieldId.{FieldId}
 use Rattle.store_core.specs.Tables.{TypeEntry, FieldEntry, VarEntry, field_at, variant_count, unnamed_of}
-use Rattle.tree_encode.specs.Tracks.{of_variant, track_count, track_at, variant_track}
-use Rattle.tree_formula.specs.WellEncoded.{variant_in, variants_of, track_or_first, is_of, is_live, owner, has}
+use Rattle.tree_encode.specs.Tracks.{of_variant, track_count, track_at}
+use Rattle.tree_formula.specs.WellEncoded.{variant_in, variants_of, track_or_first, is_of, is_live, has}
 use Rattle.tree_shapes.specs.Shapes.{IsCellOf, IsCellIn, HasFieldAt}
 use Rattle.tree_meaning.specs.Premises.{OwnersAreThere}
 use Rattle.tree_meaning.proofs.ListsLemmas.{Contains-named, named-inside}

@@ -1,16 +1,14 @@
 -- The store of a backbone on the tracks of its assignment.
-use Rattle.std.proofs.Common.{◌≡◌, ℕ, zero, suc, ◌<◌, ◌⊎◌, inl, inr, Bool, true, false, List, [], ◌∷◌, ◌++◌, slice_get, unwrap_or, IsTrue, IsSome, IsSomeAnd, IfSome, Option, Some, None, refl, sym, ap, ◌∙◌, subst}
+use Rattle.std.proofs.Common.{◌≡◌, ℕ, zero, suc, ◌<◌, ◌⊎◌, inl, inr, true, List, [], ◌∷◌, ◌++◌, slice_get, unwrap_or, IsTrue, Option, Some, None, refl, sym, ap, ◌∙◌, subst}
 use Rattle.std.specs.Option.{option_and_then}
-use Rattle.std.proofs.lemmas.Bool.{false≢true}
 use Rattle.gta_theory.specs.Assignments.{Position, Assignment}
-use Rattle.ws2s_forms.specs.Places.{child_of, slot_of}
+use Rattle.ws2s_forms.specs.Places.{child_of}
 use Rattle.store_core.specs.declared.ids.TypeId.{TypeId}
 use Rattle.store_core.specs.declared.ids.VariantId.{VariantId}
 use Rattle.store_core.specs.declared.ids.FieldId.{FieldId}
-use Rattle.store_core.specs.declared.ids.VarId.{VarId}
 use Rattle.store_core.specs.declared.ids.CellId.{CellId}
 use Rattle.store_core.specs.declared.value.Value.{Value}
-use Rattle.store_core.specs.Tables.{TypeEntry, FieldEntry, VarEntry, fields_of, field_at, is_had, variant_count}
+use Rattle.store_core.specs.Tables.{TypeEntry, FieldEntry, VarEntry, fields_of, is_had, variant_count}
 use Rattle.store_core.specs.Stores.{StoreMap, CellEntry, IsLive, cell_of, field_of, field_value, SlotsFit, CellFits, Fits}
 use Rattle.store_core.proofs.FittingLemmas.{IfSome-at, IsSomeAnd-at, same_type}
 use Rattle.routing_expr.specs.Walks.{DataAlone, Leads, IsOfType, IsOfVariant}
@@ -19,7 +17,6 @@ use Rattle.routing_laws.specs.Paths.{LeadsAlong}
 use Rattle.tree_encode.specs.Tracks.{of_variant, track_at, variant_track}
 use Rattle.tree_encode.specs.Positions.{below, IsPlaced}
 use Rattle.tree_encode.specs.Tracks.{child_number}
-use Rattle.tree_encode.proofs.PositionsLemmas.{own_type}
 use Rattle.tree_encode.proofs.TracksLemmas.{and_then-some}
 use Rattle.tree_store.specs.Encoding.{IsAssignmentOf}
 use Rattle.tree_store.proofs.SpotsLemmas.{of-some}

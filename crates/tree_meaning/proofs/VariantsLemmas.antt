@@ -1,5 +1,5 @@
 -- What the parts for two variants mean.
-use Rattle.std.proofs.Common.{◌≡◌, ℕ, ◌<◌, ◌≤◌, ◌↔◌, List, arith}
+use Rattle.std.proofs.Common.{ℕ, ◌<◌, ◌≤◌, ◌↔◌, List}
 use Rattle.gta_theory.specs.Assignments.{Position, Assignment, IsFinite}
 use Rattle.ws2s_core.specs.declared.formula.Formula.TheVariants.{And}
 use Rattle.ws2s_core.specs.Satisfaction.{WSat}
@@ -22,10 +22,13 @@ module _ (types : List TypeEntry) (vars : List VarEntry) (a : Assignment) (next 
       let some = law-ex1 next (And (is_of types v next) (is_of types w next)) a in
       let not = WSat-Not (ex1 next (And (is_of types v next) (is_of types w next))) a in (
         (λ h p one other.
-            not.0 h (some.1 (p, (WSat-And (is_of types v next) (is_of types w next) (with_position a next p)).1 (
-              (is_of-means types vars a (with_position a next p) next p (bound p) v of_v).1 one,
-              (is_of-means types vars a (with_position a next p) next p (bound p) w of_w).1 other,
-            )))),
+            not.0 h (some.1 (
+              p,
+              (WSat-And (is_of types v next) (is_of types w next) (with_position a next p)).1 (
+                (is_of-means types vars a (with_position a next p) next p (bound p) v of_v).1 one,
+                (is_of-means types vars a (with_position a next p) next p (bound p) w of_w).1 other,
+              ),
+            ))),
         (λ h. not.1 (λ found.
             let (p, holds) = some.0 found in
             let both = (WSat-And (is_of types v next) (is_of types w next) (with_position a next p)).0 holds in

@@ -1,5 +1,5 @@
 -- Sets that have cells alone: those of true bool fields, and those of variables.
-use Rattle.std.proofs.Common.{◌≡◌, ℕ, suc, ◌<◌, ◌≤◌, ◌↔◌, IsTrue, IsSomeAnd, List, Option, Some, None, refl, sym, subst, arith}
+use Rattle.std.proofs.Common.{◌≡◌, ℕ, suc, ◌<◌, ◌≤◌, ◌↔◌, IsTrue, IsSomeAnd, List, Option, Some, None, refl, sym, subst}
 use Rattle.std.specs.Option.{option_map_or}
 use Rattle.gta_theory.specs.Assignments.{Position, Assignment, IsFinite}
 use Rattle.ws2s_core.specs.declared.track.Track.{Track}

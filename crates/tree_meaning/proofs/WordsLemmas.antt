@@ -1,8 +1,5 @@
 -- The words of slots and children.
-use Rattle.std.proofs.Common.{◌≡◌, ℕ, zero, suc, ◌+◌, ◌<◌, Bool, true, false, cond, List, [], ◌∷◌, ◌++◌, take, slice_get, Some, inl, inr, refl, sym, ap, ◌∙◌, append_assoc, arith}
-use Rattle.std.specs.Prelude.{count_by}
-use Rattle.std.proofs.lemmas.Bool.{cases_order}
-use Rattle.std.proofs.lemmas.List.Sums.{sum_by-cons}
+use Rattle.std.proofs.Common.{◌≡◌, ℕ, zero, suc, false, [], ◌∷◌, ◌++◌, refl, sym, ap, ◌∙◌, append_assoc}
 use Rattle.gta_theory.specs.Assignments.{Position}
 use Rattle.ws2s_forms.specs.Places.{ones, child_of, slot_of}
 
@@ -56,31 +53,3 @@ children-apart j k u v of_u of_v e =
     let (number, same) = words-apart of_u.before of_v.before j k
     (sym (child-word j u of_u.before of_u.is) ∙ e ∙ child-word k v of_v.before of_v.is) in
     (number, of_u.is ∙ ap (λ w. w ++ false ∷ []) same ∙ sym of_v.is)
-
--- ---- elements that are counted
-
-counted-less : {X : Type 0} (p : X → Bool) (xs : List X) (i j : ℕ) (x : X) → i < j → slice_get xs i ≡ Some x → p x ≡ true →
-    count_by p (take i xs) < count_by p (take j xs)
-counted-less p [] i j x less at is = cc
-counted-less p (z ∷ xs) i zero x less at is = absurd (omega arith)
-counted-less p (z ∷ xs) zero (suc j) x less at is =
-    let same : x ≡ z = cc in
-    let counted : ◌≡◌ {A = ℕ} (cond (p z) 1 0) 1 = ap (λ b. cond b 1 0) (ap (λ u. p u) (sym same) ∙ is) in
-    let sum : count_by p (z ∷ take j xs) ≡ cond (p z) 1 0 + count_by p (take j xs) = sum_by-cons (λ u. cond (p u) 1 0) z (take j xs) in
-    omega (arith, counted, sum)
-counted-less p (z ∷ xs) (suc i) (suc j) x less at is =
-    let sum : count_by p (z ∷ take i xs) ≡ cond (p z) 1 0 + count_by p (take i xs) = sum_by-cons (λ u. cond (p u) 1 0) z (take i xs) in
-    let more : count_by p (z ∷ take j xs) ≡ cond (p z) 1 0 + count_by p (take j xs) = sum_by-cons (λ u. cond (p u) 1 0) z (take j xs) in
-    omega (arith, sum, more, counted-less p xs i j x (omega arith) at is)
-
--- those that as many stand before are one
-pub count-one : {X : Type 0} (p : X → Bool) (xs : List X) (i j : ℕ) (x y : X) → slice_get xs i ≡ Some x → p x ≡ true → slice_get xs j ≡ Some y →
-    p y ≡ true → count_by p (take i xs) ≡ count_by p (take j xs) → i ≡ j
-count-one p xs i j x y at is found also e =
-    elim (cases_order i j) as (λ _. i ≡ j) [
-      | inl same ↦ same
-      | inr differ ↦ elim differ as (λ _. i ≡ j) [
-        | inl less ↦ absurd (omega (arith, e, counted-less p xs i j x less at is))
-        | inr more ↦ absurd (omega (arith, e, counted-less p xs j i y more found also))
-      ]
-    ]

@@ -1,5 +1,5 @@
 -- What the laws ask of tables and of stores. (Klarlund and Schwartzbach 1993; the spelling is own.)
-use Rattle.std.specs.Prelude.{ℕ, ◌<◌, List, IfSome}
+use Rattle.std.specs.Prelude.{◌<◌, List, IfSome}
 use Rattle.store_core.specs.declared.ids.FieldId.{FieldId}
 use Rattle.store_core.specs.declared.ids.VarId.{VarId}
 use Rattle.store_core.specs.Tables.{TypeEntry, VarEntry, field_at, var_at, variant_count}

@@ -1,17 +1,21 @@
 //! What the formula says, and that the trees of backbones satisfy it.
 
-ghost use Rattle.std.specs.Prelude.{◌≡◌, ◌≢◌, ℕ, ◌≤◌, ◌↔◌, List};
+ghost use Rattle.std.specs.Prelude.{◌≡◌, ◌≢◌, ℕ, ◌≤◌, ◌↔◌, List, Some};
 ghost use Rattle.gta_theory.specs.Assignments.{Position, Assignment, IsFinite};
+ghost use Rattle.ws2s_core.specs.declared.label_tree.TreeNode.{TreeNode};
+ghost use Rattle.ws2s_core.specs.LabelTrees.{assignment_of};
 ghost use Rattle.ws2s_core.specs.Satisfaction.{WSat};
 ghost use Rattle.ws2s_forms.specs.Places.{child_of, slot_of};
 ghost use Rattle.store_core.specs.declared.ids.VariantId.{VariantId};
+ghost use Rattle.store_core.specs.declared.ids.FieldId.{FieldId};
+ghost use Rattle.store_core.specs.declared.ids.VarId.{VarId};
 ghost use Rattle.store_core.specs.Tables.{TypeEntry, VarEntry, IsTypeTable};
 ghost use Rattle.store_core.specs.Stores.{StoreMap, Fits};
 ghost use Rattle.routing_expr.specs.WellFormed.{IsBackbone};
-ghost use Rattle.tree_encode.specs.Tracks.{track_count};
+ghost use Rattle.tree_encode.specs.Tracks.{track_count, slot_of_var, child_number};
 ghost use Rattle.tree_formula.specs.WellEncoded.{well_encoded};
 ghost use Rattle.tree_shapes.specs.Shapes.{IsCellOf, LaysOut};
-ghost use Rattle.tree_store.specs.Encoding.{IsAssignmentOf};
+ghost use Rattle.tree_store.specs.Encoding.{IsAssignmentOf, IsTreeOf};
 ghost use Rattle.tree_meaning.specs.Premises.{OwnersAreThere, SetsHoldLive};
 
 /// Finite sets satisfy the formula exactly where they lay out a backbone. (Klarlund and Schwartzbach 1993: the well-formed
@@ -27,11 +31,14 @@ pub fn backbones_are_laid_out()
         IsBackbone types vars s → SetsHoldLive vars s → IsAssignmentOf types vars s a → LaysOut types vars a }
 {}
 
-/// The tree of a backbone whose logic sets hold live cells of their types satisfies the formula.
+/// The assignment of a backbone whose logic sets hold live cells of their types satisfies the formula, and so does its tree.
 pub fn trees_of_backbones_satisfy_the_formula()
-    ensures { (types : List TypeEntry) (vars : List VarEntry) (next : ℕ) (s : StoreMap) (a : Assignment) → OwnersAreThere types →
+    ensures assignment { (types : List TypeEntry) (vars : List VarEntry) (next : ℕ) (s : StoreMap) (a : Assignment) → OwnersAreThere types →
         Fits types vars s → IsBackbone types vars s → SetsHoldLive vars s → IsAssignmentOf types vars s a → IsFinite a →
         track_count types vars ≤ next → WSat (well_encoded next types vars) a }
+    ensures tree { (types : List TypeEntry) (vars : List VarEntry) (next : ℕ) (s : StoreMap) (nodes : List TreeNode) → OwnersAreThere types →
+        Fits types vars s → IsBackbone types vars s → SetsHoldLive vars s → IsTreeOf types vars s nodes →
+        track_count types vars ≤ next → WSat (well_encoded next types vars) (assignment_of nodes) }
 {}
 
 /// Where a backbone is laid out, a position has a cell of one variant alone. No two slots are one position, no slot is the
@@ -44,6 +51,13 @@ pub fn cells_stand_where_they_are_marked()
         LaysOut types vars a → IsCellOf types a v p → slot_of i ≢ child_of j p }
     ensures one_parent { (types : List TypeEntry) (vars : List VarEntry) (a : Assignment) (v w : VariantId) (j k : ℕ) (p q : Position) →
         LaysOut types vars a → IsCellOf types a v p → IsCellOf types a w q → child_of j p ≡ child_of k q → (j ≡ k) × (p ≡ q) }
+{}
+
+/// The data fields of a type have different numbers, and data variables different slots.
+pub fn numbers_tell_fields_and_variables_apart()
+    ensures fields { (types : List TypeEntry) (f g : FieldId) (j : ℕ) → f.ty ≡ g.ty → child_number types f ≡ Some j →
+        child_number types g ≡ Some j → f ≡ g }
+    ensures variables { (vars : List VarEntry) (v w : VarId) (i : ℕ) → slot_of_var vars v ≡ Some i → slot_of_var vars w ≡ Some i → v ≡ w }
 {}
 
 /// Each type table has the variants of its fields.
