@@ -12,3 +12,4 @@ pub mod VariantsLemmas
 pub mod VarsLemmas
 pub mod WithinLemmas
 pub mod WordsLemmas
+pub mod WorkedLemmas

@@ -80,7 +80,8 @@ module _ (types : List TypeEntry) (vars : List VarEntry) (a : Assignment) (next 
   is_within-means ty = by (unnamed_of types ty) refl
     where
       by : (o : Option VariantId) → unnamed_of types ty ≡ o →
-          WSat (option_map_or (λ v. Sub t (track_or_first (variant_track types v))) o (all1 next (imp (Sub (track next) t) (is_live (suc next) types ty next)))) a
+          WSat (option_map_or (λ v. Sub t (track_or_first (variant_track types v))) o
+          (all1 next (imp (Sub (track next) t) (is_live (suc next) types ty next)))) a
           ↔ HasCellsIn types a ty t.0
       by None none =
           each-on (is_live (suc next) types ty next) (λ p. IsCellIn types a ty p)
