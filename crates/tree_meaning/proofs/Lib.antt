@@ -1,0 +1,15 @@
+pub mod BackboneLemmas
+pub mod FormulaLemmas
+pub mod HoldersLemmas
+pub mod ListsLemmas
+pub mod MarksLemmas
+pub mod NumbersLemmas
+pub mod PlacesLemmas
+pub mod StandingLemmas
+pub mod StoresLemmas
+pub mod TablesLemmas
+pub mod VariantsLemmas
+pub mod VarsLemmas
+pub mod WithinLemmas
+pub mod WordsLemmas
+pub mod WorkedLemmas
