@@ -89,7 +89,8 @@ unnamed-known types ty otherwise is = by (type_at types ty) refl is
         record { of = refl; known = subst (λ (o : Option TypeEntry). 0 < option_map_or count_of_variants o 0) (sym at) low }
 
     by : (o : Option TypeEntry) → type_at types ty ≡ o →
-        is_some (option_and_then (λ (t : TypeEntry). if length t.variants == 0 then (let v : VariantId = record { ty = ty; index = 0 } in Some v) else None) o) ≡ true →
+        is_some (option_and_then (λ (t : TypeEntry). if length t.variants == 0 then (let v : VariantId = record { ty = ty; index = 0 } in Some v) else None)
+        o) ≡ true →
         IsVariantOf types (Some ty)
         (unwrap_or (option_and_then (λ (t : TypeEntry). if length t.variants == 0 then Some (record { ty = ty; index = 0 }) else None) o) otherwise)
     by None at is = absurd cc
@@ -120,7 +121,8 @@ module _ (types : List TypeEntry) (vars : List VarEntry) (entries : List Entry) 
 
   -- ---- what a place of cells gets
 
-  value-is : (ty : TypeId) (t : TypedTerm) → IsTyped types vars entries all t → is_value_for (sort.Cell ty) t ≡ true → OperandFits types vars (operand_in t) (logic.Cell ty)
+  value-is : (ty : TypeId) (t : TypedTerm) → IsTyped types vars entries all t → is_value_for (sort.Cell ty) t ≡ true →
+      OperandFits types vars (operand_in t) (logic.Cell ty)
   value-is ty typed.Null fits is = tt
   value-is ty (typed.Path p) fits is =
       let parts = and-parts (is_cell p.sort) (are_of_one_type (sort.Cell ty) p.sort) is in
@@ -142,7 +144,8 @@ module _ (types : List TypeEntry) (vars : List VarEntry) (entries : List Entry) 
           let parts = both _ _ none in
           value-is ty (typed_term types entries t) (term-typed types vars entries all t parts.0) (needed _ _ _ parts.1)
 
-  value-fits : (of : Sort) (x : Value) → is_set of ≡ false → value_fault types entries of x ≡ None → RhsFits types vars (value_of types entries of x) (sort_in of)
+  value-fits : (of : Sort) (x : Value) → is_set of ≡ false → value_fault types entries of x ≡ None →
+      RhsFits types vars (value_of types entries of x) (sort_in of)
   unfolding value_fault value_of
   value-fits of (value.New word ty v) none-set none = new-fits of word ty v none
   value-fits sort.Truth (value.Condition first c) none-set none = (condition-fits types vars entries all c none, refl)

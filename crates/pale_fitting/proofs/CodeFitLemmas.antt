@@ -50,11 +50,12 @@ use Rattle.pale_acts.specs.declared.conditions.Junction.{Junction}
 use Rattle.pale_acts.specs.declared.conditions.Junction.TheVariants as junction
 use Rattle.pale_acts.specs.Operands.{var_in, path_in, operand_in}
 use Rattle.pale_acts.specs.Conditions as conditions
-use Rattle.pale_acts.specs.Conditions.{is_truth_path, truth_in, same_of, is_in, is_of, joined, chained, negated, typing_rules, typed_condition, fault_rules, condition_fault}
+use Rattle.pale_acts.specs.Conditions.{is_truth_path, truth_in, same_of, is_in, is_of, joined, chained, negated, typing_rules, typed_condition}
+use Rattle.pale_acts.specs.Conditions.{fault_rules, condition_fault}
 use Rattle.pale_acts.proofs.ConditionLemmas.{fault_form, typed_form}
 use Rattle.pale_fitting.specs.Standing.{sort_in, IsCodeVariable, AreCodeVariables}
 use Rattle.pale_fitting.proofs.StandingLemmas.{meaning-from}
-use Rattle.pale_fitting.proofs.TermFitLemmas.{and-parts, cell-sort, cell_of-sort, one-cell-type, fields-along, base-may, IsVariantOf, variant-under}
+use Rattle.pale_fitting.proofs.TermFitLemmas.{and-parts, truth-sort, cell-sort, cell_of-sort, one-cell-type, fields-along, base-may, IsVariantOf, variant-under}
 
 -- ---- names
 
@@ -127,7 +128,8 @@ module _ (types : List TypeEntry) (vars : List VarEntry) where
   -- ---- paths and terms
 
   module _ (entries : List Entry) (all : AreCodeVariables vars entries) where
-    pub path-fits : (p : Path) → path_fault types entries p ≡ None → PathFits types vars (path_in (typed_path types entries p)) (sort_in (typed_path types entries p).sort)
+    pub path-fits : (p : Path) → path_fault types entries p ≡ None →
+        PathFits types vars (path_in (typed_path types entries p)) (sort_in (typed_path types entries p).sort)
     unfolding path_fault typed_path
     path-fits p none =
         let parts = both _ _ none in
@@ -155,11 +157,6 @@ module _ (types : List TypeEntry) (vars : List VarEntry) where
     truth-path typed.Null fits is = False-fits
     truth-path (typed.Path p) fits is =
         by-form (test.Bool (path_in p)) (Cond-F.Bool (path_in p)) (test.rolls-Bool (path_in p)) (at-sort p sort.Truth (truth-sort p.sort is) fits)
-      where
-        truth-sort : (s : Sort) → is_truth s ≡ true → s ≡ sort.Truth
-        truth-sort sort.Truth is = refl
-        truth-sort (sort.Cell ty) is = absurd cc
-        truth-sort (sort.Set ty) is = absurd cc
 
     truth-of-fits : (t : source.Term) → conditions.truth_fault types entries t ≡ None → CondFits types vars (conditions.truth_of types entries t)
     unfolding conditions.truth_fault conditions.truth_of

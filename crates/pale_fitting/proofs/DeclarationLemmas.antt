@@ -26,7 +26,8 @@ use Rattle.pale_fitting.proofs.ParameterLemmas.{parameters-stand}
 use Rattle.pale_fitting.proofs.AssertionFitLemmas.{assertion-fits}
 
 -- an assertion in its brackets has no fault
-pub assertion-none : (d : Declared) (entries : List Entry) (b : Bracketed) → bracketed_fault d entries b ≡ None → assertion_fault d.vocabulary entries b.assertion ≡ None
+pub assertion-none : (d : Declared) (entries : List Entry) (b : Bracketed) → bracketed_fault d entries b ≡ None →
+    assertion_fault d.vocabulary entries b.assertion ≡ None
 unfolding bracketed_fault
 assertion-none d entries b none = (both _ _ none).0
 
@@ -58,7 +59,8 @@ module _ (d : Declared) (fit : DeclarationsFit d) (p : PredicateDeclaration) (no
       let head : Head = record { name = p.name.bytes; params = own } in record {
         names = fit.names;
         preds =
-            subst (λ (l : List PredDef). PredsFit d.vocabulary.types l (reverse (pred_sorts (d.vocabulary.preds ++ head ∷ [])))) (sym (reverse-push d.preds def))
+            subst (λ (l : List PredDef). PredsFit d.vocabulary.types l (reverse (pred_sorts (d.vocabulary.preds ++ head ∷ []))))
+            (sym (reverse-push d.preds def))
             (subst (λ (l : List (List logic.Sort)). PredsFit d.vocabulary.types (def ∷ reverse d.preds) l)
             (sym (ap reverse (sorts-push d.vocabulary.preds head) ∙ reverse-push (pred_sorts d.vocabulary.preds) (map sort_in own))) (
               length-map own sort_in,

@@ -47,7 +47,8 @@ variant-there types names all ty name = by (variant_named names ty name) refl
 -- ---- fields
 
 -- the fields of a declaration, in its type
-module _ (names : TypeNames) (P : FieldDeclaration → Type 0) (Q : FieldEntry → Type 0) (so : (only : Option ℕ) (f : FieldDeclaration) → P f → Q (field_entry names only f))
+module _ (names : TypeNames) (P : FieldDeclaration → Type 0) (Q : FieldEntry → Type 0)
+    (so : (only : Option ℕ) (f : FieldDeclaration) → P f → Q (field_entry names only f))
   where
     in-variants : (index : ℕ) (variants : List VariantDeclaration) → IsFound P (flat_map (λ (v : VariantDeclaration). v.fields) variants) →
         IsFound Q (variant_fields names index variants)
@@ -89,10 +90,12 @@ field-in IsSo name types f =
 
 module _ (ts : List TypeDeclaration) (names : TypeNames) (IsSo : FieldKind → Type 0) (g : FieldDeclaration → Option (List ℕ))
     (so : (name : List ℕ) (only : Option ℕ) (f : FieldDeclaration) → g f ≡ Some name → Suits IsSo name (field_entry names only f)) where
-  came : (name : List ℕ) (i : ℕ) → place_of name (each_once (filter_map g (flat_map fields_in ts))) ≡ Some i → HasFieldNamed (map (type_entry names) ts) IsSo name
+  came : (name : List ℕ) (i : ℕ) → place_of name (each_once (filter_map g (flat_map fields_in ts))) ≡ Some i →
+      HasFieldNamed (map (type_entry names) ts) IsSo name
   came name i at =
       field-in IsSo name (map (type_entry names) ts)
-      (found-map (λ (t : TypeDeclaration). IsFound (λ f. g f ≡ Some name) (fields_in t)) (λ (t : TypeEntry). IsFound (Suits IsSo name) t.fields) (type_entry names)
+      (found-map (λ (t : TypeDeclaration). IsFound (λ f. g f ≡ Some name) (fields_in t)) (λ (t : TypeEntry). IsFound (Suits IsSo name) t.fields)
+      (type_entry names)
       (in-type names (λ f. g f ≡ Some name) (Suits IsSo name) (so name)) ts
       (in-flat (λ f. g f ≡ Some name) fields_in ts
       (in-filter g (flat_map fields_in ts) name (from-once (filter_map g (flat_map fields_in ts)) name i at))))
@@ -105,7 +108,8 @@ module _ (ts : List TypeDeclaration) (names : TypeNames) (IsSo : FieldKind → T
       by None at is = absurd cc
       by (Some i) at is = came name i at
 
-bool-so : (names : TypeNames) (name : List ℕ) (only : Option ℕ) (f : FieldDeclaration) → bool_name f ≡ Some name → Suits IsBoolField name (field_entry names only f)
+bool-so : (names : TypeNames) (name : List ℕ) (only : Option ℕ) (f : FieldDeclaration) → bool_name f ≡ Some name →
+    Suits IsBoolField name (field_entry names only f)
 bool-so names name only f is = by f.form is
   where
     by : (g : FieldForm) → name_if (is_bool g) f ≡ Some name → (f.name.bytes ≡ name) × IsBoolField (kind_of names g)

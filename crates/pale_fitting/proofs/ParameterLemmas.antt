@@ -9,8 +9,8 @@ use Rattle.pale_predicates.specs.Parameters as parameters
 use Rattle.pale_fitting.specs.Standing.{sort_in, StandFor}
 
 -- parameters of these sorts after those before them
-parameters-from : (types : List TypeEntry) (preds : List (List logic.Sort)) (before : List logic.Sort) (ps : List PredicateParameter) (params : List logic.Sort) →
-    params ≡ before ++ map sort_in (map (parameters.sort_of types) ps) →
+parameters-from : (types : List TypeEntry) (preds : List (List logic.Sort)) (before : List logic.Sort) (ps : List PredicateParameter)
+    (params : List logic.Sort) → params ≡ before ++ map sort_in (map (parameters.sort_of types) ps) →
     StandFor (parameters.scope_of types (length before) ps) (record { vars = []; bound = []; params = params; preds = preds })
 parameters-from types preds before [] params is = tt
 parameters-from types preds before (p ∷ ps) params is =
