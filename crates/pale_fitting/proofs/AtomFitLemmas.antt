@@ -1,5 +1,5 @@
 -- Assertions without parts that have no fault fit.
-use Rattle.std.proofs.Common.{◌≡◌, ℕ, zero, suc, ◌<◌, Bool, true, false, ◌==◌, List, [], ◌∷◌, length, map, slice_get}
+use Rattle.std.proofs.Common.{◌≡◌, ℕ, ◌<◌, true, List, [], ◌∷◌, length, map, slice_get}
 use Rattle.std.proofs.Common.{Option, Some, None, is_some, IsSomeAnd, unwrap_or, refl, sym, ap, ◌∙◌, subst, arith}
 use Rattle.std.specs.Option.{option_map, option_map_or}
 use Rattle.std.proofs.lemmas.List.{length-map}
@@ -11,18 +11,14 @@ use Rattle.pale_syntax.specs.declared.tree.names.Term as source
 use Rattle.pale_syntax.specs.declared.tree.names.Term.TheVariants as source_term
 use Rattle.pale_syntax.specs.declared.tree.route.Route.{Route}
 use Rattle.store_core.specs.declared.ids.TypeId.{TypeId}
-use Rattle.store_core.specs.Tables.{TypeEntry, place_of}
-use Rattle.store_logic.specs.declared.arg.Arg.{Arg}
+use Rattle.store_core.specs.Tables.{TypeEntry}
 use Rattle.store_logic.specs.Sorts as logic
 use Rattle.store_logic.specs.Sorts.{Scope, TermFits, BaseFits, ArgFits, ArgsFit}
-use Rattle.store_logic.specs.Fits.{MemberTestFits, SubsetTestFits, WalkTestFits, FitsIn}
-use Rattle.pale_tables.specs.Faults.{Fault, ◌>>◌}
+use Rattle.store_logic.specs.Fits.{MemberTestFits, FitsIn}
 use Rattle.pale_tables.proofs.KnownRoutes.{both, needed, position-within}
 use Rattle.pale_terms.specs.declared.sort.Sort.{Sort}
 use Rattle.pale_terms.specs.declared.sort.Sort.TheVariants as sort
 use Rattle.pale_terms.specs.declared.terms.TypedTerm.{TypedTerm}
-use Rattle.pale_terms.specs.declared.terms.TypedTerm.TheVariants as typed
-use Rattle.pale_terms.specs.Sorts.{is_truth, are_of_one_type}
 use Rattle.pale_terms.specs.Visibles.{Entry}
 use Rattle.pale_terms.specs.Scopes.{meaning_of}
 use Rattle.pale_terms.specs.Terms.{typed_path, typed_term, term_at, term_in, cell_type, compared_fault, variant_test_fault}

@@ -15,7 +15,7 @@ use Rattle.store_logic.specs.declared.arg.Arg.TheVariants as arg
 use Rattle.store_logic.specs.declared.assertion.Assertion.{Assertion}
 use Rattle.store_logic.specs.declared.assertion.Assertion.TheVariants as assertion
 use Rattle.store_logic.specs.declared.pred.PredDef.{PredDef}
-use Rattle.store_logic.specs.Sorts.{Sort, Truth, Cell, Set, Scope, scope_of, under, field_sort, sort_along, base_sort, BaseFits, TermFits, ArgFits, ArgsFit}
+use Rattle.store_logic.specs.Sorts.{Sort, Truth, Cell, Set, Scope, under, field_sort, sort_along, base_sort, BaseFits, TermFits, ArgFits, ArgsFit}
 use Rattle.store_logic.specs.Fits.{FitsIn, AssertionFits, PredsFit}
 use Rattle.store_logic.specs.Filling.{of_term, arg_term, args_for, shifted_base, shifted_term, shifted, path_from, filled_term, is_true, name_in}
 use Rattle.store_logic.specs.Filling.{filled_set, filled, put_in}

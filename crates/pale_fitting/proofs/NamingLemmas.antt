@@ -1,10 +1,8 @@
 -- The names that declarations give are those of their table.
-use Rattle.std.proofs.Common.{◌≡◌, ◌⊎◌, inl, inr, ℕ, ◌+◌, ◌<◌, ◌≤◌, Bool, true, false, IsTrue, ◌||◌, List, [], ◌∷◌, ◌++◌, map, flat_map, length}
+use Rattle.std.proofs.Common.{◌≡◌, ◌⊎◌, inl, inr, ℕ, ◌+◌, Bool, true, false, ◌||◌, List, [], ◌∷◌, ◌++◌, map, flat_map}
 use Rattle.std.proofs.Common.{slice_get, is_some, IfSome, IsSomeAnd, Option, Some, None, refl, sym, ap, ◌∙◌, subst, arith}
 use Rattle.std.specs.Option.{option_map, option_map_or}
 use Rattle.std.specs.List.{filter_map}
-use Rattle.std.proofs.lemmas.Option.{slice_get-map}
-use Rattle.pale_syntax.specs.declared.tree.names.Name.{Name}
 use Rattle.pale_syntax.specs.declared.tree.declaration.TypeDeclaration.{TypeDeclaration}
 use Rattle.pale_syntax.specs.declared.tree.declaration.VariantDeclaration.{VariantDeclaration}
 use Rattle.pale_syntax.specs.declared.tree.declaration.FieldDeclaration.{FieldDeclaration}
@@ -17,15 +15,14 @@ use Rattle.store_core.specs.Tables.{TypeEntry, FieldEntry, KnowsType, KnowsVaria
 use Rattle.routing_expr.specs.Walks.{DataAndPointers, IsFollowed}
 use Rattle.store_logic.specs.Fits.{HasFieldNamed, IsBoolField}
 use Rattle.pale_tables.specs.declared.type_names.TypeNames.{TypeNames}
-use Rattle.pale_tables.specs.declared.type_names.Followed.TheVariants as follows
 use Rattle.pale_tables.specs.Names.{each_once}
-use Rattle.pale_tables.specs.Routes.{type_named, variant_named, is_among, is_followed}
+use Rattle.pale_tables.specs.Routes.{type_named, variant_named, is_among}
 use Rattle.pale_tables.specs.Types.{fields_in, name_if, is_bool, is_data, is_pointer, bool_name, data_name, pointer_name, kind_of, field_entry}
 use Rattle.pale_tables.specs.Types.{variant_fields, type_entry, names_in, type_table}
 use Rattle.pale_tables.proofs.KnownRoutes.{Covers, position-within}
 use Rattle.pale_tables.proofs.TableLemmas.{covers}
 use Rattle.pale_fitting.specs.Naming.{AreNamesOf}
-use Rattle.pale_fitting.proofs.FoundLemmas.{IsFound, found-here, found-later, in-cons, in-append, to-first, to-second, in-flat, found-map, in-filter, from-once}
+use Rattle.pale_fitting.proofs.FoundLemmas.{IsFound, in-append, to-first, to-second, in-flat, found-map, in-filter, from-once}
 
 -- ---- types and variants
 

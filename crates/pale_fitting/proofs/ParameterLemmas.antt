@@ -1,5 +1,5 @@
 -- Parameters of predicates stand for what they are in the scope.
-use Rattle.std.proofs.Common.{◌≡◌, ℕ, ◌+◌, List, [], ◌∷◌, ◌++◌, map, length, slice_get, refl, sym, ap, ◌∙◌, subst, append_assoc}
+use Rattle.std.proofs.Common.{◌≡◌, ◌+◌, List, [], ◌∷◌, ◌++◌, map, length, slice_get, refl, sym, ap, ◌∙◌, subst, append_assoc}
 use Rattle.std.proofs.lemmas.List.{length_push}
 use Rattle.pale_syntax.specs.declared.tree.declaration.PredicateParameter.{PredicateParameter}
 use Rattle.store_core.specs.Tables.{TypeEntry}

@@ -1,5 +1,5 @@
 -- Paths and terms without a fault are of the sort that the rules say.
-use Rattle.std.proofs.Common.{◌≡◌, ℕ, zero, suc, ◌<◌, ◌≤◌, Bool, true, false, cond, ◌&&◌, ◌==◌, eqb, List, [], ◌∷◌, length, slice_get, map}
+use Rattle.std.proofs.Common.{◌≡◌, ℕ, zero, suc, ◌<◌, ◌≤◌, Bool, true, false, cond, ◌&&◌, ◌==◌, eqb, List, [], ◌∷◌, length, slice_get}
 use Rattle.std.proofs.Common.{Option, Some, None, is_some, unwrap_or, if◌then◌else◌, refl, sym, ap, ◌∙◌, subst, arith}
 use Rattle.std.specs.Option.{option_map, option_map_or, option_and_then}
 use Rattle.std.proofs.lemmas.List.{length-map}
@@ -16,11 +16,9 @@ use Rattle.store_core.specs.declared.kind.FieldKind.TheVariants as field
 use Rattle.store_core.specs.Tables.{TypeEntry, FieldEntry, KnowsVariant, place_of, field_at, field_names, fields_of, type_at, variants_of}
 use Rattle.store_core.specs.Tables.{count_of_variants, variant_count}
 use Rattle.store_logic.specs.declared.term.Term.{Term}
-use Rattle.store_logic.specs.declared.term.Term.TheVariants as term
 use Rattle.store_logic.specs.Sorts as logic
 use Rattle.store_logic.specs.Sorts.{Scope, TermFits, BaseFits, field_sort}
 use Rattle.store_logic.specs.Fits.{SameTestFits, VariantTestFits}
-use Rattle.pale_tables.specs.Faults.{Fault, ◌>>◌}
 use Rattle.pale_tables.proofs.KnownRoutes.{both, needed, position-within}
 use Rattle.pale_terms.specs.declared.sort.Sort.{Sort}
 use Rattle.pale_terms.specs.declared.sort.Sort.TheVariants as sort
@@ -30,7 +28,7 @@ use Rattle.pale_terms.specs.declared.terms.TypedTerm.TheVariants as typed
 use Rattle.pale_terms.specs.Sorts.{held, is_truth, is_cell, is_set, cell_of, are_of_one_type}
 use Rattle.pale_terms.specs.Visibles.{Entry}
 use Rattle.pale_terms.specs.Scopes.{meaning_of, base_fault, set_fault}
-use Rattle.pale_terms.specs.Terms.{field_under, typed_field, sort_behind, typed_fields, sort_along, typed_path, typed_term, term_at, term_in}
+use Rattle.pale_terms.specs.Terms.{typed_field, sort_behind, typed_fields, sort_along, typed_path, typed_term, term_at, term_in}
 use Rattle.pale_terms.specs.Terms.{is_reference, cell_type, are_alike, variant_under, variant_test, field_fault, fields_fault, path_fault, term_fault}
 use Rattle.pale_terms.specs.Terms.{reference_fault, compared_fault, cell_fault, variant_test_fault, set_path_fault}
 use Rattle.pale_fitting.specs.Standing.{sort_in, StandFor}

@@ -16,7 +16,6 @@ use Rattle.store_logic.specs.declared.term.Term.TheVariants as term
 use Rattle.store_logic.specs.declared.arg.Arg.{Arg}
 use Rattle.store_logic.specs.declared.arg.Arg.TheVariants as arg
 use Rattle.store_logic.specs.declared.assertion.Assertion.{Assertion}
-use Rattle.store_logic.specs.declared.assertion.Assertion.TheVariants as assertion
 use Rattle.store_logic.specs.declared.pred.PredDef.{PredDef}
 use Rattle.store_logic.specs.Sorts.{Sort, Truth, Cell, Set, Scope, under, sort_along, base_sort, BaseFits, TermFits, ArgFits, ArgsFit}
 use Rattle.store_logic.specs.Fits.{FitsIn, PredsFit}
@@ -27,7 +26,7 @@ use Rattle.store_logic.proofs.ExpandingForms.{names-Walk, names-Pred, names-Not,
 use Rattle.store_logic.proofs.ExpandingForms.{names-ExSet, names-AllSet, uses-True, uses-False, uses-Truth, uses-Is, uses-Same, uses-Member}
 use Rattle.store_logic.proofs.ExpandingForms.{uses-Subset, uses-Walk, uses-Pred, uses-Not, uses-And, uses-Or, uses-Imp, uses-Iff, uses-Ex}
 use Rattle.store_logic.proofs.ExpandingForms.{uses-All, uses-ExSet, uses-AllSet}
-use Rattle.store_logic.proofs.ExpandingLists.{slice_get-first, slice_get-seam, all-append}
+use Rattle.store_logic.proofs.ExpandingLists.{slice_get-seam, all-append}
 use Rattle.pale_fitting.proofs.FitForms.{Fits-Truth, Fits-Is, Fits-Same, Fits-Member, Fits-Subset, Fits-Walk, Fits-Pred, Fits-Not, Fits-And}
 use Rattle.pale_fitting.proofs.FitForms.{Fits-Or, Fits-Imp, Fits-Iff, Fits-Ex, Fits-All, Fits-ExSet, Fits-AllSet}
 
