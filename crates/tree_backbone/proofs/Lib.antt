@@ -1,0 +1,5 @@
+pub mod WordsLemmas
+pub mod CellsLemmas
+pub mod ValuesLemmas
+pub mod StandingLemmas
+pub mod StoreLemmas
