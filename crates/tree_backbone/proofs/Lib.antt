@@ -2,4 +2,5 @@ pub mod WordsLemmas
 pub mod CellsLemmas
 pub mod ValuesLemmas
 pub mod StandingLemmas
+pub mod AssignmentLemmas
 pub mod StoreLemmas

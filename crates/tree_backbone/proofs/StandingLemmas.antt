@@ -202,8 +202,8 @@ module _ (types : List TypeEntry) (vars : List VarEntry) (a : Assignment) (cells
 
   pub child_named : (f : FieldId) (c d : CellId) → IsSomeAnd (field_at types f) (λ entry. IsFollowed DataAlone entry.kind) →
       field_value s c f ≡ Some (value.Cell (Some d)) → ChildAt types cells f c d
-  child_named f c d is_data value =
-      let held = here_value types vars a cells c f (value.Cell (Some d)) value in
+  child_named f c d is_data holds =
+      let held = here_value types vars a cells c f (value.Cell (Some d)) holds in
       let (ty, kind) = data_field held.entry.kind (some-entry (λ (e : FieldEntry). IsFollowed DataAlone e.kind) (field_at types f) held.entry held.there is_data) in
       let reference : option_and_then (child_at cells held.cell.at) (child_number types f) ≡ Some d =
       one_reference _ (Some d) (ap Some (ap (λ k. field_in types a cells held.cell.at f k) (sym kind) ∙ sym held.is)) in
@@ -312,7 +312,7 @@ module _ (types : List TypeEntry) (vars : List VarEntry) (a : Assignment) (cells
   below_step [] f u = refl
   below_step (g ∷ fields) f u = below_step fields f (child_of (unwrap_or (child_number types g) 0) u)
 
-  had_entry : (index : ℕ) (f : FieldId) → IsTrue (has_field types (variant_in f.ty index) f) → (entry : FieldEntry) → field_at types f ≡ Some entry → is_had index entry ≡ true
+  pub had_entry : (index : ℕ) (f : FieldId) → IsTrue (has_field types (variant_in f.ty index) f) → (entry : FieldEntry) → field_at types f ≡ Some entry → is_had index entry ≡ true
   had_entry index f has entry there =
       let last = and_second _ _ (and_second _ _ has) in
       subst (λ o. option_map_or (is_had index) o false ≡ true) there last

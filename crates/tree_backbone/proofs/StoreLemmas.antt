@@ -44,6 +44,7 @@ use Rattle.tree_backbone.proofs.WordsLemmas.{slots-apart, slot-not_child, childr
 use Rattle.tree_backbone.proofs.CellsLemmas.{ComesBefore-not_itself, ComesBefore-one_way, one_place, IsFoundAt, first_found, all_found, all_rising}
 use Rattle.tree_backbone.proofs.ValuesLemmas.{HeldAt, LiveAt, VarHeldAt, own_field, cell_here, here_cell, value_here, here_value, var_here, here_var}
 use Rattle.tree_backbone.proofs.StandingLemmas.{some-entry, entry-some, one_entry, followed, var_one, field_one, RootAt, ChildAt, PlaceAt, tracked, var_lays, in_type, ends}
+use Rattle.tree_backbone.proofs.AssignmentLemmas.{IsAssignmentOf-decoded}
 use Rattle.tree_backbone.proofs.StandingLemmas.{one_standing, root_at, child_named, child_type, placed_at, standing_placed}
 
 -- ---- references
@@ -339,6 +340,7 @@ module _ (types : List TypeEntry) (vars : List VarEntry) (a : Assignment) (cells
     fresh = IsFresh-decoded;
     backbone = IsBackbone-decoded;
     sets = AreSetsLive-decoded;
+    assignment = IsAssignmentOf-decoded types vars a cells lays are;
     numbers = AreNumbered-decoded;
     order = AreInPreorder-decoded;
   }

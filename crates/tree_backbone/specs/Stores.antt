@@ -7,6 +7,7 @@ use Rattle.store_core.specs.Tables.{TypeEntry, VarEntry, var_at}
 use Rattle.store_core.specs.Stores.{StoreMap, IsLive, Fits, IsFresh, var_value}
 use Rattle.routing_expr.specs.WellFormed.{IsBackbone, SetHoldsLive}
 use Rattle.tree_encode.specs.Positions.{IsPlaced}
+use Rattle.tree_store.specs.Encoding.{IsAssignmentOf}
 use Rattle.tree_backbone.specs.Preorder.{ComesBefore}
 
 -- every logic set holds live cells of its type
@@ -22,11 +23,12 @@ abbrev pub AreInPreorder : List TypeEntry → List VarEntry → StoreMap → Typ
 AreInPreorder types vars s = (c d : CellId) (p q : Position) → IsPlaced types vars s c p → IsPlaced types vars s d q →
     (c.0 < d.0) ↔ ComesBefore p q
 
--- the store fits its tables, is fresh and a backbone with live logic sets, and is numbered in preorder
+-- the store fits its tables, is fresh and a backbone with live logic sets, has the assignment, and is numbered in preorder
 pub record IsStoreOf (types : List TypeEntry) (vars : List VarEntry) (a : Assignment) (s : StoreMap) : Type 0 where
   pub fits : Fits types vars s
   pub fresh : IsFresh s
   pub backbone : IsBackbone types vars s
   pub sets : AreSetsLive vars s
+  pub assignment : IsAssignmentOf types vars s a
   pub numbers : AreNumberedFromOne s
   pub order : AreInPreorder types vars s

@@ -1,0 +1,84 @@
+//! The cells that stand in a tree.
+
+use crate::preorder::{node_at, preorder};
+use std::alloc::{AllocError, Global};
+use store_core::{CellId, TypeId, TypeTable, VariantId};
+use ws2s_core::TreeNode;
+
+/// A cell: the place of the node where it stands, and its variant.
+#[derive(Clone, Copy)]
+pub(crate) struct Found {
+    pub node: u32,
+    pub variant: VariantId,
+}
+
+/// Adds the variants of a type in order.
+fn push_variants(
+    variants: &mut Vec<VariantId>,
+    types: &TypeTable,
+    ty: TypeId,
+) -> Result<(), AllocError> {
+    for index in 0..types.variants(ty) {
+        variants.push(VariantId { ty, index })?;
+    }
+    Ok(())
+}
+
+/// The variant of each track, for the first tracks, which are those of the variants.
+fn variants_of(alloc: Global, types: &TypeTable) -> Result<Vec<VariantId>, AllocError> {
+    let mut variants = Vec::new(alloc);
+    for index in 0..types.types() {
+        push_variants(&mut variants, types, TypeId(index))?;
+    }
+    Ok(variants)
+}
+
+/// The variant of the cell at a node, if one stands there.
+fn variant_at(node: &TreeNode, variants: &[VariantId]) -> Option<VariantId> {
+    for track in node.tracks.as_slice() {
+        if let Some(variant) = variants.get(track.0 as usize) {
+            return Some(*variant);
+        }
+    }
+    None
+}
+
+/// The cells in preorder.
+pub(crate) fn cells_of(
+    alloc: Global,
+    types: &TypeTable,
+    nodes: &[TreeNode],
+) -> Result<Vec<Found>, AllocError> {
+    let variants = variants_of(alloc, types)?;
+    let places = preorder(alloc, nodes)?;
+    let mut cells = Vec::new(alloc);
+    for place in &places {
+        if let Some(node) = node_at(nodes, *place) {
+            if let Some(variant) = variant_at(node, variants.as_slice()) {
+                cells.push(Found {
+                    node: *place,
+                    variant,
+                })?;
+            }
+        }
+    }
+    Ok(cells)
+}
+
+/// For each place of a node the number of the cell that stands there, the cells being numbered from 1 in this order.
+pub(crate) fn numbers_of(
+    alloc: Global,
+    cells: &[Found],
+    count: usize,
+) -> Result<Vec<Option<CellId>>, AllocError> {
+    let mut numbers = Vec::new(alloc);
+    for _ in 0..count {
+        numbers.push(None)?;
+    }
+    let mut next = 1u32;
+    for cell in cells {
+        numbers[cell.node as usize] = Some(CellId(next));
+        next += 1;
+    }
+    Ok(numbers)
+}
