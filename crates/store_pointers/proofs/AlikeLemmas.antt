@@ -142,7 +142,7 @@ module _ (types : List TypeEntry) (s t : StoreMap) (k : IsSameButPointers types 
   leads_alike : (f : FieldId) (a b : CellId) → Leads types s DataAlone f a b → Leads types t DataAlone f a b
   leads_alike f a b h = record { kind = h.kind; value = k.fields a f (data_alone types f h.kind) ∙ h.value; live = live_alike b h.live }
 
-  truth_alike : DoCellsFit types s → (a : CellId) (f : FieldId) (b : Bool) → field_value s a f ≡ Some (value.Bool b) → field_value t a f ≡ Some (value.Bool b)
+  pub truth_alike : DoCellsFit types s → (a : CellId) (f : FieldId) (b : Bool) → field_value s a f ≡ Some (value.Bool b) → field_value t a f ≡ Some (value.Bool b)
   truth_alike fits a f b e = k.fields a f (truth_alone types s f b (value_kind types s fits a f (value.Bool b) e)) ∙ e
 
   names_alike : (vars : List VarEntry) (p : Place) (c : CellId) → Names types vars s p c → Names types vars t p c
@@ -153,7 +153,7 @@ module _ (types : List TypeEntry) (s t : StoreMap) (k : IsSameButPointers types 
   along_alike [] a b h = (h.0, live_alike a h.1)
   along_alike (f ∷ fields) a b h = (h.0, leads_alike f a h.0 h.1, along_alike fields h.0 b h.2)
 
-  stands_alike : (vars : List VarEntry) (v : VarId) (fields : List FieldId) (c : CellId) → StandsAt types vars s v fields c → StandsAt types vars t v fields c
+  pub stands_alike : (vars : List VarEntry) (v : VarId) (fields : List FieldId) (c : CellId) → StandsAt types vars s v fields c → StandsAt types vars t v fields c
   stands_alike vars v fields c h = record {
     root = h.root;
     named = names_alike vars (place.Var v) h.root h.named;

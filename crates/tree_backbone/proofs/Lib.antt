@@ -4,3 +4,5 @@ pub mod ValuesLemmas
 pub mod StandingLemmas
 pub mod AssignmentLemmas
 pub mod StoreLemmas
+pub mod OneCellLemmas
+pub mod ExistenceLemmas

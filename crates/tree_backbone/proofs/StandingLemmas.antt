@@ -88,6 +88,12 @@ var_one vars v w one other ty uy at kind found sort same =
     (sym (ap (λ o. unwrap_or o 0) (slotted vars v one ty at kind)) ∙ same ∙ ap (λ o. unwrap_or o 0) (slotted vars w other uy found sort)) in
     λ i. record { 0 = numbers i }
 
+pub longer_child : (j : ℕ) (u : Position) → length u < length (child_of j u)
+longer_child j u =
+    let all = length-append u (ones j ++ false ∷ []) in
+    let tail = length-append (ones j) (false ∷ []) in
+    omega (arith, all, tail)
+
 -- ---- facts of a place
 
 -- the cell has the number of a standing cell, at this position
@@ -317,12 +323,6 @@ module _ (types : List TypeEntry) (vars : List VarEntry) (a : Assignment) (cells
       let last = and_second _ _ (and_second _ _ has) in
       subst (λ o. option_map_or (is_had index) o false ≡ true) there last
 
-  longer : (j : ℕ) (u : Position) → length u < length (child_of j u)
-  longer j u =
-      let all = length-append u (ones j ++ false ∷ []) in
-      let tail = length-append (ones j) (false ∷ []) in
-      omega (arith, all, tail)
-
   -- a cell that stands somewhere is placed there
   at_placed : (n : ℕ) (i : ℕ) (x : Standing) → slice_get cells i ≡ Some x → length x.at < n → IsPlaced types vars s (numbered (1 + i)) x.at
   at_placed zero i x at short = absurd (omega arith)
@@ -352,7 +352,7 @@ module _ (types : List TypeEntry) (vars : List VarEntry) (a : Assignment) (cells
           let parent = are.all (variant_in child.along.ty child.has.index) child.parent child.has.here in
           let (entry, there, kind) = IsSomeAnd-at (field_at types child.along) (λ e. e.kind ≡ field.Data x.variant.ty) child.kind in
           let above = earlier parent.0 (record { variant = variant_in child.along.ty child.has.index; at = child.parent }) parent.1
-          (subst (λ p. length child.parent < length p) (sym child.position) (longer child.child child.parent)) in
+          (subst (λ p. length child.parent < length p) (sym child.position) (longer_child child.child child.parent)) in
           let leads = child_here child.along entry x.variant.ty parent.0 i child.child (record { variant = variant_in child.along.ty child.has.index; at = child.parent })
           x parent.1 at refl there kind (had_entry child.has.index child.along child.has.has entry there) child.number child.position in
           record {

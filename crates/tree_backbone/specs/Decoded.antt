@@ -1,6 +1,6 @@
 -- The store that a laid-out assignment stands for, but for its pointer fields. (Klarlund and Schwartzbach 1993: a labelled
 -- tree as a backbone.)
-use Rattle.std.specs.Prelude.{◌≡◌, ℕ, suc, ◌<◌, Bool, false, List, [], ◌∷◌, length, slice_get, Option, Some, None, if◌then◌else◌}
+use Rattle.std.specs.Prelude.{◌≡◌, ℕ, zero, suc, ◌<◌, Bool, true, false, List, [], ◌∷◌, ◌++◌, length, slice_get, Option, Some, None, if◌then◌else◌}
 use Rattle.std.specs.Option.{option_map_or, option_and_then}
 use Rattle.std.specs.FinMap.{from_sorted}
 use Rattle.std.specs.Ordering.{nat_cmp}
@@ -20,7 +20,7 @@ use Rattle.store_core.specs.declared.value.Value.{Value}
 use Rattle.store_core.specs.declared.value.Value.TheVariants as value
 use Rattle.store_core.specs.Tables.{TypeEntry, FieldEntry, VarEntry, fields_of, is_had}
 use Rattle.store_core.specs.Stores.{StoreMap, CellEntry}
-use Rattle.tree_encode.specs.Tracks.{bool_track, var_track, child_number}
+use Rattle.tree_encode.specs.Tracks.{variants_from, variant_track, bool_track, var_track, child_number}
 use Rattle.tree_shapes.specs.Shapes.{IsCellOf}
 use Rattle.tree_backbone.specs.Preorder.{ComesBefore}
 
@@ -106,3 +106,16 @@ decoded types vars a cells = record {
   vars = vars_in types vars a cells 0 vars;
   next = suc (length cells);
 }
+
+-- ---- the list of the cells
+
+-- the cell at the position: of the first variant on whose track it is
+abbrev pub cell_at : List TypeEntry → Assignment → Position → List VariantId → List Standing
+cell_at types a p [] = []
+cell_at types a p (v ∷ variants) = if is_on a (variant_track types v) p then record { variant = v; at = p } ∷ [] else cell_at types a p variants
+
+-- the cells at a position and below it, down to so many letters more, in preorder
+abbrev pub cells_below : List TypeEntry → Assignment → ℕ → Position → List Standing
+cells_below types a zero p = []
+cells_below types a (suc n) p =
+    cell_at types a p (variants_from 0 types) ++ (cells_below types a n (p ++ false ∷ []) ++ cells_below types a n (p ++ true ∷ []))

@@ -6,4 +6,4 @@
 
 mod laws;
 
-pub use laws::laid_out_trees_are_trees_of_backbones;
+pub use laws::{laid_out_trees_are_trees_of_backbones, positions_have_one_cell};

@@ -1,1 +1,2 @@
-
+pub mod PointersLemmas
+pub mod OrdersLemmas

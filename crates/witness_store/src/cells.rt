@@ -3,7 +3,7 @@
 use crate::preorder::{node_at, preorder};
 use std::alloc::{AllocError, Global};
 use store_core::{CellId, TypeId, TypeTable, VariantId};
-use ws2s_core::TreeNode;
+use ws2s_core::{LabelTree, TreeNode};
 
 /// A cell: the place of the node where it stands, and its variant.
 #[derive(Clone, Copy)]
@@ -47,10 +47,11 @@ fn variant_at(node: &TreeNode, variants: &[VariantId]) -> Option<VariantId> {
 pub(crate) fn cells_of(
     alloc: Global,
     types: &TypeTable,
-    nodes: &[TreeNode],
+    tree: &LabelTree,
 ) -> Result<Vec<Found>, AllocError> {
+    let nodes = tree.nodes();
     let variants = variants_of(alloc, types)?;
-    let places = preorder(alloc, nodes)?;
+    let places = preorder(alloc, tree)?;
     let mut cells = Vec::new(alloc);
     for place in &places {
         if let Some(node) = node_at(nodes, *place) {
