@@ -143,16 +143,16 @@ only_destination types s c f target along cells o kind listed only = IsOnlyCell-
       λ h. let ends = from d (field_at types f) kind h in ((listed.members d).1 ends.walk, ends.of_target),
     )
 
-
-
-
 -- the one that was found, and no other of this field
 pub pointing_found : (types : List TypeEntry) (s : StoreMap) (c : CellId) (f : FieldId) (o : Option CellId) (x : Pointing) →
     IsPointing types s (record { cell = c; field = f; to = o }) →
     (Some (record { cell = c; field = f; to = o }) ≡ Some x) ↔ ((x.cell ≡ c) × (x.field ≡ f) × IsPointing types s x)
 pointing_found types s c f o x is = (
   λ e. let same : record { cell = c; field = f; to = o } ≡ x = same_Some _ x e in (
-    sym (ap (λ (y : Pointing). y.cell) same), sym (ap (λ (y : Pointing). y.field) same), subst (IsPointing types s) same is),
+    sym (ap (λ (y : Pointing). y.cell) same),
+    sym (ap (λ (y : Pointing). y.field) same),
+    subst (IsPointing types s) same is,
+  ),
   λ h. ap Some (λ i. record {
     cell = sym h.0 i;
     field = sym h.1 i;

@@ -15,11 +15,7 @@ use store_core::{Store, TypeTable, Value};
 /// # Errors
 ///
 /// Want of memory, and then the store is as it was.
-pub fn set_pointers(
-    alloc: Global,
-    types: &TypeTable,
-    store: &mut Store,
-) -> Result<(), AllocError>
+pub fn set_pointers(alloc: Global, types: &TypeTable, store: &mut Store) -> Result<(), AllocError>
     requires { DoCellsFit types.now store.old }
     ensures pointers { OnOk result (ArePointersSet types.now store.new) }
     ensures kept { IsSameButPointers types.now store.old store.new }

@@ -198,7 +198,7 @@ module _ (types : List TypeEntry) (vars : List VarEntry) (a : Assignment) (lays 
     in_order = below_order depth [];
   }
 
-  bound : IsFinite a → ℕ → ℕ
+  pub bound : IsFinite a → ℕ → ℕ
   bound finite zero = 0
   bound finite (suc n) = bound finite n + (finite n).0
 
@@ -222,10 +222,6 @@ module _ (types : List TypeEntry) (vars : List VarEntry) (a : Assignment) (lays 
 
 pub store_of_finite : (types : List TypeEntry) (vars : List VarEntry) (a : Assignment) → LaysOut types vars a → IsFinite a → (s : StoreMap) × IsStoreOf types vars a s
 store_of_finite types vars a lays finite =
-    let depth = bound_of types vars a lays finite in
-    let cells = cells_below types a depth.0 [] in
-    (decoded types vars a cells, IsStoreOf-decoded types vars a cells lays (AreCells-below types vars a lays depth.0 depth.1))
-  where
-    bound_of : (types : List TypeEntry) (vars : List VarEntry) (a : Assignment) (lays : LaysOut types vars a) → IsFinite a →
-        (depth : ℕ) × ((v : VariantId) (p : Position) → IsCellOf types a v p → length p < depth)
-    bound_of types vars a lays finite = (_, cell_short types vars a lays finite)
+    let depth = bound types vars a lays finite (length (variants_from 0 types)) in
+    let cells = cells_below types a depth [] in
+    (decoded types vars a cells, IsStoreOf-decoded types vars a cells lays (AreCells-below types vars a lays depth (cell_short types vars a lays finite)))

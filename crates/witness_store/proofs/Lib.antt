@@ -1,2 +1,3 @@
 pub mod PointersLemmas
 pub mod OrdersLemmas
+pub mod NodesLemmas

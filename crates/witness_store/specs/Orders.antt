@@ -1,7 +1,10 @@
 -- The nodes of a tree in preorder. (Textbook.)
-use Rattle.std.specs.Prelude.{ℕ, zero, suc, List, [], ◌∷◌, ◌++◌, length, slice_get, Option, option_to_list}
+use Rattle.std.specs.Prelude.{◌≡◌, ℕ, zero, suc, ◌<◌, List, [], ◌∷◌, ◌++◌, length, slice_get, Option, Some, option_to_list}
 use Rattle.std.specs.Option.{option_map_or}
+use Rattle.gta_theory.specs.Assignments.{Position}
 use Rattle.ws2s_core.specs.declared.label_tree.TreeNode.{TreeNode}
+use Rattle.ws2s_theory.specs.Trees.{StandsAt}
+use Rattle.tree_backbone.specs.Preorder.{ComesBefore}
 
 -- the places of a node and of those below it, down to so many levels: the node before those below its left, and these before
 -- those below its right
@@ -23,3 +26,14 @@ children_last_first o = option_map_or (λ node. option_to_list node.right ++ opt
 abbrev pub roots_of : List TreeNode → List ℕ
 roots_of [] = []
 roots_of (node ∷ nodes) = length nodes ∷ []
+
+-- the nodes of a tree in preorder, with the positions at which they stand
+pub record IsPreorder (nodes : List TreeNode) (places : List ℕ) (at : List Position) : Type 0 where
+  pub count : length at ≡ length places
+  pub stands : (i k : ℕ) (p : Position) → slice_get places i ≡ Some k → slice_get at i ≡ Some p → StandsAt nodes k p
+  pub all : (k : ℕ) (p : Position) → StandsAt nodes k p → (i : ℕ) × (slice_get places i ≡ Some k) × (slice_get at i ≡ Some p)
+  pub in_order : (i j : ℕ) (p q : Position) → i < j → slice_get at i ≡ Some p → slice_get at j ≡ Some q → ComesBefore p q
+
+-- there are such positions
+abbrev pub HasPreorder : List TreeNode → List ℕ → Type 0
+HasPreorder nodes places = (at : List Position) × IsPreorder nodes places at

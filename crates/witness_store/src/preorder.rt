@@ -3,7 +3,7 @@
 ghost use Rattle.std.specs.Prelude.{◌≡◌, ◌++◌, ◌∷◌, [], slice_get, IfOk, OnOk, option_to_list};
 ghost use Rattle.std.specs.Option.{option_copied};
 ghost use Rattle.ws2s_core.specs.LabelTrees.{IsTree};
-ghost use Rattle.witness_store.specs.Orders.{preorder_of, children_last_first, roots_of};
+ghost use Rattle.witness_store.specs.Orders.{HasPreorder, children_last_first, roots_of};
 
 use std::alloc::{AllocError, Global};
 use ws2s_core::{LabelTree, TreeNode};
@@ -55,7 +55,7 @@ fn root_of(alloc: Global, nodes: &[TreeNode]) -> Result<Vec<u32>, AllocError>
 /// The places of the nodes in preorder: a node before those below it, and what is below its left before what is below its
 /// right.
 pub(crate) fn preorder(alloc: Global, tree: &LabelTree) -> Result<Vec<u32>, AllocError>
-    ensures { IfOk result (λ places. places.items ≡ preorder_of tree.now) }
+    ensures { IfOk result (λ places. HasPreorder tree.now places.items) }
 {
     let nodes = tree.nodes();
     let mut waiting = root_of(alloc, nodes)?;
