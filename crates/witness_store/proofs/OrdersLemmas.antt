@@ -69,3 +69,17 @@ module _ (nodes : List TreeNode) where
 pub waiting-root : (nodes : List TreeNode) → waiting_for nodes (roots_of nodes) ≡ preorder_of nodes
 waiting-root [] = refl
 waiting-root (node ∷ nodes) = refl
+
+-- ---- one place taken off
+
+module _ (nodes : List TreeNode) (tree : IsTree nodes) (waiting rest next : List ℕ) (k : ℕ) (taken : waiting ≡ rest ++ k ∷ [])
+    (put : next ≡ rest ++ children_last_first (slice_get nodes k)) where
+  one_taken : waiting_for nodes waiting ≡ k ∷ waiting_for nodes next
+  one_taken = ap (waiting_for nodes) taken ∙ waiting-next nodes tree rest k ∙ ap (λ l. k ∷ waiting_for nodes l) (sym put)
+
+  pub waiting-kept : (places more all : List ℕ) → more ≡ places ++ k ∷ [] → places ++ waiting_for nodes waiting ≡ all → more ++ waiting_for nodes next ≡ all
+  waiting-kept places more all pushed is =
+      ap (λ l. l ++ waiting_for nodes next) pushed ∙ append_assoc places (k ∷ []) (waiting_for nodes next) ∙ ap (λ l. places ++ l) (sym one_taken) ∙ is
+
+  pub waiting-less : length (waiting_for nodes next) < length (waiting_for nodes waiting)
+  waiting-less = let long : length (waiting_for nodes waiting) ≡ suc (length (waiting_for nodes next)) = ap length one_taken in omega arith

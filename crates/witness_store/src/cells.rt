@@ -1,5 +1,9 @@
 //! The cells that stand in a tree.
 
+ghost use Rattle.std.specs.Prelude.{◌≡◌, ◌++◌, IfOk, OnOk};
+ghost use Rattle.store_core.specs.Tables.{variant_count};
+ghost use Rattle.tree_encode.specs.Tracks.{variants_at, variants_from};
+
 use crate::preorder::{node_at, preorder};
 use std::alloc::{AllocError, Global};
 use store_core::{CellId, TypeId, TypeTable, VariantId};
@@ -17,7 +21,9 @@ fn push_variants(
     variants: &mut Vec<VariantId>,
     types: &TypeTable,
     ty: TypeId,
-) -> Result<(), AllocError> {
+) -> Result<(), AllocError>
+    ensures { OnOk result (variants.new.items ≡ variants.old.items ++ variants_at ty.0 0 (variant_count types.now ty)) }
+{
     for index in 0..types.variants(ty) {
         variants.push(VariantId { ty, index })?;
     }
@@ -25,7 +31,9 @@ fn push_variants(
 }
 
 /// The variant of each track, for the first tracks, which are those of the variants.
-fn variants_of(alloc: Global, types: &TypeTable) -> Result<Vec<VariantId>, AllocError> {
+fn variants_of(alloc: Global, types: &TypeTable) -> Result<Vec<VariantId>, AllocError>
+    ensures { IfOk result (λ variants. variants.items ≡ variants_from 0 types.now) }
+{
     let mut variants = Vec::new(alloc);
     for index in 0..types.types() {
         push_variants(&mut variants, types, TypeId(index))?;
