@@ -1,12 +1,22 @@
 -- The cells that are found at the nodes of a tree.
-use Rattle.std.specs.Prelude.{◌≡◌, ◌↔◌, ℕ, suc, List, length, slice_get, Option, Some}
+use Rattle.std.specs.Prelude.{◌≡◌, ◌↔◌, ℕ, suc, List, length, slice_get, Option, Some, IsSomeAnd, Contains}
 use Rattle.ws2s_core.specs.declared.label_tree.TreeNode.{TreeNode}
 use Rattle.ws2s_core.specs.LabelTrees.{assignment_of}
 use Rattle.ws2s_theory.specs.Trees.{StandsAt}
+use Rattle.ws2s_core.specs.declared.track.Track.{Track}
 use Rattle.store_core.specs.declared.ids.CellId.{CellId}
+use Rattle.store_core.specs.declared.ids.VariantId.{VariantId}
 use Rattle.store_core.specs.Tables.{TypeEntry}
 use Rattle.tree_backbone.specs.Decoded.{Standing, AreCells}
 use Rattle.witness_store.specs.declared.cells.Found.{Found}
+
+-- one of the tracks is that of the variant, the variants being listed by their tracks
+abbrev pub IsOnVariant : List VariantId → List Track → VariantId → Type 0
+IsOnVariant variants tracks v = (t : Track) × Contains tracks t × (slice_get variants t.0 ≡ Some v)
+
+-- the node has a track of the variant
+abbrev pub IsFoundIn : List TreeNode → List VariantId → Found → Type 0
+IsFoundIn nodes variants f = IsSomeAnd (slice_get nodes f.node) (λ node. IsOnVariant variants node.tracks f.variant)
 
 -- what was found is of the variant, at the node of the position
 pub record IsFoundAs (nodes : List TreeNode) (f : Found) (x : Standing) : Type 0 where

@@ -1,10 +1,16 @@
 //! The cells that stand in a tree.
 
-ghost use Rattle.std.specs.Prelude.{◌≡◌, ◌++◌, IfOk, OnOk};
+ghost use Rattle.std.specs.Prelude.{◌≡◌, ◌++◌, IfOk, OnOk, IfSome, IfNone};
+ghost use Rattle.gta_theory.specs.Assignments.{Position};
+ghost use Rattle.ws2s_core.specs.LabelTrees.{assignment_of};
+ghost use Rattle.store_core.specs.declared.ids.VariantId.{VariantId};
 ghost use Rattle.store_core.specs.Tables.{variant_count};
 ghost use Rattle.tree_encode.specs.Tracks.{variants_at, variants_from};
+ghost use Rattle.tree_shapes.specs.Shapes.{IsCellOf};
+ghost use Rattle.witness_store.specs.Finding.{IsOnVariant, IsFoundIn, FindsCells};
 
 use crate::preorder::{node_at, preorder};
+use plain_data::at;
 use std::alloc::{AllocError, Global};
 use store_core::{CellId, TypeId, TypeTable, VariantId};
 use ws2s_core::{LabelTree, TreeNode};
@@ -42,13 +48,29 @@ fn variants_of(alloc: Global, types: &TypeTable) -> Result<Vec<VariantId>, Alloc
 }
 
 /// The variant of the cell at a node, if one stands there.
-fn variant_at(node: &TreeNode, variants: &[VariantId]) -> Option<VariantId> {
+fn variant_at(node: &TreeNode, variants: &[VariantId]) -> Option<VariantId>
+    ensures found { IfSome result (IsOnVariant variants.now node.now.tracks) }
+    ensures none { IfNone result ((v : VariantId) → IsOnVariant variants.now node.now.tracks v → ⊥) }
+{
     for track in node.tracks.as_slice() {
-        if let Some(variant) = variants.get(track.0 as usize) {
+        if let Some(variant) = at(variants, track.0 as usize) {
             return Some(*variant);
         }
     }
     None
+}
+
+/// The cell at the node at a place, if one stands there.
+fn found_at(nodes: &[TreeNode], variants: &[VariantId], place: u32) -> Option<Found>
+    ensures found { IfSome result (λ f. (f.node ≡ place) × IsFoundIn nodes.now variants.now f) }
+    ensures none { IfNone result ((v : VariantId) → IsFoundIn nodes.now variants.now (record { node = place; variant = v }) → ⊥) }
+{
+    let node = node_at(nodes, place)?;
+    let variant = variant_at(node, variants)?;
+    Some(Found {
+        node: place,
+        variant,
+    })
 }
 
 /// The cells in preorder.
@@ -56,19 +78,17 @@ pub(crate) fn cells_of(
     alloc: Global,
     types: &TypeTable,
     tree: &LabelTree,
-) -> Result<Vec<Found>, AllocError> {
+) -> Result<Vec<Found>, AllocError>
+    requires { (v w : VariantId) (p : Position) → IsCellOf types.now (assignment_of tree.now) v p → IsCellOf types.now (assignment_of tree.now) w p → v ≡ w }
+    ensures { IfOk result (λ found. FindsCells types.now tree.now found.items) }
+{
     let nodes = tree.nodes();
     let variants = variants_of(alloc, types)?;
     let places = preorder(alloc, tree)?;
     let mut cells = Vec::new(alloc);
     for place in &places {
-        if let Some(node) = node_at(nodes, *place) {
-            if let Some(variant) = variant_at(node, variants.as_slice()) {
-                cells.push(Found {
-                    node: *place,
-                    variant,
-                })?;
-            }
+        if let Some(found) = found_at(nodes, variants.as_slice(), *place) {
+            cells.push(found)?;
         }
     }
     Ok(cells)
