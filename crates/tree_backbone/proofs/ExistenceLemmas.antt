@@ -148,22 +148,28 @@ module _ (types : List TypeEntry) (vars : List VarEntry) (a : Assignment) (lays 
   below_all zero p w v short of = absurd (omega arith)
   below_all (suc n) p [] v short of =
       let (t, is, on) = IsSomeAnd-at (variant_track types v) _ of in
-      let at_p : IsCellOf types a v p = subst (IsCellOf types a v) (append-nil p) of in
-      (0, in_first (here p) _ 0 (record { variant = v; at = p ++ [] })
-      (cell_all p (variants_from 0 types) t.0 v (variant-listed types v t is) at_p ∙ ap (λ q. Some (record { variant = v; at = q })) (sym (append-nil p))))
+      let at_p : IsCellOf types a v p = subst (IsCellOf types a v) (append-nil p) of in (
+        0,
+        in_first (here p) _ 0 (record { variant = v; at = p ++ [] })
+            (cell_all p (variants_from 0 types) t.0 v (variant-listed types v t is) at_p ∙ ap (λ q. Some (record { variant = v; at = q })) (sym (append-nil p))),
+      )
   below_all (suc n) p (false ∷ w) v short of =
       let deep : p ++ (false ∷ w) ≡ (p ++ false ∷ []) ++ w = sym (append_assoc p (false ∷ []) w) in
-      let rest = below_all n (p ++ false ∷ []) w v (omega arith) (subst (IsCellOf types a v) deep of) in
-      (length (here p) + rest.0, in_second (here p) _ (length (here p)) rest.0 (record { variant = v; at = p ++ (false ∷ w) }) refl
-      (in_first (cells_below types a n (p ++ false ∷ [])) (cells_below types a n (p ++ true ∷ [])) rest.0 (record { variant = v; at = p ++ (false ∷ w) })
-      (rest.1 ∙ ap (λ q. Some (record { variant = v; at = q })) (sym deep))))
+      let rest = below_all n (p ++ false ∷ []) w v (omega arith) (subst (IsCellOf types a v) deep of) in (
+        length (here p) + rest.0,
+        in_second (here p) _ (length (here p)) rest.0 (record { variant = v; at = p ++ (false ∷ w) }) refl
+            (in_first (cells_below types a n (p ++ false ∷ [])) (cells_below types a n (p ++ true ∷ [])) rest.0 (record { variant = v; at = p ++ (false ∷ w) })
+            (rest.1 ∙ ap (λ q. Some (record { variant = v; at = q })) (sym deep))),
+      )
   below_all (suc n) p (true ∷ w) v short of =
       let deep : p ++ (true ∷ w) ≡ (p ++ true ∷ []) ++ w = sym (append_assoc p (true ∷ []) w) in
       let left = cells_below types a n (p ++ false ∷ []) in
-      let rest = below_all n (p ++ true ∷ []) w v (omega arith) (subst (IsCellOf types a v) deep of) in
-      (length (here p) + (length left + rest.0), in_second (here p) _ (length (here p)) (length left + rest.0) (record { variant = v; at = p ++ (true ∷ w) }) refl
-      (in_second left (cells_below types a n (p ++ true ∷ [])) (length left) rest.0 (record { variant = v; at = p ++ (true ∷ w) }) refl
-      (rest.1 ∙ ap (λ q. Some (record { variant = v; at = q })) (sym deep))))
+      let rest = below_all n (p ++ true ∷ []) w v (omega arith) (subst (IsCellOf types a v) deep of) in (
+        length (here p) + (length left + rest.0),
+        in_second (here p) _ (length (here p)) (length left + rest.0) (record { variant = v; at = p ++ (true ∷ w) }) refl
+            (in_second left (cells_below types a n (p ++ true ∷ [])) (length left) rest.0 (record { variant = v; at = p ++ (true ∷ w) }) refl
+            (rest.1 ∙ ap (λ q. Some (record { variant = v; at = q })) (sym deep))),
+      )
 
   below_order : (n : ℕ) (p : Position) → InOrder (cells_below types a n p)
   unfolding InOrder
@@ -171,14 +177,14 @@ module _ (types : List TypeEntry) (vars : List VarEntry) (a : Assignment) (lays 
   below_order (suc n) p =
       InOrder-append (here p) (cells_below types a n (p ++ false ∷ []) ++ cells_below types a n (p ++ true ∷ []))
       (λ i j x y less at_i at_j.
-          let one = (cell_each p (variants_from 0 types) i x at_i).2 in
-          let other = (cell_each p (variants_from 0 types) j y at_j).2 in absurd (omega arith))
+      let one = (cell_each p (variants_from 0 types) i x at_i).2 in
+      let other = (cell_each p (variants_from 0 types) j y at_j).2 in absurd (omega arith))
       (InOrder-append (cells_below types a n (p ++ false ∷ [])) (cells_below types a n (p ++ true ∷ [])) (below_order n (p ++ false ∷ []))
       (below_order n (p ++ true ∷ []))
       (λ i j x y at_i at_j.
-          let one = deeper false p x (below_each n (p ++ false ∷ []) i x at_i).1 in
-          let other = deeper true p y (below_each n (p ++ true ∷ []) j y at_j).1 in
-          subst (λ q. ComesBefore q y.at) (sym one.1) (subst (ComesBefore (p ++ (false ∷ one.0))) (sym other.1) (further p (false ∷ one.0) (true ∷ other.0) tt))))
+      let one = deeper false p x (below_each n (p ++ false ∷ []) i x at_i).1 in
+      let other = deeper true p y (below_each n (p ++ true ∷ []) j y at_j).1 in
+      subst (λ q. ComesBefore q y.at) (sym one.1) (subst (ComesBefore (p ++ (false ∷ one.0))) (sym other.1) (further p (false ∷ one.0) (true ∷ other.0) tt))))
       (λ i j x y at_i at_j. elim (appended (cells_below types a n (p ++ false ∷ [])) (cells_below types a n (p ++ true ∷ [])) j y at_j) [
         | inl left ↦ above p x y false (cell_each p (variants_from 0 types) i x at_i).0 (deeper false p y (below_each n (p ++ false ∷ []) j y left).1)
         | inr right ↦ above p x y true (cell_each p (variants_from 0 types) i x at_i).0 (deeper true p y (below_each n (p ++ true ∷ []) right.0 y right.2).1)

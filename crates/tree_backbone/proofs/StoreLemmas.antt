@@ -277,9 +277,11 @@ module _ (types : List TypeEntry) (vars : List VarEntry) (a : Assignment) (cells
     reached = λ c live.
         let (cell, is) = some_cell (cell_of s c) live in
         let h = here_cell types vars a cells c cell is in
-        let placed = standing_placed types vars a cells lays are h.place h.cell h.at in
-        (placed.var, subst (IsInTree types vars s placed.var) (sym h.number)
-        (HasPath-IsInTree types vars s placed.var (numbered (1 + h.place)) (record { fields = placed.fields; at = placed.at })));
+        let placed = standing_placed types vars a cells lays are h.place h.cell h.at in (
+          placed.var,
+          subst (IsInTree types vars s placed.var) (sym h.number)
+              (HasPath-IsInTree types vars s placed.var (numbered (1 + h.place)) (record { fields = placed.fields; at = placed.at })),
+        );
   }
 
   -- ---- numbers
@@ -318,8 +320,7 @@ module _ (types : List TypeEntry) (vars : List VarEntry) (a : Assignment) (cells
       let one = placed_at types vars a cells lays are c p of_c in
       let other = placed_at types vars a cells lays are d q of_d in
       let number : c.0 ≡ 1 + one.place = ap (λ (e : CellId). e.0) one.number in
-      let also : d.0 ≡ 1 + other.place = ap (λ (e : CellId). e.0) other.number in
-      (
+      let also : d.0 ≡ 1 + other.place = ap (λ (e : CellId). e.0) other.number in (
         λ less. subst (λ u. ComesBefore u q) one.position (subst (λ u. ComesBefore one.cell.at u) other.position
             (are.in_order one.place other.place one.cell other.cell (omega arith) one.at other.at)),
         λ before. elim (cases_order one.place other.place) [

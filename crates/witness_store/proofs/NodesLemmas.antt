@@ -115,10 +115,10 @@ module _ (nodes : List TreeNode) where
   both_order n each p (Some z) = InOrder-append (child_below n false p z.left) (child_below n true p z.right) (child_order n each false p z.left)
       (child_order n each true p z.right)
       (λ i j x y at_i at_j.
-          let one = child_under n (all_below n) false p z.left i x at_i in
-          let other = child_under n (all_below n) true p z.right j y at_j in
-          subst (λ q. ComesBefore q y.at) (sym one.is) (subst (ComesBefore (p ++ (false ∷ one.word))) (sym other.is)
-          (further p (false ∷ one.word) (true ∷ other.word) tt)))
+      let one = child_under n (all_below n) false p z.left i x at_i in
+      let other = child_under n (all_below n) true p z.right j y at_j in
+      subst (λ q. ComesBefore q y.at) (sym one.is) (subst (ComesBefore (p ++ (false ∷ one.word))) (sym other.is)
+      (further p (false ∷ one.word) (true ∷ other.word) tt)))
 
   under_after : (b : Bool) (p : Position) (y : Node) → Under b p y → ComesBefore p y.at
   under_after b p y h = subst (ComesBefore p) (sym h.is) (subst (λ q. ComesBefore q (p ++ (b ∷ h.word))) (append-nil p) (further p [] (b ∷ h.word) tt))
@@ -319,15 +319,20 @@ nothing_stands _ _ (at_left k j y p above at e) = nothing_stands k p above
 nothing_stands _ _ (at_right k j y p above at e) = nothing_stands k p above
 
 pub HasPreorder-tree : (nodes : List TreeNode) → IsTree nodes → HasPreorder nodes (preorder_of nodes)
-HasPreorder-tree [] tree = ([], record {
-  count = refl;
-  stands = λ i k p at also. absurd (cc);
-  all = λ k p above. absurd (nothing_stands k p above);
-  in_order = λ i j p q less at also. absurd (cc);
-})
+HasPreorder-tree [] tree = (
+  [],
+  record {
+    count = refl;
+    stands = λ i k p at also. absurd (cc);
+    all = λ k p above. absurd (nothing_stands k p above);
+    in_order = λ i j p q less at also. absurd (cc);
+  },
+)
 HasPreorder-tree (x ∷ xs) tree =
     let nodes : List TreeNode = x ∷ xs in
     let r = length xs in
-    let root : StandsAt (x ∷ xs) (length xs) [] = at_root (length xs) refl in
-    (positions_of nodes (nodes_below nodes (suc r) r []), as_lists nodes (nodes_below nodes (suc r) r []) (preorder_of nodes) (below_places nodes (suc r) r [])
-    (below_stand nodes (suc r) r [] root) (below_order nodes (suc r) r []) (all_there nodes tree (suc r) r refl (omega arith)))
+    let root : StandsAt (x ∷ xs) (length xs) [] = at_root (length xs) refl in (
+      positions_of nodes (nodes_below nodes (suc r) r []),
+      as_lists nodes (nodes_below nodes (suc r) r []) (preorder_of nodes) (below_places nodes (suc r) r [])
+          (below_stand nodes (suc r) r [] root) (below_order nodes (suc r) r []) (all_there nodes tree (suc r) r refl (omega arith)),
+    )

@@ -9,11 +9,7 @@ use tree_encode::Layout;
 use ws2s_core::{Track, TreeNode};
 
 /// The number of the cell at the left child of a node, if one stands there.
-fn cell_left(
-    nodes: &[TreeNode],
-    numbers: &[Option<CellId>],
-    place: Option<u32>,
-) -> Option<CellId> {
+fn cell_left(nodes: &[TreeNode], numbers: &[Option<CellId>], place: Option<u32>) -> Option<CellId> {
     let left = node_at(nodes, place?)?.left?;
     *numbers.get(left as usize)?
 }

@@ -26,11 +26,7 @@ fn push_child(waiting: &mut Vec<u32>, child: Option<u32>) -> Result<(), AllocErr
 }
 
 /// Puts the children of the node at a place on the places that wait, the left one last, so that it is next.
-fn push_children(
-    waiting: &mut Vec<u32>,
-    nodes: &[TreeNode],
-    place: u32,
-) -> Result<(), AllocError>
+fn push_children(waiting: &mut Vec<u32>, nodes: &[TreeNode], place: u32) -> Result<(), AllocError>
     ensures { OnOk result (waiting.new.items ≡ waiting.old.items ++ children_last_first (slice_get nodes.now place)) }
 {
     if let Some(node) = node_at(nodes, place) {

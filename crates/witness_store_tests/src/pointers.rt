@@ -69,10 +69,7 @@ const ROWS: [(&str, &str); 3] = [
         "store\nvar x 1\ncell 1 Node next=2 left=3 prev=1 one=1\ncell 2 Node next=null left=null prev=2 one=2\ncell 3 Node next=null left=null prev=3 one=3\nend\n",
         "store\nvar x 1\ncell 1 Node next=2 left=3 prev=null one=null\ncell 2 Node next=null left=null prev=1 one=null\ncell 3 Node next=null left=null prev=null one=null\nend\n",
     ),
-    (
-        "store\nvar x null\nend\n",
-        "store\nvar x null\nend\n",
-    ),
+    ("store\nvar x null\nend\n", "store\nvar x null\nend\n"),
 ];
 
 #[test]

@@ -122,10 +122,7 @@ const SAME: [Spelled<'static>; 9] = [
     ),
     (
         ["1", "null", "null", "false", "{}", "false"],
-        &[
-            "1 Node next=null red=false tree=2",
-            "2 Tree:leaf up=null",
-        ],
+        &["1 Node next=null red=false tree=2", "2 Tree:leaf up=null"],
     ),
     (
         ["null", "null", "1", "false", "{}", "false"],

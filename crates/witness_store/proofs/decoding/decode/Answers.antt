@@ -4,4 +4,4 @@ use Rattle.witness_store.proofs.PointersLemmas.{IsStoreOf-alike}
 use Rattle.witness_store.proofs.decoding.decode.Goals as goal
 
 pub returns : goal.returns
-returns c = ?
+returns c = let a = c.in_ok-store.ensures in let b = c.in_ok-set_pointers.ensures in ?
