@@ -1,0 +1,5 @@
+pub mod AlikeLemmas
+pub mod OnlyLemmas
+pub mod FindingLemmas
+pub mod KeptLemmas
+pub mod SettingLemmas

@@ -1,0 +1,11 @@
+//! What doesn't look at pointer fields.
+
+ghost use Rattle.std.specs.Prelude.{List};
+ghost use Rattle.store_core.specs.Tables.{TypeEntry};
+ghost use Rattle.store_core.specs.Stores.{StoreMap};
+ghost use Rattle.store_pointers.specs.Pointers.{DoCellsFit, IsSameButPointers, AreAlike};
+
+/// Destinations, backbones and the paths to cells are the same in stores that differ in their pointer fields alone.
+pub fn pointers_dont_count()
+    ensures { (types : List TypeEntry) (s t : StoreMap) → DoCellsFit types s → DoCellsFit types t → IsSameButPointers types s t → AreAlike types s t }
+{}

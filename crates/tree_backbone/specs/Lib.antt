@@ -1,0 +1,3 @@
+pub mod Preorder
+pub mod Decoded
+pub mod Stores
