@@ -1,7 +1,7 @@
 -- Stores that differ in their pointer fields alone: what data fields say of both.
-use Rattle.std.proofs.Common.{◌≡◌, ◌↔◌, ℕ, zero, suc, Bool, true, false, List, [], ◌∷◌, slice_get, Option, Some, None, IsSome, IsSomeAnd}
+use Rattle.std.proofs.Common.{◌≡◌, ◌↔◌, ℕ, zero, suc, Bool, List, [], ◌∷◌, slice_get, Option, Some, None, IsSome, IsSomeAnd}
 use Rattle.std.proofs.Common.{IfSome, refl, sym, ap, ◌∙◌, subst}
-use Rattle.std.specs.Prelude.{option_map, is_some}
+use Rattle.std.specs.Prelude.{option_map}
 use Rattle.std.specs.Option.{option_and_then}
 use Rattle.store_core.specs.declared.ids.TypeId.{TypeId}
 use Rattle.store_core.specs.declared.ids.VariantId.{VariantId}
@@ -16,11 +16,10 @@ use Rattle.store_core.specs.declared.value.Value.{Value}
 use Rattle.store_core.specs.declared.value.Value.TheVariants as value
 use Rattle.store_core.specs.Tables.{TypeEntry, VarEntry, FieldEntry, field_at, var_at, fields_of}
 use Rattle.store_core.specs.Stores.{StoreMap, CellEntry, IsLive, cell_of, field_of, field_value, var_value, FieldFits, SlotsFit, CellFits}
-use Rattle.store_core.proofs.FittingLemmas.{IfSome-from, IfSome-at, IsSomeAnd-at, same_type}
-use Rattle.store_laws.specs.Changed.{variant_of}
+use Rattle.store_core.proofs.FittingLemmas.{IfSome-from, IfSome-at, same_type}
 use Rattle.routing_expr.specs.declared.fault.Place.{Place}
 use Rattle.routing_expr.specs.declared.fault.Place.TheVariants as place
-use Rattle.routing_expr.specs.Walks.{DataAlone, IsFollowed, Leads, IsParent, IsOfVariant, IsOfType, Chain}
+use Rattle.routing_expr.specs.Walks.{DataAlone, IsFollowed, Leads, IsParent, IsOfVariant, Chain}
 use Rattle.routing_expr.specs.Destinations.{EndsKind, Dest, IsPointer}
 use Rattle.routing_expr.specs.WellFormed.{Names, HoldsOfType, VarHoldsLive, FieldHoldsLive, IsBackbone}
 use Rattle.routing_expr.proofs.LiveLemmas.{Leads-live, Walk-live, IsParent-live, Chain-live}

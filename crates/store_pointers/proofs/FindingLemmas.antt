@@ -1,5 +1,5 @@
 -- What pointer fields have to hold, found place by place.
-use Rattle.std.proofs.Common.{◌≡◌, ◌↔◌, ◌⊎◌, ◌<◌, ◌≤◌, ◌+◌, ℕ, zero, suc, inl, inr, Bool, true, false, IsTrue, List, [], ◌∷◌, slice_get, length, Option, Some, None, IsSome, IsSomeAnd, Contains}
+use Rattle.std.proofs.Common.{◌≡◌, ◌↔◌, ◌⊎◌, ◌<◌, ◌≤◌, ◌+◌, ℕ, zero, suc, inl, inr, true, false, List, [], ◌∷◌, slice_get, length, Option, Some, None, IsSome, IsSomeAnd, Contains}
 use Rattle.std.proofs.Common.{refl, sym, ap, ◌∙◌, subst, arith}
 use Rattle.std.specs.List.{AllByRecursion}
 use Rattle.std.specs.Prelude.{option_map, is_some}
@@ -24,8 +24,7 @@ use Rattle.routing_expr.proofs.GatheringLemmas.{below_suc, Contains-at, place_in
 use Rattle.routing_expr.proofs.IndexLemmas.{field-type, dead-mapped}
 use Rattle.routing_expr.proofs.KeyLemmas.{key_of_live}
 use Rattle.store_pointers.specs.declared.finding.Pointing.{Pointing}
-use Rattle.store_pointers.specs.Only.{HasTwo, IsOnlyCell}
-use Rattle.store_pointers.specs.Pointers.{IsPointerField}
+use Rattle.store_pointers.specs.Only.{IsOnlyCell}
 use Rattle.store_pointers.specs.Finding.{IsPointing}
 use Rattle.store_pointers.proofs.OnlyLemmas.{IsOnlyCell-alike, IsOnlyCell-once}
 

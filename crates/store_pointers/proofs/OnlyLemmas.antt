@@ -1,7 +1,7 @@
 -- The only cell of which something is so.
-use Rattle.std.proofs.Common.{◌≡◌, ◌↔◌, ◌⊎◌, inl, inr, Option, Some, None, refl, sym, ap}
+use Rattle.std.proofs.Common.{◌≡◌, ◌↔◌, inl, inr, Option, Some, None, refl, ap}
 use Rattle.store_core.specs.declared.ids.CellId.{CellId}
-use Rattle.store_pointers.specs.Only.{HasTwo, IsOnlyCell}
+use Rattle.store_pointers.specs.Only.{IsOnlyCell}
 
 module _ (P Q : CellId → Type 0) (alike : (d : CellId) → P d ↔ Q d) where
   pub IsOnlyCell-alike : (o : Option CellId) → IsOnlyCell P o → IsOnlyCell Q o

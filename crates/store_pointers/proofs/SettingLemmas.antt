@@ -1,5 +1,5 @@
 -- Pointer fields set one after the other.
-use Rattle.std.proofs.Common.{◌≡◌, ◌≢◌, ◌⊎◌, ◌<◌, ◌≤◌, ◌+◌, ℕ, zero, suc, inl, inr, List, [], ◌∷◌, slice_get, length, Option, Some, None, IsSome, IsSomeAnd, IfSome}
+use Rattle.std.proofs.Common.{◌≡◌, ◌⊎◌, ◌<◌, ◌≤◌, ◌+◌, ℕ, zero, suc, inl, inr, List, [], ◌∷◌, slice_get, length, Option, Some, None, IsSome, IsSomeAnd, IfSome}
 use Rattle.std.proofs.Common.{refl, sym, ap, ◌∙◌, subst, arith}
 use Rattle.std.specs.Prelude.{is_some}
 use Rattle.std.proofs.lemmas.Bool.{cases_eq}
@@ -10,29 +10,27 @@ use Rattle.store_core.specs.declared.kind.FieldKind.{FieldKind}
 use Rattle.store_core.specs.declared.kind.FieldKind.TheVariants as field
 use Rattle.store_core.specs.declared.value.Value.{Value}
 use Rattle.store_core.specs.declared.value.Value.TheVariants as value
-use Rattle.store_core.specs.CellLists.{AreRising}
 use Rattle.store_core.specs.Tables.{TypeEntry, VarEntry, FieldEntry, field_at}
 use Rattle.store_core.specs.Stores.{StoreMap, CellEntry, IsFresh, Fits, NamesBelow, NamesType, FieldFits, cell_of, field_value, set_field, class_of}
 use Rattle.store_core.proofs.AboveLemmas.{live_below}
-use Rattle.store_core.proofs.FittingLemmas.{IfSome-from, IfSome-at, IsSomeAnd-at}
+use Rattle.store_core.proofs.FittingLemmas.{IfSome-from}
 use Rattle.store_laws.specs.Changed.{IsFieldSet}
 use Rattle.store_laws.proofs.CellLemmas.{cell_cases}
 use Rattle.store_laws.proofs.ChangeLemmas.{IsFieldSet-set_field}
 use Rattle.store_laws.proofs.FitsLemmas.{Fits-set_field}
 use Rattle.store_laws.proofs.FreshLemmas.{IsFresh-set_field}
-use Rattle.routing_expr.specs.Walks.{IsOfType}
 use Rattle.routing_expr.specs.Destinations.{EndsKind, Dest, IsPointer}
 use Rattle.routing_expr.specs.Gathering.{HasAll}
 use Rattle.routing_expr.specs.Searches.{Lists}
 use Rattle.routing_expr.proofs.GatheringLemmas.{below_suc, Contains-at, place_in}
 use Rattle.routing_laws.proofs.DecidedStores.{dests}
 use Rattle.store_pointers.specs.declared.finding.Pointing.{Pointing}
-use Rattle.store_pointers.specs.Only.{HasTwo, IsOnlyCell}
-use Rattle.store_pointers.specs.Pointers.{IsPointerField, IsDestinationIfOne, ArePointersSet, DoCellsFit, IsSameButPointers, AreAlike}
+use Rattle.store_pointers.specs.Only.{IsOnlyCell}
+use Rattle.store_pointers.specs.Pointers.{IsPointerField, IsDestinationIfOne, ArePointersSet, DoCellsFit, IsSameButPointers}
 use Rattle.store_pointers.specs.Finding.{IsPointing}
 use Rattle.store_pointers.proofs.OnlyLemmas.{IsOnlyCell-alike, IsOnlyCell-once}
 use Rattle.store_pointers.proofs.AlikeLemmas.{alike_itself, alike_both, by_variant, live_alike, value_kind, AreAlike-same}
-use Rattle.store_pointers.proofs.KeptLemmas.{known, DoCellsFit-set_field}
+use Rattle.store_pointers.proofs.KeptLemmas.{DoCellsFit-set_field}
 
 -- ---- one cell at most of a list
 

@@ -1,6 +1,6 @@
 -- Where pointer fields are set to, and stores that differ in them alone. (Klarlund and Schwartzbach, POPL 1993, "graph
 -- types".)
-use Rattle.std.specs.Prelude.{◌≡◌, ◌↔◌, List, Bool, is_some, IsSomeAnd, IfSome}
+use Rattle.std.specs.Prelude.{◌≡◌, ◌↔◌, List, is_some, IsSomeAnd, IfSome}
 use Rattle.store_core.specs.declared.ids.FieldId.{FieldId}
 use Rattle.store_core.specs.declared.ids.VarId.{VarId}
 use Rattle.store_core.specs.declared.ids.CellId.{CellId}

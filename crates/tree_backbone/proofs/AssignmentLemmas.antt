@@ -1,6 +1,6 @@
 -- The decoded store has the assignment.
-use Rattle.std.proofs.Common.{◌≡◌, ◌↔◌, ◌⊎◌, ℕ, zero, suc, ◌+◌, ◌<◌, Bool, true, false, cond, IsTrue, inl, inr, List, [], ◌∷◌, length, slice_get, Option, Some, None, IsSomeAnd}
-use Rattle.std.proofs.Common.{refl, sym, ap, ◌∙◌, subst, arith, Contains}
+use Rattle.std.proofs.Common.{◌≡◌, ◌↔◌, ◌⊎◌, ℕ, zero, suc, ◌+◌, ◌<◌, Bool, true, IsTrue, inl, inr, List, [], ◌∷◌, length, slice_get, Option, Some}
+use Rattle.std.proofs.Common.{refl, sym, ap, ◌∙◌, subst, arith}
 use Rattle.std.specs.Prelude.{unwrap_or}
 use Rattle.std.proofs.lemmas.Bool.{ltb-true}
 use Rattle.gta_theory.specs.Assignments.{Position, Assignment}
@@ -16,7 +16,7 @@ use Rattle.store_core.specs.declared.kind.VarKind.{VarKind}
 use Rattle.store_core.specs.declared.kind.VarKind.TheVariants as var
 use Rattle.store_core.specs.declared.value.Value.{Value}
 use Rattle.store_core.specs.declared.value.Value.TheVariants as value
-use Rattle.store_core.specs.Tables.{TypeEntry, FieldEntry, VarEntry, field_at, var_at}
+use Rattle.store_core.specs.Tables.{TypeEntry, VarEntry, field_at, var_at}
 use Rattle.store_core.specs.Stores.{StoreMap, CellEntry, cell_of, field_value, var_value}
 use Rattle.routing_expr.specs.Walks.{IsOfVariant}
 use Rattle.tree_encode.specs.declared.counting.Counted.TheVariants.{Bools}
@@ -24,12 +24,12 @@ use Rattle.tree_encode.specs.Counting.{counts, is_counted}
 use Rattle.tree_encode.specs.Tracks.{TrackUse, of_variant, of_bool, of_var, variant_track, bool_track, var_track, slot_of_var}
 use Rattle.tree_encode.specs.Positions.{IsPlaced}
 use Rattle.tree_encode.proofs.TracksLemmas.{cond-some, and_then-some}
-use Rattle.tree_store.specs.Encoding.{track_of, NamesCell, CellIsOn, RootIsOn, IsOn, IsAssignmentOf}
-use Rattle.tree_shapes.specs.Shapes.{variant_in, IsCellOf, IsCellIn, HasCellsIn, VarLaysOut, LaysOut}
-use Rattle.tree_backbone.specs.Decoded.{Standing, AreCells, numbered, first_where, all_where, is_on, field_in, cell_in, var_in, decoded}
+use Rattle.tree_store.specs.Encoding.{track_of, NamesCell, IsOn, IsAssignmentOf}
+use Rattle.tree_shapes.specs.Shapes.{variant_in, IsCellOf, HasCellsIn, VarLaysOut, LaysOut}
+use Rattle.tree_backbone.specs.Decoded.{Standing, AreCells, numbered, first_where, is_on, field_in, cell_in, var_in, decoded}
 use Rattle.tree_backbone.proofs.CellsLemmas.{one_place, IsFoundAt, first_found, first_alone, all_found, all_there}
 use Rattle.tree_backbone.proofs.ValuesLemmas.{cell_here, value_here, here_value, var_here}
-use Rattle.tree_backbone.proofs.StandingLemmas.{some-entry, entry-some, one_entry, PlaceAt, var_lays, had_entry, one_standing, placed_at, standing_placed}
+use Rattle.tree_backbone.proofs.StandingLemmas.{some-entry, entry-some, var_lays, had_entry, one_standing, placed_at, standing_placed}
 
 bool_kind : (kind : FieldKind) → counts Bools kind ≡ true → kind ≡ field.Bool
 bool_kind field.Bool e = refl

@@ -11,14 +11,13 @@ use Rattle.store_core.specs.declared.ids.VarId.{VarId}
 use Rattle.store_core.specs.Tables.{TypeEntry, VarEntry}
 use Rattle.store_core.specs.Stores.{StoreMap}
 use Rattle.store_core.proofs.FittingLemmas.{IsSomeAnd-at}
-use Rattle.tree_encode.specs.Tracks.{TrackUse, of_variant, of_bool, of_var, variants_from, bools_from, vars_from, tracks_of, variant_track}
+use Rattle.tree_encode.specs.Tracks.{of_variant, of_bool, of_var, variants_from, bools_from, vars_from, variant_track}
 use Rattle.tree_encode.proofs.TracksLemmas.{in_first, in_second, track-variant}
 use Rattle.tree_shapes.specs.Shapes.{IsCellOf, LaysOut}
 use Rattle.tree_backbone.specs.Preorder.{ComesBefore}
 use Rattle.tree_backbone.specs.Decoded.{Standing, AreCells, is_on, cell_at, cells_below, decoded}
 use Rattle.tree_backbone.specs.Stores.{IsStoreOf}
-use Rattle.tree_backbone.proofs.OneCellLemmas.{one_cell}
-use Rattle.tree_backbone.proofs.StandingLemmas.{entry-some}
+use Rattle.tree_meaning.proofs.MarksLemmas.{one-variant}
 use Rattle.tree_backbone.proofs.StoreLemmas.{IsStoreOf-decoded}
 
 -- ---- the variants in order
@@ -118,7 +117,7 @@ module _ (types : List TypeEntry) (vars : List VarEntry) (a : Assignment) (lays 
     where
       by : (b : Bool) → is_on a (variant_track types w) p ≡ b → slice_get (cell_at types a p variants) 0 ≡ Some (record { variant = v; at = p }) →
           slice_get (cond b (record { variant = w; at = p } ∷ []) (cell_at types a p variants)) 0 ≡ Some (record { variant = v; at = p })
-      by true on rest = ap (λ u. Some (record { variant = u; at = p })) (one_cell types vars a lays w v p (on_cell w p on) of)
+      by true on rest = ap (λ u. Some (record { variant = u; at = p })) (one-variant types vars a lays w v p (on_cell w p on) of)
       by false off rest = rest
 
   -- ---- and below it

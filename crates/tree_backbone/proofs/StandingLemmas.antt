@@ -1,6 +1,6 @@
 -- Where the cells of the decoded store stand.
-use Rattle.std.proofs.Common.{◌≡◌, ◌↔◌, ◌⊎◌, ℕ, zero, suc, ◌+◌, ◌<◌, Bool, true, false, cond, IsTrue, inl, inr, List, [], ◌∷◌, ◌++◌, length, slice_get, take, unwrap_or, Option, Some, None, IsSome, IsSomeAnd, IfSome}
-use Rattle.std.proofs.Common.{refl, sym, ap, ◌∙◌, subst, arith, ◌&&◌, append-nil, append_assoc}
+use Rattle.std.proofs.Common.{◌≡◌, ℕ, zero, suc, ◌+◌, ◌<◌, Bool, true, false, cond, IsTrue, inl, inr, List, [], ◌∷◌, ◌++◌, length, slice_get, take, unwrap_or, Option, Some, None, IsSomeAnd}
+use Rattle.std.proofs.Common.{refl, sym, ap, ◌∙◌, subst, arith, ◌&&◌}
 use Rattle.std.specs.Prelude.{count_by, is_some}
 use Rattle.std.specs.Option.{option_and_then, option_map_or}
 use Rattle.std.proofs.lemmas.Bool.{lt-ltb}
@@ -22,24 +22,25 @@ use Rattle.store_core.specs.declared.kind.VarKind.TheVariants as var
 use Rattle.store_core.specs.declared.value.Value.{Value}
 use Rattle.store_core.specs.declared.value.Value.TheVariants as value
 use Rattle.store_core.specs.Tables.{TypeEntry, FieldEntry, VarEntry, fields_of, field_at, var_at, is_had, has_field}
-use Rattle.store_core.specs.Stores.{StoreMap, CellEntry, IsLive, cell_of, field_value, var_value}
+use Rattle.store_core.specs.Stores.{StoreMap, field_value}
 use Rattle.store_core.proofs.FittingLemmas.{IfSome-at, IsSomeAnd-at}
 use Rattle.routing_expr.specs.declared.fault.Place.TheVariants as place
 use Rattle.routing_expr.specs.Walks.{DataAlone, IsFollowed, Leads}
 use Rattle.routing_expr.specs.WellFormed.{IsDataVar, Names}
-use Rattle.routing_laws.specs.Paths.{LeadsAlong, StandsAt}
+use Rattle.routing_laws.specs.Paths.{LeadsAlong}
 use Rattle.tree_encode.specs.declared.counting.Counted.TheVariants.{Children}
 use Rattle.tree_encode.specs.Counting.{counts, is_counted, rank, is_data_var, is_data_kind, variants_in, bools_in}
-use Rattle.tree_encode.specs.Tracks.{track_at, variant_track, var_track, slot_of_var, child_number}
+use Rattle.tree_encode.specs.Tracks.{track_at, var_track, slot_of_var, child_number}
 use Rattle.tree_encode.specs.Positions.{below, path_position, IsPlaced}
 use Rattle.tree_encode.proofs.PositionsLemmas as positions
 use Rattle.tree_encode.proofs.PositionsLemmas.{data_field, data_var, slotted}
 use Rattle.tree_encode.proofs.TracksLemmas.{and_then-some}
-use Rattle.tree_shapes.specs.Shapes.{variant_in, IsCellOf, IsCellIn, HasFieldAt, IsSlotFor, IsChildFor, VarLaysOut, LaysOut}
+use Rattle.tree_shapes.specs.Shapes.{variant_in, IsCellOf, IsCellIn, IsSlotFor, IsChildFor, VarLaysOut, LaysOut}
 use Rattle.tree_backbone.specs.Decoded.{Standing, AreCells, numbered, first_where, is_on, child_at, field_in, var_in, decoded}
-use Rattle.tree_backbone.proofs.WordsLemmas.{EndsInZero, slots-apart, slot-ends, child-ends, slot-not_child, children-apart, count-one}
-use Rattle.tree_backbone.proofs.CellsLemmas.{one_place, one_variant, IsFoundAt, first_found, first_alone}
-use Rattle.tree_backbone.proofs.ValuesLemmas.{HeldAt, LiveAt, cell_here, here_cell, value_here, here_value, var_here}
+use Rattle.tree_meaning.proofs.WordsLemmas.{EndsInZero, slot-ends, child-ends, slot-not_child, children-apart}
+use Rattle.tree_meaning.proofs.NumbersLemmas.{count-one}
+use Rattle.tree_backbone.proofs.CellsLemmas.{one_place, one_variant, first_found, first_alone}
+use Rattle.tree_backbone.proofs.ValuesLemmas.{cell_here, value_here, here_value, var_here}
 
 -- ---- forms
 

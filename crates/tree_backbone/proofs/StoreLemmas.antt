@@ -1,5 +1,5 @@
 -- The decoded store fits its tables, is a backbone, and is numbered in preorder.
-use Rattle.std.proofs.Common.{◌≡◌, ◌↔◌, ◌⊎◌, ℕ, zero, suc, ◌+◌, ◌-◌, ◌<◌, Bool, true, false, cond, IsTrue, inl, inr, List, [], ◌∷◌, length, slice_get, Option, Some, None, IsSome, IsSomeAnd, IfSome}
+use Rattle.std.proofs.Common.{◌≡◌, ℕ, zero, suc, ◌+◌, ◌-◌, ◌<◌, Bool, true, false, cond, inl, inr, List, [], ◌∷◌, length, slice_get, Option, Some, None, IsSome, IsSomeAnd, IfSome}
 use Rattle.std.proofs.Common.{refl, sym, ap, ◌∙◌, subst, arith, Contains}
 use Rattle.std.specs.Prelude.{is_some, unwrap_or, All}
 use Rattle.std.specs.Option.{option_and_then}
@@ -7,10 +7,9 @@ use Rattle.std.specs.List.{AllByRecursion}
 use Rattle.std.proofs.lemmas.Bool.{cases_order, ltb-true}
 use Rattle.std.proofs.lemmas.Option.{slice_get_within}
 use Rattle.std.proofs.lemmas.List.Elements.{All-contains_itself}
-use Rattle.gta_theory.specs.Assignments.{Position, Assignment}
+use Rattle.gta_theory.specs.Assignments.{Assignment}
 use Rattle.ws2s_core.specs.declared.track.Track.{Track}
 use Rattle.store_core.specs.declared.ids.TypeId.{TypeId}
-use Rattle.store_core.specs.declared.ids.VariantId.{VariantId}
 use Rattle.store_core.specs.declared.ids.FieldId.{FieldId}
 use Rattle.store_core.specs.declared.ids.VarId.{VarId}
 use Rattle.store_core.specs.declared.ids.CellId.{CellId}
@@ -32,18 +31,17 @@ use Rattle.routing_expr.specs.Walks.{DataAlone, IsFollowed, IsOfType}
 use Rattle.routing_expr.specs.WellFormed.{Names, HoldsOfType, VarHoldsLive, FieldHoldsLive, SetHoldsLive, IsInTree, IsBackbone}
 use Rattle.routing_expr.proofs.GatheringLemmas.{Contains-at}
 use Rattle.routing_laws.proofs.PathLemmas.{HasPath-IsInTree}
-use Rattle.ws2s_forms.specs.Places.{slot_of, child_of}
-use Rattle.tree_encode.specs.Tracks.{variant_track, var_track, slot_of_var, child_number, track_at}
-use Rattle.tree_encode.specs.Positions.{IsPlaced}
+use Rattle.tree_encode.specs.Tracks.{variant_track, var_track, slot_of_var, child_number}
 use Rattle.tree_encode.proofs.TracksLemmas.{cond-some}
 use Rattle.tree_shapes.specs.Shapes.{HasCellsIn, VarLaysOut, LaysOut}
 use Rattle.tree_backbone.specs.Preorder.{ComesBefore}
-use Rattle.tree_backbone.specs.Decoded.{Standing, AreCells, numbered, first_where, all_where, is_on, child_at, field_in, slot_in, slots_in, cell_in, var_in, vars_in, decoded}
-use Rattle.tree_backbone.specs.Stores.{AreSetsLive, AreNumberedFromOne, AreInPreorder, IsStoreOf}
-use Rattle.tree_backbone.proofs.WordsLemmas.{slots-apart, slot-not_child, children-apart}
+use Rattle.tree_backbone.specs.Decoded.{Standing, AreCells, numbered, first_where, all_where, is_on, child_at, field_in, slots_in, cell_in, var_in, vars_in, decoded}
+use Rattle.tree_backbone.specs.Stores.{AreNumberedFromOne, AreInPreorder, IsStoreOf}
+use Rattle.tree_meaning.specs.Premises.{SetsHoldLive}
+use Rattle.tree_meaning.proofs.WordsLemmas.{slots-apart, slot-not_child, children-apart}
 use Rattle.tree_backbone.proofs.CellsLemmas.{ComesBefore-not_itself, ComesBefore-one_way, one_place, IsFoundAt, first_found, all_found, all_rising}
-use Rattle.tree_backbone.proofs.ValuesLemmas.{HeldAt, LiveAt, VarHeldAt, own_field, cell_here, here_cell, value_here, here_value, var_here, here_var}
-use Rattle.tree_backbone.proofs.StandingLemmas.{some-entry, entry-some, one_entry, followed, var_one, field_one, RootAt, ChildAt, PlaceAt, tracked, var_lays, in_type, ends}
+use Rattle.tree_backbone.proofs.ValuesLemmas.{HeldAt, own_field, cell_here, here_cell, value_here, here_value, var_here, here_var}
+use Rattle.tree_backbone.proofs.StandingLemmas.{entry-some, one_entry, followed, var_one, field_one, tracked, var_lays, in_type, ends}
 use Rattle.tree_backbone.proofs.AssignmentLemmas.{IsAssignmentOf-decoded}
 use Rattle.tree_backbone.proofs.StandingLemmas.{one_standing, root_at, child_named, child_type, placed_at, standing_placed}
 
@@ -227,8 +225,8 @@ module _ (types : List TypeEntry) (vars : List VarEntry) (a : Assignment) (cells
         let h = here_var types vars a cells v y held in subst (NamesLiveAlone s) (sym h.is) (good_var v h.entry h.there).live);
   })
 
-  pub AreSetsLive-decoded : AreSetsLive vars s
-  AreSetsLive-decoded v = IfSome-from (var_at vars v) _ (λ entry there. IfSome-from (var_value s v) _ (λ y held.
+  pub sets-decoded : SetsHoldLive vars s
+  sets-decoded v = IfSome-from (var_at vars v) _ (λ entry there. IfSome-from (var_value s v) _ (λ y held.
       subst (SetHoldsLive s entry.kind) (one_entry (var_value s v) _ y (var_here types vars a cells v entry there) held) (good_var v entry there).sets))
 
   -- ---- the backbone
@@ -340,7 +338,7 @@ module _ (types : List TypeEntry) (vars : List VarEntry) (a : Assignment) (cells
     fits = Fits-decoded;
     fresh = IsFresh-decoded;
     backbone = IsBackbone-decoded;
-    sets = AreSetsLive-decoded;
+    sets = sets-decoded;
     assignment = IsAssignmentOf-decoded types vars a cells lays are;
     numbers = AreNumbered-decoded;
     order = AreInPreorder-decoded;

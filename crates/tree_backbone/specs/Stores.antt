@@ -1,18 +1,14 @@
 -- What is said of the store of an assignment.
-use Rattle.std.specs.Prelude.{◌≡◌, ◌<◌, ◌↔◌, List, IfSome}
+use Rattle.std.specs.Prelude.{◌<◌, ◌↔◌, List}
 use Rattle.gta_theory.specs.Assignments.{Position, Assignment}
-use Rattle.store_core.specs.declared.ids.VarId.{VarId}
 use Rattle.store_core.specs.declared.ids.CellId.{CellId}
-use Rattle.store_core.specs.Tables.{TypeEntry, VarEntry, var_at}
-use Rattle.store_core.specs.Stores.{StoreMap, IsLive, Fits, IsFresh, var_value}
-use Rattle.routing_expr.specs.WellFormed.{IsBackbone, SetHoldsLive}
+use Rattle.store_core.specs.Tables.{TypeEntry, VarEntry}
+use Rattle.store_core.specs.Stores.{StoreMap, IsLive, Fits, IsFresh}
+use Rattle.routing_expr.specs.WellFormed.{IsBackbone}
 use Rattle.tree_encode.specs.Positions.{IsPlaced}
 use Rattle.tree_store.specs.Encoding.{IsAssignmentOf}
+use Rattle.tree_meaning.specs.Premises.{SetsHoldLive}
 use Rattle.tree_backbone.specs.Preorder.{ComesBefore}
-
--- every logic set holds live cells of its type
-abbrev pub AreSetsLive : List VarEntry → StoreMap → Type 0
-AreSetsLive vars s = (v : VarId) → IfSome (var_at vars v) (λ entry. IfSome (var_value s v) (SetHoldsLive s entry.kind))
 
 -- the live cells are those with the numbers from 1 up to the next number, which isn't one of them
 abbrev pub AreNumberedFromOne : StoreMap → Type 0
@@ -28,7 +24,15 @@ pub record IsStoreOf (types : List TypeEntry) (vars : List VarEntry) (a : Assign
   pub fits : Fits types vars s
   pub fresh : IsFresh s
   pub backbone : IsBackbone types vars s
-  pub sets : AreSetsLive vars s
+  pub sets : SetsHoldLive vars s
   pub assignment : IsAssignmentOf types vars s a
   pub numbers : AreNumberedFromOne s
   pub order : AreInPreorder types vars s
+
+-- the assignment is that of a backbone which fits its tables and whose logic sets hold live cells of their types
+pub record IsOfBackbone (types : List TypeEntry) (vars : List VarEntry) (a : Assignment) : Type 0 where
+  pub store : StoreMap
+  pub fits : Fits types vars store
+  pub backbone : IsBackbone types vars store
+  pub sets : SetsHoldLive vars store
+  pub assignment : IsAssignmentOf types vars store a

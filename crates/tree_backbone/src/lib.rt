@@ -6,4 +6,4 @@
 
 mod laws;
 
-pub use laws::{laid_out_trees_are_trees_of_backbones, positions_have_one_cell};
+pub use laws::{backbones_alone_satisfy_the_formula, laid_out_trees_are_trees_of_backbones};

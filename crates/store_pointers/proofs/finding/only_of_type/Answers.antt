@@ -2,7 +2,7 @@ use Rattle.std.proofs.Common.{◌+◌, get_or, sym, subst, ◌∙◌, arith}
 use Rattle.std.proofs.lemmas.Bool.{false≢true}
 use Rattle.std.proofs.lemmas.Option.{slice_get-get_or}
 use Rattle.store_core.specs.declared.ids.CellId.{CellId}
-use Rattle.store_pointers.proofs.FindingLemmas.{AmongFirst, OneAtMost, only_start, only_skip, only_take, only_two, only_end, nothing_yet}
+use Rattle.store_pointers.proofs.FindingLemmas.{AmongFirst, OneAtMost, only_skip, only_take, only_two, only_end, nothing_yet}
 use Rattle.store_pointers.proofs.finding.only_of_type.Goals as goal
 use Rattle.store_pointers.proofs.finding.only_of_type.Goals.{then-is_of_type+else-is_some, else-is_of_type}
 

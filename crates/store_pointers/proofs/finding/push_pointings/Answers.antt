@@ -1,7 +1,7 @@
 use Rattle.std.proofs.Common.{◌≡◌, ◌∙◌, ap, sym, subst, arith, ◌++◌, ◌∷◌, []}
 use Rattle.routing_expr.specs.Gathering.{Gathers}
 use Rattle.routing_expr.proofs.GatheringLemmas.{Gathers-none, Gathers-start, Gathers-next, Gathers-push, Gathers-alike}
-use Rattle.store_pointers.proofs.FindingLemmas.{PointingAt, PointingAt-some, PointingAt-none, PointingAt-all, PointingAt-dead}
+use Rattle.store_pointers.proofs.FindingLemmas.{PointingAt, PointingAt-some, PointingAt-none, PointingAt-all}
 use Rattle.store_pointers.proofs.finding.push_pointings.Goals as goal
 use Rattle.store_pointers.proofs.finding.push_pointings.Goals.{in-Some-2+in_ok-push, in_default-2}
 

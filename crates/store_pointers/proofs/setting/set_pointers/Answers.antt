@@ -1,4 +1,4 @@
-use Rattle.std.proofs.Common.{get_or, sym, subst, ap, refl, ◌∙◌, arith, length, ◌≤◌, ◌+◌, None}
+use Rattle.std.proofs.Common.{get_or, sym, subst, arith, ◌+◌, None}
 use Rattle.std.proofs.lemmas.Option.{slice_get-get_or}
 use Rattle.routing_expr.specs.Gathering.{HasAll}
 use Rattle.routing_expr.proofs.GatheringLemmas.{Contains-at}
