@@ -14,6 +14,7 @@ use bdd_walk::NoMemory;
 use gta_keep::Kept;
 use plain_data::Items;
 use std::alloc::Global;
+use ws2s_context::{in_context, open_spine};
 use ws2s_core::{Formula, Guide, Interner, TrackList, intern};
 
 /// Decides formulas under one guide, one after the other, on one shelf: what two formulas share is built once where it is
@@ -75,6 +76,20 @@ impl Decider {
         let _ = shelf.count();
         let _ = self.guide.spaces();
         let id = intern(alloc, &mut self.interner, f)?;
+        let opened = open_spine(alloc, &mut self.interner, id, weigh)?;
+        let made = in_context(alloc, &mut self.interner, opened)?;
+        let verdict = verdict_of(
+            alloc,
+            &self.guide,
+            &self.interner,
+            made,
+            weigh,
+            &mut self.kept,
+            shelf,
+        )?;
+        if !matches!(verdict, Verdict::Limit) {
+            return Ok(verdict);
+        }
         verdict_of(
             alloc,
             &self.guide,
