@@ -28,8 +28,8 @@ AreWeighed weigh tracks = (t : ℕ) → Contains tracks t → Contains weigh (re
 -- the conjuncts that were read, and what comes after them, are the formula with quantifiers dropped; the free tracks of
 -- the conjuncts are kept
 pub record IsSpine (formulas : List Formula) (weigh : List Track) (f : Formula) (spine : Spine) : Type 0 where
-  pub conjuncts : All (IsThere formulas) spine.conjuncts.items
-  pub rest : IsThere formulas spine.rest
+  pub conjuncts_there : All (IsThere formulas) spine.conjuncts.items
+  pub rest_there : IsThere formulas spine.rest
   pub opened : (tracks : List ℕ) → AreWeighed weigh tracks →
       IsOpened tracks f (conjoined (formulas_at formulas spine.conjuncts.items) (formula_of formulas spine.rest))
   pub used : (t : ℕ) → contains nat_eq spine.used t ≡ false → All (λ c. IsFree t c → ⊥) (formulas_at formulas spine.conjuncts.items)

@@ -29,7 +29,8 @@ fn conjunction_of(interner: &mut Interner, conjuncts: Vec<FormulaId>) -> Result<
     let mut conjuncts = conjuncts;
     let mut context = None;
     while let Some(conjunct) = conjuncts.pop() {
-        context = Some(put_before(interner, conjunct, context)?);
+        let made = put_before(interner, conjunct, context)?;
+        context = Some(made);
     }
     Ok(context)
 }
@@ -48,7 +49,10 @@ fn put_before(
         before (formula_of interner.old conjunct) (context_at interner.old context)) }
 {
     match context {
-        Some(rest) => intern_form(interner, Node::And(conjunct, rest)),
+        Some(rest) => {
+            let made = intern_form(interner, Node::And(conjunct, rest))?;
+            Ok(made)
+        }
         None => Ok(conjunct),
     }
 }
@@ -115,7 +119,8 @@ pub(crate) fn narrowed(
     let mut chosen = Vec::new(alloc);
     let mut known = HashSet::new(alloc);
     choose(&mut chosen, &mut known, facts, &members, id)?;
-    conjunction_of(interner, chosen)
+    let made = conjunction_of(interner, chosen)?;
+    Ok(made)
 }
 
 /// The context of the right half of a conjunction: what is relevant to it of the left half and of the context of both.
@@ -141,7 +146,8 @@ pub(crate) fn beside(
     let mut known = HashSet::new(alloc);
     choose(&mut chosen, &mut known, facts, &of_left, right)?;
     choose(&mut chosen, &mut known, facts, &members, right)?;
-    conjunction_of(interner, chosen)
+    let made = conjunction_of(interner, chosen)?;
+    Ok(made)
 }
 
 /// The conjuncts of the left half of a conjunction, without the large ones unless they are outermost.
@@ -190,7 +196,8 @@ pub(crate) fn inside(
     let mut known = known_of(alloc, interner, id)?;
     let mut chosen = Vec::new(alloc);
     choose(&mut chosen, &mut known, facts, &unbound, id)?;
-    conjunction_of(interner, chosen)
+    let made = conjunction_of(interner, chosen)?;
+    Ok(made)
 }
 
 /// The conjuncts of the formula, as a set.

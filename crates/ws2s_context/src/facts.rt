@@ -1,12 +1,12 @@
 //! What is found of each part of a formula, once: its free tracks and its size.
 
-ghost use Rattle.std.specs.Prelude.{◌≡◌, ℕ, ◌<◌, IfOk, OnOk, IfSome, IfNone, List, length, true, Contains, ◌||◌, ◌==◌, nat_eq, Some, slice_get};
+ghost use Rattle.std.specs.Prelude.{◌≡◌, ℕ, ◌<◌, IfOk, OnOk, IfSome, IfNone, List, length, true, Contains, ◌||◌, ◌==◌, if◌then◌else◌, false, nat_eq, Some, slice_get};
 ghost use Rattle.std.specs.HashSet.{contains};
 ghost use Rattle.ws2s_core.specs.declared.formula.Formula.{Formula};
 ghost use Rattle.ws2s_core.specs.Nodes.{formula_of_node};
 ghost use Rattle.ws2s_core.specs.Tracks.{is_free, IsFree};
 ghost use Rattle.ws2s_context.specs.Conjuncts.{IsThere, formula_of};
-ghost use Rattle.ws2s_context.specs.Facts.{IsFact, AreFacts};
+ghost use Rattle.ws2s_context.specs.Facts.{IsFact, AreFacts, Finds};
 
 use crate::tracks::{copy_of, is_within, of_two, union, without};
 use std::alloc::{AllocError, Global};
@@ -97,22 +97,32 @@ impl Facts {
 
     /// The free tracks of a node's formula, and its size.
     fn found(&self, alloc: Global, node: Node) -> Result<Option<(HashSet<u32>, u32)>, AllocError>
-        ensures { IfOk result (λ found. IfSome found (λ pair. (formulas : List Formula) → AreFacts formulas self.now.facts.items →
-            (t : ℕ) → contains nat_eq pair.0 t ≡ is_free t (formula_of_node formulas node))) }
+        ensures { IfOk result (λ found. IfSome found (λ pair. Finds self.now.facts.items
+            (λ formulas t. is_free t (formula_of_node formulas node)) pair.0)) }
     {
         match node {
-            Node::Sub(x, y) | Node::Succ0(x, y) | Node::Succ1(x, y) => {
-                let tracks = of_two(alloc, x, y)?;
-                Ok(Some((tracks, 1)))
-            }
-            Node::Single(x) | Node::Root(x) => {
-                let tracks = of_two(alloc, x, x)?;
-                Ok(Some((tracks, 1)))
-            }
+            Node::Sub(x, y) => self.found_atom(alloc, x, y),
+            Node::Single(x) => self.found_atom(alloc, x, x),
+            Node::Succ0(x, y) => self.found_atom(alloc, x, y),
+            Node::Succ1(x, y) => self.found_atom(alloc, x, y),
+            Node::Root(x) => self.found_atom(alloc, x, x),
             Node::And(f, g) => self.found_and(alloc, f, g),
             Node::Not(f) => self.found_not(alloc, f),
             Node::Ex2(t, f) => self.found_ex2(alloc, t, f),
         }
+    }
+
+    fn found_atom(
+        &self,
+        alloc: Global,
+        x: Track,
+        y: Track,
+    ) -> Result<Option<(HashSet<u32>, u32)>, AllocError>
+        ensures { IfOk result (λ found. IfSome found (λ pair. Finds self.now.facts.items
+            (λ formulas t. (x.0 == t) || (y.0 == t)) pair.0)) }
+    {
+        let tracks = of_two(alloc, x, y)?;
+        Ok(Some((tracks, 1)))
     }
 
     fn found_and(
@@ -121,10 +131,13 @@ impl Facts {
         f: FormulaId,
         g: FormulaId,
     ) -> Result<Option<(HashSet<u32>, u32)>, AllocError>
-        ensures { IfOk result (λ found. IfSome found (λ pair. (formulas : List Formula) → AreFacts formulas self.now.facts.items →
-            (t : ℕ) → contains nat_eq pair.0 t ≡ is_free t (formula_of formulas f) || is_free t (formula_of formulas g))) }
+        ensures { IfOk result (λ found. IfSome found (λ pair. Finds self.now.facts.items
+            (λ formulas t. is_free t (formula_of formulas f) || is_free t (formula_of formulas g)) pair.0)) }
     {
-        let (Some(left), Some(right)) = (self.get(f), self.get(g)) else {
+        let Some(left) = self.get(f) else {
+            return Ok(None);
+        };
+        let Some(right) = self.get(g) else {
             return Ok(None);
         };
         let tracks = union(alloc, &left.tracks, &right.tracks)?;
@@ -137,8 +150,8 @@ impl Facts {
         alloc: Global,
         f: FormulaId,
     ) -> Result<Option<(HashSet<u32>, u32)>, AllocError>
-        ensures { IfOk result (λ found. IfSome found (λ pair. (formulas : List Formula) → AreFacts formulas self.now.facts.items →
-            (t : ℕ) → contains nat_eq pair.0 t ≡ is_free t (formula_of formulas f))) }
+        ensures { IfOk result (λ found. IfSome found (λ pair. Finds self.now.facts.items
+            (λ formulas t. is_free t (formula_of formulas f)) pair.0)) }
     {
         let Some(inner) = self.get(f) else {
             return Ok(None);
@@ -154,8 +167,8 @@ impl Facts {
         t: Track,
         f: FormulaId,
     ) -> Result<Option<(HashSet<u32>, u32)>, AllocError>
-        ensures { IfOk result (λ found. IfSome found (λ pair. (formulas : List Formula) → AreFacts formulas self.now.facts.items →
-            (u : ℕ) → contains nat_eq pair.0 u ≡ (if t.0 == u then false else is_free u (formula_of formulas f)))) }
+        ensures { IfOk result (λ found. IfSome found (λ pair. Finds self.now.facts.items
+            (λ formulas u. if t.0 == u then false else is_free u (formula_of formulas f)) pair.0)) }
     {
         let Some(inner) = self.get(f) else {
             return Ok(None);
@@ -176,10 +189,10 @@ impl Facts {
         }
     }
 
-    /// Whether all free tracks of the conjunct are free in the formula, as far as known.
+    /// Whether the conjunct has free tracks, all of which are free in the formula, as far as known.
     pub(crate) fn is_relevant(&self, conjunct: FormulaId, id: FormulaId) -> bool {
         match (self.get(conjunct), self.get(id)) {
-            (Some(c), Some(f)) => is_within(&c.tracks, &f.tracks),
+            (Some(c), Some(f)) => !c.tracks.is_empty() && is_within(&c.tracks, &f.tracks),
             (_, None) => true,
             (None, Some(_)) => false,
         }

@@ -31,7 +31,8 @@ pub(crate) fn make_conjunction(
     let first = machine.rewritings.to(left);
     let second = machine.rewritings.to(right);
     let made = intern_form(interner, Node::And(first, second))?;
-    machine.rewritings.add(place, made)
+    machine.rewritings.add(place, made)?;
+    Ok(())
 }
 
 /// A negation is made again, beside its context.
@@ -52,7 +53,8 @@ pub(crate) fn make_negation(
     let negated = intern_form(interner, Node::Not(part))?;
     let is_large = !is_atom(interner, inner.id);
     let made = beside_context(interner, place.context, negated, is_large)?;
-    machine.rewritings.add(place, made)
+    machine.rewritings.add(place, made)?;
+    Ok(())
 }
 
 /// A quantifier is put again before what stands there, with its context.
@@ -72,9 +74,10 @@ pub(crate) fn make_quantified(
 {
     let part = machine.rewritings.to(inner);
     let is_large = is_conjunction(interner, inner.id);
-    let part = beside_context(interner, inner.context, part, is_large)?;
-    let made = intern_form(interner, Node::Ex2(t, part))?;
-    machine.rewritings.add(place, made)
+    let beside = beside_context(interner, inner.context, part, is_large)?;
+    let made = intern_form(interner, Node::Ex2(t, beside))?;
+    machine.rewritings.add(place, made)?;
+    Ok(())
 }
 
 /// The conjunction of a context and a formula, where it is wanted; otherwise the formula.
@@ -91,7 +94,10 @@ fn beside_context(
     ensures same { IfOk result (λ made. SameUnder (context_at interner.old context) (formula_of interner.old id) (formula_of interner.new made)) }
 {
     match context {
-        Some(known) if is_wanted => intern_form(interner, Node::And(known, id)),
+        Some(known) if is_wanted => {
+            let made = intern_form(interner, Node::And(known, id))?;
+            Ok(made)
+        }
         _ => Ok(id),
     }
 }

@@ -2,7 +2,7 @@
 
 ghost use Rattle.std.specs.Prelude.{◌≡◌, ℕ, ◌<◌, ◌≤◌, true, List, Contains, All, IfOk, OnOk, Some, slice_get};
 ghost use Rattle.ws2s_core.specs.declared.formula.Formula.{Formula};
-ghost use Rattle.ws2s_core.specs.declared.formula.Formula.TheVariants.{And};
+ghost use Rattle.ws2s_core.specs.declared.formula.Formula.TheVariants.{And, Ex2};
 ghost use Rattle.ws2s_core.specs.Nodes.{Extends, IsOnceEach};
 ghost use Rattle.ws2s_theory.specs.Contexts.{conjoined};
 ghost use Rattle.ws2s_context.specs.Conjuncts.{IsThere, formula_of, formulas_at};
@@ -10,6 +10,7 @@ ghost use Rattle.ws2s_context.specs.Facts.{AreFacts};
 ghost use Rattle.ws2s_context.specs.Opening.{AreWeighed, IsOpened, IsSpine};
 
 use crate::facts::Facts;
+use crate::spine::is_atom;
 use crate::tracks::add_all;
 use std::alloc::{AllocError, Global};
 use std::collections::HashSet;
@@ -65,7 +66,8 @@ fn opened(
         used: _,
         rest,
     } = spine;
-    conjoin(interner, conjuncts, rest)
+    let made = conjoin(interner, conjuncts, rest)?;
+    Ok(made)
 }
 
 /// The outermost conjunction, as far as it was read.
@@ -91,17 +93,41 @@ fn advance(
     ensures there { OnOk result (IsThere interner.now spine.new.rest) }
     ensures further { IfOk result (λ goes_on. goes_on ≡ true → spine.new.rest.0 < spine.old.rest.0) }
 {
-    match interner.form(spine.rest) {
-        Some(Node::And(f, g)) => read_conjunct(interner, facts, weigh, f, g, spine),
-        Some(Node::Ex2(t, f)) => {
-            let is_idle = !spine.used.contains(&t.0) && !is_weighed(weigh, t);
-            if is_idle {
-                spine.rest = f;
-            }
-            Ok(is_idle)
-        }
-        _ => Ok(false),
+    let Some(node) = interner.form(spine.rest) else {
+        return Ok(false);
+    };
+    match node {
+        Node::And(f, g) => read_conjunct(interner, facts, weigh, f, g, spine),
+        Node::Ex2(t, f) => Ok(drop_quantifier(interner, weigh, t, f, spine)),
+        Node::Sub(_, _)
+        | Node::Single(_)
+        | Node::Succ0(_, _)
+        | Node::Succ1(_, _)
+        | Node::Root(_)
+        | Node::Not(_) => Ok(false),
     }
+}
+
+/// Drops a quantifier whose track isn't weighed, and isn't free in a conjunct before it.
+fn drop_quantifier(
+    interner: &Interner,
+    weigh: &TrackList,
+    t: Track,
+    f: FormulaId,
+    spine: &mut Spine,
+) -> bool
+    requires is { formula_of interner.now spine.old.rest ≡ Ex2 t (formula_of interner.now f) }
+    requires there { IsThere interner.now spine.old.rest }
+    requires inner { f.0 < spine.old.rest.0 }
+    ensures spine { (whole : Formula) → IsSpine interner.now weigh.now whole spine.old → IsSpine interner.now weigh.now whole spine.new }
+    ensures there { IsThere interner.now spine.new.rest }
+    ensures further { result ≡ true → spine.new.rest.0 < spine.old.rest.0 }
+{
+    if is_atom(interner, f) || spine.used.contains(&t.0) || is_weighed(weigh, t) {
+        return false;
+    }
+    spine.rest = f;
+    true
 }
 
 /// Reads a conjunct whose free tracks are known.
@@ -114,7 +140,8 @@ fn read_conjunct(
     spine: &mut Spine,
 ) -> Result<bool, AllocError>
     requires facts { AreFacts interner.now facts.now.facts.items }
-    requires is { slice_get interner.now spine.old.rest.0 ≡ Some (And (formula_of interner.now f) (formula_of interner.now g)) }
+    requires is { formula_of interner.now spine.old.rest ≡ And (formula_of interner.now f) (formula_of interner.now g) }
+    requires there { IsThere interner.now spine.old.rest }
     requires left { f.0 < spine.old.rest.0 }
     requires right { g.0 < spine.old.rest.0 }
     ensures spine { OnOk result ((whole : Formula) → IsSpine interner.now weigh.now whole spine.old →
@@ -154,7 +181,8 @@ fn conjoin(
     let mut conjuncts = conjuncts;
     let mut made = rest;
     while let Some(conjunct) = conjuncts.pop() {
-        made = intern_form(interner, Node::And(conjunct, made))?;
+        let next = intern_form(interner, Node::And(conjunct, made))?;
+        made = next;
     }
     Ok(made)
 }

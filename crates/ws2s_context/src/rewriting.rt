@@ -5,6 +5,7 @@ ghost use Rattle.ws2s_core.specs.declared.formula.Formula.{Formula};
 ghost use Rattle.ws2s_core.specs.Nodes.{Extends, IsOnceEach};
 ghost use Rattle.ws2s_core.specs.Satisfaction.{Same};
 ghost use Rattle.ws2s_context.specs.Conjuncts.{IsThere, formula_of};
+ghost use Rattle.ws2s_context.specs.Going.{IsPlace, IsGoing};
 
 use crate::facts::Facts;
 use crate::machine::{Machine, run};
@@ -47,12 +48,23 @@ fn rewritten(alloc: Global, interner: &mut Interner, id: FormulaId) -> Result<Fo
 {
     let facts = Facts::of_parts(alloc, interner, id)?;
     let place = Place { context: None, id };
-    let mut machine = Machine {
-        tasks: Stack::new(alloc),
-        rewritings: Rewritings::new(alloc),
-        room: MANY_VISITS,
-    };
-    machine.tasks.push(Task::Visit(place, true))?;
+    let mut machine = first_machine(alloc, interner, place)?;
     run(alloc, interner, &facts, &mut machine)?;
-    Ok(machine.rewritings.to(place))
+    let made = machine.rewritings.to(place);
+    Ok(made)
+}
+
+/// The machine that is to rewrite a formula.
+fn first_machine(alloc: Global, interner: &Interner, place: Place) -> Result<Machine, AllocError>
+    requires { IsPlace interner.now place }
+    ensures { IfOk result (λ machine. IsGoing interner.now machine.tasks machine.rewritings.made.items) }
+{
+    let mut tasks = Stack::new(alloc);
+    tasks.push(Task::Visit(place, true))?;
+    let rewritings = Rewritings::new(alloc);
+    Ok(Machine {
+        tasks,
+        rewritings,
+        room: MANY_VISITS,
+    })
 }

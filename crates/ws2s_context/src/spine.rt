@@ -1,6 +1,7 @@
 //! Conjunctions taken apart.
 
-ghost use Rattle.std.specs.Prelude.{All, [], ◌∷◌, IfOk};
+ghost use Rattle.std.specs.Prelude.{All, List, [], ◌∷◌, ◌<◌, IfOk, IfSome};
+ghost use Rattle.ws2s_core.specs.declared.formula.Formula.{Formula};
 ghost use Rattle.ws2s_context.specs.Conjuncts.{IsThere, IsConjunct, formula_of};
 
 use std::alloc::{AllocError, Global};
@@ -21,24 +22,44 @@ pub(crate) fn conjuncts_of(
     let mut waiting = Vec::new(alloc);
     waiting.push(id)?;
     let mut found = Vec::new(alloc);
-    for _ in 0..MANY_LOOKS {
+    'looks: for _ in 0..MANY_LOOKS {
         let Some(next) = waiting.pop() else {
-            return Ok(found);
+            break 'looks;
         };
-        match interner.form(next) {
-            Some(Node::And(f, g)) => {
+        match halves_of(interner, next) {
+            Some((f, g)) => {
                 waiting.push(g)?;
                 waiting.push(f)?;
             }
-            _ => found.push(next)?,
+            None => found.push(next)?,
         }
     }
     Ok(found)
 }
 
+/// The halves of a conjunction. `None` where the formula is none.
+fn halves_of(interner: &Interner, id: FormulaId) -> Option<(FormulaId, FormulaId)>
+    ensures { IfSome result (λ halves. (context : List Formula) → IsConjunct interner.now context id →
+        IsConjunct interner.now context halves.0 × IsConjunct interner.now context halves.1) }
+{
+    let Some(node) = interner.form(id) else {
+        return None;
+    };
+    match node {
+        Node::And(f, g) => Some((f, g)),
+        Node::Sub(_, _)
+        | Node::Single(_)
+        | Node::Succ0(_, _)
+        | Node::Succ1(_, _)
+        | Node::Root(_)
+        | Node::Not(_)
+        | Node::Ex2(_, _) => None,
+    }
+}
+
 /// Whether the formula is a conjunction.
 pub(crate) fn is_conjunction(interner: &Interner, id: FormulaId) -> bool {
-    matches!(interner.form(id), Some(Node::And(_, _)))
+    halves_of(interner, id).is_some()
 }
 
 /// Whether the formula is an atom.

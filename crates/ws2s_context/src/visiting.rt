@@ -2,7 +2,7 @@
 
 ghost use Rattle.std.specs.Prelude.{◌≡◌, ◌+◌, ◌*◌, ◌≤◌, ◌<◌, ◌∷◌, length, OnOk};
 ghost use Rattle.ws2s_core.specs.declared.formula.Formula.TheVariants.{And, Not, Ex2};
-ghost use Rattle.ws2s_core.specs.Nodes.{Extends};
+ghost use Rattle.ws2s_core.specs.Nodes.{Extends, HasPartsBelow, formula_of_node};
 ghost use Rattle.ws2s_context.specs.Conjuncts.{IsThere, formula_of};
 ghost use Rattle.ws2s_context.specs.Facts.{AreFacts};
 ghost use Rattle.ws2s_context.specs.Going.{IsPlace, IsGoing, whole};
@@ -36,12 +36,37 @@ pub(crate) fn visit(
     }
     machine.room -= 1;
     match interner.form(place.id) {
-        Some(Node::And(f, g)) => divide(alloc, interner, facts, place, f, g, is_outer, machine),
-        Some(Node::Not(f)) => enter_negation(place, f, interner, machine),
-        Some(Node::Ex2(t, f)) => enter_quantifier(
-            alloc, interner, facts, place, t, f, is_outer, machine,
-        ),
-        _ => Ok(()),
+        Some(node) => take_apart(alloc, interner, facts, place, node, is_outer, machine),
+        None => Ok(()),
+    }
+}
+
+/// The parts of a formula that is no atom are to be rewritten.
+fn take_apart(
+    alloc: Global,
+    interner: &mut Interner,
+    facts: &Facts,
+    place: Place,
+    node: Node,
+    is_outer: bool,
+    machine: &mut Machine,
+) -> Result<(), AllocError>
+    requires facts { AreFacts interner.old facts.now.facts.items }
+    requires place { IsPlace interner.old place }
+    requires is { whole interner.old place ≡ formula_of_node interner.old node }
+    requires parts { HasPartsBelow (length interner.old) node }
+    requires going { IsGoing interner.old machine.old.tasks machine.old.rewritings.made.items }
+    ensures kept { Extends interner.old interner.new }
+    ensures ok { OnOk result (IsGoing interner.new machine.new.tasks machine.new.rewritings.made.items) }
+    ensures tasks { OnOk result (length machine.new.tasks ≤ length machine.old.tasks + 3) }
+    ensures room { machine.new.room ≡ machine.old.room }
+{
+    match node {
+        Node::And(f, g) => divide(alloc, interner, facts, place, f, g, is_outer, machine),
+        Node::Not(f) => enter_negation(place, f, interner, machine),
+        Node::Ex2(t, f) => enter_quantifier(alloc, interner, facts, place, t, f, is_outer, machine),
+        Node::Sub(_, _) | Node::Single(_) | Node::Succ0(_, _) | Node::Succ1(_, _) | Node::Root(_) =>
+            Ok(()),
     }
 }
 
@@ -79,7 +104,8 @@ fn divide(
     let goes_on = is_outer && is_conjunction(interner, f);
     machine.tasks.push(Task::Conjoin(place, left, right))?;
     machine.tasks.push(Task::Visit(right, is_outer))?;
-    machine.tasks.push(Task::Visit(left, goes_on))
+    machine.tasks.push(Task::Visit(left, goes_on))?;
+    Ok(())
 }
 
 /// What is negated is to be rewritten in the same context.
@@ -102,7 +128,8 @@ fn enter_negation(
         id: f,
     };
     machine.tasks.push(Task::Negate(place, inner))?;
-    machine.tasks.push(Task::Visit(inner, false))
+    machine.tasks.push(Task::Visit(inner, false))?;
+    Ok(())
 }
 
 /// What stands under a quantifier is to be rewritten in the context that hasn't its track free.
@@ -132,5 +159,6 @@ fn enter_quantifier(
         id: f,
     };
     machine.tasks.push(Task::Quantify(place, t, inner))?;
-    machine.tasks.push(Task::Visit(inner, is_outer))
+    machine.tasks.push(Task::Visit(inner, is_outer))?;
+    Ok(())
 }

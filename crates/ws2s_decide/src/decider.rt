@@ -7,14 +7,13 @@ ghost use Rattle.ws2s_decide.specs.declared.verdict.Verdict.{Verdict};
 ghost use Rattle.gta_keep.specs.Holding.{HasNoTables};
 ghost use Rattle.ws2s_decide.specs.Deciding.{IsVerdict, guide_of, HasKept};
 
-use crate::deciding::verdict_of;
 use crate::verdict::Verdict;
+use crate::ways::decide_number;
 use bdd_nodes::Shelf;
 use bdd_walk::NoMemory;
 use gta_keep::Kept;
 use plain_data::Items;
 use std::alloc::Global;
-use ws2s_context::{in_context, open_spine};
 use ws2s_core::{Formula, Guide, Interner, TrackList, intern};
 
 /// Decides formulas under one guide, one after the other, on one shelf: what two formulas share is built once where it is
@@ -76,24 +75,10 @@ impl Decider {
         let _ = shelf.count();
         let _ = self.guide.spaces();
         let id = intern(alloc, &mut self.interner, f)?;
-        let opened = open_spine(alloc, &mut self.interner, id, weigh)?;
-        let made = in_context(alloc, &mut self.interner, opened)?;
-        let verdict = verdict_of(
+        decide_number(
             alloc,
             &self.guide,
-            &self.interner,
-            made,
-            weigh,
-            &mut self.kept,
-            shelf,
-        )?;
-        if !matches!(verdict, Verdict::Limit) {
-            return Ok(verdict);
-        }
-        verdict_of(
-            alloc,
-            &self.guide,
-            &self.interner,
+            &mut self.interner,
             id,
             weigh,
             &mut self.kept,
