@@ -1,7 +1,7 @@
 -- On what is known of formulas.
 use Rattle.std.proofs.Common.{◌≡◌, ℕ, Bool, true, false, List, refl, sym, ap, ap₂, ◌∙◌, nat_eq}
 use Rattle.std.proofs.lemmas.Bool.{false≢true}
-use Rattle.std.proofs.Common.{◌||◌, Option, Some, None, Result, Ok, Err, IfOk, IfSome}
+use Rattle.std.proofs.Common.{subst, ◌||◌, Option, Some, None, Result, Ok, Err, IfOk, IfSome}
 use Rattle.std.specs.HashSet.{HashSet, contains}
 use Rattle.std.specs.declared.hash.BuildHasherDefault.{BuildHasherDefault}
 use Rattle.std.specs.declared.hash.FoldHasher.{FoldHasher}
@@ -69,3 +69,6 @@ AreFacts-push formulas facts node fact value found known = record {
   there = slice_get_within formulas fact.id.0 (formula_of_node formulas node) (sym value);
   free = λ t. found.exactly formulas known t ∙ ap (is_free t) (sym (formula_at-is formulas fact.id.0 (formula_of_node formulas node) (sym value)));
 }
+
+pub found-some : {A : Type 0} (P : A → Type 0) (o : Option A) (x : A) → o ≡ Some x → IfSome o P → P x
+found-some P o x e h = subst (λ (v : Option _). IfSome v P) e h

@@ -21,7 +21,7 @@ use Rattle.std.specs.HashSet.{contains}
 use Rattle.ws2s_context.specs.declared.facts.Fact.{Fact}
 use Rattle.ws2s_context.specs.declared.opening.Spine.{Spine}
 use Rattle.ws2s_context.specs.Facts.{IsFact}
-use Rattle.ws2s_context.proofs.ConjunctsLemmas.{at-extends, All-pushed}
+use Rattle.ws2s_context.proofs.ConjunctsLemmas.{at-extends, All-pushed, All-empty}
 use Rattle.ws2s_context.proofs.FactsLemmas.{IsFact-lacks}
 
 pub IsOpened-trans : (tracks : List ℕ) (f g h : Formula) → IsOpened tracks f g → IsOpened tracks g h → IsOpened tracks f h
@@ -169,3 +169,20 @@ IsSpine-dropped formulas weigh f old t inner was is there none unweighed = recor
       (λ inside. unweighed (weighed t.0 inside)));
   used = was.used;
 }
+
+-- nothing was read
+pub IsSpine-first : (formulas : List Formula) (weigh : List Track) (id : FormulaId) (spine : Spine) → IsThere formulas spine.rest →
+    spine.conjuncts.items ≡ [] → IsSpine formulas weigh (formula_of formulas spine.rest) spine
+IsSpine-first formulas weigh id spine there none = record {
+  conjuncts_there = All-empty (IsThere formulas) spine.conjuncts.items none;
+  rest_there = there;
+  opened = λ tracks weighed. subst (λ (ids : List FormulaId). IsOpened tracks (formula_of formulas spine.rest) (conjoined (formulas_at formulas ids) (formula_of formulas spine.rest)))
+      (sym none) (IsOpened-refl tracks (formula_of formulas spine.rest));
+  used = λ t unused. All-empty (λ c. IsFree t c → ⊥) (formulas_at formulas spine.conjuncts.items) (ap (formulas_at formulas) none);
+}
+
+-- the conjuncts and the rest put together
+pub IsOpened-made : (formulas new : List Formula) (weigh : List Track) (f : Formula) (spine : Spine) (made : FormulaId) → IsSpine formulas weigh f spine →
+    formula_of new made ≡ conjoined (formulas_at formulas spine.conjuncts.items) (formula_of formulas spine.rest) → (tracks : List ℕ) → AreWeighed weigh tracks →
+    IsOpened tracks f (formula_of new made)
+IsOpened-made formulas new weigh f spine made was is tracks weighed = subst (IsOpened tracks f) (sym is) (was.opened tracks weighed)

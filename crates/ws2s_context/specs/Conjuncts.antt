@@ -56,3 +56,8 @@ formulas_at formulas ids = map (formula_of formulas) ids
 -- each number of the new list was in the old one, or is among those that were to choose from
 abbrev pub IsAmong : List FormulaId → List FormulaId → List FormulaId → Type 0
 IsAmong old others new = (id : FormulaId) → Contains new id → Contains old id ⊎ Contains others id
+
+-- conjuncts that wait to be looked at, and those that were found
+pub record AreConjuncts (formulas context : List Formula) (waiting found : List FormulaId) : Type 0 where
+  pub in_waiting : All (IsConjunct formulas context) waiting
+  pub in_found : All (IsConjunct formulas context) found

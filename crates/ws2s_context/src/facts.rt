@@ -29,6 +29,13 @@ pub(crate) struct Fact {
     pub(crate) size: u32,
 }
 
+/// What is found of a formula by its parts.
+#[derive(Drop)]
+struct Found {
+    tracks: HashSet<u32>,
+    size: u32,
+}
+
 /// What is known of the parts of a formula. Nothing is known of those with too many free tracks.
 #[derive(Drop)]
 pub(crate) struct Facts {
@@ -84,9 +91,11 @@ impl Facts {
         let Some(node) = interner.form(id) else {
             return Ok(());
         };
-        let Some((tracks, size)) = self.found(alloc, node)? else {
+        let known = self.found(alloc, node)?;
+        let Some(found) = known else {
             return Ok(());
         };
+        let Found { tracks, size } = found;
         if tracks.len() > MANY_TRACKS {
             return Ok(());
         }
@@ -96,9 +105,9 @@ impl Facts {
     }
 
     /// The free tracks of a node's formula, and its size.
-    fn found(&self, alloc: Global, node: Node) -> Result<Option<(HashSet<u32>, u32)>, AllocError>
+    fn found(&self, alloc: Global, node: Node) -> Result<Option<Found>, AllocError>
         ensures { IfOk result (λ found. IfSome found (λ pair. Finds self.now.facts.items
-            (λ formulas t. is_free t (formula_of_node formulas node)) pair.0)) }
+            (λ formulas t. is_free t (formula_of_node formulas node)) pair.tracks)) }
     {
         match node {
             Node::Sub(x, y) => self.found_atom(alloc, x, y),
@@ -112,17 +121,12 @@ impl Facts {
         }
     }
 
-    fn found_atom(
-        &self,
-        alloc: Global,
-        x: Track,
-        y: Track,
-    ) -> Result<Option<(HashSet<u32>, u32)>, AllocError>
+    fn found_atom(&self, alloc: Global, x: Track, y: Track) -> Result<Option<Found>, AllocError>
         ensures { IfOk result (λ found. IfSome found (λ pair. Finds self.now.facts.items
-            (λ formulas t. (x.0 == t) || (y.0 == t)) pair.0)) }
+            (λ formulas t. (x.0 == t) || (y.0 == t)) pair.tracks)) }
     {
         let tracks = of_two(alloc, x, y)?;
-        Ok(Some((tracks, 1)))
+        Ok(Some(Found { tracks, size: 1 }))
     }
 
     fn found_and(
@@ -130,9 +134,9 @@ impl Facts {
         alloc: Global,
         f: FormulaId,
         g: FormulaId,
-    ) -> Result<Option<(HashSet<u32>, u32)>, AllocError>
+    ) -> Result<Option<Found>, AllocError>
         ensures { IfOk result (λ found. IfSome found (λ pair. Finds self.now.facts.items
-            (λ formulas t. is_free t (formula_of formulas f) || is_free t (formula_of formulas g)) pair.0)) }
+            (λ formulas t. is_free t (formula_of formulas f) || is_free t (formula_of formulas g)) pair.tracks)) }
     {
         let Some(left) = self.get(f) else {
             return Ok(None);
@@ -142,40 +146,31 @@ impl Facts {
         };
         let tracks = union(alloc, &left.tracks, &right.tracks)?;
         let size = counted(left.size.saturating_add(right.size).saturating_add(1));
-        Ok(Some((tracks, size)))
+        Ok(Some(Found { tracks, size }))
     }
 
-    fn found_not(
-        &self,
-        alloc: Global,
-        f: FormulaId,
-    ) -> Result<Option<(HashSet<u32>, u32)>, AllocError>
+    fn found_not(&self, alloc: Global, f: FormulaId) -> Result<Option<Found>, AllocError>
         ensures { IfOk result (λ found. IfSome found (λ pair. Finds self.now.facts.items
-            (λ formulas t. is_free t (formula_of formulas f)) pair.0)) }
+            (λ formulas t. is_free t (formula_of formulas f)) pair.tracks)) }
     {
         let Some(inner) = self.get(f) else {
             return Ok(None);
         };
         let tracks = copy_of(alloc, &inner.tracks)?;
         let size = counted(inner.size.saturating_add(1));
-        Ok(Some((tracks, size)))
+        Ok(Some(Found { tracks, size }))
     }
 
-    fn found_ex2(
-        &self,
-        alloc: Global,
-        t: Track,
-        f: FormulaId,
-    ) -> Result<Option<(HashSet<u32>, u32)>, AllocError>
+    fn found_ex2(&self, alloc: Global, t: Track, f: FormulaId) -> Result<Option<Found>, AllocError>
         ensures { IfOk result (λ found. IfSome found (λ pair. Finds self.now.facts.items
-            (λ formulas u. if t.0 == u then false else is_free u (formula_of formulas f)) pair.0)) }
+            (λ formulas u. if t.0 == u then false else is_free u (formula_of formulas f)) pair.tracks)) }
     {
         let Some(inner) = self.get(f) else {
             return Ok(None);
         };
         let tracks = without(alloc, &inner.tracks, t)?;
         let size = counted(inner.size.saturating_add(1));
-        Ok(Some((tracks, size)))
+        Ok(Some(Found { tracks, size }))
     }
 
     /// Whether the track is known not to be free in the formula.

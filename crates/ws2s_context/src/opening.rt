@@ -1,6 +1,7 @@
 //! Outermost quantifiers dropped.
 
 ghost use Rattle.std.specs.Prelude.{◌≡◌, ℕ, ◌<◌, ◌≤◌, true, List, Contains, All, IfOk, OnOk, Some, slice_get};
+ghost use Rattle.ws2s_core.specs.declared.track.Track.{Track};
 ghost use Rattle.ws2s_core.specs.declared.formula.Formula.{Formula};
 ghost use Rattle.ws2s_core.specs.declared.formula.Formula.TheVariants.{And, Ex2};
 ghost use Rattle.ws2s_core.specs.Nodes.{Extends, IsOnceEach};
@@ -55,12 +56,11 @@ fn opened(
     ensures kept { Extends interner.old interner.new }
 {
     let facts = Facts::of_parts(alloc, interner, id)?;
-    let mut spine = Spine {
-        conjuncts: Vec::new(alloc),
-        used: HashSet::new(alloc),
-        rest: id,
-    };
-    while advance(interner, &facts, weigh, &mut spine)? {}
+    let mut spine = first_spine(alloc, id);
+    let mut goes_on = true;
+    while goes_on {
+        goes_on = advance(interner, &facts, weigh, &mut spine)?;
+    }
     let Spine {
         conjuncts,
         used: _,
@@ -78,6 +78,21 @@ pub(crate) struct Spine {
     pub(crate) used: HashSet<u32>,
     /// What comes after the conjuncts.
     pub(crate) rest: FormulaId,
+}
+
+/// Nothing is read yet.
+fn first_spine(alloc: Global, id: FormulaId) -> Spine
+    ensures spine { (formulas : List Formula) (weigh : List Track) → IsThere formulas id →
+        IsSpine formulas weigh (formula_of formulas id) result }
+    ensures rest { result.rest ≡ id }
+{
+    let conjuncts = Vec::new(alloc);
+    let used = HashSet::new(alloc);
+    Spine {
+        conjuncts,
+        used,
+        rest: id,
+    }
 }
 
 /// Reads one more conjunct, or drops one quantifier. `false` where neither can be done.

@@ -1,8 +1,8 @@
 //! Conjunctions taken apart.
 
-ghost use Rattle.std.specs.Prelude.{All, List, [], ◌∷◌, ◌<◌, IfOk, IfSome};
+ghost use Rattle.std.specs.Prelude.{All, List, [], ◌∷◌, ◌<◌, IfOk, IfSome, OnOk};
 ghost use Rattle.ws2s_core.specs.declared.formula.Formula.{Formula};
-ghost use Rattle.ws2s_context.specs.Conjuncts.{IsThere, IsConjunct, formula_of};
+ghost use Rattle.ws2s_context.specs.Conjuncts.{IsThere, IsConjunct, AreConjuncts, formula_of};
 
 use std::alloc::{AllocError, Global};
 use ws2s_core::{FormulaId, Interner, Node};
@@ -26,15 +26,29 @@ pub(crate) fn conjuncts_of(
         let Some(next) = waiting.pop() else {
             break 'looks;
         };
-        match halves_of(interner, next) {
-            Some((f, g)) => {
-                waiting.push(g)?;
-                waiting.push(f)?;
-            }
-            None => found.push(next)?,
-        }
+        look(interner, next, &mut waiting, &mut found)?;
     }
     Ok(found)
+}
+
+/// The halves of a conjunction come to wait; what is no conjunction is found.
+fn look(
+    interner: &Interner,
+    next: FormulaId,
+    waiting: &mut Vec<FormulaId>,
+    found: &mut Vec<FormulaId>,
+) -> Result<(), AllocError>
+    ensures { OnOk result ((context : List Formula) → IsConjunct interner.now context next →
+        AreConjuncts interner.now context waiting.old.items found.old.items →
+        AreConjuncts interner.now context waiting.new.items found.new.items) }
+{
+    let Some(halves) = halves_of(interner, next) else {
+        found.push(next)?;
+        return Ok(());
+    };
+    waiting.push(halves.1)?;
+    waiting.push(halves.0)?;
+    Ok(())
 }
 
 /// The halves of a conjunction. `None` where the formula is none.

@@ -9,5 +9,5 @@ pub returns : goal.returns
 returns c = record {
   exactly = λ formulas known t. c.in_ok-tracks.ensures t
       ∙ ap₂ (λ x y. x || y) (free-of formulas c.in-Some.left.now c.args.f t (c.in-Some.ensures.fact formulas known) c.in-Some.ensures.id)
-      (free-of formulas c.in-Some-2.right.now c.args.g t (c.in-Some-2.ensures.fact formulas known) c.in-Some-2.ensures.id);
+      (free-of formulas c.in-Some-get.right.now c.args.g t (c.in-Some-get.ensures.fact formulas known) c.in-Some-get.ensures.id);
 }
