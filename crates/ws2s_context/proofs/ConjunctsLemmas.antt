@@ -1,7 +1,7 @@
 -- On contexts by numbers.
 use Rattle.std.proofs.Common.{◌≡◌, ◌⊎◌, ℕ, ◌<◌, List, [], ◌∷◌, ◌++◌, length, map, option_map, slice_get, unwrap_or, All, Contains, Option, Some, None}
 use Rattle.std.proofs.Common.{refl, sym, ap, ap₂, subst, ◌∙◌, arith, inl, inr, length-append}
-use Rattle.std.proofs.Common.{Bool, true, false, ◌||◌}
+use Rattle.std.proofs.Common.{Bool, true, false, ◌||◌, zero, suc, get_or}
 use Rattle.std.proofs.lemmas.Bool.{false≢true}
 use Rattle.std.proofs.lemmas.Option.{slice_get_within}
 use Rattle.std.proofs.lemmas.List.{map-append}
@@ -288,3 +288,11 @@ pub there-chosen : (old : List Formula) (context : List Formula) (none members c
     All (IsConjunct old context) members → All (IsThere old) chosen
 there-chosen old context none members chosen e among all =
     IsConjunct-there old context chosen (All-chosen (IsConjunct old context) none members chosen e among all)
+
+get_or-again : {X : Type 0} (xs : List X) (k : ℕ) (d : X) → get_or xs k (get_or xs k d) ≡ get_or xs k d
+get_or-again [] k d = refl
+get_or-again (x ∷ xs) zero d = refl
+get_or-again (x ∷ xs) (suc k) d = get_or-again xs k d
+
+pub Contains-at : {X : Type 0} (xs : List X) (k : ℕ) (d : X) → k < length xs → Contains xs (get_or xs k d)
+Contains-at xs k d inside = (k, inside, get_or-again xs k d)

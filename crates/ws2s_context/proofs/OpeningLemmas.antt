@@ -1,4 +1,6 @@
 -- On outermost quantifiers.
+use Rattle.std.proofs.Common.{◌+◌, ◌*◌, ◌<◌, ◌≤◌, cond, arith, slice_get, Some, Ok, Err, Result, IfOk}
+use Rattle.ws2s_core.proofs.NodesLemmas.{at-formula_at, formula_at-is}
 use Rattle.std.proofs.Common.{Bool, true, false, ◌||◌, nat_eq, ap₂, ◌≡◌, ℕ, List, [], ◌∷◌, ◌++◌, All, Contains, map, refl, sym, ap, subst, ◌∙◌, ◌↔◌}
 use Rattle.std.proofs.lemmas.List.{map-append}
 use Rattle.std.proofs.lemmas.List.Elements.{All-nil, All-cons, All-head, All-tail}
@@ -186,3 +188,21 @@ pub IsOpened-made : (formulas new : List Formula) (weigh : List Track) (f : Form
     formula_of new made ≡ conjoined (formulas_at formulas spine.conjuncts.items) (formula_of formulas spine.rest) → (tracks : List ℕ) → AreWeighed weigh tracks →
     IsOpened tracks f (formula_of new made)
 IsOpened-made formulas new weigh f spine made was is tracks weighed = subst (IsOpened tracks f) (sym is) (was.opened tracks weighed)
+
+-- a turn that goes on has a lower rest, and the last turn has none to follow
+pub turn-smaller : (before after : Bool) (n m : ℕ) → before ≡ true → n ≤ m → (after ≡ true → n < m) → 2 * n + cond after 1 0 < 2 * m + cond before 1 0
+turn-smaller true true n m e no_higher further = let lower = further refl in omega arith
+turn-smaller true false n m e no_higher further = omega arith
+turn-smaller false after n m e no_higher further = absurd (false≢true e)
+
+-- what was opened, by the formulas themselves
+pub opened-value : {E : Type 0} (old new : List Formula) (weigh : List Track) (id : FormulaId) (r : Result FormulaId E) → IfOk r (IsThere new) →
+    IfOk r (λ made. (tracks : List ℕ) → AreWeighed weigh tracks → IsOpened tracks (formula_of old id) (formula_of new made)) →
+    IfOk r (λ made. (f : Formula) → slice_get old id.0 ≡ Some f →
+    (g : Formula) × (slice_get new made.0 ≡ Some g) × ((tracks : List ℕ) → AreWeighed weigh tracks → IsOpened tracks f g))
+opened-value old new weigh id (Ok made) there value = λ f e. (
+  formula_of new made,
+  at-formula_at new made.0 there,
+  (λ tracks weighed. subst (λ (g : Formula). IsOpened tracks g (formula_of new made)) (formula_at-is old id.0 f e) (value tracks weighed)),
+)
+opened-value old new weigh id (Err e) there value = value

@@ -106,6 +106,7 @@ fn advance(
     requires there { IsThere interner.now spine.old.rest }
     ensures spine { OnOk result ((f : Formula) → IsSpine interner.now weigh.now f spine.old → IsSpine interner.now weigh.now f spine.new) }
     ensures there { OnOk result (IsThere interner.now spine.new.rest) }
+    ensures no_higher { spine.new.rest.0 ≤ spine.old.rest.0 }
     ensures further { IfOk result (λ goes_on. goes_on ≡ true → spine.new.rest.0 < spine.old.rest.0) }
 {
     let Some(node) = interner.form(spine.rest) else {
@@ -136,6 +137,7 @@ fn drop_quantifier(
     requires inner { f.0 < spine.old.rest.0 }
     ensures spine { (whole : Formula) → IsSpine interner.now weigh.now whole spine.old → IsSpine interner.now weigh.now whole spine.new }
     ensures there { IsThere interner.now spine.new.rest }
+    ensures no_higher { spine.new.rest.0 ≤ spine.old.rest.0 }
     ensures further { result ≡ true → spine.new.rest.0 < spine.old.rest.0 }
 {
     if is_atom(interner, f) || spine.used.contains(&t.0) || is_weighed(weigh, t) {
@@ -161,6 +163,7 @@ fn read_conjunct(
     requires right { g.0 < spine.old.rest.0 }
     ensures spine { OnOk result ((whole : Formula) → IsSpine interner.now weigh.now whole spine.old →
         IsSpine interner.now weigh.now whole spine.new) }
+    ensures no_higher { spine.new.rest.0 ≤ spine.old.rest.0 }
     ensures further { IfOk result (λ goes_on. goes_on ≡ true → spine.new.rest.0 < spine.old.rest.0) }
     ensures there { OnOk result (IsThere interner.now spine.new.rest) }
 {

@@ -1,4 +1,4 @@
-use Rattle.ws2s_context.proofs.OpeningLemmas.{IsOpened-made}
+use Rattle.ws2s_context.proofs.OpeningLemmas.{IsOpened-made, turn-smaller}
 use Rattle.ws2s_context.proofs.opening.opened.Goals as goal
 
 pub loop-goes_on-init : goal.loop-goes_on-init
@@ -11,3 +11,8 @@ pub returns-clause-value : goal.returns-clause-value
 returns-clause-value c = λ tracks weighed.
     IsOpened-made c.args.interner.now c.conjoin.new.interner c.args.weigh.now _ c.loop-goes_on.spine c.in_ok-made.made c.loop-goes_on.invariant
     c.in_ok-made.ensures.value tracks weighed
+
+pub loop-goes_on-smaller : goal.loop-goes_on-smaller
+loop-goes_on-smaller c =
+    turn-smaller c.loop-goes_on.goes_on c.in_ok-goes_on.goes_on c.advance.new.spine.rest.0 c.loop-goes_on.spine.rest.0 c.loop-goes_on-test.true
+    c.advance.ensures.no_higher c.in_ok-goes_on.ensures.further

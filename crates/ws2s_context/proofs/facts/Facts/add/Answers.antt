@@ -11,8 +11,8 @@ returns c =
     let fs = c.args.interner.now in
     let facts = c.args.self.now.facts.items in
     let found = found-some (λ (f : Found). Finds facts (λ formulas t. is_free t (formula_of_node formulas c.in-Some.node)) f.tracks) c.in_ok-known.known
-    c.in-Some-2.found c.in-Some-2.is c.in_ok-known.ensures in
-    All-pushed (IsFact fs) facts c.push.new.self.items (record { id = c.args.id; tracks = c.in-Some-2.found.tracks; size = c.in-Some-2.found.size })
+    c.in-Some-known.found c.in-Some-known.is c.in_ok-known.ensures in
+    All-pushed (IsFact fs) facts c.push.new.self.items (record { id = c.args.id; tracks = c.in-Some-known.found.tracks; size = c.in-Some-known.found.size })
     c.in_ok-push.ensures.items c.requires
-    (AreFacts-push fs facts c.in-Some.node (record { id = c.args.id; tracks = c.in-Some-2.found.tracks; size = c.in-Some-2.found.size })
+    (AreFacts-push fs facts c.in-Some.node (record { id = c.args.id; tracks = c.in-Some-known.found.tracks; size = c.in-Some-known.found.size })
     c.in-Some.ensures.value found c.requires)
