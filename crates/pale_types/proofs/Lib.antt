@@ -1,0 +1,5 @@
+pub mod DistinctLemmas
+pub mod VariableLemmas
+pub mod SightLemmas
+pub mod KeepLemmas
+pub mod StatementLemmas

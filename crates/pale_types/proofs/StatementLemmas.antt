@@ -1,0 +1,142 @@
+-- Statements, form by form: their faults, and what they are typed as.
+use Rattle.std.proofs.Common.{◌≡◌, List, [], ◌∷◌, map, Option, Some, None, option_map, refl, sym, ap, ◌∙◌}
+use Rattle.std.specs.Option.{option_map_or}
+use Rattle.pale_text.specs.declared.place.Pos.{Pos}
+use Rattle.pale_syntax.specs.declared.tree.names.Name.{Name}
+use Rattle.pale_syntax.specs.declared.tree.names.Path.{Path}
+use Rattle.pale_syntax.specs.declared.tree.condition.Condition.{Condition}
+use Rattle.pale_syntax.specs.declared.tree.assertion.Bracketed.{Bracketed}
+use Rattle.pale_syntax.specs.declared.tree.statement.Call.{Call}
+use Rattle.pale_syntax.specs.declared.tree.statement.Value.{Value}
+use Rattle.pale_syntax.specs.declared.tree.statement.Statement.{Statement, roll-Statement}
+use Rattle.pale_syntax.specs.declared.tree.statement.Statement.TheVariants as form
+use Rattle.pale_syntax.specs.declared.tree.statement.Statement.TheOpen.{Statement-F}
+use Rattle.pale_syntax.specs.declared.tree.statement.Statement.TheFolds.{map-Statement, fold-roll-Statement}
+use Rattle.store_logic.specs.declared.act.Act.TheVariants as act
+use Rattle.pale_tables.specs.Faults.{Fault, ◌>>◌, first_of}
+use Rattle.pale_acts.specs.Conditions.{condition_fault, typed_condition}
+use Rattle.pale_acts.specs.Assignments.{assignment_fault, assignment_of, free_fault, free_of}
+use Rattle.pale_predicates.specs.Predicates.{bracketed_fault}
+use Rattle.pale_types.specs.declared.typed.Stmt.{Stmt}
+use Rattle.pale_types.specs.declared.typed.Stmt.TheVariants as stmt
+use Rattle.pale_types.specs.declared.ground.Ground.{Ground}
+use Rattle.pale_types.specs.declared.sights.Frame.{Frame}
+use Rattle.pale_types.specs.Stated.{stated}
+use Rattle.pale_types.specs.Statements.{types_of, parts_of, parts_fault, typing_rules, typed_statement, typed_block, block_rule, else_rule}
+use Rattle.pale_types.specs.Statements.{fault_rules, statement_fault, block_fault, typed_else, else_fault, else_of}
+
+module _ (ground : Ground) (frame : Frame) where
+  pub fault_form : (s : Statement) (x : Statement-F Statement) → s ≡ roll-Statement x →
+      statement_fault ground frame s ≡ fault_rules ground frame (map-Statement Statement Fault (statement_fault ground frame) x)
+  unfolding statement_fault
+  fault_form s x is = ap (statement_fault ground frame) is ∙ fold-roll-Statement Fault (fault_rules ground frame) x
+
+  pub typed_form : (s : Statement) (x : Statement-F Statement) → s ≡ roll-Statement x →
+      typed_statement ground frame s ≡ typing_rules ground frame (map-Statement Statement Stmt (typed_statement ground frame) x)
+  unfolding typed_statement
+  typed_form s x is = ap (typed_statement ground frame) is ∙ fold-roll-Statement Stmt (typing_rules ground frame) x
+
+  -- the statements of a block
+  each_fault : (block : List Statement) → block_rule (map (statement_fault ground frame) block) ≡ block_fault ground frame block
+  each_fault [] = refl
+  each_fault (s ∷ block) = ap (λ rest. statement_fault ground frame s >> rest) (each_fault block)
+
+  -- those of an `else`
+  no_fault : (no : Option (List Statement)) → else_rule (option_map (map (statement_fault ground frame)) no) ≡ else_fault ground frame no
+  no_fault None = refl
+  no_fault (Some block) = each_fault block
+
+  no_typed : (no : Option (List Statement)) → else_of (option_map (map (typed_statement ground frame)) no) ≡ typed_else ground frame no
+  no_typed None = refl
+  no_typed (Some block) = refl
+
+  -- ---- each form
+
+  pub fault-Skip : (place : Pos) → statement_fault ground frame (form.Skip place) ≡ None
+  fault-Skip place = fault_form _ (Statement-F.Skip place) (sym (form.rolls-Skip place))
+
+  pub typed-Skip : (place : Pos) → typed_statement ground frame (form.Skip place) ≡ stmt.Skip
+  typed-Skip place = typed_form _ (Statement-F.Skip place) (sym (form.rolls-Skip place))
+
+  pub fault-If : (place : Pos) (c : Condition) (yes : List Statement) (no : Option (List Statement)) →
+      statement_fault ground frame (form.If place c yes no)
+      ≡ (condition_fault (types_of ground) frame.code c >> block_fault ground frame yes >> else_fault ground frame no)
+  fault-If place c yes no =
+      fault_form _ (Statement-F.If place c yes no) (sym (form.rolls-If place c yes no))
+      ∙ ap (λ block. condition_fault (types_of ground) frame.code c >> block >> else_rule (option_map (map (statement_fault ground frame)) no)) (each_fault yes)
+      ∙ ap (λ block. condition_fault (types_of ground) frame.code c >> block_fault ground frame yes >> block) (no_fault no)
+
+  pub typed-If : (place : Pos) (c : Condition) (yes : List Statement) (no : Option (List Statement)) →
+      typed_statement ground frame (form.If place c yes no)
+      ≡ stmt.If place.line (typed_condition (types_of ground) frame.code c) (typed_block ground frame yes) (typed_else ground frame no)
+  typed-If place c yes no =
+      typed_form _ (Statement-F.If place c yes no) (sym (form.rolls-If place c yes no))
+      ∙ ap (stmt.If place.line (typed_condition (types_of ground) frame.code c) (typed_block ground frame yes)) (no_typed no)
+
+  pub fault-While : (place : Pos) (c : Condition) (invariant : Bracketed) (body : List Statement) →
+      statement_fault ground frame (form.While place c invariant body)
+      ≡ (condition_fault (types_of ground) frame.code c >> bracketed_fault ground.declared frame.stated invariant >> block_fault ground frame body)
+  fault-While place c invariant body =
+      fault_form _ (Statement-F.While place c invariant body) (sym (form.rolls-While place c invariant body))
+      ∙ ap (λ block. condition_fault (types_of ground) frame.code c >> bracketed_fault ground.declared frame.stated invariant >> block) (each_fault body)
+
+  pub typed-While : (place : Pos) (c : Condition) (invariant : Bracketed) (body : List Statement) →
+      typed_statement ground frame (form.While place c invariant body)
+      ≡ stmt.While place (typed_condition (types_of ground) frame.code c) (stated ground.declared frame.stated invariant) (typed_block ground frame body)
+  typed-While place c invariant body = typed_form _ (Statement-F.While place c invariant body) (sym (form.rolls-While place c invariant body))
+
+  pub fault-Split : (place : Pos) (b : Bracketed) →
+      statement_fault ground frame (form.Split place b) ≡ bracketed_fault ground.declared frame.stated b
+  fault-Split place b = fault_form _ (Statement-F.Split place b) (sym (form.rolls-Split place b))
+
+  pub typed-Split : (place : Pos) (b : Bracketed) →
+      typed_statement ground frame (form.Split place b) ≡ stmt.Split place (stated ground.declared frame.stated b)
+  typed-Split place b = typed_form _ (Statement-F.Split place b) (sym (form.rolls-Split place b))
+
+  pub fault-Assert : (place : Pos) (b : Bracketed) →
+      statement_fault ground frame (form.Assert place b) ≡ bracketed_fault ground.declared frame.stated b
+  fault-Assert place b = fault_form _ (Statement-F.Assert place b) (sym (form.rolls-Assert place b))
+
+  pub typed-Assert : (place : Pos) (b : Bracketed) →
+      typed_statement ground frame (form.Assert place b) ≡ stmt.Do place.line (act.Assert (stated ground.declared frame.stated b))
+  typed-Assert place b = typed_form _ (Statement-F.Assert place b) (sym (form.rolls-Assert place b))
+
+  pub fault-Free : (place : Pos) (x : Name) → statement_fault ground frame (form.Free place x) ≡ free_fault frame.code x
+  fault-Free place x = fault_form _ (Statement-F.Free place x) (sym (form.rolls-Free place x))
+
+  pub typed-Free : (place : Pos) (x : Name) → typed_statement ground frame (form.Free place x) ≡ stmt.Do place.line (free_of frame.code x)
+  typed-Free place x = typed_form _ (Statement-F.Free place x) (sym (form.rolls-Free place x))
+
+  pub fault-Call : (call : Call) → statement_fault ground frame (form.Call call) ≡ parts_fault ground frame call
+  fault-Call call = fault_form _ (Statement-F.Call call) (sym (form.rolls-Call call))
+
+  pub typed-Call : (call : Call) → typed_statement ground frame (form.Call call) ≡ stmt.Call call.place (parts_of ground frame call)
+  typed-Call call = typed_form _ (Statement-F.Call call) (sym (form.rolls-Call call))
+
+  pub fault-Assign : (p : Path) (equals : Pos) (v : Value) →
+      statement_fault ground frame (form.Assign p equals v) ≡ assignment_fault (types_of ground) frame.code p v
+  fault-Assign p equals v = fault_form _ (Statement-F.Assign p equals v) (sym (form.rolls-Assign p equals v))
+
+  pub typed-Assign : (p : Path) (equals : Pos) (v : Value) →
+      typed_statement ground frame (form.Assign p equals v) ≡ stmt.Do p.base.place.line (assignment_of (types_of ground) frame.code p v)
+  typed-Assign p equals v = typed_form _ (Statement-F.Assign p equals v) (sym (form.rolls-Assign p equals v))
+
+-- each form
+pub ruleset statement_forms = (
+  fault-Skip,
+  typed-Skip,
+  fault-If,
+  typed-If,
+  fault-While,
+  typed-While,
+  fault-Split,
+  typed-Split,
+  fault-Assert,
+  typed-Assert,
+  fault-Free,
+  typed-Free,
+  fault-Call,
+  typed-Call,
+  fault-Assign,
+  typed-Assign,
+)
