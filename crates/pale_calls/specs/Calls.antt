@@ -16,6 +16,7 @@ use Rattle.pale_tables.specs.Faults.{Fault, need, ◌>>◌}
 use Rattle.pale_tables.specs.Names.{is_new, with_name}
 use Rattle.pale_terms.specs.Visibles.{Entry}
 use Rattle.pale_terms.specs.Scopes.{allowed}
+use Rattle.pale_calls.specs.declared.class.VarClass.{VarClass}
 use Rattle.pale_calls.specs.declared.signature.Formal.{Formal}
 use Rattle.pale_calls.specs.declared.signature.Signature.{Signature}
 use Rattle.pale_calls.specs.declared.actual.Actual.{Actual}
@@ -73,10 +74,14 @@ results_fault vars callee before (x ∷ xs) =
 
 -- ---- arguments
 
--- a variable, and no data or pointer variable twice
+-- a data or pointer variable is handed over once
+unfoldable pub may_be_handed : VarClass → Bool → Bool
+may_be_handed of is_new = if holds_cell of then is_new else true
+
+-- a variable after those with these names
 unfoldable pub named_argument_fault : List VarEntry → List (List ℕ) → Formal → Name → Fault
 named_argument_fault vars before formal x =
-    beside_fault vars formal x >> need (not (holds_cell formal.class && not (is_new before x.bytes))) kind.Duplicate x.place
+    beside_fault vars formal x >> need (may_be_handed formal.class (is_new before x.bytes)) kind.Duplicate x.place
 
 -- after those with these names: `null` stands for a cell, `true` and `false` for a truth value
 abbrev pub argument_fault : List VarEntry → List (List ℕ) → Formal → Argument → Fault

@@ -1,6 +1,5 @@
 -- Procedures as calls see them.
 use Rattle.std.specs.Prelude.{ℕ, List, map, Option}
-use Rattle.std.specs.Option.{option_and_then}
 use Rattle.std.specs.declared.vec.Vec.{Vec}
 use Rattle.std.specs.declared.alloc.Global.{Global}
 use Rattle.store_core.specs.Tables.{place_of}

@@ -2,11 +2,12 @@
 
 ghost use Rattle.std.specs.Prelude.{◌≡◌, [], None, length, map, IfOk, IfErr, OnOk};
 ghost use Rattle.pale_tables.specs.Faults.{IsStop};
-ghost use Rattle.pale_calls.specs.Calls.{named_argument_fault, argument_fault, with_argument, arguments_fault, actual_of, variable_of};
+ghost use Rattle.pale_calls.specs.Calls.{may_be_handed, named_argument_fault, argument_fault, with_argument, arguments_fault, actual_of, variable_of};
 
 use crate::actual::{Actual, ActualList};
+use crate::class::VarClass;
 use crate::signature::Formal;
-use crate::variables::read_beside;
+use crate::variables::{is_new, read_beside};
 use pale_syntax::{Argument, Name};
 use pale_tables::{Names, need};
 use pale_text::{RefusalKind, TextStop};
@@ -14,8 +15,16 @@ use plain_data::Items;
 use std::alloc::{AllocError, Global};
 use store_core::{VarId, VarTable};
 
+/// Whether a variable may be handed over: a data or pointer variable where it is new.
+#[tactic(auto, unfolding(crate::specs::Calls::may_be_handed))]
+fn may_be_handed(class: VarClass, is_new: bool) -> bool
+    ensures { result ≡ may_be_handed class is_new }
+{
+    if class.holds_cell() { is_new } else { true }
+}
+
 /// A variable as an argument, after those with these names.
-#[tactic(auto, unfolding(crate::specs::Calls::named_argument_fault))]
+#[tactic(auto, unfolding(crate::specs::Calls::named_argument_fault), using(pale_tables::proofs::FaultLemmas::stops))]
 fn read_named(
     vars: &VarTable,
     before: &Names,
@@ -27,9 +36,8 @@ fn read_named(
     ensures stop { IfErr result (IsStop (named_argument_fault vars.now before.now formal name.now)) }
 {
     let id = read_beside(vars, formal, name)?;
-    let is_new = before.find(name.bytes.as_slice()).is_none();
-    let is_again = formal.class.holds_cell() && !is_new;
-    need(!is_again, RefusalKind::Duplicate, name.place)?;
+    let may = may_be_handed(formal.class, is_new(before, name));
+    need(may, RefusalKind::Duplicate, name.place)?;
     Ok(id)
 }
 

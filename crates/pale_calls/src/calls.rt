@@ -1,6 +1,7 @@
 //! Calls.
 
-ghost use Rattle.std.specs.Prelude.{◌≡◌, None, map, IfOk, IfErr, OnOk, option_map};
+ghost use Rattle.std.specs.Prelude.{◌≡◌, None, map, IfOk, IfErr, OnOk, Some};
+ghost use Rattle.std.specs.Option.{option_copied};
 ghost use Rattle.pale_tables.specs.Faults.{Fault, IsStop};
 ghost use Rattle.pale_calls.specs.Calls.{actual_of, callee_named, has_counts, handed_fault, call_fault, call_of};
 ghost use Rattle.pale_calls.specs.Signatures.{number_of};
@@ -77,7 +78,7 @@ fn read_handed(
 
 /// The procedure of this name.
 fn find_callee<'a>(procedures: &'a Procedures, name: &Name) -> Option<&'a Signature>
-    ensures { option_map (λ x. x.now) result ≡ callee_named procedures.now name.now.bytes }
+    ensures { option_copied result ≡ callee_named procedures.now name.now.bytes }
 {
     let number = procedures.find(name.bytes.as_slice())?;
     procedures.signature(number)
@@ -85,7 +86,7 @@ fn find_callee<'a>(procedures: &'a Procedures, name: &Name) -> Option<&'a Signat
 
 /// The number of a procedure, as 32 bits hold it.
 fn read_number(procedures: &Procedures, name: &Name) -> Result<u32, TextStop>
-    ensures { IfOk result (λ number. number_of procedures.now name.now.bytes ≡ Some number) }
+    ensures number { IfOk result (λ number. number_of procedures.now name.now.bytes ≡ Some number) }
     ensures memory { IfErr result (λ stop. (fault : Fault) → IsStop fault stop) }
 {
     match procedures.find(name.bytes.as_slice()) {

@@ -1,12 +1,13 @@
 //! Results of calls.
 
-ghost use Rattle.std.specs.Prelude.{◌≡◌, [], None, map, IfOk, IfErr, OnOk, option_map};
+ghost use Rattle.std.specs.Prelude.{◌≡◌, [], None, map, IfOk, IfErr, OnOk};
+ghost use Rattle.std.specs.Option.{option_copied};
 ghost use Rattle.pale_tables.specs.Faults.{IsStop};
 ghost use Rattle.pale_calls.specs.Calls.{variable_of, stray_fault, result_fault, results_fault};
 
 use crate::class::VarClass;
 use crate::signature::Signature;
-use crate::variables::{read_beside, read_variable};
+use crate::variables::{is_new, read_beside, read_variable};
 use pale_syntax::Name;
 use pale_tables::{Names, need};
 use pale_text::{RefusalKind, TextStop};
@@ -35,9 +36,9 @@ fn read_result(
     place: usize,
     name: &Name,
 ) -> Result<VarId, TextStop>
-    ensures met { OnOk result (result_fault vars.now (option_map (λ x. x.now) callee) place name.now ≡ None) }
+    ensures met { OnOk result (result_fault vars.now (option_copied callee.entry) place name.now ≡ None) }
     ensures id { IfOk result (λ id. id ≡ variable_of vars.now name.now) }
-    ensures stop { IfErr result (IsStop (result_fault vars.now (option_map (λ x. x.now) callee) place name.now)) }
+    ensures stop { IfErr result (IsStop (result_fault vars.now (option_copied callee.entry) place name.now)) }
 {
     let Some(callee) = callee else {
         return read_stray(vars, name);
@@ -58,16 +59,15 @@ pub(crate) fn read_results(
     callee: Option<&Signature>,
     names: &[Name],
 ) -> Result<VarList, TextStop>
-    ensures met { OnOk result (results_fault vars.now (option_map (λ x. x.now) callee) [] names.now ≡ None) }
+    ensures met { OnOk result (results_fault vars.now (option_copied callee.entry) [] names.now ≡ None) }
     ensures results { IfOk result (λ found. found ≡ map (variable_of vars.now) names.now) }
-    ensures stop { IfErr result (IsStop (results_fault vars.now (option_map (λ x. x.now) callee) [] names.now)) }
+    ensures stop { IfErr result (IsStop (results_fault vars.now (option_copied callee.entry) [] names.now)) }
 {
     let mut before = Names::new(alloc);
     let mut found = Items::new(alloc);
     for name in names {
         let id = read_result(vars, callee, before.len(), name)?;
-        let is_new = before.find(name.bytes.as_slice()).is_none();
-        need(is_new, RefusalKind::Duplicate, name.place)?;
+        need(is_new(&before, name), RefusalKind::Duplicate, name.place)?;
         before.add(name.bytes.as_slice())?;
         found.push(id)?;
     }

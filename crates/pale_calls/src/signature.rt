@@ -72,7 +72,7 @@ impl Procedures {
 
     /// What the procedure with this number declares; `None` exactly for an unknown one. Takes no memory.
     pub fn signature(&self, number: usize) -> Option<&Signature>
-        ensures { option_map (λ x. x.now) result ≡ option_map (λ p. p.signature) (slice_get self.now number) }
+        ensures { option_copied result ≡ option_map (λ p. p.signature) (slice_get self.now number) }
     {
         let (_, signature) = self.signatures.get_index(number)?;
         Some(signature)

@@ -2,12 +2,13 @@
 
 ghost use Rattle.std.specs.Prelude.{◌≡◌, None, IfOk, IfErr, OnOk};
 ghost use Rattle.pale_tables.specs.Faults.{IsStop};
+ghost use Rattle.pale_tables.specs.Names.{is_new};
 ghost use Rattle.pale_calls.specs.Calls.{kind_of, variable_of, variable_fault, is_of_type, beside_fault};
 
 use crate::class::{VarClass, type_in};
 use crate::signature::Formal;
 use pale_syntax::Name;
-use pale_tables::need;
+use pale_tables::{Names, need};
 use pale_text::{Refusal, RefusalKind, TextStop};
 use store_core::{VarId, VarKind, VarTable};
 
@@ -33,6 +34,13 @@ pub(crate) fn read_variable(vars: &VarTable, name: &Name) -> Result<Variable, Te
         return Err(TextStop::Refused(Refusal::at(name.place, RefusalKind::Unknown)));
     };
     Ok(Variable { id, kind: *kind })
+}
+
+/// Whether a name isn't among those before it.
+pub(crate) fn is_new(before: &Names, name: &Name) -> bool
+    ensures { result ≡ is_new before.now name.now.bytes }
+{
+    before.find(name.bytes.as_slice()).is_none()
 }
 
 /// Whether a variable of this kind has the type that is declared.
