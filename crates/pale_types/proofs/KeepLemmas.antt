@@ -46,10 +46,10 @@ each-but-may : (may : Bool) (scope : List Entry) (names : List (List ℕ)) → o
 each-but-may may scope [] = refl
 each-but-may may scope (name ∷ names) = each-but-may may (allowed name may scope) names ∙ same-but-may name may scope
 
-open-is : (scope : List Entry) → AllByRecursion MayBeNamed scope → opened scope ≡ scope
-open-is [] open = refl
-open-is (e ∷ scope) open =
-    ap (λ may. record e { visible = record e.visible { may = may } } ∷ opened scope) (sym open.0) ∙ ap (λ rest. e ∷ rest) (open-is scope open.1)
+wide-is : (scope : List Entry) → AllByRecursion MayBeNamed scope → opened scope ≡ scope
+wide-is [] wide = refl
+wide-is (e ∷ scope) wide =
+    ap (λ may. record e { visible = record e.visible { may = may } } ∷ opened scope) (sym wide.0) ∙ ap (λ rest. e ∷ rest) (wide-is scope wide.1)
 
 same-names : (name : List ℕ) (may : Bool) (scope : List Entry) → visible_names (allowed name may scope) ≡ visible_names scope
 same-names name may [] = refl
@@ -73,32 +73,32 @@ abbrev OpenBut : List (List ℕ) → Entry → Type 0
 OpenBut left e = IsAmong left e.name ⊎ MayBeNamed e
 
 open-but : (left : List (List ℕ)) (scope : List Entry) → AllByRecursion MayBeNamed scope → AllByRecursion (OpenBut left) scope
-open-but left [] open = tt
-open-but left (e ∷ scope) open = (inr open.0, open-but left scope open.1)
+open-but left [] wide = tt
+open-but left (e ∷ scope) wide = (inr wide.0, open-but left scope wide.1)
 
 withheld-one : (left : List (List ℕ)) (name : List ℕ) (scope : List Entry) → ((x : List ℕ) → bytes_eq name x ≡ true → IsAmong left x) →
     AllByRecursion (OpenBut left) scope → AllByRecursion (OpenBut left) (allowed name false scope)
-withheld-one left name [] among open = tt
-withheld-one left name (e ∷ scope) among open = by (bytes_eq name e.name) refl
+withheld-one left name [] among wide = tt
+withheld-one left name (e ∷ scope) among wide = by (bytes_eq name e.name) refl
   where
     by : (b : Bool) → bytes_eq name e.name ≡ b → AllByRecursion (OpenBut left) (cond b (with_may false e ∷ scope) (e ∷ allowed name false scope))
-    by true is = (inl (among e.name is), open.1)
-    by false is = (open.0, withheld-one left name scope among open.1)
+    by true is = (inl (among e.name is), wide.1)
+    by false is = (wide.0, withheld-one left name scope among wide.1)
 
 withheld-each : (left : List (List ℕ)) (scope : List Entry) (names : List (List ℕ)) → ((x : List ℕ) → IsAmong names x → IsAmong left x) →
     AllByRecursion (OpenBut left) scope → AllByRecursion (OpenBut left) (allowed_each false scope names)
-withheld-each left scope [] among open = open
-withheld-each left scope (name ∷ names) among open =
+withheld-each left scope [] among wide = wide
+withheld-each left scope (name ∷ names) among wide =
     withheld-each left (allowed name false scope) names (λ x is. among x (inr is))
-    (withheld-one left name scope (λ x is. among x (inl is)) open)
+    (withheld-one left name scope (λ x is. among x (inl is)) wide)
 
 -- where no name is this one, the entries are open but for the others
 others-open : (left : List (List ℕ)) (name key : List ℕ) (scope : List Entry) → bytes_eq name key ≡ true → place_of key (visible_names scope) ≡ None →
     AllByRecursion (OpenBut (name ∷ left)) scope → AllByRecursion (OpenBut left) scope
-others-open left name key [] is none open = tt
-others-open left name key (e ∷ scope) is none open =
+others-open left name key [] is none wide = tt
+others-open left name key (e ∷ scope) is none wide =
     let parts = position_none-cons (bytes_eq key) e.name (visible_names scope) none in
-    (by (nat_list_eq_equiv.congr name key e.name is ∙ parts.0) open.0, others-open left name key scope is parts.1 open.1)
+    (by (nat_list_eq_equiv.congr name key e.name is ∙ parts.0) wide.0, others-open left name key scope is parts.1 wide.1)
   where
     by : bytes_eq name e.name ≡ false → OpenBut (name ∷ left) e → OpenBut left e
     by not (inl (inl same)) = absurd (cc)
@@ -107,25 +107,25 @@ others-open left name key (e ∷ scope) is none open =
 
 given-one : (left : List (List ℕ)) (name : List ℕ) (scope : List Entry) → AreDistinct (visible_names scope) →
     AllByRecursion (OpenBut (name ∷ left)) scope → AllByRecursion (OpenBut left) (allowed name true scope)
-given-one left name [] distinct open = tt
-given-one left name (e ∷ scope) distinct open = by (bytes_eq name e.name) refl open.0
+given-one left name [] distinct wide = tt
+given-one left name (e ∷ scope) distinct wide = by (bytes_eq name e.name) refl wide.0
   where
     by : (b : Bool) → bytes_eq name e.name ≡ b → OpenBut (name ∷ left) e →
         AllByRecursion (OpenBut left) (cond b (with_may true e ∷ scope) (e ∷ allowed name true scope))
-    by true is own = (inr refl, others-open left name e.name scope is distinct.0 open.1)
+    by true is own = (inr refl, others-open left name e.name scope is distinct.0 wide.1)
     by false is (inl (inl same)) = absurd (cc)
-    by false is (inl (inr other)) = (inl other, given-one left name scope distinct.1 open.1)
-    by false is (inr may) = (inr may, given-one left name scope distinct.1 open.1)
+    by false is (inl (inr other)) = (inl other, given-one left name scope distinct.1 wide.1)
+    by false is (inr may) = (inr may, given-one left name scope distinct.1 wide.1)
 
 given-each : (scope : List Entry) (names : List (List ℕ)) → AreDistinct (visible_names scope) → AllByRecursion (OpenBut names) scope →
     AllByRecursion (OpenBut []) (allowed_each true scope names)
-given-each scope [] distinct open = open
-given-each scope (name ∷ names) distinct open =
-    given-each (allowed name true scope) names (subst AreDistinct (sym (same-names name true scope)) distinct) (given-one names name scope distinct open)
+given-each scope [] distinct wide = wide
+given-each scope (name ∷ names) distinct wide =
+    given-each (allowed name true scope) names (subst AreDistinct (sym (same-names name true scope)) distinct) (given-one names name scope distinct wide)
 
 all-open : (scope : List Entry) → AllByRecursion (OpenBut []) scope → AllByRecursion MayBeNamed scope
-all-open [] open = tt
-all-open (e ∷ scope) open = (by open.0, all-open scope open.1)
+all-open [] wide = tt
+all-open (e ∷ scope) wide = (by wide.0, all-open scope wide.1)
   where
     by : OpenBut [] e → MayBeNamed e
     by (inl none) = absurd none
@@ -134,10 +134,10 @@ all-open (e ∷ scope) open = (by open.0, all-open scope open.1)
 -- an open scope is in the end as it was
 pub given-back : (scope : List Entry) (names : List (List ℕ)) → AllByRecursion MayBeNamed scope → AreDistinct (visible_names scope) →
     allowed_each true (allowed_each false scope names) names ≡ scope
-given-back scope names open distinct =
+given-back scope names wide distinct =
     let within = allowed_each false scope names in
     let after = allowed_each true within names in
-    let is_open = all-open after
+    let is_wide = all-open after
     (given-each within names (subst AreDistinct (sym (each-names false scope names)) distinct)
-    (withheld-each names scope names (λ x is. is) (open-but names scope open))) in
-    sym (open-is after is_open) ∙ each-but-may true within names ∙ each-but-may false scope names ∙ open-is scope open
+    (withheld-each names scope names (λ x is. is) (open-but names scope wide))) in
+    sym (wide-is after is_wide) ∙ each-but-may true within names ∙ each-but-may false scope names ∙ wide-is scope wide

@@ -3,3 +3,4 @@ pub mod VariableLemmas
 pub mod SightLemmas
 pub mod KeepLemmas
 pub mod StatementLemmas
+pub mod ProcedureLemmas

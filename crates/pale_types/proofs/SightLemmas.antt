@@ -38,16 +38,17 @@ seen-at (w ∷ front) back v = seen-at front back v
 pub seen-variables : (may : Bool) (table front vars back : List VarEntry) (number : ℕ) → table ≡ front ++ (vars ++ back) → number ≡ length front →
     AreVariables table (seen may number vars)
 seen-variables may table front [] back number whole is = tt
-seen-variables may table front (v ∷ vars) back number whole is =
-    (record {
-      var = record { 0 = number };
-      origin = refl;
-      sort = subst (λ (o : Option VarEntry). IsSomeAnd o (λ entry. kept v.kind ≡ kept entry.kind))
-          (sym (ap (λ t. slice_get t number) whole ∙ ap (slice_get (front ++ (v ∷ (vars ++ back)))) is ∙ seen-at front (vars ++ back) v))
-          refl;
-    },
-    seen-variables may table (front ++ v ∷ []) vars back (number + 1) (whole ∙ sym (append_assoc front (v ∷ []) (vars ++ back)))
-    (ap (λ n. n + 1) is ∙ sym (length-append front (v ∷ []))))
+seen-variables may table front (v ∷ vars) back number whole is = (
+  record {
+    var = record { 0 = number };
+    origin = refl;
+    sort = subst (λ (o : Option VarEntry). IsSomeAnd o (λ entry. kept v.kind ≡ kept entry.kind))
+        (sym (ap (λ t. slice_get t number) whole ∙ ap (slice_get (front ++ (v ∷ (vars ++ back)))) is ∙ seen-at front (vars ++ back) v))
+        refl;
+  },
+  seen-variables may table (front ++ v ∷ []) vars back (number + 1) (whole ∙ sym (append_assoc front (v ∷ []) (vars ++ back)))
+      (ap (λ n. n + 1) is ∙ sym (length-append front (v ∷ []))),
+)
 
 all-join : {X : Type 0} (P : X → Type 0) (xs ys : List X) → AllByRecursion P xs → AllByRecursion P ys → AllByRecursion P (xs ++ ys)
 all-join P [] ys first second = second
@@ -135,7 +136,7 @@ names-body h locals =
 pub frame-is : (h : Heading) (locals : List VarEntry) → IsBody h locals → h.locals ≡ length locals → IsFrame (frame_of h locals)
 frame-is h locals distinct is = record {
   stated = seen-all h.params h.results locals h.logics true h.locals is;
-  open =
+  wide =
       all-join MayBeNamed (seen true 0 h.params ++ seen true (first_result h) h.results ++ seen true (first_local h) locals) _
       (all-join MayBeNamed (seen true 0 h.params ++ seen true (first_result h) h.results) _
       (all-join MayBeNamed (seen true 0 h.params) _ (open-seen 0 h.params) (open-seen (first_result h) h.results)) (open-seen (first_local h) locals))

@@ -5,9 +5,8 @@ use Rattle.store_core.proofs.Names.{AreDistinct-push}
 use Rattle.pale_syntax.specs.declared.tree.names.Name.{Name}
 use Rattle.pale_syntax.specs.declared.tree.declaration.Parameter.{Parameter}
 use Rattle.pale_syntax.specs.declared.tree.declaration.LogicParameter.{LogicParameter}
-use Rattle.pale_tables.specs.Faults.{Fault}
 use Rattle.pale_tables.proofs.KnownRoutes.{both, needed}
-use Rattle.pale_types.specs.Variables.{name_of, variable_of, logic_name_of, logic_of, name_fault, each_fault, with_names}
+use Rattle.pale_types.specs.Variables.{name_of, variable_of, logic_name_of, logic_of, name_fault, variable_fault, logic_fault, variables_fault, logics_fault, with_names, with_logic_names}
 
 none_from : (place : Option ℕ) → is_none place ≡ true → place ≡ None
 none_from None is = refl
@@ -18,14 +17,25 @@ unfolding name_fault
 name-new before x none = none_from _ (needed _ _ _ (both _ _ none).1)
 
 -- the names stand once, with those before them
-pub each-new : {D : Type 0} (name : D → Name) (type : D → Fault) (before : List (List ℕ)) (ds : List D) →
-    each_fault name type before ds ≡ None → AreDistinct before → AreDistinct (with_names name before ds)
-each-new name type before [] none distinct = subst AreDistinct (sym (append-nil before)) distinct
-each-new name type before (d ∷ ds) none distinct =
-    let parts = both _ _ none in
-    subst AreDistinct (append_assoc before ((name d).bytes ∷ []) (map (λ e. (name e).bytes) ds))
-    (each-new name type (before ++ (name d).bytes ∷ []) ds parts.1
-    (AreDistinct-push before (name d).bytes distinct (name-new before (name d) (both _ _ parts.0).0)))
+pub variables-new : (types : List TypeEntry) (before : List (List ℕ)) (ps : List Parameter) → variables_fault types before ps ≡ None → AreDistinct before →
+    AreDistinct (with_names before ps)
+unfolding variable_fault
+variables-new types before [] none distinct = subst AreDistinct (sym (append-nil before)) distinct
+variables-new types before (p ∷ ps) none distinct =
+    let parts = both (variable_fault types before p) _ none in
+    subst AreDistinct (append_assoc before ((name_of p).bytes ∷ []) (map (λ q. (name_of q).bytes) ps))
+    (variables-new types (before ++ (name_of p).bytes ∷ []) ps parts.1
+    (AreDistinct-push before (name_of p).bytes distinct (name-new before (name_of p) (both _ _ parts.0).0)))
+
+pub logics-new : (types : List TypeEntry) (before : List (List ℕ)) (ps : List LogicParameter) → logics_fault types before ps ≡ None → AreDistinct before →
+    AreDistinct (with_logic_names before ps)
+unfolding logic_fault
+logics-new types before [] none distinct = subst AreDistinct (sym (append-nil before)) distinct
+logics-new types before (p ∷ ps) none distinct =
+    let parts = both (logic_fault types before p) _ none in
+    subst AreDistinct (append_assoc before ((logic_name_of p).bytes ∷ []) (map (λ q. (logic_name_of q).bytes) ps))
+    (logics-new types (before ++ (logic_name_of p).bytes ∷ []) ps parts.1
+    (AreDistinct-push before (logic_name_of p).bytes distinct (name-new before (logic_name_of p) (both _ _ parts.0).0)))
 
 -- the names of the variables are those that are declared
 pub variable-names : (types : List TypeEntry) (ps : List Parameter) → var_names (map (variable_of types) ps) ≡ map (λ p. (name_of p).bytes) ps

@@ -20,7 +20,7 @@ MayBeNamed e = e.visible.may ≡ true
 -- each visible name is that of a variable, assertions may name all of them, and each name is visible once
 pub record IsFrame (frame : Frame) : Type 0 where
   pub stated : AreVariables frame.vars frame.stated
-  pub open : AllByRecursion MayBeNamed frame.stated
+  pub wide : AllByRecursion MayBeNamed frame.stated
   pub names : AreDistinct (visible_names frame.stated)
 
 -- the names of a heading are distinct

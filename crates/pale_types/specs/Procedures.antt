@@ -11,7 +11,7 @@ use Rattle.pale_types.specs.declared.sights.Frame.{Frame}
 use Rattle.pale_types.specs.declared.procedures.Claims.{Claims}
 use Rattle.pale_types.specs.declared.procedures.Lists.{Lists}
 use Rattle.pale_types.specs.declared.typed.ProcEntry.{ProcEntry}
-use Rattle.pale_types.specs.Variables.{name_of, logic_name_of, variable_of, logic_of, variables_fault, logics_fault, with_names}
+use Rattle.pale_types.specs.Variables.{variable_of, logic_of, variables_fault, logics_fault, with_names, with_logic_names}
 use Rattle.pale_types.specs.Sights.{numbers, first_result, first_local, first_logic, pre_sight, post_sight, frame_of}
 use Rattle.pale_types.specs.Stated.{stated_or_true, stated_fault}
 use Rattle.pale_types.specs.Statements.{types_of, typed_block, block_fault}
@@ -35,15 +35,15 @@ frame_in types p = frame_of (heading_of types p) (locals_of types p)
 
 -- the names that are declared before the body, in order of the text
 abbrev pub result_names : Procedure → List (List ℕ)
-result_names p = with_names name_of (with_names name_of [] p.parameters) p.results
+result_names p = with_names (with_names [] p.parameters) p.results
 
 abbrev pub heading_names : Procedure → List (List ℕ)
-heading_names p = with_names logic_name_of (result_names p) p.logics
+heading_names p = with_logic_names (result_names p) p.logics
 
 unfoldable pub heading_fault : List TypeEntry → Procedure → Fault
 heading_fault types p =
     variables_fault types [] p.parameters
-    >> variables_fault types (with_names name_of [] p.parameters) p.results >> logics_fault types (result_names p) p.logics
+    >> variables_fault types (with_names [] p.parameters) p.results >> logics_fault types (result_names p) p.logics
 
 -- ---- `pre` and `post`
 

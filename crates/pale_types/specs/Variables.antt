@@ -1,5 +1,5 @@
 -- Variables of a procedure: what they are declared as, and their faults.
-use Rattle.std.specs.Prelude.{ℕ, Bool, List, [], ◌∷◌, ◌++◌, length, map, nat_lt, None}
+use Rattle.std.specs.Prelude.{ℕ, List, [], ◌∷◌, ◌++◌, length, map, nat_lt, None}
 use Rattle.pale_text.specs.declared.refusal.RefusalKind.TheVariants as kind
 use Rattle.pale_syntax.specs.declared.tree.names.Name.{Name}
 use Rattle.pale_syntax.specs.declared.tree.declaration.Parameter.{Parameter}
@@ -57,17 +57,25 @@ unfoldable pub logic_kind_fault : List TypeEntry → LogicParameter → Fault
 logic_kind_fault types (logic.Set name ty) = type_fault types ty
 logic_kind_fault types (logic.Bool name) = None
 
--- declarations after those with these names, in order: the name of each, and then its type
-abbrev pub each_fault : {D : Type 0} → (D → Name) → (D → Fault) → List (List ℕ) → List D → Fault
-each_fault name type before [] = None
-each_fault name type before (d ∷ others) = (name_fault before (name d) >> type d) >> each_fault name type (before ++ (name d).bytes ∷ []) others
+-- the name, and then the type
+unfoldable pub variable_fault : List TypeEntry → List (List ℕ) → Parameter → Fault
+variable_fault types before p = name_fault before (name_of p) >> kind_fault types p
 
+unfoldable pub logic_fault : List TypeEntry → List (List ℕ) → LogicParameter → Fault
+logic_fault types before p = name_fault before (logic_name_of p) >> logic_kind_fault types p
+
+-- declarations after those with these names, in order
 abbrev pub variables_fault : List TypeEntry → List (List ℕ) → List Parameter → Fault
-variables_fault types = each_fault name_of (kind_fault types)
+variables_fault types before [] = None
+variables_fault types before (p ∷ others) = variable_fault types before p >> variables_fault types (before ++ (name_of p).bytes ∷ []) others
 
 abbrev pub logics_fault : List TypeEntry → List (List ℕ) → List LogicParameter → Fault
-logics_fault types = each_fault logic_name_of (logic_kind_fault types)
+logics_fault types before [] = None
+logics_fault types before (p ∷ others) = logic_fault types before p >> logics_fault types (before ++ (logic_name_of p).bytes ∷ []) others
 
 -- the names with those of these declarations
-abbrev pub with_names : {D : Type 0} → (D → Name) → List (List ℕ) → List D → List (List ℕ)
-with_names name before declarations = before ++ map (λ d. (name d).bytes) declarations
+abbrev pub with_names : List (List ℕ) → List Parameter → List (List ℕ)
+with_names before parameters = before ++ map (λ p. (name_of p).bytes) parameters
+
+abbrev pub with_logic_names : List (List ℕ) → List LogicParameter → List (List ℕ)
+with_logic_names before parameters = before ++ map (λ p. (logic_name_of p).bytes) parameters

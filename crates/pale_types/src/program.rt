@@ -113,7 +113,12 @@ pub fn check_types(alloc: Global, program: &Program) -> Result<Typed, TextStop>
 {
     let sorted = sort_declarations(alloc, program)?;
     let procedures = sorted.procedures.as_slice();
-    check_names(alloc, sorted.types.as_slice(), sorted.predicates.as_slice(), procedures)?;
+    check_names(
+        alloc,
+        sorted.types.as_slice(),
+        sorted.predicates.as_slice(),
+        procedures,
+    )?;
     let declared = read_declared(alloc, sorted.types.as_slice(), sorted.predicates.as_slice())?;
     let signatures = signatures_of(alloc, &declared.vocabulary.types, procedures)?;
     let ground = Ground {

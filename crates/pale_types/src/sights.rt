@@ -91,7 +91,12 @@ pub(crate) fn heading_sight(
     let mut scope = Scope::new(alloc);
     show(&mut scope, params_may, 0, heading.params.as_slice())?;
     let first_result = heading.params.len();
-    show(&mut scope, results_may, first_result, heading.results.as_slice())?;
+    show(
+        &mut scope,
+        results_may,
+        first_result,
+        heading.results.as_slice(),
+    )?;
     show(&mut scope, true, first_logic, heading.logics.as_slice())?;
     Ok(scope)
 }
@@ -115,7 +120,12 @@ fn body_sight(
     let first_result = heading.params.len();
     show(&mut scope, true, first_result, heading.results.as_slice())?;
     show(&mut scope, true, first_local, locals)?;
-    show(&mut scope, logics_may, first_logic, heading.logics.as_slice())?;
+    show(
+        &mut scope,
+        logics_may,
+        first_logic,
+        heading.logics.as_slice(),
+    )?;
     Ok(scope)
 }
 
@@ -134,11 +144,7 @@ fn add_all(vars: &mut VarTable, variables: &[Variable]) -> Result<(), AllocError
 }
 
 /// The table of all variables.
-fn table_of(
-    alloc: Global,
-    heading: &Heading,
-    locals: &[Variable],
-) -> Result<VarTable, AllocError>
+fn table_of(alloc: Global, heading: &Heading, locals: &[Variable]) -> Result<VarTable, AllocError>
     requires { IsBody heading.now locals.now }
     ensures { IfOk result (λ vars. vars ≡ vars_of heading.now locals.now) }
 {

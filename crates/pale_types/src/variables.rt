@@ -5,7 +5,7 @@ ghost use Rattle.store_core.specs.Tables.{place_of};
 ghost use Rattle.pale_tables.specs.Faults.{IsStop};
 ghost use Rattle.pale_predicates.specs.Parameters.{type_of, type_fault};
 ghost use Rattle.pale_types.specs.Variables.{name_of, kind_of, variable_of, logic_name_of, logic_kind_of, logic_of, name_fault, kind_fault, logic_kind_fault};
-ghost use Rattle.pale_types.specs.Variables.{variables_fault, logics_fault, with_names};
+ghost use Rattle.pale_types.specs.Variables.{variable_fault, logic_fault, variables_fault, logics_fault, with_names, with_logic_names};
 
 use pale_syntax::{LogicParameter, Name, Parameter};
 use pale_tables::{Names, need};
@@ -66,11 +66,7 @@ fn need_new(before: &Names, name: &Name) -> Result<(), TextStop>
     ensures new { OnOk result (place_of name.now.bytes before.now ≡ None) }
     ensures stop { IfErr result (IsStop (name_fault before.now name.now)) }
 {
-    need(
-        before.len() < MOST_VARS,
-        RefusalKind::ManyVars,
-        name.place,
-    )?;
+    need(before.len() < MOST_VARS, RefusalKind::ManyVars, name.place)?;
     match before.find(name.bytes.as_slice()) {
         None => Ok(()),
         Some(_) => Err(TextStop::Refused(Refusal::at(name.place, RefusalKind::Duplicate))),
@@ -113,6 +109,26 @@ fn read_kind(types: &TypeTable, parameter: &Parameter) -> Result<VarKind, TextSt
     }
 }
 
+/// A parameter, result or local after those with these names, and its name among them.
+#[tactic(auto, unfolding(crate::specs::Variables::variable_fault))]
+fn read_variable(
+    alloc: Global,
+    types: &TypeTable,
+    before: &mut Names,
+    parameter: &Parameter,
+) -> Result<Variable, TextStop>
+    ensures met { OnOk result (variable_fault types.now before.old parameter.now ≡ None) }
+    ensures variable { IfOk result (λ found. found ≡ variable_of types.now parameter.now) }
+    ensures names { OnOk result (before.new ≡ before.old ++ (name_of parameter.now).bytes ∷ []) }
+    ensures stop { IfErr result (IsStop (variable_fault types.now before.old parameter.now)) }
+{
+    let name = name_of(parameter);
+    need_new(before, name)?;
+    let kind = read_kind(types, parameter)?;
+    before.add(name.bytes.as_slice())?;
+    Ok(Variable::new(alloc, name.bytes.as_slice(), kind)?)
+}
+
 /// Parameters, results or locals in order, after those with these names.
 ///
 /// # Errors
@@ -127,16 +143,12 @@ pub(crate) fn read_variables(
 ) -> Result<Items<Variable>, TextStop>
     ensures met { OnOk result (variables_fault types.now before.old parameters.now ≡ None) }
     ensures variables { IfOk result (λ found. found ≡ map (variable_of types.now) parameters.now) }
-    ensures names { OnOk result (before.new ≡ with_names name_of before.old parameters.now) }
+    ensures names { OnOk result (before.new ≡ with_names before.old parameters.now) }
     ensures stop { IfErr result (IsStop (variables_fault types.now before.old parameters.now)) }
 {
     let mut found = Items::new(alloc);
     for parameter in parameters {
-        let name = name_of(parameter);
-        need_new(before, name)?;
-        let kind = read_kind(types, parameter)?;
-        let variable = Variable::new(alloc, name.bytes.as_slice(), kind)?;
-        before.add(name.bytes.as_slice())?;
+        let variable = read_variable(alloc, types, before, parameter)?;
         found.push(variable)?;
     }
     Ok(found)
@@ -164,6 +176,26 @@ fn read_logic_kind(types: &TypeTable, parameter: &LogicParameter) -> Result<VarK
     }
 }
 
+/// A logic variable after those with these names, and its name among them.
+#[tactic(auto, unfolding(crate::specs::Variables::logic_fault))]
+fn read_logic(
+    alloc: Global,
+    types: &TypeTable,
+    before: &mut Names,
+    parameter: &LogicParameter,
+) -> Result<Variable, TextStop>
+    ensures met { OnOk result (logic_fault types.now before.old parameter.now ≡ None) }
+    ensures variable { IfOk result (λ found. found ≡ logic_of types.now parameter.now) }
+    ensures names { OnOk result (before.new ≡ before.old ++ (logic_name_of parameter.now).bytes ∷ []) }
+    ensures stop { IfErr result (IsStop (logic_fault types.now before.old parameter.now)) }
+{
+    let name = logic_name_of(parameter);
+    need_new(before, name)?;
+    let kind = read_logic_kind(types, parameter)?;
+    before.add(name.bytes.as_slice())?;
+    Ok(Variable::new(alloc, name.bytes.as_slice(), kind)?)
+}
+
 /// Logic variables in order, after those with these names.
 ///
 /// # Errors
@@ -177,16 +209,12 @@ pub(crate) fn read_logics(
 ) -> Result<Items<Variable>, TextStop>
     ensures met { OnOk result (logics_fault types.now before.old parameters.now ≡ None) }
     ensures variables { IfOk result (λ found. found ≡ map (logic_of types.now) parameters.now) }
-    ensures names { OnOk result (before.new ≡ with_names logic_name_of before.old parameters.now) }
+    ensures names { OnOk result (before.new ≡ with_logic_names before.old parameters.now) }
     ensures stop { IfErr result (IsStop (logics_fault types.now before.old parameters.now)) }
 {
     let mut found = Items::new(alloc);
     for parameter in parameters {
-        let name = logic_name_of(parameter);
-        need_new(before, name)?;
-        let kind = read_logic_kind(types, parameter)?;
-        let variable = Variable::new(alloc, name.bytes.as_slice(), kind)?;
-        before.add(name.bytes.as_slice())?;
+        let variable = read_logic(alloc, types, before, parameter)?;
         found.push(variable)?;
     }
     Ok(found)
