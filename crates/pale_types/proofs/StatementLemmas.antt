@@ -19,106 +19,106 @@ use Rattle.pale_acts.specs.Assignments.{assignment_fault, assignment_of, free_fa
 use Rattle.pale_predicates.specs.Predicates.{bracketed_fault}
 use Rattle.pale_types.specs.declared.typed.Stmt.{Stmt}
 use Rattle.pale_types.specs.declared.typed.Stmt.TheVariants as stmt
-use Rattle.pale_types.specs.declared.ground.Ground.{Ground}
+use Rattle.pale_types.specs.declared.basis.Basis.{Basis}
 use Rattle.pale_types.specs.declared.sights.Frame.{Frame}
 use Rattle.pale_types.specs.Stated.{stated}
 use Rattle.pale_types.specs.Statements.{types_of, parts_of, parts_fault, typing_rules, typed_statement, typed_block, block_rule, else_rule}
 use Rattle.pale_types.specs.Statements.{fault_rules, statement_fault, block_fault, typed_else, else_fault, else_of}
 
-module _ (ground : Ground) (frame : Frame) where
+module _ (basis : Basis) (frame : Frame) where
   pub fault_form : (s : Statement) (x : Statement-F Statement) → s ≡ roll-Statement x →
-      statement_fault ground frame s ≡ fault_rules ground frame (map-Statement Statement Fault (statement_fault ground frame) x)
+      statement_fault basis frame s ≡ fault_rules basis frame (map-Statement Statement Fault (statement_fault basis frame) x)
   unfolding statement_fault
-  fault_form s x is = ap (statement_fault ground frame) is ∙ fold-roll-Statement Fault (fault_rules ground frame) x
+  fault_form s x is = ap (statement_fault basis frame) is ∙ fold-roll-Statement Fault (fault_rules basis frame) x
 
   pub typed_form : (s : Statement) (x : Statement-F Statement) → s ≡ roll-Statement x →
-      typed_statement ground frame s ≡ typing_rules ground frame (map-Statement Statement Stmt (typed_statement ground frame) x)
+      typed_statement basis frame s ≡ typing_rules basis frame (map-Statement Statement Stmt (typed_statement basis frame) x)
   unfolding typed_statement
-  typed_form s x is = ap (typed_statement ground frame) is ∙ fold-roll-Statement Stmt (typing_rules ground frame) x
+  typed_form s x is = ap (typed_statement basis frame) is ∙ fold-roll-Statement Stmt (typing_rules basis frame) x
 
   -- the statements of a block
-  each_fault : (block : List Statement) → block_rule (map (statement_fault ground frame) block) ≡ block_fault ground frame block
+  each_fault : (block : List Statement) → block_rule (map (statement_fault basis frame) block) ≡ block_fault basis frame block
   each_fault [] = refl
-  each_fault (s ∷ block) = ap (λ rest. statement_fault ground frame s >> rest) (each_fault block)
+  each_fault (s ∷ block) = ap (λ rest. statement_fault basis frame s >> rest) (each_fault block)
 
   -- those of an `else`
-  no_fault : (no : Option (List Statement)) → else_rule (option_map (map (statement_fault ground frame)) no) ≡ else_fault ground frame no
+  no_fault : (no : Option (List Statement)) → else_rule (option_map (map (statement_fault basis frame)) no) ≡ else_fault basis frame no
   no_fault None = refl
   no_fault (Some block) = each_fault block
 
-  no_typed : (no : Option (List Statement)) → else_of (option_map (map (typed_statement ground frame)) no) ≡ typed_else ground frame no
+  no_typed : (no : Option (List Statement)) → else_of (option_map (map (typed_statement basis frame)) no) ≡ typed_else basis frame no
   no_typed None = refl
   no_typed (Some block) = refl
 
   -- ---- each form
 
-  pub fault-Skip : (place : Pos) → statement_fault ground frame (form.Skip place) ≡ None
+  pub fault-Skip : (place : Pos) → statement_fault basis frame (form.Skip place) ≡ None
   fault-Skip place = fault_form _ (Statement-F.Skip place) (sym (form.rolls-Skip place))
 
-  pub typed-Skip : (place : Pos) → typed_statement ground frame (form.Skip place) ≡ stmt.Skip
+  pub typed-Skip : (place : Pos) → typed_statement basis frame (form.Skip place) ≡ stmt.Skip
   typed-Skip place = typed_form _ (Statement-F.Skip place) (sym (form.rolls-Skip place))
 
   pub fault-If : (place : Pos) (c : Condition) (yes : List Statement) (no : Option (List Statement)) →
-      statement_fault ground frame (form.If place c yes no)
-      ≡ (condition_fault (types_of ground) frame.code c >> block_fault ground frame yes >> else_fault ground frame no)
+      statement_fault basis frame (form.If place c yes no)
+      ≡ (condition_fault (types_of basis) frame.code c >> block_fault basis frame yes >> else_fault basis frame no)
   fault-If place c yes no =
       fault_form _ (Statement-F.If place c yes no) (sym (form.rolls-If place c yes no))
-      ∙ ap (λ block. condition_fault (types_of ground) frame.code c >> block >> else_rule (option_map (map (statement_fault ground frame)) no)) (each_fault yes)
-      ∙ ap (λ block. condition_fault (types_of ground) frame.code c >> block_fault ground frame yes >> block) (no_fault no)
+      ∙ ap (λ block. condition_fault (types_of basis) frame.code c >> block >> else_rule (option_map (map (statement_fault basis frame)) no)) (each_fault yes)
+      ∙ ap (λ block. condition_fault (types_of basis) frame.code c >> block_fault basis frame yes >> block) (no_fault no)
 
   pub typed-If : (place : Pos) (c : Condition) (yes : List Statement) (no : Option (List Statement)) →
-      typed_statement ground frame (form.If place c yes no)
-      ≡ stmt.If place.line (typed_condition (types_of ground) frame.code c) (typed_block ground frame yes) (typed_else ground frame no)
+      typed_statement basis frame (form.If place c yes no)
+      ≡ stmt.If place.line (typed_condition (types_of basis) frame.code c) (typed_block basis frame yes) (typed_else basis frame no)
   typed-If place c yes no =
       typed_form _ (Statement-F.If place c yes no) (sym (form.rolls-If place c yes no))
-      ∙ ap (stmt.If place.line (typed_condition (types_of ground) frame.code c) (typed_block ground frame yes)) (no_typed no)
+      ∙ ap (stmt.If place.line (typed_condition (types_of basis) frame.code c) (typed_block basis frame yes)) (no_typed no)
 
   pub fault-While : (place : Pos) (c : Condition) (invariant : Bracketed) (body : List Statement) →
-      statement_fault ground frame (form.While place c invariant body)
-      ≡ (condition_fault (types_of ground) frame.code c >> bracketed_fault ground.declared frame.stated invariant >> block_fault ground frame body)
+      statement_fault basis frame (form.While place c invariant body)
+      ≡ (condition_fault (types_of basis) frame.code c >> bracketed_fault basis.declared frame.stated invariant >> block_fault basis frame body)
   fault-While place c invariant body =
       fault_form _ (Statement-F.While place c invariant body) (sym (form.rolls-While place c invariant body))
-      ∙ ap (λ block. condition_fault (types_of ground) frame.code c >> bracketed_fault ground.declared frame.stated invariant >> block) (each_fault body)
+      ∙ ap (λ block. condition_fault (types_of basis) frame.code c >> bracketed_fault basis.declared frame.stated invariant >> block) (each_fault body)
 
   pub typed-While : (place : Pos) (c : Condition) (invariant : Bracketed) (body : List Statement) →
-      typed_statement ground frame (form.While place c invariant body)
-      ≡ stmt.While place (typed_condition (types_of ground) frame.code c) (stated ground.declared frame.stated invariant) (typed_block ground frame body)
+      typed_statement basis frame (form.While place c invariant body)
+      ≡ stmt.While place (typed_condition (types_of basis) frame.code c) (stated basis.declared frame.stated invariant) (typed_block basis frame body)
   typed-While place c invariant body = typed_form _ (Statement-F.While place c invariant body) (sym (form.rolls-While place c invariant body))
 
   pub fault-Split : (place : Pos) (b : Bracketed) →
-      statement_fault ground frame (form.Split place b) ≡ bracketed_fault ground.declared frame.stated b
+      statement_fault basis frame (form.Split place b) ≡ bracketed_fault basis.declared frame.stated b
   fault-Split place b = fault_form _ (Statement-F.Split place b) (sym (form.rolls-Split place b))
 
   pub typed-Split : (place : Pos) (b : Bracketed) →
-      typed_statement ground frame (form.Split place b) ≡ stmt.Split place (stated ground.declared frame.stated b)
+      typed_statement basis frame (form.Split place b) ≡ stmt.Split place (stated basis.declared frame.stated b)
   typed-Split place b = typed_form _ (Statement-F.Split place b) (sym (form.rolls-Split place b))
 
   pub fault-Assert : (place : Pos) (b : Bracketed) →
-      statement_fault ground frame (form.Assert place b) ≡ bracketed_fault ground.declared frame.stated b
+      statement_fault basis frame (form.Assert place b) ≡ bracketed_fault basis.declared frame.stated b
   fault-Assert place b = fault_form _ (Statement-F.Assert place b) (sym (form.rolls-Assert place b))
 
   pub typed-Assert : (place : Pos) (b : Bracketed) →
-      typed_statement ground frame (form.Assert place b) ≡ stmt.Do place.line (act.Assert (stated ground.declared frame.stated b))
+      typed_statement basis frame (form.Assert place b) ≡ stmt.Do place.line (act.Assert (stated basis.declared frame.stated b))
   typed-Assert place b = typed_form _ (Statement-F.Assert place b) (sym (form.rolls-Assert place b))
 
-  pub fault-Free : (place : Pos) (x : Name) → statement_fault ground frame (form.Free place x) ≡ free_fault frame.code x
+  pub fault-Free : (place : Pos) (x : Name) → statement_fault basis frame (form.Free place x) ≡ free_fault frame.code x
   fault-Free place x = fault_form _ (Statement-F.Free place x) (sym (form.rolls-Free place x))
 
-  pub typed-Free : (place : Pos) (x : Name) → typed_statement ground frame (form.Free place x) ≡ stmt.Do place.line (free_of frame.code x)
+  pub typed-Free : (place : Pos) (x : Name) → typed_statement basis frame (form.Free place x) ≡ stmt.Do place.line (free_of frame.code x)
   typed-Free place x = typed_form _ (Statement-F.Free place x) (sym (form.rolls-Free place x))
 
-  pub fault-Call : (call : Call) → statement_fault ground frame (form.Call call) ≡ parts_fault ground frame call
+  pub fault-Call : (call : Call) → statement_fault basis frame (form.Call call) ≡ parts_fault basis frame call
   fault-Call call = fault_form _ (Statement-F.Call call) (sym (form.rolls-Call call))
 
-  pub typed-Call : (call : Call) → typed_statement ground frame (form.Call call) ≡ stmt.Call call.place (parts_of ground frame call)
+  pub typed-Call : (call : Call) → typed_statement basis frame (form.Call call) ≡ stmt.Call call.place (parts_of basis frame call)
   typed-Call call = typed_form _ (Statement-F.Call call) (sym (form.rolls-Call call))
 
   pub fault-Assign : (p : Path) (equals : Pos) (v : Value) →
-      statement_fault ground frame (form.Assign p equals v) ≡ assignment_fault (types_of ground) frame.code p v
+      statement_fault basis frame (form.Assign p equals v) ≡ assignment_fault (types_of basis) frame.code p v
   fault-Assign p equals v = fault_form _ (Statement-F.Assign p equals v) (sym (form.rolls-Assign p equals v))
 
   pub typed-Assign : (p : Path) (equals : Pos) (v : Value) →
-      typed_statement ground frame (form.Assign p equals v) ≡ stmt.Do p.base.place.line (assignment_of (types_of ground) frame.code p v)
+      typed_statement basis frame (form.Assign p equals v) ≡ stmt.Do p.base.place.line (assignment_of (types_of basis) frame.code p v)
   typed-Assign p equals v = typed_form _ (Statement-F.Assign p equals v) (sym (form.rolls-Assign p equals v))
 
 -- each form

@@ -5,7 +5,7 @@ use Rattle.pale_syntax.specs.declared.tree.declaration.Procedure.{Procedure}
 use Rattle.store_core.specs.Tables.{TypeEntry, VarEntry}
 use Rattle.pale_tables.specs.Faults.{Fault, ◌>>◌}
 use Rattle.pale_predicates.specs.declared.predicates.Declared.{Declared}
-use Rattle.pale_types.specs.declared.ground.Ground.{Ground}
+use Rattle.pale_types.specs.declared.basis.Basis.{Basis}
 use Rattle.pale_types.specs.declared.sights.Heading.{Heading}
 use Rattle.pale_types.specs.declared.sights.Frame.{Frame}
 use Rattle.pale_types.specs.declared.procedures.Claims.{Claims}
@@ -65,8 +65,8 @@ lists_of h locals = record {
 }
 
 -- with its name, its places and its statements
-abbrev pub entry_of : Ground → Lists → Claims → Frame → Procedure → ProcEntry
-entry_of ground lists claims frame p = record {
+abbrev pub entry_of : Basis → Lists → Claims → Frame → Procedure → ProcEntry
+entry_of basis lists claims frame p = record {
   vars = frame.vars;
   proc = record {
     name = p.name.bytes;
@@ -78,17 +78,17 @@ entry_of ground lists claims frame p = record {
     logics = lists.logics;
     pre = claims.pre;
     post = claims.post;
-    body = typed_block ground frame p.body;
+    body = typed_block basis frame p.body;
   };
 }
 
-unfoldable pub typed_procedure : Ground → Procedure → ProcEntry
-typed_procedure ground p =
-    entry_of ground (lists_of (heading_of (types_of ground) p) (locals_of (types_of ground) p))
-    (claims_of ground.declared (heading_of (types_of ground) p) p) (frame_in (types_of ground) p) p
+unfoldable pub typed_procedure : Basis → Procedure → ProcEntry
+typed_procedure basis p =
+    entry_of basis (lists_of (heading_of (types_of basis) p) (locals_of (types_of basis) p))
+    (claims_of basis.declared (heading_of (types_of basis) p) p) (frame_in (types_of basis) p) p
 
-unfoldable pub procedure_fault : Ground → Procedure → Fault
-procedure_fault ground p =
-    heading_fault (types_of ground) p
-    >> claims_fault ground.declared (heading_of (types_of ground) p) p
-    >> variables_fault (types_of ground) (heading_names p) p.locals >> block_fault ground (frame_in (types_of ground) p) p.body
+unfoldable pub procedure_fault : Basis → Procedure → Fault
+procedure_fault basis p =
+    heading_fault (types_of basis) p
+    >> claims_fault basis.declared (heading_of (types_of basis) p) p
+    >> variables_fault (types_of basis) (heading_names p) p.locals >> block_fault basis (frame_in (types_of basis) p) p.body

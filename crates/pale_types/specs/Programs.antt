@@ -11,7 +11,7 @@ use Rattle.pale_tables.specs.Names.{repeated_fault}
 use Rattle.pale_tables.specs.Types.{names_in, type_table, type_names_fault, types_fault}
 use Rattle.pale_predicates.specs.declared.predicates.Declared.{Declared}
 use Rattle.pale_predicates.specs.Predicates.{declared_by, nothing_with, predicates_fault}
-use Rattle.pale_types.specs.declared.ground.Ground.{Ground}
+use Rattle.pale_types.specs.declared.basis.Basis.{Basis}
 use Rattle.pale_types.specs.TypedPrograms.{TypedProgram}
 use Rattle.pale_types.specs.Formals.{named_of}
 use Rattle.pale_types.specs.Procedures.{procedure_fault, typed_procedure}
@@ -49,17 +49,17 @@ abbrev pub declared_in : List TypeDeclaration → List PredicateDeclaration → 
 declared_in types predicates = declared_by (type_table types) (names_in types) predicates
 
 -- what each procedure may use: types, predicates, and all procedures
-abbrev pub ground_of : List TypeDeclaration → List PredicateDeclaration → List Procedure → Ground
-ground_of types predicates procedures =
+abbrev pub basis_of : List TypeDeclaration → List PredicateDeclaration → List Procedure → Basis
+basis_of types predicates procedures =
     record { declared = declared_in types predicates; procedures = map (named_of (type_table types)) procedures }
 
-abbrev pub ground_in : Program → Ground
-ground_in program = ground_of (types_in program) (predicates_in program) (procedures_in program)
+abbrev pub basis_in : Program → Basis
+basis_in program = basis_of (types_in program) (predicates_in program) (procedures_in program)
 
 unfoldable pub typed_program : Program → TypedProgram
 typed_program program = record {
   types = type_table (types_in program);
-  procs = map (typed_procedure (ground_in program)) (procedures_in program);
+  procs = map (typed_procedure (basis_in program)) (procedures_in program);
 }
 
 -- ---- faults
@@ -80,4 +80,4 @@ unfoldable pub program_fault : Program → Fault
 program_fault program =
     names_fault (types_in program) (predicates_in program) (procedures_in program)
     >> declarations_fault (types_in program) (predicates_in program)
-    >> first_of (procedure_fault (ground_in program)) (procedures_in program)
+    >> first_of (procedure_fault (basis_in program)) (procedures_in program)

@@ -7,7 +7,7 @@ ghost use Rattle.pale_types.specs.Framing.{IsFrame};
 ghost use Rattle.pale_types.specs.Stated.{stated_fault, stated_or_true};
 ghost use Rattle.pale_types.specs.Statements.{keep_sight, parts_of, parts_fault};
 
-use crate::ground::Ground;
+use crate::basis::Basis;
 use crate::sights::Frame;
 use crate::stated::read_optional;
 use crate::typed::CallParts;
@@ -42,19 +42,19 @@ fn read_keep(
 #[tactic(auto, unfolding(crate::specs::Statements::parts_of, crate::specs::Statements::parts_fault))]
 pub(crate) fn read_parts(
     alloc: Global,
-    ground: &Ground,
+    basis: &Basis,
     frame: &mut Frame,
     call: &Call,
 ) -> Result<CallParts, TextStop>
-    requires declarations { DeclarationsFit ground.now.declared }
+    requires declarations { DeclarationsFit basis.now.declared }
     requires frame { IsFrame frame.old }
-    ensures met { OnOk result (parts_fault ground.now frame.old call.now ≡ None) }
-    ensures parts { IfOk result (λ parts. parts ≡ parts_of ground.now frame.old call.now) }
+    ensures met { OnOk result (parts_fault basis.now frame.old call.now ≡ None) }
+    ensures parts { IfOk result (λ parts. parts ≡ parts_of basis.now frame.old call.now) }
     ensures frame { frame.new ≡ frame.old }
-    ensures stop { IfErr result (IsStop (parts_fault ground.now frame.old call.now)) }
+    ensures stop { IfErr result (IsStop (parts_fault basis.now frame.old call.now)) }
 {
-    let head = read_call(alloc, &ground.procedures, &frame.vars, call)?;
-    let keep = read_keep(alloc, &ground.declared, frame, call)?;
+    let head = read_call(alloc, &basis.procedures, &frame.vars, call)?;
+    let keep = read_keep(alloc, &basis.declared, frame, call)?;
     Ok(CallParts {
         callee: head.callee,
         results: head.results,

@@ -4,9 +4,9 @@
 //! `specs/Statements.antt` the same of procedures and of statements, and `specs/Sights.antt` what each place of a procedure sees.
 #![tactic(auto)]
 
+mod basis;
 mod calls;
 mod formals;
-mod ground;
 mod procedures;
 mod program;
 mod sights;
@@ -16,7 +16,7 @@ mod typed;
 mod typed_program;
 mod variables;
 
-pub use ground::Ground;
+pub use basis::Basis;
 pub use program::check_types;
 pub use sights::{Frame, Heading};
 pub use typed::{CallParts, ProcEntry, Stmt, StmtList, TypedProc};

@@ -11,7 +11,7 @@ ghost use Rattle.pale_types.specs.Statements.{types_of, typed_block, block_fault
 ghost use Rattle.pale_types.specs.Procedures.{heading_of, locals_of, heading_names, heading_fault, frame_in, claims_fault, claims_of, lists_of, entry_of};
 ghost use Rattle.pale_types.specs.Procedures.{typed_procedure, procedure_fault};
 
-use crate::ground::Ground;
+use crate::basis::Basis;
 use crate::sights::{Frame, Heading, frame_of, heading_sight, numbers};
 use crate::stated::read_optional;
 use crate::statements::read_block;
@@ -69,37 +69,37 @@ fn read_heading(
 /// `pre`, which may name parameters, or `post`, which may name results.
 fn read_claim(
     alloc: Global,
-    ground: &Ground,
+    basis: &Basis,
     heading: &Heading,
     is_pre: bool,
     bracketed: &Option<Bracketed>,
 ) -> Result<Assertion, TextStop>
-    requires declarations { DeclarationsFit ground.now.declared }
+    requires declarations { DeclarationsFit basis.now.declared }
     requires heading { IsHeading heading.now }
-    ensures met { OnOk result (stated_fault ground.now.declared (heading_sight is_pre (not is_pre) heading.now) bracketed.now ≡ None) }
-    ensures claim { IfOk result (λ made. made ≡ stated_or_true ground.now.declared (heading_sight is_pre (not is_pre) heading.now) bracketed.now) }
-    ensures stop { IfErr result (IsStop (stated_fault ground.now.declared (heading_sight is_pre (not is_pre) heading.now) bracketed.now)) }
+    ensures met { OnOk result (stated_fault basis.now.declared (heading_sight is_pre (not is_pre) heading.now) bracketed.now ≡ None) }
+    ensures claim { IfOk result (λ made. made ≡ stated_or_true basis.now.declared (heading_sight is_pre (not is_pre) heading.now) bracketed.now) }
+    ensures stop { IfErr result (IsStop (stated_fault basis.now.declared (heading_sight is_pre (not is_pre) heading.now) bracketed.now)) }
 {
     let mut sight = heading_sight(alloc, heading, is_pre, !is_pre)?;
-    read_optional(alloc, &ground.declared, &mut sight, bracketed)
+    read_optional(alloc, &basis.declared, &mut sight, bracketed)
 }
 
 /// `pre` and `post`, which may be left out.
 #[tactic(auto, unfolding(crate::specs::Procedures::claims_fault))]
 fn read_claims(
     alloc: Global,
-    ground: &Ground,
+    basis: &Basis,
     heading: &Heading,
     procedure: &Procedure,
 ) -> Result<Claims, TextStop>
-    requires declarations { DeclarationsFit ground.now.declared }
+    requires declarations { DeclarationsFit basis.now.declared }
     requires heading { IsHeading heading.now }
-    ensures met { OnOk result (claims_fault ground.now.declared heading.now procedure.now ≡ None) }
-    ensures claims { IfOk result (λ claims. claims ≡ claims_of ground.now.declared heading.now procedure.now) }
-    ensures stop { IfErr result (IsStop (claims_fault ground.now.declared heading.now procedure.now)) }
+    ensures met { OnOk result (claims_fault basis.now.declared heading.now procedure.now ≡ None) }
+    ensures claims { IfOk result (λ claims. claims ≡ claims_of basis.now.declared heading.now procedure.now) }
+    ensures stop { IfErr result (IsStop (claims_fault basis.now.declared heading.now procedure.now)) }
 {
-    let pre = read_claim(alloc, ground, heading, true, &procedure.pre)?;
-    let post = read_claim(alloc, ground, heading, false, &procedure.post)?;
+    let pre = read_claim(alloc, basis, heading, true, &procedure.pre)?;
+    let post = read_claim(alloc, basis, heading, false, &procedure.post)?;
     Ok(Claims { pre, post })
 }
 
@@ -127,20 +127,20 @@ fn lists_of(alloc: Global, heading: &Heading, locals: &[Variable]) -> Result<Lis
 #[tactic(auto, unfolding(crate::specs::Procedures::typed_procedure))]
 fn read_body(
     alloc: Global,
-    ground: &Ground,
+    basis: &Basis,
     lists: Lists,
     claims: Claims,
     frame: Frame,
     procedure: &Procedure,
 ) -> Result<ProcEntry, TextStop>
-    requires declarations { DeclarationsFit ground.now.declared }
+    requires declarations { DeclarationsFit basis.now.declared }
     requires frame { IsFrame frame }
-    ensures met { OnOk result (block_fault ground.now frame procedure.now.body ≡ None) }
-    ensures entry { IfOk result (λ entry. entry ≡ entry_of ground.now lists claims frame procedure.now) }
-    ensures stop { IfErr result (IsStop (block_fault ground.now frame procedure.now.body)) }
+    ensures met { OnOk result (block_fault basis.now frame procedure.now.body ≡ None) }
+    ensures entry { IfOk result (λ entry. entry ≡ entry_of basis.now lists claims frame procedure.now) }
+    ensures stop { IfErr result (IsStop (block_fault basis.now frame procedure.now.body)) }
 {
     let mut frame = frame;
-    let body = read_block(alloc, ground, &mut frame, procedure.body.as_slice())?;
+    let body = read_block(alloc, basis, &mut frame, procedure.body.as_slice())?;
     let name = Items::from_slice(alloc, procedure.name.bytes.as_slice())?;
     let proc = TypedProc {
         name,
@@ -164,22 +164,22 @@ fn read_body(
 #[tactic(auto, unfolding(crate::specs::Procedures::procedure_fault, crate::specs::Procedures::typed_procedure))]
 fn read_procedure(
     alloc: Global,
-    ground: &Ground,
+    basis: &Basis,
     procedure: &Procedure,
 ) -> Result<ProcEntry, TextStop>
-    requires { DeclarationsFit ground.now.declared }
-    ensures met { OnOk result (procedure_fault ground.now procedure.now ≡ None) }
-    ensures entry { IfOk result (λ entry. entry ≡ typed_procedure ground.now procedure.now) }
-    ensures stop { IfErr result (IsStop (procedure_fault ground.now procedure.now)) }
+    requires { DeclarationsFit basis.now.declared }
+    ensures met { OnOk result (procedure_fault basis.now procedure.now ≡ None) }
+    ensures entry { IfOk result (λ entry. entry ≡ typed_procedure basis.now procedure.now) }
+    ensures stop { IfErr result (IsStop (procedure_fault basis.now procedure.now)) }
 {
-    let types = &ground.declared.vocabulary.types;
+    let types = &basis.declared.vocabulary.types;
     let mut before = Names::new(alloc);
     let heading = read_heading(alloc, types, &mut before, procedure)?;
-    let claims = read_claims(alloc, ground, &heading, procedure)?;
+    let claims = read_claims(alloc, basis, &heading, procedure)?;
     let locals = read_variables(alloc, types, &mut before, procedure.locals.as_slice())?;
     let frame = frame_of(alloc, &heading, locals.as_slice())?;
     let lists = lists_of(alloc, &heading, locals.as_slice())?;
-    read_body(alloc, ground, lists, claims, frame, procedure)
+    read_body(alloc, basis, lists, claims, frame, procedure)
 }
 
 /// The procedures in order.
@@ -189,17 +189,17 @@ fn read_procedure(
 /// `Refused` is the first fault: in each procedure its parameters, results, logic variables, `pre`, `post`, locals and statements.
 pub(crate) fn read_procedures(
     alloc: Global,
-    ground: &Ground,
+    basis: &Basis,
     procedures: &[&Procedure],
 ) -> Result<Items<ProcEntry>, TextStop>
-    requires { DeclarationsFit ground.now.declared }
-    ensures met { OnOk result (first_of (procedure_fault ground.now) (map (λ p. p.now) procedures.now) ≡ None) }
-    ensures entries { IfOk result (λ entries. entries ≡ map (typed_procedure ground.now) (map (λ p. p.now) procedures.now)) }
-    ensures stop { IfErr result (IsStop (first_of (procedure_fault ground.now) (map (λ p. p.now) procedures.now))) }
+    requires { DeclarationsFit basis.now.declared }
+    ensures met { OnOk result (first_of (procedure_fault basis.now) (map (λ p. p.now) procedures.now) ≡ None) }
+    ensures entries { IfOk result (λ entries. entries ≡ map (typed_procedure basis.now) (map (λ p. p.now) procedures.now)) }
+    ensures stop { IfErr result (IsStop (first_of (procedure_fault basis.now) (map (λ p. p.now) procedures.now))) }
 {
     let mut entries = Items::new(alloc);
     for procedure in procedures {
-        let entry = read_procedure(alloc, ground, procedure)?;
+        let entry = read_procedure(alloc, basis, procedure)?;
         entries.push(entry)?;
     }
     Ok(entries)

@@ -7,10 +7,10 @@ ghost use Rattle.pale_tables.specs.Faults.{IsStop, need};
 ghost use Rattle.pale_tables.specs.Names.{is_new, repeated_fault};
 ghost use Rattle.pale_tables.specs.Types.{type_names_fault, types_fault, type_table, names_in};
 ghost use Rattle.pale_predicates.specs.Predicates.{predicates_fault, nothing_with};
-ghost use Rattle.pale_types.specs.Programs.{types_in, predicates_in, procedures_in, declared_in, ground_of, names_fault, declarations_fault, program_fault, typed_program};
+ghost use Rattle.pale_types.specs.Programs.{types_in, predicates_in, procedures_in, declared_in, basis_of, names_fault, declarations_fault, program_fault, typed_program};
 
+use crate::basis::Basis;
 use crate::formals::signatures_of;
-use crate::ground::Ground;
 use crate::procedures::read_procedures;
 use crate::typed_program::Typed;
 use pale_predicates::{Declared, check_predicate_names, read_predicates};
@@ -121,10 +121,10 @@ pub fn check_types(alloc: Global, program: &Program) -> Result<Typed, TextStop>
     )?;
     let declared = read_declared(alloc, sorted.types.as_slice(), sorted.predicates.as_slice())?;
     let signatures = signatures_of(alloc, &declared.vocabulary.types, procedures)?;
-    let ground = Ground {
+    let basis = Basis {
         declared,
         procedures: signatures,
     };
-    let procs = read_procedures(alloc, &ground, procedures)?;
-    Ok(Typed::new(ground.declared.vocabulary.types, procs))
+    let procs = read_procedures(alloc, &basis, procedures)?;
+    Ok(Typed::new(basis.declared.vocabulary.types, procs))
 }

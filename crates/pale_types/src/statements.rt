@@ -6,8 +6,8 @@ ghost use Rattle.pale_fitting.specs.Declaring.{DeclarationsFit};
 ghost use Rattle.pale_types.specs.Framing.{IsFrame};
 ghost use Rattle.pale_types.specs.Statements.{typed_statement, typed_block, statement_fault, block_fault, else_fault, typed_else};
 
+use crate::basis::Basis;
 use crate::calls::read_parts;
-use crate::ground::Ground;
 use crate::sights::Frame;
 use crate::stated::read_stated;
 use crate::typed::{Stmt, StmtList};
@@ -22,20 +22,20 @@ use store_logic::Act;
 #[cycle(statements)]
 fn read_else(
     alloc: Global,
-    ground: &Ground,
+    basis: &Basis,
     frame: &mut Frame,
     block: &Option<Block>,
 ) -> Result<StmtList, TextStop>
-    requires declarations { DeclarationsFit ground.now.declared }
+    requires declarations { DeclarationsFit basis.now.declared }
     requires frame { IsFrame frame.old }
-    ensures met { OnOk result (else_fault ground.now frame.old block.now ≡ None) }
-    ensures found { IfOk result (λ found. found ≡ typed_else ground.now frame.old block.now) }
+    ensures met { OnOk result (else_fault basis.now frame.old block.now ≡ None) }
+    ensures found { IfOk result (λ found. found ≡ typed_else basis.now frame.old block.now) }
     ensures frame { frame.new ≡ frame.old }
-    ensures stop { IfErr result (IsStop (else_fault ground.now frame.old block.now)) }
+    ensures stop { IfErr result (IsStop (else_fault basis.now frame.old block.now)) }
 {
     match block {
         None => Ok(Items::new(alloc)),
-        Some(block) => read_block(alloc, ground, frame, block.as_slice()),
+        Some(block) => read_block(alloc, basis, frame, block.as_slice()),
     }
 }
 
@@ -44,43 +44,43 @@ fn read_else(
 #[tactic(auto, using(crate::proofs::StatementLemmas::statement_forms, pale_tables::proofs::FaultLemmas::stops))]
 fn read_statement(
     alloc: Global,
-    ground: &Ground,
+    basis: &Basis,
     frame: &mut Frame,
     statement: &Statement,
 ) -> Result<Stmt, TextStop>
-    requires declarations { DeclarationsFit ground.now.declared }
+    requires declarations { DeclarationsFit basis.now.declared }
     requires frame { IsFrame frame.old }
-    ensures met { OnOk result (statement_fault ground.now frame.old statement.now ≡ None) }
-    ensures statement { IfOk result (λ made. made ≡ typed_statement ground.now frame.old statement.now) }
+    ensures met { OnOk result (statement_fault basis.now frame.old statement.now ≡ None) }
+    ensures statement { IfOk result (λ made. made ≡ typed_statement basis.now frame.old statement.now) }
     ensures frame { frame.new ≡ frame.old }
-    ensures stop { IfErr result (IsStop (statement_fault ground.now frame.old statement.now)) }
+    ensures stop { IfErr result (IsStop (statement_fault basis.now frame.old statement.now)) }
 {
-    let types = &ground.declared.vocabulary.types;
+    let types = &basis.declared.vocabulary.types;
     match statement {
         Statement::Skip(_) => Ok(Stmt::Skip),
         Statement::If(place, condition, yes, no) => {
             let condition = read_condition(alloc, types, &frame.code, condition)?;
-            let yes = read_block(alloc, ground, frame, yes.as_slice())?;
-            let no = read_else(alloc, ground, frame, no)?;
+            let yes = read_block(alloc, basis, frame, yes.as_slice())?;
+            let no = read_else(alloc, basis, frame, no)?;
             Ok(Stmt::If(place.line, condition, yes, no))
         }
         Statement::While(place, condition, invariant, body) => {
             let condition = read_condition(alloc, types, &frame.code, condition)?;
-            let invariant = read_stated(alloc, &ground.declared, &mut frame.stated, invariant)?;
-            let body = read_block(alloc, ground, frame, body.as_slice())?;
+            let invariant = read_stated(alloc, &basis.declared, &mut frame.stated, invariant)?;
+            let body = read_block(alloc, basis, frame, body.as_slice())?;
             Ok(Stmt::While(*place, condition, invariant, body))
         }
         Statement::Split(place, assertion) => {
-            let assertion = read_stated(alloc, &ground.declared, &mut frame.stated, assertion)?;
+            let assertion = read_stated(alloc, &basis.declared, &mut frame.stated, assertion)?;
             Ok(Stmt::Split(*place, assertion))
         }
         Statement::Assert(place, assertion) => {
-            let assertion = read_stated(alloc, &ground.declared, &mut frame.stated, assertion)?;
+            let assertion = read_stated(alloc, &basis.declared, &mut frame.stated, assertion)?;
             Ok(Stmt::Do(place.line, Act::Assert(assertion)))
         }
         Statement::Free(place, name) => Ok(Stmt::Do(place.line, read_free(&frame.code, name)?)),
         Statement::Call(call) => {
-            let parts = read_parts(alloc, ground, frame, call)?;
+            let parts = read_parts(alloc, basis, frame, call)?;
             Ok(Stmt::Call(call.place, parts))
         }
         Statement::Assign(path, _, value) => {
@@ -98,20 +98,20 @@ fn read_statement(
 #[cycle(statements)]
 pub(crate) fn read_block(
     alloc: Global,
-    ground: &Ground,
+    basis: &Basis,
     frame: &mut Frame,
     block: &[Statement],
 ) -> Result<StmtList, TextStop>
-    requires declarations { DeclarationsFit ground.now.declared }
+    requires declarations { DeclarationsFit basis.now.declared }
     requires frame { IsFrame frame.old }
-    ensures met { OnOk result (block_fault ground.now frame.old block.now ≡ None) }
-    ensures found { IfOk result (λ found. found ≡ typed_block ground.now frame.old block.now) }
+    ensures met { OnOk result (block_fault basis.now frame.old block.now ≡ None) }
+    ensures found { IfOk result (λ found. found ≡ typed_block basis.now frame.old block.now) }
     ensures frame { frame.new ≡ frame.old }
-    ensures stop { IfErr result (IsStop (block_fault ground.now frame.old block.now)) }
+    ensures stop { IfErr result (IsStop (block_fault basis.now frame.old block.now)) }
 {
     let mut found = Items::new(alloc);
     for statement in block {
-        let next = read_statement(alloc, ground, frame, statement)?;
+        let next = read_statement(alloc, basis, frame, statement)?;
         found.push(next)?;
     }
     Ok(found)

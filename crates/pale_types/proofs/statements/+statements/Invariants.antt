@@ -7,8 +7,8 @@ use Rattle.pale_types.proofs.statements.+statements.Given as goal
 abbrev pub invariant-read_block-loop-statement : goal.invariant-read_block-loop-statement
 invariant-read_block-loop-statement l = record {
   frame : l.frame ≡ l.initial.frame;
-  faults : first_of (statement_fault l.ground l.initial.frame) l.block
-      ≡ first_of (statement_fault l.ground l.initial.frame) (drop l.statement-index l.block);
-  found : l.found ++ map (typed_statement l.ground l.initial.frame) (drop l.statement-index l.block)
-      ≡ map (typed_statement l.ground l.initial.frame) l.block;
+  faults : first_of (statement_fault l.basis l.initial.frame) l.block
+      ≡ first_of (statement_fault l.basis l.initial.frame) (drop l.statement-index l.block);
+  found : l.found ++ map (typed_statement l.basis l.initial.frame) (drop l.statement-index l.block)
+      ≡ map (typed_statement l.basis l.initial.frame) l.block;
 }

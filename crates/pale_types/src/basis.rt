@@ -5,7 +5,7 @@ use pale_predicates::Declared;
 
 /// What a procedure may use besides its own variables: types, predicates, and all procedures, those that come later too.
 #[derive(Drop)]
-pub struct Ground {
+pub struct Basis {
     pub declared: Declared,
     pub procedures: Procedures,
 }
