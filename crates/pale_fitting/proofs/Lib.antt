@@ -1,0 +1,16 @@
+pub mod ActFitLemmas
+pub mod AssertionFitLemmas
+pub mod AtomFitLemmas
+pub mod BindingLemmas
+pub mod CodeFitLemmas
+pub mod DeclarationLemmas
+pub mod ExpansionLemmas
+pub mod FitForms
+pub mod FoundLemmas
+pub mod NamingLemmas
+pub mod ParameterLemmas
+pub mod ProcedureLemmas
+pub mod RouteFitLemmas
+pub mod StandingLemmas
+pub mod TermFitLemmas
+pub mod UseLemmas
