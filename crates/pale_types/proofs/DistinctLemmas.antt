@@ -1,5 +1,5 @@
 -- Names that stand once, in lists that are joined and exchanged.
-use Rattle.std.proofs.Common.{◌≡◌, ℕ, Bool, List, [], ◌∷◌, ◌++◌, Option, None, position, sym, ◌∙◌}
+use Rattle.std.proofs.Common.{◌≡◌, ℕ, Bool, List, [], ◌∷◌, ◌++◌, Option, None, position, refl, sym, ◌∙◌}
 use Rattle.std.proofs.lemmas.Cmp.{nat_list_eq_equiv}
 use Rattle.std.specs.Str.{bytes_eq}
 use Rattle.store_core.specs.Tables.{place_of, AreDistinct}
@@ -47,10 +47,7 @@ apart-join (x ∷ xs) ys zs first second = (first.0, apart-join xs ys zs first.1
 
 apart-nil : (xs : List (List ℕ)) → Apart xs []
 apart-nil [] = tt
-apart-nil (x ∷ xs) = (none-nil x, apart-nil xs)
-  where
-    none-nil : (x : List ℕ) → place_of x [] ≡ None
-    none-nil x i = None
+apart-nil (x ∷ xs) = (refl, apart-nil xs)
 
 apart-more : (ys : List (List ℕ)) (x : List ℕ) (xs : List (List ℕ)) → place_of x ys ≡ None → Apart ys xs → Apart ys (x ∷ xs)
 apart-more [] x xs none apart = tt

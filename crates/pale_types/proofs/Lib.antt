@@ -4,3 +4,4 @@ pub mod SightLemmas
 pub mod KeepLemmas
 pub mod StatementLemmas
 pub mod ProcedureLemmas
+pub mod ProgramLemmas

@@ -53,14 +53,14 @@ abbrev pub basis_of : List TypeDeclaration → List PredicateDeclaration → Lis
 basis_of types predicates procedures =
     record { declared = declared_in types predicates; procedures = map (named_of (type_table types)) procedures }
 
-abbrev pub basis_in : Program → Basis
-basis_in program = basis_of (types_in program) (predicates_in program) (procedures_in program)
+-- the types and the procedures of these declarations
+unfoldable pub typed_list : List TypeDeclaration → List PredicateDeclaration → List Procedure → TypedProgram
+typed_list types predicates procedures =
+    record { types = type_table types; procs = map (typed_procedure (basis_of types predicates procedures)) procedures }
 
-unfoldable pub typed_program : Program → TypedProgram
-typed_program program = record {
-  types = type_table (types_in program);
-  procs = map (typed_procedure (basis_in program)) (procedures_in program);
-}
+-- what a program is typed as
+abbrev pub typed_program : Program → TypedProgram
+typed_program program = typed_list (types_in program) (predicates_in program) (procedures_in program)
 
 -- ---- faults
 
@@ -76,8 +76,11 @@ unfoldable pub declarations_fault : List TypeDeclaration → List PredicateDecla
 declarations_fault types predicates = types_fault types >> predicates_fault (nothing_with (type_table types) (names_in types)) predicates
 
 -- the names, types and predicates, and then the procedures
-unfoldable pub program_fault : Program → Fault
-program_fault program =
-    names_fault (types_in program) (predicates_in program) (procedures_in program)
-    >> declarations_fault (types_in program) (predicates_in program)
-    >> first_of (procedure_fault (basis_in program)) (procedures_in program)
+unfoldable pub list_fault : List TypeDeclaration → List PredicateDeclaration → List Procedure → Fault
+list_fault types predicates procedures =
+    names_fault types predicates procedures
+    >> declarations_fault types predicates >> first_of (procedure_fault (basis_of types predicates procedures)) procedures
+
+-- the first fault of a program
+abbrev pub program_fault : Program → Fault
+program_fault program = list_fault (types_in program) (predicates_in program) (procedures_in program)

@@ -7,7 +7,8 @@ ghost use Rattle.pale_tables.specs.Faults.{IsStop, need};
 ghost use Rattle.pale_tables.specs.Names.{is_new, repeated_fault};
 ghost use Rattle.pale_tables.specs.Types.{type_names_fault, types_fault, type_table, names_in};
 ghost use Rattle.pale_predicates.specs.Predicates.{predicates_fault, nothing_with};
-ghost use Rattle.pale_types.specs.Programs.{types_in, predicates_in, procedures_in, declared_in, basis_of, names_fault, declarations_fault, program_fault, typed_program};
+ghost use Rattle.pale_types.specs.Programs.{types_in, predicates_in, procedures_in, declared_in, basis_of, typed_list, typed_program};
+ghost use Rattle.pale_types.specs.Programs.{names_fault, declarations_fault, list_fault, program_fault};
 
 use crate::basis::Basis;
 use crate::formals::signatures_of;
@@ -91,6 +92,7 @@ fn read_declared(
 }
 
 /// Looks at the names that a program declares.
+#[tactic(auto, unfolding(crate::specs::Programs::names_fault), using(crate::proofs::ProgramLemmas::mapped))]
 fn check_names(
     alloc: Global,
     types: &[&TypeDeclaration],
@@ -105,26 +107,60 @@ fn check_names(
     check_procedure_names(alloc, procedures)
 }
 
-/// The typed program.
+/// What all procedures may use. No name has a fault.
+fn read_basis(
+    alloc: Global,
+    types: &[&TypeDeclaration],
+    predicates: &[&PredicateDeclaration],
+    procedures: &[&Procedure],
+) -> Result<Basis, TextStop>
+    requires { names_fault (map (λ t. t.now) types.now) (map (λ p. p.now) predicates.now) (map (λ p. p.now) procedures.now) ≡ None }
+    ensures met { OnOk result (declarations_fault (map (λ t. t.now) types.now) (map (λ p. p.now) predicates.now) ≡ None) }
+    ensures basis { IfOk result (λ basis. basis ≡ basis_of (map (λ t. t.now) types.now) (map (λ p. p.now) predicates.now) (map (λ p. p.now) procedures.now)) }
+    ensures stop { IfErr result (IsStop (declarations_fault (map (λ t. t.now) types.now) (map (λ p. p.now) predicates.now))) }
+{
+    let declared = read_declared(alloc, types, predicates)?;
+    let signatures = signatures_of(alloc, &declared.vocabulary.types, procedures)?;
+    Ok(Basis {
+        declared,
+        procedures: signatures,
+    })
+}
+
+/// The types and procedures of these declarations.
+#[tactic(auto, unfolding(crate::specs::Programs::list_fault, crate::specs::Programs::typed_list))]
+fn read_list(
+    alloc: Global,
+    types: &[&TypeDeclaration],
+    predicates: &[&PredicateDeclaration],
+    procedures: &[&Procedure],
+) -> Result<Typed, TextStop>
+    ensures met { OnOk result (list_fault (map (λ t. t.now) types.now) (map (λ p. p.now) predicates.now) (map (λ p. p.now) procedures.now) ≡ None) }
+    ensures typed { IfOk result (λ typed. typed ≡ typed_list (map (λ t. t.now) types.now) (map (λ p. p.now) predicates.now) (map (λ p. p.now) procedures.now)) }
+    ensures stop { IfErr result (IsStop (list_fault (map (λ t. t.now) types.now) (map (λ p. p.now) predicates.now) (map (λ p. p.now) procedures.now))) }
+{
+    check_names(alloc, types, predicates, procedures)?;
+    let basis = read_basis(alloc, types, predicates, procedures)?;
+    let procs = read_procedures(alloc, &basis, procedures)?;
+    Ok(Typed::new(basis.declared.vocabulary.types, procs))
+}
+
+/// A program with its names looked up and its predicates put in.
+///
+/// # Errors
+///
+/// `Refused` is the first fault: `duplicate` and `many-types` at the names of types, then of predicates, then of procedures; and
+/// then the faults of the types, of the predicates and of the procedures, each kind in order of the text.
 pub fn check_types(alloc: Global, program: &Program) -> Result<Typed, TextStop>
     ensures met { OnOk result (program_fault program.now ≡ None) }
     ensures typed { IfOk result (λ typed. typed ≡ typed_program program.now) }
     ensures stop { IfErr result (IsStop (program_fault program.now)) }
 {
     let sorted = sort_declarations(alloc, program)?;
-    let procedures = sorted.procedures.as_slice();
-    check_names(
+    read_list(
         alloc,
         sorted.types.as_slice(),
         sorted.predicates.as_slice(),
-        procedures,
-    )?;
-    let declared = read_declared(alloc, sorted.types.as_slice(), sorted.predicates.as_slice())?;
-    let signatures = signatures_of(alloc, &declared.vocabulary.types, procedures)?;
-    let basis = Basis {
-        declared,
-        procedures: signatures,
-    };
-    let procs = read_procedures(alloc, &basis, procedures)?;
-    Ok(Typed::new(basis.declared.vocabulary.types, procs))
+        sorted.procedures.as_slice(),
+    )
 }
