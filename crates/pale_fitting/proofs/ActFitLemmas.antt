@@ -1,5 +1,5 @@
 -- Assignments and `free` without a fault fit.
-use Rattle.std.proofs.Common.{◌≡◌, ℕ, ◌<◌, Bool, true, false, not, cond, ◌&&◌, ◌==◌, eqb, List, [], ◌∷◌, length}
+use Rattle.std.proofs.Common.{◌≡◌, ◌<◌, Bool, true, false, not, ◌==◌, List, [], ◌∷◌, length}
 use Rattle.std.proofs.Common.{Option, Some, None, is_some, IsSomeAnd, unwrap_or, if◌then◌else◌, refl, sym, ap, ◌∙◌, subst, arith}
 use Rattle.std.specs.Option.{option_map_or, option_and_then}
 use Rattle.pale_text.specs.declared.place.Pos.{Pos}
@@ -11,7 +11,6 @@ use Rattle.pale_syntax.specs.declared.tree.statement.Value.{Value}
 use Rattle.pale_syntax.specs.declared.tree.statement.Value.TheVariants as value
 use Rattle.store_core.specs.declared.ids.TypeId.{TypeId}
 use Rattle.store_core.specs.declared.ids.FieldId.{FieldId}
-use Rattle.store_core.specs.declared.ids.VarId.{VarId}
 use Rattle.store_core.specs.declared.ids.VariantId.{VariantId}
 use Rattle.store_core.specs.declared.kind.FieldKind.{FieldKind}
 use Rattle.store_core.specs.declared.kind.FieldKind.TheVariants as field
@@ -20,21 +19,20 @@ use Rattle.store_core.specs.declared.kind.VarKind.TheVariants as var
 use Rattle.store_core.specs.Tables.{TypeEntry, FieldEntry, VarEntry, KnowsVariant, var_at, field_at, type_at, count_of_variants}
 use Rattle.store_logic.specs.declared.path.Operand.TheVariants as operand
 use Rattle.store_logic.specs.Sorts as logic
-use Rattle.store_logic.specs.FitsCode.{code_sort, PathFits, OperandFits, RhsFits, HoldsCell, ActFits}
-use Rattle.pale_tables.specs.Faults.{Fault, need, ◌>>◌}
+use Rattle.store_logic.specs.FitsCode.{code_sort, OperandFits, RhsFits, HoldsCell, ActFits}
+use Rattle.pale_tables.specs.Faults.{need, ◌>>◌}
 use Rattle.pale_tables.proofs.KnownRoutes.{both, needed}
 use Rattle.pale_text.specs.declared.refusal.RefusalKind.TheVariants as kind
 use Rattle.pale_terms.specs.declared.sort.Sort.{Sort}
 use Rattle.pale_terms.specs.declared.sort.Sort.TheVariants as sort
 use Rattle.pale_terms.specs.declared.terms.TypedTerm.{TypedTerm}
 use Rattle.pale_terms.specs.declared.terms.TypedTerm.TheVariants as typed
-use Rattle.pale_terms.specs.Sorts.{held, is_truth, is_cell, is_set, are_of_one_type}
+use Rattle.pale_terms.specs.Sorts.{held, is_cell, is_set, are_of_one_type}
 use Rattle.pale_terms.specs.Visibles.{Entry}
 use Rattle.pale_terms.specs.Scopes.{meaning_of, base_fault}
 use Rattle.pale_terms.specs.Terms.{sort_behind, typed_field, sort_along, typed_path, typed_term, path_fault, term_fault}
-use Rattle.pale_acts.specs.Operands.{var_in, path_in, operand_in}
-use Rattle.pale_acts.specs.Conditions.{condition_fault, typed_condition}
-use Rattle.pale_acts.specs.Assignments.{variant_named, variant_fault, variant_of, type_of, new_type_fault, new_fault, new_of, term_alone, is_value_for}
+use Rattle.pale_acts.specs.Operands.{var_in, operand_in}
+use Rattle.pale_acts.specs.Assignments.{variant_named, variant_fault, variant_of, type_of, new_fault, new_of, term_alone, is_value_for}
 use Rattle.pale_acts.specs.Assignments.{cell_fault, cell_of, value_fault, value_of, assignment_fault, assignment_of, free_fault, free_of}
 use Rattle.pale_fitting.specs.Standing.{sort_in, AreCodeVariables}
 use Rattle.pale_fitting.proofs.TermFitLemmas.{and-parts, cell-sort, one-cell-type, IsVariantOf, variant-under}
@@ -89,7 +87,8 @@ unnamed-known types ty otherwise is = by (type_at types ty) refl is
         record { of = refl; known = subst (λ (o : Option TypeEntry). 0 < option_map_or count_of_variants o 0) (sym at) low }
 
     by : (o : Option TypeEntry) → type_at types ty ≡ o →
-        is_some (option_and_then (λ (t : TypeEntry). if length t.variants == 0 then (let v : VariantId = record { ty = ty; index = 0 } in Some v) else None) o) ≡ true →
+        is_some (option_and_then (λ (t : TypeEntry). if length t.variants == 0 then (let v : VariantId = record { ty = ty; index = 0 } in Some v) else None)
+        o) ≡ true →
         IsVariantOf types (Some ty)
         (unwrap_or (option_and_then (λ (t : TypeEntry). if length t.variants == 0 then Some (record { ty = ty; index = 0 }) else None) o) otherwise)
     by None at is = absurd cc
@@ -120,7 +119,8 @@ module _ (types : List TypeEntry) (vars : List VarEntry) (entries : List Entry) 
 
   -- ---- what a place of cells gets
 
-  value-is : (ty : TypeId) (t : TypedTerm) → IsTyped types vars entries all t → is_value_for (sort.Cell ty) t ≡ true → OperandFits types vars (operand_in t) (logic.Cell ty)
+  value-is : (ty : TypeId) (t : TypedTerm) → IsTyped types vars entries all t → is_value_for (sort.Cell ty) t ≡ true →
+      OperandFits types vars (operand_in t) (logic.Cell ty)
   value-is ty typed.Null fits is = tt
   value-is ty (typed.Path p) fits is =
       let parts = and-parts (is_cell p.sort) (are_of_one_type (sort.Cell ty) p.sort) is in
@@ -142,7 +142,8 @@ module _ (types : List TypeEntry) (vars : List VarEntry) (entries : List Entry) 
           let parts = both _ _ none in
           value-is ty (typed_term types entries t) (term-typed types vars entries all t parts.0) (needed _ _ _ parts.1)
 
-  value-fits : (of : Sort) (x : Value) → is_set of ≡ false → value_fault types entries of x ≡ None → RhsFits types vars (value_of types entries of x) (sort_in of)
+  value-fits : (of : Sort) (x : Value) → is_set of ≡ false → value_fault types entries of x ≡ None →
+      RhsFits types vars (value_of types entries of x) (sort_in of)
   unfolding value_fault value_of
   value-fits of (value.New word ty v) none-set none = new-fits of word ty v none
   value-fits sort.Truth (value.Condition first c) none-set none = (condition-fits types vars entries all c none, refl)

@@ -1,6 +1,6 @@
 -- An assertion without a fault fits.
-use Rattle.std.proofs.Common.{◌≡◌, Bool, true, false, List, [], ◌∷◌, ◌++◌, map, fold, Option, Some, None, is_some, length, ℕ, ◌<◌, refl, sym, ap, ◌∙◌, subst, arith}
-use Rattle.std.proofs.Common.{if◌then◌else◌, unwrap_or}
+use Rattle.std.proofs.Common.{◌≡◌, Bool, true, false, List, [], ◌∷◌, map, fold, Option, Some, None, is_some, length}
+use Rattle.std.proofs.Common.{ℕ, ◌<◌, unwrap_or, refl, sym, ◌∙◌, subst, arith}
 use Rattle.std.specs.Option.{option_map}
 use Rattle.std.specs.List.{AllByRecursion}
 use Rattle.std.proofs.lemmas.List.{length-map}
@@ -12,23 +12,19 @@ use Rattle.pale_syntax.specs.declared.tree.assertion.Assertion as source
 use Rattle.pale_syntax.specs.declared.tree.assertion.Assertion.TheOpen.{Assertion-F}
 use Rattle.pale_syntax.specs.declared.tree.assertion.Assertion.TheFolds.{map-Assertion, ind-Assertion}
 use Rattle.store_core.specs.declared.ids.TypeId.{TypeId}
-use Rattle.store_core.specs.Tables.{TypeEntry, KnowsType, place_of, type_names, type_named}
+use Rattle.store_core.specs.Tables.{TypeEntry, KnowsType, place_of, type_names}
 use Rattle.store_logic.specs.declared.assertion.Assertion.{Assertion}
-use Rattle.store_logic.specs.declared.assertion.Assertion.TheVariants as assertion
-use Rattle.store_logic.specs.Sorts as logic
 use Rattle.store_logic.specs.Sorts.{Scope, under}
 use Rattle.store_logic.specs.Fits.{FitsIn}
-use Rattle.pale_tables.specs.Faults.{Fault, ◌>>◌, first_of}
+use Rattle.pale_tables.specs.Faults.{Fault, first_of}
 use Rattle.pale_tables.proofs.KnownRoutes.{both, needed, position-within}
-use Rattle.pale_terms.specs.declared.sort.Sort.{Sort}
-use Rattle.pale_terms.specs.declared.sort.Sort.TheVariants as sort
 use Rattle.pale_terms.specs.Visibles.{Entry}
 use Rattle.pale_assertions.specs.declared.vocabulary.Vocabulary.{Vocabulary}
 use Rattle.pale_assertions.specs.declared.connectives.Connective.{Connective}
 use Rattle.pale_assertions.specs.declared.connectives.Connective.TheVariants as connective
 use Rattle.pale_assertions.specs.Atoms.{same_of}
-use Rattle.pale_assertions.specs.Connectives.{connected, chained, negated, quantified_once, quantified}
-use Rattle.pale_assertions.specs.Quantifiers.{type_found, bound_type, sort_of, bound_entry, inside, quantifier_fault}
+use Rattle.pale_assertions.specs.Connectives.{connected, chained, quantified_once}
+use Rattle.pale_assertions.specs.Quantifiers.{type_found, bound_type, sort_of, inside, quantifier_fault}
 use Rattle.pale_assertions.specs.Assertions.{each_in, typing_rules, fault_rules, assertion_fault, typed_assertion}
 use Rattle.pale_assertions.proofs.AssertionLemmas.{fault_form, typed_form}
 use Rattle.pale_fitting.specs.Standing.{sort_in, StandFor, pred_sorts}

@@ -1,5 +1,5 @@
 -- Assertions without parts that have no fault fit.
-use Rattle.std.proofs.Common.{◌≡◌, ℕ, zero, suc, ◌<◌, Bool, true, false, ◌==◌, List, [], ◌∷◌, length, map, slice_get}
+use Rattle.std.proofs.Common.{◌≡◌, ℕ, ◌<◌, true, List, [], ◌∷◌, length, map, slice_get}
 use Rattle.std.proofs.Common.{Option, Some, None, is_some, IsSomeAnd, unwrap_or, refl, sym, ap, ◌∙◌, subst, arith}
 use Rattle.std.specs.Option.{option_map, option_map_or}
 use Rattle.std.proofs.lemmas.List.{length-map}
@@ -11,25 +11,22 @@ use Rattle.pale_syntax.specs.declared.tree.names.Term as source
 use Rattle.pale_syntax.specs.declared.tree.names.Term.TheVariants as source_term
 use Rattle.pale_syntax.specs.declared.tree.route.Route.{Route}
 use Rattle.store_core.specs.declared.ids.TypeId.{TypeId}
-use Rattle.store_core.specs.Tables.{TypeEntry, place_of}
-use Rattle.store_logic.specs.declared.arg.Arg.{Arg}
+use Rattle.store_core.specs.Tables.{TypeEntry}
 use Rattle.store_logic.specs.Sorts as logic
 use Rattle.store_logic.specs.Sorts.{Scope, TermFits, BaseFits, ArgFits, ArgsFit}
-use Rattle.store_logic.specs.Fits.{MemberTestFits, SubsetTestFits, WalkTestFits, FitsIn}
-use Rattle.pale_tables.specs.Faults.{Fault, ◌>>◌}
+use Rattle.store_logic.specs.Fits.{MemberTestFits, FitsIn}
 use Rattle.pale_tables.proofs.KnownRoutes.{both, needed, position-within}
 use Rattle.pale_terms.specs.declared.sort.Sort.{Sort}
 use Rattle.pale_terms.specs.declared.sort.Sort.TheVariants as sort
 use Rattle.pale_terms.specs.declared.terms.TypedTerm.{TypedTerm}
-use Rattle.pale_terms.specs.declared.terms.TypedTerm.TheVariants as typed
-use Rattle.pale_terms.specs.Sorts.{is_truth, are_of_one_type}
 use Rattle.pale_terms.specs.Visibles.{Entry}
 use Rattle.pale_terms.specs.Scopes.{meaning_of}
 use Rattle.pale_terms.specs.Terms.{typed_path, typed_term, term_at, term_in, cell_type, compared_fault, variant_test_fault}
 use Rattle.pale_assertions.specs.declared.vocabulary.Vocabulary.{Vocabulary}
 use Rattle.pale_assertions.specs.Heads.{Head, head_names, params_at}
 use Rattle.pale_assertions.specs.Arguments.{truth_argument_fault, truth_argument, cell_argument_fault, cell_argument, set_argument_fault, set_argument}
-use Rattle.pale_assertions.specs.Arguments.{argument_fault, argument_of, arguments_fault, arguments_of, pred_named, applied_fault, applied_to, use_fault, use_of}
+use Rattle.pale_assertions.specs.Arguments.{argument_fault, argument_of, arguments_fault, arguments_of, pred_named, applied_fault, applied_to}
+use Rattle.pale_assertions.specs.Arguments.{use_fault, use_of}
 use Rattle.pale_assertions.specs.Atoms.{truth_fault, truth_of, same_of, is_in_type, member_fault, member_of, sets_fault, sets_of, subset_fault, subset_of}
 use Rattle.pale_assertions.specs.Atoms.{walk_fault, walk_of, is_of}
 use Rattle.pale_fitting.specs.Standing.{sort_in, StandFor, pred_sorts}
@@ -38,12 +35,7 @@ use Rattle.pale_fitting.proofs.FitForms.{Fits-False, Fits-Truth, Fits-Is, Fits-S
 use Rattle.pale_fitting.proofs.RouteFitLemmas.{route-fits}
 use Rattle.pale_fitting.proofs.StandingLemmas.{meaning-fits}
 use Rattle.pale_fitting.proofs.TermFitLemmas.{IsNameOfSet, set-name, set-path-name, cell-sort, one-cell-type, one-set-type, one-mixed-type, same-number}
-use Rattle.pale_fitting.proofs.TermFitLemmas.{path-fits, reference-fits, compared-fit, cell-fits, variant-fits, at-cell}
-
-truth-sort : (s : Sort) → is_truth s ≡ true → s ≡ sort.Truth
-truth-sort sort.Truth is = refl
-truth-sort (sort.Cell ty) is = absurd cc
-truth-sort (sort.Set ty) is = absurd cc
+use Rattle.pale_fitting.proofs.TermFitLemmas.{truth-sort, there, path-fits, reference-fits, compared-fit, cell-fits, variant-fits, at-cell}
 
 module _ (types : List TypeEntry) (entries : List Entry) (scope : Scope) (stand : StandFor entries scope) where
   -- a name of a set stands for a set
@@ -66,7 +58,8 @@ module _ (types : List TypeEntry) (entries : List Entry) (scope : Scope) (stand 
       FitsIn types (same_of types entries t u) scope
   unfolding same_of
   same-of-fits t operator u none =
-      (Fits-Same types scope (term_in (typed_term types entries t)) (term_in (typed_term types entries u))).1 (compared-fit types entries scope stand t operator u none)
+      (Fits-Same types scope (term_in (typed_term types entries t)) (term_in (typed_term types entries u))).1
+      (compared-fit types entries scope stand t operator u none)
 
   pub is-of-fits : (t : source.Term) (colon : Pos) (v : Name) → variant_test_fault types entries t colon v ≡ None → FitsIn types (is_of types entries t v) scope
   unfolding is_of
@@ -157,11 +150,6 @@ module _ (types : List TypeEntry) (entries : List Entry) (scope : Scope) (stand 
       (argument-fits s p parts.0, arguments-fit sorts paths rest parts.1)
 
 -- ---- uses and walks
-
-there : {X : Type 0} (xs : List X) (k : ℕ) → k < length xs → is_some (slice_get xs k) ≡ true
-there [] k inside = absurd (omega arith)
-there (x ∷ xs) zero inside = refl
-there (x ∷ xs) (suc k) inside = there xs k (omega arith)
 
 -- the parameters of a predicate that is there
 params-there : (heads : List Head) (k : ℕ) → k < length heads → slice_get (pred_sorts heads) k ≡ Some (map sort_in (params_at heads k))

@@ -1,24 +1,17 @@
 -- Variables and what quantifiers bind stand for what they are in the scope.
-use Rattle.std.proofs.Common.{◌≡◌, ℕ, zero, suc, ◌+◌, ◌-◌, ◌<◌, Bool, true, false, IsTrue, List, [], ◌∷◌, ◌++◌, map, length, slice_get}
-use Rattle.std.proofs.Common.{Option, Some, None, IsSome, IsSomeAnd, unwrap_or, refl, sym, ap, ◌∙◌, subst, arith, append_assoc, append-nil}
-use Rattle.std.specs.Option.{option_map, option_and_then}
-use Rattle.std.specs.List.{AllByRecursion}
+use Rattle.std.proofs.Common.{◌≡◌, ℕ, suc, List, [], ◌∷◌, ◌++◌, map, length}
+use Rattle.std.proofs.Common.{Option, Some, None, IsSomeAnd, refl, sym, ap, ◌∙◌, subst, arith, append_assoc, append-nil}
+use Rattle.std.specs.Option.{option_map}
 use Rattle.std.proofs.lemmas.List.{length_push}
 use Rattle.pale_syntax.specs.declared.tree.names.Name.{Name}
-use Rattle.store_core.specs.declared.ids.VarId.{VarId}
 use Rattle.store_core.specs.declared.kind.VarKind.{VarKind}
 use Rattle.store_core.specs.declared.kind.VarKind.TheVariants as var
-use Rattle.store_core.specs.Tables.{TypeEntry, VarEntry, var_at, place_of}
-use Rattle.store_logic.specs.declared.term.Base.TheVariants as base
+use Rattle.store_core.specs.Tables.{VarEntry, var_at}
 use Rattle.store_logic.specs.Sorts as logic
 use Rattle.store_logic.specs.Sorts.{Scope, BaseFits, under, var_sort}
-use Rattle.store_logic.proofs.ExpandingLists.{slice_get-seam}
 use Rattle.pale_terms.specs.declared.sort.Sort.{Sort}
-use Rattle.pale_terms.specs.declared.sort.Sort.TheVariants as sort
 use Rattle.pale_terms.specs.declared.scope.Origin.{Origin}
 use Rattle.pale_terms.specs.declared.scope.Origin.TheVariants as origin
-use Rattle.pale_terms.specs.declared.scope.Visible.{Visible}
-use Rattle.pale_terms.specs.declared.scope.Meaning.{Meaning}
 use Rattle.pale_terms.specs.Sorts.{kept}
 use Rattle.pale_terms.specs.Visibles.{Entry}
 use Rattle.pale_terms.specs.Scopes.{base_of}

@@ -1,8 +1,8 @@
 -- Paths, conditions and acts of code without a fault fit.
-use Rattle.std.proofs.Common.{◌≡◌, ℕ, zero, suc, ◌-◌, ◌<◌, Bool, true, false, not, cond, ◌&&◌, ◌==◌, eqb, List, [], ◌∷◌, length, map, fold, slice_get}
-use Rattle.std.proofs.Common.{Option, Some, None, is_some, IsSome, IsSomeAnd, unwrap_or, if◌then◌else◌, refl, sym, ap, ◌∙◌, subst, arith}
+use Rattle.std.proofs.Common.{◌≡◌, ℕ, zero, suc, ◌-◌, true, ◌&&◌, List, [], ◌∷◌, length, map, slice_get}
+use Rattle.std.proofs.Common.{Option, Some, None, IsSome, IsSomeAnd, refl, sym, ap, ◌∙◌, subst}
 use Rattle.std.specs.List.{AllByRecursion}
-use Rattle.std.specs.Option.{option_map_or, option_and_then}
+use Rattle.std.specs.Option.{option_and_then}
 use mathlib.Core.Path.{transport}
 use Rattle.pale_text.specs.declared.place.Pos.{Pos}
 use Rattle.pale_syntax.specs.declared.tree.names.Name.{Name}
@@ -12,49 +12,41 @@ use Rattle.pale_syntax.specs.declared.tree.names.Term.TheVariants as source_term
 use Rattle.pale_syntax.specs.declared.tree.condition.Condition.{Condition}
 use Rattle.pale_syntax.specs.declared.tree.condition.Condition.TheOpen.{Condition-F}
 use Rattle.pale_syntax.specs.declared.tree.condition.Condition.TheFolds.{map-Condition, ind-Condition}
-use Rattle.pale_syntax.specs.declared.tree.statement.Value.{Value}
-use Rattle.pale_syntax.specs.declared.tree.statement.Value.TheVariants as value
 use Rattle.store_core.specs.declared.ids.TypeId.{TypeId}
-use Rattle.store_core.specs.declared.ids.FieldId.{FieldId}
 use Rattle.store_core.specs.declared.ids.VariantId.{VariantId}
-use Rattle.store_core.specs.declared.kind.FieldKind.{FieldKind}
-use Rattle.store_core.specs.declared.kind.FieldKind.TheVariants as field
 use Rattle.store_core.specs.declared.kind.VarKind.{VarKind}
 use Rattle.store_core.specs.declared.kind.VarKind.TheVariants as var
-use Rattle.store_core.specs.Tables.{TypeEntry, FieldEntry, VarEntry, KnowsVariant, var_at, field_at, type_at, type_named, unnamed_of, count_of_variants}
-use Rattle.store_logic.specs.declared.term.Base.TheVariants as base
+use Rattle.store_core.specs.Tables.{TypeEntry, VarEntry, var_at}
 use Rattle.store_logic.specs.declared.path.Operand.{Operand}
-use Rattle.store_logic.specs.declared.path.Operand.TheVariants as operand
 use Rattle.store_logic.specs.declared.cond.Cond.{Cond, roll-Cond}
 use Rattle.store_logic.specs.declared.cond.Cond.TheVariants as test
 use Rattle.store_logic.specs.declared.cond.Cond.TheOpen.{Cond-F}
 use Rattle.store_logic.specs.declared.cond.Cond.TheFolds.{rec-roll-Cond, map-Cond}
 use Rattle.store_logic.specs.Sorts as logic
-use Rattle.store_logic.specs.FitsCode.{code_sort, PathFits, OperandFits, VariantCondFits, SameCondFits, CondFitsNode, CondFits, RhsFits, HoldsCell, ActFits}
-use Rattle.pale_tables.specs.Faults.{Fault, ◌>>◌, first_of}
+use Rattle.store_logic.specs.FitsCode.{code_sort, PathFits, OperandFits, SameCondFits, CondFitsNode, CondFits}
+use Rattle.pale_tables.specs.Faults.{Fault, first_of}
 use Rattle.pale_tables.proofs.KnownRoutes.{both, needed}
 use Rattle.pale_terms.specs.declared.sort.Sort.{Sort}
 use Rattle.pale_terms.specs.declared.sort.Sort.TheVariants as sort
-use Rattle.pale_terms.specs.declared.scope.Origin.{Origin}
-use Rattle.pale_terms.specs.declared.scope.Origin.TheVariants as origin
 use Rattle.pale_terms.specs.declared.scope.Meaning.{Meaning}
 use Rattle.pale_terms.specs.declared.terms.TypedPath.{TypedPath}
 use Rattle.pale_terms.specs.declared.terms.TypedTerm.{TypedTerm}
 use Rattle.pale_terms.specs.declared.terms.TypedTerm.TheVariants as typed
-use Rattle.pale_terms.specs.Sorts.{held, kept, is_truth, is_cell, is_set, are_of_one_type}
+use Rattle.pale_terms.specs.Sorts.{kept, is_cell, are_of_one_type}
 use Rattle.pale_terms.specs.Visibles.{Entry}
-use Rattle.pale_terms.specs.Scopes.{base_of, meaning_of, base_fault}
-use Rattle.pale_terms.specs.Terms.{sort_behind, typed_field, typed_fields, sort_along, typed_path, typed_term, is_reference, cell_type, are_alike, variant_test}
-use Rattle.pale_terms.specs.Terms.{fields_fault, path_fault, term_fault, reference_fault, compared_fault, cell_fault, variant_test_fault}
+use Rattle.pale_terms.specs.Scopes.{base_of, meaning_of}
+use Rattle.pale_terms.specs.Terms.{typed_fields, typed_path, typed_term, is_reference, cell_type, are_alike, variant_test}
+use Rattle.pale_terms.specs.Terms.{path_fault, term_fault, reference_fault, compared_fault, cell_fault, variant_test_fault}
 use Rattle.pale_acts.specs.declared.conditions.Junction.{Junction}
 use Rattle.pale_acts.specs.declared.conditions.Junction.TheVariants as junction
 use Rattle.pale_acts.specs.Operands.{var_in, path_in, operand_in}
 use Rattle.pale_acts.specs.Conditions as conditions
-use Rattle.pale_acts.specs.Conditions.{is_truth_path, truth_in, same_of, is_in, is_of, joined, chained, negated, typing_rules, typed_condition, fault_rules, condition_fault}
+use Rattle.pale_acts.specs.Conditions.{is_truth_path, truth_in, same_of, is_in, is_of, joined, chained, negated, typing_rules, typed_condition}
+use Rattle.pale_acts.specs.Conditions.{fault_rules, condition_fault}
 use Rattle.pale_acts.proofs.ConditionLemmas.{fault_form, typed_form}
 use Rattle.pale_fitting.specs.Standing.{sort_in, IsCodeVariable, AreCodeVariables}
 use Rattle.pale_fitting.proofs.StandingLemmas.{meaning-from}
-use Rattle.pale_fitting.proofs.TermFitLemmas.{and-parts, cell-sort, cell_of-sort, one-cell-type, fields-along, base-may, IsVariantOf, variant-under}
+use Rattle.pale_fitting.proofs.TermFitLemmas.{and-parts, truth-sort, cell-sort, cell_of-sort, one-cell-type, fields-along, base-may, IsVariantOf, variant-under}
 
 -- ---- names
 
@@ -127,7 +119,8 @@ module _ (types : List TypeEntry) (vars : List VarEntry) where
   -- ---- paths and terms
 
   module _ (entries : List Entry) (all : AreCodeVariables vars entries) where
-    pub path-fits : (p : Path) → path_fault types entries p ≡ None → PathFits types vars (path_in (typed_path types entries p)) (sort_in (typed_path types entries p).sort)
+    pub path-fits : (p : Path) → path_fault types entries p ≡ None →
+        PathFits types vars (path_in (typed_path types entries p)) (sort_in (typed_path types entries p).sort)
     unfolding path_fault typed_path
     path-fits p none =
         let parts = both _ _ none in
@@ -155,11 +148,6 @@ module _ (types : List TypeEntry) (vars : List VarEntry) where
     truth-path typed.Null fits is = False-fits
     truth-path (typed.Path p) fits is =
         by-form (test.Bool (path_in p)) (Cond-F.Bool (path_in p)) (test.rolls-Bool (path_in p)) (at-sort p sort.Truth (truth-sort p.sort is) fits)
-      where
-        truth-sort : (s : Sort) → is_truth s ≡ true → s ≡ sort.Truth
-        truth-sort sort.Truth is = refl
-        truth-sort (sort.Cell ty) is = absurd cc
-        truth-sort (sort.Set ty) is = absurd cc
 
     truth-of-fits : (t : source.Term) → conditions.truth_fault types entries t ≡ None → CondFits types vars (conditions.truth_of types entries t)
     unfolding conditions.truth_fault conditions.truth_of

@@ -1,24 +1,20 @@
 -- Predicates without a fault fit.
 use Rattle.std.proofs.Common.{◌≡◌, List, [], ◌∷◌, ◌++◌, map, fold, length, reverse, None, refl, sym, ap, ◌∙◌, subst}
-use Rattle.std.proofs.lemmas.List.{length-map, reverse-append, reverse-reverse, map-append}
+use Rattle.std.proofs.lemmas.List.{length-map, reverse-append, reverse-reverse}
 use Rattle.pale_syntax.specs.declared.tree.assertion.Bracketed.{Bracketed}
 use Rattle.pale_syntax.specs.declared.tree.declaration.PredicateDeclaration.{PredicateDeclaration}
 use Rattle.store_core.specs.Tables.{TypeEntry}
-use Rattle.store_logic.specs.declared.assertion.Assertion.{Assertion}
 use Rattle.store_logic.specs.declared.pred.PredDef.{PredDef}
 use Rattle.store_logic.specs.Sorts as logic
 use Rattle.store_logic.specs.Fits.{FitsIn, PredsFit}
 use Rattle.pale_tables.specs.declared.type_names.TypeNames.{TypeNames}
-use Rattle.pale_tables.specs.Faults.{Fault, ◌>>◌}
 use Rattle.pale_tables.proofs.KnownRoutes.{both}
-use Rattle.pale_terms.specs.declared.sort.Sort.{Sort}
 use Rattle.pale_terms.specs.Visibles.{Entry}
-use Rattle.pale_assertions.specs.declared.vocabulary.Vocabulary.{Vocabulary}
 use Rattle.pale_assertions.specs.Heads.{Head}
 use Rattle.pale_assertions.specs.Assertions.{assertion_fault, typed_assertion}
 use Rattle.pale_predicates.specs.declared.predicates.Declared.{Declared}
 use Rattle.pale_predicates.specs.Parameters.{sort_of}
-use Rattle.pale_predicates.specs.Predicates.{bracketed_fault, with_parts, params_of, with_pred, predicate_fault, predicates_fault, nothing_with, declared_by}
+use Rattle.pale_predicates.specs.Predicates.{bracketed_fault, params_of, with_pred, predicate_fault, predicates_fault, nothing_with, declared_by}
 use Rattle.pale_fitting.specs.Standing.{sort_in, pred_sorts}
 use Rattle.pale_fitting.specs.Naming.{AreNamesOf}
 use Rattle.pale_fitting.specs.Declaring.{DeclarationsFit}
@@ -26,7 +22,8 @@ use Rattle.pale_fitting.proofs.ParameterLemmas.{parameters-stand}
 use Rattle.pale_fitting.proofs.AssertionFitLemmas.{assertion-fits}
 
 -- an assertion in its brackets has no fault
-pub assertion-none : (d : Declared) (entries : List Entry) (b : Bracketed) → bracketed_fault d entries b ≡ None → assertion_fault d.vocabulary entries b.assertion ≡ None
+pub assertion-none : (d : Declared) (entries : List Entry) (b : Bracketed) → bracketed_fault d entries b ≡ None →
+    assertion_fault d.vocabulary entries b.assertion ≡ None
 unfolding bracketed_fault
 assertion-none d entries b none = (both _ _ none).0
 
@@ -58,7 +55,8 @@ module _ (d : Declared) (fit : DeclarationsFit d) (p : PredicateDeclaration) (no
       let head : Head = record { name = p.name.bytes; params = own } in record {
         names = fit.names;
         preds =
-            subst (λ (l : List PredDef). PredsFit d.vocabulary.types l (reverse (pred_sorts (d.vocabulary.preds ++ head ∷ [])))) (sym (reverse-push d.preds def))
+            subst (λ (l : List PredDef). PredsFit d.vocabulary.types l (reverse (pred_sorts (d.vocabulary.preds ++ head ∷ []))))
+            (sym (reverse-push d.preds def))
             (subst (λ (l : List (List logic.Sort)). PredsFit d.vocabulary.types (def ∷ reverse d.preds) l)
             (sym (ap reverse (sorts-push d.vocabulary.preds head) ∙ reverse-push (pred_sorts d.vocabulary.preds) (map sort_in own))) (
               length-map own sort_in,

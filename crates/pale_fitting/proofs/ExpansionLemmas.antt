@@ -15,7 +15,7 @@ use Rattle.store_logic.specs.declared.arg.Arg.TheVariants as arg
 use Rattle.store_logic.specs.declared.assertion.Assertion.{Assertion}
 use Rattle.store_logic.specs.declared.assertion.Assertion.TheVariants as assertion
 use Rattle.store_logic.specs.declared.pred.PredDef.{PredDef}
-use Rattle.store_logic.specs.Sorts.{Sort, Truth, Cell, Set, Scope, scope_of, under, field_sort, sort_along, base_sort, BaseFits, TermFits, ArgFits, ArgsFit}
+use Rattle.store_logic.specs.Sorts.{Sort, Truth, Cell, Set, Scope, under, field_sort, sort_along, base_sort, BaseFits, TermFits, ArgFits, ArgsFit}
 use Rattle.store_logic.specs.Fits.{FitsIn, AssertionFits, PredsFit}
 use Rattle.store_logic.specs.Filling.{of_term, arg_term, args_for, shifted_base, shifted_term, shifted, path_from, filled_term, is_true, name_in}
 use Rattle.store_logic.specs.Filling.{filled_set, filled, put_in}
@@ -340,8 +340,8 @@ module _ (types : List TypeEntry) where
           (record { vars = []; bound = []; params = o; preds = reverse before }) refl fit.1))
 
   -- what fits among variables and predicates that fit still fits with these put in
-  pub expansion-fits : (vars : List VarEntry) (preds : List PredDef) (sorts : List (List Sort)) (a : Assertion) → PredsFit types (reverse preds) (reverse sorts) →
-      FitsIn types a (record { vars = vars; bound = []; params = []; preds = sorts }) → AssertionFits types vars (expansion preds a)
+  pub expansion-fits : (vars : List VarEntry) (preds : List PredDef) (sorts : List (List Sort)) (a : Assertion) →
+      PredsFit types (reverse preds) (reverse sorts) → FitsIn types a (record { vars = vars; bound = []; params = []; preds = sorts }) → AssertionFits types vars (expansion preds a)
   expansion-fits vars preds sorts a fit fits =
       bodies-fit types (expanded_bodies (reverse preds)) sorts
       (λ k own at. known-bodies (reverse preds) (reverse sorts) fit k own (ap (λ (xs : List (List Sort)). slice_get xs k) (reverse-reverse sorts) ∙ at))

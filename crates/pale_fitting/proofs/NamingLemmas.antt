@@ -1,10 +1,8 @@
 -- The names that declarations give are those of their table.
-use Rattle.std.proofs.Common.{◌≡◌, ◌⊎◌, inl, inr, ℕ, ◌+◌, ◌<◌, ◌≤◌, Bool, true, false, IsTrue, ◌||◌, List, [], ◌∷◌, ◌++◌, map, flat_map, length}
+use Rattle.std.proofs.Common.{◌≡◌, ◌⊎◌, inl, inr, ℕ, ◌+◌, Bool, true, false, ◌||◌, List, [], ◌∷◌, ◌++◌, map, flat_map}
 use Rattle.std.proofs.Common.{slice_get, is_some, IfSome, IsSomeAnd, Option, Some, None, refl, sym, ap, ◌∙◌, subst, arith}
 use Rattle.std.specs.Option.{option_map, option_map_or}
 use Rattle.std.specs.List.{filter_map}
-use Rattle.std.proofs.lemmas.Option.{slice_get-map}
-use Rattle.pale_syntax.specs.declared.tree.names.Name.{Name}
 use Rattle.pale_syntax.specs.declared.tree.declaration.TypeDeclaration.{TypeDeclaration}
 use Rattle.pale_syntax.specs.declared.tree.declaration.VariantDeclaration.{VariantDeclaration}
 use Rattle.pale_syntax.specs.declared.tree.declaration.FieldDeclaration.{FieldDeclaration}
@@ -17,15 +15,14 @@ use Rattle.store_core.specs.Tables.{TypeEntry, FieldEntry, KnowsType, KnowsVaria
 use Rattle.routing_expr.specs.Walks.{DataAndPointers, IsFollowed}
 use Rattle.store_logic.specs.Fits.{HasFieldNamed, IsBoolField}
 use Rattle.pale_tables.specs.declared.type_names.TypeNames.{TypeNames}
-use Rattle.pale_tables.specs.declared.type_names.Followed.TheVariants as follows
 use Rattle.pale_tables.specs.Names.{each_once}
-use Rattle.pale_tables.specs.Routes.{type_named, variant_named, is_among, is_followed}
+use Rattle.pale_tables.specs.Routes.{type_named, variant_named, is_among}
 use Rattle.pale_tables.specs.Types.{fields_in, name_if, is_bool, is_data, is_pointer, bool_name, data_name, pointer_name, kind_of, field_entry}
 use Rattle.pale_tables.specs.Types.{variant_fields, type_entry, names_in, type_table}
 use Rattle.pale_tables.proofs.KnownRoutes.{Covers, position-within}
 use Rattle.pale_tables.proofs.TableLemmas.{covers}
 use Rattle.pale_fitting.specs.Naming.{AreNamesOf}
-use Rattle.pale_fitting.proofs.FoundLemmas.{IsFound, found-here, found-later, in-cons, in-append, to-first, to-second, in-flat, found-map, in-filter, from-once}
+use Rattle.pale_fitting.proofs.FoundLemmas.{IsFound, in-append, to-first, to-second, in-flat, found-map, in-filter, from-once}
 
 -- ---- types and variants
 
@@ -47,7 +44,8 @@ variant-there types names all ty name = by (variant_named names ty name) refl
 -- ---- fields
 
 -- the fields of a declaration, in its type
-module _ (names : TypeNames) (P : FieldDeclaration → Type 0) (Q : FieldEntry → Type 0) (so : (only : Option ℕ) (f : FieldDeclaration) → P f → Q (field_entry names only f))
+module _ (names : TypeNames) (P : FieldDeclaration → Type 0) (Q : FieldEntry → Type 0)
+    (so : (only : Option ℕ) (f : FieldDeclaration) → P f → Q (field_entry names only f))
   where
     in-variants : (index : ℕ) (variants : List VariantDeclaration) → IsFound P (flat_map (λ (v : VariantDeclaration). v.fields) variants) →
         IsFound Q (variant_fields names index variants)
@@ -89,10 +87,12 @@ field-in IsSo name types f =
 
 module _ (ts : List TypeDeclaration) (names : TypeNames) (IsSo : FieldKind → Type 0) (g : FieldDeclaration → Option (List ℕ))
     (so : (name : List ℕ) (only : Option ℕ) (f : FieldDeclaration) → g f ≡ Some name → Suits IsSo name (field_entry names only f)) where
-  came : (name : List ℕ) (i : ℕ) → place_of name (each_once (filter_map g (flat_map fields_in ts))) ≡ Some i → HasFieldNamed (map (type_entry names) ts) IsSo name
+  came : (name : List ℕ) (i : ℕ) → place_of name (each_once (filter_map g (flat_map fields_in ts))) ≡ Some i →
+      HasFieldNamed (map (type_entry names) ts) IsSo name
   came name i at =
       field-in IsSo name (map (type_entry names) ts)
-      (found-map (λ (t : TypeDeclaration). IsFound (λ f. g f ≡ Some name) (fields_in t)) (λ (t : TypeEntry). IsFound (Suits IsSo name) t.fields) (type_entry names)
+      (found-map (λ (t : TypeDeclaration). IsFound (λ f. g f ≡ Some name) (fields_in t)) (λ (t : TypeEntry). IsFound (Suits IsSo name) t.fields)
+      (type_entry names)
       (in-type names (λ f. g f ≡ Some name) (Suits IsSo name) (so name)) ts
       (in-flat (λ f. g f ≡ Some name) fields_in ts
       (in-filter g (flat_map fields_in ts) name (from-once (filter_map g (flat_map fields_in ts)) name i at))))
@@ -105,7 +105,8 @@ module _ (ts : List TypeDeclaration) (names : TypeNames) (IsSo : FieldKind → T
       by None at is = absurd cc
       by (Some i) at is = came name i at
 
-bool-so : (names : TypeNames) (name : List ℕ) (only : Option ℕ) (f : FieldDeclaration) → bool_name f ≡ Some name → Suits IsBoolField name (field_entry names only f)
+bool-so : (names : TypeNames) (name : List ℕ) (only : Option ℕ) (f : FieldDeclaration) → bool_name f ≡ Some name →
+    Suits IsBoolField name (field_entry names only f)
 bool-so names name only f is = by f.form is
   where
     by : (g : FieldForm) → name_if (is_bool g) f ≡ Some name → (f.name.bytes ≡ name) × IsBoolField (kind_of names g)

@@ -1,5 +1,5 @@
 -- Parameters of predicates stand for what they are in the scope.
-use Rattle.std.proofs.Common.{◌≡◌, ℕ, ◌+◌, List, [], ◌∷◌, ◌++◌, map, length, slice_get, refl, sym, ap, ◌∙◌, subst, append_assoc}
+use Rattle.std.proofs.Common.{◌≡◌, ◌+◌, List, [], ◌∷◌, ◌++◌, map, length, slice_get, refl, sym, ap, ◌∙◌, subst, append_assoc}
 use Rattle.std.proofs.lemmas.List.{length_push}
 use Rattle.pale_syntax.specs.declared.tree.declaration.PredicateParameter.{PredicateParameter}
 use Rattle.store_core.specs.Tables.{TypeEntry}
@@ -9,8 +9,8 @@ use Rattle.pale_predicates.specs.Parameters as parameters
 use Rattle.pale_fitting.specs.Standing.{sort_in, StandFor}
 
 -- parameters of these sorts after those before them
-parameters-from : (types : List TypeEntry) (preds : List (List logic.Sort)) (before : List logic.Sort) (ps : List PredicateParameter) (params : List logic.Sort) →
-    params ≡ before ++ map sort_in (map (parameters.sort_of types) ps) →
+parameters-from : (types : List TypeEntry) (preds : List (List logic.Sort)) (before : List logic.Sort) (ps : List PredicateParameter)
+    (params : List logic.Sort) → params ≡ before ++ map sort_in (map (parameters.sort_of types) ps) →
     StandFor (parameters.scope_of types (length before) ps) (record { vars = []; bound = []; params = params; preds = preds })
 parameters-from types preds before [] params is = tt
 parameters-from types preds before (p ∷ ps) params is =

@@ -1,5 +1,5 @@
 -- Assertions of procedures fit, and predicates can be put into them.
-use Rattle.std.proofs.Common.{◌≡◌, List, [], None, refl}
+use Rattle.std.proofs.Common.{◌≡◌, List, None, refl}
 use Rattle.store_core.specs.Tables.{VarEntry}
 use Rattle.store_logic.specs.Fits.{FitsIn, AssertionFits}
 use Rattle.store_logic.specs.Expansion.{expansion}

@@ -1,5 +1,5 @@
 -- A route without a fault fits.
-use Rattle.std.proofs.Common.{◌≡◌, ℕ, Bool, true, IsTrue, List, [], ◌∷◌, map, Option, Some, None, IfSome, is_some, unwrap_or, refl, sym, ap, ◌∙◌, subst}
+use Rattle.std.proofs.Common.{◌≡◌, Bool, true, List, [], ◌∷◌, map, Option, Some, None, IfSome, is_some, unwrap_or, refl, sym, ap, ◌∙◌, subst}
 use Rattle.std.specs.List.{AllByRecursion}
 use mathlib.Core.Path.{transport}
 use Rattle.pale_text.specs.declared.place.Pos.{Pos}
@@ -17,7 +17,7 @@ use Rattle.pale_tables.specs.declared.type_names.TypeNames.{TypeNames}
 use Rattle.pale_tables.specs.declared.type_names.Followed.TheVariants as follows
 use Rattle.pale_tables.specs.declared.routes.Chain.{Chain}
 use Rattle.pale_tables.specs.declared.routes.Chain.TheVariants as chain
-use Rattle.pale_tables.specs.Faults.{Fault, ◌>>◌, first_of}
+use Rattle.pale_tables.specs.Faults.{Fault, first_of}
 use Rattle.pale_tables.specs.Routes.{type_named, variant_named, type_or_first, variant_or_first, type_fault, variant_fault, followed_fault, bool_fault}
 use Rattle.pale_tables.specs.Routes.{route_rules, route_fault, route_node, route_of, joined, chained, starred}
 use Rattle.pale_tables.proofs.RouteLemmas.{fault_form, route_form}

@@ -1,5 +1,5 @@
 -- Paths and terms without a fault are of the sort that the rules say.
-use Rattle.std.proofs.Common.{◌≡◌, ℕ, zero, suc, ◌<◌, ◌≤◌, Bool, true, false, cond, ◌&&◌, ◌==◌, eqb, List, [], ◌∷◌, length, slice_get, map}
+use Rattle.std.proofs.Common.{◌≡◌, ℕ, zero, suc, ◌<◌, ◌≤◌, Bool, true, false, cond, ◌&&◌, ◌==◌, eqb, List, [], ◌∷◌, length, slice_get}
 use Rattle.std.proofs.Common.{Option, Some, None, is_some, unwrap_or, if◌then◌else◌, refl, sym, ap, ◌∙◌, subst, arith}
 use Rattle.std.specs.Option.{option_map, option_map_or, option_and_then}
 use Rattle.std.proofs.lemmas.List.{length-map}
@@ -13,23 +13,22 @@ use Rattle.store_core.specs.declared.ids.FieldId.{FieldId}
 use Rattle.store_core.specs.declared.ids.VariantId.{VariantId}
 use Rattle.store_core.specs.declared.kind.FieldKind.{FieldKind}
 use Rattle.store_core.specs.declared.kind.FieldKind.TheVariants as field
-use Rattle.store_core.specs.Tables.{TypeEntry, FieldEntry, KnowsVariant, place_of, field_at, field_names, fields_of, type_at, variants_of, count_of_variants, variant_count}
+use Rattle.store_core.specs.Tables.{TypeEntry, FieldEntry, KnowsVariant, place_of, field_at, field_names, fields_of, type_at, variants_of}
+use Rattle.store_core.specs.Tables.{count_of_variants, variant_count}
 use Rattle.store_logic.specs.declared.term.Term.{Term}
-use Rattle.store_logic.specs.declared.term.Term.TheVariants as term
 use Rattle.store_logic.specs.Sorts as logic
 use Rattle.store_logic.specs.Sorts.{Scope, TermFits, BaseFits, field_sort}
 use Rattle.store_logic.specs.Fits.{SameTestFits, VariantTestFits}
-use Rattle.pale_tables.specs.Faults.{Fault, ◌>>◌}
 use Rattle.pale_tables.proofs.KnownRoutes.{both, needed, position-within}
 use Rattle.pale_terms.specs.declared.sort.Sort.{Sort}
 use Rattle.pale_terms.specs.declared.sort.Sort.TheVariants as sort
 use Rattle.pale_terms.specs.declared.terms.TypedPath.{TypedPath}
 use Rattle.pale_terms.specs.declared.terms.TypedTerm.{TypedTerm}
 use Rattle.pale_terms.specs.declared.terms.TypedTerm.TheVariants as typed
-use Rattle.pale_terms.specs.Sorts.{held, is_cell, is_set, cell_of, are_of_one_type}
+use Rattle.pale_terms.specs.Sorts.{held, is_truth, is_cell, is_set, cell_of, are_of_one_type}
 use Rattle.pale_terms.specs.Visibles.{Entry}
 use Rattle.pale_terms.specs.Scopes.{meaning_of, base_fault, set_fault}
-use Rattle.pale_terms.specs.Terms.{field_under, typed_field, sort_behind, typed_fields, sort_along, typed_path, typed_term, term_at, term_in}
+use Rattle.pale_terms.specs.Terms.{typed_field, sort_behind, typed_fields, sort_along, typed_path, typed_term, term_at, term_in}
 use Rattle.pale_terms.specs.Terms.{is_reference, cell_type, are_alike, variant_under, variant_test, field_fault, fields_fault, path_fault, term_fault}
 use Rattle.pale_terms.specs.Terms.{reference_fault, compared_fault, cell_fault, variant_test_fault, set_path_fault}
 use Rattle.pale_fitting.specs.Standing.{sort_in, StandFor}
@@ -52,6 +51,11 @@ type-from t u same = ap (λ n. let ty : TypeId = record { 0 = n } in ty) same
 
 pub same-type : (t u : TypeId) → (t.0 == u.0) ≡ true → t ≡ u
 same-type t u is = type-from t u (same-number t.0 u.0 is)
+
+pub truth-sort : (s : Sort) → is_truth s ≡ true → s ≡ sort.Truth
+truth-sort sort.Truth is = refl
+truth-sort (sort.Cell ty) is = absurd cc
+truth-sort (sort.Set ty) is = absurd cc
 
 -- the sort of cells of a type
 pub record IsCellOf (s : Sort) : Type 0 where
@@ -97,7 +101,7 @@ held-in field.Bool = refl
 held-in (field.Data target) = refl
 held-in (field.Pointer target along) = refl
 
-there : {X : Type 0} (xs : List X) (k : ℕ) → k < length xs → is_some (slice_get xs k) ≡ true
+pub there : {X : Type 0} (xs : List X) (k : ℕ) → k < length xs → is_some (slice_get xs k) ≡ true
 there [] k inside = absurd (omega arith)
 there (x ∷ xs) zero inside = refl
 there (x ∷ xs) (suc k) inside = there xs k (omega arith)
@@ -107,7 +111,8 @@ goes-on : (types : List TypeEntry) (ty : TypeId) (i : ℕ) (more : List FieldId)
     logic.sort_along types (sort_in (option_map_or (λ (entry : FieldEntry). held entry.kind) (slice_get (fields_of types ty) i) sort.Truth)) more ≡ Some s →
     logic.sort_along types (logic.Cell ty) (record { ty = ty; index = i } ∷ more) ≡ Some s
 goes-on types ty i more s inside along =
-    ap (λ b. if b then option_and_then (λ (entry : FieldEntry). logic.sort_along types (field_sort entry.kind) more) (slice_get (fields_of types ty) i) else None)
+    ap (λ b. if b then option_and_then (λ (entry : FieldEntry). logic.sort_along types (field_sort entry.kind) more) (slice_get (fields_of types ty) i)
+    else None)
     (number-same ty.0)
     ∙ by (slice_get (fields_of types ty) i) (there (fields_of types ty) i inside) along
   where
@@ -125,9 +130,11 @@ field-step types sort.Truth f none more s along = absurd cc
 field-step types (sort.Cell ty) f none more s along =
     by (place_of f.bytes (field_names (fields_of types ty))) refl (needed _ _ _ none) along
   where
-    by : (o : Option ℕ) → place_of f.bytes (field_names (fields_of types ty)) ≡ o → is_some (option_map (λ i. let x : FieldId = record { ty = ty; index = i } in x) o) ≡ true →
+    by : (o : Option ℕ) → place_of f.bytes (field_names (fields_of types ty)) ≡ o →
+        is_some (option_map (λ i. let x : FieldId = record { ty = ty; index = i } in x) o) ≡ true →
         logic.sort_along types (sort_in (option_map_or (λ (entry : FieldEntry). held entry.kind)
-        (field_at types (unwrap_or (option_map (λ i. record { ty = ty; index = i }) o) (record { ty = record { 0 = 0 }; index = 0 }))) sort.Truth)) more ≡ Some s →
+        (field_at types (unwrap_or (option_map (λ i. record { ty = ty; index = i }) o) (record { ty = record { 0 = 0 }; index = 0 }))) sort.Truth))
+        more ≡ Some s →
         logic.sort_along types (logic.Cell ty)
         (unwrap_or (option_map (λ i. record { ty = ty; index = i }) o) (record { ty = record { 0 = 0 }; index = 0 }) ∷ more) ≡ Some s
     by None at is along = absurd cc
@@ -201,12 +208,14 @@ variant-under types (Some t) name otherwise is = by (place_of name (variants_of 
 -- ---- paths and terms of assertions
 
 module _ (types : List TypeEntry) (entries : List Entry) (scope : Scope) (stand : StandFor entries scope) where
-  pub path-fits : (p : Path) → path_fault types entries p ≡ None → TermFits types scope (term_at (typed_path types entries p)) (sort_in (typed_path types entries p).sort)
+  pub path-fits : (p : Path) → path_fault types entries p ≡ None →
+      TermFits types scope (term_at (typed_path types entries p)) (sort_in (typed_path types entries p).sort)
   unfolding path_fault typed_path
   path-fits p none =
       let parts = both _ _ none in
       let m = meaning_of entries p.base in
-      ap (option_and_then (λ start. logic.sort_along types start (typed_fields types m.sort p.fields))) (meaning-fits entries scope stand p.base (base-may entries p.base parts.0))
+      ap (option_and_then (λ start. logic.sort_along types start (typed_fields types m.sort p.fields)))
+      (meaning-fits entries scope stand p.base (base-may entries p.base parts.0))
       ∙ fields-along types p.fields m.sort parts.1
 
   -- the term is of its sort

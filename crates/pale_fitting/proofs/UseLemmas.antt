@@ -16,7 +16,6 @@ use Rattle.store_logic.specs.declared.term.Term.TheVariants as term
 use Rattle.store_logic.specs.declared.arg.Arg.{Arg}
 use Rattle.store_logic.specs.declared.arg.Arg.TheVariants as arg
 use Rattle.store_logic.specs.declared.assertion.Assertion.{Assertion}
-use Rattle.store_logic.specs.declared.assertion.Assertion.TheVariants as assertion
 use Rattle.store_logic.specs.declared.pred.PredDef.{PredDef}
 use Rattle.store_logic.specs.Sorts.{Sort, Truth, Cell, Set, Scope, under, sort_along, base_sort, BaseFits, TermFits, ArgFits, ArgsFit}
 use Rattle.store_logic.specs.Fits.{FitsIn, PredsFit}
@@ -27,7 +26,7 @@ use Rattle.store_logic.proofs.ExpandingForms.{names-Walk, names-Pred, names-Not,
 use Rattle.store_logic.proofs.ExpandingForms.{names-ExSet, names-AllSet, uses-True, uses-False, uses-Truth, uses-Is, uses-Same, uses-Member}
 use Rattle.store_logic.proofs.ExpandingForms.{uses-Subset, uses-Walk, uses-Pred, uses-Not, uses-And, uses-Or, uses-Imp, uses-Iff, uses-Ex}
 use Rattle.store_logic.proofs.ExpandingForms.{uses-All, uses-ExSet, uses-AllSet}
-use Rattle.store_logic.proofs.ExpandingLists.{slice_get-first, slice_get-seam, all-append}
+use Rattle.store_logic.proofs.ExpandingLists.{slice_get-seam, all-append}
 use Rattle.pale_fitting.proofs.FitForms.{Fits-Truth, Fits-Is, Fits-Same, Fits-Member, Fits-Subset, Fits-Walk, Fits-Pred, Fits-Not, Fits-And}
 use Rattle.pale_fitting.proofs.FitForms.{Fits-Or, Fits-Imp, Fits-Iff, Fits-Ex, Fits-All, Fits-ExSet, Fits-AllSet}
 
@@ -146,9 +145,11 @@ module _ (types : List TypeEntry) where
     of_Truth = λ t w h. told w.params (names-Truth t (length w.bound)) (term-sorted types w t Truth ((Fits-Truth types w t).0 h));
     of_Is = λ t v w h. told w.params (names-Is t v (length w.bound)) (term-sorted types w t (Cell v.ty) ((Fits-Is types w t v).0 h).term);
     of_Same = λ t u w h. let f = (Fits-Same types w t u).0 h in
-        told w.params (names-Same t u (length w.bound)) (two types w _ _ (term-sorted types w t (Cell f.ty) f.left) (term-sorted types w u (Cell f.ty) f.right));
+        told w.params (names-Same t u (length w.bound))
+        (two types w _ _ (term-sorted types w t (Cell f.ty) f.left) (term-sorted types w u (Cell f.ty) f.right));
     of_Member = λ t set w h. let f = (Fits-Member types w t set).0 h in
-        told w.params (names-Member t set (length w.bound)) (two types w _ _ (term-sorted types w t (Cell f.ty) f.member) (set-sorted types w set f.ty f.of_set));
+        told w.params (names-Member t set (length w.bound))
+        (two types w _ _ (term-sorted types w t (Cell f.ty) f.member) (set-sorted types w set f.ty f.of_set));
     of_Subset = λ set other w h. let f = (Fits-Subset types w set other).0 h in
         told w.params (names-Subset set other (length w.bound))
         (two types w (set_name set (length w.bound)) (set_name other (length w.bound))
@@ -156,7 +157,8 @@ module _ (types : List TypeEntry) where
     of_Walk = λ t along u w h. let f = (Fits-Walk types w t along u).0 h in
         told w.params (names-Walk t along u (length w.bound))
         (two types w _ _ (term-sorted types w t (Cell f.from_type) f.from) (term-sorted types w u (Cell f.to_type) f.to));
-    of_Pred = λ k args w h. told w.params (names-Pred k args (length w.bound)) (some-args-sorted types w args (slice_get w.preds k) ((Fits-Pred types w k args).0 h));
+    of_Pred = λ k args w h. told w.params (names-Pred k args (length w.bound))
+        (some-args-sorted types w args (slice_get w.preds k) ((Fits-Pred types w k args).0 h));
     of_Not = λ a l w h. told w.params (names-Not a (length w.bound)) (l w ((Fits-Not types w a).0 h));
     of_And = λ a b l m w h. let f = (Fits-And types w a b).0 h in told w.params (names-And a b (length w.bound)) (two types w _ _ (l w f.0) (m w f.1));
     of_Or = λ a b l m w h. let f = (Fits-Or types w a b).0 h in told w.params (names-Or a b (length w.bound)) (two types w _ _ (l w f.0) (m w f.1));

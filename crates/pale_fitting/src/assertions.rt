@@ -26,7 +26,8 @@ ghost use Rattle.pale_fitting.specs.Declaring.{DeclarationsFit};
 
 /// Visible variables stand for those of their table, whichever of them the place may use.
 pub fn variables_stand_for_their_table()
-    ensures { (vars : List VarEntry) (heads : List Head) (entries : List Entry) → AreVariables vars entries → StandFor entries (scope_with vars heads) }
+    ensures { (vars : List VarEntry) (heads : List Head) (entries : List Entry) → AreVariables vars entries →
+        StandFor entries (scope_with vars heads) }
 {}
 
 /// What stands at a path without a fault is of the sort that the rules say.
@@ -38,8 +39,8 @@ pub fn paths_without_fault_fit()
 
 /// A test for a variant without a fault names a variant that is there, of the type of its term.
 pub fn variant_tests_without_fault_fit()
-    ensures { (types : List TypeEntry) (entries : List Entry) (scope : Scope) (term : Term) (colon : Pos) (variant : Name) → StandFor entries scope →
-        variant_test_fault types entries term colon variant ≡ None →
+    ensures { (types : List TypeEntry) (entries : List Entry) (scope : Scope) (term : Term) (colon : Pos) (variant : Name) →
+        StandFor entries scope → variant_test_fault types entries term colon variant ≡ None →
         let test = variant_test types entries term variant in VariantTestFits types scope (term_in test.0) test.1 }
 {}
 

@@ -14,18 +14,19 @@ ghost use Rattle.pale_fitting.specs.Standing.{AreCodeVariables};
 
 /// A condition without a fault fits.
 pub fn conditions_without_fault_fit()
-    ensures { (types : List TypeEntry) (vars : List VarEntry) (entries : List Entry) (condition : Condition) → AreCodeVariables vars entries →
-        condition_fault types entries condition ≡ None → CondFits types vars (typed_condition types entries condition) }
+    ensures { (types : List TypeEntry) (vars : List VarEntry) (entries : List Entry) (condition : Condition) →
+        AreCodeVariables vars entries → condition_fault types entries condition ≡ None → CondFits types vars (typed_condition types entries condition) }
 {}
 
 /// An assignment without a fault fits.
 pub fn assignments_without_fault_fit()
-    ensures { (types : List TypeEntry) (vars : List VarEntry) (entries : List Entry) (place : Path) (value : Value) → AreCodeVariables vars entries →
-        assignment_fault types entries place value ≡ None → ActFits types vars (assignment_of types entries place value) }
+    ensures { (types : List TypeEntry) (vars : List VarEntry) (entries : List Entry) (place : Path) (value : Value) →
+        AreCodeVariables vars entries → assignment_fault types entries place value ≡ None →
+        ActFits types vars (assignment_of types entries place value) }
 {}
 
 /// A `free` without a fault fits.
 pub fn frees_without_fault_fit()
-    ensures { (types : List TypeEntry) (vars : List VarEntry) (entries : List Entry) (name : Name) → AreCodeVariables vars entries →
-        free_fault entries name ≡ None → ActFits types vars (free_of entries name) }
+    ensures { (types : List TypeEntry) (vars : List VarEntry) (entries : List Entry) (name : Name) →
+        AreCodeVariables vars entries → free_fault entries name ≡ None → ActFits types vars (free_of entries name) }
 {}
