@@ -42,11 +42,11 @@ module _ (basis : Basis) (frame : Frame) where
   each_fault (s ∷ block) = ap (λ rest. statement_fault basis frame s >> rest) (each_fault block)
 
   -- those of an `else`
-  no_fault : (no : Option (List Statement)) → else_rule (option_map (map (statement_fault basis frame)) no) ≡ else_fault basis frame no
+  no_fault : (other : Option (List Statement)) → else_rule (option_map (map (statement_fault basis frame)) other) ≡ else_fault basis frame other
   no_fault None = refl
   no_fault (Some block) = each_fault block
 
-  no_typed : (no : Option (List Statement)) → else_of (option_map (map (typed_statement basis frame)) no) ≡ typed_else basis frame no
+  no_typed : (other : Option (List Statement)) → else_of (option_map (map (typed_statement basis frame)) other) ≡ typed_else basis frame other
   no_typed None = refl
   no_typed (Some block) = refl
 
@@ -58,20 +58,20 @@ module _ (basis : Basis) (frame : Frame) where
   pub typed-Skip : (place : Pos) → typed_statement basis frame (form.Skip place) ≡ stmt.Skip
   typed-Skip place = typed_form _ (Statement-F.Skip place) (sym (form.rolls-Skip place))
 
-  pub fault-If : (place : Pos) (c : Condition) (yes : List Statement) (no : Option (List Statement)) →
-      statement_fault basis frame (form.If place c yes no)
-      ≡ (condition_fault (types_of basis) frame.code c >> block_fault basis frame yes >> else_fault basis frame no)
-  fault-If place c yes no =
-      fault_form _ (Statement-F.If place c yes no) (sym (form.rolls-If place c yes no))
-      ∙ ap (λ block. condition_fault (types_of basis) frame.code c >> block >> else_rule (option_map (map (statement_fault basis frame)) no)) (each_fault yes)
-      ∙ ap (λ block. condition_fault (types_of basis) frame.code c >> block_fault basis frame yes >> block) (no_fault no)
+  pub fault-If : (place : Pos) (c : Condition) (first : List Statement) (other : Option (List Statement)) →
+      statement_fault basis frame (form.If place c first other)
+      ≡ (condition_fault (types_of basis) frame.code c >> block_fault basis frame first >> else_fault basis frame other)
+  fault-If place c first other =
+      fault_form _ (Statement-F.If place c first other) (sym (form.rolls-If place c first other))
+      ∙ ap (λ block. condition_fault (types_of basis) frame.code c >> block >> else_rule (option_map (map (statement_fault basis frame)) other)) (each_fault first)
+      ∙ ap (λ block. condition_fault (types_of basis) frame.code c >> block_fault basis frame first >> block) (no_fault other)
 
-  pub typed-If : (place : Pos) (c : Condition) (yes : List Statement) (no : Option (List Statement)) →
-      typed_statement basis frame (form.If place c yes no)
-      ≡ stmt.If place.line (typed_condition (types_of basis) frame.code c) (typed_block basis frame yes) (typed_else basis frame no)
-  typed-If place c yes no =
-      typed_form _ (Statement-F.If place c yes no) (sym (form.rolls-If place c yes no))
-      ∙ ap (stmt.If place.line (typed_condition (types_of basis) frame.code c) (typed_block basis frame yes)) (no_typed no)
+  pub typed-If : (place : Pos) (c : Condition) (first : List Statement) (other : Option (List Statement)) →
+      typed_statement basis frame (form.If place c first other)
+      ≡ stmt.If place.line (typed_condition (types_of basis) frame.code c) (typed_block basis frame first) (typed_else basis frame other)
+  typed-If place c first other =
+      typed_form _ (Statement-F.If place c first other) (sym (form.rolls-If place c first other))
+      ∙ ap (stmt.If place.line (typed_condition (types_of basis) frame.code c) (typed_block basis frame first)) (no_typed other)
 
   pub fault-While : (place : Pos) (c : Condition) (invariant : Bracketed) (body : List Statement) →
       statement_fault basis frame (form.While place c invariant body)

@@ -1,6 +1,6 @@
 -- Statements: a rule for what each is typed as, and one for its faults, parts in the order of the text. (Møller and Schwartzbach,
 -- PLDI 2001.)
-use Rattle.std.specs.Prelude.{List, [], Option, Some, None, map, unwrap_or}
+use Rattle.std.specs.Prelude.{false, List, [], Option, Some, None, map, unwrap_or}
 use Rattle.std.specs.Option.{option_map_or}
 use Rattle.pale_syntax.specs.declared.tree.statement.Call.{Call}
 use Rattle.pale_syntax.specs.declared.tree.statement.Statement.{Statement}
@@ -52,7 +52,7 @@ else_of block = unwrap_or block []
 
 abbrev pub typing_rules : Basis → Frame → Statement-F Stmt → Stmt
 typing_rules basis frame (Statement-F.Skip place) = stmt.Skip
-typing_rules basis frame (Statement-F.If place c yes no) = stmt.If place.line (typed_condition (types_of basis) frame.code c) yes (else_of no)
+typing_rules basis frame (Statement-F.If place c first other) = stmt.If place.line (typed_condition (types_of basis) frame.code c) first (else_of other)
 typing_rules basis frame (Statement-F.While place c invariant body) =
     stmt.While place (typed_condition (types_of basis) frame.code c) (stated basis.declared frame.stated invariant) body
 typing_rules basis frame (Statement-F.Split place b) = stmt.Split place (stated basis.declared frame.stated b)
@@ -76,7 +76,7 @@ else_rule block = option_map_or block_rule block None
 
 abbrev pub fault_rules : Basis → Frame → Statement-F Fault → Fault
 fault_rules basis frame (Statement-F.Skip place) = None
-fault_rules basis frame (Statement-F.If place c yes no) = condition_fault (types_of basis) frame.code c >> block_rule yes >> else_rule no
+fault_rules basis frame (Statement-F.If place c first other) = condition_fault (types_of basis) frame.code c >> block_rule first >> else_rule other
 fault_rules basis frame (Statement-F.While place c invariant body) =
     condition_fault (types_of basis) frame.code c >> bracketed_fault basis.declared frame.stated invariant >> block_rule body
 fault_rules basis frame (Statement-F.Split place b) = bracketed_fault basis.declared frame.stated b

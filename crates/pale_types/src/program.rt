@@ -75,6 +75,7 @@ fn check_procedure_names(alloc: Global, procedures: &[&Procedure]) -> Result<(),
 }
 
 /// What a program declares besides its procedures, whose names have no fault.
+#[tactic(auto, unfolding(crate::specs::Programs::declarations_fault))]
 fn read_declared(
     alloc: Global,
     types: &[&TypeDeclaration],

@@ -16,9 +16,16 @@ pub struct Typed {
 }
 
 impl Model for Typed {
+    ghost use Rattle.std.specs.Coded.{codes};
+    ghost use Rattle.store_core.specs.contracts.kind.Route as route;
+    ghost use Rattle.store_logic.specs.contracts.assertion.Assertion as assertion;
+    ghost use Rattle.store_logic.specs.contracts.cond.Cond as cond;
+    ghost use Rattle.pale_types.specs.contracts.typed.Stmt as stmt;
     ghost use Rattle.pale_types.specs.TypedPrograms.{TypedProgram};
 
     ghost Value = { TypedProgram };
+
+    ghost coded = { Prim.hlevel (codes, route.the_row.coded, assertion.the_row.coded, cond.the_row.coded, stmt.the_row.coded) };
 
     ghost view = { λ typed. record { types = typed.types; procs = typed.procs } };
 }
