@@ -5,13 +5,14 @@ use Rattle.std.proofs.lemmas.List.{map-append}
 use Rattle.std.specs.List.{AllByRecursion}
 use Rattle.store_core.specs.declared.kind.VarKind.TheVariants as var
 use Rattle.store_core.specs.Tables.{VarEntry, AreDistinct, var_names}
+use Rattle.pale_tables.proofs.StageLemmas.{distinct-first}
 use Rattle.pale_terms.specs.Sorts.{kept}
 use Rattle.pale_terms.specs.Visibles.{Entry}
 use Rattle.pale_terms.specs.Scopes.{visible_names}
 use Rattle.pale_fitting.specs.Standing.{IsVariable, AreVariables}
 use Rattle.pale_types.specs.declared.sights.Heading.{Heading}
 use Rattle.pale_types.specs.Sights.{seen, first_result, first_local, first_logic, heading_sight, body_sight, vars_of, frame_of}
-use Rattle.pale_types.specs.Framing.{IsBody, IsFrame, AreOfATable, MayBeNamed}
+use Rattle.pale_types.specs.Framing.{IsHeading, IsBody, IsFrame, AreOfATable, MayBeNamed}
 
 -- ---- names
 
@@ -27,6 +28,54 @@ pub names-more : (may : Bool) (number : ℕ) (entries : List Entry) (vars : List
     visible_names (entries ++ seen may number vars) ≡ visible_names entries ++ var_names vars
 names-more may number entries vars =
     map-append name_in entries (seen may number vars) ∙ ap (λ names. visible_names entries ++ names) (names-seen may number vars)
+
+-- ---- parts that are shown one behind the other
+
+-- names that stand once may be shown
+pub show-distinct : (names : List (List ℕ)) (part vars : List VarEntry) (scope : List Entry) → visible_names scope ≡ names → vars ≡ part →
+    AreDistinct (names ++ var_names part) → AreDistinct (visible_names scope ++ var_names vars)
+show-distinct names part vars scope is same distinct =
+    subst (λ (ns : List (List ℕ)). AreDistinct (ns ++ var_names vars)) (sym is)
+    (subst (λ (vs : List VarEntry). AreDistinct (names ++ var_names vs)) (sym same) distinct)
+
+-- the names with those of the part that was shown
+pub names-next : (may : Bool) (number : ℕ) (names : List (List ℕ)) (part vars : List VarEntry) (scope after : List Entry) →
+    visible_names scope ≡ names → vars ≡ part → after ≡ scope ++ seen may number vars → visible_names after ≡ names ++ var_names part
+names-next may number names part vars scope after is same shown =
+    ap visible_names shown ∙ names-more may number scope vars
+    ∙ ap (λ (ns : List (List ℕ)). ns ++ var_names vars) is ∙ ap (λ (vs : List VarEntry). names ++ var_names vs) same
+
+-- the same of a table
+pub add-distinct : (names : List (List ℕ)) (part vars table : List VarEntry) → var_names table ≡ names → vars ≡ part →
+    AreDistinct (names ++ var_names part) → AreDistinct (var_names table ++ var_names vars)
+add-distinct names part vars table is same distinct =
+    subst (λ (ns : List (List ℕ)). AreDistinct (ns ++ var_names vars)) (sym is)
+    (subst (λ (vs : List VarEntry). AreDistinct (names ++ var_names vs)) (sym same) distinct)
+
+pub added-names : (names : List (List ℕ)) (part vars table after : List VarEntry) → var_names table ≡ names → vars ≡ part → after ≡ table ++ vars →
+    var_names after ≡ names ++ var_names part
+added-names names part vars table after is same added =
+    ap var_names added ∙ map-append (λ (v : VarEntry). v.name) table vars
+    ∙ ap (λ (ns : List (List ℕ)). ns ++ var_names vars) is ∙ ap (λ (vs : List VarEntry). names ++ var_names vs) same
+
+-- the first parts of the names of a heading
+module _ (h : Heading) (distinct : IsHeading h) where
+  pub heading-two : AreDistinct (var_names h.params ++ var_names h.results)
+  heading-two = distinct-first (var_names h.params ++ var_names h.results) (var_names h.logics) distinct
+
+  pub heading-one : AreDistinct (var_names h.params)
+  heading-one = distinct-first (var_names h.params) (var_names h.results) heading-two
+
+-- and of a body
+module _ (h : Heading) (locals : List VarEntry) (distinct : IsBody h locals) where
+  pub body-three : AreDistinct (var_names h.params ++ var_names h.results ++ var_names locals)
+  body-three = distinct-first (var_names h.params ++ var_names h.results ++ var_names locals) (var_names h.logics) distinct
+
+  pub body-two : AreDistinct (var_names h.params ++ var_names h.results)
+  body-two = distinct-first (var_names h.params ++ var_names h.results) (var_names locals) body-three
+
+  pub body-one : AreDistinct (var_names h.params)
+  body-one = distinct-first (var_names h.params) (var_names h.results) body-two
 
 -- ---- what is seen is there
 
