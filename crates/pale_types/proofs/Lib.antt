@@ -4,4 +4,5 @@ pub mod SightLemmas
 pub mod KeepLemmas
 pub mod StatementLemmas
 pub mod ProcedureLemmas
+pub mod ReadingLemmas
 pub mod ProgramLemmas

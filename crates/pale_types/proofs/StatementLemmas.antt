@@ -22,8 +22,13 @@ use Rattle.pale_types.specs.declared.typed.Stmt.TheVariants as stmt
 use Rattle.pale_types.specs.declared.basis.Basis.{Basis}
 use Rattle.pale_types.specs.declared.sights.Frame.{Frame}
 use Rattle.pale_types.specs.Stated.{stated}
+use Rattle.pale_types.specs.Framing.{AreOfATable, IsFrame}
 use Rattle.pale_types.specs.Statements.{types_of, parts_of, parts_fault, typing_rules, typed_statement, typed_block, block_rule, else_rule}
 use Rattle.pale_types.specs.Statements.{fault_rules, statement_fault, block_fault, typed_else, else_fault, else_of}
+
+-- what assertions of a frame name are variables of its table
+pub frame-variables : (frame : Frame) → IsFrame frame → AreOfATable frame.stated
+frame-variables frame is = record { vars = frame.vars; each = is.stated }
 
 module _ (basis : Basis) (frame : Frame) where
   pub fault_form : (s : Statement) (x : Statement-F Statement) → s ≡ roll-Statement x →
@@ -123,6 +128,7 @@ module _ (basis : Basis) (frame : Frame) where
 
 -- each form
 pub ruleset statement_forms = (
+  frame-variables,
   fault-Skip,
   typed-Skip,
   fault-If,
