@@ -93,8 +93,8 @@ typed-is ts ps qs basis procs is are =
 -- ---- faults of names, where the names are known under other words
 
 module _ (ts : List TypeDeclaration) (ps : List PredicateDeclaration) (qs : List Procedure) (tn pn qn : List Name)
-  (t : map (λ (x : TypeDeclaration). x.name) ts ≡ tn) (p : map (λ (x : PredicateDeclaration). x.name) ps ≡ pn)
-  (q : map (λ (x : Procedure). x.name) qs ≡ qn) where
+    (t : map (λ (x : TypeDeclaration). x.name) ts ≡ tn) (p : map (λ (x : PredicateDeclaration). x.name) ps ≡ pn)
+    (q : map (λ (x : Procedure). x.name) qs ≡ qn) where
   pub names-none : type_names_fault [] tn ≡ None → repeated_fault [] pn ≡ None → repeated_fault [] qn ≡ None → names_fault ts ps qs ≡ None
   unfolding names_fault
   names-none a b c = none-then _ _ (ap (type_names_fault []) t ∙ a) (none-then _ _ (ap (repeated_fault []) p ∙ b) (ap (repeated_fault []) q ∙ c))
@@ -118,7 +118,7 @@ module _ (ts : List TypeDeclaration) (ps : List PredicateDeclaration) (qs : List
 -- ---- faults of declarations, over a table and names that are known under other words
 
 module _ (ts : List TypeDeclaration) (ps : List PredicateDeclaration) (table : List TypeEntry) (names : TypeNames) (is : table ≡ type_table ts)
-  (are : names ≡ names_in ts) (fine : types_fault ts ≡ None) where
+    (are : names ≡ names_in ts) (fine : types_fault ts ≡ None) where
   start-is : nothing_with (type_table ts) (names_in ts) ≡ nothing_with table names
   start-is = ap (λ (x : List TypeEntry). nothing_with x (names_in ts)) (sym is) ∙ ap (λ (x : TypeNames). nothing_with table x) (sym are)
 

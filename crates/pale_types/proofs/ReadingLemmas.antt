@@ -32,7 +32,7 @@ module _ (basis : Basis) (p : Procedure) (none : heading_fault (types_of basis) 
   claims-stop e stop = stop-after _ _ e none (stop-then _ _ e (subst (λ (g : Heading). IsStop (claims_fault basis.declared g p) e) is stop))
 
   module _ (claimed : claims_fault basis.declared h p ≡ None) (before : List (List ℕ)) (ps : List Parameter) (named : before ≡ heading_names p)
-    (same : ps ≡ p.locals) where
+      (same : ps ≡ p.locals) where
     claims-fine : claims_fault basis.declared (heading_of (types_of basis) p) p ≡ None
     claims-fine = ap (λ (g : Heading). claims_fault basis.declared g p) (sym is) ∙ claimed
 
