@@ -6,8 +6,8 @@ use Rattle.pale_types.proofs.KeepLemmas.{allowed-variables, given-back}
 use Rattle.pale_types.proofs.calls.read_keep.Goals as goal
 
 -- what may not be named is still a variable of the table
-pub read_optional-requires-clause-variables : goal.read_optional-requires-clause-variables
-read_optional-requires-clause-variables c =
+pub read_optional-keep-requires-clause-variables : goal.read_optional-keep-requires-clause-variables
+read_optional-keep-requires-clause-variables c =
     let frame = c.args.frame.now in record {
       vars = frame.vars;
       each = subst (AreVariables frame.vars) (sym c.allow_touched.ensures)

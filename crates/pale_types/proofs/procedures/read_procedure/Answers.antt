@@ -9,8 +9,8 @@ use Rattle.pale_types.proofs.ProcedureLemmas.{heading-is}
 use Rattle.pale_types.proofs.ReadingLemmas.{claims-stop, locals-stop, body-named, frame-stands, body-stop, procedure-none, procedure-is}
 use Rattle.pale_types.proofs.procedures.read_procedure.Goals as goal
 
-pub read_claims-requires-clause-heading : goal.read_claims-requires-clause-heading
-read_claims-requires-clause-heading c =
+pub read_claims-claims-requires-clause-heading : goal.read_claims-claims-requires-clause-heading
+read_claims-claims-requires-clause-heading c =
     heading-is (types_of c.args.basis.now) c.args.procedure.now c.in_ok-heading.ensures.met c.in_ok-heading.heading c.in_ok-heading.ensures.heading
 
 pub returns-in_err-claims-clause-stop : goal.returns-in_err-claims-clause-stop
@@ -28,8 +28,8 @@ returns-in_err-locals-clause-stop c =
     c.in_ok-claims.ensures.met c.read_heading-heading.new.before c.as_slice.result.now c.in_ok-heading.ensures.names c.as_slice.ensures
     e c.in_err-locals.ensures.stop)
 
-pub frame_of-requires : goal.frame_of-requires
-frame_of-requires c =
+pub frame_of-frame-requires : goal.frame_of-frame-requires
+frame_of-frame-requires c =
     subst (IsBody c.in_ok-heading.heading) (sym c.as_slice-2.ensures)
     (body-named c.args.basis.now c.args.procedure.now c.in_ok-heading.ensures.met c.in_ok-heading.heading c.in_ok-heading.ensures.heading
     c.in_ok-claims.ensures.met c.read_heading-heading.new.before c.as_slice.result.now c.in_ok-heading.ensures.names c.as_slice.ensures
