@@ -1,5 +1,8 @@
 //! What is checked on arriving at each kind of cut.
 
+ghost use Rattle.std.specs.Prelude.{◌≡◌, IfOk};
+ghost use Rattle.hoare_split.specs.Cuts as cuts;
+
 use crate::caller::Caller;
 use crate::calls::{handed, on_all, on_part_and_rest, pre_of};
 use crate::picking::{Pick, picked};
@@ -10,7 +13,7 @@ use store_logic::{Assertion, VarList};
 
 /// At a `while`, a `split` or the exit: the assertion on all cells.
 pub(crate) fn plain_cut(alloc: Global, line: u32, assertion: &Assertion) -> Result<Cut, AllocError>
-    ensures { IfOk result (λ cut. cut ≡ plain_cut line assertion.now) }
+    ensures { IfOk result (λ cut. cut ≡ cuts.plain_cut line assertion.now) }
 {
     Ok(Cut {
         line,
@@ -27,7 +30,7 @@ pub(crate) fn call_cut(
     line: u32,
     call: &CallParts,
 ) -> Result<Cut, AllocError>
-    ensures { IfOk result (λ cut. cut ≡ call_cut caller.now.program.now.procs caller.now.vars.now line call.now) }
+    ensures { IfOk result (λ cut. cut ≡ cuts.call_cut caller.now.program.now.procs caller.now.vars.now line call.now) }
 {
     let part = handed(alloc, caller.vars, call.args.as_slice())?;
     let pre = pre_of(alloc, caller, call)?;

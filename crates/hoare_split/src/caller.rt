@@ -1,5 +1,8 @@
 //! What stands around the statements of a procedure.
 
+ghost use Rattle.std.specs.Prelude.{◌≡◌};
+ghost use Rattle.hoare_split.specs.Picking.{class_at, is_listed};
+
 use pale_calls::VarClass;
 use pale_types::{Typed, TypedProc};
 use store_core::{VarId, VarTable};

@@ -1,5 +1,9 @@
 //! What a call hands over and gets back.
 
+ghost use Rattle.std.specs.Prelude.{◌≡◌, IfOk};
+ghost use Rattle.hoare_split.specs.Picking.{class_at, is_data};
+ghost use Rattle.hoare_split.specs.Calls as calls;
+
 use crate::caller::{Caller, class_at};
 use crate::filling::fill;
 use crate::putting::{PutList, pair_actuals, pair_results};
@@ -18,7 +22,7 @@ fn is_data(vars: &VarTable, var: VarId) -> bool
 
 /// The data variables among the arguments, in their order.
 pub(crate) fn handed(alloc: Global, vars: &VarTable, args: &[Actual]) -> Result<VarList, AllocError>
-    ensures { IfOk result (λ found. found ≡ handed_by vars.now args.now) }
+    ensures { IfOk result (λ found. found ≡ calls.handed_by vars.now args.now) }
 {
     let mut found = VarList::new(alloc);
     for arg in args {
@@ -37,7 +41,7 @@ pub(crate) fn returned(
     vars: &VarTable,
     results: &[VarId],
 ) -> Result<VarList, AllocError>
-    ensures { IfOk result (λ found. found ≡ returned_by vars.now results.now) }
+    ensures { IfOk result (λ found. found ≡ calls.returned_by vars.now results.now) }
 {
     let mut found = VarList::new(alloc);
     for var in results {
@@ -54,7 +58,7 @@ pub(crate) fn pre_of(
     caller: &Caller<'_>,
     call: &CallParts,
 ) -> Result<Assertion, AllocError>
-    ensures { IfOk result (λ made. made ≡ pre_of caller.now.program.now.procs call.now) }
+    ensures { IfOk result (λ made. made ≡ calls.pre_of caller.now.program.now.procs call.now) }
 {
     let Some(callee) = caller.program.proc(call.callee) else {
         return Ok(Assertion::True);
@@ -71,20 +75,24 @@ pub(crate) fn post_of(
     caller: &Caller<'_>,
     call: &CallParts,
 ) -> Result<Assertion, AllocError>
-    ensures { IfOk result (λ made. made ≡ post_of caller.now.program.now.procs call.now) }
+    ensures { IfOk result (λ made. made ≡ calls.post_of caller.now.program.now.procs call.now) }
 {
     let Some(callee) = caller.program.proc(call.callee) else {
         return Ok(Assertion::True);
     };
     let mut puts = PutList::new(alloc);
-    pair_results(&mut puts, callee.results.as_slice(), call.results.as_slice())?;
+    pair_results(
+        &mut puts,
+        callee.results.as_slice(),
+        call.results.as_slice(),
+    )?;
     pair_actuals(&mut puts, callee.logics.as_slice(), call.logics.as_slice())?;
     fill(alloc, puts.as_slice(), &callee.post)
 }
 
 /// An assertion on all cells.
 pub(crate) fn on_all(alloc: Global, assertion: &Assertion) -> Result<ClaimList, AllocError>
-    ensures { IfOk result (λ claims. claims ≡ on_all assertion.now) }
+    ensures { IfOk result (λ claims. claims ≡ calls.on_all assertion.now) }
 {
     let mut claims = ClaimList::new(alloc);
     claims.push(Claim {
@@ -101,7 +109,7 @@ pub(crate) fn on_part_and_rest(
     inside: Assertion,
     outside: &Assertion,
 ) -> Result<ClaimList, AllocError>
-    ensures { IfOk result (λ claims. claims ≡ on_part_and_rest part.now inside outside.now) }
+    ensures { IfOk result (λ claims. claims ≡ calls.on_part_and_rest part.now inside outside.now) }
 {
     let mut claims = ClaimList::new(alloc);
     claims.push(Claim {

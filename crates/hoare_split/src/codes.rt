@@ -3,7 +3,7 @@
 use crate::arrivals::{call_cut, plain_cut};
 use crate::caller::Caller;
 use crate::picking::Pick;
-use crate::plain::{has_cut, push_item};
+use crate::plain::{is_cut, push_item};
 use crate::reached::{Point, Reached};
 use crate::rest::Rest;
 use crate::settings::set_picked;
@@ -22,15 +22,6 @@ enum Ending<'a> {
     At(&'a Stmt, Rest<'a>),
 }
 
-/// Whether the statement is a cut point or has one inside.
-fn ends_items(stmt: &Stmt) -> bool {
-    match stmt {
-        Stmt::Skip | Stmt::Do(_, _) => false,
-        Stmt::If(_, _, yes, no) => has_cut(yes.as_slice()) || has_cut(no.as_slice()),
-        Stmt::While(_, _, _, _) | Stmt::Split(_, _) | Stmt::Call(_, _) => true,
-    }
-}
-
 /// Puts the items up to the first cut or branch at the end of the list, and says where they end.
 fn push_items<'a>(
     alloc: Global,
@@ -46,7 +37,7 @@ fn push_items<'a>(
                 None => left = *after,
                 Some((stmt, more)) => {
                     left = Rest::Then(more, after);
-                    if ends_items(stmt) {
+                    if is_cut(stmt) {
                         return Ok(Ending::At(stmt, left));
                     }
                     push_item(alloc, stmt, items)?;
@@ -151,7 +142,13 @@ pub(crate) fn code_of(
     let tail = match push_items(alloc, rest, &mut items)? {
         Ending::Exit => {
             let line = caller.proc.last;
-            set_picked(alloc, caller.vars, Pick::Left(caller.proc), line, &mut items)?;
+            set_picked(
+                alloc,
+                caller.vars,
+                Pick::Left(caller.proc),
+                line,
+                &mut items,
+            )?;
             arrive(alloc, reached, Point::Exit, line, &caller.proc.post)?
         }
         Ending::Again(place, invariant) => {

@@ -1,5 +1,8 @@
 //! How many atoms and how many `new` stand in code, up to one more than are allowed.
 
+ghost use Rattle.std.specs.Prelude.{◌≡◌, ◌+◌, ◌≤◌, nat_min};
+ghost use Rattle.hoare_split.specs.Triples.{count_fault};
+
 use pale_text::{Pos, Refusal, RefusalKind};
 use std::cmp::min;
 use store_logic::{Act, Rhs};
@@ -38,10 +41,10 @@ impl Count {
 
     /// Both together.
     pub(crate) fn and(self, other: Count) -> Count
-        requires { IsBounded self × IsBounded other }
-        ensures bounded { IsBounded result }
-        ensures atoms { result.atoms ≡ min (self.atoms + other.atoms) 129 }
-        ensures news { result.news ≡ min (self.news + other.news) 65 }
+        requires own { (self.atoms ≤ 129) × (self.news ≤ 65) }
+        requires other { (other.atoms ≤ 129) × (other.news ≤ 65) }
+        ensures atoms { result.atoms ≡ nat_min (self.atoms + other.atoms) 129 }
+        ensures news { result.news ≡ nat_min (self.news + other.news) 65 }
     {
         Count {
             atoms: min(self.atoms + other.atoms, MOST_ATOMS + 1),

@@ -1,5 +1,8 @@
 //! Assertions of a procedure that is called, with the arguments of the call put in.
 
+ghost use Rattle.std.specs.Prelude.{◌≡◌, IfOk};
+ghost use Rattle.hoare_split.specs.Putting.{with_puts};
+
 use crate::putting::{Put, fill_args, fill_set, fill_term, fill_truth};
 use plain_data::{Boxed, Stack};
 use std::alloc::{AllocError, Global};

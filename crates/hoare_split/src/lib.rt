@@ -6,8 +6,8 @@
 #![tactic(auto)]
 
 mod arrivals;
-mod calls;
 mod caller;
+mod calls;
 mod codes;
 mod counts;
 mod filling;

@@ -1,5 +1,8 @@
 //! The counts of all codes of a procedure, by one pass from its end to its head. No code is built for them.
 
+ghost use Rattle.std.specs.Prelude.{◌≡◌};
+ghost use Rattle.hoare_split.specs.Triples.{procedure_fault};
+
 use crate::caller::Caller;
 use crate::counts::Count;
 use crate::picking::{Pick, picked_count};
@@ -86,7 +89,7 @@ fn measure(caller: &Caller<'_>, stmt: &Stmt, rest: Count, found: &mut Found) -> 
 
 /// The first fault of a procedure's triples.
 pub(crate) fn first_fault(caller: &Caller<'_>) -> Found
-    ensures { result ≡ procedure_fault caller.now.program.now.procs caller.now.vars.now caller.now.proc.now }
+    ensures { result ≡ procedure_fault caller.now.program.now.procs (record { vars = caller.now.vars.now; proc = caller.now.proc.now }) }
 {
     let mut found = None;
     let exit = Count::of_atoms(picked_count(caller.vars, Pick::Left(caller.proc)));

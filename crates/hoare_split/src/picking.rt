@@ -1,5 +1,8 @@
 //! Variables of a procedure, in order of its table.
 
+ghost use Rattle.std.specs.Prelude.{◌≡◌, length, IfOk};
+ghost use Rattle.hoare_split.specs.Picking.{is_argument, test_of, those};
+
 use crate::caller::{class_at, is_listed};
 use pale_calls::{Actual, VarClass};
 use pale_types::{CallParts, TypedProc};
@@ -67,11 +70,7 @@ impl Pick<'_> {
 }
 
 /// The variables of the table that are picked, in its order.
-pub(crate) fn picked(
-    alloc: Global,
-    vars: &VarTable,
-    pick: Pick<'_>,
-) -> Result<VarList, AllocError>
+pub(crate) fn picked(alloc: Global, vars: &VarTable, pick: Pick<'_>) -> Result<VarList, AllocError>
     ensures { IfOk result (λ found. found ≡ those (test_of pick.entry) vars.now) }
 {
     let mut found = VarList::new(alloc);

@@ -1,13 +1,18 @@
 //! Statements with no cut inside.
 
+ghost use Rattle.std.specs.Prelude.{◌≡◌, ◌++◌, List, is_none, IfSome, IfOk, OnOk};
+ghost use Rattle.store_core.specs.Tables.{VarEntry};
+ghost use Rattle.pale_types.specs.declared.typed.ProcEntry.{ProcEntry};
+ghost use Rattle.hoare_split.specs.Statements.{passage_of, block_of};
+
 use pale_types::Stmt;
 use std::alloc::{AllocError, Global};
 use store_exec::{Item, ItemList};
 
 /// Whether the statement is a cut point or has one inside.
 #[cycle(cuts)]
-fn is_cut(stmt: &Stmt) -> bool
-    ensures { IsTrue result ↔ IsTrue (has_cut stmt.now) }
+pub(crate) fn is_cut(stmt: &Stmt) -> bool
+    ensures { (procs : List ProcEntry) (vars : List VarEntry) → result ≡ is_none (passage_of procs vars stmt.now).items }
 {
     match stmt {
         Stmt::Skip | Stmt::Do(_, _) => false,
@@ -20,7 +25,7 @@ fn is_cut(stmt: &Stmt) -> bool
 /// 200 at most.
 #[cycle(cuts)]
 pub(crate) fn has_cut(block: &[Stmt]) -> bool
-    ensures { result ≡ any_cut block.now }
+    ensures { (procs : List ProcEntry) (vars : List VarEntry) → result ≡ is_none (block_of procs vars block.now).items }
 {
     for stmt in block {
         if is_cut(stmt) {
@@ -32,12 +37,9 @@ pub(crate) fn has_cut(block: &[Stmt]) -> bool
 
 /// Puts what a statement with no cut inside does at the end of the items. A cut point does nothing.
 #[cycle(items)]
-pub(crate) fn push_item(
-    alloc: Global,
-    stmt: &Stmt,
-    items: &mut ItemList,
-) -> Result<(), AllocError>
-    ensures { OnOk result (items.new ≡ items.old ++ items_of stmt.now) }
+pub(crate) fn push_item(alloc: Global, stmt: &Stmt, items: &mut ItemList) -> Result<(), AllocError>
+    ensures { OnOk result ((procs : List ProcEntry) (vars : List VarEntry) →
+        IfSome (passage_of procs vars stmt.now).items (λ own. items.new ≡ items.old ++ own)) }
 {
     match stmt {
         Stmt::Do(line, act) => items.push(Item::Do(*line, act.copy(alloc)?)),
@@ -54,7 +56,8 @@ pub(crate) fn push_item(
 /// What statements with no cut inside do, in order.
 #[cycle(items)]
 fn items_of(alloc: Global, block: &[Stmt]) -> Result<ItemList, AllocError>
-    ensures { IfOk result (λ items. items ≡ flat_map items_of block.now) }
+    ensures { IfOk result (λ items. (procs : List ProcEntry) (vars : List VarEntry) →
+        IfSome (block_of procs vars block.now).items (λ own. items ≡ own)) }
 {
     let mut items = ItemList::new(alloc);
     for stmt in block {

@@ -1,5 +1,8 @@
 //! The triples of a procedure, in order of its cut points in the text.
 
+ghost use Rattle.std.specs.Prelude.{◌≡◌, ◌++◌, map, OnOk};
+ghost use Rattle.hoare_split.specs.Triples.{starts_of, triple_of};
+
 use crate::caller::Caller;
 use crate::codes::{branch, code_of};
 use crate::reached::Reached;
@@ -48,7 +51,15 @@ fn loop_triple(
     let mut reached = Reached::new(alloc);
     let again = Rest::Again(place, invariant);
     let taken = Rest::Then(body.as_slice(), &again);
-    let tail = branch(alloc, caller, &mut reached, place.line, condition, taken, rest)?;
+    let tail = branch(
+        alloc,
+        caller,
+        &mut reached,
+        place.line,
+        condition,
+        taken,
+        rest,
+    )?;
     let items = ItemList::new(alloc);
     Ok(Triple {
         proc: caller.number,
@@ -115,7 +126,8 @@ pub(crate) fn split_procedure(
     triples: &mut TripleList,
 ) -> Result<(), AllocError>
     ensures { OnOk result (triples.new ≡ triples.old
-        ++ procedure_triples caller.now.program.now.procs caller.now.number caller.now.vars.now caller.now.proc.now) }
+        ++ map (triple_of caller.now.number)
+        (starts_of caller.now.program.now.procs (record { vars = caller.now.vars.now; proc = caller.now.proc.now }))) }
 {
     let body = caller.proc.body.as_slice();
     let start = entry_start(alloc, caller)?;

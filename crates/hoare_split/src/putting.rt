@@ -1,5 +1,10 @@
 //! What is put in for the variables of a procedure that is called.
 
+ghost use Rattle.std.specs.Prelude.{◌≡◌, ◌++◌, map, IfOk, OnOk};
+ghost use Rattle.store_logic.specs.Filling.{filled_term, filled_truth, filled_set, filled_arg};
+ghost use Rattle.pale_calls.specs.declared.actual.Actual.TheVariants as actual;
+ghost use Rattle.hoare_split.specs.Putting.{beside, actual_for, put_for};
+
 use pale_calls::Actual;
 use plain_data::Items;
 use std::alloc::{AllocError, Global};
@@ -40,7 +45,7 @@ pub(crate) fn pair_results(
     vars: &[VarId],
     results: &[VarId],
 ) -> Result<(), AllocError>
-    ensures { OnOk result (puts.new ≡ puts.old ++ beside vars.now (map actual.Var results.now)) }
+    ensures { OnOk result (puts.new ≡ puts.old ++ beside vars.now (map (λ v. actual.Var v) results.now)) }
 {
     for index in 0..vars.len() {
         if let Some(result) = results.get(index) {
@@ -92,16 +97,17 @@ pub(crate) fn fill_term(alloc: Global, puts: &[Put], term: &Term) -> Result<Term
         return Ok(Term::Null);
     };
     match fill_name(puts, *name) {
-        Filled::Name(name) => Ok(Term::At(
-            name,
-            FieldList::from_slice(alloc, fields.as_slice())?,
-        )),
+        Filled::Name(name) => Ok(Term::At(name, FieldList::from_slice(alloc, fields.as_slice())?)),
         Filled::Null | Filled::Truth(_) => Ok(Term::Null),
     }
 }
 
 fn constant(truth: bool) -> Assertion {
-    if truth { Assertion::True } else { Assertion::False }
+    if truth {
+        Assertion::True
+    } else {
+        Assertion::False
+    }
 }
 
 /// That a term is true: false where null is put in for its name, and a truth value itself.

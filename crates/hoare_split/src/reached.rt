@@ -1,5 +1,8 @@
 //! The cuts that a code reaches.
 
+ghost use Rattle.std.specs.Prelude.{◌≡◌};
+ghost use Rattle.hoare_split.specs.Flows.{is_point};
+
 use pale_text::Pos;
 use plain_data::Items;
 use std::alloc::{AllocError, Global};
@@ -42,9 +45,7 @@ impl Reached {
     }
 
     /// The place of a cut point among those that were reached, where it is there.
-    pub(crate) fn find(&self, point: Point) -> Option<u32>
-        ensures { result ≡ place_of point self.now.points }
-    {
+    pub(crate) fn find(&self, point: Point) -> Option<u32> {
         let mut place = 0;
         for reached in self.points.as_slice() {
             if reached.is(point) {
@@ -67,7 +68,10 @@ impl Reached {
 
     /// The cuts in order.
     pub(crate) fn into_cuts(self) -> CutList {
-        let Reached { points: _points, cuts } = self;
+        let Reached {
+            points: _points,
+            cuts,
+        } = self;
         cuts
     }
 }

@@ -1,5 +1,9 @@
 //! Settings to null or false before a cut.
 
+ghost use Rattle.std.specs.Prelude.{◌≡◌, ◌++◌, OnOk};
+ghost use Rattle.hoare_split.specs.Picking.{test_of};
+ghost use Rattle.hoare_split.specs.Settings.{setting, settings};
+
 use crate::caller::class_at;
 use crate::picking::{Pick, picked};
 use std::alloc::{AllocError, Global};

@@ -1,5 +1,9 @@
 //! The triples of a program.
 
+ghost use Rattle.std.specs.Prelude.{◌≡◌, None, IfOk, IfErr, OnOk};
+ghost use Rattle.pale_tables.specs.Faults.{IsStop};
+ghost use Rattle.hoare_split.specs.Triples.{split_fault, triples_of};
+
 use crate::caller::Caller;
 use crate::measuring::first_fault;
 use crate::points::{TripleList, split_procedure};

@@ -1,5 +1,8 @@
 //! What holds where each kind of triple starts.
 
+ghost use Rattle.std.specs.Prelude.{◌≡◌, IfOk};
+ghost use Rattle.hoare_split.specs.Starts as starts;
+
 use crate::caller::Caller;
 use crate::calls::{on_all, on_part_and_rest, post_of, returned};
 use crate::picking::{Pick, picked};
@@ -10,7 +13,7 @@ use store_logic::{Assertion, VarList};
 
 /// At a `while` or a `split`: the assertion on all cells.
 pub(crate) fn plain_start(alloc: Global, assertion: &Assertion) -> Result<Start, AllocError>
-    ensures { IfOk result (λ start. start ≡ plain_start assertion.now) }
+    ensures { IfOk result (λ start. start ≡ starts.plain_start assertion.now) }
 {
     Ok(Start {
         nulls: VarList::new(alloc),
@@ -22,7 +25,7 @@ pub(crate) fn plain_start(alloc: Global, assertion: &Assertion) -> Result<Start,
 
 /// At the entry: results and locals are null or false, and `pre` holds.
 pub(crate) fn entry_start(alloc: Global, caller: &Caller<'_>) -> Result<Start, AllocError>
-    ensures { IfOk result (λ start. start ≡ entry_start caller.now.vars.now caller.now.proc.now) }
+    ensures { IfOk result (λ start. start ≡ starts.entry_start caller.now.vars.now caller.now.proc.now) }
 {
     Ok(Start {
         nulls: picked(alloc, caller.vars, Pick::Fresh(caller.proc))?,
@@ -38,7 +41,7 @@ pub(crate) fn call_start(
     caller: &Caller<'_>,
     call: &CallParts,
 ) -> Result<Start, AllocError>
-    ensures { IfOk result (λ start. start ≡ call_start caller.now.program.now.procs caller.now.vars.now call.now) }
+    ensures { IfOk result (λ start. start ≡ starts.call_start caller.now.program.now.procs caller.now.vars.now call.now) }
 {
     let part = returned(alloc, caller.vars, call.results.as_slice())?;
     let post = post_of(alloc, caller, call)?;

@@ -63,7 +63,11 @@ fn say_triple(rt: &HostRuntime, program: &Typed, number: usize, triple: &Triple)
         name.push(*byte as char)?;
     }
     let (atoms, news) = (atoms_of(&triple.code), news_of(&triple.code));
-    println!(rt; "triple {number} {} line {} atoms {atoms} new {news}", name.as_str(), triple.line)?;
+    println!(rt;
+        "triple {number} {} line {} atoms {atoms} new {news}",
+        name.as_str(),
+        triple.line
+    )?;
     let start = &triple.start;
     if !start.nulls.is_empty() {
         line_of(rt, vars, "nulls", start.nulls.as_slice())?;
