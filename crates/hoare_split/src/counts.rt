@@ -1,6 +1,7 @@
 //! How many atoms and how many `new` stand in code, up to one more than are allowed.
 
-ghost use Rattle.std.specs.Prelude.{◌≡◌, ◌+◌, ◌≤◌, nat_min};
+ghost use Rattle.std.specs.Prelude.{◌≡◌, ◌+◌, ◌≤◌};
+ghost use Rattle.hoare_split.specs.Counts.{capped};
 ghost use Rattle.hoare_split.specs.Triples.{count_fault};
 
 use pale_text::{Pos, Refusal, RefusalKind};
@@ -43,8 +44,8 @@ impl Count {
     pub(crate) fn and(self, other: Count) -> Count
         requires own { (self.atoms ≤ 129) × (self.news ≤ 65) }
         requires other { (other.atoms ≤ 129) × (other.news ≤ 65) }
-        ensures atoms { result.atoms ≡ nat_min (self.atoms + other.atoms) 129 }
-        ensures news { result.news ≡ nat_min (self.news + other.news) 65 }
+        ensures atoms { result.atoms ≡ capped 129 (self.atoms + other.atoms) }
+        ensures news { result.news ≡ capped 65 (self.news + other.news) }
     {
         Count {
             atoms: min(self.atoms + other.atoms, MOST_ATOMS + 1),

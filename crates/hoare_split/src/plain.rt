@@ -1,6 +1,6 @@
 //! Statements with no cut inside.
 
-ghost use Rattle.std.specs.Prelude.{◌≡◌, ◌++◌, List, is_none, IfSome, IfOk, OnOk};
+ghost use Rattle.std.specs.Prelude.{◌≡◌, ◌++◌, List, not, is_some, IfSome, IfOk, OnOk};
 ghost use Rattle.store_core.specs.Tables.{VarEntry};
 ghost use Rattle.pale_types.specs.declared.typed.ProcEntry.{ProcEntry};
 ghost use Rattle.hoare_split.specs.Statements.{passage_of, block_of};
@@ -12,7 +12,7 @@ use store_exec::{Item, ItemList};
 /// Whether the statement is a cut point or has one inside.
 #[cycle(cuts)]
 pub(crate) fn is_cut(stmt: &Stmt) -> bool
-    ensures { (procs : List ProcEntry) (vars : List VarEntry) → result ≡ is_none (passage_of procs vars stmt.now).items }
+    ensures { (procs : List ProcEntry) (vars : List VarEntry) → result ≡ not (is_some (passage_of procs vars stmt.now).items) }
 {
     match stmt {
         Stmt::Skip | Stmt::Do(_, _) => false,
@@ -25,7 +25,7 @@ pub(crate) fn is_cut(stmt: &Stmt) -> bool
 /// 200 at most.
 #[cycle(cuts)]
 pub(crate) fn has_cut(block: &[Stmt]) -> bool
-    ensures { (procs : List ProcEntry) (vars : List VarEntry) → result ≡ is_none (block_of procs vars block.now).items }
+    ensures { (procs : List ProcEntry) (vars : List VarEntry) → result ≡ not (is_some (block_of procs vars block.now).items) }
 {
     for stmt in block {
         if is_cut(stmt) {

@@ -2,6 +2,7 @@
 #![tactic(auto)]
 
 mod counting;
+mod replay;
 
 use anyhow::Result;
 use counting::{atoms_of, news_of};
@@ -10,6 +11,7 @@ use pale_io::{StdSource, read_all};
 use pale_parse::parse;
 use pale_text::{TextStop, lex};
 use pale_types::{Typed, check_types};
+use replay::replay;
 use std::alloc::Global;
 use store_core::{VarId, VarTable};
 use store_exec::{Cut, Triple};
@@ -115,6 +117,34 @@ fn say(rt: &HostRuntime, text: &[u8]) -> Result<()> {
     }
 }
 
+/// A program up to a byte 2, the number of a triple as one byte, and a store.
+fn say_replay(rt: &HostRuntime, text: &[u8], at: usize) -> Result<()> {
+    let program = match typed(rt.alloc(), &text[..at]) {
+        Ok(program) => program,
+        Err(stop) => return say_stop(rt, stop),
+    };
+    let Some(number) = text.get(at + 1) else {
+        return Ok(());
+    };
+    replay(
+        rt,
+        &program,
+        (*number as usize).wrapping_sub(100),
+        &text[at + 2..],
+    )
+}
+
+fn say_any(rt: &HostRuntime, text: &[u8]) -> Result<()> {
+    let mut at = 0;
+    for byte in text {
+        if *byte == 2 {
+            return say_replay(rt, text, at);
+        }
+        at += 1;
+    }
+    say(rt, text)
+}
+
 fn main(rt: HostRuntime) -> Result<()> {
     let mut source = StdSource::new(rt.stdin());
     let Ok(text) = read_all(rt.alloc(), &mut source, 1_000_000_000) else {
@@ -124,7 +154,7 @@ fn main(rt: HostRuntime) -> Result<()> {
     let mut one = Vec::new(rt.alloc());
     for byte in text.as_slice() {
         if *byte == 1 {
-            say(&rt, one.as_slice())?;
+            say_any(&rt, one.as_slice())?;
             println!(rt; "----")?;
             one = Vec::new(rt.alloc());
         } else {
