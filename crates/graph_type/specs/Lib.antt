@@ -1,0 +1,6 @@
+pub mod Syms
+pub mod Live
+pub mod Fields
+pub mod Routes
+pub mod Cuts
+pub mod After
