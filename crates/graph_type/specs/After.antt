@@ -115,10 +115,13 @@ data_vars vars = count_by is_data_var vars
 
 -- ---- views
 
--- the region is a set of live cells, closed under data fields (its cells are those of `on`)
--- the view of a store whose assignment is on the layout's tracks: the events lead to the store `after`, whose variables have the
--- values that the symbols stand for
-pub record IsViewOf (types : List TypeEntry) (vars : List VarEntry) (syms : List Sym) (events : List Event) (a : Assignment)
-    (first : StoreMap) (after : Stood) : Type 0 where
-  pub events_lead : LeadTo types (data_vars vars) a events (record { store = first; at = first_standing types vars first }) after
-  pub values : (v : VarId) → IfSome (slice_get syms v.0) (λ u. IfSome (var_value after.store v) (StandsFor a after.at u))
+-- the store seen by the view from the tree of the first one: it has the cells to which the events lead, where they stand, and its
+-- variables hold what the symbols stand for
+pub record IsSeen (types : List TypeEntry) (vars : List VarEntry) (syms : List Sym) (events : List Event) (a : Assignment)
+    (first s : StoreMap) (at : Standing) : Type 0 where
+  pub ends : StoreMap
+  pub events_lead : LeadTo types (data_vars vars) a events (record { store = first; at = first_standing types vars first }) (record { store = ends; at = at })
+  pub cells : s.cells ≡ ends.cells
+  pub next : s.next ≡ ends.next
+  pub count : length s.vars ≡ length syms
+  pub values : (v : VarId) → IfSome (slice_get syms v.0) (λ u. IfSome (var_value s v) (StandsFor a at u))
