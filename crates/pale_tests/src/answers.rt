@@ -38,6 +38,126 @@ static TEXTS: &[(&str, &str, &str, u8)] = &[
         "satisfiable\nX = {root, root.0, root.0.0}\n",
         0,
     ),
+    // Closed texts.
+    ("", "ws2s; ex2 X: ~empty(X) & root notin X;", "valid\n", 0),
+    (
+        "",
+        "ws2s; ex1 p: p = root.0 & p = root.1;",
+        "unsatisfiable\n",
+        0,
+    ),
+    ("", "ws2s; var2 X; X = X;", "valid\n", 0),
+    ("", "ws2s; var2 X; ~(X sub X);", "unsatisfiable\n", 0),
+    ("", "ws2s; var1 p; p ~= p;", "unsatisfiable\n", 0),
+    // Each of its positions is the root or has a child in it, so it would never end.
+    (
+        "",
+        "ws2s; var2 X; root.0 in X; all1 p: p in X => p = root & root.1 in X | p.0 in X | p.1 in X;",
+        "unsatisfiable\n",
+        0,
+    ),
+    // Positions told by their children and parents.
+    (
+        "",
+        "ws2s; var1 p, q; q = p.1;",
+        "satisfiable\np = root\nq = root.1\n",
+        0,
+    ),
+    (
+        "",
+        "ws2s; var1 p; all1 q: ~(q.0 = p) & ~(q.1 = p);",
+        "satisfiable\np = root\n",
+        0,
+    ),
+    (
+        "",
+        "ws2s; var1 p; all1 q: ~(q.0 = p); p ~= root;",
+        "satisfiable\np = root.1\n",
+        0,
+    ),
+    (
+        "",
+        "ws2s; var1 a, b, c; b = a.0; c = b.1;",
+        "satisfiable\na = root\nb = root.0\nc = root.0.1\n",
+        0,
+    ),
+    // What stands below is in each set that has a position and with it its children; it is said by the parents.
+    (
+        "",
+        "ws2s; pred below(var1 a, var1 b) = all2 S: (b in S & all1 p: p.0 in S | p.1 in S => p in S) => a in S; \
+         var1 y; below(root.1, y); y ~= root.1; all1 q: y ~= q.0;",
+        "satisfiable\ny = root.1.1\n",
+        0,
+    ),
+    // Sets with the positions that they must have, and no others.
+    (
+        "",
+        "ws2s; var2 X; ex1 p: p.0 in X & p.1 in X;",
+        "satisfiable\nX = {root.0, root.1}\n",
+        0,
+    ),
+    (
+        "",
+        "ws2s; var2 X; all1 p: p in X => p.1 in X;",
+        "satisfiable\nX = {}\n",
+        0,
+    ),
+    (
+        "",
+        "ws2s; var2 X; root notin X; root.0 notin X; ~empty(X);",
+        "satisfiable\nX = {root.1}\n",
+        0,
+    ),
+    (
+        "",
+        "ws2s; var2 X; ~empty(X); all1 p: p in X => p = root.0.0 | p = root.0.1; root.0.1 notin X;",
+        "satisfiable\nX = {root.0.0}\n",
+        0,
+    ),
+    (
+        "",
+        "ws2s; var2 X; root in X => root.0 in X;",
+        "satisfiable\nX = {}\n",
+        0,
+    ),
+    // Several sets.
+    (
+        "",
+        "ws2s; var2 X, Y; all1 p: p in X <=> p.0 in Y; root in X;",
+        "satisfiable\nX = {root}\nY = {root.0}\n",
+        0,
+    ),
+    (
+        "",
+        "ws2s; var2 X, Y; X sub Y; Y sub X; root.1 in X;",
+        "satisfiable\nX = {root.1}\nY = {root.1}\n",
+        0,
+    ),
+    (
+        "",
+        "ws2s; var2 A, B; A = B; root.0 in B; empty(A) | root in A;",
+        "satisfiable\nA = {root, root.0}\nB = {root, root.0}\n",
+        0,
+    ),
+    (
+        "",
+        "ws2s; var2 X, Y, Z; root in X; root.0 in Y; root.1 in Z; X sub Z; Y sub Z;",
+        "satisfiable\nX = {root}\nY = {root.0}\nZ = {root, root.0, root.1}\n",
+        0,
+    ),
+    // Sets and positions.
+    (
+        "",
+        "ws2s; var1 p; var2 X; p in X; p.0 in X; p.1.0 in X;",
+        "satisfiable\np = root\nX = {root, root.0, root.1.0}\n",
+        0,
+    ),
+    (
+        "",
+        "ws2s; var1 p; var2 X; p notin X; all1 q: q ~= p => q notin X;",
+        "satisfiable\np = root\nX = {}\n",
+        0,
+    ),
     // At the very Peaks of the texts.
     (
         "--limit 58",

@@ -2,6 +2,8 @@
 #![tactic(auto)]
 
 #[cfg(test)]
+mod formulas;
+#[cfg(test)]
 mod found;
 #[cfg(test)]
 mod peaks;
