@@ -7,3 +7,11 @@ pub mod ProcedureLemmas
 pub mod ReadingLemmas
 pub mod HeadingLemmas
 pub mod ProgramLemmas
+mod FittingNamesLemmas
+mod FittingKeepLemmas
+mod FittingSightLemmas
+mod FittingCallsLemmas
+mod FittingCalleesLemmas
+mod FittingStatementsLemmas
+mod FittingProcedureLemmas
+mod FittingLemmas

@@ -7,6 +7,7 @@
 mod basis;
 mod calls;
 mod formals;
+mod laws;
 mod procedures;
 mod program;
 mod sights;
@@ -17,6 +18,7 @@ mod typed_program;
 mod variables;
 
 pub use basis::Basis;
+pub use laws::programs_without_fault_fit;
 pub use program::check_types;
 pub use sights::{Frame, Heading};
 pub use typed::{CallParts, ProcEntry, Stmt, StmtList, TypedProc};
