@@ -1,5 +1,5 @@
 -- Programs without a fault fit.
-use Rattle.std.proofs.Common.{◌≡◌, ◌≤◌, ℕ, List, [], ◌∷◌, ◌++◌, length, map, Option, None, is_none, refl, sym, ap, ◌∙◌, subst, arith, append_assoc, append-nil}
+use Rattle.std.proofs.Common.{◌≡◌, ◌≤◌, ℕ, List, [], ◌∷◌, ◌++◌, length, map, Option, None, Result, Ok, Err, IfOk, OnOk, is_none, refl, sym, ap, ◌∙◌, subst, arith, append_assoc, append-nil}
 use Rattle.std.specs.List.{AllByRecursion}
 use Rattle.std.proofs.lemmas.List.{length-map}
 use Rattle.pale_syntax.specs.declared.tree.names.Name.{Name}
@@ -16,6 +16,7 @@ use Rattle.pale_tables.proofs.KnownRoutes.{both, needed}
 use Rattle.pale_tables.proofs.TableLemmas.{names-once, table_is}
 use Rattle.pale_types.specs.declared.basis.Basis.{Basis}
 use Rattle.pale_types.specs.declared.typed.ProcEntry.{ProcEntry}
+use Rattle.pale_types.specs.TypedPrograms.{TypedProgram}
 use Rattle.pale_types.specs.Formals.{named_of}
 use Rattle.pale_types.specs.Statements.{types_of}
 use Rattle.pale_types.specs.Procedures.{typed_procedure, procedure_fault}
@@ -101,3 +102,9 @@ module _ (ts : List TypeDeclaration) (ps : List PredicateDeclaration) (qs : List
 
 pub program-fits : (program : Program) → program_fault program ≡ None → ProgramFits (typed_program program)
 program-fits program none = list-fits (types_in program) (predicates_in program) (procedures_in program) none
+
+-- what is answered where there is no fault
+pub typed-fits : {E : Type 0} (program : Program) (answer : Result TypedProgram E) → OnOk answer (program_fault program ≡ None) →
+    IfOk answer (λ typed. typed ≡ typed_program program) → IfOk answer ProgramFits
+typed-fits program (Ok typed) none is = subst ProgramFits (sym is) (program-fits program none)
+typed-fits program (Err e) none is = tt
