@@ -25,6 +25,7 @@ use Rattle.pale_types.specs.Programs.{types_in, predicates_in, procedures_in}
 use Rattle.pale_types.specs.Fitting.{ProcFits, ProgramFits}
 use Rattle.pale_types.proofs.ProgramLemmas.{declared-types, declared-fit, type-names-fine, procedure-names-fine}
 use Rattle.pale_types.proofs.FittingCallsLemmas.{none-is}
+use Rattle.pale_types.proofs.FittingRouteLemmas.{routes-fit}
 use Rattle.pale_types.proofs.FittingProcedureLemmas.{procedure-fits}
 
 -- ---- names
@@ -93,6 +94,7 @@ module _ (ts : List TypeDeclaration) (ps : List PredicateDeclaration) (qs : List
   list-fits = record {
     few_types = few;
     types = table_is ts (type-names-fine ts ps qs names-none) types-none;
+    routes = routes-fit ts types-none;
     names =
         subst AreDistinct (typed-names basis qs)
         (names-apart [] (map (λ (q : Procedure). q.name) qs) tt (procedure-names-fine ts ps qs names-none));

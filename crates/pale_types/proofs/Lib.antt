@@ -13,5 +13,6 @@ mod FittingSightLemmas
 mod FittingCallsLemmas
 mod FittingCalleesLemmas
 mod FittingStatementsLemmas
+mod FittingRouteLemmas
 mod FittingProcedureLemmas
 mod FittingLemmas

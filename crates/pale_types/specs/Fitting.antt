@@ -5,13 +5,15 @@ use Rattle.std.specs.Prelude.{Option, Some, option_map, IsSomeAnd, Contains, All
 use Rattle.std.specs.Option.{option_map_or}
 use Rattle.std.specs.List.{AllByRecursion, AllZip}
 use Rattle.store_core.specs.declared.ids.VarId.{VarId}
+use Rattle.store_core.specs.declared.kind.FieldKind.{FieldKind}
+use Rattle.store_core.specs.declared.kind.FieldKind.TheVariants as field
 use Rattle.store_core.specs.declared.kind.VarKind.{VarKind}
-use Rattle.store_core.specs.Tables.{TypeEntry, VarEntry, var_at, var_names, AreDistinct, IsTypeTable}
+use Rattle.store_core.specs.Tables.{TypeEntry, FieldEntry, VarEntry, var_at, var_names, AreDistinct, IsTypeTable}
 use Rattle.store_logic.specs.declared.term.Base.{Base}
 use Rattle.store_logic.specs.declared.term.Base.TheVariants as base
 use Rattle.store_logic.specs.declared.assertion.Assertion.{Assertion}
 use Rattle.store_logic.specs.Uses.{names_in}
-use Rattle.store_logic.specs.Fits.{AssertionFits, KnowsVars}
+use Rattle.store_logic.specs.Fits.{AssertionFits, RouteFits, KnowsVars}
 use Rattle.store_logic.specs.FitsCode.{CondFits, ActFits}
 use Rattle.pale_calls.specs.declared.class.VarClass.{VarClass}
 use Rattle.pale_calls.specs.declared.actual.Actual.{Actual}
@@ -128,9 +130,19 @@ pub record ProcFits (types : List TypeEntry) (procs : List ProcEntry) (e : ProcE
 
 -- ---- programs
 
--- at most 32 types, which are a table; procedures, each of a name of its own, which fit
+-- the route of a pointer field fits, as one of an assertion does
+abbrev pub KindFits : List TypeEntry → FieldKind → Type 0
+KindFits types field.Bool = Unit {0}
+KindFits types (field.Data target) = Unit {0}
+KindFits types (field.Pointer target along) = RouteFits types along
+
+abbrev pub FieldsFit : List TypeEntry → List FieldEntry → Type 0
+FieldsFit types = AllByRecursion (λ f. KindFits types f.kind)
+
+-- at most 32 types, which are a table, with routes that fit; procedures, each of a name of its own, which fit
 pub record ProgramFits (program : TypedProgram) : Type 0 where
   pub few_types : length program.types ≤ 32
   pub types : IsTypeTable program.types
+  pub routes : AllByRecursion (λ t. FieldsFit program.types t.fields) program.types
   pub names : AreDistinct (map (λ e. e.proc.name) program.procs)
   pub procs : AllByRecursion (ProcFits program.types program.procs) program.procs
