@@ -13,6 +13,7 @@ mod FittingSightLemmas
 mod FittingCallsLemmas
 mod FittingCalleesLemmas
 mod FittingStatementsLemmas
+mod FittingPutLemmas
 mod FittingRouteLemmas
 mod FittingProcedureLemmas
 mod FittingLemmas

@@ -18,7 +18,7 @@ mod typed_program;
 mod variables;
 
 pub use basis::Basis;
-pub use laws::programs_without_fault_fit;
+pub use laws::{claims_with_actuals_put_in_fit, programs_without_fault_fit};
 pub use program::check_types;
 pub use sights::{Frame, Heading};
 pub use typed::{CallParts, ProcEntry, Stmt, StmtList, TypedProc};
