@@ -1,13 +1,11 @@
 -- A call without a fault fits: its callee is there, and what it hands over fits the callee's variables.
-use Rattle.std.proofs.Common.{◌≡◌, ◌+◌, ◌&&◌, ◌==◌, ℕ, Bool, true, false, IsTrue, List, [], ◌∷◌, ◌++◌, length, map, flat_map, slice_get, if◌then◌else◌}
+use Rattle.std.proofs.Common.{◌≡◌, ◌+◌, ◌==◌, ℕ, true, false, IsTrue, List, [], ◌∷◌, ◌++◌, length, map, slice_get}
 use Rattle.std.proofs.Common.{Option, Some, None, is_some, IfSome, IsSomeAnd, unwrap_or, refl, sym, ap, ◌∙◌, subst, arith}
-use Rattle.std.specs.List.{AllByRecursion, AllZip}
+use Rattle.std.specs.List.{AllZip}
 use Rattle.std.specs.Option.{option_map, option_map_or, option_and_then}
 use Rattle.std.proofs.lemmas.Option.{slice_get-map}
 use Rattle.std.proofs.lemmas.List.{length-map}
 use Rattle.pale_text.specs.declared.refusal.RefusalKind.TheVariants as refused
-use Rattle.pale_syntax.specs.declared.tree.assertion.Bracketed.{Bracketed}
-use Rattle.pale_syntax.specs.declared.tree.names.Name.{Name}
 use Rattle.pale_syntax.specs.declared.tree.statement.Call.{Call}
 use Rattle.pale_syntax.specs.declared.tree.declaration.Parameter.{Parameter}
 use Rattle.pale_syntax.specs.declared.tree.declaration.Parameter.TheVariants as parameter
@@ -17,12 +15,11 @@ use Rattle.pale_syntax.specs.declared.tree.declaration.Procedure.{Procedure}
 use Rattle.store_core.specs.declared.ids.TypeId.{TypeId}
 use Rattle.store_core.specs.declared.ids.VarId.{VarId}
 use Rattle.store_core.specs.declared.kind.VarKind.{VarKind}
-use Rattle.store_core.specs.Tables.{TypeEntry, VarEntry, type_named, AreDistinct}
-use Rattle.pale_tables.specs.Faults.{Fault, need}
+use Rattle.store_core.specs.Tables.{TypeEntry, VarEntry, type_named}
+use Rattle.pale_tables.specs.Faults.{need}
 use Rattle.pale_tables.proofs.KnownRoutes.{both, needed}
 use Rattle.pale_fitting.proofs.TermFitLemmas.{and-parts}
 use Rattle.pale_predicates.specs.Parameters.{type_of}
-use Rattle.pale_calls.specs.declared.signature.Formal.{Formal}
 use Rattle.pale_calls.specs.declared.signature.Signature.{Signature}
 use Rattle.pale_calls.specs.declared.actual.Actual.{Actual}
 use Rattle.pale_calls.specs.declared.actual.Actual.TheVariants as actual
@@ -31,15 +28,13 @@ use Rattle.pale_calls.specs.Signatures.{Named, number_of}
 use Rattle.pale_calls.specs.Calls as calls
 use Rattle.pale_calls.specs.Calls.{callee_named, call_fault, results_fault, handed_fault, arguments_fault, has_counts, actual_of}
 use Rattle.pale_types.specs.declared.basis.Basis.{Basis}
-use Rattle.pale_types.specs.declared.sights.Heading.{Heading}
-use Rattle.pale_types.specs.declared.sights.Frame.{Frame}
 use Rattle.pale_types.specs.declared.typed.ProcEntry.{ProcEntry}
 use Rattle.pale_types.specs.Variables as variables
 use Rattle.pale_types.specs.Formals.{formal_of, logic_formal_of, signature_of, named_of}
-use Rattle.pale_types.specs.Sights.{numbers, first_result, first_local, first_logic, vars_of}
+use Rattle.pale_types.specs.Sights.{numbers, first_result, first_logic, vars_of}
 use Rattle.pale_types.specs.Statements.{types_of}
 use Rattle.pale_types.specs.Procedures.{heading_of, locals_of, typed_procedure}
-use Rattle.pale_types.specs.Fitting.{kind_at, IsOfClass, IsLike, ActualFits}
+use Rattle.pale_types.specs.Fitting.{kind_at, IsLike, ActualFits}
 use Rattle.pale_types.proofs.FittingSightLemmas.{middle-at, further, one-more, first-part, last-part, last-number}
 use Rattle.pale_types.proofs.FittingCallsLemmas.{Declares, IsActualOf, IsOfKind}
 

@@ -1,6 +1,8 @@
 -- Calls without a fault: each result and argument is of the class and type of the callee's, and none is there twice.
-use Rattle.std.proofs.Common.{◌≡◌, ◌≢◌, ◌<◌, ◌+◌, ◌==◌, ◌&&◌, ℕ, zero, suc, Bool, true, false, cond, IsTrue, List, [], ◌∷◌, ◌++◌, length, map, flat_map, slice_get}
-use Rattle.std.proofs.Common.{Option, Some, None, is_some, is_none, IfSome, IsSomeAnd, unwrap_or, position, refl, sym, ap, ◌∙◌, subst, arith, append_assoc}
+use Rattle.std.proofs.Common.{◌≡◌, ◌≢◌, ◌+◌, ◌==◌, ℕ, suc, Bool, true, false, cond, IsTrue, List, [], ◌∷◌, ◌++◌, length}
+use Rattle.std.proofs.Common.{map, slice_get}
+use Rattle.std.proofs.Common.{Option, Some, None, is_some, is_none, IfSome, IsSomeAnd, unwrap_or, refl, sym, ap, ◌∙◌, subst}
+use Rattle.std.proofs.Common.{arith, append_assoc}
 use Rattle.std.proofs.Common.{if◌then◌else◌, length-append}
 use Rattle.std.specs.List.{AllByRecursion, AllZip, AllPairs}
 use Rattle.std.specs.Option.{option_map, option_map_or, option_and_then}
@@ -10,8 +12,6 @@ use Rattle.std.proofs.lemmas.List.Elements.{All-from_recursion}
 use Rattle.std.proofs.lemmas.List.Kept.{AllPairs-cons}
 use Rattle.std.proofs.lemmas.Option.{slice_get-map}
 use Rattle.std.proofs.lemmas.Slice.Eq.{bytes_eq-Decides}
-use Rattle.pale_text.specs.declared.place.Pos.{Pos}
-use Rattle.pale_text.specs.declared.refusal.RefusalKind.TheVariants as refused
 use Rattle.pale_syntax.specs.declared.tree.names.Name.{Name}
 use Rattle.pale_syntax.specs.declared.tree.statement.Argument.{Argument}
 use Rattle.pale_syntax.specs.declared.tree.statement.Argument.TheVariants as argument
@@ -19,14 +19,11 @@ use Rattle.store_core.specs.declared.ids.TypeId.{TypeId}
 use Rattle.store_core.specs.declared.ids.VarId.{VarId}
 use Rattle.store_core.specs.declared.kind.VarKind.{VarKind}
 use Rattle.store_core.specs.declared.kind.VarKind.TheVariants as var
-use Rattle.store_core.specs.Tables.{VarEntry, var_at, var_named, var_names, place_of}
+use Rattle.store_core.specs.Tables.{VarEntry, var_at, var_names, place_of}
 use Rattle.store_core.proofs.Names.{position-cons, position_none-cons, position_none-from}
-use Rattle.pale_tables.specs.Faults.{Fault, need}
-use Rattle.pale_tables.specs.Names.{is_new, with_name}
+use Rattle.pale_tables.specs.Names.{is_new}
 use Rattle.pale_tables.proofs.KnownRoutes.{both, needed}
 use Rattle.pale_fitting.proofs.TermFitLemmas.{same-type}
-use Rattle.pale_calls.specs.declared.class.VarClass.{VarClass}
-use Rattle.pale_calls.specs.declared.class.VarClass.TheVariants as class
 use Rattle.pale_calls.specs.declared.signature.Formal.{Formal}
 use Rattle.pale_calls.specs.declared.signature.Signature.{Signature}
 use Rattle.pale_calls.specs.declared.actual.Actual.{Actual}
@@ -44,8 +41,8 @@ placed-at (first ∷ names) name i found at there =
     by (λ j placed at_j. placed-at names name j found placed at_j) (bytes_eq name first) refl (place_of name names) refl
     (sym (position-cons (bytes_eq name) first names) ∙ at) there
   where
-    by : ((j : ℕ) → place_of name names ≡ Some j → slice_get names j ≡ Some found → name ≡ found) → (b : Bool) → bytes_eq name first ≡ b → (o : Option ℕ) → place_of name names ≡ o → cond b (Some 0) (option_map suc o) ≡ Some i →
-        slice_get (first ∷ names) i ≡ Some found → name ≡ found
+    by : ((j : ℕ) → place_of name names ≡ Some j → slice_get names j ≡ Some found → name ≡ found) → (b : Bool) → bytes_eq name first ≡ b →
+        (o : Option ℕ) → place_of name names ≡ o → cond b (Some 0) (option_map suc o) ≡ Some i → slice_get (first ∷ names) i ≡ Some found → name ≡ found
     by rest true is o placed e at_i =
         let same : 0 ≡ i = cc in
         let here : Some first ≡ Some found = ap (slice_get (first ∷ names)) same ∙ at_i in
@@ -101,7 +98,9 @@ stands vars x none = by (place_of x.bytes (var_names vars)) refl (needed _ _ _ n
       entry = e;
       at = ap (λ o. var_at vars (unwrap_or (numbered o) (record { 0 = 0 }))) placed ∙ at;
       kind = ap (λ o. unwrap_or (kind_in vars o) var.Bool) placed ∙ ap (λ o. unwrap_or (option_map (λ (d : VarEntry). d.kind) o) var.Bool) at;
-      name = placed-at (var_names vars) x.bytes i e.name placed (slice_get-map (λ (d : VarEntry). d.name) vars i ∙ ap (option_map (λ (d : VarEntry). d.name)) at);
+      name =
+          placed-at (var_names vars) x.bytes i e.name placed
+          (slice_get-map (λ (d : VarEntry). d.name) vars i ∙ ap (option_map (λ (d : VarEntry). d.name)) at);
     }
 
     by : (o : Option ℕ) → place_of x.bytes (var_names vars) ≡ o → is_some (kind_in vars o) ≡ true → Stands vars x
@@ -312,7 +311,6 @@ module _ (vars : List VarEntry) where
   formal-at : (front formals : List Formal) (formal : Formal) → slice_get (front ++ formal ∷ formals) (length front) ≡ Some formal
   formal-at [] formals formal = refl
   formal-at (f ∷ front) formals formal = formal-at front formals formal
-
 
   push-apart : (before : List (List ℕ)) (x : Name) → Stands vars x → (vs : List VarId) → AllByRecursion (IsNewTo (before ++ x.bytes ∷ [])) vs →
       AllByRecursion (λ v. calls.variable_of vars x ≢ v) vs

@@ -1,5 +1,5 @@
 -- A `keep` names what its call doesn't touch.
-use Rattle.std.proofs.Common.{◌≡◌, ◌≢◌, ℕ, Bool, true, false, cond, List, [], ◌∷◌, ◌++◌, map, flat_map, slice_get, position}
+use Rattle.std.proofs.Common.{◌≡◌, ◌≢◌, ℕ, Bool, true, false, cond, List, [], ◌∷◌, ◌++◌, map, flat_map, slice_get}
 use Rattle.std.proofs.Common.{Option, Some, None, is_none, IsSomeAnd, refl, sym, ap, ◌∙◌, subst, if◌then◌else◌}
 use Rattle.std.specs.List.{AllByRecursion, Contains}
 use Rattle.std.specs.Option.{option_map_or}
@@ -157,9 +157,10 @@ module _ (vars : List VarEntry) where
             AllByRecursion (λ u. u ≢ v) ((if option_map_or (λ k. holds_cell (class_of k)) (kind_at vars (calls.variable_of vars x)) false
             then calls.variable_of vars x ∷ [] else []) ++ more)
         by true is left =
-            subst (λ (c : Bool). AllByRecursion (λ u. u ≢ v) ((if c then calls.variable_of vars x ∷ [] else []) ++ more)) (sym (same ∙ is))
-            (λ equal. named-apart vars x v e s at (differs e.name x.bytes (none-first e.name (x.bytes ∷ []) names left)) (sym equal),
-            rest (none-second e.name (x.bytes ∷ []) names left))
+            subst (λ (c : Bool). AllByRecursion (λ u. u ≢ v) ((if c then calls.variable_of vars x ∷ [] else []) ++ more)) (sym (same ∙ is)) (
+              λ equal. named-apart vars x v e s at (differs e.name x.bytes (none-first e.name (x.bytes ∷ []) names left)) (sym equal),
+              rest (none-second e.name (x.bytes ∷ []) names left),
+            )
         by false is left =
             subst (λ (c : Bool). AllByRecursion (λ u. u ≢ v) ((if c then calls.variable_of vars x ∷ [] else []) ++ more)) (sym (same ∙ is))
             (rest left)
@@ -197,9 +198,11 @@ module _ (vars : List VarEntry) where
             no_result = λ among.
                 All-contains (λ u. u ≢ v) result_list v
                 (All-from_recursion (λ u. u ≢ v) result_list
-                (results-apart v e at results stand (none-first e.name (map (λ (x : Name). x.bytes) results) (flat_map (cell_name vars) arguments) none))) among refl;
+                (results-apart v e at results stand
+                (none-first e.name (map (λ (x : Name). x.bytes) results) (flat_map (cell_name vars) arguments) none))) among refl;
             no_cell = λ among.
                 All-contains (λ u. u ≢ v) cell_list v
                 (All-from_recursion (λ u. u ≢ v) cell_list
-                (cells-apart v e at arguments handed (none-second e.name (map (λ (x : Name). x.bytes) results) (flat_map (cell_name vars) arguments) none))) among refl;
+                (cells-apart v e at arguments handed
+                (none-second e.name (map (λ (x : Name). x.bytes) results) (flat_map (cell_name vars) arguments) none))) among refl;
           }

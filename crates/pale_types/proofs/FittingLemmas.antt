@@ -1,5 +1,6 @@
 -- Programs without a fault fit.
-use Rattle.std.proofs.Common.{◌≡◌, ◌≤◌, ℕ, List, [], ◌∷◌, ◌++◌, length, map, Option, None, Result, Ok, Err, IfOk, OnOk, is_none, refl, sym, ap, ◌∙◌, subst, arith, append_assoc, append-nil}
+use Rattle.std.proofs.Common.{◌≡◌, ◌≤◌, ℕ, List, [], ◌∷◌, ◌++◌, length, map, None, Result, Ok, Err, IfOk, OnOk, refl, sym}
+use Rattle.std.proofs.Common.{ap, ◌∙◌, subst, arith, append_assoc, append-nil}
 use Rattle.std.specs.List.{AllByRecursion}
 use Rattle.std.proofs.lemmas.List.{length-map}
 use Rattle.pale_syntax.specs.declared.tree.names.Name.{Name}
@@ -86,8 +87,13 @@ module _ (ts : List TypeDeclaration) (ps : List PredicateDeclaration) (qs : List
   unfolding type_table
   few =
       let once = names-once [] (map (λ (t : TypeDeclaration). t.name) ts) (tt, omega arith) (type-names-fine ts ps qs names-none) in
-      omega (arith, once.1, length-map (map (λ (t : TypeDeclaration). t.name) ts) (λ (n : Name). n.bytes), length-map ts (λ (t : TypeDeclaration). t.name),
-      length-map ts (type_entry (names_in ts)))
+      omega (
+        arith,
+        once.1,
+        length-map (map (λ (t : TypeDeclaration). t.name) ts) (λ (n : Name). n.bytes),
+        length-map ts (λ (t : TypeDeclaration). t.name),
+        length-map ts (type_entry (names_in ts)),
+      )
 
   pub list-fits : ProgramFits (typed_list ts ps qs)
   unfolding typed_list

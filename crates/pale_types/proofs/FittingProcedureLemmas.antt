@@ -1,7 +1,8 @@
 -- Procedures without a fault fit.
-use Rattle.std.proofs.Common.{◌≡◌, ◌≤◌, ◌<◌, ◌+◌, ℕ, true, false, not, IsTrue, nat_lt, List, [], ◌∷◌, ◌++◌, length, map, Option, Some, None, IsSome, is_some, unwrap_or}
+use Rattle.std.proofs.Common.{◌≡◌, ◌≤◌, ◌<◌, ℕ, true, false, not, IsTrue, nat_lt, List, [], ◌∷◌, ◌++◌, length, map, Option, Some, None}
+use Rattle.std.proofs.Common.{IsSome, is_some, unwrap_or}
 use Rattle.std.proofs.Common.{refl, sym, ap, ◌∙◌, subst, arith, append_assoc, append-nil, length-append}
-use Rattle.std.specs.List.{AllByRecursion, Contains}
+use Rattle.std.specs.List.{AllByRecursion}
 use Rattle.std.specs.Option.{option_map}
 use Rattle.std.proofs.lemmas.List.{length-map, length_push, map-append}
 use Rattle.pale_syntax.specs.declared.tree.names.Name.{Name}
@@ -11,7 +12,7 @@ use Rattle.pale_syntax.specs.declared.tree.declaration.LogicParameter.{LogicPara
 use Rattle.pale_syntax.specs.declared.tree.declaration.LogicParameter.TheVariants as logic
 use Rattle.pale_syntax.specs.declared.tree.declaration.Procedure.{Procedure}
 use Rattle.store_core.specs.declared.ids.TypeId.{TypeId}
-use Rattle.store_core.specs.Tables.{TypeEntry, VarEntry, KnowsType, KnowsVarKind, AreDistinct, type_named, type_names, var_names, place_of}
+use Rattle.store_core.specs.Tables.{TypeEntry, VarEntry, KnowsType, KnowsVarKind, AreDistinct, type_names, var_names, place_of}
 use Rattle.store_logic.specs.Fits.{KnowsVars}
 use Rattle.store_logic.specs.FitsCode.{code_sort}
 use Rattle.store_logic.proofs.ExpandingLists.{all-append}
@@ -22,20 +23,21 @@ use Rattle.pale_calls.specs.Classes.{class_of, is_logic}
 use Rattle.pale_types.specs.declared.basis.Basis.{Basis}
 use Rattle.pale_types.specs.declared.sights.Heading.{Heading}
 use Rattle.pale_types.specs.declared.sights.Frame.{Frame}
-use Rattle.pale_types.specs.declared.typed.ProcEntry.{ProcEntry}
 use Rattle.pale_types.specs.Variables.{name_of, kind_of, variable_of, logic_name_of, logic_kind_of, logic_of, name_fault, variable_fault, kind_fault}
 use Rattle.pale_types.specs.Variables.{logic_fault, logic_kind_fault, variables_fault, logics_fault, with_names, with_logic_names}
 use Rattle.pale_types.specs.Formals.{named_of}
-use Rattle.pale_types.specs.Sights.{first_logic, pre_sight, post_sight, vars_of, frame_of}
+use Rattle.pale_types.specs.Sights.{pre_sight, post_sight, vars_of}
 use Rattle.pale_types.specs.Framing.{IsBody, IsFrame}
 use Rattle.pale_types.specs.Stated.{stated_fault}
 use Rattle.pale_types.specs.Statements.{types_of, block_fault}
-use Rattle.pale_types.specs.Procedures.{heading_of, locals_of, frame_in, result_names, heading_names, heading_fault, claims_fault, typed_procedure, procedure_fault}
-use Rattle.pale_types.specs.Fitting.{ProcFits, IsProgramVariable, IsLogicVariable}
+use Rattle.pale_types.specs.Procedures.{heading_of, locals_of, frame_in, result_names, heading_names, heading_fault, claims_fault}
+use Rattle.pale_types.specs.Procedures.{typed_procedure, procedure_fault}
+use Rattle.pale_types.specs.Fitting.{ProcFits}
 use Rattle.pale_types.proofs.SightLemmas.{seen-outside}
 use Rattle.pale_types.proofs.ProcedureLemmas.{body-is, frame-in}
 use Rattle.pale_types.proofs.FittingStatementsLemmas.{Stands, optional-fits, block-fits}
-use Rattle.pale_types.proofs.FittingSightLemmas.{in_pre, in_post, pre-open, post-open, body-named, body-code, in-order, three-numbered, last-numbered, pre-contains, post-contains}
+use Rattle.pale_types.proofs.FittingSightLemmas.{in_pre, in_post, pre-open, post-open, body-named, body-code, in-order, three-numbered}
+use Rattle.pale_types.proofs.FittingSightLemmas.{last-numbered, pre-contains, post-contains}
 
 abbrev numbered : ℕ → TypeId
 numbered i = record { 0 = i }

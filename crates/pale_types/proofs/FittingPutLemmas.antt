@@ -1,5 +1,6 @@
 -- An assertion with something put in for the variables that it names fits the other table.
-use Rattle.std.proofs.Common.{◌≡◌, ℕ, zero, suc, ◌+◌, ◌==◌, Bool, true, false, List, [], ◌∷◌, ◌++◌, length, slice_get, Option, Some, None, IfSome, IsSomeAnd}
+use Rattle.std.proofs.Common.{◌≡◌, ℕ, suc, ◌==◌, Bool, true, false, List, [], ◌∷◌, ◌++◌, length, Option, Some, None}
+use Rattle.std.proofs.Common.{IfSome}
 use Rattle.std.proofs.Common.{if◌then◌else◌, refl, sym, ap, ◌∙◌, subst}
 use Rattle.std.specs.List.{AllByRecursion, Contains}
 use Rattle.std.specs.Option.{option_map, option_and_then}
@@ -16,21 +17,23 @@ use Rattle.store_logic.specs.declared.term.Base.TheVariants as base
 use Rattle.store_logic.specs.declared.term.Term.{Term}
 use Rattle.store_logic.specs.declared.term.Term.TheVariants as term
 use Rattle.store_logic.specs.declared.assertion.Assertion.{Assertion}
-use Rattle.store_logic.specs.declared.assertion.Assertion.TheVariants as assertion
 use Rattle.store_logic.specs.Sorts.{Sort, Truth, Cell, Set, Scope, scope_of, var_sort, field_sort, sort_along, base_sort, BaseFits, TermFits}
 use Rattle.store_logic.specs.Fits.{FitsIn, AssertionFits}
 use Rattle.store_logic.specs.Uses.{NameUse, term_names, set_name}
-use Rattle.store_logic.specs.Filling.{Filling, of_term, of_truth, kept, shifted_base, shifted_term, shifted, put_under, path_from, filled_term, is_true, constant}
+use Rattle.store_logic.specs.Filling.{Filling, of_term, of_truth, shifted_base, shifted_term, shifted, path_from}
+use Rattle.store_logic.specs.Filling.{filled_term, is_true, constant}
 use Rattle.store_logic.specs.Filling.{truth_from, filled_truth, name_in, filled_set, filled}
 use Rattle.store_logic.proofs.AssertionLemmas.{assertion-induction}
-use Rattle.store_logic.proofs.ExpandingForms.{filled-True, filled-False, filled-Truth, filled-Is, filled-Same, filled-Member, filled-Subset, filled-Walk}
-use Rattle.store_logic.proofs.ExpandingForms.{filled-Not, filled-And, filled-Or, filled-Imp, filled-Iff, filled-Ex, filled-All, filled-ExSet, filled-AllSet}
+use Rattle.store_logic.proofs.ExpandingForms.{filled-True, filled-False, filled-Truth, filled-Is, filled-Same, filled-Member, filled-Subset}
+use Rattle.store_logic.proofs.ExpandingForms.{filled-Walk}
+use Rattle.store_logic.proofs.ExpandingForms.{filled-Not, filled-And, filled-Or, filled-Imp, filled-Iff, filled-Ex, filled-All}
+use Rattle.store_logic.proofs.ExpandingForms.{filled-ExSet, filled-AllSet}
 use Rattle.store_logic.proofs.ExpandingForms.{names_at, names-Truth, names-Is, names-Same, names-Member, names-Subset}
 use Rattle.store_logic.proofs.ExpandingForms.{names-Walk, names-Not, names-And, names-Or, names-Imp, names-Iff, names-Ex, names-All}
 use Rattle.store_logic.proofs.ExpandingForms.{names-ExSet, names-AllSet}
 use Rattle.pale_fitting.proofs.FitForms.{Fits-True, Fits-False, Fits-Truth, Fits-Is, Fits-Same, Fits-Member, Fits-Subset, Fits-Walk, Fits-Pred}
 use Rattle.pale_fitting.proofs.FitForms.{Fits-Not, Fits-And, Fits-Or, Fits-Imp, Fits-Iff, Fits-Ex, Fits-All, Fits-ExSet, Fits-AllSet}
-use Rattle.pale_fitting.proofs.ExpansionLemmas.{Leads, leads-of, leads-fits}
+use Rattle.pale_fitting.proofs.ExpansionLemmas.{leads-of, leads-fits}
 use Rattle.pale_types.specs.Fitting.{NameMayBe, StatedFits, FillingFits}
 
 -- ---- lists
@@ -276,7 +279,8 @@ pub puts-fit : (types : List TypeEntry) (theirs vars : List VarEntry) (among : L
     StatedFits types theirs (Contains among) a →
     ((v : VarId) → Contains among v → IfSome (var_at theirs v) (λ entry. FillingFits types vars (put (base.Var v)) (var_sort entry.kind))) →
     AssertionFits types vars (filled put a 0)
-puts-fit types theirs vars among put a stated fills = put-fits types theirs vars put (Contains among) (λ v s is at. by v s at (var_at theirs v) refl (fills v is)) a stated
+puts-fit types theirs vars among put a stated fills =
+    put-fits types theirs vars put (Contains among) (λ v s is at. by v s at (var_at theirs v) refl (fills v is)) a stated
   where
     by : (v : VarId) (s : Sort) → option_map (λ (e : VarEntry). var_sort e.kind) (var_at theirs v) ≡ Some s → (o : Option VarEntry) → var_at theirs v ≡ o →
         IfSome o (λ entry. FillingFits types vars (put (base.Var v)) (var_sort entry.kind)) → FillingFits types vars (put (base.Var v)) s

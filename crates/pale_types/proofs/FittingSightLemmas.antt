@@ -1,5 +1,6 @@
 -- The variables of a table by number, and which of them places may name.
-use Rattle.std.proofs.Common.{◌≡◌, ◌<◌, ◌≤◌, ◌+◌, ◌-◌, ◌⊎◌, inl, inr, ℕ, zero, suc, Bool, true, false, not, ◌&&◌, ◌||◌, nat_lt, List, [], ◌∷◌, ◌++◌, length, slice_get, get_or}
+use Rattle.std.proofs.Common.{◌≡◌, ◌<◌, ◌≤◌, ◌+◌, ◌-◌, ◌⊎◌, inl, inr, ℕ, zero, suc, Bool, true, false, not, ◌&&◌, ◌||◌, nat_lt, List, []}
+use Rattle.std.proofs.Common.{◌∷◌, ◌++◌, length, slice_get, get_or}
 use Rattle.std.proofs.Common.{Option, Some, None, IsSome, IsSomeAnd, refl, sym, ap, ◌∙◌, subst, arith, append_assoc, append-nil, length-append}
 use Rattle.std.specs.List.{AllByRecursion, Contains}
 use Rattle.std.specs.Option.{option_map}
@@ -7,12 +8,10 @@ use Rattle.std.proofs.lemmas.Bool.Decides.{nat_tests}
 use Rattle.std.proofs.lemmas.List.Elements.{Contains-append_left, Contains-append_right}
 use Rattle.store_core.specs.declared.ids.VarId.{VarId}
 use Rattle.store_core.specs.declared.kind.VarKind.{VarKind}
-use Rattle.store_core.specs.Tables.{VarEntry, var_at}
+use Rattle.store_core.specs.Tables.{VarEntry}
 use Rattle.store_logic.specs.FitsCode.{code_sort}
 use Rattle.store_logic.proofs.ExpandingLists.{all-append}
-use Rattle.pale_terms.specs.declared.scope.Origin.TheVariants as origin
 use Rattle.pale_terms.specs.Sorts.{kept}
-use Rattle.pale_terms.specs.Visibles.{Entry}
 use Rattle.pale_fitting.specs.Standing.{IsCodeVariable, AreCodeVariables}
 use Rattle.pale_fitting.proofs.UseLemmas.{slice_get-within}
 use Rattle.pale_types.specs.declared.sights.Heading.{Heading}
@@ -208,7 +207,8 @@ module _ (h : Heading) where
   in_post = in_ranges (length h.params) (length h.params + length h.results) (first_logic h)
 
   logics-open : (first end : ℕ) → AreOpen (in_ranges first end (first_logic h)) (seen true (first_logic h) h.logics)
-  logics-open first end = seen-open (in_ranges first end (first_logic h)) true (first_logic h) h.logics (λ is k low high. in-last first end (first_logic h) k low)
+  logics-open first end =
+      seen-open (in_ranges first end (first_logic h)) true (first_logic h) h.logics (λ is k low high. in-last first end (first_logic h) k low)
 
   pub pre-open : AreOpen in_pre (heading_sight true false h)
   pre-open =
@@ -274,7 +274,8 @@ module _ (h : Heading) (locals : List VarEntry) (count : h.locals ≡ length loc
       ≡ numbers 0 table
   in-order =
       sym (numbers-append 0 (h.params ++ h.results ++ locals) h.logics
-      ∙ ap (λ n. numbers 0 (h.params ++ h.results ++ locals) ++ numbers n h.logics) (behind (h.params ++ h.results ++ locals) (first_logic h) (last-number h locals count))
+      ∙ ap (λ n. numbers 0 (h.params ++ h.results ++ locals) ++ numbers n h.logics)
+      (behind (h.params ++ h.results ++ locals) (first_logic h) (last-number h locals count))
       ∙ ap (λ ns. ns ++ numbers (first_logic h) h.logics)
       (numbers-append 0 (h.params ++ h.results) locals
       ∙ ap (λ n. numbers 0 (h.params ++ h.results) ++ numbers n locals) (behind (h.params ++ h.results) (first_local h) two)

@@ -1,7 +1,7 @@
 -- Statements without a fault fit.
-use Rattle.std.proofs.Common.{◌≡◌, ℕ, Bool, false, List, [], ◌∷◌, ◌++◌, map, flat_map, slice_get, Option, Some, None, option_map, is_some, refl, sym, ap, ap₂, ◌∙◌, subst, unwrap_or}
-use Rattle.std.specs.List.{AllByRecursion, AllZip}
-use Rattle.std.specs.Option.{option_map_or}
+use Rattle.std.proofs.Common.{◌≡◌, ℕ, Bool, false, List, [], ◌∷◌, map, slice_get, Option, Some, None, option_map}
+use Rattle.std.proofs.Common.{refl, sym, ap, ap₂, ◌∙◌, subst, unwrap_or}
+use Rattle.std.specs.List.{AllByRecursion}
 use Rattle.std.proofs.lemmas.Option.{slice_get-map}
 use mathlib.Core.Path.{transport}
 use Rattle.pale_syntax.specs.declared.tree.assertion.Bracketed.{Bracketed}
@@ -17,19 +17,17 @@ use Rattle.store_logic.specs.declared.term.Base.TheVariants as base
 use Rattle.store_logic.specs.declared.assertion.Assertion.TheVariants as assertion
 use Rattle.store_logic.specs.declared.act.Act.{Act}
 use Rattle.store_logic.specs.declared.act.Act.TheVariants as act
-use Rattle.store_logic.specs.declared.cond.Cond.{Cond}
-use Rattle.store_logic.specs.Uses.{NameUse, names_in}
+use Rattle.store_logic.specs.Uses.{NameUse}
 use Rattle.store_logic.specs.Fits.{AssertionFits}
 use Rattle.store_logic.specs.FitsCode.{CondFits, ActFits}
 use Rattle.store_logic.specs.Sorts.{scope_of}
 use Rattle.store_logic.proofs.ExpandingForms.{names-True}
-use Rattle.pale_tables.specs.Faults.{Fault, ◌>>◌, first_of}
-use Rattle.pale_tables.proofs.KnownRoutes.{both, needed}
+use Rattle.pale_tables.specs.Faults.{Fault}
+use Rattle.pale_tables.proofs.KnownRoutes.{both}
 use Rattle.pale_terms.specs.Visibles.{Entry}
 use Rattle.pale_terms.specs.Scopes.{visible_names}
-use Rattle.pale_acts.specs.Conditions.{condition_fault, typed_condition}
-use Rattle.pale_acts.specs.Assignments.{assignment_fault, assignment_of, free_fault, free_of}
-use Rattle.pale_assertions.specs.Assertions.{assertion_fault}
+use Rattle.pale_acts.specs.Conditions.{typed_condition}
+use Rattle.pale_acts.specs.Assignments.{assignment_of, free_of}
 use Rattle.pale_predicates.specs.declared.predicates.Declared.{Declared}
 use Rattle.pale_predicates.specs.Predicates.{bracketed_fault}
 use Rattle.pale_fitting.specs.Standing.{AreVariables, AreCodeVariables}
@@ -42,7 +40,6 @@ use Rattle.pale_calls.specs.Calls as calls
 use Rattle.pale_calls.specs.Calls.{call_fault, call_of, touched, actual_of}
 use Rattle.pale_types.specs.declared.basis.Basis.{Basis}
 use Rattle.pale_types.specs.declared.sights.Frame.{Frame}
-use Rattle.pale_types.specs.declared.typed.CallParts.{CallParts}
 use Rattle.pale_types.specs.declared.typed.ProcEntry.{ProcEntry}
 use Rattle.pale_types.specs.declared.typed.Stmt.{Stmt, roll-Stmt}
 use Rattle.pale_types.specs.declared.typed.Stmt.TheVariants as stmt
@@ -60,7 +57,8 @@ use Rattle.pale_types.proofs.StatementLemmas.{fault_form, typed_form}
 use Rattle.pale_types.proofs.FittingNamesLemmas.{AreOpen, IsPassed, stated-names}
 use Rattle.pale_types.proofs.FittingCallsLemmas.{AreResults, arguments-are, arguments-stand, cells-once, results-are}
 use Rattle.pale_types.proofs.FittingKeepLemmas.{IsNamedVariable, IsApart, has_none, nones-open, taken-each, allow-each, untouched}
-use Rattle.pale_types.proofs.FittingCalleesLemmas.{IsCallee, IsFine, IsHanded, kinds_of, callee-is, is-called, is-fine, handed-fit, declares-parameters, declares-logics}
+use Rattle.pale_types.proofs.FittingCalleesLemmas.{IsCallee, IsFine, IsHanded, kinds_of, callee-is, is-called, is-fine, handed-fit}
+use Rattle.pale_types.proofs.FittingCalleesLemmas.{declares-parameters, declares-logics}
 
 -- what the statements of a procedure may use: declarations that fit, variables of its table under their names, and the procedures
 pub record Stands (basis : Basis) (frame : Frame) (qs : List Procedure) : Type 0 where
@@ -245,9 +243,11 @@ module _ (basis : Basis) (frame : Frame) (qs : List Procedure) (st : Stands basi
   node-fits (Statement-F.While place c invariant body) none =
       let parts = both _ _ none in
       let more = both _ _ parts.1 in
-      by-form _ (Stmt-F.While place (typed_condition types frame.code c) (stated basis.declared frame.stated invariant) _) (stmt.rolls-While _ _ _ _)
-      (condition-fits types vars frame.code st.code c parts.0,
-      bracketed-fits basis.declared vars frame.stated st.fit st.stated invariant more.0, each-fits body more.1)
+      by-form _ (Stmt-F.While place (typed_condition types frame.code c) (stated basis.declared frame.stated invariant) _) (stmt.rolls-While _ _ _ _) (
+        condition-fits types vars frame.code st.code c parts.0,
+        bracketed-fits basis.declared vars frame.stated st.fit st.stated invariant more.0,
+        each-fits body more.1,
+      )
   node-fits (Statement-F.Split place b) none =
       by-form _ (Stmt-F.Split place (stated basis.declared frame.stated b)) (stmt.rolls-Split _ _)
       (bracketed-fits basis.declared vars frame.stated st.fit st.stated b none)

@@ -2,6 +2,7 @@
 //!
 //! `specs/Programs.antt` says what a program is typed as and what is refused first, `specs/Procedures.antt` and
 //! `specs/Statements.antt` the same of procedures and of statements, and `specs/Sights.antt` what each place of a procedure sees.
+//! `specs/Fitting.antt` says when a typed program fits, as all that takes it apart asks.
 #![tactic(auto)]
 
 mod basis;

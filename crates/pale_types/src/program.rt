@@ -147,7 +147,7 @@ fn read_list(
     Ok(Typed::new(basis.declared.vocabulary.types, procs))
 }
 
-/// A program with its names looked up and its predicates put in.
+/// A program with its names looked up and its predicates put in, which fits.
 ///
 /// # Errors
 ///
