@@ -83,7 +83,7 @@ module _ {X : Type 0} (theirs : List VarEntry) (R : X → VarKind → Type 0) (Q
 
 module _ (vars theirs : List VarEntry) where
   actual-fits : (a : Actual) (k : VarKind) (u : VarId) → kind_at theirs u ≡ Some k → IsActualOf vars a k → ActualFits vars theirs a u
-  actual-fits (actual.Var v) k u there is = record { kind = k; own = is; callee = there }
+  actual-fits (actual.Var v) k u there is = record { kind = k; own = is; other = there }
   actual-fits actual.Null k u there is = subst (λ (o : Option VarKind). IsSomeAnd o (λ kind. IsTrue (holds_cell (class_of kind)))) (sym there) is
   actual-fits (actual.Truth truth) k u there is = subst (λ (o : Option VarKind). IsSomeAnd o (λ kind. IsTrue (holds_truth (class_of kind)))) (sym there) is
 
@@ -93,7 +93,7 @@ module _ (vars theirs : List VarEntry) where
 
   pub results-fit : (front part back : List VarEntry) (number : ℕ) (xs : List VarId) → theirs ≡ front ++ (part ++ back) → number ≡ length front →
       AllZip (IsOfKind vars) xs (map (λ e. e.kind) part) → AllZip (IsLike vars theirs) xs (numbers number part)
-  results-fit = zip-numbers theirs (IsOfKind vars) (IsLike vars theirs) (λ v k u there is. record { kind = k; own = is; callee = there })
+  results-fit = zip-numbers theirs (IsOfKind vars) (IsLike vars theirs) (λ v k u there is. record { kind = k; own = is; other = there })
 
 -- ---- the callee
 

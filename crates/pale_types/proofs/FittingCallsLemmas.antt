@@ -21,6 +21,7 @@ use Rattle.store_core.specs.declared.kind.VarKind.{VarKind}
 use Rattle.store_core.specs.declared.kind.VarKind.TheVariants as var
 use Rattle.store_core.specs.Tables.{VarEntry, var_at, var_names, place_of}
 use Rattle.store_core.proofs.Names.{position-cons, position_none-cons, position_none-from}
+use Rattle.store_logic.proofs.ExpandingLists.{slice_get-seam}
 use Rattle.pale_tables.specs.Names.{is_new}
 use Rattle.pale_tables.proofs.KnownRoutes.{both, needed}
 use Rattle.pale_fitting.proofs.TermFitLemmas.{same-type}
@@ -308,10 +309,6 @@ module _ (vars : List VarEntry) where
     pub new : AllByRecursion (IsNewTo before) (map (calls.variable_of vars) xs)
     pub once : AllPairs (λ u v. u ≢ v) (map (calls.variable_of vars) xs)
 
-  formal-at : (front formals : List Formal) (formal : Formal) → slice_get (front ++ formal ∷ formals) (length front) ≡ Some formal
-  formal-at [] formals formal = refl
-  formal-at (f ∷ front) formals formal = formal-at front formals formal
-
   push-apart : (before : List (List ℕ)) (x : Name) → Stands vars x → (vs : List VarId) → AllByRecursion (IsNewTo (before ++ x.bytes ∷ [])) vs →
       AllByRecursion (λ v. calls.variable_of vars x ≢ v) vs
   push-apart before x s [] all = tt
@@ -337,7 +334,7 @@ module _ (vars : List VarEntry) where
         let parts = both _ _ none in
         let more = both _ _ parts.1 in
         let here : slice_get callee.results (length before) ≡ Some formal =
-        ap (λ rs. slice_get rs (length before)) whole ∙ ap (slice_get (front ++ formal ∷ formals)) (sym same) ∙ formal-at front formals formal in
+        ap (λ rs. slice_get rs (length before)) whole ∙ ap (slice_get (front ++ formal ∷ formals)) (sym same) ∙ slice_get-seam front formal formals in
         let fine : calls.beside_fault vars formal x ≡ None =
         sym (ap (λ o. option_map_or (λ f. calls.beside_fault vars f x) o (calls.variable_fault vars x)) here) ∙ parts.0 in
         let b = beside formal k x declared.0 fine in

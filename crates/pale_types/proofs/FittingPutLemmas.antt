@@ -31,20 +31,11 @@ use Rattle.store_logic.proofs.ExpandingForms.{filled-ExSet, filled-AllSet}
 use Rattle.store_logic.proofs.ExpandingForms.{names_at, names-Truth, names-Is, names-Same, names-Member, names-Subset}
 use Rattle.store_logic.proofs.ExpandingForms.{names-Walk, names-Not, names-And, names-Or, names-Imp, names-Iff, names-Ex, names-All}
 use Rattle.store_logic.proofs.ExpandingForms.{names-ExSet, names-AllSet}
+use Rattle.store_logic.proofs.ExpandingLists.{all-first, all-second}
 use Rattle.pale_fitting.proofs.FitForms.{Fits-True, Fits-False, Fits-Truth, Fits-Is, Fits-Same, Fits-Member, Fits-Subset, Fits-Walk, Fits-Pred}
 use Rattle.pale_fitting.proofs.FitForms.{Fits-Not, Fits-And, Fits-Or, Fits-Imp, Fits-Iff, Fits-Ex, Fits-All, Fits-ExSet, Fits-AllSet}
 use Rattle.pale_fitting.proofs.ExpansionLemmas.{leads-of, leads-fits}
 use Rattle.pale_types.specs.Fitting.{NameMayBe, StatedFits, FillingFits}
-
--- ---- lists
-
-first-all : {X : Type 0} (P : X → Type 0) (xs ys : List X) → AllByRecursion P (xs ++ ys) → AllByRecursion P xs
-first-all P [] ys all = tt
-first-all P (x ∷ xs) ys all = (all.0, first-all P xs ys all.1)
-
-second-all : {X : Type 0} (P : X → Type 0) (xs ys : List X) → AllByRecursion P (xs ++ ys) → AllByRecursion P ys
-second-all P [] ys all = all
-second-all P (x ∷ xs) ys all = second-all P xs ys all.1
 
 -- ---- fields
 
@@ -207,10 +198,10 @@ module _ (types : List TypeEntry) (theirs vars : List VarEntry) (put : Base → 
   told e all = subst May e all
 
   one : (xs ys : List NameUse) → May (xs ++ ys) → May xs
-  one = first-all (λ n. NameMayBe MayBe n.name)
+  one = all-first (λ n. NameMayBe MayBe n.name)
 
   other : (xs ys : List NameUse) → May (xs ++ ys) → May ys
-  other = second-all (λ n. NameMayBe MayBe n.name)
+  other = all-second (λ n. NameMayBe MayBe n.name)
 
   filled-fits : (a : Assertion) → IsFilled a
   filled-fits = assertion-induction IsFilled (record {

@@ -10,7 +10,7 @@ use Rattle.store_core.specs.declared.ids.VarId.{VarId}
 use Rattle.store_core.specs.declared.kind.VarKind.{VarKind}
 use Rattle.store_core.specs.Tables.{VarEntry}
 use Rattle.store_logic.specs.FitsCode.{code_sort}
-use Rattle.store_logic.proofs.ExpandingLists.{all-append}
+use Rattle.store_logic.proofs.ExpandingLists.{slice_get-seam, all-append}
 use Rattle.pale_terms.specs.Sorts.{kept}
 use Rattle.pale_fitting.specs.Standing.{IsCodeVariable, AreCodeVariables}
 use Rattle.pale_fitting.proofs.UseLemmas.{slice_get-within}
@@ -49,14 +49,10 @@ numbers-contain number xs v low high =
     let same : number + (v.0 - number) ≡ v.0 = omega arith in
     (v.0 - number, inside, numbers-at number xs (v.0 - number) v within ∙ ap (λ n. record { 0 = n }) same)
 
-at-front : (front back : List VarEntry) (e : VarEntry) → slice_get (front ++ e ∷ back) (length front) ≡ Some e
-at-front [] back e = refl
-at-front (x ∷ front) back e = at-front front back e
-
 pub middle-at : (table front back : List VarEntry) (e : VarEntry) (number : ℕ) → table ≡ front ++ (e ∷ back) → number ≡ length front →
     slice_get table number ≡ Some e
 middle-at table front back e number whole is =
-    ap (λ t. slice_get t number) whole ∙ ap (slice_get (front ++ (e ∷ back))) is ∙ at-front front back e
+    ap (λ t. slice_get t number) whole ∙ ap (slice_get (front ++ (e ∷ back))) is ∙ slice_get-seam front e back
 
 pub further : (table front back : List VarEntry) (e : VarEntry) (rest : List VarEntry) → table ≡ front ++ (e ∷ (rest ++ back)) →
     table ≡ (front ++ e ∷ []) ++ (rest ++ back)

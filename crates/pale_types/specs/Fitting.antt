@@ -70,7 +70,7 @@ FillingFits types vars (of_truth truth) sort = sort ≡ Truth
 pub record IsLike (vars theirs : List VarEntry) (v u : VarId) : Type 0 where
   pub kind : VarKind
   pub own : kind_at vars v ≡ Some kind
-  pub callee : kind_at theirs u ≡ Some kind
+  pub other : kind_at theirs u ≡ Some kind
 
 -- what is handed over for a variable of the callee: `null` stands for a cell, `true` and `false` for a truth value
 abbrev pub ActualFits : List VarEntry → List VarEntry → Actual → VarId → Type 0
