@@ -7,8 +7,8 @@ use Rattle.pale_tables.specs.Types.{type_names_fault}
 use Rattle.pale_types.proofs.ProgramLemmas.{map-twice, type-names-fine, predicate-names-fine, procedure-names-fine, basis-is}
 use Rattle.pale_types.proofs.program.read_basis.Goals as goal
 
-pub read_declared-declared-requires : goal.read_declared-declared-requires
-read_declared-declared-requires c =
+pub read_declared-requires : goal.read_declared-requires
+read_declared-requires c =
     let ts = map (λ t. t.now) c.args.types.now in
     let ps = map (λ p. p.now) c.args.predicates.now in
     let qs = map (λ p. p.now) c.args.procedures.now in
@@ -21,8 +21,8 @@ read_declared-declared-requires c =
           ∙ predicate-names-fine ts ps qs c.requires;
     }
 
-pub signatures_of-signatures-requires : goal.signatures_of-signatures-requires
-signatures_of-signatures-requires c =
+pub signatures_of-requires : goal.signatures_of-requires
+signatures_of-requires c =
     ap (repeated_fault []) (sym (map-twice (λ (p : Procedure). p.name) (λ p. p.now) c.args.procedures.now))
     ∙ procedure-names-fine (map (λ t. t.now) c.args.types.now) (map (λ p. p.now) c.args.predicates.now) (map (λ p. p.now) c.args.procedures.now)
     c.requires
