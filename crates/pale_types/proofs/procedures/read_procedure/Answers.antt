@@ -1,5 +1,6 @@
 use Rattle.std.proofs.Common.{sym, ap, ◌∙◌, subst}
 use Rattle.std.proofs.lemmas.Result.{on_ok_weaker, IfOk-weaker}
+use Rattle.pale_text.specs.declared.refusal.TextStop.TheVariants as stop
 use Rattle.pale_tables.proofs.FaultLemmas.{stop_returned, stop_same}
 use Rattle.pale_types.specs.Sights.{frame_of}
 use Rattle.pale_types.specs.Framing.{IsBody}
@@ -34,6 +35,10 @@ frame_of-requires c =
     (body-named c.args.basis.now c.args.procedure.now c.in_ok-heading.ensures.met c.in_ok-heading.heading c.in_ok-heading.ensures.heading
     c.in_ok-claims.ensures.met c.read_heading.new.before c.as_slice.result.now c.in_ok-heading.ensures.names c.as_slice.ensures
     c.in_ok-locals.ensures.met c.in_ok-locals.locals c.in_ok-locals.ensures.variables)
+
+pub returns-in_err-lists-clause-stop : goal.returns-in_err-lists-clause-stop
+returns-in_err-lists-clause-stop c =
+    stop_returned _ c.from_residual-in_err-lists.result stop.NoMemory c.from_residual-in_err-lists.ensures.1 tt
 
 pub read_body-requires-clause-frame : goal.read_body-requires-clause-frame
 read_body-requires-clause-frame c =

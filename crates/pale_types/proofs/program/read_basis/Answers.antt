@@ -2,8 +2,10 @@ use Rattle.std.proofs.Common.{[], map, sym, ap, ◌∙◌}
 use Rattle.pale_syntax.specs.declared.tree.declaration.TypeDeclaration.{TypeDeclaration}
 use Rattle.pale_syntax.specs.declared.tree.declaration.PredicateDeclaration.{PredicateDeclaration}
 use Rattle.pale_syntax.specs.declared.tree.declaration.Procedure.{Procedure}
+use Rattle.pale_text.specs.declared.refusal.TextStop.TheVariants as stop
 use Rattle.pale_tables.specs.Names.{repeated_fault}
 use Rattle.pale_tables.specs.Types.{type_names_fault}
+use Rattle.pale_tables.proofs.FaultLemmas.{stop_returned}
 use Rattle.pale_types.proofs.ProgramLemmas.{map-twice, type-names-fine, predicate-names-fine, procedure-names-fine, basis-is}
 use Rattle.pale_types.proofs.program.read_basis.Goals as goal
 
@@ -31,3 +33,7 @@ pub returns-clause-basis : goal.returns-clause-basis
 returns-clause-basis c =
     basis-is (map (λ t. t.now) c.args.types.now) (map (λ p. p.now) c.args.predicates.now) (map (λ p. p.now) c.args.procedures.now)
     c.in_ok-declared.declared c.in_ok-signatures.signatures c.in_ok-declared.ensures.declared c.in_ok-signatures.ensures
+
+pub returns-in_err-signatures-clause-stop : goal.returns-in_err-signatures-clause-stop
+returns-in_err-signatures-clause-stop c =
+    stop_returned _ c.from_residual-in_err-signatures.result stop.NoMemory c.from_residual-in_err-signatures.ensures.1 tt
