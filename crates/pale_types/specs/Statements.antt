@@ -91,13 +91,3 @@ statement_fault basis frame = fold-Statement Fault (fault_rules basis frame)
 
 abbrev pub block_fault : Basis → Frame → List Statement → Fault
 block_fault basis frame block = first_of (statement_fault basis frame) block
-
--- ---- the block of an `else`
-
-abbrev pub typed_else : Basis → Frame → Option (List Statement) → List Stmt
-typed_else basis frame None = []
-typed_else basis frame (Some block) = typed_block basis frame block
-
-abbrev pub else_fault : Basis → Frame → Option (List Statement) → Fault
-else_fault basis frame None = None
-else_fault basis frame (Some block) = block_fault basis frame block
