@@ -5,7 +5,6 @@ pub mod KeepLemmas
 pub mod StatementLemmas
 pub mod ProcedureLemmas
 pub mod ReadingLemmas
-pub mod HeadingLemmas
 pub mod ProgramLemmas
 mod FittingNamesLemmas
 mod FittingKeepLemmas

@@ -1,6 +1,5 @@
 -- Declarations of a program, sorted by kinds.
-use Rattle.std.proofs.Common.{◌≡◌, List, [], ◌∷◌, ◌++◌, Option, Some, None, map, filter_map, fold, append_assoc, refl, sym, ap, ◌∙◌, subst}
-use Rattle.std.specs.List.{cons_option}
+use Rattle.std.proofs.Common.{◌≡◌, List, [], ◌∷◌, None, map, fold, refl, sym, ap, ◌∙◌, subst}
 use Rattle.store_core.specs.Tables.{TypeEntry}
 use Rattle.pale_syntax.specs.declared.tree.declaration.TypeDeclaration.{TypeDeclaration}
 use Rattle.pale_syntax.specs.declared.tree.declaration.PredicateDeclaration.{PredicateDeclaration}

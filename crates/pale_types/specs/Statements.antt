@@ -1,6 +1,6 @@
 -- Statements: a rule for what each is typed as, and one for its faults, parts in the order of the text. (Møller and Schwartzbach,
 -- PLDI 2001.)
-use Rattle.std.specs.Prelude.{false, List, [], Option, Some, None, map, unwrap_or}
+use Rattle.std.specs.Prelude.{false, List, [], Option, None, map, unwrap_or}
 use Rattle.std.specs.Option.{option_map_or}
 use Rattle.pale_syntax.specs.declared.tree.statement.Call.{Call}
 use Rattle.pale_syntax.specs.declared.tree.statement.Statement.{Statement}

@@ -1,4 +1,4 @@
-use Rattle.std.proofs.Common.{map, Result}
+use Rattle.std.proofs.Common.{map}
 use Rattle.std.proofs.lemmas.Result.{on_ok_weaker, IfOk-weaker}
 use Rattle.pale_tables.proofs.FaultLemmas.{stop_returned, stop_same}
 use Rattle.pale_types.proofs.ProgramLemmas.{types-stop, declared-none, declared-stop, declared-is}
