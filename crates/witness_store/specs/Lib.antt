@@ -1,0 +1,4 @@
+pub mod Orders
+pub mod Finding
+pub mod Reading
+pub mod Results

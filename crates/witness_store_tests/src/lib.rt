@@ -1,0 +1,9 @@
+//! Tests of stores that are read off their trees. The crate has nothing else.
+#![tactic(auto)]
+
+#[cfg(test)]
+mod made;
+#[cfg(test)]
+mod pointers;
+#[cfg(test)]
+mod stores;
