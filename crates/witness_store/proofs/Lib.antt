@@ -11,3 +11,4 @@ pub mod PlacesLemmas
 pub mod FieldsLemmas
 pub mod ListedLemmas
 pub mod DecodedLemmas
+pub mod UsesLemmas

@@ -1,5 +1,5 @@
 -- The variants of all types, one after the other.
-use Rattle.std.proofs.Common.{◌≡◌, ℕ, zero, suc, ◌+◌, ◌<◌, true, cond, nat_lt, inl, inr, List, [], ◌∷◌, ◌++◌, length, take, slice_get, Option, Some, None, refl, sym, ap, ◌∙◌, subst, arith, append_assoc, append-nil}
+use Rattle.std.proofs.Common.{◌≡◌, ℕ, zero, suc, ◌+◌, ◌<◌, true, cond, nat_lt, inl, inr, List, [], ◌∷◌, ◌++◌, length, take, slice_get, Option, Some, None, refl, sym, ap, ◌∙◌, subst, arith, append_assoc, append-nil, length-append}
 use Rattle.std.specs.Option.{option_map_or}
 use Rattle.store_core.specs.declared.ids.VariantId.{VariantId}
 use Rattle.store_core.specs.Tables.{TypeEntry, count_of_variants, variant_count}
@@ -72,7 +72,7 @@ listed-at ty i (suc n) (suc k) v at =
     let number : suc i + k ≡ i + suc k = omega arith in
     record { inside = omega arith; is = rest.is ∙ ap (variant_at ty) number }
 
-length-variants_at : (ty i n : ℕ) → length (variants_at ty i n) ≡ n
+pub length-variants_at : (ty i n : ℕ) → length (variants_at ty i n) ≡ n
 length-variants_at ty i zero = refl
 length-variants_at ty i (suc n) = ap (λ m. suc m) (length-variants_at ty (suc i) n)
 
@@ -116,3 +116,11 @@ listed-track types k v at =
   where
     true-lt : (i n : ℕ) → i < n → nat_lt i n ≡ true
     true-lt i n less = grind (arith, nat_tests)
+
+pub length-variants_from : (m : ℕ) (types : List TypeEntry) → length (variants_from m types) ≡ variants_in types
+length-variants_from m [] = refl
+length-variants_from m (t ∷ types) =
+    let both = length-append (variants_at m 0 (count_of_variants t)) (variants_from (suc m) types) in
+    let one = length-variants_at m 0 (count_of_variants t) in
+    let rest = length-variants_from (suc m) types in
+    let sum = sum_by-cons count_of_variants t types in omega arith

@@ -7,6 +7,7 @@
 mod cells;
 mod decoding;
 mod fields;
+pub mod laws;
 mod nodes;
 mod preorder;
 mod variables;
