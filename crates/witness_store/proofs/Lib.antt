@@ -12,3 +12,4 @@ pub mod FieldsLemmas
 pub mod ListedLemmas
 pub mod DecodedLemmas
 pub mod UsesLemmas
+pub mod FunctionalLemmas
