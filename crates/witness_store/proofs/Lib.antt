@@ -13,3 +13,5 @@ pub mod ListedLemmas
 pub mod DecodedLemmas
 pub mod UsesLemmas
 pub mod FunctionalLemmas
+pub mod SamePlaceLemmas
+pub mod PairedLemmas

@@ -2,9 +2,11 @@
 use Rattle.std.specs.Prelude.{◌≡◌, ◌<◌, ℕ, List}
 use Rattle.gta_theory.specs.Assignments.{Position, Assignment}
 use Rattle.store_core.specs.declared.ids.FieldId.{FieldId}
+use Rattle.store_core.specs.declared.ids.CellId.{CellId}
 use Rattle.store_core.specs.Tables.{TypeEntry, VarEntry}
 use Rattle.store_core.specs.Stores.{StoreMap}
 use Rattle.routing_expr.specs.WellFormed.{IsWellFormed, IsFunctional}
+use Rattle.tree_encode.specs.Positions.{IsPlaced}
 use Rattle.tree_store.specs.Encoding.{IsAssignmentOf}
 use Rattle.store_pointers.specs.Pointers.{IsPointerField}
 
@@ -21,3 +23,9 @@ pub record IsOfWellFormed (types : List TypeEntry) (vars : List VarEntry) (a : A
   pub store : StoreMap
   pub well_formed : IsWellFormed types vars store
   pub assignment : IsAssignmentOf types vars store a
+
+-- the cells, one of each store, stand at one position
+pub record StandAlike (types : List TypeEntry) (vars : List VarEntry) (s t : StoreMap) (c d : CellId) : Type 0 where
+  pub position : Position
+  pub one : IsPlaced types vars s c position
+  pub other : IsPlaced types vars t d position

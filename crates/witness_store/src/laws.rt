@@ -8,13 +8,14 @@ ghost use Rattle.ws2s_core.specs.Satisfaction.{WSat};
 ghost use Rattle.store_core.specs.Tables.{TypeEntry, VarEntry};
 ghost use Rattle.store_core.specs.Stores.{StoreMap};
 ghost use Rattle.routing_expr.specs.WellFormed.{IsWellFormed};
+ghost use Rattle.routing_laws.specs.Pairing.{ArePaired};
 ghost use Rattle.tree_encode.specs.Tracks.{track_count};
 ghost use Rattle.tree_store.specs.Encoding.{IsTreeOf};
 ghost use Rattle.tree_formula.specs.WellEncoded.{well_encoded};
 ghost use Rattle.tree_meaning.specs.Premises.{OwnersAreThere};
 ghost use Rattle.tree_backbone.specs.Stores.{IsStoreOf};
 ghost use Rattle.store_pointers.specs.Pointers.{ArePointersSet};
-ghost use Rattle.witness_store.specs.Alike.{AreSameBelow, AreFunctional, IsOfWellFormed};
+ghost use Rattle.witness_store.specs.Alike.{AreSameBelow, AreFunctional, IsOfWellFormed, StandAlike};
 
 /// The tree of a store that was read off an assignment has the positions of that assignment on the tracks of the layout.
 pub fn trees_of_decoded_stores_are_the_same()
@@ -35,4 +36,12 @@ pub fn well_formed_stores_alone_satisfy_the_formula()
     ensures { (types : List TypeEntry) (vars : List VarEntry) (next : ℕ) (a : Assignment) → OwnersAreThere types →
         AreFunctional types → IsFinite a → track_count types vars ≤ next →
         WSat (well_encoded next types vars) a ↔ IsOfWellFormed types vars a }
+{}
+
+/// The store that is read off the tree of a well-formed store is that store, but for the numbers of the cells and the next
+/// number: its cells are those that stand at the same positions, of the same variants and with the same values.
+pub fn stores_come_back_from_their_trees()
+    ensures { (types : List TypeEntry) (vars : List VarEntry) (s t : StoreMap) (nodes : List TreeNode) → IsWellFormed types vars s →
+        IsTreeOf types vars s nodes → IsStoreOf types vars (assignment_of nodes) t → ArePointersSet types t →
+        ArePaired (StandAlike types vars s t) s t }
 {}

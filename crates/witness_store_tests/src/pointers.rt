@@ -1,29 +1,36 @@
 //! Pointer fields that are read off a tree.
 
+ghost use Rattle.std.specs.Prelude.{List, IfOk};
+ghost use Rattle.store_core.specs.Tables.{TypeEntry, KnowsRoute};
+
+use crate::again::text_again;
 use crate::made::{FIRST, add_data, add_type, has_room, made_vars};
 use plain_data::{Boxed, Items};
 use std::alloc::{AllocError, Global};
 use std::process::Abort;
 use std::test::Fail;
 use store_core::{FieldKind, Owner, Route, TypeTable, VarKind};
-use store_text::{read_store, store_text};
 use tree_encode::Layout;
-use tree_store::encode;
-use witness_store::decode;
 
 /// The route `^next`.
-fn up_next(alloc: Global) -> Result<Route, AllocError> {
+fn up_next(alloc: Global) -> Result<Route, AllocError>
+    ensures { IfOk result (λ along. (types : List TypeEntry) → KnowsRoute types along) }
+{
     Ok(Route::Up(Items::from_slice(alloc, b"next")?))
 }
 
 /// The route `next+left`.
-fn next_or_left(alloc: Global) -> Result<Route, AllocError> {
+fn next_or_left(alloc: Global) -> Result<Route, AllocError>
+    ensures { IfOk result (λ along. (types : List TypeEntry) → KnowsRoute types along) }
+{
     let next = Route::Down(Items::from_slice(alloc, b"next")?);
     let left = Route::Down(Items::from_slice(alloc, b"left")?);
     Ok(Route::Or(Boxed::new(alloc, next)?, Boxed::new(alloc, left)?))
 }
 
-fn add_pointer(types: &mut TypeTable, name: &[u8], route: Route) -> Result<(), AllocError> {
+fn add_pointer(types: &mut TypeTable, name: &[u8], route: Route) -> Result<(), AllocError>
+    requires { KnowsRoute types.old route }
+{
     let owner = Owner::Common(FIRST);
     if has_room(types, owner, name) && types.types() > 0 {
         types.add_field(owner, name, FieldKind::Pointer(FIRST, route))?;
@@ -44,38 +51,31 @@ fn made_types(alloc: Global) -> Result<TypeTable, AllocError> {
 
 const VARS: [(&str, VarKind); 1] = [("x", VarKind::Data(FIRST))];
 
-/// Whether the first store, made into a tree and read off it, is the second.
-fn check(rt: &impl Abort, alloc: Global, text: &str, wanted: &str) -> Result<(), Fail> {
-    let types = made_types(alloc)?;
-    let vars = made_vars(alloc, &types, &VARS)?;
-    let layout = Layout::new(alloc, &types, &vars, &Items::new(alloc))?;
-    assert!(rt; text.len() < 1000);
-    let store = read_store(alloc, &types, &vars, text.as_bytes())?;
-    let tree = encode(alloc, &layout, &store)?;
-    let decoded = decode(alloc, &layout, &tree)?;
-    let back = store_text(alloc, &types, &vars, &decoded)?;
-    assert!(rt; back.as_slice() == wanted.as_bytes(), "{text}");
+/// Whether the store, made into a tree and read off it, is itself.
+fn check(rt: &impl Abort, alloc: Global, l: &Layout<'_>, text: &str) -> Result<(), Fail> {
+    let back = text_again(alloc, l, text)?;
+    assert!(rt; back.as_slice() == text.as_bytes(), "{text}");
     Ok(())
 }
 
-/// A list whose cells point back to the cell before; one cell with two destinations, which gives null; and pointers that were
-/// wrong before.
-const ROWS: [(&str, &str); 3] = [
-    (
-        "store\nvar x 1\ncell 1 Node next=2 left=null prev=null one=null\ncell 2 Node next=3 left=null prev=null one=null\ncell 3 Node next=null left=null prev=null one=null\nend\n",
-        "store\nvar x 1\ncell 1 Node next=2 left=null prev=null one=2\ncell 2 Node next=3 left=null prev=1 one=3\ncell 3 Node next=null left=null prev=2 one=null\nend\n",
-    ),
-    (
-        "store\nvar x 1\ncell 1 Node next=2 left=3 prev=1 one=1\ncell 2 Node next=null left=null prev=2 one=2\ncell 3 Node next=null left=null prev=3 one=3\nend\n",
-        "store\nvar x 1\ncell 1 Node next=2 left=3 prev=null one=null\ncell 2 Node next=null left=null prev=1 one=null\ncell 3 Node next=null left=null prev=null one=null\nend\n",
-    ),
-    ("store\nvar x null\nend\n", "store\nvar x null\nend\n"),
+/// A list whose cells point back to the cell before and along their routes; a cell with another one to the left; and no cell.
+const ROWS: [&str; 3] = [
+    "store\nvar x 1\ncell 1 Node next=2 left=null prev=null one=2\ncell 2 Node next=3 left=null prev=1 one=3\ncell 3 Node next=null left=null prev=2 one=null\nend\n",
+    "store\nvar x 1\ncell 1 Node next=null left=2 prev=null one=2\ncell 2 Node next=null left=null prev=null one=null\nend\n",
+    "store\nvar x null\nend\n",
 ];
+
+fn check_all(rt: &impl Abort, alloc: Global, l: &Layout<'_>) -> Result<(), Fail> {
+    for text in ROWS {
+        check(rt, alloc, l, text)?;
+    }
+    Ok(())
+}
 
 #[test]
 fn pointers_hold_their_only_destinations(rt: HostRuntime) -> Result<(), Fail> {
-    for (text, wanted) in &ROWS {
-        check(&rt, rt.alloc(), text, wanted)?;
-    }
-    Ok(())
+    let types = made_types(rt.alloc())?;
+    let vars = made_vars(rt.alloc(), &types, &VARS)?;
+    let layout = Layout::new(rt.alloc(), &types, &vars, &Items::new(rt.alloc()))?;
+    check_all(&rt, rt.alloc(), &layout)
 }

@@ -1,5 +1,6 @@
 //! Small stores that are made into trees and read off them again.
 
+use crate::again::text_again;
 use crate::made::{
     FIRST, SECOND, add_bool, add_data, add_pointer, add_type, add_variant, made_spares, made_vars,
     variant,
@@ -8,10 +9,7 @@ use std::alloc::{AllocError, Global};
 use std::process::Abort;
 use std::test::Fail;
 use store_core::{Owner, TypeTable, VarKind};
-use store_text::{read_store, store_text};
 use tree_encode::Layout;
-use tree_store::encode;
-use witness_store::decode;
 
 /// A type with a bool field between two data fields, and one with two variants.
 fn add_two(types: &mut TypeTable) -> Result<(), AllocError> {
@@ -48,10 +46,10 @@ const VARS: [(&str, VarKind); 6] = [
 ];
 
 /// The values of the variables, and the cells.
-type Spelled<'a> = ([&'a str; 6], &'a [&'a str]);
+type Spelled = ([&'static str; 6], &'static [&'static str]);
 
 /// The text of the store with these values of the variables and these cells.
-fn spelled(alloc: Global, store: &Spelled<'_>) -> Result<String, AllocError> {
+fn spelled(alloc: Global, store: &Spelled) -> Result<String, AllocError> {
     let (values, cells) = store;
     let mut text = String::from_str(alloc, "store\n")?;
     for ((name, _), value) in VARS.iter().zip(values) {
@@ -74,26 +72,19 @@ fn spelled(alloc: Global, store: &Spelled<'_>) -> Result<String, AllocError> {
 fn check(
     rt: &impl Abort,
     alloc: Global,
-    store: &Spelled<'_>,
-    wanted: &Spelled<'_>,
+    l: &Layout<'_>,
+    store: &Spelled,
+    wanted: &Spelled,
 ) -> Result<(), Fail> {
     let text = spelled(alloc, store)?;
-    let types = made_types(alloc)?;
-    let vars = made_vars(alloc, &types, &VARS)?;
-    let spares = made_spares(alloc, &types)?;
-    let layout = Layout::new(alloc, &types, &vars, &spares)?;
-    assert!(rt; text.len() < 1000);
-    let store = read_store(alloc, &types, &vars, text.as_bytes())?;
-    let tree = encode(alloc, &layout, &store)?;
-    let decoded = decode(alloc, &layout, &tree)?;
-    let back = store_text(alloc, &types, &vars, &decoded)?;
+    let back = text_again(alloc, l, &text)?;
     let wanted = spelled(alloc, wanted)?;
     assert!(rt; back.as_slice() == wanted.as_bytes(), "{text}");
     Ok(())
 }
 
 /// Stores whose cells are numbered in preorder.
-const SAME: [Spelled<'static>; 9] = [
+const SAME: [Spelled; 9] = [
     (["null", "null", "null", "false", "{}", "false"], &[]),
     (["null", "null", "null", "true", "{}", "true"], &[]),
     (
@@ -139,7 +130,7 @@ const SAME: [Spelled<'static>; 9] = [
 ];
 
 /// Stores whose cells have other numbers, and the same stores with the numbers of preorder.
-const RENUMBERED: [(Spelled<'static>, Spelled<'static>); 2] = [
+const RENUMBERED: [(Spelled, Spelled); 2] = [
     (
         (
             ["9", "4", "7", "true", "{4 9}", "false"],
@@ -180,14 +171,22 @@ const RENUMBERED: [(Spelled<'static>, Spelled<'static>); 2] = [
     ),
 ];
 
+fn check_all(rt: &impl Abort, alloc: Global, l: &Layout<'_>) -> Result<(), Fail> {
+    for store in &SAME {
+        check(rt, alloc, l, store, store)?;
+    }
+    for (store, wanted) in &RENUMBERED {
+        check(rt, alloc, l, store, wanted)?;
+    }
+    Ok(())
+}
+
 /// Variants, two types, bools, logic sets, pointer variables, an empty store and numbers with gaps.
 #[test]
 fn small_stores_come_back_from_their_trees(rt: HostRuntime) -> Result<(), Fail> {
-    for store in &SAME {
-        check(&rt, rt.alloc(), store, store)?;
-    }
-    for (store, wanted) in &RENUMBERED {
-        check(&rt, rt.alloc(), store, wanted)?;
-    }
-    Ok(())
+    let types = made_types(rt.alloc())?;
+    let vars = made_vars(rt.alloc(), &types, &VARS)?;
+    let spares = made_spares(rt.alloc(), &types)?;
+    let layout = Layout::new(rt.alloc(), &types, &vars, &spares)?;
+    check_all(&rt, rt.alloc(), &layout)
 }
