@@ -19,7 +19,7 @@ pub IsReadOff-made : (types : List TypeEntry) (vars : List VarEntry) (nodes : Li
     (numbers : List (Option CellId)) (bodies : List CellBody) (values : List Value) (next : ℕ) → IsTree nodes → AreFound types nodes found cells →
     AreNumbers found (length nodes) numbers →
     ((standing : List Standing) → AreRead types nodes standing numbers → AreFoundAs nodes found standing →
-        cells_of bodies ≡ entries_in types (assignment_of nodes) standing 1 standing) →
+    cells_of bodies ≡ entries_in types (assignment_of nodes) standing 1 standing) →
     ((standing : List Standing) → AreFoundAs nodes found standing → values ≡ vars_in types vars (assignment_of nodes) standing 0 vars) →
     next ≡ suc (length found) → IsReadOff types vars (assignment_of nodes) (store_of bodies values next)
 IsReadOff-made types vars nodes found cells numbers bodies values next tree are by_place entries of_vars number = record {

@@ -1,15 +1,13 @@
 -- What the fields of the cells hold.
-use Rattle.std.proofs.Common.{◌≡◌, ◌≢◌, ℕ, zero, suc, ◌+◌, ◌<◌, ◌&&◌, Bool, true, false, cond, eqb, nat_lt, IsTrue, List, [], ◌∷◌, ◌++◌, length, take, slice_get, Option, Some, None, option_map, IsSomeAnd, refl, sym, ap, ◌∙◌, subst, arith, append_assoc, append-nil, eq-eqb}
+use Rattle.std.proofs.Common.{◌≡◌, ℕ, zero, suc, ◌+◌, ◌<◌, ◌&&◌, Bool, true, false, cond, nat_lt, List, [], ◌∷◌, ◌++◌, length, take, slice_get, Option, Some, None, option_map, refl, sym, ap, ◌∙◌, subst, arith, append_assoc, append-nil, eq-eqb}
 use Rattle.std.specs.Prelude.{count_by}
 use Rattle.std.specs.Option.{option_map_or, option_and_then}
-use Rattle.std.proofs.lemmas.Bool.{false≢true}
 use Rattle.std.proofs.lemmas.Bool.Decides.{nat_tests}
-use Rattle.std.proofs.lemmas.Option.{slice_get_within, same_Some}
+use Rattle.std.proofs.lemmas.Option.{same_Some}
 use Rattle.gta_theory.specs.Assignments.{Position, Assignment, is_same_position}
-use Rattle.ws2s_core.specs.declared.track.Track.{Track}
 use Rattle.ws2s_core.specs.declared.label_tree.TreeNode.{TreeNode}
 use Rattle.ws2s_core.specs.LabelTrees.{IsTree, assignment_of}
-use Rattle.ws2s_forms.specs.Places.{ones, child_of}
+use Rattle.ws2s_forms.specs.Places.{ones}
 use Rattle.store_core.specs.declared.ids.TypeId.{TypeId}
 use Rattle.store_core.specs.declared.ids.VariantId.{VariantId}
 use Rattle.store_core.specs.declared.ids.FieldId.{FieldId}
@@ -24,7 +22,7 @@ use Rattle.tree_encode.specs.declared.counting.Counted.TheVariants.{Children}
 use Rattle.tree_encode.specs.Counting.{is_counted, rank}
 use Rattle.tree_encode.specs.Tracks.{bool_track, child_number}
 use Rattle.tree_encode.proofs.IndexLemmas.{count-more}
-use Rattle.tree_backbone.specs.Decoded.{Standing, is_on, child_at, field_in, slot_in, slots_in, first_where}
+use Rattle.tree_backbone.specs.Decoded.{Standing, child_at, field_in, slot_in, slots_in, first_where}
 use Rattle.tree_backbone.proofs.ValuesLemmas.{own_field}
 use Rattle.witness_store.specs.declared.cells.Found.{Found}
 use Rattle.witness_store.specs.Finding.{IsFoundAs}

@@ -1,14 +1,12 @@
 -- What is found at the nodes in preorder are the cells of the tree.
-use Rattle.std.proofs.Common.{◌≡◌, ◌⊎◌, ℕ, zero, suc, ◌+◌, ◌<◌, Bool, true, false, cond, eqb, nat_lt, take, IsTrue, inl, inr, List, [], ◌∷◌, ◌++◌, length, map, slice_get, Option, Some, None, IsSomeAnd, refl, sym, ap, ◌∙◌, subst, arith, eqb-true, eq-eqb}
+use Rattle.std.proofs.Common.{◌≡◌, ℕ, zero, suc, ◌+◌, ◌<◌, true, eqb, nat_lt, take, IsTrue, List, [], ◌∷◌, ◌++◌, length, map, slice_get, Option, Some, None, IsSomeAnd, refl, sym, ap, ◌∙◌, subst, arith, eqb-true, eq-eqb}
 use Rattle.std.specs.Option.{option_map_or, option_and_then}
-use Rattle.std.specs.List.{list_any}
 use Rattle.std.proofs.lemmas.Bool.{ltb-true}
 use Rattle.std.proofs.lemmas.List.{length-map}
 use Rattle.std.proofs.lemmas.List.Folds.{Any-from_list_any, list_any-from_Any}
 use Rattle.std.proofs.lemmas.Option.{slice_get_within, slice_get-get_or, same_Some}
 use Rattle.store_core.proofs.FittingLemmas.{IsSomeAnd-at}
 use Rattle.gta_theory.specs.Assignments.{Position, Assignment}
-use Rattle.gta_theory.proofs.ListedLemmas.{slice_get-push}
 use Rattle.ws2s_core.specs.declared.track.Track.{Track}
 use Rattle.ws2s_core.specs.declared.label_tree.TreeNode.{TreeNode}
 use Rattle.ws2s_core.specs.LabelTrees.{IsTree, assignment_of}
@@ -101,9 +99,11 @@ module _ (variant : ℕ → Option VariantId) where
   unfolding cells_among cell_or
   all-among [] k x v at is = absurd (cc)
   all-among (y ∷ xs) zero x v at is =
-      let same = same_Some y x at in
-      (0, ap (λ o. slice_get (cell_or o y.at (cells_among xs)) 0) (ap (λ (z : Node). variant z.place) same ∙ is)
-      ∙ ap (λ (z : Node). Some (record { variant = v; at = z.at })) same)
+      let same = same_Some y x at in (
+        0,
+        ap (λ o. slice_get (cell_or o y.at (cells_among xs)) 0) (ap (λ (z : Node). variant z.place) same ∙ is)
+            ∙ ap (λ (z : Node). Some (record { variant = v; at = z.at })) same,
+      )
   all-among (y ∷ xs) (suc k) x v at is = by (all-among xs k x v at is) (variant y.place)
     where
       by : (i : ℕ) × (slice_get (cells_among xs) i ≡ Some (record { variant = v; at = x.at })) → (o : Option VariantId) →

@@ -1,12 +1,11 @@
 -- The nodes of a tree in preorder, and where they stand.
-use Rattle.std.proofs.Common.{◌≡◌, ◌⊎◌, ℕ, zero, suc, ◌+◌, ◌<◌, Bool, true, false, IsTrue, inl, inr, List, [], ◌∷◌, ◌++◌, length, slice_get, Option, Some, None, IfSome, refl, sym, ap, ◌∙◌, subst, arith, append_assoc, append-nil}
+use Rattle.std.proofs.Common.{◌≡◌, ◌⊎◌, ℕ, zero, suc, ◌+◌, ◌<◌, Bool, true, false, inl, inr, List, [], ◌∷◌, ◌++◌, length, slice_get, Option, Some, None, refl, sym, ap, ◌∙◌, subst, arith, append_assoc, append-nil}
 use Rattle.std.specs.Option.{option_map_or}
-use Rattle.std.proofs.lemmas.List.{length-append}
 use Rattle.std.proofs.lemmas.Option.{slice_get_within, same_Some}
 use Rattle.store_core.proofs.FittingLemmas.{IfSome-at}
-use Rattle.gta_theory.specs.Assignments.{Position, Assignment}
+use Rattle.gta_theory.specs.Assignments.{Position}
 use Rattle.ws2s_core.specs.declared.label_tree.TreeNode.{TreeNode}
-use Rattle.ws2s_core.specs.LabelTrees.{IsTree, assignment_of}
+use Rattle.ws2s_core.specs.LabelTrees.{IsTree}
 use Rattle.ws2s_theory.specs.Trees.{StandsAt, at_root, at_left, at_right}
 use Rattle.tree_encode.proofs.TracksLemmas.{in_first, in_second}
 use Rattle.tree_backbone.specs.Preorder.{ComesBefore}

@@ -1,21 +1,20 @@
 -- The numbers of the cells, by the places of nodes.
-use Rattle.std.proofs.Common.{◌≡◌, ◌≢◌, ◌⊎◌, ℕ, zero, suc, ◌+◌, ◌<◌, Bool, true, false, cond, eqb, inl, inr, List, [], ◌∷◌, ◌++◌, length, take, slice_get, set, Option, Some, None, refl, sym, ap, ◌∙◌, subst, arith, eq-eqb, ne_eqb}
+use Rattle.std.proofs.Common.{◌≡◌, ◌≢◌, ◌⊎◌, ℕ, zero, suc, ◌+◌, ◌<◌, Bool, true, false, cond, eqb, inl, inr, List, [], ◌∷◌, ◌++◌, length, take, slice_get, Option, Some, None, refl, sym, ap, ◌∙◌, subst, arith, eq-eqb, ne_eqb}
 use Rattle.std.specs.Prelude.{slice_set}
-use Rattle.std.specs.Option.{option_map_or, option_and_then}
-use Rattle.std.proofs.lemmas.Bool.{cases_eq, false≢true}
-use Rattle.std.proofs.lemmas.Option.{slice_get_within, same_Some}
-use Rattle.gta_theory.specs.Assignments.{Position, Assignment, is_same_position}
+use Rattle.std.specs.Option.{option_map_or}
+use Rattle.std.proofs.lemmas.Bool.{cases_eq}
+use Rattle.gta_theory.specs.Assignments.{Position, is_same_position}
 use Rattle.ws2s_core.specs.declared.label_tree.TreeNode.{TreeNode}
 use Rattle.ws2s_core.specs.LabelTrees.{IsTree, assignment_of}
 use Rattle.ws2s_core.proofs.ExamplesLemmas.{same_position-true, same_position-refl}
 use Rattle.ws2s_theory.specs.Trees.{StandsAt}
 use Rattle.store_core.specs.declared.ids.CellId.{CellId}
 use Rattle.store_core.specs.Tables.{TypeEntry}
-use Rattle.tree_backbone.specs.Decoded.{Standing, AreCells, numbered, first_where}
+use Rattle.tree_backbone.specs.Decoded.{Standing, numbered, first_where}
 use Rattle.tree_backbone.proofs.CellsLemmas.{one_place}
 use Rattle.witness_store.specs.declared.cells.Found.{Found}
 use Rattle.witness_store.specs.Finding.{IsFoundAs, AreFoundAs, AreFound, number_of, AreNumbers}
-use Rattle.witness_store.specs.Reading.{AreNumbered, AreRead}
+use Rattle.witness_store.specs.Reading.{AreRead}
 use Rattle.witness_store.proofs.ListsLemmas.{take-next, length-front}
 use Rattle.witness_store.proofs.NamedLemmas.{one-position, one-node}
 use Rattle.witness_store.proofs.ReadingLemmas.{inside}

@@ -1,8 +1,7 @@
 -- The places that wait, and the nodes that follow them.
-use Rattle.std.proofs.Common.{◌≡◌, ℕ, zero, suc, ◌+◌, ◌<◌, List, [], ◌∷◌, ◌++◌, length, slice_get, Option, Some, None, IfSome, refl, sym, ap, ◌∙◌, subst, arith, append_assoc, append-nil}
+use Rattle.std.proofs.Common.{◌≡◌, ℕ, zero, suc, ◌<◌, List, [], ◌∷◌, ◌++◌, length, slice_get, Option, Some, None, IfSome, refl, sym, ap, ◌∙◌, arith, append_assoc, append-nil}
 use Rattle.std.specs.Prelude.{option_to_list}
 use Rattle.std.specs.Option.{option_map_or}
-use Rattle.std.proofs.lemmas.List.{length-append}
 use Rattle.ws2s_core.specs.declared.label_tree.TreeNode.{TreeNode}
 use Rattle.ws2s_core.specs.LabelTrees.{IsTree}
 use Rattle.witness_store.specs.Orders.{places_below, preorder_of, children_last_first, roots_of}

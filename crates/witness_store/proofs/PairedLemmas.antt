@@ -1,5 +1,5 @@
 -- The store of a tree is the store that the tree was made of, but for the names of the cells.
-use Rattle.std.proofs.Common.{◌≡◌, ◌⊎◌, ◌↔◌, ℕ, zero, suc, Bool, true, false, inl, inr, List, [], ◌∷◌, ◌++◌, slice_get, Option, Some, None, IsSome, IsSomeAnd, IfSome, Contains, refl, sym, ap, ◌∙◌, subst}
+use Rattle.std.proofs.Common.{◌≡◌, ◌⊎◌, ℕ, suc, Bool, true, false, inl, inr, List, [], ◌∷◌, ◌++◌, slice_get, Option, Some, None, IfSome, Contains, refl, sym, ap, ◌∙◌, subst}
 use Rattle.std.proofs.lemmas.Option.{same_Some}
 use Rattle.std.proofs.lemmas.List.Elements.{All-contains}
 use Rattle.gta_theory.specs.Assignments.{Position, Assignment}
@@ -16,14 +16,14 @@ use Rattle.store_core.specs.declared.kind.VarKind.{VarKind}
 use Rattle.store_core.specs.declared.kind.VarKind.TheVariants as var
 use Rattle.store_core.specs.declared.value.Value.{Value}
 use Rattle.store_core.specs.declared.value.Value.TheVariants as value
-use Rattle.store_core.specs.Tables.{TypeEntry, FieldEntry, VarEntry, fields_of, field_at, var_at, is_had}
-use Rattle.store_core.specs.Stores.{StoreMap, CellEntry, IsLive, CellFits, SlotsFit, SlotFits, FieldFits, VarFits, VarsFit, cell_of, field_value, var_value}
+use Rattle.store_core.specs.Tables.{TypeEntry, FieldEntry, VarEntry, fields_of, field_at, var_at}
+use Rattle.store_core.specs.Stores.{StoreMap, IsLive, CellFits, SlotsFit, SlotFits, FieldFits, VarFits, VarsFit, cell_of, field_value, var_value}
 use Rattle.store_core.proofs.FittingLemmas.{IfSome-at, IsSomeAnd-at, slot_at_value, var_at_value}
 use Rattle.store_core.proofs.FreshLemmas.{slot_value}
 use Rattle.routing_expr.specs.Walks.{DataAlone, IsFollowed, Leads, IsOfType, IsOfVariant}
 use Rattle.routing_expr.specs.Destinations.{EndsKind, Dest, IsOnlyDestination, IsPointer}
 use Rattle.routing_expr.specs.WellFormed.{IsWellFormed, HoldsOfType, VarHoldsLive, FieldHoldsLive, SetHoldsLive}
-use Rattle.routing_expr.proofs.LiveLemmas.{Leads-live, Walk-live, IsOfType-live}
+use Rattle.routing_expr.proofs.LiveLemmas.{Leads-live, IsOfType-live}
 use Rattle.routing_expr.proofs.MatchLemmas.{Matches, Walk-match}
 use Rattle.routing_laws.specs.Pairing.{PairsReference, PairsValue, PairsSlot, Pairwise, PairsCell, PairsEntry, ArePaired}
 use Rattle.routing_laws.proofs.DecidedStores.{dest_live}
@@ -31,8 +31,8 @@ use Rattle.store_pointers.specs.Only.{IsOnlyCell}
 use Rattle.store_pointers.specs.Pointers.{IsPointerField, IsDestinationIfOne, ArePointersSet}
 use Rattle.store_pointers.proofs.KeptLemmas.{known}
 use Rattle.store_pointers.proofs.OnlyLemmas.{IsOnlyCell-once}
-use Rattle.tree_encode.specs.Tracks.{of_var, track_at, var_track}
-use Rattle.tree_encode.proofs.ApartLemmas.{placed-apart, one-position}
+use Rattle.tree_encode.specs.Tracks.{of_var, track_at}
+use Rattle.tree_encode.proofs.ApartLemmas.{one-position}
 use Rattle.tree_store.specs.Encoding.{NamesCell, IsTreeOf}
 use Rattle.tree_store.proofs.SpotsLemmas.{of-some}
 use Rattle.tree_meaning.proofs.StoresLemmas.{placed-live}
@@ -52,9 +52,10 @@ slots_paired R s t index [] [] (y ∷ ys) fit also each = absurd also
 slots_paired R s t index [] (x ∷ xs) ys fit also each = absurd fit
 slots_paired R s t index (f ∷ fs) [] ys fit also each = absurd fit
 slots_paired R s t index (f ∷ fs) (x ∷ xs) [] fit also each = absurd also
-slots_paired R s t index (f ∷ fs) (x ∷ xs) (y ∷ ys) fit also each =
-    (by x y fit.0 also.0 (λ v w e k. each 0 v w (ap (λ o. Some o) e) (ap (λ o. Some o) k)),
-    slots_paired R s t index fs xs ys fit.1 also.1 (λ i v w e k. each (suc i) v w e k))
+slots_paired R s t index (f ∷ fs) (x ∷ xs) (y ∷ ys) fit also each = (
+  by x y fit.0 also.0 (λ v w e k. each 0 v w (ap (λ o. Some o) e) (ap (λ o. Some o) k)),
+  slots_paired R s t index fs xs ys fit.1 also.1 (λ i v w e k. each (suc i) v w e k),
+)
   where
     apart : false ≡ true → ⊥
     apart e = cc
@@ -145,9 +146,11 @@ module _ (types : List TypeEntry) (vars : List VarEntry) (a : Assignment) where
           (c, turned types vars a t s e c alike, led);
       up_back = λ f c d e h leads.
           let (b, alike) = goes types vars a t s T S d (Leads-live types t DataAlone f d e leads).0 in
-          let (x, also, led) = leads-goes types vars a t s T S f d e b alike leads in
-          (b, turned types vars a t s d b alike,
-          subst (λ y. Leads types s DataAlone f b y) (same-one types vars a t s T S e x c also (turned types vars a s t c e h)) led);
+          let (x, also, led) = leads-goes types vars a t s T S f d e b alike leads in (
+            b,
+            turned types vars a t s d b alike,
+            subst (λ y. Leads types s DataAlone f b y) (same-one types vars a t s T S e x c also (turned types vars a s t c e h)) led,
+          );
     }
 
     type-goes : (ty : TypeId) (b d : CellId) → StandAlike types vars s t b d → IsOfType s ty b → IsOfType t ty d

@@ -1,5 +1,5 @@
 -- What stands at positions, by the places of their nodes.
-use Rattle.std.proofs.Common.{◌≡◌, ◌≢◌, ℕ, zero, suc, ◌+◌, ◌<◌, Bool, true, false, IsTrue, List, [], ◌∷◌, ◌++◌, length, slice_get, Option, Some, None, refl, sym, ap, ◌∙◌, subst, arith, append_assoc, append-nil}
+use Rattle.std.proofs.Common.{◌≡◌, ℕ, ◌+◌, true, false, IsTrue, List, [], ◌∷◌, ◌++◌, length, slice_get, Option, Some, None, refl, sym, ap, ◌∙◌, subst, arith, append_assoc, append-nil}
 use Rattle.std.specs.Option.{option_map_or, option_and_then}
 use Rattle.std.proofs.lemmas.Bool.{false≢true}
 use Rattle.store_core.proofs.FittingLemmas.{IsSomeAnd-at}
@@ -7,12 +7,12 @@ use Rattle.gta_theory.specs.Assignments.{Position, Assignment, is_same_position}
 use Rattle.ws2s_core.specs.declared.track.Track.{Track}
 use Rattle.ws2s_core.specs.declared.label_tree.TreeNode.{TreeNode}
 use Rattle.ws2s_core.specs.LabelTrees.{IsTree, assignment_of}
-use Rattle.ws2s_theory.specs.Trees.{StandsAt, at_root, at_left, at_right, label_of, child_at, last_place}
+use Rattle.ws2s_theory.specs.Trees.{at_root, at_left, at_right, label_of, child_at, last_place}
 use Rattle.ws2s_theory.proofs.TreesLemmas.{left-at, right-at, below-position}
 use Rattle.store_core.specs.declared.ids.CellId.{CellId}
 use Rattle.store_core.specs.Tables.{TypeEntry}
 use Rattle.tree_encode.specs.Tracks.{variant_track}
-use Rattle.tree_backbone.specs.Decoded.{Standing, AreCells, first_where, is_on}
+use Rattle.tree_backbone.specs.Decoded.{Standing, first_where, is_on}
 use Rattle.witness_store.specs.Reading.{left_of_node, right_of_node, has_track, number_in, IsNodeAt, AreRead}
 use Rattle.witness_store.proofs.ListsLemmas.{present}
 use Rattle.witness_store.proofs.NumbersLemmas.{same_position-false, none-where}

@@ -1,9 +1,6 @@
 -- What is said of the store of an assignment holds however its pointer fields are set.
-use Rattle.std.proofs.Common.{◌≡◌, ◌↔◌, ◌⊎◌, ◌<◌, ℕ, true, inl, inr, List, [], Option, Some, None, IsSomeAnd, refl, sym, ap, ◌∙◌, subst}
-use Rattle.std.specs.Prelude.{All, IfSome}
+use Rattle.std.proofs.Common.{◌≡◌, ◌<◌, true, inl, inr, List, IsSomeAnd, sym, ◌∙◌, subst}
 use Rattle.gta_theory.specs.Assignments.{Position, Assignment}
-use Rattle.store_core.specs.declared.ids.TypeId.{TypeId}
-use Rattle.store_core.specs.declared.ids.VarId.{VarId}
 use Rattle.store_core.specs.declared.ids.CellId.{CellId}
 use Rattle.store_core.specs.declared.kind.VarKind.{VarKind}
 use Rattle.store_core.specs.declared.kind.VarKind.TheVariants as var
@@ -12,15 +9,14 @@ use Rattle.store_core.specs.declared.value.Value.TheVariants as value
 use Rattle.store_core.specs.Tables.{TypeEntry, VarEntry, var_at}
 use Rattle.store_core.specs.Stores.{StoreMap, Fits, IsFresh, var_value}
 use Rattle.store_core.proofs.FittingLemmas.{IfSome-from, IfSome-at}
-use Rattle.routing_expr.specs.Walks.{IsOfType}
 use Rattle.routing_expr.specs.WellFormed.{SetHoldsLive}
 use Rattle.tree_encode.specs.Tracks.{TrackUse, of_variant, of_bool, of_var}
 use Rattle.tree_encode.specs.Positions.{IsPlaced}
-use Rattle.tree_store.specs.Encoding.{track_of, NamesCell, CellIsOn, RootIsOn, IsOn, IsAssignmentOf}
+use Rattle.tree_store.specs.Encoding.{NamesCell, CellIsOn, RootIsOn, IsOn}
 use Rattle.store_pointers.specs.Pointers.{DoCellsFit, IsSameButPointers}
 use Rattle.store_pointers.proofs.AlikeLemmas.{alike_turned, by_variant, live_alike, var_alike, truth_alike, stands_alike, AreAlike-same}
 use Rattle.tree_meaning.specs.Premises.{SetsHoldLive}
-use Rattle.tree_backbone.specs.Stores.{AreNumberedFromOne, AreInPreorder, IsStoreOf}
+use Rattle.tree_backbone.specs.Stores.{IsStoreOf}
 
 module _ (types : List TypeEntry) (vars : List VarEntry) (s t : StoreMap) (fits : DoCellsFit types s) (k : IsSameButPointers types s t) where
   pub placed_alike : (c : CellId) (p : Position) → IsPlaced types vars s c p → IsPlaced types vars t c p

@@ -1,9 +1,9 @@
 -- What the tracks of a node say of the position at which it stands.
-use Rattle.std.proofs.Common.{◌≡◌, ℕ, zero, suc, ◌+◌, ◌<◌, true, false, List, [], ◌∷◌, ◌++◌, length, slice_get, Option, Some, None, refl, sym, ap, ◌∙◌, subst, arith, append_assoc, append-nil}
+use Rattle.std.proofs.Common.{◌≡◌, ℕ, suc, ◌+◌, ◌<◌, true, false, List, [], ◌∷◌, ◌++◌, length, slice_get, Option, Some, None, refl, sym, ap, ◌∙◌, subst, arith, append_assoc, append-nil}
 use Rattle.std.proofs.lemmas.Bool.{false≢true}
 use Rattle.std.proofs.lemmas.Option.{slice_get_within}
 use Rattle.store_core.proofs.FittingLemmas.{IfSome-at}
-use Rattle.gta_theory.specs.Assignments.{Position, Assignment}
+use Rattle.gta_theory.specs.Assignments.{Position}
 use Rattle.ws2s_core.specs.declared.label_tree.TreeNode.{TreeNode}
 use Rattle.ws2s_core.specs.LabelTrees.{IsTree, assignment_of}
 use Rattle.ws2s_theory.specs.Trees.{StandsAt, at_root, at_left, at_right, assignment_at, child_at, label_of, last_place}

@@ -1,37 +1,32 @@
 -- Two stores of one assignment: cells at one position are of one variant and lead to cells at one position.
-use Rattle.std.proofs.Common.{◌≡◌, ◌⊎◌, ◌↔◌, ℕ, zero, suc, Bool, true, false, cond, inl, inr, List, [], ◌∷◌, ◌++◌, slice_get, unwrap_or, IsTrue, ◌+◌, take, eq-eqb, Option, Some, None, IsSome, IsSomeAnd, IfSome, Contains, refl, sym, ap, ◌∙◌, subst}
+use Rattle.std.proofs.Common.{◌≡◌, ◌⊎◌, ℕ, zero, suc, Bool, true, false, cond, inl, inr, List, [], ◌∷◌, ◌++◌, slice_get, unwrap_or, ◌+◌, take, eq-eqb, Option, Some, None, IsSomeAnd, refl, sym, ap, ◌∙◌, subst}
 use Rattle.std.specs.Option.{option_and_then}
 use Rattle.std.proofs.lemmas.Option.{same_Some}
 use Rattle.gta_theory.specs.Assignments.{Position, Assignment}
-use Rattle.ws2s_core.specs.declared.track.Track.{Track}
 use Rattle.ws2s_forms.specs.Places.{child_of, slot_of}
 use Rattle.store_core.specs.declared.ids.TypeId.{TypeId}
 use Rattle.store_core.specs.declared.ids.VariantId.{VariantId}
 use Rattle.store_core.specs.declared.ids.FieldId.{FieldId}
-use Rattle.store_core.specs.declared.ids.VarId.{VarId}
 use Rattle.store_core.specs.declared.ids.CellId.{CellId}
 use Rattle.store_core.specs.declared.kind.FieldKind.{FieldKind}
 use Rattle.store_core.specs.declared.kind.FieldKind.TheVariants as field
 use Rattle.store_core.specs.declared.value.Value.{Value}
 use Rattle.store_core.specs.declared.value.Value.TheVariants as value
-use Rattle.store_core.specs.Tables.{TypeEntry, FieldEntry, VarEntry, fields_of, field_at, var_at, is_had}
-use Rattle.store_core.specs.Stores.{StoreMap, CellEntry, IsLive, Fits, CellFits, SlotsFit, FieldFits, cell_of, field_of, field_value, var_value}
+use Rattle.store_core.specs.Tables.{TypeEntry, FieldEntry, VarEntry, fields_of, field_at, is_had}
+use Rattle.store_core.specs.Stores.{StoreMap, CellEntry, IsLive, Fits, CellFits, SlotsFit, FieldFits, cell_of, field_of, field_value}
 use Rattle.store_core.proofs.FittingLemmas.{IfSome-at, IsSomeAnd-at, slot_at_value}
-use Rattle.routing_expr.specs.Walks.{DataAlone, IsFollowed, Leads, IsOfType, IsOfVariant}
+use Rattle.routing_expr.specs.Walks.{DataAlone, IsFollowed, Leads}
 use Rattle.routing_expr.specs.WellFormed.{IsBackbone}
-use Rattle.routing_expr.proofs.LiveLemmas.{Leads-live}
-use Rattle.routing_expr.proofs.MatchLemmas.{Matches}
 use Rattle.routing_laws.specs.Paths.{LeadsAlong}
 use Rattle.store_pointers.proofs.KeptLemmas.{known}
-use Rattle.tree_encode.specs.declared.counting.Counted.TheVariants.{Bools, Children}
+use Rattle.tree_encode.specs.declared.counting.Counted.TheVariants.{Bools}
 use Rattle.tree_encode.specs.Counting.{counts, is_counted, rank, variants_in, bools_in}
-use Rattle.tree_encode.specs.Tracks.{TrackUse, of_variant, of_bool, of_var, track_at, bool_track, slot_of_var, child_number}
+use Rattle.tree_encode.specs.Tracks.{of_bool, track_at, bool_track, slot_of_var, child_number}
 use Rattle.tree_encode.specs.Positions.{below, IsPlaced}
 use Rattle.tree_encode.proofs.ApartLemmas.{placed-apart, one-position}
 use Rattle.tree_encode.proofs.PositionsLemmas.{data_field, numbered, own_type}
 use Rattle.tree_store.specs.Encoding.{IsAssignmentOf}
-use Rattle.tree_store.proofs.SpotsLemmas.{of-some}
-use Rattle.tree_shapes.specs.Shapes.{IsCellOf, LaysOut}
+use Rattle.tree_shapes.specs.Shapes.{LaysOut}
 use Rattle.tree_meaning.specs.Premises.{SetsHoldLive}
 use Rattle.tree_meaning.proofs.HoldersLemmas.{backbone-lays}
 use Rattle.tree_meaning.proofs.MarksLemmas.{one-variant}

@@ -1,5 +1,5 @@
 -- What is read off a tree at the places of its nodes, and what it says of positions.
-use Rattle.std.specs.Prelude.{◌≡◌, ℕ, suc, Bool, true, false, List, [], ◌∷◌, ◌++◌, length, slice_get, Option, Some, None}
+use Rattle.std.specs.Prelude.{◌≡◌, ℕ, Bool, false, List, ◌++◌, slice_get, Option, Some, None}
 use Rattle.std.specs.Option.{option_and_then, option_map_or}
 use Rattle.gta_theory.specs.Assignments.{Position, is_same_position}
 use Rattle.ws2s_core.specs.declared.track.Track.{Track}

@@ -1,10 +1,8 @@
-use Rattle.std.proofs.Common.{◌≡◌, ◌++◌, ◌∷◌, [], ◌+◌, ◌<◌, length, get_or, slice_get, take, Some, None, ◌≤◌, append-nil, sym, ap, ◌∙◌, subst, arith}
+use Rattle.std.proofs.Common.{◌≡◌, ◌++◌, ◌∷◌, [], ◌+◌, length, get_or, slice_get, take, Some, None, ◌≤◌, append-nil, sym, ap, ◌∙◌, arith}
 use Rattle.std.specs.Option.{option_map_or}
 use Rattle.std.proofs.lemmas.List.{take_all}
 use Rattle.std.proofs.lemmas.Option.{slice_get-get_or}
-use Rattle.ws2s_core.specs.LabelTrees.{IsTree}
 use Rattle.store_core.specs.declared.ids.VariantId.{VariantId}
-use Rattle.witness_store.specs.declared.cells.Found.{Found}
 use Rattle.tree_encode.specs.Tracks.{variants_from}
 use Rattle.witness_store.specs.Orders.{preorder_of}
 use Rattle.witness_store.specs.Finding.{variant_in, found_among, FindsCells}
@@ -23,7 +21,7 @@ loop-place-preserved c =
     let at : slice_get places i ≡ Some k = slice_get-get_or places i 0 c.loop-place-test.true in
     let variant = variant_in nodes variants in
     let next : found_among variant (take i places) ++ option_map_or (λ (v : VariantId). record { node = k; variant = v } ∷ []) (variant k) []
-        ≡ found_among variant (take (i + 1) places) = sym (found-more variant (take i places) k) ∙ ap (found_among variant) (sym (take-next places i k at)) in
+    ≡ found_among variant (take (i + 1) places) = sym (found-more variant (take i places) k) ∙ ap (found_among variant) (sym (take-next places i k at)) in
     let read : c.variant_at.result ≡ variant k = c.variant_at.ensures ∙ ap (λ vs. variant_in nodes vs k) c.as_slice.ensures.value in
     let listed = c.as_slice.ensures.value in
     elim c.match-variant_at.branch [

@@ -1,4 +1,4 @@
-use Rattle.std.proofs.Common.{◌≡◌, ◌<◌, get_or, slice_get, Some, arith}
+use Rattle.std.proofs.Common.{◌≡◌, get_or, slice_get, Some, arith}
 use Rattle.std.proofs.lemmas.Option.{slice_get-get_or}
 use Rattle.witness_store.specs.declared.cells.Found.{Found}
 use Rattle.witness_store.proofs.NumbersLemmas.{AreNumbers-next}

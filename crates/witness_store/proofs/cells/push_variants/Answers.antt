@@ -1,5 +1,4 @@
-use Rattle.std.proofs.Common.{◌≡◌, ◌++◌, ◌∙◌, ap, sym, subst, append-nil, arith}
-use Rattle.tree_encode.specs.Tracks.{variants_at}
+use Rattle.std.proofs.Common.{◌∙◌, sym, append-nil}
 use Rattle.witness_store.proofs.VariantsLemmas.{more-variants}
 use Rattle.witness_store.proofs.cells.push_variants.Goals as goal
 

@@ -1,5 +1,5 @@
-use Rattle.std.proofs.Common.{◌≡◌, ◌++◌, ◌∙◌, ap, sym, subst, take, arith}
-use Rattle.tree_encode.specs.Tracks.{variants_at, variants_from}
+use Rattle.std.proofs.Common.{◌++◌, ◌∙◌, ap, sym, arith}
+use Rattle.tree_encode.specs.Tracks.{variants_at}
 use Rattle.store_core.specs.Tables.{variant_count}
 use Rattle.witness_store.proofs.VariantsLemmas.{variants-next}
 use Rattle.witness_store.proofs.cells.variants_of.Goals as goal

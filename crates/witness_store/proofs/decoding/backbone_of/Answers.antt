@@ -1,4 +1,4 @@
-use Rattle.std.proofs.Common.{◌≡◌, suc, length, sym, ap, ◌∙◌, subst, arith}
+use Rattle.std.proofs.Common.{length, sym, subst, arith}
 use Rattle.ws2s_core.specs.LabelTrees.{IsTree, assignment_of}
 use Rattle.witness_store.specs.Finding.{AreFoundAs, AreFound, AreNumbers}
 use Rattle.witness_store.specs.Reading.{AreRead}

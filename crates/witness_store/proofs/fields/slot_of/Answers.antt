@@ -2,8 +2,7 @@ use Rattle.std.proofs.Common.{◌≡◌, true, Some, option_map, sym, ap, ◌∙
 use Rattle.store_core.specs.declared.kind.FieldKind.TheVariants as field
 use Rattle.store_core.specs.declared.value.Value.TheVariants as value
 use Rattle.store_core.specs.Tables.{FieldEntry, field_at, has_field}
-use Rattle.tree_encode.specs.Tracks.{bool_track}
-use Rattle.witness_store.specs.Reading.{left_of_node, has_track, number_in}
+use Rattle.witness_store.specs.Reading.{has_track, number_in}
 use Rattle.witness_store.proofs.FieldsLemmas.{slot-bool, slot-data}
 use Rattle.witness_store.proofs.fields.slot_of.Goals as goal
 

@@ -1,8 +1,8 @@
-use Rattle.std.proofs.Common.{◌≡◌, ◌<◌, ◌≤◌, length, slice_get, take, Some, sym, ap, ◌∙◌, subst, arith}
+use Rattle.std.proofs.Common.{◌≡◌, ◌<◌, ◌≤◌, length, slice_get, Some, ap, ◌∙◌, subst, arith}
 use Rattle.std.proofs.lemmas.List.{take_all}
 use Rattle.ws2s_core.specs.LabelTrees.{assignment_of}
 use Rattle.store_core.specs.declared.ids.FieldId.{FieldId}
-use Rattle.store_core.specs.Tables.{FieldEntry, field_at, fields_of}
+use Rattle.store_core.specs.Tables.{fields_of}
 use Rattle.tree_backbone.specs.Decoded.{slots_in}
 use Rattle.witness_store.proofs.FieldsLemmas.{slots-next}
 use Rattle.witness_store.proofs.ListsLemmas.{present}

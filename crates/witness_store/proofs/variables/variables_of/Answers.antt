@@ -1,7 +1,7 @@
-use Rattle.std.proofs.Common.{◌≡◌, ◌<◌, length, slice_get, Some, option_map, sym, ap, ◌∙◌, subst, arith}
+use Rattle.std.proofs.Common.{◌≡◌, ◌<◌, length, slice_get, option_map, ap, ◌∙◌, arith}
 use Rattle.std.proofs.lemmas.Option.{same_Some}
 use Rattle.ws2s_core.specs.LabelTrees.{assignment_of}
-use Rattle.store_core.specs.Tables.{VarEntry, var_at}
+use Rattle.store_core.specs.Tables.{VarEntry}
 use Rattle.tree_encode.specs.Tracks.{var_track}
 use Rattle.tree_backbone.specs.Decoded.{var_in}
 use Rattle.witness_store.proofs.ListedLemmas.{vars-next}
