@@ -3,3 +3,4 @@ pub mod OnlyLemmas
 pub mod FindingLemmas
 pub mod KeptLemmas
 pub mod SettingLemmas
+pub mod ExistenceLemmas

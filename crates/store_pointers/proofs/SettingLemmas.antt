@@ -35,7 +35,7 @@ use Rattle.store_pointers.proofs.KeptLemmas.{DoCellsFit-set_field}
 -- ---- one cell at most of a list
 
 -- the only one of the cells that are listed
-only_listed : (P : CellId → Type 0) (cells : List CellId) → Lists P cells → (o : Option CellId) × IsOnlyCell P o
+pub only_listed : (P : CellId → Type 0) (cells : List CellId) → Lists P cells → (o : Option CellId) × IsOnlyCell P o
 only_listed P [] listed = (None, inl (λ d p. let place = place_in [] d ((listed.members d).1 p) in absurd (nothing place.0 d place.1)))
   where
     nothing : (i : ℕ) (d : CellId) → slice_get [] i ≡ Some d → ⊥

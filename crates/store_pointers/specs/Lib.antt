@@ -1,3 +1,4 @@
 pub mod Only
 pub mod Pointers
 pub mod Finding
+pub mod Setting

@@ -8,5 +8,5 @@ mod finding;
 mod laws;
 mod setting;
 
-pub use laws::pointers_dont_count;
+pub use laws::{pointers_can_be_set, pointers_dont_count};
 pub use setting::set_pointers;

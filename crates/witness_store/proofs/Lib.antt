@@ -1,0 +1,17 @@
+pub mod ListsLemmas
+pub mod PointersLemmas
+pub mod OrdersLemmas
+pub mod NodesLemmas
+pub mod NamedLemmas
+pub mod ReadingLemmas
+pub mod VariantsLemmas
+pub mod FoundLemmas
+pub mod NumbersLemmas
+pub mod PlacesLemmas
+pub mod FieldsLemmas
+pub mod ListedLemmas
+pub mod DecodedLemmas
+pub mod UsesLemmas
+pub mod FunctionalLemmas
+pub mod SamePlaceLemmas
+pub mod PairedLemmas

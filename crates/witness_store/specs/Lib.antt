@@ -1,0 +1,5 @@
+pub mod Orders
+pub mod Finding
+pub mod Reading
+pub mod Results
+pub mod Alike
