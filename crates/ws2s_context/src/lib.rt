@@ -1,0 +1,22 @@
+//! Formulas rewritten in their context, so that their automata stay small.
+//!
+//! What holds around a part of a formula is conjoined inside it: automata then need not tell apart assignments that are
+//! ruled out outside. All goes on numbers of formulas, each of which is looked at once in each context.
+//! `specs/Going.antt` says what a context holds, and what there is on the way; `specs/Opening.antt` what is kept where
+//! outermost quantifiers are dropped. Which conjuncts are used is free.
+#![tactic(auto)]
+
+mod context;
+mod facts;
+mod machine;
+mod making;
+mod opening;
+mod rewriting;
+mod rewritings;
+mod spine;
+mod task;
+mod tracks;
+mod visiting;
+
+pub use opening::open_spine;
+pub use rewriting::in_context;

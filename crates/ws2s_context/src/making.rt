@@ -1,0 +1,103 @@
+//! Formulas made again of their parts, which were rewritten.
+
+ghost use Rattle.std.specs.Prelude.{◌≡◌, ◌<◌, ◌∷◌, [], length, OnOk, IfOk};
+ghost use Rattle.ws2s_core.specs.Nodes.{Extends};
+ghost use Rattle.ws2s_theory.specs.Contexts.{SameUnder};
+ghost use Rattle.ws2s_context.specs.Conjuncts.{IsThere, IsContext, formula_of, context_at};
+ghost use Rattle.ws2s_context.specs.Going.{IsGoing, IsConjoining, IsNegating, IsQuantifying};
+
+use crate::context::Context;
+use crate::machine::Machine;
+use crate::spine::{is_atom, is_conjunction};
+use crate::task::Place;
+use std::alloc::AllocError;
+use ws2s_core::{FormulaId, Interner, Node, Track, intern_form};
+
+/// The halves of a conjunction are put together again.
+pub(crate) fn make_conjunction(
+    interner: &mut Interner,
+    place: Place,
+    left: Place,
+    right: Place,
+    machine: &mut Machine,
+) -> Result<(), AllocError>
+    requires place { IsConjoining interner.old place left right }
+    requires going { IsGoing interner.old machine.old.tasks machine.old.rewritings.made.items }
+    ensures kept { Extends interner.old interner.new }
+    ensures ok { OnOk result (IsGoing interner.new machine.new.tasks machine.new.rewritings.made.items) }
+    ensures tasks { machine.new.tasks ≡ machine.old.tasks }
+    ensures room { machine.new.room ≡ machine.old.room }
+{
+    let first = machine.rewritings.to(left);
+    let second = machine.rewritings.to(right);
+    let made = intern_form(interner, Node::And(first, second))?;
+    machine.rewritings.add(place, made)?;
+    Ok(())
+}
+
+/// A negation is made again, beside its context.
+pub(crate) fn make_negation(
+    interner: &mut Interner,
+    place: Place,
+    inner: Place,
+    machine: &mut Machine,
+) -> Result<(), AllocError>
+    requires place { IsNegating interner.old place inner }
+    requires going { IsGoing interner.old machine.old.tasks machine.old.rewritings.made.items }
+    ensures kept { Extends interner.old interner.new }
+    ensures ok { OnOk result (IsGoing interner.new machine.new.tasks machine.new.rewritings.made.items) }
+    ensures tasks { machine.new.tasks ≡ machine.old.tasks }
+    ensures room { machine.new.room ≡ machine.old.room }
+{
+    let part = machine.rewritings.to(inner);
+    let negated = intern_form(interner, Node::Not(part))?;
+    let is_large = !is_atom(interner, inner.id);
+    let made = beside_context(interner, place.context, negated, is_large)?;
+    machine.rewritings.add(place, made)?;
+    Ok(())
+}
+
+/// A quantifier is put again before what stands there, with its context.
+pub(crate) fn make_quantified(
+    interner: &mut Interner,
+    place: Place,
+    t: Track,
+    inner: Place,
+    machine: &mut Machine,
+) -> Result<(), AllocError>
+    requires place { IsQuantifying interner.old place t inner }
+    requires going { IsGoing interner.old machine.old.tasks machine.old.rewritings.made.items }
+    ensures kept { Extends interner.old interner.new }
+    ensures ok { OnOk result (IsGoing interner.new machine.new.tasks machine.new.rewritings.made.items) }
+    ensures tasks { machine.new.tasks ≡ machine.old.tasks }
+    ensures room { machine.new.room ≡ machine.old.room }
+{
+    let part = machine.rewritings.to(inner);
+    let is_large = is_conjunction(interner, inner.id);
+    let beside = beside_context(interner, inner.context, part, is_large)?;
+    let made = intern_form(interner, Node::Ex2(t, beside))?;
+    machine.rewritings.add(place, made)?;
+    Ok(())
+}
+
+/// The conjunction of a context and a formula, where it is wanted; otherwise the formula.
+fn beside_context(
+    interner: &mut Interner,
+    context: Context,
+    id: FormulaId,
+    is_wanted: bool,
+) -> Result<FormulaId, AllocError>
+    requires context { IsContext interner.old context }
+    requires id { IsThere interner.old id }
+    ensures kept { Extends interner.old interner.new }
+    ensures there { IfOk result (IsThere interner.new) }
+    ensures same { IfOk result (λ made. SameUnder (context_at interner.old context) (formula_of interner.old id) (formula_of interner.new made)) }
+{
+    match context {
+        Some(known) if is_wanted => {
+            let made = intern_form(interner, Node::And(known, id))?;
+            Ok(made)
+        }
+        _ => Ok(id),
+    }
+}
