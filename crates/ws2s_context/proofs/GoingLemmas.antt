@@ -1,5 +1,5 @@
 -- On tasks and rewritings.
-use Rattle.std.proofs.Common.{true, Bool, ◌≡◌, ℕ, ◌<◌, List, [], ◌∷◌, length, All, Option, Some, None, refl, sym, ap, ap₂, subst, ◌∙◌}
+use Rattle.std.proofs.Common.{◌≡◌, ℕ, ◌<◌, List, [], ◌∷◌, length, All, Option, Some, None, refl, sym, ap, ap₂, subst, ◌∙◌}
 use Rattle.std.proofs.lemmas.List.Elements.{All-nil, All-cons, All-head, All-tail, All-weaker}
 use Rattle.ws2s_core.specs.declared.track.Track.{Track}
 use Rattle.ws2s_core.specs.declared.formula.Formula.{Formula}
@@ -93,7 +93,7 @@ module _ (old new : List Formula) (h : Extends old new) where
   }
 
   IsSound-extends : (task : Task) → IsSound old task → IsSound new task
-  IsSound-extends (Task.Visit place outer) was = IsPlace-extends old new place h was
+  IsSound-extends (Task.Visit place) was = IsPlace-extends old new place h was
   IsSound-extends (Task.Conjoin place left right) was = IsConjoining-extends place left right was
   IsSound-extends (Task.Negate place inner) was = IsNegating-extends place inner was
   IsSound-extends (Task.Quantify place t inner) was = IsQuantifying-extends place t inner was
@@ -179,20 +179,16 @@ IsSame-conjunction old new place left right first second made h was on_left on_r
     (SameUnder-implied inner (around old right) (whole old right) (formula_of old second) was.in_right on_right.same)))
     is there
 
-pub IsSame-negation : (a b c : List Formula) (place inner : Place) (part negated made : FormulaId) → Extends a b → Extends b c →
-    IsNegating a place inner → IsSame a inner part → formula_of b negated ≡ Not (formula_of a part) → IsThere c made →
-    SameUnder (context_at b place.context) (formula_of b negated) (formula_of c made) → IsSame c place made
-IsSame-negation a b c place inner part negated made first second was on_inner is there same =
-    let on_part : SameUnder (around a place) (whole a inner) (formula_of a part) =
-    subst (λ x. SameUnder (context_at a x) (whole a inner) (formula_of a part)) (sym was.in_inner) on_inner.same in
-    let beside : SameUnder (around a place) (formula_of b negated) (formula_of c made) =
-    subst (λ x. SameUnder x (formula_of b negated) (formula_of c made)) (around-extends a b place first was.here) same in
-    IsSame-made a c place made (formula_of c made) (Extends-trans a b c first second) was.here
-    (subst (λ w. SameUnder (around a place) w (formula_of c made)) (sym was.is)
-    (SameUnder-trans (around a place) (Not (whole a inner)) (Not (formula_of a part)) (formula_of c made)
-    (SameUnder-not (around a place) (whole a inner) (formula_of a part) on_part)
-    (subst (λ w. SameUnder (around a place) w (formula_of c made)) is beside)))
-    refl there
+pub IsSame-negation : (old new : List Formula) (place inner : Place) (part made : FormulaId) → Extends old new →
+    IsNegating old place inner → IsSame old inner part → formula_of new made ≡ Not (formula_of old part) → IsThere new made →
+    IsSame new place made
+IsSame-negation old new place inner part made h was on_inner is there =
+    let on_part : SameUnder (around old place) (whole old inner) (formula_of old part) =
+    subst (λ x. SameUnder (context_at old x) (whole old inner) (formula_of old part)) (sym was.in_inner) on_inner.same in
+    IsSame-made old new place made (Not (formula_of old part)) h was.here
+    (subst (λ w. SameUnder (around old place) w (Not (formula_of old part))) (sym was.is)
+    (SameUnder-not (around old place) (whole old inner) (formula_of old part) on_part))
+    is there
 
 pub IsSame-quantified : (a b c : List Formula) (place : Place) (t : Track) (inner : Place) (part whole_part made : FormulaId) → Extends a b → Extends b c →
     IsQuantifying a place t inner → IsSame a inner part → SameUnder (context_at a inner.context) (formula_of a part) (formula_of b whole_part) →
@@ -213,35 +209,35 @@ IsGoing-pushed formulas task old new made sound going e =
     subst (λ (tasks : List Task). IsGoing formulas tasks made) (sym e) (IsGoing-push formulas task old made sound going)
 
 -- the tasks of a conjunction come
-pub IsGoing-divided : (formulas : List Formula) (place left right : Place) (outer goes_on : Bool) (first second third last : List Task) (made : List Rewriting) →
+pub IsGoing-divided : (formulas : List Formula) (place left right : Place) (first second third last : List Task) (made : List Rewriting) →
     IsConjoining formulas place left right → IsGoing formulas first made → second ≡ Task.Conjoin place left right ∷ first →
-    third ≡ Task.Visit right outer ∷ second → last ≡ Task.Visit left goes_on ∷ third → IsGoing formulas last made
-IsGoing-divided formulas place left right outer goes_on first second third last made conjoining going e e' e'' =
-    IsGoing-pushed formulas (Task.Visit left goes_on) third last made conjoining.left_here
-    (IsGoing-pushed formulas (Task.Visit right outer) second third made conjoining.right_here
+    third ≡ Task.Visit right ∷ second → last ≡ Task.Visit left ∷ third → IsGoing formulas last made
+IsGoing-divided formulas place left right first second third last made conjoining going e e' e'' =
+    IsGoing-pushed formulas (Task.Visit left) third last made conjoining.left_here
+    (IsGoing-pushed formulas (Task.Visit right) second third made conjoining.right_here
     (IsGoing-pushed formulas (Task.Conjoin place left right) first second made conjoining going e) e') e''
 
 -- the tasks of a negation come
-pub IsGoing-negating : (formulas : List Formula) (place inner : Place) (outer : Bool) (first second last : List Task) (made : List Rewriting) →
+pub IsGoing-negating : (formulas : List Formula) (place inner : Place) (first second last : List Task) (made : List Rewriting) →
     IsNegating formulas place inner → IsGoing formulas first made → second ≡ Task.Negate place inner ∷ first →
-    last ≡ Task.Visit inner outer ∷ second → IsGoing formulas last made
-IsGoing-negating formulas place inner outer first second last made negating going e e' =
-    IsGoing-pushed formulas (Task.Visit inner outer) second last made negating.inner_here
+    last ≡ Task.Visit inner ∷ second → IsGoing formulas last made
+IsGoing-negating formulas place inner first second last made negating going e e' =
+    IsGoing-pushed formulas (Task.Visit inner) second last made negating.inner_here
     (IsGoing-pushed formulas (Task.Negate place inner) first second made negating going e) e'
 
 -- the tasks of a quantifier come
-pub IsGoing-quantifying : (formulas : List Formula) (place : Place) (t : Track) (inner : Place) (outer : Bool) (first second last : List Task)
+pub IsGoing-quantifying : (formulas : List Formula) (place : Place) (t : Track) (inner : Place) (first second last : List Task)
     (made : List Rewriting) → IsQuantifying formulas place t inner → IsGoing formulas first made → second ≡ Task.Quantify place t inner ∷ first →
-    last ≡ Task.Visit inner outer ∷ second → IsGoing formulas last made
-IsGoing-quantifying formulas place t inner outer first second last made quantifying going e e' =
-    IsGoing-pushed formulas (Task.Visit inner outer) second last made quantifying.inner_here
+    last ≡ Task.Visit inner ∷ second → IsGoing formulas last made
+IsGoing-quantifying formulas place t inner first second last made quantifying going e e' =
+    IsGoing-pushed formulas (Task.Visit inner) second last made quantifying.inner_here
     (IsGoing-pushed formulas (Task.Quantify place t inner) first second made quantifying going e) e'
 
 -- one formula is to be rewritten
 pub IsGoing-first_task : (formulas : List Formula) (place : Place) (none tasks : List Task) (made : List Rewriting) → IsPlace formulas place → none ≡ [] →
-    tasks ≡ Task.Visit place true ∷ none → All (IsRewriting formulas) made → IsGoing formulas tasks made
+    tasks ≡ Task.Visit place ∷ none → All (IsRewriting formulas) made → IsGoing formulas tasks made
 IsGoing-first_task formulas place none tasks made here e e' all = record {
-  sound = subst (All (IsSound formulas)) (sym e') (All-cons (IsSound formulas) (Task.Visit place true) none here
+  sound = subst (All (IsSound formulas)) (sym e') (All-cons (IsSound formulas) (Task.Visit place) none here
       (subst (All (IsSound formulas)) (sym e) (All-nil (IsSound formulas))));
   made = all;
 }

@@ -9,6 +9,10 @@ use Rattle.ws2s_core.specs.Tracks.{is_free}
 use Rattle.ws2s_context.specs.declared.facts.Fact.{Fact}
 use Rattle.ws2s_context.specs.Conjuncts.{IsThere, formula_of}
 
+-- sets of tracks' numbers
+abbrev pub TrackSet : Type 0
+TrackSet = HashSet ℕ (BuildHasherDefault FoldHasher)
+
 -- the fact has exactly the free tracks of its formula
 pub record IsFact (formulas : List Formula) (fact : Fact) : Type 0 where
   pub there : IsThere formulas fact.id
@@ -18,5 +22,5 @@ abbrev pub AreFacts : List Formula → List Fact → Type 0
 AreFacts formulas facts = All (IsFact formulas) facts
 
 -- wherever the facts hold, the tracks are exactly the free ones
-pub record Finds (facts : List Fact) (free : List Formula → ℕ → Bool) (tracks : HashSet ℕ (BuildHasherDefault FoldHasher)) : Type 0 where
+pub record Finds (facts : List Fact) (free : List Formula → ℕ → Bool) (tracks : TrackSet) : Type 0 where
   pub exactly : (formulas : List Formula) → AreFacts formulas facts → (t : ℕ) → contains nat_eq tracks t ≡ free formulas t

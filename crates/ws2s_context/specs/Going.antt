@@ -58,7 +58,7 @@ pub record IsQuantifying (formulas : List Formula) (place : Place) (t : Track) (
 
 -- what a task is about is there, and its contexts hold
 abbrev pub IsSound : List Formula → Task → Type 0
-IsSound formulas (Task.Visit place outer) = IsPlace formulas place
+IsSound formulas (Task.Visit place) = IsPlace formulas place
 IsSound formulas (Task.Conjoin place left right) = IsConjoining formulas place left right
 IsSound formulas (Task.Negate place inner) = IsNegating formulas place inner
 IsSound formulas (Task.Quantify place t inner) = IsQuantifying formulas place t inner

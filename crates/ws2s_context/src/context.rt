@@ -8,7 +8,7 @@ ghost use Rattle.ws2s_context.specs.Conjuncts.{IsThere, IsContext, IsConjunct, I
 ghost use Rattle.ws2s_context.specs.Facts.{AreFacts};
 
 use crate::facts::Facts;
-use crate::spine::conjuncts_of;
+use crate::spine::{conjuncts_of, is_atom};
 use std::alloc::{AllocError, Global};
 use std::collections::HashSet;
 use ws2s_core::{FormulaId, Interner, Node, Track, intern_form};
@@ -123,8 +123,8 @@ pub(crate) fn narrowed(
     Ok(made)
 }
 
-/// The context of the right half of a conjunction: what is relevant to it of the left half and of the context of both.
-/// Large conjuncts are left out, unless they are outermost.
+/// The context of the right half of a conjunction: what is relevant to it of the left half's atoms and of the context of
+/// both.
 pub(crate) fn beside(
     alloc: Global,
     interner: &mut Interner,
@@ -132,7 +132,6 @@ pub(crate) fn beside(
     context: Context,
     left: FormulaId,
     right: FormulaId,
-    is_outer: bool,
 ) -> Result<Context, AllocError>
     requires context { IsContext interner.old context }
     requires left { IsThere interner.old left }
@@ -140,7 +139,7 @@ pub(crate) fn beside(
     ensures there { IfOk result (IsContext interner.new) }
     ensures implied { IfOk result (λ inner. Implies (formula_of interner.old left ∷ context_at interner.old context) (context_at interner.new inner)) }
 {
-    let of_left = left_conjuncts(alloc, interner, facts, left, is_outer)?;
+    let of_left = left_atoms(alloc, interner, left)?;
     let members = members_of(alloc, interner, context)?;
     let mut chosen = Vec::new(alloc);
     let mut known = HashSet::new(alloc);
@@ -150,28 +149,22 @@ pub(crate) fn beside(
     Ok(made)
 }
 
-/// The conjuncts of the left half of a conjunction, without the large ones unless they are outermost.
-fn left_conjuncts(
+/// The atoms among the conjuncts of the left half of a conjunction.
+fn left_atoms(
     alloc: Global,
     interner: &Interner,
-    facts: &Facts,
     left: FormulaId,
-    is_outer: bool,
 ) -> Result<Vec<FormulaId>, AllocError>
     requires { IsThere interner.now left }
-    ensures { IfOk result (λ conjuncts. All (IsConjunct interner.now (formula_of interner.now left ∷ [])) conjuncts.items) }
+    ensures { IfOk result (λ atoms. All (IsConjunct interner.now (formula_of interner.now left ∷ [])) atoms.items) }
 {
-    let all = conjuncts_of(alloc, interner, left)?;
-    if is_outer {
-        return Ok(all);
-    }
-    let mut small = Vec::new(alloc);
-    for conjunct in &all {
-        if facts.is_small(*conjunct) {
-            small.push(*conjunct)?;
+    let mut atoms = Vec::new(alloc);
+    for conjunct in &conjuncts_of(alloc, interner, left)? {
+        if is_atom(interner, *conjunct) {
+            atoms.push(*conjunct)?;
         }
     }
-    Ok(small)
+    Ok(atoms)
 }
 
 /// The context under a quantifier of a track: what is relevant to what stands there, hasn't the track free, and isn't one

@@ -1,4 +1,4 @@
-//! What is found of each part of a formula, once: its free tracks and its size.
+//! What is found of each part of a formula, once: its free tracks.
 
 ghost use Rattle.std.specs.Prelude.{◌≡◌, ℕ, ◌<◌, IfOk, OnOk, IfSome, IfNone, List, length, true, Contains, ◌||◌, ◌==◌, if◌then◌else◌, false, nat_eq, Some, slice_get};
 ghost use Rattle.std.specs.HashSet.{contains};
@@ -16,24 +16,12 @@ use ws2s_core::{FormulaId, Interner, Node, Track};
 /// How many free tracks a formula has at most of which anything is kept.
 const MANY_TRACKS: usize = 256;
 
-/// How many nodes a conjunct has at most that is taken from within the formula.
-const LARGE: u32 = 1000;
-
 /// What is known of a formula.
 #[derive(Drop)]
 pub(crate) struct Fact {
     pub(crate) id: FormulaId,
     /// The numbers of its free tracks.
     pub(crate) tracks: HashSet<u32>,
-    /// The number of its nodes, where none is counted beyond one above [`LARGE`].
-    pub(crate) size: u32,
-}
-
-/// What is found of a formula by its parts.
-#[derive(Drop)]
-struct Found {
-    tracks: HashSet<u32>,
-    size: u32,
 }
 
 /// What is known of the parts of a formula. Nothing is known of those with too many free tracks.
@@ -42,11 +30,6 @@ pub(crate) struct Facts {
     pub(crate) facts: Vec<Fact>,
     /// Where the fact about a formula stands.
     places: HashMap<FormulaId, usize>,
-}
-
-/// The greatest number that is counted.
-fn counted(size: u32) -> u32 {
-    size.min(LARGE + 1)
 }
 
 impl Facts {
@@ -91,23 +74,22 @@ impl Facts {
         let Some(node) = interner.form(id) else {
             return Ok(());
         };
-        let known = self.found(alloc, node)?;
-        let Some(found) = known else {
+        let found = self.found(alloc, node)?;
+        let Some(tracks) = found else {
             return Ok(());
         };
-        let Found { tracks, size } = found;
         if tracks.len() > MANY_TRACKS {
             return Ok(());
         }
         self.places.insert(id, self.facts.len())?;
-        self.facts.push(Fact { id, tracks, size })?;
+        self.facts.push(Fact { id, tracks })?;
         Ok(())
     }
 
-    /// The free tracks of a node's formula, and its size.
-    fn found(&self, alloc: Global, node: Node) -> Result<Option<Found>, AllocError>
-        ensures { IfOk result (λ found. IfSome found (λ pair. Finds self.now.facts.items
-            (λ formulas t. is_free t (formula_of_node formulas node)) pair.tracks)) }
+    /// The free tracks of a node's formula. `None` where they aren't known of a part.
+    fn found(&self, alloc: Global, node: Node) -> Result<Option<HashSet<u32>>, AllocError>
+        ensures { IfOk result (λ found. IfSome found (λ tracks. Finds self.now.facts.items
+            (λ formulas t. is_free t (formula_of_node formulas node)) tracks)) }
     {
         match node {
             Node::Sub(x, y) => self.found_atom(alloc, x, y),
@@ -121,12 +103,17 @@ impl Facts {
         }
     }
 
-    fn found_atom(&self, alloc: Global, x: Track, y: Track) -> Result<Option<Found>, AllocError>
-        ensures { IfOk result (λ found. IfSome found (λ pair. Finds self.now.facts.items
-            (λ formulas t. (x.0 == t) || (y.0 == t)) pair.tracks)) }
+    fn found_atom(
+        &self,
+        alloc: Global,
+        x: Track,
+        y: Track,
+    ) -> Result<Option<HashSet<u32>>, AllocError>
+        ensures { IfOk result (λ found. IfSome found (λ tracks. Finds self.now.facts.items
+            (λ formulas t. (x.0 == t) || (y.0 == t)) tracks)) }
     {
         let tracks = of_two(alloc, x, y)?;
-        Ok(Some(Found { tracks, size: 1 }))
+        Ok(Some(tracks))
     }
 
     fn found_and(
@@ -134,9 +121,9 @@ impl Facts {
         alloc: Global,
         f: FormulaId,
         g: FormulaId,
-    ) -> Result<Option<Found>, AllocError>
-        ensures { IfOk result (λ found. IfSome found (λ pair. Finds self.now.facts.items
-            (λ formulas t. is_free t (formula_of formulas f) || is_free t (formula_of formulas g)) pair.tracks)) }
+    ) -> Result<Option<HashSet<u32>>, AllocError>
+        ensures { IfOk result (λ found. IfSome found (λ tracks. Finds self.now.facts.items
+            (λ formulas t. is_free t (formula_of formulas f) || is_free t (formula_of formulas g)) tracks)) }
     {
         let Some(left) = self.get(f) else {
             return Ok(None);
@@ -145,32 +132,34 @@ impl Facts {
             return Ok(None);
         };
         let tracks = union(alloc, &left.tracks, &right.tracks)?;
-        let size = counted(left.size.saturating_add(right.size).saturating_add(1));
-        Ok(Some(Found { tracks, size }))
+        Ok(Some(tracks))
     }
 
-    fn found_not(&self, alloc: Global, f: FormulaId) -> Result<Option<Found>, AllocError>
-        ensures { IfOk result (λ found. IfSome found (λ pair. Finds self.now.facts.items
-            (λ formulas t. is_free t (formula_of formulas f)) pair.tracks)) }
+    fn found_not(&self, alloc: Global, f: FormulaId) -> Result<Option<HashSet<u32>>, AllocError>
+        ensures { IfOk result (λ found. IfSome found (λ tracks. Finds self.now.facts.items
+            (λ formulas t. is_free t (formula_of formulas f)) tracks)) }
     {
         let Some(inner) = self.get(f) else {
             return Ok(None);
         };
         let tracks = copy_of(alloc, &inner.tracks)?;
-        let size = counted(inner.size.saturating_add(1));
-        Ok(Some(Found { tracks, size }))
+        Ok(Some(tracks))
     }
 
-    fn found_ex2(&self, alloc: Global, t: Track, f: FormulaId) -> Result<Option<Found>, AllocError>
-        ensures { IfOk result (λ found. IfSome found (λ pair. Finds self.now.facts.items
-            (λ formulas u. if t.0 == u then false else is_free u (formula_of formulas f)) pair.tracks)) }
+    fn found_ex2(
+        &self,
+        alloc: Global,
+        t: Track,
+        f: FormulaId,
+    ) -> Result<Option<HashSet<u32>>, AllocError>
+        ensures { IfOk result (λ found. IfSome found (λ tracks. Finds self.now.facts.items
+            (λ formulas u. if t.0 == u then false else is_free u (formula_of formulas f)) tracks)) }
     {
         let Some(inner) = self.get(f) else {
             return Ok(None);
         };
         let tracks = without(alloc, &inner.tracks, t)?;
-        let size = counted(inner.size.saturating_add(1));
-        Ok(Some(Found { tracks, size }))
+        Ok(Some(tracks))
     }
 
     /// Whether the track is known not to be free in the formula.
@@ -190,14 +179,6 @@ impl Facts {
             (Some(c), Some(f)) => !c.tracks.is_empty() && is_within(&c.tracks, &f.tracks),
             (_, None) => true,
             (None, Some(_)) => false,
-        }
-    }
-
-    /// Whether the formula is known to have few nodes.
-    pub(crate) fn is_small(&self, id: FormulaId) -> bool {
-        match self.get(id) {
-            Some(fact) => fact.size <= LARGE,
-            None => false,
         }
     }
 }

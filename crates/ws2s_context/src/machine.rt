@@ -39,12 +39,14 @@ fn step(
     ensures fewer { OnOk result (4 * machine.new.room + length machine.new.tasks ≤ 4 * machine.old.room + length machine.old.tasks) }
 {
     match task {
-        Task::Visit(place, is_outer) => visit(alloc, interner, facts, place, is_outer, machine),
+        Task::Visit(place) => visit(alloc, interner, facts, place, machine),
         Task::Conjoin(place, left, right) => make_conjunction(
             interner, place, left, right, machine,
         ),
         Task::Negate(place, inner) => make_negation(interner, place, inner, machine),
-        Task::Quantify(place, t, inner) => make_quantified(interner, place, t, inner, machine),
+        Task::Quantify(place, t, inner) => make_quantified(
+            alloc, interner, place, t, inner, machine,
+        ),
     }
 }
 

@@ -8,9 +8,9 @@ ghost use Rattle.ws2s_context.specs.Going.{IsGoing, IsConjoining, IsNegating, Is
 
 use crate::context::Context;
 use crate::machine::Machine;
-use crate::spine::{is_atom, is_conjunction};
+use crate::spine::has_step;
 use crate::task::Place;
-use std::alloc::AllocError;
+use std::alloc::{AllocError, Global};
 use ws2s_core::{FormulaId, Interner, Node, Track, intern_form};
 
 /// The halves of a conjunction are put together again.
@@ -35,7 +35,7 @@ pub(crate) fn make_conjunction(
     Ok(())
 }
 
-/// A negation is made again, beside its context.
+/// A negation is made again.
 pub(crate) fn make_negation(
     interner: &mut Interner,
     place: Place,
@@ -50,15 +50,14 @@ pub(crate) fn make_negation(
     ensures room { machine.new.room ≡ machine.old.room }
 {
     let part = machine.rewritings.to(inner);
-    let negated = intern_form(interner, Node::Not(part))?;
-    let is_large = !is_atom(interner, inner.id);
-    let made = beside_context(interner, place.context, negated, is_large)?;
+    let made = intern_form(interner, Node::Not(part))?;
     machine.rewritings.add(place, made)?;
     Ok(())
 }
 
-/// A quantifier is put again before what stands there, with its context.
+/// A quantifier is put again before what stands there, with its context where that has a step to or from a position.
 pub(crate) fn make_quantified(
+    alloc: Global,
     interner: &mut Interner,
     place: Place,
     t: Track,
@@ -73,8 +72,8 @@ pub(crate) fn make_quantified(
     ensures room { machine.new.room ≡ machine.old.room }
 {
     let part = machine.rewritings.to(inner);
-    let is_large = is_conjunction(interner, inner.id);
-    let beside = beside_context(interner, inner.context, part, is_large)?;
+    let is_wanted = has_step(alloc, interner, inner.id)?;
+    let beside = beside_context(interner, inner.context, part, is_wanted)?;
     let made = intern_form(interner, Node::Ex2(t, beside))?;
     machine.rewritings.add(place, made)?;
     Ok(())

@@ -18,7 +18,8 @@ use ws2s_core::{FormulaId, Interner};
 /// How many formulas are taken apart at most.
 const MANY_VISITS: u32 = 100_000;
 
-/// The number of a formula with the same satisfying assignments, in which what holds around a part is conjoined inside it.
+/// The number of a formula with the same satisfying assignments, in which atoms that hold around a part are conjoined inside
+/// it.
 ///
 /// # Errors
 ///
@@ -60,7 +61,7 @@ fn first_machine(alloc: Global, interner: &Interner, place: Place) -> Result<Mac
     ensures { IfOk result (λ machine. IsGoing interner.now machine.tasks machine.rewritings.made.items) }
 {
     let mut tasks = Stack::new(alloc);
-    tasks.push(Task::Visit(place, true))?;
+    tasks.push(Task::Visit(place))?;
     let rewritings = Rewritings::new(alloc);
     Ok(Machine {
         tasks,

@@ -71,9 +71,42 @@ fn halves_of(interner: &Interner, id: FormulaId) -> Option<(FormulaId, FormulaId
     }
 }
 
-/// Whether the formula is a conjunction.
-pub(crate) fn is_conjunction(interner: &Interner, id: FormulaId) -> bool {
-    halves_of(interner, id).is_some()
+/// Whether the formula says of two positions that one is a step below the other, beside other conjuncts and under
+/// quantifiers, as far as it is looked for.
+pub(crate) fn has_step(
+    alloc: Global,
+    interner: &Interner,
+    id: FormulaId,
+) -> Result<bool, AllocError> {
+    let mut waiting = Vec::new(alloc);
+    waiting.push(id)?;
+    for _ in 0..MANY_LOOKS {
+        let Some(next) = waiting.pop() else {
+            return Ok(false);
+        };
+        if look_for_step(interner, next, &mut waiting)? {
+            return Ok(true);
+        }
+    }
+    Ok(false)
+}
+
+/// Whether the formula is a step. What a conjunction or a quantifier has comes to wait.
+fn look_for_step(
+    interner: &Interner,
+    next: FormulaId,
+    waiting: &mut Vec<FormulaId>,
+) -> Result<bool, AllocError> {
+    match interner.form(next) {
+        Some(Node::Succ0(_, _) | Node::Succ1(_, _)) => return Ok(true),
+        Some(Node::And(f, g)) => {
+            waiting.push(g)?;
+            waiting.push(f)?;
+        }
+        Some(Node::Ex2(_, f)) => waiting.push(f)?,
+        Some(Node::Sub(_, _) | Node::Single(_) | Node::Root(_) | Node::Not(_)) | None => (),
+    }
+    Ok(false)
 }
 
 /// Whether the formula is an atom.

@@ -13,8 +13,8 @@ pub(crate) struct Place {
 /// A task.
 #[derive(Clone, Copy, Debug)]
 pub(crate) enum Task {
-    /// The formula is to be rewritten; the flag says whether its conjuncts are outermost.
-    Visit(Place, bool),
+    /// The formula is to be rewritten.
+    Visit(Place),
     /// The conjunction is to be put together of its halves, which were rewritten in these contexts.
     Conjoin(Place, Place, Place),
     /// The negation is to be made again of what was rewritten.

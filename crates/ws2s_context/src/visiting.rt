@@ -10,7 +10,6 @@ ghost use Rattle.ws2s_context.specs.Going.{IsPlace, IsGoing, whole};
 use crate::context::{beside, inside, narrowed};
 use crate::facts::Facts;
 use crate::machine::Machine;
-use crate::spine::is_conjunction;
 use crate::task::{Place, Task};
 use std::alloc::{AllocError, Global};
 use ws2s_core::{FormulaId, Interner, Node, Track};
@@ -21,7 +20,6 @@ pub(crate) fn visit(
     interner: &mut Interner,
     facts: &Facts,
     place: Place,
-    is_outer: bool,
     machine: &mut Machine,
 ) -> Result<(), AllocError>
     requires facts { AreFacts interner.old facts.now.facts.items }
@@ -36,7 +34,7 @@ pub(crate) fn visit(
     }
     machine.room -= 1;
     match interner.form(place.id) {
-        Some(node) => take_apart(alloc, interner, facts, place, node, is_outer, machine),
+        Some(node) => take_apart(alloc, interner, facts, place, node, machine),
         None => Ok(()),
     }
 }
@@ -48,7 +46,6 @@ fn take_apart(
     facts: &Facts,
     place: Place,
     node: Node,
-    is_outer: bool,
     machine: &mut Machine,
 ) -> Result<(), AllocError>
     requires facts { AreFacts interner.old facts.now.facts.items }
@@ -62,9 +59,9 @@ fn take_apart(
     ensures room { machine.new.room ≡ machine.old.room }
 {
     match node {
-        Node::And(f, g) => divide(alloc, interner, facts, place, f, g, is_outer, machine),
+        Node::And(f, g) => divide(alloc, interner, facts, place, f, g, machine),
         Node::Not(f) => enter_negation(place, f, interner, machine),
-        Node::Ex2(t, f) => enter_quantifier(alloc, interner, facts, place, t, f, is_outer, machine),
+        Node::Ex2(t, f) => enter_quantifier(alloc, interner, facts, place, t, f, machine),
         Node::Sub(_, _) | Node::Single(_) | Node::Succ0(_, _) | Node::Succ1(_, _) | Node::Root(_) =>
             Ok(()),
     }
@@ -78,7 +75,6 @@ fn divide(
     place: Place,
     f: FormulaId,
     g: FormulaId,
-    is_outer: bool,
     machine: &mut Machine,
 ) -> Result<(), AllocError>
     requires place { IsPlace interner.old place }
@@ -92,7 +88,7 @@ fn divide(
     ensures room { machine.new.room ≡ machine.old.room }
 {
     let around_left = narrowed(alloc, interner, facts, place.context, f)?;
-    let around_right = beside(alloc, interner, facts, place.context, f, g, is_outer)?;
+    let around_right = beside(alloc, interner, facts, place.context, f, g)?;
     let left = Place {
         context: around_left,
         id: f,
@@ -101,10 +97,9 @@ fn divide(
         context: around_right,
         id: g,
     };
-    let goes_on = is_outer && is_conjunction(interner, f);
     machine.tasks.push(Task::Conjoin(place, left, right))?;
-    machine.tasks.push(Task::Visit(right, is_outer))?;
-    machine.tasks.push(Task::Visit(left, goes_on))?;
+    machine.tasks.push(Task::Visit(right))?;
+    machine.tasks.push(Task::Visit(left))?;
     Ok(())
 }
 
@@ -128,7 +123,7 @@ fn enter_negation(
         id: f,
     };
     machine.tasks.push(Task::Negate(place, inner))?;
-    machine.tasks.push(Task::Visit(inner, false))?;
+    machine.tasks.push(Task::Visit(inner))?;
     Ok(())
 }
 
@@ -140,7 +135,6 @@ fn enter_quantifier(
     place: Place,
     t: Track,
     f: FormulaId,
-    is_outer: bool,
     machine: &mut Machine,
 ) -> Result<(), AllocError>
     requires facts { AreFacts interner.old facts.now.facts.items }
@@ -159,6 +153,6 @@ fn enter_quantifier(
         id: f,
     };
     machine.tasks.push(Task::Quantify(place, t, inner))?;
-    machine.tasks.push(Task::Visit(inner, is_outer))?;
+    machine.tasks.push(Task::Visit(inner))?;
     Ok(())
 }

@@ -44,7 +44,3 @@ pub record HasKept (shelf : Contents) (decider : Decider) : Type 0 where
   pub each : (a : AutoView) → Contains (kept_autos decider.kept) a → IsAuto decider.guide shelf a
   pub tables : (table : ℕ) → times (kept_autos decider.kept) table ≡ registered shelf table
   pub minimal : All (IsKept decider.guide shelf decider.interner) decider.kept
-
--- each verdict on the first formula is one on the second
-pub record HasVerdictsOf (tracks : List Track) (g f : Formula) : Type 0 where
-  pub verdicts : (verdict : Verdict) → IsVerdict tracks g verdict → IsVerdict tracks f verdict

@@ -1,14 +1,14 @@
-//! Two ways to a verdict: on a formula that is easier to decide, and where that is at the limit on the formula as it stands.
+//! Two ways to a verdict: by a formula that is the same and easier to decide, and where that is at the limit by the formula
+//! as it stands.
 
 ghost use Rattle.std.specs.Prelude.{◌≡◌, ◌<◌, ℕ, [], Some, Ok, IfOk, slice_get};
 ghost use Rattle.bdd_nodes.specs.Shelf.{limit_of};
 ghost use Rattle.gta_theory.specs.Guides.{IsGuide};
 ghost use Rattle.ws2s_core.specs.declared.formula.Formula.{Formula};
-ghost use Rattle.ws2s_core.specs.Nodes.{Extends};
 ghost use Rattle.ws2s_theory.specs.Peaks.{HasPeak};
 ghost use Rattle.ws2s_decide.specs.declared.verdict.Verdict.{Verdict};
 ghost use Rattle.ws2s_decide.specs.Going.{Rests};
-ghost use Rattle.ws2s_decide.specs.Deciding.{IsVerdict, HasVerdictsOf};
+ghost use Rattle.ws2s_decide.specs.Deciding.{IsVerdict};
 
 use crate::deciding::verdict_of;
 use crate::verdict::Verdict;
@@ -16,10 +16,10 @@ use bdd_nodes::Shelf;
 use bdd_walk::NoMemory;
 use gta_keep::Kept;
 use std::alloc::Global;
-use ws2s_context::{in_context, open_spine};
+use ws2s_context::in_context;
 use ws2s_core::{FormulaId, Guide, Interner, TrackList};
 
-/// The verdict on the formula with the number.
+/// The verdict on the formula with the number. Its Peak alone licenses a limit, so only the second way answers one.
 ///
 /// # Errors
 ///
@@ -42,31 +42,13 @@ pub(crate) fn decide_number(
     ensures rests { Rests g.now interner.new shelf.new [] kept.new }
     ensures same_limit { limit_of shelf.new ≡ limit_of shelf.old }
 {
-    let made = easier(alloc, interner, id, weigh)?;
-    let verdict = verdict_of(alloc, g, interner, made, weigh, kept, shelf)?;
-    match verdict {
-        Verdict::Limit => {
-            let last = verdict_of(alloc, g, interner, id, weigh, kept, shelf)?;
-            Ok(last)
-        }
+    let made = in_context(alloc, interner, id)?;
+    if made == id {
+        return verdict_of(alloc, g, interner, id, weigh, kept, shelf);
+    }
+    let first = verdict_of(alloc, g, interner, made, weigh, kept, shelf)?;
+    match first {
+        Verdict::Limit => verdict_of(alloc, g, interner, id, weigh, kept, shelf),
         found => Ok(found),
     }
-}
-
-/// The number of a formula whose verdicts are verdicts on this one.
-fn easier(
-    alloc: Global,
-    interner: &mut Interner,
-    id: FormulaId,
-    weigh: &TrackList,
-) -> Result<FormulaId, NoMemory>
-    requires { (f : Formula) × (slice_get interner.old id.0 ≡ Some f) }
-    ensures there { IfOk result (λ made. (g : Formula) × (slice_get interner.new made.0 ≡ Some g)) }
-    ensures verdicts { IfOk result (λ made. (f g : Formula) → slice_get interner.old id.0 ≡ Some f →
-        slice_get interner.new made.0 ≡ Some g → HasVerdictsOf weigh.now g f) }
-    ensures kept { Extends interner.old interner.new }
-{
-    let opened = open_spine(alloc, interner, id, weigh)?;
-    let made = in_context(alloc, interner, opened)?;
-    Ok(made)
 }

@@ -15,7 +15,7 @@ returns-clause-ok c =
     let b = c.narrowed.new.interner in
     let last = c.beside.new.interner in
     let kept = Extends-trans a b last c.narrowed.ensures.kept c.beside.ensures.kept in
-    IsGoing-divided last c.args.place _ _ c.args.is_outer _ c.args.machine.now.tasks c.push.new.self c.push-2.new.self c.push-3.new.self
+    IsGoing-divided last c.args.place _ _ c.args.machine.now.tasks c.push.new.self c.push-2.new.self c.push-3.new.self
     c.args.machine.now.rewritings.made.items
     (IsConjoining-new a b last c.args.place c.args.f c.args.g c.in_ok-around_left.around_left c.in_ok-around_right.around_right
     c.narrowed.ensures.kept c.beside.ensures.kept c.requires.place c.requires.left c.requires.right c.requires.is
