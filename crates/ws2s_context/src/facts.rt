@@ -14,7 +14,7 @@ use std::collections::{HashMap, HashSet};
 use ws2s_core::{FormulaId, Interner, Node, Track};
 
 /// How many free tracks a formula has at most of which anything is kept.
-const MANY_TRACKS: usize = 256;
+const MANY_TRACKS: usize = 64;
 
 /// What is known of a formula.
 #[derive(Drop)]
