@@ -180,15 +180,26 @@ IsSame-conjunction old new place left right first second made h was on_left on_r
     is there
 
 pub IsSame-negation : (old new : List Formula) (place inner : Place) (part made : FormulaId) → Extends old new →
-    IsNegating old place inner → IsSame old inner part → formula_of new made ≡ Not (formula_of old part) → IsThere new made →
-    IsSame new place made
-IsSame-negation old new place inner part made h was on_inner is there =
+    IsNegating old place inner → IsSame old inner part → SameUnder (context_at old place.context) (Not (formula_of old part)) (formula_of new made) →
+    IsThere new made → IsSame new place made
+IsSame-negation old new place inner part made h was on_inner same there =
     let on_part : SameUnder (around old place) (whole old inner) (formula_of old part) =
     subst (λ x. SameUnder (context_at old x) (whole old inner) (formula_of old part)) (sym was.in_inner) on_inner.same in
-    IsSame-made old new place made (Not (formula_of old part)) h was.here
-    (subst (λ w. SameUnder (around old place) w (Not (formula_of old part))) (sym was.is)
-    (SameUnder-not (around old place) (whole old inner) (formula_of old part) on_part))
-    is there
+    IsSame-made old new place made (formula_of new made) h was.here
+    (subst (λ w. SameUnder (around old place) w (formula_of new made)) (sym was.is)
+    (SameUnder-trans (around old place) (Not (whole old inner)) (Not (formula_of old part)) (formula_of new made)
+    (SameUnder-not (around old place) (whole old inner) (formula_of old part) on_part) same))
+    refl there
+
+-- a negation beside what is implied by the context
+pub SameUnder-negated : (a b c d : List Formula) (context needed : Option FormulaId) (part negation made : FormulaId) → Extends a b → Extends b c →
+    IsThere a part → IsContext b needed → Implies (context_at a context) (context_at b needed) → formula_of c negation ≡ Not (formula_of b part) →
+    SameUnder (context_at c needed) (formula_of c negation) (formula_of d made) →
+    SameUnder (context_at a context) (Not (formula_of a part)) (formula_of d made)
+SameUnder-negated a b c d context needed part negation made first second there needed_there implied is same =
+    SameUnder-implied (context_at a context) (context_at b needed) (Not (formula_of a part)) (formula_of d made) implied
+    (subst (λ (f : Formula). SameUnder (context_at b needed) f (formula_of d made)) (is ∙ ap Not (at-extends a b part first there))
+    (subst (λ (inner : List Formula). SameUnder inner (formula_of c negation) (formula_of d made)) (context-extends b c needed second needed_there) same))
 
 pub IsSame-quantified : (a b c : List Formula) (place : Place) (t : Track) (inner : Place) (part whole_part made : FormulaId) → Extends a b → Extends b c →
     IsQuantifying a place t inner → IsSame a inner part → SameUnder (context_at a inner.context) (formula_of a part) (formula_of b whole_part) →

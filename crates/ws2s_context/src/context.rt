@@ -9,6 +9,7 @@ ghost use Rattle.ws2s_context.specs.Facts.{AreFacts};
 
 use crate::facts::Facts;
 use crate::spine::{conjuncts_of, is_atom};
+use crate::uses::Uses;
 use std::alloc::{AllocError, Global};
 use std::collections::HashSet;
 use ws2s_core::{FormulaId, Interner, Node, Track, intern_form};
@@ -58,7 +59,7 @@ fn put_before(
 }
 
 /// The conjuncts that a context has.
-fn members_of(
+pub(crate) fn members_of(
     alloc: Global,
     interner: &Interner,
     context: Context,
@@ -121,6 +122,43 @@ pub(crate) fn narrowed(
     choose(&mut chosen, &mut known, facts, &members, id)?;
     let made = conjunction_of(interner, chosen)?;
     Ok(made)
+}
+
+/// What of a context was conjoined inside a formula.
+pub(crate) fn used(
+    alloc: Global,
+    interner: &mut Interner,
+    uses: &Uses,
+    context: Context,
+    inside: FormulaId,
+) -> Result<Context, AllocError>
+    requires { IsContext interner.old context }
+    ensures kept { Extends interner.old interner.new }
+    ensures there { IfOk result (IsContext interner.new) }
+    ensures implied { IfOk result (λ inner. Implies (context_at interner.old context) (context_at interner.new inner)) }
+{
+    let members = members_of(alloc, interner, context)?;
+    let mut chosen = Vec::new(alloc);
+    choose_used(&mut chosen, uses, &members, inside)?;
+    let made = conjunction_of(interner, chosen)?;
+    Ok(made)
+}
+
+/// Chooses those conjuncts that were conjoined inside a formula.
+fn choose_used(
+    chosen: &mut Vec<FormulaId>,
+    uses: &Uses,
+    conjuncts: &[FormulaId],
+    inside: FormulaId,
+) -> Result<(), AllocError>
+    ensures { OnOk result (IsAmong chosen.old.items conjuncts.now chosen.new.items) }
+{
+    for conjunct in conjuncts {
+        if uses.has(*conjunct, inside) {
+            chosen.push(*conjunct)?;
+        }
+    }
+    Ok(())
 }
 
 /// The context of the right half of a conjunction: what is relevant to it of the left half's atoms and of the context of

@@ -15,6 +15,7 @@ mod rewritings;
 mod spine;
 mod task;
 mod tracks;
+mod uses;
 mod visiting;
 
 pub use rewriting::in_context;

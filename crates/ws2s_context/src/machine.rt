@@ -10,6 +10,7 @@ use crate::facts::Facts;
 use crate::making::{make_conjunction, make_negation, make_quantified};
 use crate::rewritings::Rewritings;
 use crate::task::Task;
+use crate::uses::Uses;
 use crate::visiting::visit;
 use plain_data::Stack;
 use std::alloc::{AllocError, Global};
@@ -20,6 +21,7 @@ use ws2s_core::Interner;
 pub(crate) struct Machine {
     pub(crate) tasks: Stack<Task>,
     pub(crate) rewritings: Rewritings,
+    pub(crate) uses: Uses,
     /// How many more formulas may be taken apart.
     pub(crate) room: u32,
 }
@@ -41,9 +43,9 @@ fn step(
     match task {
         Task::Visit(place) => visit(alloc, interner, facts, place, machine),
         Task::Conjoin(place, left, right) => make_conjunction(
-            interner, place, left, right, machine,
+            alloc, interner, place, left, right, machine,
         ),
-        Task::Negate(place, inner) => make_negation(interner, place, inner, machine),
+        Task::Negate(place, inner) => make_negation(alloc, interner, place, inner, machine),
         Task::Quantify(place, t, inner) => make_quantified(
             alloc, interner, place, t, inner, machine,
         ),

@@ -11,6 +11,7 @@ use crate::facts::Facts;
 use crate::machine::{Machine, run};
 use crate::rewritings::Rewritings;
 use crate::task::{Place, Task};
+use crate::uses::Uses;
 use plain_data::Stack;
 use std::alloc::{AllocError, Global};
 use ws2s_core::{FormulaId, Interner};
@@ -66,6 +67,7 @@ fn first_machine(alloc: Global, interner: &Interner, place: Place) -> Result<Mac
     Ok(Machine {
         tasks,
         rewritings,
+        uses: Uses::new(alloc),
         room: MANY_VISITS,
     })
 }
