@@ -9,3 +9,4 @@ pub mod StepsLemmas
 pub mod SumsLemmas
 pub mod TasksLemmas
 pub mod VerdictLemmas
+pub mod WaysLemmas

@@ -7,8 +7,8 @@ ghost use Rattle.ws2s_decide.specs.declared.verdict.Verdict.{Verdict};
 ghost use Rattle.gta_keep.specs.Holding.{HasNoTables};
 ghost use Rattle.ws2s_decide.specs.Deciding.{IsVerdict, guide_of, HasKept};
 
-use crate::deciding::verdict_of;
 use crate::verdict::Verdict;
+use crate::ways::decide_number;
 use bdd_nodes::Shelf;
 use bdd_walk::NoMemory;
 use gta_keep::Kept;
@@ -75,10 +75,10 @@ impl Decider {
         let _ = shelf.count();
         let _ = self.guide.spaces();
         let id = intern(alloc, &mut self.interner, f)?;
-        verdict_of(
+        decide_number(
             alloc,
             &self.guide,
-            &self.interner,
+            &mut self.interner,
             id,
             weigh,
             &mut self.kept,

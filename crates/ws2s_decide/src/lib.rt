@@ -13,6 +13,7 @@ mod task;
 mod verdict;
 mod visiting;
 mod waiting;
+mod ways;
 
 pub use decider::{Decider, decide};
 pub use verdict::Verdict;

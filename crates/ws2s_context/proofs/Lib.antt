@@ -1,0 +1,3 @@
+pub mod ConjunctsLemmas
+pub mod FactsLemmas
+pub mod GoingLemmas

@@ -1,0 +1,16 @@
+use Rattle.std.proofs.Common.{◌≡◌, [], All, vec_len}
+use Rattle.ws2s_core.specs.Nodes.{Extends}
+use Rattle.ws2s_context.specs.Conjuncts.{IsThere, IsContext, context_at, joined, formulas_at}
+use Rattle.ws2s_context.proofs.context.conjunction_of.Given as goal
+
+abbrev pub invariant-loop-conjunct : goal.invariant-loop-conjunct
+invariant-loop-conjunct l = record {
+  kept : Extends l.fn.interner l.interner;
+  there : IsContext l.interner l.context;
+  inside : All (IsThere l.fn.interner) l.conjuncts.items;
+  value : joined (formulas_at l.fn.interner l.conjuncts.items) (context_at l.interner l.context)
+      ≡ joined (formulas_at l.fn.interner l.fn.conjuncts.items) [];
+}
+
+abbrev pub decreases-loop-conjunct : goal.decreases-loop-conjunct
+decreases-loop-conjunct l = vec_len l.conjuncts

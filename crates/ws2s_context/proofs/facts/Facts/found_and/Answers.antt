@@ -1,0 +1,13 @@
+use Rattle.std.proofs.Common.{◌||◌, ◌∙◌, ap₂, Bool, subst}
+use Rattle.ws2s_core.specs.Tracks.{is_free}
+use Rattle.ws2s_core.specs.declared.node.FormulaId.{FormulaId}
+use Rattle.ws2s_context.specs.Conjuncts.{formula_of}
+use Rattle.ws2s_context.proofs.FactsLemmas.{free-of}
+use Rattle.ws2s_context.proofs.facts.Facts.found_and.Goals as goal
+
+pub returns : goal.returns
+returns c = record {
+  exactly = λ formulas known t. c.in_ok-tracks.ensures t
+      ∙ ap₂ (λ x y. x || y) (free-of formulas c.in-Some.left.now c.args.f t (c.in-Some.ensures.fact formulas known) c.in-Some.ensures.id)
+      (free-of formulas c.in-Some-get.right.now c.args.g t (c.in-Some-get.ensures.fact formulas known) c.in-Some-get.ensures.id);
+}

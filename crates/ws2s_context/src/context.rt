@@ -1,0 +1,268 @@
+//! Contexts: what holds around a formula.
+
+ghost use Rattle.std.specs.Prelude.{◌≡◌, ℕ, List, [], ◌∷◌, All, Some, None, IfOk, OnOk};
+ghost use Rattle.ws2s_core.specs.declared.formula.Formula.{Formula};
+ghost use Rattle.ws2s_core.specs.Nodes.{Extends};
+ghost use Rattle.ws2s_core.specs.Tracks.{IsFree};
+ghost use Rattle.ws2s_context.specs.Conjuncts.{IsThere, IsContext, IsConjunct, IsUnbound, IsAmong, formula_of, context_at, Implies, before, joined, formulas_at};
+ghost use Rattle.ws2s_context.specs.Facts.{AreFacts};
+
+use crate::facts::Facts;
+use crate::spine::{conjuncts_of, is_atom};
+use crate::uses::Uses;
+use std::alloc::{AllocError, Global};
+use std::collections::HashSet;
+use ws2s_core::{FormulaId, Interner, Node, Track, intern_form};
+
+/// How many conjuncts a context has at most.
+const MANY_CONJUNCTS: usize = 128;
+
+/// What holds around a formula, as one conjunction; `None` where nothing is known.
+pub(crate) type Context = Option<FormulaId>;
+
+/// The conjunction of conjuncts, as a context.
+fn conjunction_of(interner: &mut Interner, conjuncts: Vec<FormulaId>) -> Result<Context, AllocError>
+    requires { All (IsThere interner.old) conjuncts.items }
+    ensures kept { Extends interner.old interner.new }
+    ensures there { IfOk result (IsContext interner.new) }
+    ensures value { IfOk result (λ context. context_at interner.new context ≡ joined (formulas_at interner.old conjuncts.items) []) }
+{
+    let mut conjuncts = conjuncts;
+    let mut context = None;
+    while let Some(conjunct) = conjuncts.pop() {
+        let made = put_before(interner, conjunct, context)?;
+        context = Some(made);
+    }
+    Ok(context)
+}
+
+/// The conjunct before what the context has.
+fn put_before(
+    interner: &mut Interner,
+    conjunct: FormulaId,
+    context: Context,
+) -> Result<FormulaId, AllocError>
+    requires conjunct { IsThere interner.old conjunct }
+    requires context { IsContext interner.old context }
+    ensures kept { Extends interner.old interner.new }
+    ensures there { IfOk result (IsThere interner.new) }
+    ensures value { IfOk result (λ id. formula_of interner.new id ∷ [] ≡
+        before (formula_of interner.old conjunct) (context_at interner.old context)) }
+{
+    match context {
+        Some(rest) => {
+            let made = intern_form(interner, Node::And(conjunct, rest))?;
+            Ok(made)
+        }
+        None => Ok(conjunct),
+    }
+}
+
+/// The conjuncts that a context has.
+pub(crate) fn members_of(
+    alloc: Global,
+    interner: &Interner,
+    context: Context,
+) -> Result<Vec<FormulaId>, AllocError>
+    requires { IsContext interner.now context }
+    ensures { IfOk result (λ members. All (IsConjunct interner.now (context_at interner.now context)) members.items) }
+{
+    match context {
+        Some(id) => conjuncts_of(alloc, interner, id),
+        None => Ok(Vec::new(alloc)),
+    }
+}
+
+/// Chooses conjuncts for the context of a formula: those that are relevant to it and weren't known before.
+fn choose(
+    chosen: &mut Vec<FormulaId>,
+    known: &mut HashSet<FormulaId>,
+    facts: &Facts,
+    conjuncts: &[FormulaId],
+    id: FormulaId,
+) -> Result<(), AllocError>
+    ensures { OnOk result (IsAmong chosen.old.items conjuncts.now chosen.new.items) }
+{
+    for conjunct in conjuncts {
+        if chosen.len() < MANY_CONJUNCTS
+            && facts.is_relevant(*conjunct, id)
+            && !known.contains(conjunct)
+        {
+            note(known, *conjunct)?;
+            chosen.push(*conjunct)?;
+        }
+    }
+    Ok(())
+}
+
+/// Makes a conjunct known.
+fn note(known: &mut HashSet<FormulaId>, conjunct: FormulaId) -> Result<(), AllocError> {
+    match known.insert(conjunct) {
+        Ok(_) => Ok(()),
+        Err(_) => Err(AllocError),
+    }
+}
+
+/// What of a context is relevant to a part of its formula.
+pub(crate) fn narrowed(
+    alloc: Global,
+    interner: &mut Interner,
+    facts: &Facts,
+    context: Context,
+    id: FormulaId,
+) -> Result<Context, AllocError>
+    requires { IsContext interner.old context }
+    ensures kept { Extends interner.old interner.new }
+    ensures there { IfOk result (IsContext interner.new) }
+    ensures implied { IfOk result (λ inner. Implies (context_at interner.old context) (context_at interner.new inner)) }
+{
+    let members = members_of(alloc, interner, context)?;
+    let mut chosen = Vec::new(alloc);
+    let mut known = HashSet::new(alloc);
+    choose(&mut chosen, &mut known, facts, &members, id)?;
+    let made = conjunction_of(interner, chosen)?;
+    Ok(made)
+}
+
+/// What of a context was conjoined inside a formula.
+pub(crate) fn used(
+    alloc: Global,
+    interner: &mut Interner,
+    uses: &Uses,
+    context: Context,
+    inside: FormulaId,
+) -> Result<Context, AllocError>
+    requires { IsContext interner.old context }
+    ensures kept { Extends interner.old interner.new }
+    ensures there { IfOk result (IsContext interner.new) }
+    ensures implied { IfOk result (λ inner. Implies (context_at interner.old context) (context_at interner.new inner)) }
+{
+    let members = members_of(alloc, interner, context)?;
+    let mut chosen = Vec::new(alloc);
+    choose_used(&mut chosen, uses, &members, inside)?;
+    let made = conjunction_of(interner, chosen)?;
+    Ok(made)
+}
+
+/// Chooses those conjuncts that were conjoined inside a formula.
+fn choose_used(
+    chosen: &mut Vec<FormulaId>,
+    uses: &Uses,
+    conjuncts: &[FormulaId],
+    inside: FormulaId,
+) -> Result<(), AllocError>
+    ensures { OnOk result (IsAmong chosen.old.items conjuncts.now chosen.new.items) }
+{
+    for conjunct in conjuncts {
+        if uses.has(*conjunct, inside) {
+            chosen.push(*conjunct)?;
+        }
+    }
+    Ok(())
+}
+
+/// The context of the right half of a conjunction: what is relevant to it of the left half's atoms and of the context of
+/// both.
+pub(crate) fn beside(
+    alloc: Global,
+    interner: &mut Interner,
+    facts: &Facts,
+    context: Context,
+    left: FormulaId,
+    right: FormulaId,
+) -> Result<Context, AllocError>
+    requires context { IsContext interner.old context }
+    requires left { IsThere interner.old left }
+    ensures kept { Extends interner.old interner.new }
+    ensures there { IfOk result (IsContext interner.new) }
+    ensures implied { IfOk result (λ inner. Implies (formula_of interner.old left ∷ context_at interner.old context) (context_at interner.new inner)) }
+{
+    let of_left = left_atoms(alloc, interner, left)?;
+    let members = members_of(alloc, interner, context)?;
+    let mut chosen = Vec::new(alloc);
+    let mut known = HashSet::new(alloc);
+    choose(&mut chosen, &mut known, facts, &of_left, right)?;
+    choose(&mut chosen, &mut known, facts, &members, right)?;
+    let made = conjunction_of(interner, chosen)?;
+    Ok(made)
+}
+
+/// The atoms among the conjuncts of the left half of a conjunction.
+fn left_atoms(
+    alloc: Global,
+    interner: &Interner,
+    left: FormulaId,
+) -> Result<Vec<FormulaId>, AllocError>
+    requires { IsThere interner.now left }
+    ensures { IfOk result (λ atoms. All (IsConjunct interner.now (formula_of interner.now left ∷ [])) atoms.items) }
+{
+    let mut atoms = Vec::new(alloc);
+    for conjunct in &conjuncts_of(alloc, interner, left)? {
+        if is_atom(interner, *conjunct) {
+            atoms.push(*conjunct)?;
+        }
+    }
+    Ok(atoms)
+}
+
+/// The context under a quantifier of a track: what is relevant to what stands there, hasn't the track free, and isn't one
+/// of its conjuncts.
+pub(crate) fn inside(
+    alloc: Global,
+    interner: &mut Interner,
+    facts: &Facts,
+    context: Context,
+    t: Track,
+    id: FormulaId,
+) -> Result<Context, AllocError>
+    requires context { IsContext interner.old context }
+    requires id { IsThere interner.old id }
+    requires facts { AreFacts interner.old facts.now.facts.items }
+    ensures kept { Extends interner.old interner.new }
+    ensures there { IfOk result (IsContext interner.new) }
+    ensures implied { IfOk result (λ inner. Implies (context_at interner.old context) (context_at interner.new inner)) }
+    ensures unbound { IfOk result (λ inner. All (λ c. IsFree t.0 c → ⊥) (context_at interner.new inner)) }
+{
+    let unbound = lacking(alloc, interner, facts, context, t)?;
+    let mut known = known_of(alloc, interner, id)?;
+    let mut chosen = Vec::new(alloc);
+    choose(&mut chosen, &mut known, facts, &unbound, id)?;
+    let made = conjunction_of(interner, chosen)?;
+    Ok(made)
+}
+
+/// The conjuncts of the formula, as a set.
+fn known_of(
+    alloc: Global,
+    interner: &Interner,
+    id: FormulaId,
+) -> Result<HashSet<FormulaId>, AllocError>
+    requires { IsThere interner.now id }
+{
+    let mut known = HashSet::new(alloc);
+    for conjunct in &conjuncts_of(alloc, interner, id)? {
+        note(&mut known, *conjunct)?;
+    }
+    Ok(known)
+}
+
+/// Those of a context's conjuncts that are known not to have the track free.
+fn lacking(
+    alloc: Global,
+    interner: &Interner,
+    facts: &Facts,
+    context: Context,
+    t: Track,
+) -> Result<Vec<FormulaId>, AllocError>
+    requires context { IsContext interner.now context }
+    requires facts { AreFacts interner.now facts.now.facts.items }
+    ensures { IfOk result (λ unbound. All (IsUnbound interner.now (context_at interner.now context) t.0) unbound.items) }
+{
+    let mut unbound = Vec::new(alloc);
+    for conjunct in &members_of(alloc, interner, context)? {
+        if facts.lacks(*conjunct, t) {
+            unbound.push(*conjunct)?;
+        }
+    }
+    Ok(unbound)
+}

@@ -1,0 +1,184 @@
+//! What is found of each part of a formula, once: its free tracks.
+
+ghost use Rattle.std.specs.Prelude.{◌≡◌, ℕ, ◌<◌, IfOk, OnOk, IfSome, IfNone, List, length, true, Contains, ◌||◌, ◌==◌, if◌then◌else◌, false, nat_eq, Some, slice_get};
+ghost use Rattle.std.specs.HashSet.{contains};
+ghost use Rattle.ws2s_core.specs.declared.formula.Formula.{Formula};
+ghost use Rattle.ws2s_core.specs.Nodes.{formula_of_node};
+ghost use Rattle.ws2s_core.specs.Tracks.{is_free, IsFree};
+ghost use Rattle.ws2s_context.specs.Conjuncts.{IsThere, formula_of};
+ghost use Rattle.ws2s_context.specs.Facts.{IsFact, AreFacts, Finds};
+
+use crate::tracks::{copy_of, is_within, of_two, union, without};
+use std::alloc::{AllocError, Global};
+use std::collections::{HashMap, HashSet};
+use ws2s_core::{FormulaId, Interner, Node, Track};
+
+/// How many free tracks a formula has at most of which anything is kept.
+const MANY_TRACKS: usize = 64;
+
+/// What is known of a formula.
+#[derive(Drop)]
+pub(crate) struct Fact {
+    pub(crate) id: FormulaId,
+    /// The numbers of its free tracks.
+    pub(crate) tracks: HashSet<u32>,
+}
+
+/// What is known of the parts of a formula. Nothing is known of those with too many free tracks.
+#[derive(Drop)]
+pub(crate) struct Facts {
+    pub(crate) facts: Vec<Fact>,
+    /// Where the fact about a formula stands.
+    places: HashMap<FormulaId, usize>,
+}
+
+impl Facts {
+    /// What is known of all parts of a formula.
+    pub(crate) fn of_parts(
+        alloc: Global,
+        interner: &Interner,
+        id: FormulaId,
+    ) -> Result<Facts, AllocError>
+        requires { IsThere interner.now id }
+        ensures { IfOk result (λ facts. AreFacts interner.now facts.facts.items) }
+    {
+        let parts = interner.parts(alloc, id)?;
+        let mut facts = Facts {
+            facts: Vec::new(alloc),
+            places: HashMap::new(alloc),
+        };
+        for part in parts.as_slice() {
+            facts.add(alloc, interner, *part)?;
+        }
+        Ok(facts)
+    }
+
+    /// What is known of a formula.
+    pub(crate) fn get(&self, id: FormulaId) -> Option<&Fact>
+        ensures id { IfSome result (λ fact. fact.now.id ≡ id) }
+        ensures fact { IfSome result (λ fact. (formulas : List Formula) → AreFacts formulas self.now.facts.items → IsFact formulas fact.now) }
+    {
+        let place = *self.places.get(&id)?;
+        let fact = self.facts.get(place)?;
+        if fact.id == id {
+            return Some(fact);
+        }
+        None
+    }
+
+    /// Puts in what is found of a formula by what is known of its parts.
+    fn add(&mut self, alloc: Global, interner: &Interner, id: FormulaId) -> Result<(), AllocError>
+        requires { AreFacts interner.now self.old.facts.items }
+        ensures { OnOk result (AreFacts interner.now self.new.facts.items) }
+    {
+        let Some(node) = interner.form(id) else {
+            return Ok(());
+        };
+        let found = self.found(alloc, node)?;
+        let Some(tracks) = found else {
+            return Ok(());
+        };
+        if tracks.len() > MANY_TRACKS {
+            return Ok(());
+        }
+        self.places.insert(id, self.facts.len())?;
+        self.facts.push(Fact { id, tracks })?;
+        Ok(())
+    }
+
+    /// The free tracks of a node's formula. `None` where they aren't known of a part.
+    fn found(&self, alloc: Global, node: Node) -> Result<Option<HashSet<u32>>, AllocError>
+        ensures { IfOk result (λ found. IfSome found (λ tracks. Finds self.now.facts.items
+            (λ formulas t. is_free t (formula_of_node formulas node)) tracks)) }
+    {
+        match node {
+            Node::Sub(x, y) => self.found_atom(alloc, x, y),
+            Node::Single(x) => self.found_atom(alloc, x, x),
+            Node::Succ0(x, y) => self.found_atom(alloc, x, y),
+            Node::Succ1(x, y) => self.found_atom(alloc, x, y),
+            Node::Root(x) => self.found_atom(alloc, x, x),
+            Node::And(f, g) => self.found_and(alloc, f, g),
+            Node::Not(f) => self.found_not(alloc, f),
+            Node::Ex2(t, f) => self.found_ex2(alloc, t, f),
+        }
+    }
+
+    fn found_atom(
+        &self,
+        alloc: Global,
+        x: Track,
+        y: Track,
+    ) -> Result<Option<HashSet<u32>>, AllocError>
+        ensures { IfOk result (λ found. IfSome found (λ tracks. Finds self.now.facts.items
+            (λ formulas t. (x.0 == t) || (y.0 == t)) tracks)) }
+    {
+        let tracks = of_two(alloc, x, y)?;
+        Ok(Some(tracks))
+    }
+
+    fn found_and(
+        &self,
+        alloc: Global,
+        f: FormulaId,
+        g: FormulaId,
+    ) -> Result<Option<HashSet<u32>>, AllocError>
+        ensures { IfOk result (λ found. IfSome found (λ tracks. Finds self.now.facts.items
+            (λ formulas t. is_free t (formula_of formulas f) || is_free t (formula_of formulas g)) tracks)) }
+    {
+        let Some(left) = self.get(f) else {
+            return Ok(None);
+        };
+        let Some(right) = self.get(g) else {
+            return Ok(None);
+        };
+        let tracks = union(alloc, &left.tracks, &right.tracks)?;
+        Ok(Some(tracks))
+    }
+
+    fn found_not(&self, alloc: Global, f: FormulaId) -> Result<Option<HashSet<u32>>, AllocError>
+        ensures { IfOk result (λ found. IfSome found (λ tracks. Finds self.now.facts.items
+            (λ formulas t. is_free t (formula_of formulas f)) tracks)) }
+    {
+        let Some(inner) = self.get(f) else {
+            return Ok(None);
+        };
+        let tracks = copy_of(alloc, &inner.tracks)?;
+        Ok(Some(tracks))
+    }
+
+    fn found_ex2(
+        &self,
+        alloc: Global,
+        t: Track,
+        f: FormulaId,
+    ) -> Result<Option<HashSet<u32>>, AllocError>
+        ensures { IfOk result (λ found. IfSome found (λ tracks. Finds self.now.facts.items
+            (λ formulas u. if t.0 == u then false else is_free u (formula_of formulas f)) tracks)) }
+    {
+        let Some(inner) = self.get(f) else {
+            return Ok(None);
+        };
+        let tracks = without(alloc, &inner.tracks, t)?;
+        Ok(Some(tracks))
+    }
+
+    /// Whether the track is known not to be free in the formula.
+    pub(crate) fn lacks(&self, id: FormulaId, t: Track) -> bool
+        ensures { result ≡ true → (formulas : List Formula) → AreFacts formulas self.now.facts.items →
+            IsFree t.0 (formula_of formulas id) → ⊥ }
+    {
+        match self.get(id) {
+            Some(fact) => !fact.tracks.contains(&t.0),
+            None => false,
+        }
+    }
+
+    /// Whether the conjunct has free tracks, all of which are free in the formula, as far as known.
+    pub(crate) fn is_relevant(&self, conjunct: FormulaId, id: FormulaId) -> bool {
+        match (self.get(conjunct), self.get(id)) {
+            (Some(c), Some(f)) => !c.tracks.is_empty() && is_within(&c.tracks, &f.tracks),
+            (_, None) => true,
+            (None, Some(_)) => false,
+        }
+    }
+}

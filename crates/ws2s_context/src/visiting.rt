@@ -1,0 +1,158 @@
+//! Visits: a formula is taken apart, and its parts are to be rewritten in contexts of their own.
+
+ghost use Rattle.std.specs.Prelude.{◌≡◌, ◌+◌, ◌*◌, ◌≤◌, ◌<◌, ◌∷◌, length, OnOk};
+ghost use Rattle.ws2s_core.specs.declared.formula.Formula.TheVariants.{And, Not, Ex2};
+ghost use Rattle.ws2s_core.specs.Nodes.{Extends, HasPartsBelow, formula_of_node};
+ghost use Rattle.ws2s_context.specs.Conjuncts.{IsThere, formula_of};
+ghost use Rattle.ws2s_context.specs.Facts.{AreFacts};
+ghost use Rattle.ws2s_context.specs.Going.{IsPlace, IsGoing, whole};
+
+use crate::context::{beside, inside, narrowed};
+use crate::facts::Facts;
+use crate::machine::Machine;
+use crate::task::{Place, Task};
+use std::alloc::{AllocError, Global};
+use ws2s_core::{FormulaId, Interner, Node, Track};
+
+/// The formula is taken apart, unless it was rewritten in its context before, or there is no more room.
+pub(crate) fn visit(
+    alloc: Global,
+    interner: &mut Interner,
+    facts: &Facts,
+    place: Place,
+    machine: &mut Machine,
+) -> Result<(), AllocError>
+    requires facts { AreFacts interner.old facts.now.facts.items }
+    requires place { IsPlace interner.old place }
+    requires going { IsGoing interner.old machine.old.tasks machine.old.rewritings.made.items }
+    ensures kept { Extends interner.old interner.new }
+    ensures ok { OnOk result (IsGoing interner.new machine.new.tasks machine.new.rewritings.made.items) }
+    ensures fewer { OnOk result (4 * machine.new.room + length machine.new.tasks ≤ 4 * machine.old.room + length machine.old.tasks) }
+{
+    if machine.room == 0 || machine.rewritings.get(place).is_some() {
+        return Ok(());
+    }
+    machine.room -= 1;
+    match interner.form(place.id) {
+        Some(node) => take_apart(alloc, interner, facts, place, node, machine),
+        None => Ok(()),
+    }
+}
+
+/// The parts of a formula that is no atom are to be rewritten.
+fn take_apart(
+    alloc: Global,
+    interner: &mut Interner,
+    facts: &Facts,
+    place: Place,
+    node: Node,
+    machine: &mut Machine,
+) -> Result<(), AllocError>
+    requires facts { AreFacts interner.old facts.now.facts.items }
+    requires place { IsPlace interner.old place }
+    requires is { whole interner.old place ≡ formula_of_node interner.old node }
+    requires parts { HasPartsBelow (length interner.old) node }
+    requires going { IsGoing interner.old machine.old.tasks machine.old.rewritings.made.items }
+    ensures kept { Extends interner.old interner.new }
+    ensures ok { OnOk result (IsGoing interner.new machine.new.tasks machine.new.rewritings.made.items) }
+    ensures tasks { OnOk result (length machine.new.tasks ≤ length machine.old.tasks + 3) }
+    ensures room { machine.new.room ≡ machine.old.room }
+{
+    match node {
+        Node::And(f, g) => divide(alloc, interner, facts, place, f, g, machine),
+        Node::Not(f) => enter_negation(place, f, interner, machine),
+        Node::Ex2(t, f) => enter_quantifier(alloc, interner, facts, place, t, f, machine),
+        Node::Sub(_, _) | Node::Single(_) | Node::Succ0(_, _) | Node::Succ1(_, _) | Node::Root(_) =>
+            Ok(()),
+    }
+}
+
+/// The halves of a conjunction are to be rewritten, the right one with the left one in its context.
+fn divide(
+    alloc: Global,
+    interner: &mut Interner,
+    facts: &Facts,
+    place: Place,
+    f: FormulaId,
+    g: FormulaId,
+    machine: &mut Machine,
+) -> Result<(), AllocError>
+    requires place { IsPlace interner.old place }
+    requires left { IsThere interner.old f }
+    requires right { IsThere interner.old g }
+    requires is { whole interner.old place ≡ And (formula_of interner.old f) (formula_of interner.old g) }
+    requires going { IsGoing interner.old machine.old.tasks machine.old.rewritings.made.items }
+    ensures kept { Extends interner.old interner.new }
+    ensures ok { OnOk result (IsGoing interner.new machine.new.tasks machine.new.rewritings.made.items) }
+    ensures tasks { OnOk result (length machine.new.tasks ≡ length machine.old.tasks + 3) }
+    ensures room { machine.new.room ≡ machine.old.room }
+{
+    let around_left = narrowed(alloc, interner, facts, place.context, f)?;
+    let around_right = beside(alloc, interner, facts, place.context, f, g)?;
+    let left = Place {
+        context: around_left,
+        id: f,
+    };
+    let right = Place {
+        context: around_right,
+        id: g,
+    };
+    machine.tasks.push(Task::Conjoin(place, left, right))?;
+    machine.tasks.push(Task::Visit(right))?;
+    machine.tasks.push(Task::Visit(left))?;
+    Ok(())
+}
+
+/// What is negated is to be rewritten in the same context.
+fn enter_negation(
+    place: Place,
+    f: FormulaId,
+    interner: &Interner,
+    machine: &mut Machine,
+) -> Result<(), AllocError>
+    requires place { IsPlace interner.now place }
+    requires inner { IsThere interner.now f }
+    requires is { whole interner.now place ≡ Not (formula_of interner.now f) }
+    requires going { IsGoing interner.now machine.old.tasks machine.old.rewritings.made.items }
+    ensures ok { OnOk result (IsGoing interner.now machine.new.tasks machine.new.rewritings.made.items) }
+    ensures tasks { OnOk result (length machine.new.tasks ≡ length machine.old.tasks + 2) }
+    ensures room { machine.new.room ≡ machine.old.room }
+{
+    let inner = Place {
+        context: place.context,
+        id: f,
+    };
+    machine.tasks.push(Task::Negate(place, inner))?;
+    machine.tasks.push(Task::Visit(inner))?;
+    Ok(())
+}
+
+/// What stands under a quantifier is to be rewritten in the context that hasn't its track free.
+fn enter_quantifier(
+    alloc: Global,
+    interner: &mut Interner,
+    facts: &Facts,
+    place: Place,
+    t: Track,
+    f: FormulaId,
+    machine: &mut Machine,
+) -> Result<(), AllocError>
+    requires facts { AreFacts interner.old facts.now.facts.items }
+    requires place { IsPlace interner.old place }
+    requires inner { IsThere interner.old f }
+    requires is { whole interner.old place ≡ Ex2 t (formula_of interner.old f) }
+    requires going { IsGoing interner.old machine.old.tasks machine.old.rewritings.made.items }
+    ensures kept { Extends interner.old interner.new }
+    ensures ok { OnOk result (IsGoing interner.new machine.new.tasks machine.new.rewritings.made.items) }
+    ensures tasks { OnOk result (length machine.new.tasks ≡ length machine.old.tasks + 2) }
+    ensures room { machine.new.room ≡ machine.old.room }
+{
+    let around = inside(alloc, interner, facts, place.context, t, f)?;
+    let inner = Place {
+        context: around,
+        id: f,
+    };
+    machine.tasks.push(Task::Quantify(place, t, inner))?;
+    machine.tasks.push(Task::Visit(inner))?;
+    Ok(())
+}

@@ -1,0 +1,47 @@
+-- On verdicts on formulas that are easier to decide.
+use Rattle.std.proofs.Common.{◌≡◌, ℕ, List, ap, ◌∙◌, slice_get, Some}
+use Rattle.std.proofs.lemmas.Option.{slice_get_within}
+use Rattle.bdd_nodes.specs.Shelf.{Contents}
+use Rattle.gta_core.specs.Auto.{AutoView}
+use Rattle.gta_theory.specs.Guides.{Spaces}
+use Rattle.gta_theory.proofs.AssignmentsLemmas.{Covers-finite}
+use Rattle.gta_theory.proofs.ListedLemmas.{slice_get-front}
+use Rattle.ws2s_core.specs.declared.formula.Formula.{Formula}
+use Rattle.ws2s_core.specs.declared.node.FormulaId.{FormulaId}
+use Rattle.ws2s_core.specs.declared.track.Track.{Track}
+use Rattle.ws2s_core.specs.LabelTrees.{assignment_of}
+use Rattle.ws2s_core.specs.Nodes.{Extends}
+use Rattle.ws2s_core.specs.Satisfaction.{Same}
+use Rattle.ws2s_core.proofs.LabelTreesLemmas.{Covers-tree}
+use Rattle.ws2s_decide.specs.declared.verdict.Verdict.{Verdict}
+use Rattle.ws2s_decide.specs.Deciding.{IsVerdict}
+use Rattle.ws2s_decide.specs.Going.{Rests}
+use Rattle.ws2s_decide.proofs.RestsLemmas.{AllKept-extends}
+use Rattle.std.proofs.Common.{length, Result, Ok}
+
+-- a verdict on a formula is one on each that is the same
+pub IsVerdict-same : (tracks : List Track) (f g : Formula) (verdict : Verdict) → Same f g → IsVerdict tracks g verdict → IsVerdict tracks f verdict
+IsVerdict-same tracks f g Verdict.None same none =
+    λ n a covers sat. none n a covers ((same.satisfied a (Covers-finite n a covers)).0 sat)
+IsVerdict-same tracks f g (Verdict.Witness nodes w) same model = record {
+  satisfies = (same.satisfied (assignment_of nodes) (Covers-finite (length nodes) (assignment_of nodes) (Covers-tree nodes))).1 model.satisfies;
+  weighs = model.weighs;
+  least = λ n a covers sat. model.least n a covers ((same.satisfied a (Covers-finite n a covers)).0 sat);
+}
+IsVerdict-same tracks f g Verdict.Limit same any = tt
+
+-- what rests still does where more formulas have numbers
+pub Rests-extends : (g : Spaces) (old new : List Formula) (shelf : Contents) (automata : List AutoView) (kept : List (FormulaId × AutoView)) → Extends old new →
+    Rests g old shelf automata kept → Rests g new shelf automata kept
+Rests-extends g old new shelf automata kept extends rests = record {
+  holds = rests.holds;
+  kept_for = AllKept-extends g shelf old new kept extends rests.kept_for;
+}
+
+-- a formula keeps its number
+pub there-still : (old new : List Formula) (k : ℕ) (f : Formula) → Extends old new → slice_get old k ≡ Some f → slice_get new k ≡ Some f
+there-still old new k f extends e =
+    ap (λ formulas. slice_get formulas k) extends.is ∙ slice_get-front old extends.more k (slice_get_within old k f e) ∙ e
+
+pub Ok-same : {A E : Type 0} (a b : A) → ◌≡◌ {A = Result A E} (Ok a) (Ok b) → a ≡ b
+Ok-same a b e = cc

@@ -1,0 +1,54 @@
+//! Two ways to a verdict: by a formula that is the same and easier to decide, and where that is at the limit by the formula
+//! as it stands.
+
+ghost use Rattle.std.specs.Prelude.{◌≡◌, ◌<◌, ℕ, [], Some, Ok, IfOk, slice_get};
+ghost use Rattle.bdd_nodes.specs.Shelf.{limit_of};
+ghost use Rattle.gta_theory.specs.Guides.{IsGuide};
+ghost use Rattle.ws2s_core.specs.declared.formula.Formula.{Formula};
+ghost use Rattle.ws2s_theory.specs.Peaks.{HasPeak};
+ghost use Rattle.ws2s_decide.specs.declared.verdict.Verdict.{Verdict};
+ghost use Rattle.ws2s_decide.specs.Going.{Rests};
+ghost use Rattle.ws2s_decide.specs.Deciding.{IsVerdict};
+
+use crate::deciding::verdict_of;
+use crate::verdict::Verdict;
+use bdd_nodes::Shelf;
+use bdd_walk::NoMemory;
+use gta_keep::Kept;
+use std::alloc::Global;
+use ws2s_context::in_context;
+use ws2s_core::{FormulaId, Guide, Interner, TrackList};
+
+/// The verdict on the formula with the number. Its Peak alone licenses a limit, so only the second way answers one.
+///
+/// # Errors
+///
+/// Want of memory, and what a least tree has no room for.
+pub(crate) fn decide_number(
+    alloc: Global,
+    g: &Guide,
+    interner: &mut Interner,
+    id: FormulaId,
+    weigh: &TrackList,
+    kept: &mut Kept,
+    shelf: &mut Shelf,
+) -> Result<Verdict, NoMemory>
+    requires guide { IsGuide g.now }
+    requires there { (f : Formula) × (slice_get interner.old id.0 ≡ Some f) }
+    requires rests { Rests g.now interner.old shelf.old [] kept.old }
+    ensures value { IfOk result (λ verdict. (f : Formula) → slice_get interner.old id.0 ≡ Some f → IsVerdict weigh.now f verdict) }
+    ensures limit { result ≡ Ok Verdict.Limit → (f : Formula) (p : ℕ) → slice_get interner.old id.0 ≡ Some f → HasPeak g.now f p →
+        limit_of shelf.old < p }
+    ensures rests { Rests g.now interner.new shelf.new [] kept.new }
+    ensures same_limit { limit_of shelf.new ≡ limit_of shelf.old }
+{
+    let made = in_context(alloc, interner, id)?;
+    if made == id {
+        return verdict_of(alloc, g, interner, id, weigh, kept, shelf);
+    }
+    let first = verdict_of(alloc, g, interner, made, weigh, kept, shelf)?;
+    match first {
+        Verdict::Limit => verdict_of(alloc, g, interner, id, weigh, kept, shelf),
+        found => Ok(found),
+    }
+}
