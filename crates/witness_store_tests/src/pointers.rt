@@ -60,8 +60,17 @@ fn check(rt: &impl Abort, alloc: Global, l: &Layout<'_>, text: &str) -> Result<(
 
 /// A list whose cells point back to the cell before and along their routes; a cell with another one to the left; and no cell.
 const ROWS: [&str; 3] = [
-    "store\nvar x 1\ncell 1 Node next=2 left=null prev=null one=2\ncell 2 Node next=3 left=null prev=1 one=3\ncell 3 Node next=null left=null prev=2 one=null\nend\n",
-    "store\nvar x 1\ncell 1 Node next=null left=2 prev=null one=2\ncell 2 Node next=null left=null prev=null one=null\nend\n",
+    "store\n\
+     var x 1\n\
+     cell 1 Node next=2 left=null prev=null one=2\n\
+     cell 2 Node next=3 left=null prev=1 one=3\n\
+     cell 3 Node next=null left=null prev=2 one=null\n\
+     end\n",
+    "store\n\
+     var x 1\n\
+     cell 1 Node next=null left=2 prev=null one=2\n\
+     cell 2 Node next=null left=null prev=null one=null\n\
+     end\n",
     "store\nvar x null\nend\n",
 ];
 
