@@ -1,5 +1,5 @@
 -- On contexts by numbers.
-use Rattle.std.proofs.Common.{◌≡◌, ◌⊎◌, ℕ, ◌<◌, List, [], ◌∷◌, ◌++◌, length, map, option_map, slice_get, unwrap_or, All, Contains, Option, Some, None}
+use Rattle.std.proofs.Common.{◌≡◌, ◌⊎◌, ℕ, ◌<◌, List, [], ◌∷◌, ◌++◌, length, option_map, slice_get, unwrap_or, All, Contains, Option, Some, None}
 use Rattle.std.proofs.Common.{refl, sym, ap, ap₂, subst, ◌∙◌, arith, inl, inr, length-append}
 use Rattle.std.proofs.Common.{Bool, true, false, ◌||◌, zero, suc, get_or}
 use Rattle.std.proofs.lemmas.Bool.{false≢true}

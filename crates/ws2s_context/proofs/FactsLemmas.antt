@@ -1,5 +1,5 @@
 -- On what is known of formulas.
-use Rattle.std.proofs.Common.{◌≡◌, ℕ, Bool, true, false, List, refl, sym, ap, ap₂, ◌∙◌, nat_eq}
+use Rattle.std.proofs.Common.{◌≡◌, ℕ, Bool, true, false, List, refl, sym, ap, ◌∙◌, nat_eq}
 use Rattle.std.proofs.lemmas.Bool.{false≢true}
 use Rattle.std.proofs.Common.{subst, ◌||◌, Option, Some, None, Result, Ok, Err, IfOk, IfSome}
 use Rattle.std.specs.HashSet.{HashSet, contains}

@@ -1,5 +1,5 @@
 -- A machine that rewrites formulas in their contexts: what its tasks and what it rewrote stand for.
-use Rattle.std.specs.Prelude.{◌≡◌, List, ◌∷◌, Option, All}
+use Rattle.std.specs.Prelude.{◌≡◌, List, ◌∷◌, All}
 use Rattle.ws2s_core.specs.declared.track.Track.{Track}
 use Rattle.ws2s_core.specs.declared.formula.Formula.{Formula}
 use Rattle.ws2s_core.specs.declared.formula.Formula.TheVariants.{And, Not, Ex2}

@@ -1,5 +1,4 @@
-use Rattle.std.proofs.Common.{subst, List, ◌∷◌}
-use Rattle.ws2s_context.specs.declared.task.Task.{Task}
+use Rattle.std.proofs.Common.{subst}
 use Rattle.ws2s_context.specs.Going.{IsSound}
 use Rattle.ws2s_context.proofs.GoingLemmas.{IsGoing-first, IsGoing-rest}
 use Rattle.ws2s_context.proofs.machine.step.Goals as goal

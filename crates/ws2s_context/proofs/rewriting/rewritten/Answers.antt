@@ -1,4 +1,3 @@
-use Rattle.std.proofs.Common.{None}
 use Rattle.ws2s_context.proofs.ConjunctsLemmas.{there-extends}
 use Rattle.ws2s_context.proofs.GoingLemmas.{Same-rewritten}
 use Rattle.ws2s_context.proofs.rewriting.rewritten.Goals as goal

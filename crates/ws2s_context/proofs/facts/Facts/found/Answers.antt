@@ -1,4 +1,4 @@
-use Rattle.std.proofs.Common.{List, ℕ, Bool, false, ◌||◌, ◌==◌, if◌then◌else◌, refl, sym}
+use Rattle.std.proofs.Common.{List, ℕ, Bool, false, ◌||◌, ◌==◌, if◌then◌else◌, refl}
 use Rattle.ws2s_core.specs.declared.formula.Formula.{Formula}
 use Rattle.ws2s_core.specs.declared.node.Node.{Node}
 use Rattle.ws2s_core.specs.Nodes.{formula_of_node}

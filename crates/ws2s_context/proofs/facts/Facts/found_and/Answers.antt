@@ -1,7 +1,4 @@
-use Rattle.std.proofs.Common.{◌||◌, ◌∙◌, ap₂, Bool, subst}
-use Rattle.ws2s_core.specs.Tracks.{is_free}
-use Rattle.ws2s_core.specs.declared.node.FormulaId.{FormulaId}
-use Rattle.ws2s_context.specs.Conjuncts.{formula_of}
+use Rattle.std.proofs.Common.{◌||◌, ◌∙◌, ap₂}
 use Rattle.ws2s_context.proofs.FactsLemmas.{free-of}
 use Rattle.ws2s_context.proofs.facts.Facts.found_and.Goals as goal
 
