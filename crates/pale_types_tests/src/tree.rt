@@ -1,4 +1,4 @@
-//! A program with all forms, and its tree.
+//! Programs with all forms, and their trees.
 
 use crate::reading::read;
 use std::alloc::{AllocError, Global};
@@ -38,6 +38,68 @@ held: [Var(VarId(0)), Truth(true)] }, logics: Items { held: [Var(VarId(4))] }, k
 }), Do(11, Assign(Path { var: VarId(2), fields: Items { held: [] } }, New(VariantId { ty: \
 TypeId(0), index: 0 })))] } }";
 
+/// A procedure with each form of assertion, route, condition and assignment.
+static FORMS: &[u8] =
+    b"type T = { bool b; data f: T; pointer g: T [^f]; } | v { data k: T; } | w { }
+proc p(data x: T, pointer q: T, bool a) returns (data y: T) logic set S: T, bool m
+  pre [x in S & S sub S | ~x:v => (x = q <=> x.f ~= null)]
+  post [(ex c: T: y<f.g+^f.^*+$+root+@T+@T:w+?b+!b>c & c.b) & (all c: T: m) | all set R: T: ex set Q: T: y in Q & R sub Q | true | false] {
+  data t: T;
+  a = (x == q || x.f != null) && !(x:v) && x.b && true && !false;
+  x.b = a;
+  y = new T:w;
+  y.f = t.f;
+  t = null;
+}
+";
+
+/// Its variables have the numbers 0 to 6, in the order `x`, `q`, `a`, `y`, `t`, `S`, `m`; the fields of `T` are `b`, `f`, `g` and
+/// `k`, its variants `v` and `w`. Chains group to the left, and a bound name counts the quantifiers between.
+static FORMS_TREE: &str =
+    "TypedProc { name: Items { held: [112] }, place: Pos { line: 2, column: 1 }, last: \
+11, params: Items { held: [VarId(0), VarId(1), VarId(2)] }, results: Items { held: \
+[VarId(3)] }, locals: Items { held: [VarId(4)] }, logics: Items { held: [VarId(5), \
+VarId(6)] }, pre: Imp(Boxed { held: Or(Boxed { held: And(Boxed { held: \
+Member(At(Var(VarId(0)), Items { held: [] }), Var(VarId(5))) }, Boxed { held: \
+Subset(Var(VarId(5)), Var(VarId(5))) }) }, Boxed { held: Not(Boxed { held: \
+Is(At(Var(VarId(0)), Items { held: [] }), VariantId { ty: TypeId(0), index: 0 }) }) \
+}) }, Boxed { held: Iff(Boxed { held: Same(At(Var(VarId(0)), Items { held: [] }), \
+At(Var(VarId(1)), Items { held: [] })) }, Boxed { held: Not(Boxed { held: \
+Same(At(Var(VarId(0)), Items { held: [FieldId { ty: TypeId(0), index: 1 }] }), \
+Null) }) }) }), post: Or(Boxed { held: And(Boxed { held: Ex(TypeId(0), Boxed { \
+held: And(Boxed { held: Walk(At(Var(VarId(3)), Items { held: [] }), Or(Boxed { \
+held: Or(Boxed { held: Or(Boxed { held: Or(Boxed { held: Or(Boxed { held: Or(Boxed \
+{ held: Or(Boxed { held: Then(Boxed { held: Down(Items { held: [102] }) }, Boxed { \
+held: Down(Items { held: [103] }) }) }, Boxed { held: Then(Boxed { held: Up(Items { \
+held: [102] }) }, Boxed { held: Star(Boxed { held: UpAny }) }) }) }, Boxed { held: \
+Leaf }) }, Boxed { held: Root }) }, Boxed { held: IsType(TypeId(0)) }) }, Boxed { \
+held: IsVariant(VariantId { ty: TypeId(0), index: 1 }) }) }, Boxed { held: \
+IsBool(Items { held: [98] }, true) }) }, Boxed { held: IsBool(Items { held: [98] }, \
+false) }), At(Bound(0), Items { held: [] })) }, Boxed { held: Truth(At(Bound(0), \
+Items { held: [FieldId { ty: TypeId(0), index: 0 }] })) }) }) }, Boxed { held: \
+All(TypeId(0), Boxed { held: Truth(At(Var(VarId(6)), Items { held: [] })) }) }) }, \
+Boxed { held: AllSet(TypeId(0), Boxed { held: ExSet(TypeId(0), Boxed { held: \
+Or(Boxed { held: Or(Boxed { held: And(Boxed { held: Member(At(Var(VarId(3)), Items \
+{ held: [] }), Bound(0)) }, Boxed { held: Subset(Bound(1), Bound(0)) }) }, Boxed { \
+held: True }) }, Boxed { held: False }) }) }) }), body: Items { held: [Do(6, \
+Assign(Path { var: VarId(2), fields: Items { held: [] } }, Truth(And(Boxed { held: \
+And(Boxed { held: And(Boxed { held: And(Boxed { held: Or(Boxed { held: \
+Same(Path(Path { var: VarId(0), fields: Items { held: [] } }), Path(Path { var: \
+VarId(1), fields: Items { held: [] } })) }, Boxed { held: Not(Boxed { held: \
+Same(Path(Path { var: VarId(0), fields: Items { held: [FieldId { ty: TypeId(0), \
+index: 1 }] } }), Null) }) }) }, Boxed { held: Not(Boxed { held: Is(Path { var: \
+VarId(0), fields: Items { held: [] } }, VariantId { ty: TypeId(0), index: 0 }) }) \
+}) }, Boxed { held: Bool(Path { var: VarId(0), fields: Items { held: [FieldId { ty: \
+TypeId(0), index: 0 }] } }) }) }, Boxed { held: True }) }, Boxed { held: Not(Boxed \
+{ held: False }) })))), Do(7, Assign(Path { var: VarId(0), fields: Items { held: \
+[FieldId { ty: TypeId(0), index: 0 }] } }, Truth(Bool(Path { var: VarId(2), fields: \
+Items { held: [] } })))), Do(8, Assign(Path { var: VarId(3), fields: Items { held: \
+[] } }, New(VariantId { ty: TypeId(0), index: 1 }))), Do(9, Assign(Path { var: \
+VarId(3), fields: Items { held: [FieldId { ty: TypeId(0), index: 1 }] } }, \
+Cell(Path(Path { var: VarId(4), fields: Items { held: [FieldId { ty: TypeId(0), \
+index: 1 }] } })))), Do(10, Assign(Path { var: VarId(4), fields: Items { held: [] } \
+}, Cell(Null)))] } }";
+
 /// The first procedure as it is printed for debugging, or what is printed of the refusal.
 fn tree_of(alloc: Global, text: &[u8]) -> Result<String, AllocError> {
     if text.len() >= 100_000 {
@@ -57,5 +119,13 @@ fn each_form_is_typed(rt: HostRuntime) -> Result<(), Fail> {
     let alloc = rt.alloc();
     let tree = tree_of(alloc, TEXT)?;
     assert_eq!(rt; tree.as_str(), TREE);
+    Ok(())
+}
+
+#[test]
+fn each_form_within_statements_is_typed(rt: HostRuntime) -> Result<(), Fail> {
+    let alloc = rt.alloc();
+    let tree = tree_of(alloc, FORMS)?;
+    assert_eq!(rt; tree.as_str(), FORMS_TREE);
     Ok(())
 }
