@@ -1,0 +1,16 @@
+pub mod Picking
+pub mod Settings
+pub mod Putting
+pub mod Forms
+pub mod Calls
+pub mod Flows
+pub mod Cuts
+pub mod Starts
+pub mod Passages
+pub mod Statements
+pub mod Counts
+pub mod Triples
+pub mod Weights
+pub mod Following
+pub mod Measures
+pub mod Fitting
