@@ -1,0 +1,11 @@
+pub mod Picking
+pub mod Settings
+pub mod Putting
+pub mod Calls
+pub mod Flows
+pub mod Cuts
+pub mod Starts
+pub mod Passages
+pub mod Statements
+pub mod Counts
+pub mod Triples

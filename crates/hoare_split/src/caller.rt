@@ -1,0 +1,40 @@
+//! What stands around the statements of a procedure.
+
+ghost use Rattle.std.specs.Prelude.{◌≡◌};
+ghost use Rattle.hoare_split.specs.Picking.{class_at, is_listed};
+
+use pale_calls::VarClass;
+use pale_types::{Typed, TypedProc};
+use store_core::{VarId, VarTable};
+
+/// A procedure with its variables, in its program.
+#[derive(Clone, Copy)]
+pub(crate) struct Caller<'a> {
+    pub(crate) program: &'a Typed,
+    /// The number of the procedure.
+    pub(crate) number: u32,
+    pub(crate) vars: &'a VarTable,
+    pub(crate) proc: &'a TypedProc,
+}
+
+/// The class of a variable; one that isn't there counts as a truth value.
+pub(crate) fn class_at(vars: &VarTable, var: VarId) -> VarClass
+    ensures { result ≡ class_at vars.now var }
+{
+    match vars.kind(var) {
+        Some(kind) => VarClass::of(*kind),
+        None => VarClass::Bool,
+    }
+}
+
+/// Whether the variable is one of these.
+pub(crate) fn is_listed(vars: &[VarId], var: VarId) -> bool
+    ensures { result ≡ is_listed vars.now var }
+{
+    for listed in vars {
+        if listed.0 == var.0 {
+            return true;
+        }
+    }
+    false
+}

@@ -1,0 +1,99 @@
+//! The counts of all codes of a procedure, by one pass from its end to its head. No code is built for them.
+
+ghost use Rattle.std.specs.Prelude.{◌≡◌};
+ghost use Rattle.hoare_split.specs.Triples.{procedure_fault};
+
+use crate::caller::Caller;
+use crate::counts::Count;
+use crate::picking::{Pick, picked_count};
+use crate::plain::has_cut;
+use pale_text::{Pos, Refusal};
+use pale_types::{CallParts, Stmt};
+
+/// The first fault of the triples from a place of the text on.
+pub(crate) type Found = Option<Refusal>;
+
+/// Looks at the triple that starts at the place, which comes before those that were looked at.
+fn look(place: Pos, code: Count, found: &mut Found) {
+    if let Some(refusal) = code.fault(place) {
+        *found = Some(refusal);
+    }
+}
+
+/// The count of the code of statements and of what follows them, which has this count.
+#[cycle(measuring)]
+pub(crate) fn measure_block(
+    caller: &Caller<'_>,
+    block: &[Stmt],
+    rest: Count,
+    found: &mut Found,
+) -> Count {
+    let mut count = rest;
+    let mut left = block;
+    while let Some((last, before)) = left.split_last() {
+        count = measure(caller, last, count, found);
+        left = before;
+    }
+    count
+}
+
+/// The same of a condition and the two blocks that it chooses from.
+#[cycle(measuring)]
+fn measure_choice(
+    caller: &Caller<'_>,
+    yes: &[Stmt],
+    no: &[Stmt],
+    rest: Count,
+    found: &mut Found,
+) -> Count {
+    let other = measure_block(caller, no, rest, found);
+    let taken = measure_block(caller, yes, rest, found);
+    Count::of_atoms(1).and(taken).and(other)
+}
+
+/// The count of the settings before a call.
+fn settings_before(caller: &Caller<'_>, call: &CallParts) -> Count {
+    Count::of_atoms(picked_count(caller.vars, Pick::Awaited(call)))
+}
+
+/// The count of the code of a statement and of what follows it, which has this count. What follows a plain `if` stands behind it
+/// once, and what follows a branch in both of its codes.
+#[cycle(measuring)]
+fn measure(caller: &Caller<'_>, stmt: &Stmt, rest: Count, found: &mut Found) -> Count {
+    match stmt {
+        Stmt::Skip => rest,
+        Stmt::Do(_, act) => Count::of_act(act).and(rest),
+        Stmt::If(_, _, yes, no) => {
+            let (yes, no) = (yes.as_slice(), no.as_slice());
+            if has_cut(yes) || has_cut(no) {
+                measure_choice(caller, yes, no, rest, found)
+            } else {
+                measure_choice(caller, yes, no, Count::ZERO, found).and(rest)
+            }
+        }
+        Stmt::While(place, _, _, body) => {
+            let again = measure_block(caller, body.as_slice(), Count::ZERO, found);
+            look(*place, Count::of_atoms(1).and(again).and(rest), found);
+            Count::ZERO
+        }
+        Stmt::Split(place, _) => {
+            look(*place, rest, found);
+            Count::ZERO
+        }
+        Stmt::Call(place, call) => {
+            look(*place, rest, found);
+            settings_before(caller, call)
+        }
+    }
+}
+
+/// The first fault of a procedure's triples.
+pub(crate) fn first_fault(caller: &Caller<'_>) -> Found
+    ensures { result ≡ procedure_fault caller.now.program.now.procs (record { vars = caller.now.vars.now; proc = caller.now.proc.now }) }
+{
+    let mut found = None;
+    let exit = Count::of_atoms(picked_count(caller.vars, Pick::Left(caller.proc)));
+    let body = measure_block(caller, caller.proc.body.as_slice(), exit, &mut found);
+    look(caller.proc.place, body, &mut found);
+    found
+}

@@ -1,0 +1,137 @@
+//! The triples of a procedure, in order of its cut points in the text.
+
+ghost use Rattle.std.specs.Prelude.{◌≡◌, ◌++◌, map, OnOk};
+ghost use Rattle.hoare_split.specs.Triples.{starts_of, triple_of};
+
+use crate::caller::Caller;
+use crate::codes::{branch, code_of};
+use crate::reached::Reached;
+use crate::rest::Rest;
+use crate::starts::{call_start, entry_start, plain_start};
+use pale_text::Pos;
+use pale_types::{Stmt, StmtList};
+use plain_data::Items;
+use std::alloc::{AllocError, Global};
+use store_exec::{Code, ItemList, Start, Triple};
+use store_logic::{Assertion, Cond};
+
+/// Triples in order.
+pub type TripleList = Items<Triple>;
+
+/// The triple of a cut point whose code is that of what follows.
+fn triple_of(
+    alloc: Global,
+    caller: &Caller<'_>,
+    line: u32,
+    start: Start,
+    rest: Rest<'_>,
+) -> Result<Triple, AllocError> {
+    let mut reached = Reached::new(alloc);
+    let code = code_of(alloc, caller, &mut reached, rest)?;
+    Ok(Triple {
+        proc: caller.number,
+        line,
+        start,
+        code,
+        cuts: reached.into_cuts(),
+    })
+}
+
+/// The triple of a loop: a branch into its body, which arrives at the loop again, and what follows it.
+fn loop_triple(
+    alloc: Global,
+    caller: &Caller<'_>,
+    place: Pos,
+    condition: &Cond,
+    invariant: &Assertion,
+    body: &StmtList,
+    rest: Rest<'_>,
+) -> Result<Triple, AllocError> {
+    let start = plain_start(alloc, invariant)?;
+    let mut reached = Reached::new(alloc);
+    let again = Rest::Again(place, invariant);
+    let taken = Rest::Then(body.as_slice(), &again);
+    let tail = branch(
+        alloc,
+        caller,
+        &mut reached,
+        place.line,
+        condition,
+        taken,
+        rest,
+    )?;
+    let items = ItemList::new(alloc);
+    Ok(Triple {
+        proc: caller.number,
+        line: place.line,
+        start,
+        code: Code { items, tail },
+        cuts: reached.into_cuts(),
+    })
+}
+
+/// Puts the triples that start in a statement at the end of the list.
+#[cycle(points)]
+fn split_stmt(
+    alloc: Global,
+    caller: &Caller<'_>,
+    stmt: &Stmt,
+    rest: Rest<'_>,
+    triples: &mut TripleList,
+) -> Result<(), AllocError> {
+    match stmt {
+        Stmt::Skip | Stmt::Do(_, _) => Ok(()),
+        Stmt::If(_, _, yes, no) => {
+            split_block(alloc, caller, yes.as_slice(), &rest, triples)?;
+            split_block(alloc, caller, no.as_slice(), &rest, triples)
+        }
+        Stmt::While(place, condition, invariant, body) => {
+            let own = loop_triple(alloc, caller, *place, condition, invariant, body, rest)?;
+            triples.push(own)?;
+            let again = Rest::Again(*place, invariant);
+            split_block(alloc, caller, body.as_slice(), &again, triples)
+        }
+        Stmt::Split(place, assertion) => {
+            let start = plain_start(alloc, assertion)?;
+            triples.push(triple_of(alloc, caller, place.line, start, rest)?)
+        }
+        Stmt::Call(place, call) => {
+            let start = call_start(alloc, caller, call)?;
+            triples.push(triple_of(alloc, caller, place.line, start, rest)?)
+        }
+    }
+}
+
+/// The same of statements in order.
+#[cycle(points)]
+fn split_block(
+    alloc: Global,
+    caller: &Caller<'_>,
+    block: &[Stmt],
+    rest: &Rest<'_>,
+    triples: &mut TripleList,
+) -> Result<(), AllocError> {
+    let mut left = block;
+    while let Some((stmt, more)) = left.split_first() {
+        split_stmt(alloc, caller, stmt, Rest::Then(more, rest), triples)?;
+        left = more;
+    }
+    Ok(())
+}
+
+/// Puts the triples of a procedure at the end of the list: that of its entry, and then those of its statements.
+pub(crate) fn split_procedure(
+    alloc: Global,
+    caller: &Caller<'_>,
+    triples: &mut TripleList,
+) -> Result<(), AllocError>
+    ensures { OnOk result (triples.new ≡ triples.old
+        ++ map (triple_of caller.now.number)
+        (starts_of caller.now.program.now.procs (record { vars = caller.now.vars.now; proc = caller.now.proc.now }))) }
+{
+    let body = caller.proc.body.as_slice();
+    let start = entry_start(alloc, caller)?;
+    let whole = Rest::Then(body, &Rest::Exit);
+    triples.push(triple_of(alloc, caller, caller.proc.place.line, start, whole)?)?;
+    split_block(alloc, caller, body, &Rest::Exit, triples)
+}

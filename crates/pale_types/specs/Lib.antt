@@ -1,0 +1,9 @@
+pub mod Variables
+pub mod Formals
+pub mod Sights
+pub mod Framing
+pub mod Stated
+pub mod Statements
+pub mod Procedures
+pub mod TypedPrograms
+pub mod Programs

@@ -1,0 +1,24 @@
+//! Programs with their names looked up and their predicates put in, or their first fault.
+//!
+//! `specs/Programs.antt` says what a program is typed as and what is refused first, `specs/Procedures.antt` and
+//! `specs/Statements.antt` the same of procedures and of statements, and `specs/Sights.antt` what each place of a procedure sees.
+#![tactic(auto)]
+
+mod basis;
+mod calls;
+mod formals;
+mod procedures;
+mod program;
+mod sights;
+mod stated;
+mod statements;
+mod typed;
+mod typed_program;
+mod variables;
+
+pub use basis::Basis;
+pub use program::check_types;
+pub use sights::{Frame, Heading};
+pub use typed::{CallParts, ProcEntry, Stmt, StmtList, TypedProc};
+pub use typed_program::Typed;
+pub use variables::Variable;
