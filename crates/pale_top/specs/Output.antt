@@ -12,11 +12,12 @@ use Rattle.pale_io.specs.declared.stops.WriteStop.TheVariants.{Failed, NoMemory}
 use Rattle.pale_io.specs.Whole.{WritesAll, WritesFront}
 use Rattle.pale_top.specs.declared.status.Status.{Status}
 use Rattle.pale_top.specs.declared.status.Status.TheVariants.{Good, Bad, Words, Text, Memory, ReadFault, WriteFault}
-use Rattle.pale_top.specs.declared.words.Mode.TheVariants.{Check, Format, Ws2s}
+use Rattle.pale_top.specs.declared.words.Mode.TheVariants.{Check, Replay, Format, Ws2s}
 use Rattle.pale_top.specs.declared.words.Settings.{Settings}
 use Rattle.pale_top.specs.Texts.{most_bytes}
 use Rattle.pale_top.specs.Deciding.{Decides}
 use Rattle.pale_top.specs.Formatting.{Formats}
+use Rattle.pale_top.specs.Replaying.{Replays}
 use Rattle.pale_top.specs.Words.{Gives, IsRefused}
 use Rattle.pale_top.specs.Report.{invalid_line, not_yet_line, store_text, too_long_line, totals_line, usage_line, valid_line}
 
@@ -60,6 +61,7 @@ pub data Checks (text : List ℕ) : List ℕ → Status → Type 0 where
 -- what a call with these settings writes for a text, and its status, by the mode
 pub data Output (settings : Settings) (text : List ℕ) : List ℕ → Status → Type 0 where
   check : settings.mode ≡ Check → (written : List ℕ) (status : Status) → Checks text written status → Output settings text written status
+  replay : settings.mode ≡ Replay → (written : List ℕ) (status : Status) → Replays text written status → Output settings text written status
   format : settings.mode ≡ Format → (written : List ℕ) (status : Status) → Formats text written status → Output settings text written status
   ws2s : settings.mode ≡ Ws2s → (written : List ℕ) (status : Status) → Decides settings.limit text written status → Output settings text written status
 

@@ -1,0 +1,4 @@
+pub mod Parts
+pub mod Lines
+pub mod Replays
+pub mod Replaying
