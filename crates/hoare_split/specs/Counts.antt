@@ -1,5 +1,5 @@
 -- How many atoms stand in a code: acts and whole conditions, in all its parts. (How many `new` do, store_exec says.)
-use Rattle.std.specs.Prelude.{ℕ, ◌+◌, sum_by, nat_lt, if◌then◌else◌}
+use Rattle.std.specs.Prelude.{ℕ, ◌+◌, sum_by}
 use Rattle.store_exec.specs.declared.code.Item.{Item}
 use Rattle.store_exec.specs.declared.code.Item.TheOpen.{Item-F}
 use Rattle.store_exec.specs.declared.code.Item.TheFolds.{fold-Item}
@@ -20,7 +20,3 @@ atoms_of_tail (Tail-F.Branch line c taken other) = 1 + (taken + other)
 
 abbrev pub atoms_of_code : Code → ℕ
 atoms_of_code = fold-Code ℕ ℕ atoms_of_tail (λ x. sum_by atoms_of_item x.items + x.tail)
-
--- the number, or the cap where it is greater
-abbrev pub capped : ℕ → ℕ → ℕ
-capped cap n = if nat_lt n cap then n else cap

@@ -1,5 +1,6 @@
 -- Where a procedure leads from a place of its text up to the next cuts, and the code of that.
-use Rattle.std.specs.Prelude.{ℕ, suc, ◌==◌, ◌&&◌, ◌||◌, Bool, true, false, List, [], ◌∷◌, ◌++◌, map, if◌then◌else◌}
+use Rattle.std.specs.Prelude.{ℕ, ◌==◌, ◌&&◌, Bool, true, false, List, [], ◌∷◌, ◌++◌, map, if◌then◌else◌}
+use Rattle.std.specs.List.{list_any, position_or_len}
 use Rattle.store_logic.specs.declared.cond.Cond.{Cond}
 use Rattle.store_exec.specs.declared.code.Item.{Item}
 use Rattle.store_exec.specs.declared.code.Tail.TheVariants as tail
@@ -36,8 +37,7 @@ is_point point.Exit (point.At q) = false
 is_point point.Exit point.Exit = true
 
 abbrev pub is_among : Point → List Point → Bool
-is_among p [] = false
-is_among p (q ∷ points) = is_point q p || is_among p points
+is_among p points = list_any (λ q. is_point q p) points
 
 -- the cuts at which it ends, from the left
 abbrev pub arrivals_of : Flow → List Arrival
@@ -55,25 +55,30 @@ first_of_each before (a ∷ arrivals) =
 abbrev pub reached_by : Flow → List Arrival
 reached_by flow = first_of_each [] (arrivals_of flow)
 
+abbrev pub points_in : List Arrival → List Point
+points_in arrivals = map (λ a. a.point) arrivals
+
+abbrev pub cuts_in : List Arrival → List Cut
+cuts_in arrivals = map (λ a. a.cut) arrivals
+
 abbrev pub cuts_of : Flow → List Cut
-cuts_of flow = map (λ a. a.cut) (reached_by flow)
+cuts_of flow = cuts_in (reached_by flow)
 
 -- ---- the code
 
--- the place of a point among the cuts, counted from 0
-abbrev pub place_among : List Arrival → Point → ℕ
-place_among [] p = 0
-place_among (a ∷ arrivals) p = if is_point a.point p then 0 else suc (place_among arrivals p)
+-- the place of a point among those of the cuts, counted from 0
+abbrev pub place_among : List Point → Point → ℕ
+place_among points p = position_or_len (λ q. is_point q p) points
 
 -- a code behind one item more
 abbrev pub behind : Item → Code → Code
 behind i code = roll-Code (record { items = i ∷ (out-Code code).items; tail = (out-Code code).tail })
 
--- the code, where these are the triple's cuts
-abbrev pub code_in : List Arrival → Flow → Code
-code_in cuts (ends a) = roll-Code (record { items = []; tail = tail.Cut (place_among cuts a.point) })
-code_in cuts (does i rest) = behind i (code_in cuts rest)
-code_in cuts (branches line c yes no) = roll-Code (record { items = []; tail = tail.Branch line c (code_in cuts yes) (code_in cuts no) })
+-- the code, where the triple's cuts are at these points
+abbrev pub code_in : List Point → Flow → Code
+code_in points (ends a) = roll-Code (record { items = []; tail = tail.Cut (place_among points a.point) })
+code_in points (does i rest) = behind i (code_in points rest)
+code_in points (branches line c yes no) = roll-Code (record { items = []; tail = tail.Branch line c (code_in points yes) (code_in points no) })
 
 abbrev pub code_of : Flow → Code
-code_of flow = code_in (reached_by flow) flow
+code_of flow = code_in (points_in (reached_by flow)) flow

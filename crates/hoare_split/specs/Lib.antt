@@ -1,6 +1,7 @@
 pub mod Picking
 pub mod Settings
 pub mod Putting
+pub mod Forms
 pub mod Calls
 pub mod Flows
 pub mod Cuts
@@ -9,3 +10,5 @@ pub mod Passages
 pub mod Statements
 pub mod Counts
 pub mod Triples
+pub mod Following
+pub mod Measures

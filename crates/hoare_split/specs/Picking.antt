@@ -1,6 +1,7 @@
 -- Variables of a procedure that a cut point lists, in order of the variable table. (Møller and Schwartzbach, PLDI 2001: calls.)
-use Rattle.std.specs.Prelude.{ℕ, ◌+◌, ◌==◌, ◌&&◌, ◌||◌, Bool, true, false, not, List, [], ◌∷◌, if◌then◌else◌}
+use Rattle.std.specs.Prelude.{ℕ, ◌==◌, ◌&&◌, ◌||◌, Bool, true, false, not, List, length, map, filter}
 use Rattle.std.specs.Option.{option_map_or}
+use Rattle.std.specs.List.{list_any, range_with_len}
 use Rattle.store_core.specs.declared.ids.VarId.{VarId}
 use Rattle.store_core.specs.Tables.{VarEntry, var_at}
 use Rattle.pale_calls.specs.declared.class.VarClass.{VarClass}
@@ -35,29 +36,27 @@ is_pointer class.LogicBool = false
 
 -- the variable is one of these
 abbrev pub is_listed : List VarId → VarId → Bool
-is_listed [] v = false
-is_listed (u ∷ us) v = (u.0 == v.0) || is_listed us v
+is_listed vars v = list_any (λ u. u.0 == v.0) vars
 
-abbrev pub is_handed_as : VarId → Actual → Bool
-is_handed_as v (actual.Var u) = u.0 == v.0
-is_handed_as v actual.Null = false
-is_handed_as v (actual.Truth truth) = false
+-- what is handed over is the variable
+abbrev pub is_handed : VarId → Actual → Bool
+is_handed v (actual.Var u) = u.0 == v.0
+is_handed v actual.Null = false
+is_handed v (actual.Truth truth) = false
 
 -- the variable is among the arguments
 abbrev pub is_argument : List Actual → VarId → Bool
-is_argument [] v = false
-is_argument (a ∷ args) v = is_handed_as v a || is_argument args v
+is_argument args v = list_any (is_handed v) args
 
 -- ---- in order of the table
 
--- those variables for which the test holds, the first of which has this number
-abbrev pub those_from : (VarClass → VarId → Bool) → ℕ → List VarEntry → List VarId
-those_from is number [] = []
-those_from is number (e ∷ vars) =
-    if is (class_of e.kind) (record { 0 = number }) then record { 0 = number } ∷ those_from is (number + 1) vars else those_from is (number + 1) vars
+-- the variables with these numbers
+abbrev pub numbered : List ℕ → List VarId
+numbered numbers = map (λ n. record { 0 = n }) numbers
 
+-- the variables for which the test holds
 abbrev pub those : (VarClass → VarId → Bool) → List VarEntry → List VarId
-those is vars = those_from is 0 vars
+those is vars = filter (λ v. is (class_at vars v) v) (numbered (range_with_len 0 (length vars)))
 
 -- ---- the tests
 
@@ -85,7 +84,7 @@ is_spent call of v = (holds_cell of && is_argument call.args v) && not (is_liste
 abbrev pub is_gained : CallParts → VarClass → VarId → Bool
 is_gained call of v = is_pointer of && is_listed call.results v
 
--- the test by its name in the code
+-- which test the code's name for it means
 abbrev pub test_of : Pick → VarClass → VarId → Bool
 test_of (pick.Fresh p) = is_fresh p.now
 test_of (pick.Left p) = is_left p.now

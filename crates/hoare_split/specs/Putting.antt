@@ -1,9 +1,12 @@
 -- Assertions of a procedure that is called, with what is handed over put in for its variables: for `null`, a path that begins with
 -- the variable is null, or false where it ends in a bool field.
-use Rattle.std.specs.Prelude.{◌==◌, List, [], ◌∷◌, if◌then◌else◌}
+use Rattle.std.specs.Prelude.{◌==◌, List, [], map}
+use Rattle.std.specs.Option.{option_map_or}
+use Rattle.std.specs.List.{find, zip}
 use Rattle.store_core.specs.declared.ids.VarId.{VarId}
 use Rattle.store_logic.specs.declared.term.Base.{Base}
 use Rattle.store_logic.specs.declared.term.Base.TheVariants as base
+use Rattle.store_logic.specs.declared.term.Term.{Term}
 use Rattle.store_logic.specs.declared.term.Term.TheVariants as term
 use Rattle.store_logic.specs.declared.assertion.Assertion.{Assertion}
 use Rattle.store_logic.specs.Filling.{Filling, of_term, of_truth, kept, filled}
@@ -13,14 +16,11 @@ use Rattle.hoare_split.specs.declared.putting.Put.{Put}
 
 -- each variable with what is handed over for it
 abbrev pub beside : List VarId → List Actual → List Put
-beside [] actuals = []
-beside (v ∷ vars) [] = []
-beside (v ∷ vars) (x ∷ actuals) = record { var = v; actual = x } ∷ beside vars actuals
+beside vars actuals = map (λ pair. record { var = pair.0; actual = pair.1 }) (zip vars actuals)
 
 -- what is handed over for the variable; one for which nothing is stands for itself
 abbrev pub actual_for : List Put → VarId → Actual
-actual_for [] v = actual.Var v
-actual_for (put ∷ puts) v = if put.var.0 == v.0 then put.actual else actual_for puts v
+actual_for puts v = option_map_or (λ put. put.actual) (find (λ put. put.var.0 == v.0) puts) (actual.Var v)
 
 abbrev pub filling_of : Actual → Filling
 filling_of (actual.Var v) = kept (base.Var v)

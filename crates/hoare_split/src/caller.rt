@@ -9,12 +9,12 @@ use store_core::{VarId, VarTable};
 
 /// A procedure with its variables, in its program.
 #[derive(Clone, Copy)]
-pub(crate) struct Caller<'a> {
-    pub(crate) program: &'a Typed,
+pub struct Caller<'a> {
+    pub program: &'a Typed,
     /// The number of the procedure.
-    pub(crate) number: u32,
-    pub(crate) vars: &'a VarTable,
-    pub(crate) proc: &'a TypedProc,
+    pub number: u32,
+    pub vars: &'a VarTable,
+    pub proc: &'a TypedProc,
 }
 
 /// The class of a variable; one that isn't there counts as a truth value.
@@ -31,10 +31,5 @@ pub(crate) fn class_at(vars: &VarTable, var: VarId) -> VarClass
 pub(crate) fn is_listed(vars: &[VarId], var: VarId) -> bool
     ensures { result ≡ is_listed vars.now var }
 {
-    for listed in vars {
-        if listed.0 == var.0 {
-            return true;
-        }
-    }
-    false
+    vars.iter().any(|listed| listed.0 == var.0)
 }

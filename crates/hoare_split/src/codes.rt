@@ -1,5 +1,12 @@
 //! The code from a place of the text up to the next cuts, read from the left.
 
+ghost use Rattle.std.specs.Prelude.{◌≡◌, ◌∷◌, [], true, None, IfOk, OnOk};
+ghost use Rattle.hoare_split.specs.Cuts.{at_call};
+ghost use Rattle.hoare_split.specs.Cuts as cuts;
+ghost use Rattle.hoare_split.specs.Flows.{ends, branches, after_items, arrivals_of, code_in, is_among};
+ghost use Rattle.hoare_split.specs.Triples.{exit_of};
+ghost use Rattle.hoare_split.specs.Following.{procs_of, vars_of, statement_in, flow_of, GoesOn, Reaches};
+
 use crate::arrivals::{call_cut, plain_cut};
 use crate::caller::Caller;
 use crate::picking::Pick;
@@ -16,7 +23,7 @@ use store_logic::{Assertion, Cond};
 
 /// Where the items of a code end: at the exit, at a `while` that is met again, or at a statement that is a cut point or has one
 /// inside, with what follows it.
-enum Ending<'a> {
+pub enum Ending<'a> {
     Exit,
     Again(Pos, &'a Assertion),
     At(&'a Stmt, Rest<'a>),
@@ -27,7 +34,9 @@ fn push_items<'a>(
     alloc: Global,
     rest: Rest<'a>,
     items: &mut ItemList,
-) -> Result<Ending<'a>, AllocError> {
+) -> Result<Ending<'a>, AllocError>
+    ensures { IfOk result (GoesOn items.old items.new rest.entry) }
+{
     let mut left = rest;
     loop {
         match left {
@@ -47,87 +56,151 @@ fn push_items<'a>(
     }
 }
 
-/// The place among the reached cuts of a `while`, a `split` or the exit.
-fn arrive(
+/// The code of these items, which end at a cut point that was reached. Want of memory where its place has no number.
+fn code_ending(reached: &Reached, items: ItemList, point: Point) -> Result<Code, AllocError>
+    requires { is_among point reached.now.points ≡ true }
+    ensures { IfOk result (λ code. (cut : _) →
+        code ≡ code_in reached.now.points (after_items items (ends (record { point = point; cut = cut })))) }
+{
+    let place = reached.find(point).unwrap();
+    match u32::try_from(place) {
+        Ok(place) => Ok(Code {
+            items,
+            tail: Tail::Cut(place),
+        }),
+        Err(_) => Err(AllocError),
+    }
+}
+
+/// The code of these items, which end at a `while`, a `split` or the exit.
+fn code_to(
     alloc: Global,
     reached: &mut Reached,
+    items: ItemList,
     point: Point,
     line: u32,
     assertion: &Assertion,
-) -> Result<Tail, AllocError> {
-    match reached.find(point) {
-        Some(place) => Ok(Tail::Cut(place)),
-        None => {
-            let cut = plain_cut(alloc, line, assertion)?;
-            Ok(Tail::Cut(reached.add(point, cut)?))
-        }
+) -> Result<Code, AllocError>
+    ensures code { IfOk result (λ code. code ≡ code_in reached.new.points
+        (after_items items (ends (record { point = point; cut = cuts.plain_cut line assertion.now })))) }
+    ensures reached { OnOk result (Reaches reached.old reached.new (record { point = point; cut = cuts.plain_cut line assertion.now } ∷ [])) }
+{
+    if reached.find(point).is_none() {
+        let cut = plain_cut(alloc, line, assertion)?;
+        reached.add(point, cut)?;
     }
+    code_ending(reached, items, point)
 }
 
 /// The same of a call.
-fn arrive_at_call(
+fn code_to_call(
     alloc: Global,
     caller: &Caller<'_>,
     reached: &mut Reached,
+    items: ItemList,
     place: Pos,
     call: &CallParts,
-) -> Result<Tail, AllocError> {
-    match reached.find(Point::At(place)) {
-        Some(place) => Ok(Tail::Cut(place)),
-        None => {
-            let cut = call_cut(alloc, caller, place.line, call)?;
-            Ok(Tail::Cut(reached.add(Point::At(place), cut)?))
-        }
+) -> Result<Code, AllocError>
+    ensures code { IfOk result (λ code. code ≡ code_in reached.new.points
+        (after_items items (ends (at_call (procs_of caller.now) (vars_of caller.now) place call.now)))) }
+    ensures reached { OnOk result (Reaches reached.old reached.new (at_call (procs_of caller.now) (vars_of caller.now) place call.now ∷ [])) }
+{
+    let point = Point::At(place);
+    if reached.find(point).is_none() {
+        let cut = call_cut(alloc, caller, place.line, call)?;
+        reached.add(point, cut)?;
     }
+    code_ending(reached, items, point)
 }
 
-/// A branch into the code of the one block and that of the other, with what follows both in each.
+/// The code of these items and then a branch into the code of the one block and that of the other, with what follows both in each.
 #[cycle(codes)]
 pub(crate) fn branch(
     alloc: Global,
     caller: &Caller<'_>,
     reached: &mut Reached,
+    items: ItemList,
     line: u32,
     condition: &Cond,
     taken: Rest<'_>,
     other: Rest<'_>,
-) -> Result<Tail, AllocError> {
+) -> Result<Code, AllocError>
+    ensures code { IfOk result (λ code. code ≡ code_in reached.new.points
+        (after_items items (branches line condition.now (flow_of caller.now taken.entry) (flow_of caller.now other.entry)))) }
+    ensures reached { OnOk result (Reaches reached.old reached.new
+        (arrivals_of (branches line condition.now (flow_of caller.now taken.entry) (flow_of caller.now other.entry)))) }
+{
     let condition = condition.copy(alloc)?;
     let taken = code_of(alloc, caller, reached, taken)?;
     let other = code_of(alloc, caller, reached, other)?;
-    Ok(Tail::Branch(
-        line,
-        condition,
-        Boxed::new(alloc, taken)?,
-        Boxed::new(alloc, other)?,
-    ))
+    let taken = Boxed::new(alloc, taken)?;
+    let other = Boxed::new(alloc, other)?;
+    Ok(Code {
+        items,
+        tail: Tail::Branch(line, condition, taken, other),
+    })
 }
 
-/// What follows the items that end at this statement.
+/// The code of these items and then a statement that is a cut point or has one inside, with what follows it.
 #[cycle(codes)]
-fn tail_at(
+fn code_at(
     alloc: Global,
     caller: &Caller<'_>,
     reached: &mut Reached,
-    items: &mut ItemList,
+    mut items: ItemList,
     stmt: &Stmt,
     rest: Rest<'_>,
-) -> Result<Tail, AllocError> {
+) -> Result<Code, AllocError>
+    requires { (statement_in caller.now stmt.now).items ≡ None }
+    ensures code { IfOk result (λ code. code ≡ code_in reached.new.points
+        (after_items items ((statement_in caller.now stmt.now).flow (flow_of caller.now rest.entry)))) }
+    ensures reached { OnOk result (Reaches reached.old reached.new
+        (arrivals_of ((statement_in caller.now stmt.now).flow (flow_of caller.now rest.entry)))) }
+{
     match stmt {
         Stmt::If(line, condition, yes, no) => {
             let taken = Rest::Then(yes.as_slice(), &rest);
             let other = Rest::Then(no.as_slice(), &rest);
-            branch(alloc, caller, reached, *line, condition, taken, other)
+            branch(
+                alloc, caller, reached, items, *line, condition, taken, other,
+            )
         }
-        Stmt::While(place, _, assertion, _) | Stmt::Split(place, assertion) => {
-            arrive(alloc, reached, Point::At(*place), place.line, assertion)
-        }
+        Stmt::While(place, _, assertion, _) | Stmt::Split(place, assertion) => code_to(
+            alloc,
+            reached,
+            items,
+            Point::At(*place),
+            place.line,
+            assertion,
+        ),
         Stmt::Call(place, call) => {
-            set_picked(alloc, caller.vars, Pick::Awaited(call), place.line, items)?;
-            arrive_at_call(alloc, caller, reached, *place, call)
+            set_picked(
+                alloc,
+                caller.vars,
+                Pick::Awaited(call),
+                place.line,
+                &mut items,
+            )?;
+            code_to_call(alloc, caller, reached, items, *place, call)
         }
         Stmt::Skip | Stmt::Do(_, _) => unreachable!(),
     }
+}
+
+/// The code of these items, which end at the exit.
+fn code_to_exit(
+    alloc: Global,
+    caller: &Caller<'_>,
+    reached: &mut Reached,
+    mut items: ItemList,
+) -> Result<Code, AllocError>
+    ensures code { IfOk result (λ code. code ≡ code_in reached.new.points (after_items items (exit_of (vars_of caller.now) caller.now.proc.now))) }
+    ensures reached { OnOk result (Reaches reached.old reached.new (arrivals_of (exit_of (vars_of caller.now) caller.now.proc.now))) }
+{
+    let proc = caller.proc;
+    let line = proc.last;
+    set_picked(alloc, caller.vars, Pick::Left(proc), line, &mut items)?;
+    code_to(alloc, reached, items, Point::Exit, line, &proc.post)
 }
 
 /// The code of what follows, up to the next cuts, which are put at the end of those that were reached.
@@ -137,24 +210,21 @@ pub(crate) fn code_of(
     caller: &Caller<'_>,
     reached: &mut Reached,
     rest: Rest<'_>,
-) -> Result<Code, AllocError> {
+) -> Result<Code, AllocError>
+    ensures code { IfOk result (λ code. code ≡ code_in reached.new.points (flow_of caller.now rest.entry)) }
+    ensures reached { OnOk result (Reaches reached.old reached.new (arrivals_of (flow_of caller.now rest.entry))) }
+{
     let mut items = ItemList::new(alloc);
-    let tail = match push_items(alloc, rest, &mut items)? {
-        Ending::Exit => {
-            let line = caller.proc.last;
-            set_picked(
-                alloc,
-                caller.vars,
-                Pick::Left(caller.proc),
-                line,
-                &mut items,
-            )?;
-            arrive(alloc, reached, Point::Exit, line, &caller.proc.post)?
-        }
-        Ending::Again(place, invariant) => {
-            arrive(alloc, reached, Point::At(place), place.line, invariant)?
-        }
-        Ending::At(stmt, rest) => tail_at(alloc, caller, reached, &mut items, stmt, rest)?,
-    };
-    Ok(Code { items, tail })
+    match push_items(alloc, rest, &mut items)? {
+        Ending::Exit => code_to_exit(alloc, caller, reached, items),
+        Ending::Again(place, invariant) => code_to(
+            alloc,
+            reached,
+            items,
+            Point::At(place),
+            place.line,
+            invariant,
+        ),
+        Ending::At(stmt, rest) => code_at(alloc, caller, reached, items, stmt, rest),
+    }
 }

@@ -1,7 +1,10 @@
 //! Assertions of a procedure that is called, with the arguments of the call put in.
 
-ghost use Rattle.std.specs.Prelude.{◌≡◌, IfOk};
+ghost use Rattle.std.specs.Prelude.{◌≡◌, ◌++◌, ◌∷◌, ◌<◌, List, [], length, map, Some, IfOk, OnOk, IsSome};
+ghost use Rattle.store_logic.specs.declared.assertion.Assertion.{Assertion, out-Assertion};
+ghost use Rattle.store_logic.specs.Postfix.{form_of, parts_of, postfix_of, applied};
 ghost use Rattle.hoare_split.specs.Putting.{with_puts};
+ghost use Rattle.hoare_split.specs.Forms.{filled_form};
 
 use crate::putting::{Put, fill_args, fill_set, fill_term, fill_truth};
 use plain_data::{Boxed, Stack};
@@ -23,16 +26,15 @@ pub(crate) fn fill(
         made.push(next)?;
     }
     let Some(filled) = made.pop() else {
-        return Err(AllocError);
+        unreachable!()
     };
     Ok(filled)
 }
 
 /// The assertion and its parts, each after its own parts.
-fn in_postfix<'a>(
-    alloc: Global,
-    assertion: &'a Assertion,
-) -> Result<Vec<&'a Assertion>, AllocError> {
+fn in_postfix<'a>(alloc: Global, assertion: &'a Assertion) -> Result<Vec<&'a Assertion>, AllocError>
+    ensures { IfOk result (λ forms. map (λ form. form_of form.now) forms.items ≡ postfix_of assertion.now) }
+{
     let mut pending = Vec::new(alloc);
     pending.push(assertion)?;
     let mut forms = Vec::new(alloc);
@@ -48,7 +50,10 @@ fn in_postfix<'a>(
 fn push_parts<'a>(
     pending: &mut Vec<&'a Assertion>,
     assertion: &'a Assertion,
-) -> Result<(), AllocError> {
+) -> Result<(), AllocError>
+    ensures { OnOk result (map (λ part. part.now) pending.new.items
+        ≡ map (λ part. part.now) pending.old.items ++ parts_of Assertion (out-Assertion assertion.now)) }
+{
     match assertion {
         Assertion::And(left, right)
         | Assertion::Or(left, right)
@@ -68,9 +73,12 @@ fn push_parts<'a>(
 }
 
 /// Takes the assertion that was made last.
-fn take(alloc: Global, made: &mut Stack<Assertion>) -> Result<Boxed<Assertion>, AllocError> {
+fn take(alloc: Global, made: &mut Stack<Assertion>) -> Result<Boxed<Assertion>, AllocError>
+    requires { 0 < length made.old }
+    ensures { IfOk result (λ part. made.old ≡ part ∷ made.new) }
+{
     let Some(part) = made.pop() else {
-        return Err(AllocError);
+        unreachable!()
     };
     Boxed::new(alloc, part)
 }
@@ -81,7 +89,10 @@ fn fill_form(
     puts: &[Put],
     made: &mut Stack<Assertion>,
     form: &Assertion,
-) -> Result<Assertion, AllocError> {
+) -> Result<Assertion, AllocError>
+    requires { IsSome (applied (filled_form puts.now (form_of form.now)) made.old) }
+    ensures { IfOk result (λ whole. applied (filled_form puts.now (form_of form.now)) made.old ≡ Some (whole ∷ made.new)) }
+{
     match form {
         Assertion::Not(_) => Ok(Assertion::Not(take(alloc, made)?)),
         Assertion::And(_, _) => {
@@ -104,13 +115,26 @@ fn fill_form(
         Assertion::All(ty, _) => Ok(Assertion::All(*ty, take(alloc, made)?)),
         Assertion::ExSet(ty, _) => Ok(Assertion::ExSet(*ty, take(alloc, made)?)),
         Assertion::AllSet(ty, _) => Ok(Assertion::AllSet(*ty, take(alloc, made)?)),
-        _ => fill_leaf(alloc, puts, form),
+        Assertion::True
+        | Assertion::False
+        | Assertion::Truth(_)
+        | Assertion::Is(_, _)
+        | Assertion::Same(_, _)
+        | Assertion::Member(_, _)
+        | Assertion::Subset(_, _)
+        | Assertion::Walk(_, _, _)
+        | Assertion::Pred(_, _) => fill_leaf(alloc, puts, form),
     }
 }
 
 /// The same of an assertion that has no parts.
-fn fill_leaf(alloc: Global, puts: &[Put], leaf: &Assertion) -> Result<Assertion, AllocError> {
+fn fill_leaf(alloc: Global, puts: &[Put], leaf: &Assertion) -> Result<Assertion, AllocError>
+    requires { parts_of Assertion (out-Assertion leaf.now) ≡ [] }
+    ensures { IfOk result (λ filled. (before : List Assertion) →
+        applied (filled_form puts.now (form_of leaf.now)) before ≡ Some (filled ∷ before)) }
+{
     match leaf {
+        Assertion::True => Ok(Assertion::True),
         Assertion::False => Ok(Assertion::False),
         Assertion::Truth(t) => fill_truth(alloc, puts, t),
         Assertion::Is(t, v) => Ok(Assertion::Is(fill_term(alloc, puts, t)?, *v)),
@@ -122,16 +146,18 @@ fn fill_leaf(alloc: Global, puts: &[Put], leaf: &Assertion) -> Result<Assertion,
             let set = fill_set(puts, *set);
             Ok(Assertion::Member(fill_term(alloc, puts, t)?, set))
         }
-        Assertion::Subset(set, other) => {
-            Ok(Assertion::Subset(fill_set(puts, *set), fill_set(puts, *other)))
-        }
+        Assertion::Subset(set, other) => Ok(Assertion::Subset(
+            fill_set(puts, *set),
+            fill_set(puts, *other),
+        )),
         Assertion::Walk(t, route, u) => {
             let from = fill_term(alloc, puts, t)?;
             Ok(Assertion::Walk(from, route.copy(alloc)?, fill_term(alloc, puts, u)?))
         }
-        Assertion::Pred(k, args) => {
-            Ok(Assertion::Pred(*k, fill_args(alloc, puts, args.as_slice())?))
-        }
-        _ => Ok(Assertion::True),
+        Assertion::Pred(k, args) => Ok(Assertion::Pred(
+            *k,
+            fill_args(alloc, puts, args.as_slice())?,
+        )),
+        _ => unreachable!(),
     }
 }

@@ -1,7 +1,13 @@
 //! The counts of all codes of a procedure, by one pass from its end to its head. No code is built for them.
 
-ghost use Rattle.std.specs.Prelude.{◌≡◌};
-ghost use Rattle.hoare_split.specs.Triples.{procedure_fault};
+ghost use Rattle.std.specs.Prelude.{◌≡◌, ◌++◌, ℕ, length, min};
+ghost use Rattle.store_logic.specs.declared.cond.Cond.{Cond};
+ghost use Rattle.pale_tables.specs.Faults.{◌>>◌, first_of};
+ghost use Rattle.hoare_split.specs.Picking.{those, is_awaited};
+ghost use Rattle.hoare_split.specs.Flows.{Flow, branches};
+ghost use Rattle.hoare_split.specs.Triples.{count_fault, start_fault, procedure_fault};
+ghost use Rattle.hoare_split.specs.Following.{procs_of, vars_of, entry_of, statement_in, block_in};
+ghost use Rattle.hoare_split.specs.Measures.{count_of};
 
 use crate::caller::Caller;
 use crate::counts::Count;
@@ -14,7 +20,9 @@ use pale_types::{CallParts, Stmt};
 pub(crate) type Found = Option<Refusal>;
 
 /// Looks at the triple that starts at the place, which comes before those that were looked at.
-fn look(place: Pos, code: Count, found: &mut Found) {
+fn look(place: Pos, code: Count, found: &mut Found)
+    ensures { found.new ≡ (count_fault place code.atoms code.news >> found.old) }
+{
     if let Some(refusal) = code.fault(place) {
         *found = Some(refusal);
     }
@@ -27,7 +35,11 @@ pub(crate) fn measure_block(
     block: &[Stmt],
     rest: Count,
     found: &mut Found,
-) -> Count {
+) -> Count
+    ensures count { (flow : Flow) → rest ≡ count_of flow → result ≡ count_of ((block_in caller.now block.now).flow flow) }
+    ensures found { (flow : Flow) → rest ≡ count_of flow →
+        found.new ≡ (first_of start_fault ((block_in caller.now block.now).starts flow) >> found.old) }
+{
     let mut count = rest;
     let mut left = block;
     while let Some((last, before)) = left.split_last() {
@@ -45,21 +57,32 @@ fn measure_choice(
     no: &[Stmt],
     rest: Count,
     found: &mut Found,
-) -> Count {
+) -> Count
+    ensures count { (flow : Flow) (line : ℕ) (c : Cond) → rest ≡ count_of flow →
+        result ≡ count_of (branches line c ((block_in caller.now yes.now).flow flow) ((block_in caller.now no.now).flow flow)) }
+    ensures found { (flow : Flow) → rest ≡ count_of flow →
+        found.new ≡ (first_of start_fault ((block_in caller.now yes.now).starts flow ++ (block_in caller.now no.now).starts flow) >> found.old) }
+{
     let other = measure_block(caller, no, rest, found);
     let taken = measure_block(caller, yes, rest, found);
     Count::of_atoms(1).and(taken).and(other)
 }
 
 /// The count of the settings before a call.
-fn settings_before(caller: &Caller<'_>, call: &CallParts) -> Count {
+fn settings_before(caller: &Caller<'_>, call: &CallParts) -> Count
+    ensures { result ≡ record { atoms = min 129 (length (those (is_awaited call.now) (vars_of caller.now))); news = 0 } }
+{
     Count::of_atoms(picked_count(caller.vars, Pick::Awaited(call)))
 }
 
 /// The count of the code of a statement and of what follows it, which has this count. What follows a plain `if` stands behind it
 /// once, and what follows a branch in both of its codes.
 #[cycle(measuring)]
-fn measure(caller: &Caller<'_>, stmt: &Stmt, rest: Count, found: &mut Found) -> Count {
+fn measure(caller: &Caller<'_>, stmt: &Stmt, rest: Count, found: &mut Found) -> Count
+    ensures count { (flow : Flow) → rest ≡ count_of flow → result ≡ count_of ((statement_in caller.now stmt.now).flow flow) }
+    ensures found { (flow : Flow) → rest ≡ count_of flow →
+        found.new ≡ (first_of start_fault ((statement_in caller.now stmt.now).starts flow) >> found.old) }
+{
     match stmt {
         Stmt::Skip => rest,
         Stmt::Do(_, act) => Count::of_act(act).and(rest),
@@ -89,7 +112,7 @@ fn measure(caller: &Caller<'_>, stmt: &Stmt, rest: Count, found: &mut Found) -> 
 
 /// The first fault of a procedure's triples.
 pub(crate) fn first_fault(caller: &Caller<'_>) -> Found
-    ensures { result ≡ procedure_fault caller.now.program.now.procs (record { vars = caller.now.vars.now; proc = caller.now.proc.now }) }
+    ensures { result ≡ procedure_fault (procs_of caller.now) (entry_of caller.now) }
 {
     let mut found = None;
     let exit = Count::of_atoms(picked_count(caller.vars, Pick::Left(caller.proc)));

@@ -1,7 +1,7 @@
 //! Variables of a procedure, in order of its table.
 
 ghost use Rattle.std.specs.Prelude.{◌≡◌, length, IfOk};
-ghost use Rattle.hoare_split.specs.Picking.{is_argument, test_of, those};
+ghost use Rattle.hoare_split.specs.Picking.{is_handed, is_argument, test_of, those};
 
 use crate::caller::{class_at, is_listed};
 use pale_calls::{Actual, VarClass};
@@ -12,7 +12,7 @@ use store_logic::VarList;
 
 /// Which variables of a table are picked.
 #[derive(Clone, Copy)]
-pub(crate) enum Pick<'a> {
+pub enum Pick<'a> {
     /// What is null or false at the entry: results and locals.
     Fresh(&'a TypedProc),
     /// What is set to null at the exit: data and pointer variables that are no results.
@@ -27,18 +27,21 @@ pub(crate) enum Pick<'a> {
     Gained(&'a CallParts),
 }
 
+/// Whether the variable is what is handed over.
+fn is_handed(var: VarId, arg: Actual) -> bool
+    ensures { result ≡ is_handed var arg }
+{
+    match arg {
+        Actual::Var(handed) => handed.0 == var.0,
+        Actual::Null | Actual::Truth(_) => false,
+    }
+}
+
 /// Whether the variable is among these arguments.
-pub(crate) fn is_argument(args: &[Actual], var: VarId) -> bool
+fn is_argument(args: &[Actual], var: VarId) -> bool
     ensures { result ≡ is_argument args.now var }
 {
-    for arg in args {
-        if let Actual::Var(handed) = arg {
-            if handed.0 == var.0 {
-                return true;
-            }
-        }
-    }
-    false
+    args.iter().any(|arg| is_handed(var, *arg))
 }
 
 impl Pick<'_> {

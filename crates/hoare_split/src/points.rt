@@ -1,7 +1,12 @@
 //! The triples of a procedure, in order of its cut points in the text.
 
-ghost use Rattle.std.specs.Prelude.{◌≡◌, ◌++◌, map, OnOk};
+ghost use Rattle.std.specs.Prelude.{◌≡◌, ◌++◌, map, IfOk, OnOk};
+ghost use Rattle.pale_text.specs.declared.place.Pos.{Pos};
+ghost use Rattle.hoare_split.specs.Cuts.{at_assertion};
+ghost use Rattle.hoare_split.specs.Flows.{ends, branches};
+ghost use Rattle.hoare_split.specs.Starts as starts;
 ghost use Rattle.hoare_split.specs.Triples.{starts_of, triple_of};
+ghost use Rattle.hoare_split.specs.Following.{procs_of, entry_of, statement_in, block_in, flow_of};
 
 use crate::caller::Caller;
 use crate::codes::{branch, code_of};
@@ -12,7 +17,7 @@ use pale_text::Pos;
 use pale_types::{Stmt, StmtList};
 use plain_data::Items;
 use std::alloc::{AllocError, Global};
-use store_exec::{Code, ItemList, Start, Triple};
+use store_exec::{ItemList, Start, Triple};
 use store_logic::{Assertion, Cond};
 
 /// Triples in order.
@@ -25,7 +30,10 @@ fn triple_of(
     line: u32,
     start: Start,
     rest: Rest<'_>,
-) -> Result<Triple, AllocError> {
+) -> Result<Triple, AllocError>
+    ensures { IfOk result (λ triple. (place : Pos) → place.line ≡ line →
+        triple ≡ triple_of caller.now.number (record { place = place; start = start; flow = flow_of caller.now rest.entry })) }
+{
     let mut reached = Reached::new(alloc);
     let code = code_of(alloc, caller, &mut reached, rest)?;
     Ok(Triple {
@@ -46,26 +54,34 @@ fn loop_triple(
     invariant: &Assertion,
     body: &StmtList,
     rest: Rest<'_>,
-) -> Result<Triple, AllocError> {
+) -> Result<Triple, AllocError>
+    ensures { IfOk result (λ triple. triple ≡ triple_of caller.now.number (record {
+        place = place;
+        start = starts.plain_start invariant.now;
+        flow = branches place.line condition.now
+            ((block_in caller.now body.now).flow (ends (at_assertion place invariant.now))) (flow_of caller.now rest.entry);
+    })) }
+{
     let start = plain_start(alloc, invariant)?;
     let mut reached = Reached::new(alloc);
     let again = Rest::Again(place, invariant);
     let taken = Rest::Then(body.as_slice(), &again);
-    let tail = branch(
+    let items = ItemList::new(alloc);
+    let code = branch(
         alloc,
         caller,
         &mut reached,
+        items,
         place.line,
         condition,
         taken,
         rest,
     )?;
-    let items = ItemList::new(alloc);
     Ok(Triple {
         proc: caller.number,
         line: place.line,
         start,
-        code: Code { items, tail },
+        code,
         cuts: reached.into_cuts(),
     })
 }
@@ -78,7 +94,10 @@ fn split_stmt(
     stmt: &Stmt,
     rest: Rest<'_>,
     triples: &mut TripleList,
-) -> Result<(), AllocError> {
+) -> Result<(), AllocError>
+    ensures { OnOk result (triples.new ≡ triples.old
+        ++ map (triple_of caller.now.number) ((statement_in caller.now stmt.now).starts (flow_of caller.now rest.entry))) }
+{
     match stmt {
         Stmt::Skip | Stmt::Do(_, _) => Ok(()),
         Stmt::If(_, _, yes, no) => {
@@ -110,7 +129,10 @@ fn split_block(
     block: &[Stmt],
     rest: &Rest<'_>,
     triples: &mut TripleList,
-) -> Result<(), AllocError> {
+) -> Result<(), AllocError>
+    ensures { OnOk result (triples.new ≡ triples.old
+        ++ map (triple_of caller.now.number) ((block_in caller.now block.now).starts (flow_of caller.now rest.now))) }
+{
     let mut left = block;
     while let Some((stmt, more)) = left.split_first() {
         split_stmt(alloc, caller, stmt, Rest::Then(more, rest), triples)?;
@@ -127,7 +149,7 @@ pub(crate) fn split_procedure(
 ) -> Result<(), AllocError>
     ensures { OnOk result (triples.new ≡ triples.old
         ++ map (triple_of caller.now.number)
-        (starts_of caller.now.program.now.procs (record { vars = caller.now.vars.now; proc = caller.now.proc.now }))) }
+        (starts_of (procs_of caller.now) (entry_of caller.now))) }
 {
     let body = caller.proc.body.as_slice();
     let start = entry_start(alloc, caller)?;

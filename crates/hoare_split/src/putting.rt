@@ -28,13 +28,11 @@ pub(crate) fn pair_actuals(
 ) -> Result<(), AllocError>
     ensures { OnOk result (puts.new ≡ puts.old ++ beside vars.now actuals.now) }
 {
-    for index in 0..vars.len() {
-        if let Some(actual) = actuals.get(index) {
-            puts.push(Put {
-                var: vars[index],
-                actual: *actual,
-            })?;
-        }
+    for (var, actual) in vars.iter().zip(actuals) {
+        puts.push(Put {
+            var: *var,
+            actual: *actual,
+        })?;
     }
     Ok(())
 }
@@ -47,13 +45,11 @@ pub(crate) fn pair_results(
 ) -> Result<(), AllocError>
     ensures { OnOk result (puts.new ≡ puts.old ++ beside vars.now (map (λ v. actual.Var v) results.now)) }
 {
-    for index in 0..vars.len() {
-        if let Some(result) = results.get(index) {
-            puts.push(Put {
-                var: vars[index],
-                actual: Actual::Var(*result),
-            })?;
-        }
+    for (var, result) in vars.iter().zip(results) {
+        puts.push(Put {
+            var: *var,
+            actual: Actual::Var(*result),
+        })?;
     }
     Ok(())
 }
@@ -62,16 +58,14 @@ pub(crate) fn pair_results(
 fn actual_for(puts: &[Put], var: VarId) -> Actual
     ensures { result ≡ actual_for puts.now var }
 {
-    for put in puts {
-        if put.var.0 == var.0 {
-            return put.actual;
-        }
+    match puts.iter().find(|put| put.var.0 == var.0) {
+        Some(put) => put.actual,
+        None => Actual::Var(var),
     }
-    Actual::Var(var)
 }
 
 /// The name, or null or the truth value that is put in for it.
-#[derive(Clone, Copy)]
+#[derive(Clone, Copy, Debug)]
 enum Filled {
     Name(Base),
     Null,

@@ -1,6 +1,6 @@
 //! The cuts that a code reaches.
 
-ghost use Rattle.std.specs.Prelude.{◌≡◌};
+ghost use Rattle.std.specs.Prelude.{◌≡◌, [], ◌∷◌, ◌++◌, length, position, OnOk};
 ghost use Rattle.hoare_split.specs.Flows.{is_point};
 
 use pale_text::Pos;
@@ -31,13 +31,16 @@ impl Point {
 
 /// Cut points with what is checked there, each once, in the order in which they were first reached.
 #[derive(Drop)]
-pub(crate) struct Reached {
+pub struct Reached {
     points: Items<Point>,
     cuts: CutList,
 }
 
 impl Reached {
-    pub(crate) fn new(alloc: Global) -> Reached {
+    pub(crate) fn new(alloc: Global) -> Reached
+        ensures points { result.points ≡ [] }
+        ensures cuts { result.cuts ≡ [] }
+    {
         Reached {
             points: Items::new(alloc),
             cuts: CutList::new(alloc),
@@ -45,29 +48,36 @@ impl Reached {
     }
 
     /// The place of a cut point among those that were reached, where it is there.
-    pub(crate) fn find(&self, point: Point) -> Option<u32> {
-        let mut place = 0;
-        for reached in self.points.as_slice() {
-            if reached.is(point) {
-                return Some(place);
-            }
-            place += 1;
-        }
-        None
+    pub(crate) fn find(&self, point: Point) -> Option<usize>
+        ensures { result ≡ position (λ q. is_point q point) self.now.points }
+    {
+        self.points
+            .as_slice()
+            .iter()
+            .position(|reached| reached.is(point))
     }
 
-    /// Adds a cut point that wasn't reached before, and gives its place. Want of memory where no number is left for it.
-    pub(crate) fn add(&mut self, point: Point, cut: Cut) -> Result<u32, AllocError> {
-        let Ok(place) = u32::try_from(self.points.len()) else {
-            return Err(AllocError);
-        };
+    /// Adds a cut point that wasn't reached before.
+    pub(crate) fn add(&mut self, point: Point, cut: Cut) -> Result<(), AllocError>
+        ensures points { OnOk result (self.new.points ≡ self.old.points ++ point ∷ []) }
+        ensures cuts { OnOk result (self.new.cuts ≡ self.old.cuts ++ cut ∷ []) }
+    {
         self.points.push(point)?;
         self.cuts.push(cut)?;
-        Ok(place)
+        Ok(())
+    }
+
+    /// How many cut points were reached.
+    pub(crate) fn len(&self) -> usize
+        ensures { result ≡ length self.now.points }
+    {
+        self.points.len()
     }
 
     /// The cuts in order.
-    pub(crate) fn into_cuts(self) -> CutList {
+    pub(crate) fn into_cuts(self) -> CutList
+        ensures { result ≡ self.cuts }
+    {
         let Reached {
             points: _points,
             cuts,

@@ -6,7 +6,7 @@ use store_logic::Assertion;
 
 /// What follows statements: others, and then what follows those, or a cut. Each block of a text that is gone through is one link.
 #[derive(Clone, Copy)]
-pub(crate) enum Rest<'a> {
+pub enum Rest<'a> {
     /// The exit of the procedure.
     Exit,
     /// The `while` at this place, with this invariant, around the statements.

@@ -1,0 +1,4 @@
+pub mod StatementLemmas
+pub mod PlainLemmas
+pub mod FlowLemmas
+pub mod FormLemmas
