@@ -5,7 +5,7 @@ use Rattle.std.proofs.lemmas.List.Folds.{list_any-append}
 use Rattle.std.proofs.lemmas.Bool.{false≢true}
 use Rattle.store_exec.specs.declared.code.Item.{Item}
 use Rattle.store_exec.specs.declared.code.Tail.TheVariants as tail
-use Rattle.store_exec.specs.declared.code.Code.{Code, out-Code, roll-Code, roll-out-Code}
+use Rattle.store_exec.specs.declared.code.Code.{Code, out-Code, roll-Code, roll-out-Code, out-roll-Code}
 use Rattle.hoare_split.specs.declared.reached.Point.{Point}
 use Rattle.hoare_split.specs.declared.reached.Point.TheVariants as point
 use Rattle.hoare_split.specs.Flows.{Arrival, Flow, ends, does, branches, after_items, is_point, is_among, arrivals_of, first_of_each, points_in, place_among, behind, code_in}
@@ -69,21 +69,25 @@ pub AreAmong-back : (points : List Point) (xs ys : List Arrival) → AreAmong po
 AreAmong-back points [] ys among = among
 AreAmong-back points (a ∷ xs) ys among = AreAmong-back points xs ys among.1
 
+-- the same of one arrival more
+next : (before : List Point) (a : Arrival) (arrivals : List Arrival) → AreAmong (before ++ points_in (first_of_each before arrivals)) arrivals →
+    AreAmong ((before ++ a.point ∷ []) ++ points_in (first_of_each (before ++ a.point ∷ []) arrivals)) arrivals →
+    (b : Bool) → is_among a.point before ≡ b → AreAmong (before ++ points_in (first_of_each before (a ∷ arrivals))) (a ∷ arrivals)
+next before a arrivals old new true e =
+    subst (λ (b : Bool). AreAmong (before ++ points_in (cond b (first_of_each before arrivals) (a ∷ first_of_each (before ++ a.point ∷ []) arrivals))) (a ∷ arrivals))
+    (sym e) (is_among-more a.point before (points_in (first_of_each before arrivals)) e, old)
+next before a arrivals old new false e =
+    let others = points_in (first_of_each (before ++ a.point ∷ []) arrivals) in
+    subst (λ (b : Bool). AreAmong (before ++ points_in (cond b (first_of_each before arrivals) (a ∷ first_of_each (before ++ a.point ∷ []) arrivals))) (a ∷ arrivals))
+    (sym e) (subst (λ (points : List Point). AreAmong points (a ∷ arrivals)) (append_assoc before (a.point ∷ []) others)
+    (is_among-more a.point (before ++ a.point ∷ []) others (is_among-last a.point before), new))
+
 -- all arrivals are among those that were there and those that are first
 pub AreAmong-first_of_each : (before : List Point) (arrivals : List Arrival) →
     AreAmong (before ++ points_in (first_of_each before arrivals)) arrivals
 AreAmong-first_of_each before [] = tt
-AreAmong-first_of_each before (a ∷ arrivals) = by_case (is_among a.point before) refl
-  where
-    Goal : Bool → Type 0
-    Goal b = AreAmong (before ++ points_in (cond b (first_of_each before arrivals) (a ∷ first_of_each (before ++ a.point ∷ []) arrivals))) (a ∷ arrivals)
-
-    by_case : (b : Bool) → is_among a.point before ≡ b → AreAmong (before ++ points_in (first_of_each before (a ∷ arrivals))) (a ∷ arrivals)
-    by_case true e = subst Goal (sym e) (is_among-more a.point before (points_in (first_of_each before arrivals)) e, AreAmong-first_of_each before arrivals)
-    by_case false e =
-        let others = points_in (first_of_each (before ++ a.point ∷ []) arrivals) in
-        subst Goal (sym e) (subst (λ (points : List Point). AreAmong points (a ∷ arrivals)) (append_assoc before (a.point ∷ []) others)
-        (is_among-more a.point (before ++ a.point ∷ []) others (is_among-last a.point before), AreAmong-first_of_each (before ++ a.point ∷ []) arrivals))
+AreAmong-first_of_each before (a ∷ arrivals) =
+    next before a arrivals (AreAmong-first_of_each before arrivals) (AreAmong-first_of_each (before ++ a.point ∷ []) arrivals) (is_among a.point before) refl
 
 -- ---- codes
 
@@ -99,11 +103,11 @@ pub code_in-more : (points more : List Point) (flow : Flow) → AreAmong points 
 code_in-more points more (ends a) among =
     ap (λ place. roll-Code (record { items = []; tail = tail.Cut place })) (place_among-more a.point points more among.0)
 code_in-more points more (does i rest) among = ap (behind i) (code_in-more points more rest among)
-code_in-more points more (branches line c yes no) among =
-    ap (λ code. roll-Code (record { items = []; tail = tail.Branch line c code (code_in (points ++ more) no) }))
-    (code_in-more points more yes (AreAmong-front points (arrivals_of yes) (arrivals_of no) among))
-    ∙ ap (λ code. roll-Code (record { items = []; tail = tail.Branch line c (code_in points yes) code }))
-    (code_in-more points more no (AreAmong-back points (arrivals_of yes) (arrivals_of no) among))
+code_in-more points more (branches line c first other) among =
+    ap (λ code. roll-Code (record { items = []; tail = tail.Branch line c code (code_in (points ++ more) other) }))
+    (code_in-more points more first (AreAmong-front points (arrivals_of first) (arrivals_of other) among))
+    ∙ ap (λ code. roll-Code (record { items = []; tail = tail.Branch line c (code_in points first) code }))
+    (code_in-more points more other (AreAmong-back points (arrivals_of first) (arrivals_of other) among))
 
 -- a code behind items
 abbrev pub behind_items : List Item → Code → Code
@@ -112,4 +116,7 @@ behind_items items code = roll-Code (record { items = items ++ (out-Code code).i
 pub code_in-after_items : (points : List Point) (items : List Item) (flow : Flow) →
     code_in points (after_items items flow) ≡ behind_items items (code_in points flow)
 code_in-after_items points [] flow = sym (roll-out-Code (code_in points flow))
-code_in-after_items points (i ∷ items) flow = ap (behind i) (code_in-after_items points items flow) ∙ ?
+code_in-after_items points (i ∷ items) flow =
+    ap (behind i) (code_in-after_items points items flow)
+    ∙ ap (λ x. roll-Code (record { items = i ∷ x.items; tail = x.tail }))
+    (out-roll-Code (record { items = items ++ (out-Code (code_in points flow)).items; tail = (out-Code (code_in points flow)).tail }))

@@ -52,10 +52,10 @@ pub WhenPlain-in_order : (ps : List Passage) → AllByRecursion WhenPlain ps →
 WhenPlain-in_order [] each = WhenPlain-plain []
 WhenPlain-in_order (p ∷ ps) each = then_plain p (in_order ps) each.0 (WhenPlain-in_order ps each.1)
 
-choice_plain : (line : ℕ) (c : Cond) (yes no : Passage) → WhenPlain (choice line c yes no)
-choice_plain line c yes no = by yes.items no.items
+choice_plain : (line : ℕ) (c : Cond) (first other : Passage) → WhenPlain (choice line c first other)
+choice_plain line c first other = by first.items other.items
   where
-    by : (ones others : Option (List Item)) → WhenPlain (choice_of line c yes no ones others)
+    by : (ones others : Option (List Item)) → WhenPlain (choice_of line c first other ones others)
     by (Some x) (Some y) = WhenPlain-plain _
     by (Some x) None = λ own e. absurd cc
     by None others = λ own e. absurd cc
@@ -64,7 +64,7 @@ module _ (procs : List ProcEntry) (vars : List VarEntry) where
   rule_plain : (x : Stmt-F Passage) → WhenPlain (rules procs vars x)
   rule_plain Stmt-F.Skip = WhenPlain-plain []
   rule_plain (Stmt-F.Do line a) = WhenPlain-plain _
-  rule_plain (Stmt-F.If line c yes no) = choice_plain line c (in_order yes) (in_order no)
+  rule_plain (Stmt-F.If line c first other) = choice_plain line c (in_order first) (in_order other)
   rule_plain (Stmt-F.While place c invariant body) = λ own e. absurd cc
   rule_plain (Stmt-F.Split place a) = λ own e. absurd cc
   rule_plain (Stmt-F.Call place call) = λ own e. absurd cc

@@ -27,9 +27,9 @@ module _ (procs : List ProcEntry) (vars : List VarEntry) where
   pub passage-Do : (line : ℕ) (a : Act) → passage_of procs vars (stmt.Do line a) ≡ plain (item.Do line a ∷ [])
   passage-Do line a = passage-form _ (Stmt-F.Do line a) (sym (stmt.rolls-Do line a))
 
-  pub passage-If : (line : ℕ) (c : Cond) (yes no : List Stmt) →
-      passage_of procs vars (stmt.If line c yes no) ≡ choice line c (block_of procs vars yes) (block_of procs vars no)
-  passage-If line c yes no = passage-form _ (Stmt-F.If line c yes no) (sym (stmt.rolls-If line c yes no))
+  pub passage-If : (line : ℕ) (c : Cond) (first other : List Stmt) →
+      passage_of procs vars (stmt.If line c first other) ≡ choice line c (block_of procs vars first) (block_of procs vars other)
+  passage-If line c first other = passage-form _ (Stmt-F.If line c first other) (sym (stmt.rolls-If line c first other))
 
   pub passage-While : (place : Pos) (c : Cond) (invariant : Assertion) (body : List Stmt) →
       passage_of procs vars (stmt.While place c invariant body) ≡ loop place c invariant (block_of procs vars body)

@@ -43,7 +43,7 @@ is_among p points = list_any (λ q. is_point q p) points
 abbrev pub arrivals_of : Flow → List Arrival
 arrivals_of (ends a) = a ∷ []
 arrivals_of (does i rest) = arrivals_of rest
-arrivals_of (branches line c yes no) = arrivals_of yes ++ arrivals_of no
+arrivals_of (branches line c taken other) = arrivals_of taken ++ arrivals_of other
 
 -- those at points that aren't among these, each point once
 abbrev pub first_of_each : List Point → List Arrival → List Arrival
@@ -78,7 +78,7 @@ behind i code = roll-Code (record { items = i ∷ (out-Code code).items; tail = 
 abbrev pub code_in : List Point → Flow → Code
 code_in points (ends a) = roll-Code (record { items = []; tail = tail.Cut (place_among points a.point) })
 code_in points (does i rest) = behind i (code_in points rest)
-code_in points (branches line c yes no) = roll-Code (record { items = []; tail = tail.Branch line c (code_in points yes) (code_in points no) })
+code_in points (branches line c taken other) = roll-Code (record { items = []; tail = tail.Branch line c (code_in points taken) (code_in points other) })
 
 abbrev pub code_of : Flow → Code
 code_of flow = code_in (points_in (reached_by flow)) flow

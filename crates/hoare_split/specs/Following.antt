@@ -8,7 +8,7 @@ use Rattle.hoare_split.specs.declared.caller.Caller.{Caller}
 use Rattle.hoare_split.specs.declared.codes.Ending.{Ending}
 use Rattle.hoare_split.specs.declared.codes.Ending.TheVariants as ending
 use Rattle.hoare_split.specs.declared.reached.Reached.{Reached}
-use Rattle.hoare_split.specs.declared.rest.Rest.{Rest, Exit', Again', Then'}
+use Rattle.hoare_split.specs.declared.rest.Rest.{Rest, Exit, Again, Then'}
 use Rattle.hoare_split.specs.Flows.{Arrival, Flow, ends, after_items, first_of_each, points_in, cuts_in}
 use Rattle.hoare_split.specs.Cuts.{at_assertion}
 use Rattle.hoare_split.specs.Passages.{Passage}
@@ -36,8 +36,8 @@ block_in caller block = block_of (procs_of caller) (vars_of caller) block
 
 -- where it leads
 abbrev pub flow_of : Caller → Rest → Flow
-flow_of caller Exit' = exit_of (vars_of caller) caller.proc.now
-flow_of caller (Again' place invariant) = ends (at_assertion place invariant.now)
+flow_of caller Exit = exit_of (vars_of caller) caller.proc.now
+flow_of caller (Again place invariant) = ends (at_assertion place invariant.now)
 flow_of caller (Then' block p after) = (block_in caller block.now).flow (flow_of caller after)
 
 -- ---- what was reached

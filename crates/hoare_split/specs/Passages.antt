@@ -43,17 +43,17 @@ in_order (p ∷ passages) = then_next p (in_order passages)
 
 -- an `if` with a cut inside: what follows it stands in both flows
 abbrev pub branch : ℕ → Cond → Passage → Passage → Passage
-branch line c yes no = record {
+branch line c first other = record {
   items = None;
-  flow = λ rest. branches line c (yes.flow rest) (no.flow rest);
-  starts = λ rest. yes.starts rest ++ no.starts rest;
+  flow = λ rest. branches line c (first.flow rest) (other.flow rest);
+  starts = λ rest. first.starts rest ++ other.starts rest;
 }
 
 -- an `if` with no cut inside is one item
 abbrev pub choice_of : ℕ → Cond → Passage → Passage → Option (List Item) → Option (List Item) → Passage
-choice_of line c yes no (Some taken) (Some other) = plain (item.If line c taken other ∷ [])
-choice_of line c yes no (Some taken) None = branch line c yes no
-choice_of line c yes no None other = branch line c yes no
+choice_of line c first other (Some ones) (Some others) = plain (item.If line c ones others ∷ [])
+choice_of line c first other (Some ones) None = branch line c first other
+choice_of line c first other None others = branch line c first other
 
 abbrev pub choice : ℕ → Cond → Passage → Passage → Passage
-choice line c yes no = choice_of line c yes no yes.items no.items
+choice line c first other = choice_of line c first other first.items other.items

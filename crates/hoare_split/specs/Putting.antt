@@ -6,13 +6,14 @@ use Rattle.std.specs.List.{find, zip}
 use Rattle.store_core.specs.declared.ids.VarId.{VarId}
 use Rattle.store_logic.specs.declared.term.Base.{Base}
 use Rattle.store_logic.specs.declared.term.Base.TheVariants as base
-use Rattle.store_logic.specs.declared.term.Term.{Term}
 use Rattle.store_logic.specs.declared.term.Term.TheVariants as term
 use Rattle.store_logic.specs.declared.assertion.Assertion.{Assertion}
 use Rattle.store_logic.specs.Filling.{Filling, of_term, of_truth, kept, filled}
 use Rattle.pale_calls.specs.declared.actual.Actual.{Actual}
 use Rattle.pale_calls.specs.declared.actual.Actual.TheVariants as actual
 use Rattle.hoare_split.specs.declared.putting.Put.{Put}
+use Rattle.hoare_split.specs.declared.putting.Filled.{Filled}
+use Rattle.hoare_split.specs.declared.putting.Filled.TheVariants as made
 
 -- each variable with what is handed over for it
 abbrev pub beside : List VarId → List Actual → List Put
@@ -26,6 +27,12 @@ abbrev pub filling_of : Actual → Filling
 filling_of (actual.Var v) = kept (base.Var v)
 filling_of actual.Null = of_term term.Null
 filling_of (actual.Truth truth) = of_truth truth
+
+-- what the code's name for it means
+abbrev pub filling : Filled → Filling
+filling (made.Name name) = kept name
+filling made.Null = of_term term.Null
+filling (made.Truth truth) = of_truth truth
 
 -- what is put in for a name
 abbrev pub put_for : List Put → Base → Filling

@@ -36,7 +36,7 @@ call_at procs vars place call = cut (settings vars (is_awaited call) place.line)
 abbrev pub rules : List ProcEntry → List VarEntry → Stmt-F Passage → Passage
 rules procs vars Stmt-F.Skip = plain []
 rules procs vars (Stmt-F.Do line a) = plain (item.Do line a ∷ [])
-rules procs vars (Stmt-F.If line c yes no) = choice line c (in_order yes) (in_order no)
+rules procs vars (Stmt-F.If line c first other) = choice line c (in_order first) (in_order other)
 rules procs vars (Stmt-F.While place c invariant body) = loop place c invariant (in_order body)
 rules procs vars (Stmt-F.Split place a) = split place a
 rules procs vars (Stmt-F.Call place call) = call_at procs vars place call

@@ -143,13 +143,13 @@ pub(crate) fn branch(
 
 /// The code of these items and then a statement that is a cut point or has one inside, with what follows it.
 #[cycle(codes)]
-fn code_at(
+fn code_at<'a>(
     alloc: Global,
     caller: &Caller<'_>,
     reached: &mut Reached,
     mut items: ItemList,
-    stmt: &Stmt,
-    rest: Rest<'_>,
+    stmt: &'a Stmt,
+    rest: Rest<'a>,
 ) -> Result<Code, AllocError>
     requires { (statement_in caller.now stmt.now).items ≡ None }
     ensures code { IfOk result (λ code. code ≡ code_in reached.new.points

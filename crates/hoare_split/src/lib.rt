@@ -1,8 +1,8 @@
 //! The triples of a typed program: its procedures, cut at loops, at `split` and at calls.
 //!
-//! `specs/Triples.antt` says which triples a program has, `specs/Flows.antt` where the code from a cut point leads,
-//! `specs/Arrivals.antt` what is checked at each cut, `specs/Starts.antt` what holds where a triple starts, and
-//! `specs/Splitting.antt` what is refused.
+//! `specs/Triples.antt` says which triples a program has and what is refused, `specs/Statements.antt` what each statement means
+//! for them, `specs/Flows.antt` where the code from a cut point leads, `specs/Cuts.antt` what is checked at each cut, and
+//! `specs/Starts.antt` what holds where a triple starts.
 #![tactic(auto)]
 
 mod arrivals;
@@ -19,9 +19,8 @@ mod putting;
 mod reached;
 mod rest;
 mod settings;
-mod split;
+mod splitting;
 mod starts;
 
 pub use points::TripleList;
-pub use reached::Point;
-pub use split::split;
+pub use splitting::split;

@@ -2,12 +2,11 @@
 
 ghost use Rattle.std.specs.Prelude.{◌≡◌, ◌++◌, ℕ, length, min};
 ghost use Rattle.store_logic.specs.declared.cond.Cond.{Cond};
-ghost use Rattle.pale_tables.specs.Faults.{◌>>◌, first_of};
 ghost use Rattle.hoare_split.specs.Picking.{those, is_awaited};
 ghost use Rattle.hoare_split.specs.Flows.{Flow, branches};
-ghost use Rattle.hoare_split.specs.Triples.{count_fault, start_fault, procedure_fault};
+ghost use Rattle.hoare_split.specs.Triples.{count_fault, procedure_fault};
 ghost use Rattle.hoare_split.specs.Following.{procs_of, vars_of, entry_of, statement_in, block_in};
-ghost use Rattle.hoare_split.specs.Measures.{count_of};
+ghost use Rattle.hoare_split.specs.Measures.{count_of, or_later, first_fault};
 
 use crate::caller::Caller;
 use crate::counts::Count;
@@ -21,7 +20,7 @@ pub(crate) type Found = Option<Refusal>;
 
 /// Looks at the triple that starts at the place, which comes before those that were looked at.
 fn look(place: Pos, code: Count, found: &mut Found)
-    ensures { found.new ≡ (count_fault place code.atoms code.news >> found.old) }
+    ensures { found.new ≡ or_later (count_fault place code.atoms code.news) found.old }
 {
     if let Some(refusal) = code.fault(place) {
         *found = Some(refusal);
@@ -38,7 +37,7 @@ pub(crate) fn measure_block(
 ) -> Count
     ensures count { (flow : Flow) → rest ≡ count_of flow → result ≡ count_of ((block_in caller.now block.now).flow flow) }
     ensures found { (flow : Flow) → rest ≡ count_of flow →
-        found.new ≡ (first_of start_fault ((block_in caller.now block.now).starts flow) >> found.old) }
+        found.new ≡ first_fault ((block_in caller.now block.now).starts flow) found.old }
 {
     let mut count = rest;
     let mut left = block;
@@ -61,7 +60,7 @@ fn measure_choice(
     ensures count { (flow : Flow) (line : ℕ) (c : Cond) → rest ≡ count_of flow →
         result ≡ count_of (branches line c ((block_in caller.now yes.now).flow flow) ((block_in caller.now no.now).flow flow)) }
     ensures found { (flow : Flow) → rest ≡ count_of flow →
-        found.new ≡ (first_of start_fault ((block_in caller.now yes.now).starts flow ++ (block_in caller.now no.now).starts flow) >> found.old) }
+        found.new ≡ first_fault ((block_in caller.now yes.now).starts flow ++ (block_in caller.now no.now).starts flow) found.old }
 {
     let other = measure_block(caller, no, rest, found);
     let taken = measure_block(caller, yes, rest, found);
@@ -81,7 +80,7 @@ fn settings_before(caller: &Caller<'_>, call: &CallParts) -> Count
 fn measure(caller: &Caller<'_>, stmt: &Stmt, rest: Count, found: &mut Found) -> Count
     ensures count { (flow : Flow) → rest ≡ count_of flow → result ≡ count_of ((statement_in caller.now stmt.now).flow flow) }
     ensures found { (flow : Flow) → rest ≡ count_of flow →
-        found.new ≡ (first_of start_fault ((statement_in caller.now stmt.now).starts flow) >> found.old) }
+        found.new ≡ first_fault ((statement_in caller.now stmt.now).starts flow) found.old }
 {
     match stmt {
         Stmt::Skip => rest,

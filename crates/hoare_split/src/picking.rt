@@ -47,7 +47,7 @@ fn is_argument(args: &[Actual], var: VarId) -> bool
 impl Pick<'_> {
     /// Whether the variable, which is of this class, is picked.
     fn takes(self, class: VarClass, var: VarId) -> bool
-        ensures { result ≡ test_of self class var }
+        ensures { result ≡ test_of self.entry class var }
     {
         match self {
             Pick::Fresh(proc) => {
@@ -73,6 +73,7 @@ impl Pick<'_> {
 }
 
 /// The variables of the table that are picked, in its order.
+#[tactic(auto, using(std::proofs::lemmas::List::FromFn::filter_of_map_range_with_len_more))]
 pub(crate) fn picked(alloc: Global, vars: &VarTable, pick: Pick<'_>) -> Result<VarList, AllocError>
     ensures { IfOk result (λ found. found ≡ those (test_of pick.entry) vars.now) }
 {
@@ -87,6 +88,7 @@ pub(crate) fn picked(alloc: Global, vars: &VarTable, pick: Pick<'_>) -> Result<V
 }
 
 /// How many variables of the table are picked.
+#[tactic(auto, using(std::proofs::lemmas::List::FromFn::filter_of_map_range_with_len_more))]
 pub(crate) fn picked_count(vars: &VarTable, pick: Pick<'_>) -> u32
     ensures { result ≡ length (those (test_of pick.entry) vars.now) }
 {

@@ -46,14 +46,14 @@ fn triple_of(
 }
 
 /// The triple of a loop: a branch into its body, which arrives at the loop again, and what follows it.
-fn loop_triple(
+fn loop_triple<'a>(
     alloc: Global,
     caller: &Caller<'_>,
     place: Pos,
     condition: &Cond,
-    invariant: &Assertion,
-    body: &StmtList,
-    rest: Rest<'_>,
+    invariant: &'a Assertion,
+    body: &'a StmtList,
+    rest: Rest<'a>,
 ) -> Result<Triple, AllocError>
     ensures { IfOk result (λ triple. triple ≡ triple_of caller.now.number (record {
         place = place;
@@ -88,11 +88,11 @@ fn loop_triple(
 
 /// Puts the triples that start in a statement at the end of the list.
 #[cycle(points)]
-fn split_stmt(
+fn split_stmt<'a>(
     alloc: Global,
     caller: &Caller<'_>,
-    stmt: &Stmt,
-    rest: Rest<'_>,
+    stmt: &'a Stmt,
+    rest: Rest<'a>,
     triples: &mut TripleList,
 ) -> Result<(), AllocError>
     ensures { OnOk result (triples.new ≡ triples.old
@@ -123,11 +123,11 @@ fn split_stmt(
 
 /// The same of statements in order.
 #[cycle(points)]
-fn split_block(
+fn split_block<'a>(
     alloc: Global,
     caller: &Caller<'_>,
-    block: &[Stmt],
-    rest: &Rest<'_>,
+    block: &'a [Stmt],
+    rest: &'a Rest<'a>,
     triples: &mut TripleList,
 ) -> Result<(), AllocError>
     ensures { OnOk result (triples.new ≡ triples.old

@@ -1,9 +1,9 @@
 //! What is put in for the variables of a procedure that is called.
 
 ghost use Rattle.std.specs.Prelude.{◌≡◌, ◌++◌, map, IfOk, OnOk};
-ghost use Rattle.store_logic.specs.Filling.{filled_term, filled_truth, filled_set, filled_arg};
+ghost use Rattle.store_logic.specs.Filling.{filled_term, filled_truth, filled_set, filled_arg, constant};
 ghost use Rattle.pale_calls.specs.declared.actual.Actual.TheVariants as actual;
-ghost use Rattle.hoare_split.specs.Putting.{beside, actual_for, put_for};
+ghost use Rattle.hoare_split.specs.Putting.{beside, actual_for, put_for, filling};
 
 use pale_calls::Actual;
 use plain_data::Items;
@@ -58,21 +58,25 @@ pub(crate) fn pair_results(
 fn actual_for(puts: &[Put], var: VarId) -> Actual
     ensures { result ≡ actual_for puts.now var }
 {
-    match puts.iter().find(|put| put.var.0 == var.0) {
-        Some(put) => put.actual,
-        None => Actual::Var(var),
+    for put in puts {
+        if put.var.0 == var.0 {
+            return put.actual;
+        }
     }
+    Actual::Var(var)
 }
 
 /// The name, or null or the truth value that is put in for it.
 #[derive(Clone, Copy, Debug)]
-enum Filled {
+pub enum Filled {
     Name(Base),
     Null,
     Truth(bool),
 }
 
-fn fill_name(puts: &[Put], name: Base) -> Filled {
+fn fill_name(puts: &[Put], name: Base) -> Filled
+    ensures { filling result ≡ put_for puts.now name }
+{
     match name {
         Base::Var(var) => match actual_for(puts, var) {
             Actual::Var(var) => Filled::Name(Base::Var(var)),
@@ -96,7 +100,9 @@ pub(crate) fn fill_term(alloc: Global, puts: &[Put], term: &Term) -> Result<Term
     }
 }
 
-fn constant(truth: bool) -> Assertion {
+fn constant(truth: bool) -> Assertion
+    ensures { result ≡ constant truth }
+{
     if truth {
         Assertion::True
     } else {
