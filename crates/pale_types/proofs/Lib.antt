@@ -5,5 +5,4 @@ pub mod KeepLemmas
 pub mod StatementLemmas
 pub mod ProcedureLemmas
 pub mod ReadingLemmas
-pub mod HeadingLemmas
 pub mod ProgramLemmas
