@@ -1,5 +1,5 @@
 use Rattle.std.proofs.Common.{◌≡◌, ◌+◌, List, [], Result, Ok, Err, OnOk, drop, sym, subst, arith}
-use Rattle.std.proofs.lemmas.List.{drop-all}
+use Rattle.std.proofs.lemmas.List.{drop_all}
 use Rattle.store_core.specs.Tables.{VarEntry}
 use Rattle.store_exec.specs.declared.code.Item.{Item}
 use Rattle.pale_types.specs.declared.typed.Stmt.{Stmt}
@@ -56,7 +56,7 @@ items_of-loop-stmt-preserved t c = λ procs vars.
 pub items_of-returns : goal.items_of-returns
 items_of-returns t c = λ procs vars.
     let block = c.args.block.now in
-    let none : drop c.loop-stmt.stmt-index block ≡ [] = drop-all block c.loop-stmt.stmt-index (omega arith) in
+    let none : drop c.loop-stmt.stmt-index block ≡ [] = drop_all c.loop-stmt.stmt-index block (omega arith) in
     WithMore-none c.loop-stmt.items (block_of procs vars block).items
     (subst (λ (rest : List Stmt). WithMore c.loop-stmt.items (block_of procs vars rest).items (block_of procs vars block).items) none
     (c.loop-stmt.invariant procs vars))
