@@ -6,3 +6,7 @@ pub mod CountsCodeLemmas
 pub mod MeasuresFlowLemmas
 pub mod MeasuresStatementLemmas
 pub mod SplittingLemmas
+pub mod PickingLemmas
+pub mod PuttingLemmas
+pub mod CallLemmas
+pub mod ReachLemmas
