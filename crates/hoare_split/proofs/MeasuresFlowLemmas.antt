@@ -156,3 +156,7 @@ first_fault-append [] ys later = refl
 first_fault-append (s ∷ xs) ys later = first_fault-cons s (xs ++ ys) later
     ∙ ap (λ fault. start_fault s >> fault) (first_fault-append xs ys later)
     ∙ sym (first_fault-cons s xs (first_fault ys later))
+
+pub then-none : (fault : Fault) → (fault >> None) ≡ fault
+then-none None = refl
+then-none (Some refusal) = refl
