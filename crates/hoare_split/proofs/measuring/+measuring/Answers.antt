@@ -1,4 +1,5 @@
 use Rattle.std.proofs.Common.{◌≡◌, sym, ap, ◌∙◌, subst}
+use Rattle.std.proofs.lemmas.Bool.{false≢true}
 use Rattle.hoare_split.specs.Statements.{block_of}
 use Rattle.hoare_split.specs.Triples.{count_fault}
 use Rattle.hoare_split.specs.Following.{procs_of, vars_of}
@@ -7,6 +8,7 @@ use Rattle.hoare_split.proofs.MeasuresFlowLemmas.{together}
 use Rattle.hoare_split.proofs.MeasuresStatementLemmas.{zero_count, Measured, measured-Skip, measured-Do, measured-branch, measured-plain}
 use Rattle.hoare_split.proofs.MeasuresStatementLemmas.{measured-While, measured-Split, measured-Call, passed-one}
 use Rattle.hoare_split.proofs.measuring.+measuring.Goals as goal
+use Rattle.hoare_split.proofs.measuring.+measuring.Goals.{measure-then-cut, measure-else-cut}
 
 pub measure-returns-in-Skip : goal.measure-returns-in-Skip
 measure-returns-in-Skip t c =
@@ -48,8 +50,42 @@ measure_block-loop-last-preserved t c = passed-one (procs_of c.args.caller.now) 
     c.in-Some.last.now c.args.rest c.loop-last.count c.measure-count.result c.args.found.now c.loop-last.found c.measure-count.new.found
     c.in-Some.ensures.cases.0 c.loop-last.invariant (record { count = c.measure-count.ensures.count; found = c.measure-count.ensures.found })
 
-pub measure-returns-then-cut : goal.measure-returns-then-cut
-measure-returns-then-cut t c = ?
+-- both blocks of an `if`
+pub measure-returns-then-cut-2 : goal.measure-returns-then-cut-2
+measure-returns-then-cut-2 t c =
+    let procs = procs_of c.args.caller.now in
+    let vars = vars_of c.args.caller.now in
+    let inside = c.if-cut.inside in
+    let other = c.measure_block-other.result in
+    let taken = c.measure_block-taken.result in
+    let mid = c.measure_block-other.new.found in
+    let one = subst (λ block. Measured (block_of procs vars block) inside other c.args.found.now mid) c.as_slice.ensures
+        (record { count = c.measure_block-other.ensures.count; found = c.measure_block-other.ensures.found }) in
+    let two = subst (λ block. Measured (block_of procs vars block) inside taken mid c.measure_block-taken.new.found) c.as_slice-in-If.ensures
+        (record { count = c.measure_block-taken.ensures.count; found = c.measure_block-taken.ensures.found }) in
+    let same : inside ≡ c.args.rest = elim c.if-cut.branch
+        [ measure-then-cut w ↦ w.inside-is | measure-else-cut w ↦ absurd (false≢true (sym w.if-cut.false ∙ c.if-cut-2.true)) ] in
+    let of = measured-branch procs vars c.args.stmt.now c.in-If.field-0 c.in-If.field-1 c.in-If.yes c.in-If.no c.in-If.is c.args.rest inside taken other
+        c.args.found.now mid c.measure_block-taken.new.found one two (sym (c.is_cut-cut.ensures procs vars) ∙ c.if-cut-2.true) same c.and-both.result
+        (c.and-both.ensures ∙ ap (λ k. together k other) (c.and-in-If.ensures ∙ ap (λ k. together k taken) c.of_atoms.ensures)) in
+    record { count = of.count; found = of.found }
 
-pub measure-returns-else-cut : goal.measure-returns-else-cut
-measure-returns-else-cut t c = ?
+pub measure-returns-else-cut-2 : goal.measure-returns-else-cut-2
+measure-returns-else-cut-2 t c =
+    let procs = procs_of c.args.caller.now in
+    let vars = vars_of c.args.caller.now in
+    let inside = c.if-cut.inside in
+    let other = c.measure_block-other.result in
+    let taken = c.measure_block-taken.result in
+    let mid = c.measure_block-other.new.found in
+    let one = subst (λ block. Measured (block_of procs vars block) inside other c.args.found.now mid) c.as_slice.ensures
+        (record { count = c.measure_block-other.ensures.count; found = c.measure_block-other.ensures.found }) in
+    let two = subst (λ block. Measured (block_of procs vars block) inside taken mid c.measure_block-taken.new.found) c.as_slice-in-If.ensures
+        (record { count = c.measure_block-taken.ensures.count; found = c.measure_block-taken.ensures.found }) in
+    let none : inside ≡ zero_count = elim c.if-cut.branch
+        [ measure-then-cut w ↦ absurd (false≢true (sym c.if-cut-2.false ∙ w.if-cut.true)) | measure-else-cut w ↦ w.inside-is ] in
+    let of = measured-plain procs vars c.args.stmt.now c.in-If.field-0 c.in-If.field-1 c.in-If.yes c.in-If.no c.in-If.is c.args.rest inside taken other
+        c.args.found.now mid c.measure_block-taken.new.found one two (sym (c.is_cut-cut.ensures procs vars) ∙ c.if-cut-2.false) none c.and-else-cut-2.result
+        (c.and-else-cut-2.ensures ∙ ap (λ k. together k c.args.rest) (c.and-both.ensures
+        ∙ ap (λ k. together k other) (c.and-in-If.ensures ∙ ap (λ k. together k taken) c.of_atoms.ensures))) in
+    record { count = of.count; found = of.found }
