@@ -1,5 +1,5 @@
 -- What is measured of each form of statement, and of blocks from their ends.
-use Rattle.std.proofs.Common.{◌≡◌, ℕ, ◌+◌, min, Bool, true, false, not, is_some, Option, Some, None, List, [], ◌∷◌, ◌++◌, length, map, refl, sym, ap, ap₂, ◌∙◌, subst, append_assoc, append-nil}
+use Rattle.std.proofs.Common.{◌≡◌, ℕ, min, true, false, not, is_some, Option, Some, None, List, [], ◌∷◌, ◌++◌, length, refl, sym, ap, ap₂, ◌∙◌, subst, append_assoc, append-nil}
 use Rattle.pale_text.specs.declared.place.Pos.{Pos}
 use Rattle.pale_tables.specs.Faults.{Fault}
 use Rattle.store_core.specs.Tables.{VarEntry}
@@ -8,7 +8,6 @@ use Rattle.store_logic.specs.declared.assertion.Assertion.{Assertion}
 use Rattle.store_logic.specs.declared.assertion.Assertion.TheVariants as assertion
 use Rattle.store_logic.specs.declared.cond.Cond.{Cond}
 use Rattle.store_exec.specs.declared.code.Item.{Item}
-use Rattle.store_exec.specs.declared.code.Item.TheVariants as item
 use Rattle.store_exec.specs.Fits.{news_of_act}
 use Rattle.pale_types.specs.declared.typed.CallParts.{CallParts}
 use Rattle.pale_types.specs.declared.typed.ProcEntry.{ProcEntry}
@@ -17,15 +16,15 @@ use Rattle.pale_types.specs.declared.typed.Stmt.{Stmt}
 use Rattle.pale_types.specs.declared.typed.Stmt.TheVariants as stmt
 use Rattle.hoare_split.specs.declared.counts.Count.{Count}
 use Rattle.hoare_split.specs.Picking.{those, is_awaited, is_left}
-use Rattle.hoare_split.specs.Flows.{Arrival, Flow, ends, does, branches, after_items}
+use Rattle.hoare_split.specs.Flows.{Arrival, Flow, ends, branches}
 use Rattle.hoare_split.specs.Cuts.{at_assertion, at_call, at_exit}
 use Rattle.hoare_split.specs.Starts.{plain_start, call_start, entry_start}
 use Rattle.hoare_split.specs.Passages.{Started, Passage, plain, choice, choice_of, branch}
-use Rattle.hoare_split.specs.Statements.{loop, split, call_at, passage_of, block_of}
+use Rattle.hoare_split.specs.Statements.{passage_of, block_of}
 use Rattle.hoare_split.specs.Triples.{count_fault, start_fault, exit_of, procedure_fault}
 use Rattle.hoare_split.specs.Measures.{count_of, or_later, first_fault}
 use Rattle.hoare_split.proofs.StatementLemmas.{passage-Skip, passage-Do, passage-If, passage-While, passage-Split, passage-Call}
-use Rattle.hoare_split.proofs.PlainLemmas.{IsPlain, plain-block}
+use Rattle.hoare_split.proofs.PlainLemmas.{plain-block}
 use Rattle.hoare_split.proofs.MeasuresFlowLemmas.{together, count-ends, count-does, count-branches, count-If, count-settings, start-fault, first_fault-cons, first_fault-append, then-none}
 
 abbrev pub zero_count : Count
@@ -125,7 +124,7 @@ module _ (procs : List ProcEntry) (vars : List VarEntry) where
           (made : Count) → made ≡ choice_count taken other → Measured (passage_of procs vars s) rest made old new
       measured-branch cut same made makes =
           let cut_there : not (is_some (choice line c (block_of procs vars xs) (block_of procs vars ys)).items) ≡ true
-              = ap (λ p. not (is_some p.items)) (sym chosen) ∙ cut in
+          = ap (λ p. not (is_some p.items)) (sym chosen) ∙ cut in
           subst (λ p. Measured p rest made old new) (sym (chosen ∙ choice-cut line c (block_of procs vars xs) (block_of procs vars ys) cut_there))
           (record {
             count = λ flow here. makes ∙ counted flow (same ∙ here);
@@ -137,7 +136,7 @@ module _ (procs : List ProcEntry) (vars : List VarEntry) where
           (made : Count) → made ≡ together (choice_count taken other) rest → Measured (passage_of procs vars s) rest made old new
       measured-plain none same made makes =
           let none_there : not (is_some (choice line c (block_of procs vars xs) (block_of procs vars ys)).items) ≡ false
-              = ap (λ p. not (is_some p.items)) (sym chosen) ∙ none in
+          = ap (λ p. not (is_some p.items)) (sym chosen) ∙ none in
           let are = choice-plain line c (block_of procs vars xs) (block_of procs vars ys) none_there in
           let first = plain-block procs vars xs are.ones are.taken in
           let last = plain-block procs vars ys are.others are.untaken in

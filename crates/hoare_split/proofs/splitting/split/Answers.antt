@@ -1,4 +1,4 @@
-use Rattle.std.proofs.Common.{◌≡◌, ◌++◌, Some, None, map, slice_get, option_map, sym, ap, ap₂, ◌∙◌}
+use Rattle.std.proofs.Common.{◌++◌, map, option_map, sym, ap, ap₂, ◌∙◌}
 use Rattle.hoare_split.specs.Triples.{starts_of, triple_of, procedure_fault}
 use Rattle.hoare_split.specs.Following.{entry_of}
 use Rattle.hoare_split.proofs.SplittingLemmas.{split-none, split-last, split-fault, split-one}
