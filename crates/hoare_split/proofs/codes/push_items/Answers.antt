@@ -10,7 +10,7 @@ use Rattle.hoare_split.proofs.codes.push_items.Goals as goal
 pub loop-left-preserved : goal.loop-left-preserved
 loop-left-preserved c =
     let after = c.in-Then.after.now in
-    let parts : c.in-Then.block.now ≡ c.in-Some.stmt.now ∷ c.in-Some.more.now = c.in-Some.ensures.cases in
+    let parts : c.in-Then.block.now ≡ c.in-Some.stmt.now ∷ c.in-Some.more.now = c.in-Some.ensures.cases.0 in
     gone-statement c.args.items.now c.loop-left.items c.push_item.new.items c.args.rest c.loop-left.left _ c.in-Some.stmt.now c.in-Some.more.now
     (λ caller. flow_of caller after) c.loop-left.invariant
     (λ caller. ap (flow_of caller) c.in-Then.is ∙ ap (λ (b : List Stmt). (block_in caller b).flow (flow_of caller after)) parts)
