@@ -25,12 +25,13 @@ first_of_each-append before [] ys = ap (λ points. first_of_each points ys) (sym
 first_of_each-append before (a ∷ xs) ys =
     elim (is_among a.point before) as
     (λ b. cond b (first_of_each before (xs ++ ys)) (a ∷ first_of_each (before ++ a.point ∷ []) (xs ++ ys))
-        ≡ cond b (first_of_each before xs) (a ∷ first_of_each (before ++ a.point ∷ []) xs)
-        ++ first_of_each (before ++ points_in (cond b (first_of_each before xs) (a ∷ first_of_each (before ++ a.point ∷ []) xs))) ys)
-    [ true ↦ first_of_each-append before xs ys
-    | false ↦ ap (λ more. a ∷ more) (first_of_each-append (before ++ a.point ∷ []) xs ys
-        ∙ ap (λ points. first_of_each (before ++ a.point ∷ []) xs ++ first_of_each points ys)
-        (append_assoc before (a.point ∷ []) (points_in (first_of_each (before ++ a.point ∷ []) xs)))) ]
+    ≡ cond b (first_of_each before xs) (a ∷ first_of_each (before ++ a.point ∷ []) xs)
+    ++ first_of_each (before ++ points_in (cond b (first_of_each before xs) (a ∷ first_of_each (before ++ a.point ∷ []) xs))) ys) [
+      | true ↦ first_of_each-append before xs ys
+      | false ↦ ap (λ more. a ∷ more) (first_of_each-append (before ++ a.point ∷ []) xs ys
+          ∙ ap (λ points. first_of_each (before ++ a.point ∷ []) xs ++ first_of_each points ys)
+          (append_assoc before (a.point ∷ []) (points_in (first_of_each (before ++ a.point ∷ []) xs))))
+    ]
 
 -- ---- points that are among others
 
@@ -98,7 +99,7 @@ pub place_among-more : (p : Point) (points more : List Point) → is_among p poi
 place_among-more p [] more e = absurd (false≢true e)
 place_among-more p (q ∷ points) more e =
     elim (is_point q p) as (λ b. (b || is_among p points) ≡ true →
-        cond (not b) (1 + place_among (points ++ more) p) 0 ≡ cond (not b) (1 + place_among points p) 0)
+    cond (not b) (1 + place_among (points ++ more) p) 0 ≡ cond (not b) (1 + place_among points p) 0)
     [ true ↦ λ among. refl | false ↦ λ among. ap (λ n. 1 + n) (place_among-more p points more among) ] e
 
 pub code_in-more : (points more : List Point) (flow : Flow) → AreAmong points (arrivals_of flow) → code_in (points ++ more) flow ≡ code_in points flow

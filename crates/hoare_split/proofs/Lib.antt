@@ -10,3 +10,5 @@ pub mod PickingLemmas
 pub mod PuttingLemmas
 pub mod CallLemmas
 pub mod ReachLemmas
+pub mod WeightLemmas
+pub mod FollowingLemmas

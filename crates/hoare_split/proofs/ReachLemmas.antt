@@ -58,7 +58,7 @@ Reaches-append old mid new xs ys first second =
     let ones = first_of_each old.points xs in
     let others = first_of_each mid.points ys in
     let same : ones ++ others ≡ first_of_each old.points (xs ++ ys) =
-        ap (λ points. ones ++ first_of_each points ys) first.points ∙ sym (first_of_each-append old.points xs ys) in
+    ap (λ points. ones ++ first_of_each points ys) first.points ∙ sym (first_of_each-append old.points xs ys) in
     record {
       points = second.points ∙ ap (λ points. points ++ points_in others) first.points ∙ append_assoc old.points (points_in ones) (points_in others)
           ∙ ap (λ more. old.points ++ more) (sym (map-append (λ (a : Arrival). a.point) ones others)) ∙ ap (λ more. old.points ++ points_in more) same;

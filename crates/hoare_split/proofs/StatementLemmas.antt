@@ -17,11 +17,11 @@ use Rattle.pale_types.specs.declared.typed.Stmt.TheFolds.{map-Stmt, fold-roll-St
 use Rattle.hoare_split.specs.Passages.{Passage, plain, in_order, then_next, choice_of, choice}
 use Rattle.hoare_split.specs.Statements.{loop, split, call_at, rules, passage_of, block_of}
 
-not-true : (b : Bool) → not b ≡ true → b ≡ false
+pub not-true : (b : Bool) → not b ≡ true → b ≡ false
 not-true true e = absurd cc
 not-true false e = refl
 
-not-false : (b : Bool) → not b ≡ false → b ≡ true
+pub not-false : (b : Bool) → not b ≡ false → b ≡ true
 not-false true e = refl
 not-false false e = absurd cc
 

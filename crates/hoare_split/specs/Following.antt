@@ -1,5 +1,5 @@
 -- What follows a place of the text, as it is kept while code is made, and what has been made so far.
-use Rattle.std.specs.Prelude.{◌≡◌, None, List, [], ◌∷◌, ◌++◌}
+use Rattle.std.specs.Prelude.{◌≡◌, ◌≤◌, None, List, [], ◌∷◌, ◌++◌}
 use Rattle.store_core.specs.Tables.{VarEntry}
 use Rattle.store_exec.specs.declared.code.Item.{Item}
 use Rattle.pale_types.specs.declared.typed.ProcEntry.{ProcEntry}
@@ -14,6 +14,7 @@ use Rattle.hoare_split.specs.Cuts.{at_assertion}
 use Rattle.hoare_split.specs.Passages.{Passage}
 use Rattle.hoare_split.specs.Statements.{passage_of, block_of}
 use Rattle.hoare_split.specs.Triples.{exit_of}
+use Rattle.hoare_split.specs.Weights.{weight_behind, ending_weight}
 
 -- ---- the caller
 
@@ -67,3 +68,11 @@ pub record GoesOn (before after : List Item) (rest : Rest) (ending : Ending) : T
   pub items : after ≡ before ++ own
   pub flow : (caller : Caller) → flow_of caller rest ≡ after_items own (ending_flow caller ending)
   pub cut : IsCutEnding ending
+  pub lighter : ending_weight ending ≤ weight_behind rest
+
+-- the same as far as code has come: what followed leads through these items to what is left
+pub record IsGone (before after : List Item) (rest left : Rest) : Type 0 where
+  pub own : List Item
+  pub items : after ≡ before ++ own
+  pub flow : (caller : Caller) → flow_of caller rest ≡ after_items own (flow_of caller left)
+  pub lighter : weight_behind left ≤ weight_behind rest

@@ -10,5 +10,6 @@ pub mod Passages
 pub mod Statements
 pub mod Counts
 pub mod Triples
+pub mod Weights
 pub mod Following
 pub mod Measures

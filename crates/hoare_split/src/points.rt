@@ -56,10 +56,10 @@ fn loop_triple<'a>(
     rest: Rest<'a>,
 ) -> Result<Triple, AllocError>
     ensures { IfOk result (λ triple. triple ≡ triple_of caller.now.number (record {
-        place = place;
-        start = starts.plain_start invariant.now;
-        flow = branches place.line condition.now
-            ((block_in caller.now body.now).flow (ends (at_assertion place invariant.now))) (flow_of caller.now rest.entry);
+      place = place;
+      start = starts.plain_start invariant.now;
+      flow = branches place.line condition.now
+          ((block_in caller.now body.now).flow (ends (at_assertion place invariant.now))) (flow_of caller.now rest.entry);
     })) }
 {
     let start = plain_start(alloc, invariant)?;

@@ -21,7 +21,8 @@ allow-by : (vars : List VarEntry) (may : Bool) (e : Entry) (scope after : List E
 allow-by vars may e scope after true are rest = (allow-variable vars may e are.0, are.1)
 allow-by vars may e scope after false are rest = (are.0, rest)
 
-allow-variables : (vars : List VarEntry) (name : List ℕ) (may : Bool) (scope : List Entry) → AreVariables vars scope → AreVariables vars (allowed name may scope)
+allow-variables : (vars : List VarEntry) (name : List ℕ) (may : Bool) (scope : List Entry) → AreVariables vars scope →
+    AreVariables vars (allowed name may scope)
 allow-variables vars name may [] are = tt
 allow-variables vars name may (e ∷ scope) are =
     allow-by vars may e scope (allowed name may scope) (bytes_eq name e.name) are (allow-variables vars name may scope are.1)

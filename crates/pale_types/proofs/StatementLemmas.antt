@@ -138,7 +138,8 @@ module _ (basis : Basis) (frame : Frame) (s : Statement) (place : Pos) (c : Cond
       ≡ (condition_fault (types_of basis) frame.code c >> block_fault basis frame slice >> else_fault basis frame other)
   if-fault =
       ap (statement_fault basis frame) is ∙ fault-If basis frame place c first other
-      ∙ ap (λ (block : List Statement). condition_fault (types_of basis) frame.code c >> block_fault basis frame block >> else_fault basis frame other) (sym lent)
+      ∙ ap (λ (block : List Statement). condition_fault (types_of basis) frame.code c >> block_fault basis frame block >> else_fault basis frame other)
+      (sym lent)
 
   -- a fault of the first block
   pub if-first-stop : (e : TextStop) → IsStop (block_fault basis frame slice) e → IsStop (statement_fault basis frame s) e

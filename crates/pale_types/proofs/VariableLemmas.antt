@@ -6,7 +6,8 @@ use Rattle.pale_syntax.specs.declared.tree.names.Name.{Name}
 use Rattle.pale_syntax.specs.declared.tree.declaration.Parameter.{Parameter}
 use Rattle.pale_syntax.specs.declared.tree.declaration.LogicParameter.{LogicParameter}
 use Rattle.pale_tables.proofs.KnownRoutes.{both, needed}
-use Rattle.pale_types.specs.Variables.{name_of, variable_of, logic_name_of, logic_of, name_fault, variable_fault, logic_fault, variables_fault, logics_fault, with_names, with_logic_names}
+use Rattle.pale_types.specs.Variables.{name_of, variable_of, logic_name_of, logic_of, name_fault, variable_fault, logic_fault}
+use Rattle.pale_types.specs.Variables.{variables_fault, logics_fault, with_names, with_logic_names}
 
 none_from : (place : Option ℕ) → is_none place ≡ true → place ≡ None
 none_from None is = refl

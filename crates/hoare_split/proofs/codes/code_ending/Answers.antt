@@ -12,7 +12,7 @@ pub returns-in-Ok : goal.returns-in-Ok
 returns-in-Ok c = λ cut.
     let points = c.args.reached.now.points in
     let same : Some c.unwrap-place.result ≡ Some (place_among points c.args.point) =
-        sym c.unwrap-place.ensures ∙ c.find.ensures ∙ position-among c.args.point points c.requires in
+    sym c.unwrap-place.ensures ∙ c.find.ensures ∙ position-among c.args.point points c.requires in
     let here : c.unwrap-place.result ≡ place_among points c.args.point = cc in
     ap (λ (place : ℕ). roll-Code (record { items = c.args.items; tail = tail.Cut place })) (c.in-Ok.ensures.1 ∙ here)
     ∙ sym (code_in-ends points c.args.items (record { point = c.args.point; cut = cut }))

@@ -15,7 +15,7 @@ returns-clause-code c =
     let end : Flow = ends (at_exit proc.last proc.post) in
     let own = settings (vars_of c.args.caller.now) (is_left proc) proc.last in
     let same : after_items c.set_picked.new.items end ≡ after_items c.args.items (after_items own end) =
-        ap (λ (items : List Item). after_items items end) c.in_ok-set_picked.ensures ∙ after_items-append c.args.items own end in
+    ap (λ (items : List Item). after_items items end) c.in_ok-set_picked.ensures ∙ after_items-append c.args.items own end in
     subst (λ (f : Flow). IfOk c.code_to.result (λ code. code ≡ code_in c.code_to.new.reached.points f)) same c.code_to.ensures.code
 
 pub returns-clause-reached : goal.returns-clause-reached

@@ -9,7 +9,7 @@ pub loop-index-preserved : goal.loop-index-preserved
 loop-index-preserved c =
     let this : VarId = record { 0 = c.loop-index.index } in
     let tested : c.takes.result ≡ test_of c.args.pick (class_at c.args.vars.now this) this =
-        c.takes.ensures ∙ ap (λ of. test_of c.args.pick of this) c.class_at.ensures in
+    c.takes.ensures ∙ ap (λ of. test_of c.args.pick of this) c.class_at.ensures in
     elim c.if-takes.branch [
       | then-takes+in_ok-push w ↦ below-taken (λ (v : VarId). test_of c.args.pick (class_at c.args.vars.now v) v) c.loop-index.index
           c.loop-index.found c.if-takes.found c.loop-index.invariant (sym tested ∙ w.if-takes.true) (w.found-is ∙ w.in_ok-push.ensures.ok)

@@ -1,5 +1,4 @@
 use Rattle.std.proofs.Common.{◌≡◌, ◌∙◌, ◌++◌, List, [], ap, sym, inl, inr, append-nil}
-
 use Rattle.hoare_split.specs.declared.putting.Put.{Put}
 use Rattle.hoare_split.specs.Putting.{beside}
 use Rattle.hoare_split.proofs.PuttingLemmas.{beside-no_variable, beside-no_actual}

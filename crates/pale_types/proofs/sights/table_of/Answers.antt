@@ -33,7 +33,7 @@ add_all-requires-4 c =
     c.in_ok-add_all.ensures in
     let second = added-names (var_names h.params) h.results c.as_slice-2.result.now c.add_all.new.vars c.add_all-2.new.vars first c.as_slice-2.ensures
     c.in_ok-add_all-2.ensures in
-    let third = added-names (var_names h.params ++ var_names h.results) c.args.locals.now c.args.locals.now c.add_all-2.new.vars c.add_all-3.new.vars second refl
-    c.in_ok-add_all-3.ensures in
+    let third = added-names (var_names h.params ++ var_names h.results) c.args.locals.now c.args.locals.now c.add_all-2.new.vars c.add_all-3.new.vars
+    second refl c.in_ok-add_all-3.ensures in
     add-distinct (var_names h.params ++ var_names h.results ++ var_names c.args.locals.now) h.logics c.as_slice-3.result.now c.add_all-3.new.vars third
     c.as_slice-3.ensures c.requires
