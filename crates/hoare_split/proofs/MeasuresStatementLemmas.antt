@@ -1,5 +1,6 @@
 -- What is measured of each form of statement, and of blocks from their ends.
-use Rattle.std.proofs.Common.{◌≡◌, ℕ, min, true, false, not, is_some, Option, Some, None, List, [], ◌∷◌, ◌++◌, length, refl, sym, ap, ap₂, ◌∙◌, subst, append_assoc, append-nil}
+use Rattle.std.proofs.Common.{◌≡◌, ℕ, min, true, false, not, is_some, Option, Some, None, List, [], ◌∷◌, ◌++◌, length}
+use Rattle.std.proofs.Common.{refl, sym, ap, ap₂, ◌∙◌, subst, append_assoc, append-nil}
 use Rattle.pale_text.specs.declared.place.Pos.{Pos}
 use Rattle.pale_tables.specs.Faults.{Fault}
 use Rattle.store_core.specs.Tables.{VarEntry}
@@ -25,7 +26,8 @@ use Rattle.hoare_split.specs.Triples.{count_fault, start_fault, exit_of, procedu
 use Rattle.hoare_split.specs.Measures.{count_of, or_later, first_fault}
 use Rattle.hoare_split.proofs.StatementLemmas.{passage-Skip, passage-Do, passage-If, passage-While, passage-Split, passage-Call}
 use Rattle.hoare_split.proofs.PlainLemmas.{plain-block}
-use Rattle.hoare_split.proofs.MeasuresFlowLemmas.{together, count-ends, count-does, count-branches, count-If, count-settings, start-fault, first_fault-cons, first_fault-append, then-none}
+use Rattle.hoare_split.proofs.MeasuresFlowLemmas.{together, count-ends, count-does, count-branches, count-If, count-settings, start-fault}
+use Rattle.hoare_split.proofs.MeasuresFlowLemmas.{first_fault-cons, first_fault-append, then-none}
 
 abbrev pub zero_count : Count
 zero_count = record { atoms = 0; news = 0 }

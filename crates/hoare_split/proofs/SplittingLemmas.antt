@@ -51,7 +51,8 @@ module _ (program : TypedProgram) where
           more ≡ triples ++ map (triple_of number) (starts_of program.procs e) → SplitUpto (number + 1) more
       split-one more none adds = record {
         all = ap (λ xs. xs ++ triples_from program.procs (number + 1) (drop (number + 1) program.procs)) adds
-            ∙ append_assoc triples (map (triple_of number) (starts_of program.procs e)) (triples_from program.procs (number + 1) (drop (number + 1) program.procs))
+            ∙ append_assoc triples (map (triple_of number) (starts_of program.procs e))
+            (triples_from program.procs (number + 1) (drop (number + 1) program.procs))
             ∙ ap (λ entries. triples ++ triples_from program.procs number entries) (sym (drop-at program.procs number e is))
             ∙ before.all;
         fault = fault-at ∙ ap (λ first. first >> first_of (procedure_fault program.procs) (drop (number + 1) program.procs)) none;

@@ -44,8 +44,8 @@ measure-returns-in-Call t c =
     record { count = of.count; found = of.found }
 
 pub measure_block-loop-last-preserved : goal.measure_block-loop-last-preserved
-measure_block-loop-last-preserved t c = passed-one (procs_of c.args.caller.now) (vars_of c.args.caller.now) c.args.block.now c.loop-last.left.now c.in-Some.before.now
-    c.in-Some.last.now c.args.rest c.loop-last.count c.measure-count.result c.args.found.now c.loop-last.found c.measure-count.new.found
+measure_block-loop-last-preserved t c = passed-one (procs_of c.args.caller.now) (vars_of c.args.caller.now) c.args.block.now c.loop-last.left.now
+    c.in-Some.before.now c.in-Some.last.now c.args.rest c.loop-last.count c.measure-count.result c.args.found.now c.loop-last.found c.measure-count.new.found
     c.in-Some.ensures.cases.0 c.loop-last.invariant (record { count = c.measure-count.ensures.count; found = c.measure-count.ensures.found })
 
 -- both blocks of an `if`

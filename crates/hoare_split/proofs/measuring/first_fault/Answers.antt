@@ -11,6 +11,7 @@ returns c =
     let body = subst (λ body. Measured (block_of (procs_of caller) (vars_of caller) body) c.of_atoms-exit.result c.measure_block-body.result None
     c.measure_block-body.new.found) c.as_slice.ensures
     (record { count = c.measure_block-body.ensures.count; found = c.measure_block-body.ensures.found }) in
-    measured-procedure (procs_of caller) (vars_of caller) caller.proc.now c.of_atoms-exit.result c.measure_block-body.result c.measure_block-body.new.found c.look.new.found
+    measured-procedure (procs_of caller) (vars_of caller) caller.proc.now c.of_atoms-exit.result c.measure_block-body.result
+    c.measure_block-body.new.found c.look.new.found
     (c.of_atoms-exit.ensures ∙ ap (λ n. let made : Count = record { atoms = min 129 n; news = 0 } in made) c.picked_count.ensures)
     body c.look.ensures
