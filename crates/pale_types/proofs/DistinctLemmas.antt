@@ -1,5 +1,5 @@
 -- Names that stand once, in lists that are joined and exchanged.
-use Rattle.std.proofs.Common.{◌≡◌, ℕ, Bool, List, [], ◌∷◌, ◌++◌, Option, None, position, refl, sym, ◌∙◌}
+use Rattle.std.proofs.Common.{◌≡◌, ℕ, Bool, List, [], ◌∷◌, ◌++◌, None, position, refl, ◌∙◌}
 use Rattle.std.proofs.lemmas.Cmp.{nat_list_eq_equiv}
 use Rattle.std.specs.Str.{bytes_eq}
 use Rattle.store_core.specs.Tables.{place_of, AreDistinct}

@@ -1,11 +1,11 @@
 -- The names of a procedure's variables stand once, and what its body sees is a frame.
-use Rattle.std.proofs.Common.{◌≡◌, ℕ, List, [], ◌++◌, None, length, map, sym, ap, ◌∙◌, subst}
+use Rattle.std.proofs.Common.{◌≡◌, List, [], ◌++◌, None, length, map, sym, ap, ◌∙◌, subst}
 use Rattle.std.proofs.lemmas.List.{length-map}
 use Rattle.store_core.specs.Tables.{TypeEntry, VarEntry, AreDistinct, var_names}
 use Rattle.pale_syntax.specs.declared.tree.declaration.Procedure.{Procedure}
 use Rattle.pale_tables.proofs.KnownRoutes.{both}
 use Rattle.pale_types.specs.declared.sights.Heading.{Heading}
-use Rattle.pale_types.specs.Variables.{name_of, logic_name_of, variable_of, variables_fault, logics_fault, with_names}
+use Rattle.pale_types.specs.Variables.{name_of, logic_name_of, variable_of, variables_fault, with_names}
 use Rattle.pale_types.specs.Sights.{frame_of}
 use Rattle.pale_types.specs.Framing.{IsHeading, IsBody, IsFrame}
 use Rattle.pale_types.specs.Procedures.{heading_of, locals_of, result_names, heading_names, heading_fault}
@@ -22,19 +22,16 @@ module _ (types : List TypeEntry) (p : Procedure) (none : heading_fault types p 
       logics-new types (result_names p) p.logics second.1
       (variables-new types (with_names [] p.parameters) p.results second.0 (variables-new types [] p.parameters first.0 tt))
 
-  heading-named : (h : Heading) → h ≡ heading_of types p → IsHeading h
+  -- the names of the heading
+  pub heading-is : (h : Heading) → h ≡ heading_of types p → IsHeading h
   unfolding heading_of
-  heading-named h is =
+  heading-is h is =
       subst IsHeading (sym is)
       (subst AreDistinct
       (sym (ap (λ first. first ++ var_names (heading_of types p).results ++ var_names (heading_of types p).logics) (variable-names types p.parameters)
       ∙ ap (λ second. map (λ q. (name_of q).bytes) p.parameters ++ second ++ var_names (heading_of types p).logics) (variable-names types p.results)
       ∙ ap (λ third. map (λ q. (name_of q).bytes) p.parameters ++ map (λ q. (name_of q).bytes) p.results ++ third) (logic-names types p.logics)))
       names-once)
-
-  -- the names of the heading
-  pub heading-is : (h : Heading) → h ≡ heading_of types p → IsHeading h
-  heading-is h is = heading-named h is
 
   -- with those of the locals
   pub body-is : (h : Heading) (locals : List VarEntry) → h ≡ heading_of types p → locals ≡ locals_of types p →

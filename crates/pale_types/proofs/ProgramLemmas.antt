@@ -1,6 +1,5 @@
 -- Declarations of a program, sorted by kinds.
-use Rattle.std.proofs.Common.{◌≡◌, List, [], ◌∷◌, ◌++◌, Option, Some, None, map, filter_map, fold, append_assoc, refl, sym, ap, ◌∙◌, subst}
-use Rattle.std.specs.List.{cons_option}
+use Rattle.std.proofs.Common.{◌≡◌, List, [], ◌∷◌, None, map, fold, refl, sym, ap, ◌∙◌, subst}
 use Rattle.store_core.specs.Tables.{TypeEntry}
 use Rattle.pale_syntax.specs.declared.tree.declaration.TypeDeclaration.{TypeDeclaration}
 use Rattle.pale_syntax.specs.declared.tree.declaration.PredicateDeclaration.{PredicateDeclaration}
@@ -31,19 +30,6 @@ map-twice f g [] = refl
 map-twice f g (x ∷ xs) = ap (λ rest. f (g x) ∷ rest) (map-twice f g xs)
 
 pub ruleset mapped = (map-twice)
-
--- ---- the declarations of a kind, where the next one is of this kind, and where it is of another
-
-pub sorted-here : {X Y : Type 0} (h : X → Option Y) (made whole : List Y) (left rest : List X) (x : X) (y : Y) → left ≡ x ∷ rest → h x ≡ Some y →
-    made ++ filter_map h left ≡ whole → (made ++ y ∷ []) ++ filter_map h rest ≡ whole
-sorted-here h made whole left rest x y next is so =
-    append_assoc made (y ∷ []) (filter_map h rest)
-    ∙ ap (λ o. made ++ cons_option o (filter_map h rest)) (sym is) ∙ ap (λ l. made ++ filter_map h l) (sym next) ∙ so
-
-pub sorted-there : {X Y : Type 0} (h : X → Option Y) (made whole : List Y) (left rest : List X) (x : X) → left ≡ x ∷ rest → h x ≡ None →
-    made ++ filter_map h left ≡ whole → made ++ filter_map h rest ≡ whole
-sorted-there h made whole left rest x next is so =
-    ap (λ o. made ++ cons_option o (filter_map h rest)) (sym is) ∙ ap (λ l. made ++ filter_map h l) (sym next) ∙ so
 
 -- predicates add no type
 types-with : (d : Declared) (p : PredicateDeclaration) → (with_pred d p).vocabulary.types ≡ d.vocabulary.types
@@ -128,6 +114,11 @@ module _ (ts : List TypeDeclaration) (ps : List PredicateDeclaration) (qs : List
   stop-procedures e a b is =
       stop-after _ _ e (ap (type_names_fault []) t ∙ a)
       (stop-after _ _ e (ap (repeated_fault []) p ∙ b) (subst (λ l. IsStop (repeated_fault [] l) e) (sym q) is))
+
+-- a fault of the types
+pub types-stop : (ts : List TypeDeclaration) (ps : List PredicateDeclaration) (e : TextStop) → IsStop (types_fault ts) e → IsStop (declarations_fault ts ps) e
+unfolding declarations_fault
+types-stop ts ps e stop = stop-then _ _ e stop
 
 -- ---- faults of declarations, over a table and names that are known under other words
 

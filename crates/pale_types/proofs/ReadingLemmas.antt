@@ -20,11 +20,6 @@ use Rattle.pale_types.specs.Procedures.{heading_of, locals_of, heading_names, he
 use Rattle.pale_types.specs.Procedures.{typed_procedure, procedure_fault}
 use Rattle.pale_types.proofs.ProcedureLemmas.{body-is, frame-in}
 
--- a fault of the heading
-pub heading-stop : (basis : Basis) (p : Procedure) (e : TextStop) → IsStop (heading_fault (types_of basis) p) e → IsStop (procedure_fault basis p) e
-unfolding procedure_fault
-heading-stop basis p e stop = stop-then _ _ e stop
-
 module _ (basis : Basis) (p : Procedure) (none : heading_fault (types_of basis) p ≡ None) (h : Heading) (is : h ≡ heading_of (types_of basis) p) where
   -- a fault of `pre` or `post`
   pub claims-stop : (e : TextStop) → IsStop (claims_fault basis.declared h p) e → IsStop (procedure_fault basis p) e

@@ -1,7 +1,7 @@
 -- Statements, form by form: their faults, and what they are typed as.
-use Rattle.std.proofs.Common.{◌≡◌, List, [], ◌∷◌, map, Option, Some, None, option_map, refl, sym, ap, ◌∙◌}
-use Rattle.std.specs.Option.{option_map_or}
+use Rattle.std.proofs.Common.{◌≡◌, List, [], ◌∷◌, map, Option, Some, None, refl, sym, ap, ◌∙◌, subst}
 use Rattle.pale_text.specs.declared.place.Pos.{Pos}
+use Rattle.pale_text.specs.declared.refusal.TextStop.{TextStop}
 use Rattle.pale_syntax.specs.declared.tree.names.Name.{Name}
 use Rattle.pale_syntax.specs.declared.tree.names.Path.{Path}
 use Rattle.pale_syntax.specs.declared.tree.condition.Condition.{Condition}
@@ -13,7 +13,9 @@ use Rattle.pale_syntax.specs.declared.tree.statement.Statement.TheVariants as fo
 use Rattle.pale_syntax.specs.declared.tree.statement.Statement.TheOpen.{Statement-F}
 use Rattle.pale_syntax.specs.declared.tree.statement.Statement.TheFolds.{map-Statement, fold-roll-Statement}
 use Rattle.store_logic.specs.declared.act.Act.TheVariants as act
-use Rattle.pale_tables.specs.Faults.{Fault, ◌>>◌, first_of}
+use Rattle.store_logic.specs.declared.cond.Cond.{Cond}
+use Rattle.pale_tables.specs.Faults.{Fault, IsStop, ◌>>◌}
+use Rattle.pale_tables.proofs.FaultLemmas.{stop-then, stop-after, none-then}
 use Rattle.pale_acts.specs.Conditions.{condition_fault, typed_condition}
 use Rattle.pale_acts.specs.Assignments.{assignment_fault, assignment_of, free_fault, free_of}
 use Rattle.pale_predicates.specs.Predicates.{bracketed_fault}
@@ -23,8 +25,8 @@ use Rattle.pale_types.specs.declared.basis.Basis.{Basis}
 use Rattle.pale_types.specs.declared.sights.Frame.{Frame}
 use Rattle.pale_types.specs.Stated.{stated}
 use Rattle.pale_types.specs.Framing.{AreOfATable, IsFrame}
-use Rattle.pale_types.specs.Statements.{types_of, parts_of, parts_fault, typing_rules, typed_statement, typed_block, block_rule, else_rule}
-use Rattle.pale_types.specs.Statements.{fault_rules, statement_fault, block_fault, typed_else, else_fault, else_of}
+use Rattle.pale_types.specs.Statements.{types_of, parts_of, parts_fault, typing_rules, typed_statement, typed_block, block_rule}
+use Rattle.pale_types.specs.Statements.{fault_rules, statement_fault, block_fault}
 
 -- what assertions of a frame name are variables of its table
 pub frame-variables : (frame : Frame) → IsFrame frame → AreOfATable frame.stated
@@ -46,14 +48,14 @@ module _ (basis : Basis) (frame : Frame) where
   each_fault [] = refl
   each_fault (s ∷ block) = ap (λ rest. statement_fault basis frame s >> rest) (each_fault block)
 
-  -- those of an `else`
-  no_fault : (other : Option (List Statement)) → else_rule (option_map (map (statement_fault basis frame)) other) ≡ else_fault basis frame other
-  no_fault None = refl
-  no_fault (Some block) = each_fault block
+  -- the block of an `else`
+  abbrev pub else_fault : Option (List Statement) → Fault
+  else_fault None = None
+  else_fault (Some block) = block_fault basis frame block
 
-  no_typed : (other : Option (List Statement)) → else_of (option_map (map (typed_statement basis frame)) other) ≡ typed_else basis frame other
-  no_typed None = refl
-  no_typed (Some block) = refl
+  abbrev pub typed_else : Option (List Statement) → List Stmt
+  typed_else None = []
+  typed_else (Some block) = typed_block basis frame block
 
   -- ---- each form
 
@@ -65,18 +67,20 @@ module _ (basis : Basis) (frame : Frame) where
 
   pub fault-If : (place : Pos) (c : Condition) (first : List Statement) (other : Option (List Statement)) →
       statement_fault basis frame (form.If place c first other)
-      ≡ (condition_fault (types_of basis) frame.code c >> block_fault basis frame first >> else_fault basis frame other)
-  fault-If place c first other =
-      fault_form _ (Statement-F.If place c first other) (sym (form.rolls-If place c first other))
-      ∙ ap (λ block. condition_fault (types_of basis) frame.code c >> block >> else_rule (option_map (map (statement_fault basis frame)) other)) (each_fault first)
-      ∙ ap (λ block. condition_fault (types_of basis) frame.code c >> block_fault basis frame first >> block) (no_fault other)
+      ≡ (condition_fault (types_of basis) frame.code c >> block_fault basis frame first >> else_fault other)
+  fault-If place c first None =
+      fault_form _ (Statement-F.If place c first None) (sym (form.rolls-If place c first None))
+      ∙ ap (λ block. condition_fault (types_of basis) frame.code c >> block >> None) (each_fault first)
+  fault-If place c first (Some other) =
+      fault_form _ (Statement-F.If place c first (Some other)) (sym (form.rolls-If place c first (Some other)))
+      ∙ ap (λ block. condition_fault (types_of basis) frame.code c >> block >> block_rule (map (statement_fault basis frame) other)) (each_fault first)
+      ∙ ap (λ block. condition_fault (types_of basis) frame.code c >> block_fault basis frame first >> block) (each_fault other)
 
   pub typed-If : (place : Pos) (c : Condition) (first : List Statement) (other : Option (List Statement)) →
       typed_statement basis frame (form.If place c first other)
-      ≡ stmt.If place.line (typed_condition (types_of basis) frame.code c) (typed_block basis frame first) (typed_else basis frame other)
-  typed-If place c first other =
-      typed_form _ (Statement-F.If place c first other) (sym (form.rolls-If place c first other))
-      ∙ ap (stmt.If place.line (typed_condition (types_of basis) frame.code c) (typed_block basis frame first)) (no_typed other)
+      ≡ stmt.If place.line (typed_condition (types_of basis) frame.code c) (typed_block basis frame first) (typed_else other)
+  typed-If place c first None = typed_form _ (Statement-F.If place c first None) (sym (form.rolls-If place c first None))
+  typed-If place c first (Some other) = typed_form _ (Statement-F.If place c first (Some other)) (sym (form.rolls-If place c first (Some other)))
 
   pub fault-While : (place : Pos) (c : Condition) (invariant : Bracketed) (body : List Statement) →
       statement_fault basis frame (form.While place c invariant body)
@@ -125,6 +129,41 @@ module _ (basis : Basis) (frame : Frame) where
   pub typed-Assign : (p : Path) (equals : Pos) (v : Value) →
       typed_statement basis frame (form.Assign p equals v) ≡ stmt.Do p.base.place.line (assignment_of (types_of basis) frame.code p v)
   typed-Assign p equals v = typed_form _ (Statement-F.Assign p equals v) (sym (form.rolls-Assign p equals v))
+
+-- ---- an `if` that is read part by part
+
+module _ (basis : Basis) (frame : Frame) (s : Statement) (place : Pos) (c : Condition) (first slice : List Statement) (other : Option (List Statement))
+    (is : s ≡ form.If place c first other) (lent : slice ≡ first) (none : condition_fault (types_of basis) frame.code c ≡ None) where
+  if-fault : statement_fault basis frame s
+      ≡ (condition_fault (types_of basis) frame.code c >> block_fault basis frame slice >> else_fault basis frame other)
+  if-fault =
+      ap (statement_fault basis frame) is ∙ fault-If basis frame place c first other
+      ∙ ap (λ (block : List Statement). condition_fault (types_of basis) frame.code c >> block_fault basis frame block >> else_fault basis frame other) (sym lent)
+
+  -- a fault of the first block
+  pub if-first-stop : (e : TextStop) → IsStop (block_fault basis frame slice) e → IsStop (statement_fault basis frame s) e
+  if-first-stop e stop = subst (λ (fault : Fault). IsStop fault e) (sym if-fault) (stop-after _ _ e none (stop-then _ _ e stop))
+
+  module _ (fine : block_fault basis frame slice ≡ None) (after : Frame) (kept : after ≡ frame) where
+    -- a fault of the other block
+    pub if-else-stop : (e : TextStop) → IsStop (else_fault basis after other) e → IsStop (statement_fault basis frame s) e
+    if-else-stop e stop =
+        subst (λ (fault : Fault). IsStop fault e) (sym if-fault)
+        (stop-after _ _ e none (stop-after _ _ e fine (subst (λ (f : Frame). IsStop (else_fault basis f other) e) kept stop)))
+
+    -- no fault
+    pub if-none : else_fault basis after other ≡ None → statement_fault basis frame s ≡ None
+    if-none last = if-fault ∙ none-then _ _ none (none-then _ _ fine (ap (λ (f : Frame). else_fault basis f other) (sym kept) ∙ last))
+
+    -- what it is typed as
+    pub if-typed : (condition : Cond) (one two : List Stmt) → condition ≡ typed_condition (types_of basis) frame.code c →
+        one ≡ typed_block basis frame slice → two ≡ typed_else basis after other → stmt.If place.line condition one two ≡ typed_statement basis frame s
+    if-typed condition one two tested first_is else_is =
+        ap (λ (x : Cond). stmt.If place.line x one two) tested
+        ∙ ap (λ (x : List Stmt). stmt.If place.line (typed_condition (types_of basis) frame.code c) x two) (first_is ∙ ap (typed_block basis frame) lent)
+        ∙ ap (stmt.If place.line (typed_condition (types_of basis) frame.code c) (typed_block basis frame first))
+        (else_is ∙ ap (λ (f : Frame). typed_else basis f other) kept)
+        ∙ sym (ap (typed_statement basis frame) is ∙ typed-If basis frame place c first other)
 
 -- each form
 pub ruleset statement_forms = (

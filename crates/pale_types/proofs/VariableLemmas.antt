@@ -1,6 +1,6 @@
 -- Variables without a fault have names that stand once.
-use Rattle.std.proofs.Common.{◌≡◌, ℕ, Bool, true, List, [], ◌∷◌, ◌++◌, Option, Some, None, is_none, map, append-nil, append_assoc, refl, sym, ap, subst}
-use Rattle.store_core.specs.Tables.{TypeEntry, VarEntry, place_of, AreDistinct, var_names}
+use Rattle.std.proofs.Common.{◌≡◌, ℕ, true, List, [], ◌∷◌, ◌++◌, Option, Some, None, is_none, map, append-nil, append_assoc, refl, sym, ap, subst}
+use Rattle.store_core.specs.Tables.{TypeEntry, place_of, AreDistinct, var_names}
 use Rattle.store_core.proofs.Names.{AreDistinct-push}
 use Rattle.pale_syntax.specs.declared.tree.names.Name.{Name}
 use Rattle.pale_syntax.specs.declared.tree.declaration.Parameter.{Parameter}

@@ -7,3 +7,4 @@ pub mod Statements
 pub mod Procedures
 pub mod TypedPrograms
 pub mod Programs
+pub mod Fitting

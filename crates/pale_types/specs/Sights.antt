@@ -1,6 +1,6 @@
 -- What each place of a procedure sees of its variables. In the table parameters, results, locals and logic variables follow
 -- one another.
-use Rattle.std.specs.Prelude.{ℕ, ◌+◌, Bool, true, false, List, [], ◌∷◌, ◌++◌, length, map}
+use Rattle.std.specs.Prelude.{ℕ, ◌+◌, Bool, true, false, List, [], ◌∷◌, ◌++◌, length}
 use Rattle.store_core.specs.declared.ids.VarId.{VarId}
 use Rattle.store_core.specs.Tables.{VarEntry}
 use Rattle.pale_terms.specs.declared.scope.Origin.TheVariants as origin

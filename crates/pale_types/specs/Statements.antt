@@ -1,6 +1,6 @@
 -- Statements: a rule for what each is typed as, and one for its faults, parts in the order of the text. (Møller and Schwartzbach,
 -- PLDI 2001.)
-use Rattle.std.specs.Prelude.{false, List, [], Option, Some, None, map, unwrap_or}
+use Rattle.std.specs.Prelude.{false, List, [], Option, None, map, unwrap_or}
 use Rattle.std.specs.Option.{option_map_or}
 use Rattle.pale_syntax.specs.declared.tree.statement.Call.{Call}
 use Rattle.pale_syntax.specs.declared.tree.statement.Statement.{Statement}
@@ -91,13 +91,3 @@ statement_fault basis frame = fold-Statement Fault (fault_rules basis frame)
 
 abbrev pub block_fault : Basis → Frame → List Statement → Fault
 block_fault basis frame block = first_of (statement_fault basis frame) block
-
--- ---- the block of an `else`
-
-abbrev pub typed_else : Basis → Frame → Option (List Statement) → List Stmt
-typed_else basis frame None = []
-typed_else basis frame (Some block) = typed_block basis frame block
-
-abbrev pub else_fault : Basis → Frame → Option (List Statement) → Fault
-else_fault basis frame None = None
-else_fault basis frame (Some block) = block_fault basis frame block

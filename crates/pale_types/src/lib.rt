@@ -2,11 +2,13 @@
 //!
 //! `specs/Programs.antt` says what a program is typed as and what is refused first, `specs/Procedures.antt` and
 //! `specs/Statements.antt` the same of procedures and of statements, and `specs/Sights.antt` what each place of a procedure sees.
+//! `specs/Fitting.antt` says when a typed program fits, as all that takes it apart asks.
 #![tactic(auto)]
 
 mod basis;
 mod calls;
 mod formals;
+mod laws;
 mod procedures;
 mod program;
 mod sights;
@@ -17,6 +19,7 @@ mod typed_program;
 mod variables;
 
 pub use basis::Basis;
+pub use laws::{claims_with_actuals_put_in_fit, programs_without_fault_fit};
 pub use program::check_types;
 pub use sights::{Frame, Heading};
 pub use typed::{CallParts, ProcEntry, Stmt, StmtList, TypedProc};

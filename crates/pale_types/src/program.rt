@@ -9,6 +9,7 @@ ghost use Rattle.pale_tables.specs.Types.{type_names_fault, types_fault, type_ta
 ghost use Rattle.pale_predicates.specs.Predicates.{predicates_fault, nothing_with};
 ghost use Rattle.pale_types.specs.Programs.{types_in, predicates_in, procedures_in, declared_in, basis_of, typed_list, typed_program};
 ghost use Rattle.pale_types.specs.Programs.{names_fault, declarations_fault, list_fault, program_fault};
+ghost use Rattle.pale_types.specs.Fitting.{ProgramFits};
 
 use crate::basis::Basis;
 use crate::formals::signatures_of;
@@ -146,7 +147,7 @@ fn read_list(
     Ok(Typed::new(basis.declared.vocabulary.types, procs))
 }
 
-/// A program with its names looked up and its predicates put in.
+/// A program with its names looked up and its predicates put in, which fits.
 ///
 /// # Errors
 ///
@@ -155,6 +156,7 @@ fn read_list(
 pub fn check_types(alloc: Global, program: &Program) -> Result<Typed, TextStop>
     ensures met { OnOk result (program_fault program.now ≡ None) }
     ensures typed { IfOk result (λ typed. typed ≡ typed_program program.now) }
+    ensures fits { IfOk result ProgramFits }
     ensures stop { IfErr result (IsStop (program_fault program.now)) }
 {
     let sorted = sort_declarations(alloc, program)?;

@@ -56,7 +56,7 @@ fn show(
     first: usize,
     variables: &[Variable],
 ) -> Result<(), AllocError>
-    requires new { AreDistinct (visible_names scope.old ++ var_names variables.now) }
+    requires { AreDistinct (visible_names scope.old ++ var_names variables.now) }
     ensures { OnOk result (scope.new ≡ scope.old ++ seen may first variables.now) }
 {
     let mut number = first;
@@ -131,7 +131,7 @@ fn body_sight(
 
 /// Adds variables at the end of a table.
 fn add_all(vars: &mut VarTable, variables: &[Variable]) -> Result<(), AllocError>
-    requires new { AreDistinct (var_names vars.old ++ var_names variables.now) }
+    requires { AreDistinct (var_names vars.old ++ var_names variables.now) }
     ensures { OnOk result (vars.new ≡ vars.old ++ variables.now) }
 {
     for variable in variables {

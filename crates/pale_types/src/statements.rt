@@ -4,7 +4,7 @@ ghost use Rattle.std.specs.Prelude.{◌≡◌, None, map, IfOk, IfErr, OnOk};
 ghost use Rattle.pale_tables.specs.Faults.{IsStop, first_of};
 ghost use Rattle.pale_fitting.specs.Declaring.{DeclarationsFit};
 ghost use Rattle.pale_types.specs.Framing.{IsFrame};
-ghost use Rattle.pale_types.specs.Statements.{typed_statement, typed_block, statement_fault, block_fault, else_fault, typed_else};
+ghost use Rattle.pale_types.specs.Statements.{typed_statement, typed_block, statement_fault, block_fault};
 
 use crate::basis::Basis;
 use crate::calls::read_parts;
@@ -12,32 +12,11 @@ use crate::sights::Frame;
 use crate::stated::read_stated;
 use crate::typed::{Stmt, StmtList};
 use pale_acts::{read_assignment, read_condition, read_free};
-use pale_syntax::{Block, Statement};
+use pale_syntax::Statement;
 use pale_text::TextStop;
 use plain_data::Items;
 use std::alloc::Global;
 use store_logic::Act;
-
-/// The block of an `else`, empty where it is left out.
-#[cycle(statements)]
-fn read_else(
-    alloc: Global,
-    basis: &Basis,
-    frame: &mut Frame,
-    block: &Option<Block>,
-) -> Result<StmtList, TextStop>
-    requires declarations { DeclarationsFit basis.now.declared }
-    requires frame { IsFrame frame.old }
-    ensures met { OnOk result (else_fault basis.now frame.old block.now ≡ None) }
-    ensures found { IfOk result (λ found. found ≡ typed_else basis.now frame.old block.now) }
-    ensures frame { frame.new ≡ frame.old }
-    ensures stop { IfErr result (IsStop (else_fault basis.now frame.old block.now)) }
-{
-    match block {
-        None => Ok(Items::new(alloc)),
-        Some(block) => read_block(alloc, basis, frame, block.as_slice()),
-    }
-}
 
 /// A statement with its names looked up and predicates put in. The frame is in the end as it was.
 #[cycle(statements)]
@@ -61,7 +40,10 @@ fn read_statement(
         Statement::If(place, condition, yes, no) => {
             let condition = read_condition(alloc, types, &frame.code, condition)?;
             let yes = read_block(alloc, basis, frame, yes.as_slice())?;
-            let no = read_else(alloc, basis, frame, no)?;
+            let Some(block) = no else {
+                return Ok(Stmt::If(place.line, condition, yes, Items::new(alloc)));
+            };
+            let no = read_block(alloc, basis, frame, block.as_slice())?;
             Ok(Stmt::If(place.line, condition, yes, no))
         }
         Statement::While(place, condition, invariant, body) => {

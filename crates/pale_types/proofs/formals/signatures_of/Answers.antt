@@ -1,7 +1,6 @@
 use Rattle.std.proofs.Common.{◌≡◌, ◌+◌, ◌++◌, ◌∷◌, [], None, drop, map, append_assoc, sym, ap, ◌∙◌, subst}
 use Rattle.std.proofs.lemmas.List.{map_push}
 use Rattle.store_core.specs.Tables.{place_of}
-use Rattle.pale_syntax.specs.declared.tree.declaration.Procedure.{Procedure}
 use Rattle.pale_tables.specs.Names.{repeated_fault}
 use Rattle.pale_tables.proofs.StageLemmas.{item-next}
 use Rattle.pale_predicates.proofs.NameLemmas.{names-first, names-rest}

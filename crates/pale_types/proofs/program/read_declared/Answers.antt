@@ -1,8 +1,14 @@
-use Rattle.std.proofs.Common.{map, Result}
+use Rattle.std.proofs.Common.{map}
 use Rattle.std.proofs.lemmas.Result.{on_ok_weaker, IfOk-weaker}
-use Rattle.pale_tables.proofs.FaultLemmas.{stop_same}
-use Rattle.pale_types.proofs.ProgramLemmas.{declared-none, declared-stop, declared-is}
+use Rattle.pale_tables.proofs.FaultLemmas.{stop_returned, stop_same}
+use Rattle.pale_types.proofs.ProgramLemmas.{types-stop, declared-none, declared-stop, declared-is}
 use Rattle.pale_types.proofs.program.read_declared.Goals as goal
+
+pub returns-in_err-table-clause-stop : goal.returns-in_err-table-clause-stop
+returns-in_err-table-clause-stop c =
+    let e = c.in_err-table.field-0.0 in
+    stop_returned _ c.from_residual-in_err-table.result e c.from_residual-in_err-table.ensures.1
+    (types-stop (map (λ t. t.now) c.args.types.now) (map (λ p. p.now) c.args.predicates.now) e c.in_err-table.ensures.stop)
 
 pub returns-clause-met : goal.returns-clause-met
 returns-clause-met c =

@@ -1,4 +1,4 @@
-use Rattle.std.proofs.Common.{◌≡◌, ◌+◌, ◌++◌, ◌∷◌, ℕ, List, None, drop, ap, ◌∙◌, sym, subst}
+use Rattle.std.proofs.Common.{◌≡◌, ◌+◌, ◌++◌, ◌∷◌, ℕ, List, None, drop, ap, sym, subst}
 use Rattle.std.specs.Option.{option_map}
 use Rattle.store_core.specs.Tables.{VarEntry, AreDistinct, var_names, var_named}
 use Rattle.store_core.specs.declared.ids.VarId.{VarId}

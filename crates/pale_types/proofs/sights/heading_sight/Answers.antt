@@ -1,4 +1,4 @@
-use Rattle.std.proofs.Common.{◌≡◌, [], ◌++◌, ap}
+use Rattle.std.proofs.Common.{[], ◌++◌, ap}
 use Rattle.store_core.specs.Tables.{var_names}
 use Rattle.pale_terms.specs.Scopes.{visible_names}
 use Rattle.pale_types.proofs.SightLemmas.{show-distinct, names-next, heading-one, heading-two}

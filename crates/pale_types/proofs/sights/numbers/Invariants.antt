@@ -3,4 +3,4 @@ use Rattle.pale_types.specs.Sights.{numbers}
 use Rattle.pale_types.proofs.sights.numbers.Given as goal
 
 abbrev pub invariant-loop-variable : goal.invariant-loop-variable
-invariant-loop-variable l = l.found ++ numbers l.number (drop l.variable-index l.variables) ≡ numbers l.first l.variables
+invariant-loop-variable l = l.found ++ numbers l.number (drop l._variable-index l.variables) ≡ numbers l.first l.variables

@@ -1,4 +1,4 @@
-use Rattle.std.proofs.Common.{◌≡◌, [], ◌++◌, refl, ap}
+use Rattle.std.proofs.Common.{[], ◌++◌, refl, ap}
 use Rattle.store_core.specs.Tables.{var_names}
 use Rattle.pale_types.proofs.SightLemmas.{add-distinct, added-names, body-one, body-two, body-three}
 use Rattle.pale_types.proofs.sights.table_of.Goals as goal
