@@ -2,3 +2,8 @@ pub mod StatementLemmas
 pub mod PlainLemmas
 pub mod FlowLemmas
 pub mod FormLemmas
+pub mod FittingCodeLemmas
+pub mod FittingVariableLemmas
+pub mod FittingClaimLemmas
+pub mod FittingStatementLemmas
+pub mod FittingLemmas

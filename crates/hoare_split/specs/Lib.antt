@@ -12,3 +12,4 @@ pub mod Counts
 pub mod Triples
 pub mod Following
 pub mod Measures
+pub mod Fitting

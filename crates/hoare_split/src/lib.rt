@@ -11,6 +11,7 @@ mod calls;
 mod codes;
 mod counts;
 mod filling;
+mod laws;
 mod measuring;
 mod picking;
 mod plain;
@@ -22,5 +23,6 @@ mod settings;
 mod splitting;
 mod starts;
 
+pub use laws::triples_of_programs_that_fit_fit;
 pub use points::TripleList;
 pub use splitting::split;
