@@ -71,7 +71,8 @@ module _ (types : List TypeEntry) (vars theirs : List VarEntry) where
   actual-fits [] v all is = absurd (false≢true is)
   actual-fits (first ∷ puts) v all is = by (actual-fits puts v all.1) (first.var.0 == v.0) refl is
     where
-      by : (is_listed (put_vars puts) v ≡ true → ActualFits vars theirs (actual_for puts v) v) → (b : Bool) → (first.var.0 == v.0) ≡ b → (b || is_listed (put_vars puts) v) ≡ true →
+      by : (is_listed (put_vars puts) v ≡ true → ActualFits vars theirs (actual_for puts v) v) → (b : Bool) →
+          (first.var.0 == v.0) ≡ b → (b || is_listed (put_vars puts) v) ≡ true →
           ActualFits vars theirs
           (option_map_or (λ (put : Put). put.actual) (cond b (Some first) (find (λ (put : Put). put.var.0 == v.0) puts)) (actual.Var v)) v
       by rest true same among = subst (ActualFits vars theirs first.actual) (same-var first.var v same) all.0

@@ -110,7 +110,8 @@ module _ (types : List TypeEntry) (vars : List VarEntry) where
       all-append ArrivalFits (arrivals_of taken) (arrivals_of other) (arrivals-fit taken fits.1) (arrivals-fit other fits.2)
 
   -- those at points that are new
-  firsts-fit : (before : List Point) (arrivals : List Arrival) → AllByRecursion ArrivalFits arrivals → AllByRecursion ArrivalFits (first_of_each before arrivals)
+  firsts-fit : (before : List Point) (arrivals : List Arrival) → AllByRecursion ArrivalFits arrivals →
+      AllByRecursion ArrivalFits (first_of_each before arrivals)
   firsts-fit before [] fits = tt
   firsts-fit before (a ∷ arrivals) fits =
       elim (is_among a.point before) as

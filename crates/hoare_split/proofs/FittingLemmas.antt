@@ -76,7 +76,8 @@ module _ (law : PutsFit) (program : TypedProgram) (fits : ProgramFits program) w
   from-fits before [] number whole is all = tt
   from-fits before (e ∷ entries) number whole is all =
       all-append (FitsProgram program) (map (triple_of number) (starts_of procs e)) (triples_from procs (number + 1) entries)
-      (each-fits number e (ap (λ (l : List ProcEntry). slice_get l number) whole ∙ at-middle before entries e number is) (starts_of procs e) (starts-fit e all.0))
+      (each-fits number e (ap (λ (l : List ProcEntry). slice_get l number) whole ∙ at-middle before entries e number is) (starts_of procs e)
+      (starts-fit e all.0))
       (from-fits (before ++ e ∷ []) entries (number + 1) (whole ∙ sym (append_assoc before (e ∷ []) entries))
       (ap (λ n. n + 1) is ∙ sym (length_push before e)) all.1)
 

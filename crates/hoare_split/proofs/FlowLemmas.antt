@@ -1,8 +1,10 @@
 -- On flows: the cuts that they reach, and their code.
-use Rattle.std.proofs.Common.{◌≡◌, ℕ, ◌+◌, Bool, true, false, cond, List, [], ◌∷◌, ◌++◌, refl, sym, ap, ◌∙◌, append_assoc, append-nil, not, eq-eqb, ◌&&◌, ◌||◌, subst, eqb}
-use Rattle.std.specs.List.{AllByRecursion, list_any, position_or_len}
+use Rattle.std.proofs.Common.{◌≡◌, ℕ, ◌+◌, Bool, true, false, cond, List, [], ◌∷◌, ◌++◌, refl, sym, ap, ◌∙◌, append_assoc, append-nil, not, eq-eqb, ◌&&◌, ◌||◌, subst, eqb, suc, ◌<◌, length, Some, arith}
+use Rattle.std.specs.List.{AllByRecursion, position}
 use Rattle.std.proofs.lemmas.List.Folds.{list_any-append}
 use Rattle.std.proofs.lemmas.Bool.{false≢true}
+use Rattle.std.proofs.lemmas.Bool.Decides.{nat_tests}
+use Rattle.store_logic.specs.declared.cond.Cond.{Cond}
 use Rattle.store_exec.specs.declared.code.Item.{Item}
 use Rattle.store_exec.specs.declared.code.Tail.TheVariants as tail
 use Rattle.store_exec.specs.declared.code.Code.{Code, out-Code, roll-Code, roll-out-Code, out-roll-Code}
@@ -120,3 +122,30 @@ code_in-after_items points (i ∷ items) flow =
     ap (behind i) (code_in-after_items points items flow)
     ∙ ap (λ x. roll-Code (record { items = i ∷ x.items; tail = x.tail }))
     (out-roll-Code (record { items = items ++ (out-Code (code_in points flow)).items; tail = (out-Code (code_in points flow)).tail }))
+
+-- the code of items that end at a cut, and of those before a branch
+pub code_in-ends : (points : List Point) (items : List Item) (a : Arrival) →
+    code_in points (after_items items (ends a)) ≡ roll-Code (record { items = items; tail = tail.Cut (place_among points a.point) })
+code_in-ends points items a =
+    code_in-after_items points items (ends a)
+    ∙ ap (λ x. roll-Code (record { items = items ++ x.items; tail = x.tail })) (out-roll-Code (record { items = []; tail = tail.Cut (place_among points a.point) }))
+    ∙ ap (λ own. roll-Code (record { items = own; tail = tail.Cut (place_among points a.point) })) (append-nil items)
+
+pub code_in-branches : (points : List Point) (items : List Item) (line : ℕ) (c : Cond) (taken other : Flow) →
+    code_in points (after_items items (branches line c taken other))
+    ≡ roll-Code (record { items = items; tail = tail.Branch line c (code_in points taken) (code_in points other) })
+code_in-branches points items line c taken other =
+    code_in-after_items points items (branches line c taken other)
+    ∙ ap (λ x. roll-Code (record { items = items ++ x.items; tail = x.tail }))
+    (out-roll-Code (record { items = []; tail = tail.Branch line c (code_in points taken) (code_in points other) }))
+    ∙ ap (λ own. roll-Code (record { items = own; tail = tail.Branch line c (code_in points taken) (code_in points other) })) (append-nil items)
+
+-- a point that is among others has a place there
+place-below : (p : Point) (points : List Point) → is_among p points ≡ true → place_among points p < length points
+place-below p [] e = absurd (false≢true e)
+place-below p (q ∷ points) e =
+    elim (is_point q p) as (λ b. (b || is_among p points) ≡ true → cond (not b) (1 + place_among points p) 0 < suc (length points))
+    [ true ↦ λ among. omega arith | false ↦ λ among. let below = place-below p points among in omega (arith, below) ] e
+
+pub position-among : (p : Point) (points : List Point) → is_among p points ≡ true → position (λ q. is_point q p) points ≡ Some (place_among points p)
+position-among p points e = let below = place-below p points e in grind (arith, nat_tests)

@@ -2,6 +2,14 @@ pub mod StatementLemmas
 pub mod PlainLemmas
 pub mod FlowLemmas
 pub mod FormLemmas
+pub mod CountsCodeLemmas
+pub mod MeasuresFlowLemmas
+pub mod MeasuresStatementLemmas
+pub mod SplittingLemmas
+pub mod PickingLemmas
+pub mod PuttingLemmas
+pub mod CallLemmas
+pub mod ReachLemmas
 pub mod FittingCodeLemmas
 pub mod FittingVariableLemmas
 pub mod FittingClaimLemmas

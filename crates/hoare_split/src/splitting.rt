@@ -1,8 +1,9 @@
 //! The triples of a program.
 
-ghost use Rattle.std.specs.Prelude.{◌≡◌, None, IfOk, IfErr, OnOk};
+ghost use Rattle.std.specs.Prelude.{◌≡◌, None, slice_get, option_map, IfSome, IfOk, IfErr, OnOk};
 ghost use Rattle.pale_tables.specs.Faults.{IsStop};
 ghost use Rattle.hoare_split.specs.Triples.{split_fault, triples_of};
+ghost use Rattle.hoare_split.specs.Following.{procs_of, entry_of};
 
 use crate::caller::Caller;
 use crate::measuring::first_fault;
@@ -11,8 +12,12 @@ use pale_text::TextStop;
 use pale_types::Typed;
 use std::alloc::Global;
 
-/// A procedure of the program, with its variables.
-fn caller_at(program: &Typed, number: u32) -> Option<Caller<'_>> {
+/// A procedure of the program, with its variables; `None` exactly for an unknown one.
+fn caller_at(program: &Typed, number: u32) -> Option<Caller<'_>>
+    ensures entry { option_map entry_of result ≡ slice_get program.now.procs number }
+    ensures procs { IfSome result (λ caller. procs_of caller ≡ program.now.procs) }
+    ensures number { IfSome result (λ caller. caller.number ≡ number) }
+{
     let vars = program.vars(number)?;
     let proc = program.proc(number)?;
     Some(Caller {
@@ -28,23 +33,22 @@ fn caller_at(program: &Typed, number: u32) -> Option<Caller<'_>> {
 /// # Errors
 ///
 /// `Refused` is the first fault, triples in order: `long-part` where a triple's code has more than 128 atoms, and then `many-new`
-/// where it has more than 64 `new`, at the keyword of the cut point where the triple starts.
+/// where it has more than 64 `new`, at the keyword of the cut point where the triple starts. `NoMemory` is also the answer where
+/// procedures are more than their numbers count.
 pub fn split(alloc: Global, t: &Typed) -> Result<TripleList, TextStop>
     ensures met { OnOk result (split_fault t.now ≡ None) }
     ensures triples { IfOk result (λ triples. triples ≡ triples_of t.now) }
     ensures stop { IfErr result (IsStop (split_fault t.now)) }
 {
     let mut triples = TripleList::new(alloc);
-    let mut number = 0;
-    while let Some(caller) = caller_at(t, number) {
+    for number in 0..u32::MAX {
+        let Some(caller) = caller_at(t, number) else {
+            return Ok(triples);
+        };
         if let Some(refusal) = first_fault(&caller) {
             return Err(TextStop::Refused(refusal));
         }
         split_procedure(alloc, &caller, &mut triples)?;
-        match number.checked_add(1) {
-            Some(next) => number = next,
-            None => break,
-        }
     }
-    Ok(triples)
+    Err(TextStop::NoMemory)
 }
