@@ -17,7 +17,7 @@ use Rattle.store_exec.specs.declared.code.Tail.TheOpen.{Tail-F}
 use Rattle.store_exec.specs.declared.code.Tail.TheFolds.{fold-Tail, fold-roll-Tail, fold-Code, fold-roll-Code}
 use Rattle.store_exec.specs.Fits.{news_of_item, news_of_tail, news_of_code}
 use Rattle.hoare_split.specs.declared.reached.Point.{Point}
-use Rattle.hoare_split.specs.Flows.{Arrival, Flow, ends, does, branches, place_among, behind, code_in, code_of, points_in, reached_by}
+use Rattle.hoare_split.specs.Flows.{Flow, ends, does, branches, place_among, behind, code_in, code_of, points_in, reached_by}
 use Rattle.hoare_split.specs.Counts.{atoms_node, atoms_of_item, atoms_of_tail, atoms_of_code}
 use Rattle.hoare_split.specs.Measures.{atoms_on, news_on}
 
@@ -61,7 +61,7 @@ module _ (of_item : Item → ℕ) (of_tail : Tail-F ℕ ℕ → ℕ) where
   count-ends place =
       let whole = count-roll [] (tail.Cut place) in
       let own : count_behind (tail.Cut place) ≡ of_tail (Tail-F.Cut place) = ap count_behind (sym (rolls-Cut place))
-          ∙ fold-roll-Tail ℕ ℕ of_tail (λ x. sum_by of_item x.items + x.tail) (Tail-F.Cut place) in
+      ∙ fold-roll-Tail ℕ ℕ of_tail (λ x. sum_by of_item x.items + x.tail) (Tail-F.Cut place) in
       omega (arith, whole, own)
 
   count-branches : (line : ℕ) (c : Cond) (taken other : Code) →
@@ -69,8 +69,8 @@ module _ (of_item : Item → ℕ) (of_tail : Tail-F ℕ ℕ → ℕ) where
   count-branches line c taken other =
       let whole = count-roll [] (tail.Branch line c taken other) in
       let own : count_behind (tail.Branch line c taken other) ≡ of_tail (Tail-F.Branch line c (count taken) (count other))
-          = ap count_behind (sym (rolls-Branch line c taken other))
-          ∙ fold-roll-Tail ℕ ℕ of_tail (λ x. sum_by of_item x.items + x.tail) (Tail-F.Branch line c taken other) in
+      = ap count_behind (sym (rolls-Branch line c taken other))
+      ∙ fold-roll-Tail ℕ ℕ of_tail (λ x. sum_by of_item x.items + x.tail) (Tail-F.Branch line c taken other) in
       omega (arith, whole, own)
 
 -- ---- the code of a flow

@@ -1,9 +1,8 @@
 -- Counts of flows, by their parts, and the faults of the triples of these flows.
-use Rattle.std.proofs.Common.{◌≡◌, ℕ, ◌+◌, ◌<◌, min, Bool, true, false, nat_lt, Some, None, List, [], ◌∷◌, ◌++◌, length, map, refl, sym, ap, ap₂, ◌∙◌, arith}
+use Rattle.std.proofs.Common.{◌≡◌, ℕ, ◌+◌, min, Bool, true, false, nat_lt, Some, None, List, [], ◌∷◌, ◌++◌, length, map, refl, sym, ap, ap₂, ◌∙◌, arith}
 use Rattle.std.specs.List.{sum_by}
 use Rattle.std.proofs.lemmas.List.Sums.{sum_by-cons}
 use Rattle.std.proofs.lemmas.Bool.Decides.{nat_tests}
-use Rattle.pale_text.specs.declared.place.Pos.{Pos}
 use Rattle.pale_text.specs.declared.refusal.RefusalKind.TheVariants as kind
 use Rattle.pale_tables.specs.Faults.{Fault, need, ◌>>◌, first_of}
 use Rattle.store_core.specs.declared.ids.VarId.{VarId}
@@ -13,16 +12,16 @@ use Rattle.store_logic.specs.declared.act.Act.TheVariants as act
 use Rattle.store_logic.specs.declared.cond.Cond.{Cond}
 use Rattle.store_exec.specs.declared.code.Item.{Item}
 use Rattle.store_exec.specs.declared.code.Item.TheVariants as item
-use Rattle.store_exec.specs.Fits.{news_of_act, news_of_rhs, news_of_item, news_of, news_of_code}
+use Rattle.store_exec.specs.Fits.{news_of_act, news_of_rhs, news_of_item, news_of}
 use Rattle.store_exec.proofs.GoingLemmas.{news-Do, news-If}
 use Rattle.pale_calls.specs.declared.class.VarClass.{VarClass}
 use Rattle.pale_calls.specs.Classes.{holds_cell}
 use Rattle.hoare_split.specs.declared.counts.Count.{Count}
 use Rattle.hoare_split.specs.Picking.{class_at, those}
 use Rattle.hoare_split.specs.Settings.{blank, setting, settings}
-use Rattle.hoare_split.specs.Flows.{Arrival, Flow, ends, does, branches, after_items, code_of}
+use Rattle.hoare_split.specs.Flows.{Arrival, Flow, ends, does, branches, after_items}
 use Rattle.hoare_split.specs.Passages.{Started}
-use Rattle.hoare_split.specs.Counts.{atoms_of_item, atoms_of_code}
+use Rattle.hoare_split.specs.Counts.{atoms_of_item}
 use Rattle.hoare_split.specs.Triples.{count_fault, start_fault}
 use Rattle.hoare_split.specs.Measures.{atoms_on, news_on, count_of, or_later, first_fault}
 use Rattle.hoare_split.proofs.CountsCodeLemmas.{atoms-Do, atoms-If, atoms-code_of, news-code_of}
@@ -156,3 +155,7 @@ first_fault-append [] ys later = refl
 first_fault-append (s ∷ xs) ys later = first_fault-cons s (xs ++ ys) later
     ∙ ap (λ fault. start_fault s >> fault) (first_fault-append xs ys later)
     ∙ sym (first_fault-cons s xs (first_fault ys later))
+
+pub then-none : (fault : Fault) → (fault >> None) ≡ fault
+then-none None = refl
+then-none (Some refusal) = refl

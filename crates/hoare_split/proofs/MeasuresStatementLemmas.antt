@@ -1,5 +1,5 @@
 -- What is measured of each form of statement, and of blocks from their ends.
-use Rattle.std.proofs.Common.{◌≡◌, ℕ, ◌+◌, min, Bool, true, false, not, is_some, Option, Some, None, List, [], ◌∷◌, ◌++◌, length, map, refl, sym, ap, ap₂, ◌∙◌, subst, append_assoc, append-nil}
+use Rattle.std.proofs.Common.{◌≡◌, ℕ, min, true, false, not, is_some, Option, Some, None, List, [], ◌∷◌, ◌++◌, length, refl, sym, ap, ap₂, ◌∙◌, subst, append_assoc, append-nil}
 use Rattle.pale_text.specs.declared.place.Pos.{Pos}
 use Rattle.pale_tables.specs.Faults.{Fault}
 use Rattle.store_core.specs.Tables.{VarEntry}
@@ -8,27 +8,31 @@ use Rattle.store_logic.specs.declared.assertion.Assertion.{Assertion}
 use Rattle.store_logic.specs.declared.assertion.Assertion.TheVariants as assertion
 use Rattle.store_logic.specs.declared.cond.Cond.{Cond}
 use Rattle.store_exec.specs.declared.code.Item.{Item}
-use Rattle.store_exec.specs.declared.code.Item.TheVariants as item
 use Rattle.store_exec.specs.Fits.{news_of_act}
 use Rattle.pale_types.specs.declared.typed.CallParts.{CallParts}
 use Rattle.pale_types.specs.declared.typed.ProcEntry.{ProcEntry}
+use Rattle.pale_types.specs.declared.typed.TypedProc.{TypedProc}
 use Rattle.pale_types.specs.declared.typed.Stmt.{Stmt}
 use Rattle.pale_types.specs.declared.typed.Stmt.TheVariants as stmt
 use Rattle.hoare_split.specs.declared.counts.Count.{Count}
-use Rattle.hoare_split.specs.Picking.{those, is_awaited}
-use Rattle.hoare_split.specs.Flows.{Arrival, Flow, ends, does, branches, after_items}
+use Rattle.hoare_split.specs.Picking.{those, is_awaited, is_left}
+use Rattle.hoare_split.specs.Flows.{Arrival, Flow, ends, branches}
 use Rattle.hoare_split.specs.Cuts.{at_assertion, at_call, at_exit}
-use Rattle.hoare_split.specs.Starts.{plain_start, call_start}
+use Rattle.hoare_split.specs.Starts.{plain_start, call_start, entry_start}
 use Rattle.hoare_split.specs.Passages.{Started, Passage, plain, choice, choice_of, branch}
-use Rattle.hoare_split.specs.Statements.{loop, split, call_at, passage_of, block_of}
-use Rattle.hoare_split.specs.Triples.{count_fault, start_fault}
+use Rattle.hoare_split.specs.Statements.{passage_of, block_of}
+use Rattle.hoare_split.specs.Triples.{count_fault, start_fault, exit_of, procedure_fault}
 use Rattle.hoare_split.specs.Measures.{count_of, or_later, first_fault}
 use Rattle.hoare_split.proofs.StatementLemmas.{passage-Skip, passage-Do, passage-If, passage-While, passage-Split, passage-Call}
-use Rattle.hoare_split.proofs.PlainLemmas.{IsPlain, plain-block}
-use Rattle.hoare_split.proofs.MeasuresFlowLemmas.{together, count-ends, count-does, count-branches, count-If, count-settings, start-fault, first_fault-cons, first_fault-append}
+use Rattle.hoare_split.proofs.PlainLemmas.{plain-block}
+use Rattle.hoare_split.proofs.MeasuresFlowLemmas.{together, count-ends, count-does, count-branches, count-If, count-settings, start-fault, first_fault-cons, first_fault-append, then-none}
 
 abbrev pub zero_count : Count
 zero_count = record { atoms = 0; news = 0 }
+
+-- that of a condition and of what follows in either case
+abbrev pub choice_count : Count → Count → Count
+choice_count taken other = together (together (record { atoms = min 129 1; news = 0 }) taken) other
 
 -- ---- what is measured of a passage
 
@@ -48,118 +52,124 @@ looked s starts count old mid new is before looks = looks
 
 -- ---- choices
 
-none-is : {X : Type 0} (o : Option X) → not (is_some o) ≡ true → o ≡ None
-none-is None e = refl
-none-is (Some x) e = absurd cc
-
-pub choice-first : (line : ℕ) (c : Cond) (first other : Passage) → not (is_some first.items) ≡ true → choice line c first other ≡ branch line c first other
-choice-first line c first other e = ap (λ o. choice_of line c first other o other.items) (none-is first.items e)
-
-pub choice-other : (line : ℕ) (c : Cond) (first other : Passage) → not (is_some other.items) ≡ true → choice line c first other ≡ branch line c first other
-choice-other line c first other e = by first.items other.items (none-is other.items e)
+choice-cut : (line : ℕ) (c : Cond) (first other : Passage) → not (is_some (choice line c first other).items) ≡ true →
+    choice line c first other ≡ branch line c first other
+choice-cut line c first other = by first.items other.items
   where
-    by : (ones others : Option (List Item)) → others ≡ None → choice_of line c first other ones others ≡ branch line c first other
-    by None others none = refl
-    by (Some x) None none = refl
-    by (Some x) (Some y) none = absurd cc
+    by : (ones others : Option (List Item)) → not (is_some (choice_of line c first other ones others).items) ≡ true →
+        choice_of line c first other ones others ≡ branch line c first other
+    by None others cut = refl
+    by (Some x) None cut = refl
+    by (Some x) (Some y) cut = absurd cc
 
-no-none : {X : Type 0} (o : Option X) → not (is_some o) ≡ false → (x : X) × (o ≡ Some x)
-no-none None e = absurd cc
-no-none (Some x) e = (x, refl)
+-- where it has no cut inside, its blocks have none
+record ArePlain (line : ℕ) (c : Cond) (first other : Passage) : Type 0 where
+  ones : List Item
+  others : List Item
+  taken : first.items ≡ Some ones
+  untaken : other.items ≡ Some others
+  whole : choice line c first other ≡ choice_of line c first other (Some ones) (Some others)
+
+choice-plain : (line : ℕ) (c : Cond) (first other : Passage) → not (is_some (choice line c first other).items) ≡ false → ArePlain line c first other
+choice-plain line c first other = by first.items other.items refl refl
+  where
+    by : (ones others : Option (List Item)) → first.items ≡ ones → other.items ≡ others →
+        not (is_some (choice_of line c first other ones others).items) ≡ false → ArePlain line c first other
+    by None others e1 e2 plain = absurd cc
+    by (Some x) None e1 e2 plain = absurd cc
+    by (Some x) (Some y) e1 e2 plain = record {
+      ones = x;
+      others = y;
+      taken = e1;
+      untaken = e2;
+      whole = ap₂ (choice_of line c first other) e1 e2;
+    }
 
 -- some arrival
 any : Arrival
 any = at_exit 0 assertion.True
 
 module _ (procs : List ProcEntry) (vars : List VarEntry) where
-  -- with ys cut in either block, the count of both before any cut, and ys fault there
-  plain-by : (line : ℕ) (c : Cond) (xs ys : List Stmt) (ones others : List Item) (rest made : Count) (old new : Fault) →
-      (block_of procs vars xs).items ≡ Some ones → (block_of procs vars ys).items ≡ Some others →
-      ((flow : Flow) (line : ℕ) (c : Cond) → zero_count ≡ count_of flow →
-          made ≡ count_of (branches line c ((block_of procs vars xs).flow flow) ((block_of procs vars ys).flow flow))) →
-      ((flow : Flow) → zero_count ≡ count_of flow →
-          new ≡ first_fault ((block_of procs vars xs).starts flow ++ (block_of procs vars ys).starts flow) old) →
-      Measured (choice_of line c (block_of procs vars xs) (block_of procs vars ys) (Some ones) (Some others)) rest (together made rest) old new
-  plain-by line c xs ys ones others rest made old new are also counted finds =
-      let first = plain-block procs vars xs ones are in
-      let other = plain-block procs vars ys others also in
-      let none = sym (count-ends any) in
-      record {
-        count = λ flow is. ap₂ together (counted (ends any) line c none
-            ∙ ap₂ (λ one two. count_of (branches line c one two)) (first.flow (ends any)) (other.flow (ends any))) is
-            ∙ count-If line c ones others any any flow;
-        found = λ flow is. finds (ends any) none
-            ∙ ap₂ (λ xs ys. first_fault (xs ++ ys) old) (first.starts (ends any)) (other.starts (ends any));
-      }
-
   module _ (s : Stmt) where
     pub measured-Skip : s ≡ stmt.Skip → (rest : Count) (found : Fault) → Measured (passage_of procs vars s) rest rest found found
     measured-Skip is rest found = subst (λ p. Measured p rest rest found found) (sym (ap (passage_of procs vars) is ∙ passage-Skip procs vars))
         (record { count = λ flow is. is; found = λ flow is. refl })
 
-    pub measured-Do : (line : ℕ) (a : Act) → s ≡ stmt.Do line a → (rest : Count) (found : Fault) →
-        Measured (passage_of procs vars s) rest (together (record { atoms = 1; news = news_of_act a }) rest) found found
-    measured-Do line a is rest found = subst (λ p. Measured p rest (together (record { atoms = 1; news = news_of_act a }) rest) found found)
+    pub measured-Do : (line : ℕ) (a : Act) → s ≡ stmt.Do line a → (rest made : Count) (found : Fault) →
+        made ≡ together (record { atoms = 1; news = news_of_act a }) rest → Measured (passage_of procs vars s) rest made found found
+    measured-Do line a is rest made found counted = subst (λ p. Measured p rest made found found)
         (sym (ap (passage_of procs vars) is ∙ passage-Do procs vars line a))
         (record {
-          count = λ flow is. ap (together (record { atoms = 1; news = news_of_act a })) is ∙ count-does line a flow;
-          found = λ flow is. refl;
+          count = λ flow here. counted ∙ ap (together (record { atoms = 1; news = news_of_act a })) here ∙ count-does line a flow;
+          found = λ flow here. refl;
         })
 
-    module _ (line : ℕ) (c : Cond) (xs ys : List Stmt) (is : s ≡ stmt.If line c xs ys) (rest made : Count) (old new : Fault) where
-      -- with a cut in one of its blocks
-      abbrev pub MeasuredBranch : Type 0
-      MeasuredBranch = ((flow : Flow) (line : ℕ) (c : Cond) → rest ≡ count_of flow →
-              made ≡ count_of (branches line c ((block_of procs vars xs).flow flow) ((block_of procs vars ys).flow flow)))
-          × ((flow : Flow) → rest ≡ count_of flow →
-              new ≡ first_fault ((block_of procs vars xs).starts flow ++ (block_of procs vars ys).starts flow) old)
+    module _ (line : ℕ) (c : Cond) (xs ys : List Stmt) (is : s ≡ stmt.If line c xs ys) (rest inside taken other : Count) (old mid new : Fault)
+        (one : Measured (block_of procs vars ys) inside other old mid) (two : Measured (block_of procs vars xs) inside taken mid new) where
+      chosen : passage_of procs vars s ≡ choice line c (block_of procs vars xs) (block_of procs vars ys)
+      chosen = ap (passage_of procs vars) is ∙ passage-If procs vars line c xs ys
 
-      branched : choice line c (block_of procs vars xs) (block_of procs vars ys) ≡ branch line c (block_of procs vars xs) (block_of procs vars ys) →
-          MeasuredBranch → Measured (passage_of procs vars s) rest made old new
-      branched same both = subst (λ p. Measured p rest made old new) (sym (ap (passage_of procs vars) is ∙ passage-If procs vars line c xs ys ∙ same))
-          (record { count = λ flow is. both.0 flow line c is; found = both.1 })
+      counted : (flow : Flow) → inside ≡ count_of flow →
+          choice_count taken other ≡ count_of (branches line c ((block_of procs vars xs).flow flow) ((block_of procs vars ys).flow flow))
+      counted flow within = ap₂ choice_count (two.count flow within) (one.count flow within)
+          ∙ count-branches line c ((block_of procs vars xs).flow flow) ((block_of procs vars ys).flow flow)
 
-      pub measured-first : not (is_some (block_of procs vars xs).items) ≡ true → MeasuredBranch → Measured (passage_of procs vars s) rest made old new
-      measured-first cut = branched (choice-first line c (block_of procs vars xs) (block_of procs vars ys) cut)
+      finds : (flow : Flow) → inside ≡ count_of flow →
+          new ≡ first_fault ((block_of procs vars xs).starts flow ++ (block_of procs vars ys).starts flow) old
+      finds flow within = two.found flow within ∙ ap (first_fault ((block_of procs vars xs).starts flow)) (one.found flow within)
+          ∙ sym (first_fault-append ((block_of procs vars xs).starts flow) ((block_of procs vars ys).starts flow) old)
 
-      pub measured-other : not (is_some (block_of procs vars ys).items) ≡ true → MeasuredBranch → Measured (passage_of procs vars s) rest made old new
-      measured-other cut = branched (choice-other line c (block_of procs vars xs) (block_of procs vars ys) cut)
+      -- with a cut inside
+      pub measured-branch : not (is_some (passage_of procs vars s).items) ≡ true → inside ≡ rest →
+          (made : Count) → made ≡ choice_count taken other → Measured (passage_of procs vars s) rest made old new
+      measured-branch cut same made makes =
+          let cut_there : not (is_some (choice line c (block_of procs vars xs) (block_of procs vars ys)).items) ≡ true
+          = ap (λ p. not (is_some p.items)) (sym chosen) ∙ cut in
+          subst (λ p. Measured p rest made old new) (sym (chosen ∙ choice-cut line c (block_of procs vars xs) (block_of procs vars ys) cut_there))
+          (record {
+            count = λ flow here. makes ∙ counted flow (same ∙ here);
+            found = λ flow here. finds flow (same ∙ here);
+          })
 
-      -- with none
-      pub measured-plain : not (is_some (block_of procs vars xs).items) ≡ false → not (is_some (block_of procs vars ys).items) ≡ false →
-          ((flow : Flow) (line : ℕ) (c : Cond) → zero_count ≡ count_of flow →
-              made ≡ count_of (branches line c ((block_of procs vars xs).flow flow) ((block_of procs vars ys).flow flow))) →
-          ((flow : Flow) → zero_count ≡ count_of flow →
-              new ≡ first_fault ((block_of procs vars xs).starts flow ++ (block_of procs vars ys).starts flow) old) →
-          Measured (passage_of procs vars s) rest (together made rest) old new
-      measured-plain first other counted finds =
-          let ones = no-none (block_of procs vars xs).items first in
-          let others = no-none (block_of procs vars ys).items other in
-          subst (λ p. Measured p rest (together made rest) old new)
-          (sym (ap (passage_of procs vars) is ∙ passage-If procs vars line c xs ys
-          ∙ ap₂ (choice_of line c (block_of procs vars xs) (block_of procs vars ys)) ones.1 others.1))
-          (plain-by line c xs ys ones.0 others.0 rest made old new ones.1 others.1 counted finds)
+      -- with none: the count of both before some cut, and no fault there
+      pub measured-plain : not (is_some (passage_of procs vars s).items) ≡ false → inside ≡ zero_count →
+          (made : Count) → made ≡ together (choice_count taken other) rest → Measured (passage_of procs vars s) rest made old new
+      measured-plain none same made makes =
+          let none_there : not (is_some (choice line c (block_of procs vars xs) (block_of procs vars ys)).items) ≡ false
+          = ap (λ p. not (is_some p.items)) (sym chosen) ∙ none in
+          let are = choice-plain line c (block_of procs vars xs) (block_of procs vars ys) none_there in
+          let first = plain-block procs vars xs are.ones are.taken in
+          let last = plain-block procs vars ys are.others are.untaken in
+          let here = same ∙ sym (count-ends any) in
+          subst (λ p. Measured p rest made old new) (sym (chosen ∙ are.whole))
+          (record {
+            count = λ flow behind. makes ∙ ap₂ together (counted (ends any) here
+                ∙ ap₂ (λ one two. count_of (branches line c one two)) (first.flow (ends any)) (last.flow (ends any))) behind
+                ∙ count-If line c are.ones are.others any any flow;
+            found = λ flow behind. finds (ends any) here
+                ∙ ap₂ (λ one two. first_fault (one ++ two) old) (first.starts (ends any)) (last.starts (ends any));
+          })
 
     pub measured-While : (place : Pos) (c : Cond) (invariant : Assertion) (body : List Stmt) → s ≡ stmt.While place c invariant body →
-        (again rest : Count) (old mid new : Fault) →
-        ((flow : Flow) → zero_count ≡ count_of flow → again ≡ count_of ((block_of procs vars body).flow flow)) →
-        ((flow : Flow) → zero_count ≡ count_of flow → mid ≡ first_fault ((block_of procs vars body).starts flow) old) →
-        (let whole = together (together (record { atoms = min 129 1; news = 0 }) again) rest in
-            new ≡ or_later (count_fault place whole.atoms whole.news) mid) →
+        (again rest whole : Count) (old mid new : Fault) → Measured (block_of procs vars body) zero_count again old mid →
+        whole ≡ choice_count again rest → new ≡ or_later (count_fault place whole.atoms whole.news) mid →
         Measured (passage_of procs vars s) rest zero_count old new
-    measured-While place c invariant body is again rest old mid new counted finds looks =
-        let inner = block_of procs vars body in
+    measured-While place c invariant body is again rest whole old mid new inner makes looks =
         let arrives = at_assertion place invariant in
         let none = sym (count-ends arrives) in
         subst (λ p. Measured p rest zero_count old new) (sym (ap (passage_of procs vars) is ∙ passage-While procs vars place c invariant body))
         (record {
-          count = λ flow is. none;
-          found = λ flow is. looked
-              (record { place = place; start = plain_start invariant; flow = branches place.line c (inner.flow (ends arrives)) flow })
-              (inner.starts (ends arrives)) (together (together (record { atoms = min 129 1; news = 0 }) again) rest) old mid new
-              (ap₂ (λ one two. together (together (record { atoms = min 129 1; news = 0 }) one) two) (counted (ends arrives) none) is
-              ∙ count-branches place.line c (inner.flow (ends arrives)) flow)
-              (finds (ends arrives) none) looks;
+          count = λ flow here. none;
+          found = λ flow here. looked
+              (record {
+                place = place;
+                start = plain_start invariant;
+                flow = branches place.line c ((block_of procs vars body).flow (ends arrives)) flow;
+              })
+              ((block_of procs vars body).starts (ends arrives)) whole old mid new
+              (makes ∙ ap₂ choice_count (inner.count (ends arrives) none) here
+              ∙ count-branches place.line c ((block_of procs vars body).flow (ends arrives)) flow)
+              (inner.found (ends arrives) none) looks;
         })
 
     pub measured-Split : (place : Pos) (a : Assertion) → s ≡ stmt.Split place a → (rest : Count) (old new : Fault) →
@@ -214,3 +224,15 @@ module _ (procs : List ProcEntry) (vars : List VarEntry) where
       Passed block left rest made old new → Measured (block_of procs vars block) rest made old new
   passed-all block left rest made old new none passed =
       subst (λ all. Measured (block_of procs vars all) rest made old new) (sym (passed.all ∙ ap (λ xs. xs ++ passed.last) none)) passed.measured
+
+  -- ---- procedures
+
+  pub measured-procedure : (p : TypedProc) (exit body : Count) (mid new : Fault) →
+      exit ≡ record { atoms = min 129 (length (those (is_left p) vars)); news = 0 } → Measured (block_of procs vars p.body) exit body None mid →
+      new ≡ or_later (count_fault p.place body.atoms body.news) mid → new ≡ procedure_fault procs (record { vars = vars; proc = p })
+  measured-procedure p exit body mid new makes measured looks =
+      let here = makes ∙ sym (count-settings vars p.last (at_exit p.last p.post) (is_left p)) in
+      looked (record { place = p.place; start = entry_start vars p; flow = (block_of procs vars p.body).flow (exit_of vars p) })
+      ((block_of procs vars p.body).starts (exit_of vars p)) body None mid new
+      (measured.count (exit_of vars p) here) (measured.found (exit_of vars p) here) looks
+      ∙ then-none (procedure_fault procs (record { vars = vars; proc = p }))

@@ -1,5 +1,5 @@
 -- Procedures of a program, from the first on.
-use Rattle.std.proofs.Common.{◌≡◌, ℕ, ◌+◌, suc, add-one, Some, None, List, [], ◌∷◌, ◌++◌, map, drop, refl, sym, ap, ◌∙◌, append_assoc, append-nil}
+use Rattle.std.proofs.Common.{◌≡◌, inl, inr, ℕ, ◌+◌, suc, add-one, Some, None, List, [], ◌∷◌, ◌++◌, map, drop, refl, sym, ap, ◌∙◌, append_assoc, append-nil}
 use Rattle.std.specs.List.{slice_get}
 use Rattle.std.proofs.Math.Seq.{drop-cons}
 use Rattle.std.proofs.lemmas.List.{drop_all}
@@ -35,9 +35,10 @@ module _ (program : TypedProgram) where
   module _ (number : ℕ) (triples : List Triple) (before : SplitUpto number triples) where
     pub split-last : slice_get program.procs number ≡ None → (split_fault program ≡ None) × (triples ≡ triples_of program)
     split-last none =
-        let past = drop-none program.procs number none in
-        (before.fault ∙ ap (first_of (procedure_fault program.procs)) past,
-        sym (append-nil triples) ∙ ap (λ entries. triples ++ triples_from program.procs number entries) (sym past) ∙ before.all)
+        let past = drop-none program.procs number none in (
+          before.fault ∙ ap (first_of (procedure_fault program.procs)) past,
+          sym (append-nil triples) ∙ ap (λ entries. triples ++ triples_from program.procs number entries) (sym past) ∙ before.all,
+        )
 
     module _ (e : ProcEntry) (is : slice_get program.procs number ≡ Some e) where
       fault-at : split_fault program ≡ (procedure_fault program.procs e >> first_of (procedure_fault program.procs) (drop (number + 1) program.procs))

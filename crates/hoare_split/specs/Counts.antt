@@ -3,7 +3,7 @@ use Rattle.std.specs.Prelude.{ℕ, ◌+◌, sum_by}
 use Rattle.store_exec.specs.declared.code.Item.{Item}
 use Rattle.store_exec.specs.declared.code.Item.TheOpen.{Item-F}
 use Rattle.store_exec.specs.declared.code.Item.TheFolds.{fold-Item}
-use Rattle.store_exec.specs.declared.code.Tail.TheOpen.{Tail-F, Code-F}
+use Rattle.store_exec.specs.declared.code.Tail.TheOpen.{Tail-F}
 use Rattle.store_exec.specs.declared.code.Tail.TheFolds.{fold-Code}
 use Rattle.store_exec.specs.declared.code.Code.{Code}
 

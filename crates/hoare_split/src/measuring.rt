@@ -1,9 +1,8 @@
 //! The counts of all codes of a procedure, by one pass from its end to its head. No code is built for them.
 
-ghost use Rattle.std.specs.Prelude.{◌≡◌, ◌++◌, ℕ, length, min};
-ghost use Rattle.store_logic.specs.declared.cond.Cond.{Cond};
+ghost use Rattle.std.specs.Prelude.{◌≡◌, length, min};
 ghost use Rattle.hoare_split.specs.Picking.{those, is_awaited};
-ghost use Rattle.hoare_split.specs.Flows.{Flow, branches};
+ghost use Rattle.hoare_split.specs.Flows.{Flow};
 ghost use Rattle.hoare_split.specs.Triples.{count_fault, procedure_fault};
 ghost use Rattle.hoare_split.specs.Following.{procs_of, vars_of, entry_of, statement_in, block_in};
 ghost use Rattle.hoare_split.specs.Measures.{count_of, or_later, first_fault};
@@ -11,7 +10,7 @@ ghost use Rattle.hoare_split.specs.Measures.{count_of, or_later, first_fault};
 use crate::caller::Caller;
 use crate::counts::Count;
 use crate::picking::{Pick, picked_count};
-use crate::plain::has_cut;
+use crate::plain::is_cut;
 use pale_text::{Pos, Refusal};
 use pale_types::{CallParts, Stmt};
 
@@ -48,25 +47,6 @@ pub(crate) fn measure_block(
     count
 }
 
-/// The same of a condition and the two blocks that it chooses from.
-#[cycle(measuring)]
-fn measure_choice(
-    caller: &Caller<'_>,
-    yes: &[Stmt],
-    no: &[Stmt],
-    rest: Count,
-    found: &mut Found,
-) -> Count
-    ensures count { (flow : Flow) (line : ℕ) (c : Cond) → rest ≡ count_of flow →
-        result ≡ count_of (branches line c ((block_in caller.now yes.now).flow flow) ((block_in caller.now no.now).flow flow)) }
-    ensures found { (flow : Flow) → rest ≡ count_of flow →
-        found.new ≡ first_fault ((block_in caller.now yes.now).starts flow ++ (block_in caller.now no.now).starts flow) found.old }
-{
-    let other = measure_block(caller, no, rest, found);
-    let taken = measure_block(caller, yes, rest, found);
-    Count::of_atoms(1).and(taken).and(other)
-}
-
 /// The count of the settings before a call.
 fn settings_before(caller: &Caller<'_>, call: &CallParts) -> Count
     ensures { result ≡ record { atoms = min 129 (length (those (is_awaited call.now) (vars_of caller.now))); news = 0 } }
@@ -86,12 +66,12 @@ fn measure(caller: &Caller<'_>, stmt: &Stmt, rest: Count, found: &mut Found) -> 
         Stmt::Skip => rest,
         Stmt::Do(_, act) => Count::of_act(act).and(rest),
         Stmt::If(_, _, yes, no) => {
-            let (yes, no) = (yes.as_slice(), no.as_slice());
-            if has_cut(yes) || has_cut(no) {
-                measure_choice(caller, yes, no, rest, found)
-            } else {
-                measure_choice(caller, yes, no, Count::ZERO, found).and(rest)
-            }
+            let cut = is_cut(stmt);
+            let inside = if cut { rest } else { Count::ZERO };
+            let other = measure_block(caller, no.as_slice(), inside, found);
+            let taken = measure_block(caller, yes.as_slice(), inside, found);
+            let both = Count::of_atoms(1).and(taken).and(other);
+            if cut { both } else { both.and(rest) }
         }
         Stmt::While(place, _, _, body) => {
             let again = measure_block(caller, body.as_slice(), Count::ZERO, found);
