@@ -2,7 +2,7 @@
 //!
 //! `specs/Triples.antt` says which triples a program has and what is refused, `specs/Statements.antt` what each statement means
 //! for them, `specs/Flows.antt` where the code from a cut point leads, `specs/Cuts.antt` what is checked at each cut, and
-//! `specs/Starts.antt` what holds where a triple starts.
+//! `specs/Starts.antt` what holds where a triple starts. `specs/Fitting.antt` says when triples fit their program.
 #![tactic(auto)]
 
 mod arrivals;

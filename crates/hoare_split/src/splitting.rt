@@ -31,7 +31,8 @@ fn caller_at(program: &Typed, number: u32) -> Option<Caller<'_>>
     })
 }
 
-/// The triples of a typed program, those of its procedures in order, in each those of its cut points in order of the text.
+/// The triples of a typed program, those of its procedures in order, in each those of its cut points in order of the text. Those of a
+/// program that fits fit it.
 ///
 /// # Errors
 ///
