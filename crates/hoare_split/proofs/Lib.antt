@@ -12,3 +12,8 @@ pub mod CallLemmas
 pub mod ReachLemmas
 pub mod WeightLemmas
 pub mod FollowingLemmas
+pub mod FittingCodeLemmas
+pub mod FittingVariableLemmas
+pub mod FittingClaimLemmas
+pub mod FittingStatementLemmas
+pub mod FittingLemmas

@@ -13,3 +13,4 @@ pub mod Triples
 pub mod Weights
 pub mod Following
 pub mod Measures
+pub mod Fitting

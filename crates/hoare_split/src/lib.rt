@@ -2,7 +2,7 @@
 //!
 //! `specs/Triples.antt` says which triples a program has and what is refused, `specs/Statements.antt` what each statement means
 //! for them, `specs/Flows.antt` where the code from a cut point leads, `specs/Cuts.antt` what is checked at each cut, and
-//! `specs/Starts.antt` what holds where a triple starts.
+//! `specs/Starts.antt` what holds where a triple starts. `specs/Fitting.antt` says when triples fit their program.
 #![tactic(auto)]
 
 mod arrivals;
@@ -11,6 +11,7 @@ mod calls;
 mod codes;
 mod counts;
 mod filling;
+mod laws;
 mod measuring;
 mod picking;
 mod plain;
@@ -22,5 +23,6 @@ mod settings;
 mod splitting;
 mod starts;
 
+pub use laws::triples_of_programs_that_fit_fit;
 pub use points::TripleList;
 pub use splitting::split;

@@ -1,11 +1,14 @@
 //! The triples of a program.
 
-ghost use Rattle.std.specs.Prelude.{◌≡◌, None, slice_get, option_map, IfSome, IfOk, IfErr, OnOk};
+ghost use Rattle.std.specs.Prelude.{◌≡◌, None, slice_get, option_map, IfSome, IfOk, IfErr, OnOk, All};
 ghost use Rattle.pale_tables.specs.Faults.{IsStop};
+ghost use Rattle.pale_types.specs.Fitting.{ProgramFits};
+ghost use Rattle.hoare_split.specs.Fitting.{FitsProgram, IsShort};
 ghost use Rattle.hoare_split.specs.Triples.{split_fault, triples_of};
 ghost use Rattle.hoare_split.specs.Following.{procs_of, entry_of};
 
 use crate::caller::Caller;
+use crate::laws::triples_of_programs_that_fit_fit;
 use crate::measuring::first_fault;
 use crate::points::{TripleList, split_procedure};
 use pale_text::TextStop;
@@ -28,7 +31,8 @@ fn caller_at(program: &Typed, number: u32) -> Option<Caller<'_>>
     })
 }
 
-/// The triples of a typed program, those of its procedures in order, in each those of its cut points in order of the text.
+/// The triples of a typed program, those of its procedures in order, in each those of its cut points in order of the text. Those of a
+/// program that fits fit it.
 ///
 /// # Errors
 ///
@@ -38,8 +42,11 @@ fn caller_at(program: &Typed, number: u32) -> Option<Caller<'_>>
 pub fn split(alloc: Global, t: &Typed) -> Result<TripleList, TextStop>
     ensures met { OnOk result (split_fault t.now ≡ None) }
     ensures triples { IfOk result (λ triples. triples ≡ triples_of t.now) }
+    ensures fits { ProgramFits t.now → IfOk result (All (FitsProgram t.now)) }
+    ensures short { IfOk result (All IsShort) }
     ensures stop { IfErr result (IsStop (split_fault t.now)) }
 {
+    triples_of_programs_that_fit_fit();
     let mut triples = TripleList::new(alloc);
     for number in 0..u32::MAX {
         let Some(caller) = caller_at(t, number) else {

@@ -1,6 +1,7 @@
-use Rattle.std.proofs.Common.{◌++◌, map, option_map, sym, ap, ap₂, ◌∙◌}
+use Rattle.std.proofs.Common.{◌++◌, map, option_map, sym, ap, ap₂, ◌∙◌, subst, All}
 use Rattle.hoare_split.specs.Triples.{starts_of, triple_of, procedure_fault}
 use Rattle.hoare_split.specs.Following.{entry_of}
+use Rattle.hoare_split.specs.Fitting.{FitsProgram, IsShort}
 use Rattle.hoare_split.proofs.SplittingLemmas.{split-none, split-last, split-fault, split-one}
 use Rattle.hoare_split.proofs.splitting.split.Goals as goal
 
@@ -14,6 +15,18 @@ returns-in_default-clause-met c = (split-last c.args.t.now c.loop-number.number 
 pub returns-in_default-clause-triples : goal.returns-in_default-clause-triples
 returns-in_default-clause-triples c = (split-last c.args.t.now c.loop-number.number c.loop-number.triples c.loop-number.invariant
     (sym c.caller_at.ensures.entry ∙ ap (option_map entry_of) c.in_default.is)).1
+
+pub returns-in_default-clause-fits : goal.returns-in_default-clause-fits
+returns-in_default-clause-fits c = λ fits.
+    subst (All (FitsProgram c.args.t.now)) (sym (split-last c.args.t.now c.loop-number.number c.loop-number.triples c.loop-number.invariant
+    (sym c.caller_at.ensures.entry ∙ ap (option_map entry_of) c.in_default.is)).1)
+    (c.triples_of_programs_that_fit_fit.ensures.fits c.args.t.now fits)
+
+pub returns-in_default-clause-short : goal.returns-in_default-clause-short
+returns-in_default-clause-short c =
+    let all = split-last c.args.t.now c.loop-number.number c.loop-number.triples c.loop-number.invariant
+    (sym c.caller_at.ensures.entry ∙ ap (option_map entry_of) c.in_default.is) in
+    subst (All IsShort) (sym all.1) (c.triples_of_programs_that_fit_fit.ensures.short c.args.t.now all.0)
 
 pub returns-in-Some-first_fault-clause-stop : goal.returns-in-Some-first_fault-clause-stop
 returns-in-Some-first_fault-clause-stop c =
