@@ -8,3 +8,4 @@ pub mod CallLemmas
 pub mod ReachLemmas
 pub mod WeightLemmas
 pub mod FollowingLemmas
+pub mod PointLemmas
