@@ -1,5 +1,6 @@
 -- On triples: what was reached from nothing, and which triples start in statements.
-use Rattle.std.proofs.Common.{◌≡◌, ℕ, List, [], ◌∷◌, ◌++◌, map, append_assoc, append-nil, Option, Some, None, Result, Ok, Err, OnOk, ◌⊎◌, inl, inr, refl, sym, ap, ◌∙◌}
+use Rattle.std.proofs.Common.{◌≡◌, ℕ, List, [], ◌∷◌, ◌++◌, map, append_assoc, append-nil, Option, Some, None, Result, Ok, Err}
+use Rattle.std.proofs.Common.{OnOk, ◌⊎◌, inl, inr, refl, sym, ap, ◌∙◌}
 use Rattle.std.proofs.lemmas.List.{map-append}
 use Rattle.pale_text.specs.declared.place.Pos.{Pos}
 use Rattle.store_core.specs.Tables.{VarEntry}
@@ -40,15 +41,16 @@ reached-cuts old new flow none no_cuts reaches =
 -- the triple that starts at a place, by the code of its flow and the cuts that it reached
 pub triple-made : (number line : ℕ) (place : Pos) (start start' : Start) (flow : Flow) (code : Code) (cuts : List Cut) (old new : Reached) →
     old.points ≡ [] → old.cuts ≡ [] → Reaches old new (arrivals_of flow) → code ≡ code_in new.points flow → cuts ≡ new.cuts → place.line ≡ line →
-    start ≡ start' → record { proc = number; line = line; start = start; code = code; cuts = cuts } ≡ triple_of number (record { place = place; start = start'; flow = flow })
+    start ≡ start' →
+    record { proc = number; line = line; start = start; code = code; cuts = cuts } ≡ triple_of number (record { place = place; start = start'; flow = flow })
 triple-made number line place start start' flow code cuts old new none no_cuts reaches of_code of_cuts of_line of_start =
     let code_is = of_code ∙ ap (λ points. code_in points flow) (reached-points old new flow none reaches) in
     let cuts_are = of_cuts ∙ reached-cuts old new flow none no_cuts reaches in
     cc
 
 -- the code of a branch behind no items, where a block is lent
-pub code-behind_none : (points : List Point) (code : Code) (items : List Item) (slice block : List Stmt) (flow : List Stmt → Flow) → items ≡ [] → slice ≡ block →
-    code ≡ code_in points (after_items items (flow slice)) → code ≡ code_in points (flow block)
+pub code-behind_none : (points : List Point) (code : Code) (items : List Item) (slice block : List Stmt) (flow : List Stmt → Flow) → items ≡ [] →
+    slice ≡ block → code ≡ code_in points (after_items items (flow slice)) → code ≡ code_in points (flow block)
 code-behind_none points code items slice block flow none lent is =
     is ∙ ap (λ before. code_in points (after_items before (flow slice))) none ∙ ap (λ b. code_in points (flow b)) lent
 
@@ -78,13 +80,13 @@ module _ (procs : List ProcEntry) (vars : List VarEntry) (rest : Flow) where
   starts-plain s (inl e) = ap (λ (p : Passage). p.starts rest) (ap (passage_of procs vars) e ∙ passage-Skip procs vars)
   starts-plain s (inr (line, a, e)) = ap (λ (p : Passage). p.starts rest) (ap (passage_of procs vars) e ∙ passage-Do procs vars line a)
 
-  pub starts-If : (s : Stmt) (line : ℕ) (c : Cond) (first other yes no : List Stmt) → s ≡ stmt.If line c first other → yes ≡ first → no ≡ other →
-      (passage_of procs vars s).starts rest ≡ (block_of procs vars yes).starts rest ++ (block_of procs vars no).starts rest
-  starts-If s line c first other yes no e lent lent_other =
+  pub starts-If : (s : Stmt) (line : ℕ) (c : Cond) (first other ones others : List Stmt) → s ≡ stmt.If line c first other → ones ≡ first → others ≡ other →
+      (passage_of procs vars s).starts rest ≡ (block_of procs vars ones).starts rest ++ (block_of procs vars others).starts rest
+  starts-If s line c first other ones others e lent lent_other =
       ap (λ (p : Passage). p.starts rest) (ap (passage_of procs vars) e ∙ passage-If procs vars line c first other)
       ∙ choice-starts line c (block_of procs vars first) (block_of procs vars other) (plain-block procs vars first) (plain-block procs vars other) rest
       ∙ ap (λ b. (block_of procs vars b).starts rest ++ (block_of procs vars other).starts rest) (sym lent)
-      ∙ ap (λ b. (block_of procs vars yes).starts rest ++ (block_of procs vars b).starts rest) (sym lent_other)
+      ∙ ap (λ b. (block_of procs vars ones).starts rest ++ (block_of procs vars b).starts rest) (sym lent_other)
 
   -- the triple of a loop
   abbrev pub loop_start : Pos → Cond → Assertion → List Stmt → Started
@@ -94,8 +96,8 @@ module _ (procs : List ProcEntry) (vars : List VarEntry) (rest : Flow) where
     flow = branches place.line c ((block_of procs vars body).flow (ends (at_assertion place invariant))) rest;
   }
 
-  pub starts-While : (s : Stmt) (place : Pos) (c : Cond) (invariant : Assertion) (body inner : List Stmt) → s ≡ stmt.While place c invariant body → inner ≡ body →
-      (passage_of procs vars s).starts rest
+  pub starts-While : (s : Stmt) (place : Pos) (c : Cond) (invariant : Assertion) (body inner : List Stmt) → s ≡ stmt.While place c invariant body →
+      inner ≡ body → (passage_of procs vars s).starts rest
       ≡ loop_start place c invariant body ∷ (block_of procs vars inner).starts (ends (at_assertion place invariant))
   starts-While s place c invariant body inner e lent =
       ap (λ (p : Passage). p.starts rest) (ap (passage_of procs vars) e ∙ passage-While procs vars place c invariant body)

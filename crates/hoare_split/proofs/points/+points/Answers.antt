@@ -85,4 +85,4 @@ split_block-loop-stmt-preserved t c =
     let caller = c.args.caller.now in
     split-next (procs_of caller) (vars_of caller) (triple_of caller.number) (flow_of caller c.args.rest.now) c.args.block.now c.loop-stmt.left.now
     c.in-Some.more.now c.in-Some.stmt.now c.args.triples.now c.loop-stmt.triples _ c.in-Some.ensures.cases.0 c.loop-stmt.invariant
-    c.in_ok-split_stmt-in-Some.ensures
+    c.in_ok-split_stmt.ensures
