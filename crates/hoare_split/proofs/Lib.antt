@@ -1,5 +1,6 @@
 pub mod StatementLemmas
 pub mod PlainLemmas
+pub mod CodeLemmas
 pub mod FlowLemmas
 pub mod FormLemmas
 pub mod PickingLemmas

@@ -1,10 +1,14 @@
 //! The code from a place of the text up to the next cuts, read from the left.
 
 ghost use Rattle.std.specs.Prelude.{◌≡◌, ◌∷◌, [], true, None, IfOk, OnOk};
-ghost use Rattle.hoare_split.specs.Cuts.{at_call};
+ghost use Rattle.hoare_split.specs.Cuts.{at_assertion, at_call};
 ghost use Rattle.hoare_split.specs.Cuts as cuts;
 ghost use Rattle.hoare_split.specs.Flows.{ends, branches, after_items, arrivals_of, code_in, is_among};
+ghost use Rattle.hoare_split.specs.Picking.{is_awaited};
+ghost use Rattle.hoare_split.specs.Settings.{settings};
 ghost use Rattle.hoare_split.specs.Triples.{exit_of};
+ghost use Rattle.store_exec.specs.declared.code.Code.{roll-Code};
+ghost use Rattle.store_exec.specs.declared.code.Tail.TheVariants as tail;
 ghost use Rattle.hoare_split.specs.Following.{procs_of, vars_of, statement_in, flow_of, GoesOn, Reaches};
 
 use crate::arrivals::{call_cut, plain_cut};
@@ -92,6 +96,27 @@ fn code_to(
     code_ending(reached, items, point)
 }
 
+/// The same of a `while` or a `split` at this place.
+fn code_to_assertion(
+    alloc: Global,
+    reached: &mut Reached,
+    items: ItemList,
+    place: Pos,
+    assertion: &Assertion,
+) -> Result<Code, AllocError>
+    ensures code { IfOk result (λ code. code ≡ code_in reached.new.points (after_items items (ends (at_assertion place assertion.now)))) }
+    ensures reached { OnOk result (Reaches reached.old reached.new (at_assertion place assertion.now ∷ [])) }
+{
+    code_to(
+        alloc,
+        reached,
+        items,
+        Point::At(place),
+        place.line,
+        assertion,
+    )
+}
+
 /// The same of a call.
 fn code_to_call(
     alloc: Global,
@@ -113,6 +138,52 @@ fn code_to_call(
     code_ending(reached, items, point)
 }
 
+/// These items and then a branch into these codes.
+fn branch_code(
+    alloc: Global,
+    items: ItemList,
+    line: u32,
+    condition: &Cond,
+    taken: Code,
+    other: Code,
+) -> Result<Code, AllocError>
+    ensures { IfOk result (λ code. code ≡ roll-Code (record { items = items; tail = tail.Branch line condition.now taken other })) }
+{
+    let condition = condition.copy(alloc)?;
+    let taken = Boxed::new(alloc, taken)?;
+    let other = Boxed::new(alloc, other)?;
+    Ok(Code {
+        items,
+        tail: Tail::Branch(line, condition, taken, other),
+    })
+}
+
+/// The code of these items, then of the settings before a call, which end at the call.
+fn code_before_call(
+    alloc: Global,
+    caller: &Caller<'_>,
+    reached: &mut Reached,
+    mut items: ItemList,
+    place: Pos,
+    call: &CallParts,
+) -> Result<Code, AllocError>
+    ensures code { IfOk result (λ code. code ≡ code_in reached.new.points (after_items items
+        (after_items (settings (vars_of caller.now) (is_awaited call.now) place.line)
+        (ends (at_call (procs_of caller.now) (vars_of caller.now) place call.now))))) }
+    ensures reached { OnOk result (Reaches reached.old reached.new (arrivals_of
+        (after_items (settings (vars_of caller.now) (is_awaited call.now) place.line)
+        (ends (at_call (procs_of caller.now) (vars_of caller.now) place call.now))))) }
+{
+    set_picked(
+        alloc,
+        caller.vars,
+        Pick::Awaited(call),
+        place.line,
+        &mut items,
+    )?;
+    code_to_call(alloc, caller, reached, items, place, call)
+}
+
 /// The code of these items and then a branch into the code of the one block and that of the other, with what follows both in each.
 #[cycle(codes)]
 pub(crate) fn branch(
@@ -130,15 +201,9 @@ pub(crate) fn branch(
     ensures reached { OnOk result (Reaches reached.old reached.new
         (arrivals_of (branches line condition.now (flow_of caller.now taken.entry) (flow_of caller.now other.entry)))) }
 {
-    let condition = condition.copy(alloc)?;
     let taken = code_of(alloc, caller, reached, taken)?;
     let other = code_of(alloc, caller, reached, other)?;
-    let taken = Boxed::new(alloc, taken)?;
-    let other = Boxed::new(alloc, other)?;
-    Ok(Code {
-        items,
-        tail: Tail::Branch(line, condition, taken, other),
-    })
+    branch_code(alloc, items, line, condition, taken, other)
 }
 
 /// The code of these items and then a statement that is a cut point or has one inside, with what follows it.
@@ -147,7 +212,7 @@ fn code_at<'a>(
     alloc: Global,
     caller: &Caller<'_>,
     reached: &mut Reached,
-    mut items: ItemList,
+    items: ItemList,
     stmt: &'a Stmt,
     rest: Rest<'a>,
 ) -> Result<Code, AllocError>
@@ -165,24 +230,13 @@ fn code_at<'a>(
                 alloc, caller, reached, items, *line, condition, taken, other,
             )
         }
-        Stmt::While(place, _, assertion, _) | Stmt::Split(place, assertion) => code_to(
-            alloc,
-            reached,
-            items,
-            Point::At(*place),
-            place.line,
-            assertion,
-        ),
-        Stmt::Call(place, call) => {
-            set_picked(
-                alloc,
-                caller.vars,
-                Pick::Awaited(call),
-                place.line,
-                &mut items,
-            )?;
-            code_to_call(alloc, caller, reached, items, *place, call)
+        Stmt::While(place, _, invariant, _) => {
+            code_to_assertion(alloc, reached, items, *place, invariant)
         }
+        Stmt::Split(place, assertion) => {
+            code_to_assertion(alloc, reached, items, *place, assertion)
+        }
+        Stmt::Call(place, call) => code_before_call(alloc, caller, reached, items, *place, call),
         Stmt::Skip | Stmt::Do(_, _) => unreachable!(),
     }
 }
@@ -217,13 +271,8 @@ pub(crate) fn code_of(
     let mut items = ItemList::new(alloc);
     match push_items(alloc, rest, &mut items)? {
         Ending::Exit => code_to_exit(alloc, caller, reached, items),
-        Ending::Again(place, invariant) => code_to(
-            alloc,
-            reached,
-            items,
-            Point::At(place),
-            place.line,
-            invariant,
+        Ending::Again(place, invariant) => code_to_assertion(
+            alloc, reached, items, place, invariant,
         ),
         Ending::At(stmt, rest) => code_at(alloc, caller, reached, items, stmt, rest),
     }
