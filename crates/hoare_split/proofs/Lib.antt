@@ -18,3 +18,4 @@ pub mod FittingVariableLemmas
 pub mod FittingClaimLemmas
 pub mod FittingStatementLemmas
 pub mod FittingLemmas
+pub mod PointLemmas
