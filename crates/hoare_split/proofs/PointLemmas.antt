@@ -30,10 +30,10 @@ use Rattle.hoare_split.proofs.PlainLemmas.{WhenPlain, plain-block}
 
 -- ---- what was reached from nothing
 
-pub reached-points : (old new : Reached) (flow : Flow) → old.points ≡ [] → Reaches old new (arrivals_of flow) → new.points ≡ points_in (reached_by flow)
+reached-points : (old new : Reached) (flow : Flow) → old.points ≡ [] → Reaches old new (arrivals_of flow) → new.points ≡ points_in (reached_by flow)
 reached-points old new flow none reaches = reaches.points ∙ ap (λ points. points ++ points_in (first_of_each points (arrivals_of flow))) none
 
-pub reached-cuts : (old new : Reached) (flow : Flow) → old.points ≡ [] → old.cuts ≡ [] → Reaches old new (arrivals_of flow) → new.cuts ≡ cuts_of flow
+reached-cuts : (old new : Reached) (flow : Flow) → old.points ≡ [] → old.cuts ≡ [] → Reaches old new (arrivals_of flow) → new.cuts ≡ cuts_of flow
 reached-cuts old new flow none no_cuts reaches =
     reaches.cuts ∙ ap (λ cuts. cuts ++ cuts_in (first_of_each old.points (arrivals_of flow))) no_cuts
     ∙ ap (λ points. cuts_in (first_of_each points (arrivals_of flow))) none
@@ -63,7 +63,7 @@ triple-start number t place start start' flow is same =
 
 -- ---- which triples start in an `if`
 
-pub choice-starts : (line : ℕ) (c : Cond) (first other : Passage) → WhenPlain first → WhenPlain other → (rest : Flow) →
+choice-starts : (line : ℕ) (c : Cond) (first other : Passage) → WhenPlain first → WhenPlain other → (rest : Flow) →
     (choice line c first other).starts rest ≡ first.starts rest ++ other.starts rest
 choice-starts line c first other one two rest = by first.items other.items refl refl
   where
@@ -113,7 +113,7 @@ module _ (procs : List ProcEntry) (vars : List VarEntry) (rest : Flow) where
 
   -- ---- and in a block, from a statement on
 
-  pub starts-cons : (block more : List Stmt) (s : Stmt) → block ≡ s ∷ more → (block_of procs vars block).starts rest
+  starts-cons : (block more : List Stmt) (s : Stmt) → block ≡ s ∷ more → (block_of procs vars block).starts rest
       ≡ (passage_of procs vars s).starts ((block_of procs vars more).flow rest) ++ (block_of procs vars more).starts rest
   starts-cons block more s e = ap (λ b. (block_of procs vars b).starts rest) e
 
@@ -139,7 +139,7 @@ pub added-none : (f : Started → Triple) (triples : List Triple) (all : List St
 added-none f triples all none = sym (ap (λ xs. triples ++ map f xs) none ∙ append-nil triples)
 
 -- a triple is put behind others, and then these are left
-pub added-next : (f : Started → Triple) (before mid whole : List Triple) (xs ys all : List Started) → mid ≡ before ++ map f xs →
+added-next : (f : Started → Triple) (before mid whole : List Triple) (xs ys all : List Started) → mid ≡ before ++ map f xs →
     before ++ map f all ≡ whole → all ≡ xs ++ ys → mid ++ map f ys ≡ whole
 added-next f before mid whole xs ys all added left is = added-more f before mid (mid ++ map f ys) xs ys all added refl is ∙ left
 
@@ -169,8 +169,3 @@ module _ (procs : List ProcEntry) (vars : List VarEntry) (f : Started → Triple
         ((passage_of procs vars s).starts ((block_of procs vars more).flow rest)) ((block_of procs vars more).starts rest)
         ((block_of procs vars left).starts rest) added split.made (starts-cons procs vars rest left more s e);
   }
-
-  pub split-last : (block left : List Stmt) (before triples : List Triple) → left ≡ [] → IsSplit block left before triples →
-      triples ≡ before ++ map f ((block_of procs vars block).starts rest)
-  split-last block left before triples e split =
-      sym (append-nil triples) ∙ ap (λ b. triples ++ map f ((block_of procs vars b).starts rest)) (sym e) ∙ split.made

@@ -1,4 +1,3 @@
-use Rattle.std.proofs.Common.{◌≡◌, sym, ap, ◌∙◌}
 use Rattle.hoare_split.specs.Cuts.{at_assertion}
 use Rattle.hoare_split.specs.Flows.{ends}
 use Rattle.hoare_split.specs.Starts.{plain_start, call_start}
