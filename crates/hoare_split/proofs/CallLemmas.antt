@@ -1,5 +1,5 @@
 -- On what a call puts in.
-use Rattle.std.proofs.Common.{◌≡◌, ℕ, List, [], ◌++◌, map, slice_get, Option, Some, None, option_map, refl, sym, ap, ◌∙◌}
+use Rattle.std.proofs.Common.{◌≡◌, List, [], ◌++◌, map, slice_get, Option, Some, None, option_map, ap, ◌∙◌}
 use Rattle.std.specs.Option.{option_map_or}
 use Rattle.store_core.specs.declared.ids.VarId.{VarId}
 use Rattle.store_logic.specs.declared.assertion.Assertion.{Assertion}

@@ -16,7 +16,7 @@ use Rattle.pale_types.specs.declared.typed.Stmt.{Stmt, out-Stmt, roll-out-Stmt}
 use Rattle.pale_types.specs.declared.typed.Stmt.TheOpen.{Stmt-F}
 use Rattle.pale_types.specs.declared.typed.Stmt.TheFolds.{map-Stmt}
 use Rattle.hoare_split.specs.Flows.{Flow, does, after_items}
-use Rattle.hoare_split.specs.Passages.{Passage, plain, in_order, then_next, choice_of, choice, branch}
+use Rattle.hoare_split.specs.Passages.{Passage, plain, in_order, then_next, choice_of, choice}
 use Rattle.hoare_split.specs.Statements.{rules, loop, split, call_at, passage_of, block_of}
 use Rattle.hoare_split.proofs.StatementLemmas.{passage-form, passage-Skip, passage-Do, passage-If, passage-While, passage-Split, passage-Call}
 

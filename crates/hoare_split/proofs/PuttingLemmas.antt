@@ -1,5 +1,5 @@
 -- On variables beside what is handed over for them.
-use Rattle.std.proofs.Common.{◌≡◌, ℕ, List, [], ◌∷◌, length, map, refl, arith}
+use Rattle.std.proofs.Common.{◌≡◌, List, [], ◌∷◌, length, map, refl, arith}
 use Rattle.store_core.specs.declared.ids.VarId.{VarId}
 use Rattle.pale_calls.specs.declared.actual.Actual.{Actual}
 use Rattle.pale_calls.specs.declared.actual.Actual.TheVariants as actual

@@ -1,5 +1,5 @@
 -- On the cuts that were reached.
-use Rattle.std.proofs.Common.{◌≡◌, ℕ, ◌+◌, suc, ◌<◌, Bool, true, false, cond, not, ◌||◌, List, [], ◌∷◌, ◌++◌, length, map, Option, Some, None, is_some, Result, Ok, Err, OnOk, refl, sym, ap, ◌∙◌, subst, append_assoc, append-nil, arith}
+use Rattle.std.proofs.Common.{◌≡◌, ℕ, ◌+◌, suc, Bool, true, false, cond, not, ◌||◌, List, [], ◌∷◌, ◌++◌, length, Option, Some, None, is_some, Result, Ok, Err, OnOk, refl, sym, ap, ◌∙◌, append_assoc, append-nil, arith}
 use Rattle.std.specs.List.{position}
 use Rattle.std.proofs.lemmas.Bool.Decides.{nat_tests}
 use Rattle.std.proofs.lemmas.List.{map-append}
@@ -7,7 +7,7 @@ use Rattle.hoare_split.specs.declared.reached.Point.{Point}
 use Rattle.hoare_split.specs.declared.reached.Reached.{Reached}
 use Rattle.hoare_split.specs.Flows.{Arrival, is_point, is_among, first_of_each, points_in, cuts_in, place_among}
 use Rattle.hoare_split.specs.Following.{Reaches}
-use Rattle.hoare_split.proofs.FlowLemmas.{position-among, first_of_each-append, is_among-more}
+use Rattle.hoare_split.proofs.FlowLemmas.{position-among, first_of_each-append}
 
 -- a point that isn't among others has no place there
 place-none : (p : Point) (points : List Point) → is_among p points ≡ false → place_among points p ≡ length points

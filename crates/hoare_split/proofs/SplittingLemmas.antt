@@ -5,7 +5,7 @@ use Rattle.std.proofs.Math.Seq.{drop-cons}
 use Rattle.std.proofs.lemmas.List.{drop_all}
 use Rattle.std.proofs.lemmas.Option.{slice_get_within, get_or_from_slice_get, slice_get_cases}
 use Rattle.pale_text.specs.declared.refusal.Refusal.{Refusal}
-use Rattle.pale_tables.specs.Faults.{Fault, ◌>>◌, first_of}
+use Rattle.pale_tables.specs.Faults.{◌>>◌, first_of}
 use Rattle.pale_types.specs.declared.typed.ProcEntry.{ProcEntry}
 use Rattle.pale_types.specs.TypedPrograms.{TypedProgram}
 use Rattle.store_exec.specs.declared.triple.Triple.{Triple}

@@ -14,7 +14,7 @@ use Rattle.pale_types.specs.declared.typed.Stmt.{Stmt, roll-Stmt}
 use Rattle.pale_types.specs.declared.typed.Stmt.TheVariants as stmt
 use Rattle.pale_types.specs.declared.typed.Stmt.TheOpen.{Stmt-F}
 use Rattle.pale_types.specs.declared.typed.Stmt.TheFolds.{map-Stmt, fold-roll-Stmt}
-use Rattle.hoare_split.specs.Passages.{Passage, plain, in_order, then_next, choice_of, choice}
+use Rattle.hoare_split.specs.Passages.{Passage, plain, then_next, choice_of, choice}
 use Rattle.hoare_split.specs.Statements.{loop, split, call_at, rules, passage_of, block_of}
 
 pub not-true : (b : Bool) → not b ≡ true → b ≡ false

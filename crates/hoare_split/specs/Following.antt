@@ -1,5 +1,5 @@
 -- What follows a place of the text, as it is kept while code is made, and what has been made so far.
-use Rattle.std.specs.Prelude.{◌≡◌, ◌≤◌, None, List, [], ◌∷◌, ◌++◌}
+use Rattle.std.specs.Prelude.{◌≡◌, ◌≤◌, None, List, ◌++◌}
 use Rattle.store_core.specs.Tables.{VarEntry}
 use Rattle.store_exec.specs.declared.code.Item.{Item}
 use Rattle.pale_types.specs.declared.typed.ProcEntry.{ProcEntry}

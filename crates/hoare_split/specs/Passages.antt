@@ -6,7 +6,7 @@ use Rattle.store_logic.specs.declared.cond.Cond.{Cond}
 use Rattle.store_exec.specs.declared.code.Item.{Item}
 use Rattle.store_exec.specs.declared.code.Item.TheVariants as item
 use Rattle.store_exec.specs.declared.triple.Start.{Start}
-use Rattle.hoare_split.specs.Flows.{Arrival, Flow, ends, does, branches, after_items}
+use Rattle.hoare_split.specs.Flows.{Arrival, Flow, ends, branches, after_items}
 
 -- a cut point where a triple starts: the place of its keyword, what holds there, and where it leads
 pub record Started : Type 0 where

@@ -1,6 +1,6 @@
 -- Assertions of a procedure that is called, with what is handed over put in for its variables: for `null`, a path that begins with
 -- the variable is null, or false where it ends in a bool field.
-use Rattle.std.specs.Prelude.{◌==◌, List, [], map}
+use Rattle.std.specs.Prelude.{◌==◌, List, map}
 use Rattle.std.specs.Option.{option_map_or}
 use Rattle.std.specs.List.{find, zip}
 use Rattle.store_core.specs.declared.ids.VarId.{VarId}

@@ -1,5 +1,5 @@
 -- The triples of a program, and what is refused. (Hoare 1969; Møller and Schwartzbach, PLDI 2001.)
-use Rattle.std.specs.Prelude.{ℕ, ◌+◌, List, [], ◌∷◌, ◌++◌, map, flat_map, nat_lt}
+use Rattle.std.specs.Prelude.{ℕ, ◌+◌, List, [], ◌∷◌, ◌++◌, map, nat_lt}
 use Rattle.pale_text.specs.declared.place.Pos.{Pos}
 use Rattle.pale_text.specs.declared.refusal.RefusalKind.TheVariants as kind
 use Rattle.pale_tables.specs.Faults.{Fault, need, ◌>>◌, first_of}
@@ -14,7 +14,7 @@ use Rattle.hoare_split.specs.Settings.{settings}
 use Rattle.hoare_split.specs.Flows.{Flow, ends, after_items, code_of, cuts_of}
 use Rattle.hoare_split.specs.Cuts.{at_exit}
 use Rattle.hoare_split.specs.Starts.{entry_start}
-use Rattle.hoare_split.specs.Passages.{Passage, Started}
+use Rattle.hoare_split.specs.Passages.{Started}
 use Rattle.hoare_split.specs.Statements.{block_of}
 use Rattle.hoare_split.specs.Counts.{atoms_of_code}
 

@@ -1,4 +1,4 @@
-use Rattle.std.proofs.Common.{◌≡◌, ◌++◌, [], ◌∷◌, sym, ap, ◌∙◌, subst}
+use Rattle.std.proofs.Common.{◌++◌, [], ◌∷◌, sym, ap, ◌∙◌, subst}
 use Rattle.hoare_split.specs.declared.reached.Reached.{Reached}
 use Rattle.hoare_split.specs.Flows.{Arrival, is_among}
 use Rattle.hoare_split.specs.Cuts.{plain_cut}

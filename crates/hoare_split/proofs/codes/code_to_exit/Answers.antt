@@ -1,4 +1,4 @@
-use Rattle.std.proofs.Common.{◌≡◌, ◌++◌, List, [], ◌∷◌, IfOk, OnOk, sym, ap, ◌∙◌, subst}
+use Rattle.std.proofs.Common.{◌≡◌, List, IfOk, OnOk, sym, ap, ◌∙◌, subst}
 use Rattle.store_exec.specs.declared.code.Item.{Item}
 use Rattle.hoare_split.specs.Picking.{is_left}
 use Rattle.hoare_split.specs.Settings.{settings}

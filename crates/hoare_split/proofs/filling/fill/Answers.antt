@@ -1,6 +1,5 @@
 use Rattle.std.proofs.Common.{◌≡◌, List, [], ◌∷◌, map, refl, sym, ap, ◌∙◌}
-use Rattle.store_logic.specs.declared.assertion.Assertion.{Assertion}
-use Rattle.store_logic.specs.Postfix.{Form, form_of, postfix_of, run_on}
+use Rattle.store_logic.specs.Postfix.{form_of, postfix_of, run_on}
 use Rattle.store_logic.proofs.PostfixLemmas.{run_on-whole, applied-next}
 use Rattle.hoare_split.specs.Putting.{with_puts}
 use Rattle.hoare_split.specs.Forms.{filled_form}
