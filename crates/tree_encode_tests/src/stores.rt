@@ -96,7 +96,7 @@ fn check(rt: &impl Abort, alloc: Global, row: &Row<'_>) -> Result<(), Fail> {
 /// The values of the variables, the cells, and the tracks of the positions that have any.
 type Row<'a> = ([&'a str; 6], &'a [&'a str], &'a [(&'a str, &'a [u32])]);
 
-const ROWS: [Row<'static>; 11] = [
+const ROWS: [Row<'static>; 12] = [
     (["null", "null", "null", "false", "{}", "false"], &[], &[]),
     (
         ["null", "null", "null", "true", "{}", "true"],
@@ -179,6 +179,12 @@ const ROWS: [Row<'static>; 11] = [
             ("010", &[1]),
             ("0010", &[2, 4]),
         ],
+    ),
+    // A pointer field leaves no trace.
+    (
+        ["null", "null", "1", "false", "{}", "false"],
+        &["1 Tree:inner up=null on=false left=2", "2 Tree:leaf up=1"],
+        &[("10", &[2, 7]), ("100", &[1])],
     ),
 ];
 
