@@ -1,6 +1,7 @@
 //! Programs with their triples, worked out by hand.
 
 use crate::telling::{are_codes_told, is_told};
+use pale_generator::gen_program;
 use std::alloc::{AllocError, Global};
 use std::test::Fail;
 
@@ -402,6 +403,31 @@ fn codes_have_these_items(rt: HostRuntime) -> Result<(), Fail> {
     let alloc = rt.alloc();
     for (text, want) in CODES {
         assert!(rt; are_codes_told(alloc, text, want)?, "{want}");
+    }
+    Ok(())
+}
+
+/// Whether this is told of the triples of the generator's program.
+fn is_told_of_seed(alloc: Global, seed: u64, want: &str) -> Result<bool, AllocError> {
+    let text = gen_program(alloc, seed)?;
+    is_told(alloc, &text, want)
+}
+
+/// Seeds, and what is told of the triples of their programs.
+static SEEDS: &[(u64, &str)] = &[
+    (0, "0 line 4 nulls 1 > 10; "),
+    (
+        5,
+        "0 line 4 nulls 1 > 10; 1 line 11 nulls 1 2 > 16; 1 line 16 > 16 > 23; 2 line 24 nulls 1 > 28 handed 0; 2 line 28 nulls 0 returned 1 > 29 handed 1; 2 line 29 returned 1 > 30; 3 line 31 nulls 1 > 37; 4 line 38 nulls 2 3 > 50 > 44; 4 line 44 > 44 > 50; 5 line 51 nulls 1 > 53; 5 line 53 > 53 > 59; ",
+    ),
+    (40, "0 line 4 nulls 1 > 10; "),
+];
+
+#[test]
+fn generated_programs_have_these_triples(rt: HostRuntime) -> Result<(), Fail> {
+    let alloc = rt.alloc();
+    for (seed, want) in SEEDS {
+        assert!(rt; is_told_of_seed(alloc, *seed, want)?, "{want}");
     }
     Ok(())
 }
