@@ -100,9 +100,9 @@ fn push_codes(out: &mut String, triples: &[Triple]) -> Result<(), AllocError> {
     Ok(())
 }
 
-/// What is told of triples.
+/// What of triples is told.
 #[derive(Clone, Copy)]
-enum Telling {
+enum Aspect {
     /// The number of its procedure, its line, what its start names, and its cuts.
     Ends,
     /// The items of its code, and what follows them.
@@ -110,41 +110,36 @@ enum Telling {
 }
 
 /// What is told of the triples of the text, or what is printed of the refusal.
-fn told(alloc: Global, text: &[u8], telling: Telling) -> Result<String, AllocError>
+fn told(alloc: Global, text: &[u8], aspect: Aspect) -> Result<String, AllocError>
     requires { length text.now < u32.MAX }
 {
     match triples_of(alloc, text) {
         Err(stop) => format!(in alloc; "{stop}"),
         Ok(triples) => {
             let mut out = String::new(alloc);
-            match telling {
-                Telling::Ends => push_triples(&mut out, triples.as_slice())?,
-                Telling::Codes => push_codes(&mut out, triples.as_slice())?,
+            match aspect {
+                Aspect::Ends => push_triples(&mut out, triples.as_slice())?,
+                Aspect::Codes => push_codes(&mut out, triples.as_slice())?,
             }
             Ok(out)
         }
     }
 }
 
-fn is_so_told(
-    alloc: Global,
-    text: &[u8],
-    telling: Telling,
-    want: &str,
-) -> Result<bool, AllocError> {
+fn is_so_told(alloc: Global, text: &[u8], aspect: Aspect, want: &str) -> Result<bool, AllocError> {
     if text.len() >= 100_000 {
         return Ok(false);
     }
-    let got = told(alloc, text, telling)?;
+    let got = told(alloc, text, aspect)?;
     Ok(got.as_str() == want)
 }
 
 /// Whether this is told of where the triples of the text start and end.
 pub(crate) fn is_told(alloc: Global, text: &[u8], want: &str) -> Result<bool, AllocError> {
-    is_so_told(alloc, text, Telling::Ends, want)
+    is_so_told(alloc, text, Aspect::Ends, want)
 }
 
 /// Whether this is told of the codes of the triples of the text.
 pub(crate) fn are_codes_told(alloc: Global, text: &[u8], want: &str) -> Result<bool, AllocError> {
-    is_so_told(alloc, text, Telling::Codes, want)
+    is_so_told(alloc, text, Aspect::Codes, want)
 }
