@@ -35,7 +35,7 @@ blank_at vars v = option_map_or (λ entry. blank (var_class entry.kind)) (var_at
 -- the callee's variables, in their order: arguments, results and locals null or false, and logic arguments
 abbrev pub handed_vars : ProcEntry → CallParts → StoreMap → List CellId → List Value
 handed_vars callee call s cells =
-    map (handed_value s cells) call.args ++ map (blank_at callee.vars) (callee.proc.results ++ callee.proc.locals)
+    map (handed_value s cells) call.args ++ map (blank_at callee.vars) callee.proc.results ++ map (blank_at callee.vars) callee.proc.locals
     ++ map (handed_value s cells) call.logics
 
 -- the store that is handed to the callee: these cells alone, with the caller's next number

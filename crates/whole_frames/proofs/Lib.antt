@@ -1,0 +1,4 @@
+pub mod Holding
+pub mod Zips
+pub mod Handed
+pub mod HandedRoots
