@@ -29,7 +29,7 @@ use Rattle.store_logic.specs.declared.region.Region.TheVariants as region
 use Rattle.store_logic.specs.Terms.{null, outside, cell_in, live_value, set_in}
 use Rattle.store_logic.specs.Satisfaction.{Sat, SatAll}
 use Rattle.store_logic.specs.Sorts.{Sort, Truth, Cell, Set, var_sort}
-use Rattle.store_logic.proofs.RegionLemmas.{Sat-region}
+use Rattle.store_logic.proofs.RegionLemmas.{Sat-on}
 use Rattle.store_logic.proofs.SameLemmas.{itself}
 use Rattle.store_exec.specs.Steps.{variable}
 use Rattle.store_exec.specs.Restricted.{live_part, restricted}
@@ -305,7 +305,7 @@ module _ (types : List TypeEntry) (procs : List ProcEntry) (vars : List VarEntry
   pub entry_holds : AreMet types vars s (call_cut procs vars line call).asserts → StartHolds types callee.vars (entry_start callee.vars callee.proc) h
   entry_holds met =
       let claims = recursion_from_All (IsMet types vars s) (on_part_and_rest (handed_by vars call.args) (pre_of procs call) call.keep) met in
-      let on_cells = (Sat-region types vars [] s outside (pre_of procs call) (region.Part (handed_by vars call.args)) cells
+      let on_cells = (Sat-on types vars [] s outside (pre_of procs call) (region.Part (handed_by vars call.args)) cells
       (part_before s types vars (handed_by vars call.args) cells part)).0 claims.0 in
       let own = subst (λ (o : Option ProcEntry). SatAll types [] (store_on s cells) outside (option_map_or (λ (e : ProcEntry). pre_for call e.proc) o assertion.True))
       there on_cells in

@@ -2,3 +2,4 @@ pub mod Holding
 pub mod Zips
 pub mod Handed
 pub mod HandedRoots
+pub mod HandedStart

@@ -1,8 +1,7 @@
-//! Frame laws: what a call hands over and what stands after it.
+//! Frame laws of whole runs: what a call hands over and what stands after it. Each law is the contract of a function that does
+//! nothing.
 #![tactic(auto)]
 
-ghost use Rattle.std.specs.Prelude.{◌≡◌, ℕ};
+mod handing;
 
-pub fn probe()
-    ensures { (n : ℕ) → n ≡ n }
-{}
+pub use handing::handed_stores_meet_the_entry;
