@@ -57,7 +57,7 @@ use Rattle.whole_frames.proofs.HandedRoots.{handed_well_formed}
 
 -- ---- lists
 
-left_in : {X : Type 0} (test : X → Bool) (xs : List X) (x : X) → Contains (filter test xs) x → Contains xs x
+pub left_in : {X : Type 0} (test : X → Bool) (xs : List X) (x : X) → Contains (filter test xs) x → Contains xs x
 left_in test [] x m = m
 left_in test (y ∷ xs) x m = of (λ rest. left_in test xs x rest) (test y) m
   where
@@ -65,7 +65,7 @@ left_in test (y ∷ xs) x m = of (λ rest. left_in test xs x rest) (test y) m
     of later true m = elim (in_cases y x (filter test xs) m) [ inl same ↦ (0, omega arith, same) | inr rest ↦ in_rest y x xs (later rest) ]
     of later false m = in_rest y x xs (later m)
 
-kept_in : {X : Type 0} (test : X → Bool) (xs : List X) (x : X) → test x ≡ true → Contains xs x → Contains (filter test xs) x
+pub kept_in : {X : Type 0} (test : X → Bool) (xs : List X) (x : X) → test x ≡ true → Contains xs x → Contains (filter test xs) x
 kept_in test [] x is m = absurd (in_none x m)
 kept_in test (y ∷ xs) x is m = elim (in_cases y x xs m) [
   | inl same ↦ subst (λ (b : Bool). Contains (if b then y ∷ filter test xs else filter test xs) x) (sym (ap test same ∙ is)) (0, omega arith, same)
@@ -82,7 +82,7 @@ module _ (s : StoreMap) where
   abbrev r : StoreMap
   r = restricted s
 
-  variable_now : (w : VarId) → variable r w ≡ live_part s (variable s w)
+  pub variable_now : (w : VarId) → variable r w ≡ live_part s (variable s w)
   variable_now w = ap (λ o. unwrap_or o null) (slice_get-map (live_part s) s.vars w.0) ∙ of (var_value s w)
     where
       of : (o : Option Value) → unwrap_or (option_map (live_part s) o) null ≡ live_part s (unwrap_or o null)
