@@ -6,3 +6,5 @@ pub mod HandedStart
 pub mod Beside
 pub mod ReturnedRoots
 pub mod ReturnedForm
+pub mod Returned
+pub mod ReturnedStart

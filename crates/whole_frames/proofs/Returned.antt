@@ -84,7 +84,7 @@ blank_null s (var.Pointer ty) (value.Cells cs) h fits blank = absurd fits
 blank_null s (var.LogicSet ty) y h fits blank = absurd (false≢true h)
 blank_null s var.LogicBool y h fits blank = absurd (false≢true h)
 
-part_cell : (s : StoreMap) (y : Value) (c : CellId) → live_part s y ≡ value.Cell (Some c) → y ≡ value.Cell (Some c)
+pub part_cell : (s : StoreMap) (y : Value) (c : CellId) → live_part s y ≡ value.Cell (Some c) → y ≡ value.Cell (Some c)
 part_cell s (value.Bool truth) c e = absurd cc
 part_cell s (value.Cell d) c e = e
 part_cell s (value.Cells cells) c e = absurd cc
@@ -96,11 +96,11 @@ pointer_class (var.Pointer ty) h = tt
 pointer_class (var.LogicSet ty) h = absurd (false≢true h)
 pointer_class var.LogicBool h = absurd (false≢true h)
 
-and_true : (x y : Bool) → x ≡ true → y ≡ true → (x && y) ≡ true
+pub and_true : (x y : Bool) → x ≡ true → y ≡ true → (x && y) ≡ true
 and_true true y hi also = also
 and_true false y hi also = hi
 
-right_of : (x y : Bool) → (x && y) ≡ true → y ≡ true
+pub right_of : (x y : Bool) → (x && y) ≡ true → y ≡ true
 right_of true y is = is
 right_of false y is = absurd (false≢true is)
 

@@ -239,10 +239,10 @@ module _ (types : List TypeEntry) (vars : List VarEntry) (callee : ProcEntry) (c
   one_from : (f : FieldId) (a c : CellId) → IsLive piece a → Leads types u' DataAlone f a c → Leads types piece DataAlone f a c
   one_from = leads_from types vars piece t u' together.of_one together.of_either together.apart piece_wf.backbone
 
-  exit_from : (f : FieldId) (a c : CellId) → IsLive t a → Leads types u' DataAlone f a c → Leads types t DataAlone f a c
+  pub exit_from : (f : FieldId) (a c : CellId) → IsLive t a → Leads types u' DataAlone f a c → Leads types t DataAlone f a c
   exit_from = leads_from types callee.vars t piece u' together.of_other turned (λ c there here. together.apart c here there) exit_wf.backbone
 
-  onto : (s : StoreMap) → ((c : CellId) → IsLive s c → cell_of u' c ≡ cell_of s c) → (f : FieldId) (a c : CellId) → Leads types s DataAlone f a c →
+  pub onto : (s : StoreMap) → ((c : CellId) → IsLive s c → cell_of u' c ≡ cell_of s c) → (f : FieldId) (a c : CellId) → Leads types s DataAlone f a c →
       Leads types u' DataAlone f a c
   onto s same f a c leads = record {
     kind = leads.kind;
@@ -321,7 +321,7 @@ module _ (types : List TypeEntry) (vars : List VarEntry) (callee : ProcEntry) (c
       named_after v e.0.kind c (value_of v) (ap (option_map (λ (x : VarEntry). x.kind)) e.1) e.2
       (some_same (value_of v) (value.Cell (Some c)) (sym held ∙ named.value)) (after_is v)
 
-  result_value : (k : ℕ) (v w : VarId) (x : Value) → slice_get call.results k ≡ Some v → slice_get res k ≡ Some w → After vars call res rest t v x → x ≡ variable t w
+  pub result_value : (k : ℕ) (v w : VarId) (x : Value) → slice_get call.results k ≡ Some v → slice_get res k ≡ Some w → After vars call res rest t v x → x ≡ variable t w
   result_value k v w x one other (is_result j y first second from) =
       let same : j ≡ k = one_place call.results j k v results_once first one in
       from ∙ ap (variable t) (some_same y w (sym second ∙ ap (slice_get res) same ∙ other))

@@ -1,7 +1,6 @@
 use Rattle.std.proofs.Common.{◌≡◌, Some, sym, ◌∙◌}
 use Rattle.pale_types.specs.Fitting.{ProcFits}
 use Rattle.hoare_split.proofs.FittingVariableLemmas.{all-at}
-use Rattle.whole_frames.proofs.ReturnedForm.{well_formed_after}
 use Rattle.whole_frames.proofs.Handed.{some_same}
 use Rattle.whole_frames.proofs.HandedStart.{is_well_formed, entry_holds}
 use Rattle.whole_frames.proofs.handing.handed_stores_meet_the_entry.Goals as goal
