@@ -64,11 +64,11 @@ all_both : {X : Type 0} (P Q : X → Type 0) (xs : List X) → AllByRecursion P 
 all_both P Q [] one two = tt
 all_both P Q (x ∷ xs) one two = ((one.0, two.0), all_both P Q xs one.1 two.1)
 
-all_left : {X : Type 0} (P : X → Type 0) (xs ys : List X) → AllByRecursion P (xs ++ ys) → AllByRecursion P xs
+pub all_left : {X : Type 0} (P : X → Type 0) (xs ys : List X) → AllByRecursion P (xs ++ ys) → AllByRecursion P xs
 all_left P [] ys all = tt
 all_left P (x ∷ xs) ys all = (all.0, all_left P xs ys all.1)
 
-all_right : {X : Type 0} (P : X → Type 0) (xs ys : List X) → AllByRecursion P (xs ++ ys) → AllByRecursion P ys
+pub all_right : {X : Type 0} (P : X → Type 0) (xs ys : List X) → AllByRecursion P (xs ++ ys) → AllByRecursion P ys
 all_right P [] ys all = all
 all_right P (x ∷ xs) ys all = all_right P xs ys all.1
 

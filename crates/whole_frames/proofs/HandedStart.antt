@@ -225,14 +225,14 @@ no_set_cell (var.Pointer ty) h = tt
 no_set_cell (var.LogicSet ty) h = absurd (false≢true h)
 no_set_cell var.LogicBool h = tt
 
-no_set_truth : (kind : VarKind) → IsTrue (holds_truth (class_of kind)) → IsNoSet (var_sort kind)
+pub no_set_truth : (kind : VarKind) → IsTrue (holds_truth (class_of kind)) → IsNoSet (var_sort kind)
 no_set_truth var.Bool h = tt
 no_set_truth (var.Data ty) h = tt
 no_set_truth (var.Pointer ty) h = tt
 no_set_truth (var.LogicSet ty) h = absurd (false≢true h)
 no_set_truth var.LogicBool h = tt
 
-no_set_at : (C : VarKind → Type 0) → ((kind : VarKind) → C kind → IsNoSet (var_sort kind)) → (o : Option VarEntry) (sort : Sort) →
+pub no_set_at : (C : VarKind → Type 0) → ((kind : VarKind) → C kind → IsNoSet (var_sort kind)) → (o : Option VarEntry) (sort : Sort) →
     IsSomeAnd (option_map (λ (e : VarEntry). e.kind) o) C → option_map (λ (e : VarEntry). var_sort e.kind) o ≡ Some sort → IsNoSet sort
 no_set_at C each None sort h is = absurd h
 no_set_at C each (Some e) sort h is = let same : var_sort e.kind ≡ sort = cc in subst IsNoSet same (each e.kind h)

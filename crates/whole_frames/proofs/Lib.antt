@@ -8,3 +8,5 @@ pub mod ReturnedRoots
 pub mod ReturnedForm
 pub mod Returned
 pub mod ReturnedStart
+pub mod ReturnedClaims
+pub mod ReturnedHolds

@@ -119,7 +119,7 @@ module _ (types : List TypeEntry) (procs : List ProcEntry) (vars : List VarEntry
   abbrev t : StoreMap
   t = restricted x
 
-  like : AllZip (IsLike vars callee.vars) call.results callee.proc.results
+  pub like : AllZip (IsLike vars callee.vars) call.results callee.proc.results
   like = subst (λ (e : ProcEntry). AllZip (IsLike vars e.vars) call.results e.proc.results) same fits.results
 
   blank_at : (store : StoreMap) (test : VarClass → VarId → Bool) (table : List VarEntry) → AreBlank store (those test table) → (v : VarId) (kind : VarKind) →
@@ -127,7 +127,7 @@ module _ (types : List TypeEntry) (procs : List ProcEntry) (vars : List VarEntry
   blank_at store test table all v kind known is =
       IsSomeAnd-at (var_value store v) IsBlank (All-contains (λ w. IsSomeAnd (var_value store w) IsBlank) (those test table) v all (picked test table v kind known is))
 
-  left : (u : VarId) (kind : VarKind) → kind_at callee.vars u ≡ Some kind → holds_cell (class_of kind) ≡ true → is_listed callee.proc.results u ≡ false →
+  pub left : (u : VarId) (kind : VarKind) → kind_at callee.vars u ≡ Some kind → holds_cell (class_of kind) ≡ true → is_listed callee.proc.results u ≡ false →
       variable t u ≡ null
   left u kind known holds unlisted =
       let got = blank_at x (is_left callee.proc) callee.vars leaves u kind known
@@ -139,7 +139,7 @@ module _ (types : List TypeEntry) (procs : List ProcEntry) (vars : List VarEntry
       variable_now x u ∙ ap (live_part x) (some_variable x u got.0 got.1
       ∙ blank_null x kind got.0 holds (subst (VarFits x kind) one (subst (λ k. VarFits x k y.0) e.2 y.2)) got.2)
 
-  awaited : (v : VarId) (c : CellId) → is_listed call.results v ≡ true → is_argument call.args v ≡ false → variable r v ≡ value.Cell (Some c) → ⊥
+  pub awaited : (v : VarId) (c : CellId) → is_listed call.results v ≡ true → is_argument call.args v ≡ false → variable r v ≡ value.Cell (Some c) → ⊥
   awaited v c listed free is =
       let at = listed_at call.results v listed in
       let w = zip_get (IsLike vars callee.vars) call.results callee.proc.results at.0 v like at.1 in
@@ -147,7 +147,7 @@ module _ (types : List TypeEntry) (procs : List ProcEntry) (vars : List VarEntry
       (and_true (is_listed call.results v) (not (is_argument call.args v)) listed (not_false (is_argument call.args v) free)) in
       blank_cell got.0 c got.2 (part_cell s got.0 c (ap (live_part s) (sym (some_variable s v got.0 got.1)) ∙ sym (variable_now s v) ∙ is))
 
-  outer : (v : VarId) (kind : VarKind) (c : CellId) → kind_at vars v ≡ Some kind → is_pointer (class_of kind) ≡ true → is_argument call.args v ≡ false →
+  pub outer : (v : VarId) (kind : VarKind) (c : CellId) → kind_at vars v ≡ Some kind → is_pointer (class_of kind) ≡ true → is_argument call.args v ≡ false →
       variable r v ≡ value.Cell (Some c) → Contains cells c → ⊥
   outer v kind c known pointer free is m =
       let e = kind_entry vars v kind known in
@@ -165,10 +165,10 @@ module _ (types : List TypeEntry) (procs : List ProcEntry) (vars : List VarEntry
         );
       })
 
-  wf : IsWellFormed types vars r
+  pub wf : IsWellFormed types vars r
   wf = well_formed-at_cut types vars s fit (call_cut procs vars line call) none
 
-  exit_wf : IsWellFormed types callee.vars t
+  pub exit_wf : IsWellFormed types callee.vars t
   exit_wf = well_formed-at_cut types callee.vars x exit_fit (plain_cut last callee.proc.post) exit_none
 
   pub returned_well_formed : IsWellFormed types vars (returned_store vars call callee.proc.results (rest_store r cells) t)

@@ -89,6 +89,21 @@ at_argument (actual.Var v ∷ args) (suc k) w at = or_right (v.0 == w.0) (is_arg
 at_argument (actual.Null ∷ args) (suc k) w at = at_argument args k w at
 at_argument (actual.Truth truth ∷ args) (suc k) w at = at_argument args k w at
 
+pub listed_argument : (args : List Actual) (v : VarId) → is_argument args v ≡ true → (k : ℕ) × (slice_get args k ≡ Some (actual.Var v))
+listed_argument [] v is = absurd (false≢true is)
+listed_argument (actual.Null ∷ args) v is = let h = listed_argument args v is in (suc h.0, h.1)
+listed_argument (actual.Truth truth ∷ args) v is = let h = listed_argument args v is in (suc h.0, h.1)
+listed_argument (actual.Var w ∷ args) v is = by (listed_argument args v) (w.0 == v.0) refl is
+  where
+    by : (is_argument args v ≡ true → (k : ℕ) × (slice_get args k ≡ Some (actual.Var v))) → (z : Bool) → (w.0 == v.0) ≡ z → (z || is_argument args v) ≡ true →
+        (k : ℕ) × (slice_get (actual.Var w ∷ args) k ≡ Some (actual.Var v))
+    by later true same among = (0, ap (λ (y : VarId). Some (actual.Var y)) (same-var w v same))
+    by later false same among = let h = later among in (suc h.0, h.1)
+
+pub none_live : (o : Option CellEntry) → (IsSome o → ⊥) → o ≡ None
+none_live None dead = refl
+none_live (Some cell) dead = absurd (dead refl)
+
 -- a data variable among the arguments is handed over
 pub argument_handed : (vars : List VarEntry) (args : List Actual) (v : VarId) → is_argument args v ≡ true → is_data (class_at vars v) ≡ true →
     Contains (handed_by vars args) v
@@ -419,7 +434,7 @@ module _ (types : List TypeEntry) (vars : List VarEntry) (callee : ProcEntry) (c
   named_once c v w (by_rest named out) (by_rest also far) =
       place_same v w (wf.backbone.named_once c (place.Var v) (place.Var w) (live_here v c named) named also)
 
-  in_piece : (c : CellId) → IsLive r c → (Contains cells c → ⊥) → IsLive piece c
+  pub in_piece : (c : CellId) → IsLive r c → (Contains cells c → ⊥) → IsLive piece c
   in_piece c live out = subst IsSome (rest_piece r cells others.0 others.1 c) (subst IsSome (sym (rest_out r cells c out)) live)
 
   named_root : (v : VarId) (c : CellId) → NamedAfter v c → IsRoot types u' c

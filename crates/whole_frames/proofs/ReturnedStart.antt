@@ -95,7 +95,7 @@ data_cell (var.LogicSet ty) h = absurd h
 data_cell var.LogicBool h = absurd h
 
 -- a variable that stands in the table by its class
-class_there : (vars : List VarEntry) (v : VarId) → holds_cell (class_at vars v) ≡ true → (kind : VarKind) × (kind_at vars v ≡ Some kind)
+pub class_there : (vars : List VarEntry) (v : VarId) → holds_cell (class_at vars v) ≡ true → (kind : VarKind) × (kind_at vars v ≡ Some kind)
 class_there vars v is = of (var_at vars v) refl is
   where
     of : (o : Option VarEntry) → var_at vars v ≡ o → holds_cell (option_map_or (λ (e : VarEntry). class_of e.kind) o class.Bool) ≡ true →
@@ -185,7 +185,7 @@ module _ (types : List TypeEntry) (vars : List VarEntry) (callee : ProcEntry) (c
   result_live v d x listed e (is_null unlisted spent from) = absurd (false≢true (sym unlisted ∙ listed))
   result_live v d x listed e (stays unlisted unspent from) = absurd (false≢true (sym unlisted ∙ listed))
 
-  reached_live : (c : CellId) → IsReachedFrom types vars u' (returned_by vars call.results) c → IsLive t c
+  pub reached_live : (c : CellId) → IsReachedFrom types vars u' (returned_by vars call.results) c → IsLive t c
   reached_live c h =
       let tree = h.in_tree in
       let among = left_in (λ (y : VarId). is_data (class_at vars y)) call.results h.root h.listed in
@@ -194,7 +194,7 @@ module _ (types : List TypeEntry) (vars : List VarEntry) (callee : ProcEntry) (c
       chain_out (result_live h.root tree.root (value_of h.root) (contained-listed call.results h.root among)
       (some_same (value_of h.root) (value.Cell (Some tree.root)) (sym held ∙ tree.named.value)) (after_v h.root)) tree.path
 
-  live_reached : (c : CellId) → IsLive t c → IsReachedFrom types vars u' (returned_by vars call.results) c
+  pub live_reached : (c : CellId) → IsLive t c → IsReachedFrom types vars u' (returned_by vars call.results) c
   live_reached c live =
       let tree = exit_wf.backbone.reached c live in
       let y = tree.0 in

@@ -50,14 +50,14 @@ use Rattle.whole_run.specs.Runs.{EndsBy, Ends, WholeRun}
 some_same : {X : Type 0} (x y : X) → Some x ≡ Some y → x ≡ y
 some_same x y e = cc
 
-ok_same : {X E : Type 0} (x y : X) → Ok {E = E} x ≡ Ok y → x ≡ y
-ok_same x y e = cc
+ok_same : {X E : Type 0} (r : Result X E) (x y : X) → r ≡ Ok x → r ≡ Ok y → x ≡ y
+ok_same r x y h k = let e = sym h ∙ k in cc
 
-err_same : {X E : Type 0} (x y : E) → Err {T = X} x ≡ Err y → x ≡ y
-err_same x y e = cc
+err_same : {X E : Type 0} (r : Result X E) (x y : E) → r ≡ Err x → r ≡ Err y → x ≡ y
+err_same r x y h k = let e = sym h ∙ k in cc
 
-ok_err : {X E A : Type 0} (x : X) (y : E) → Ok x ≡ Err y → A
-ok_err x y e = absurd cc
+ok_err : {X E A : Type 0} (r : Result X E) (x : X) (y : E) → r ≡ Ok x → r ≡ Err y → A
+ok_err r x y h k = let e = sym h ∙ k in absurd cc
 
 -- ---- sets by number
 
@@ -111,12 +111,12 @@ One P = (a c : Turn) → P a → P c → a ≡ c
 
 module _ (types : List TypeEntry) where
   does_one : (line : ℕ) (s : StoreMap) (a : Act) (e f : Ending) → Does types line s a e → Does types line s a f → e ≡ f
-  does_one line s a (Ok t) (Ok u) h k = ap (λ x. Ok x) (ok_same {E = Cause} t u (Step-one types s a (Ok t) (Ok u) h k))
-  does_one line s a (Ok t) (Err fault) h k = ok_err t fault.cause (Step-one types s a (Ok t) (Err fault.cause) h k.0)
-  does_one line s a (Err fault) (Ok u) h k = ok_err u fault.cause (Step-one types s a (Ok u) (Err fault.cause) k h.0)
+  does_one line s a (Ok t) (Ok u) h k = ap (λ x. Ok x) (ok_same (Ok t) t u refl (Step-one types s a (Ok t) (Ok u) h k))
+  does_one line s a (Ok t) (Err fault) h k = ok_err (Ok t) t fault.cause refl (Step-one types s a (Ok t) (Err fault.cause) h k.0)
+  does_one line s a (Err fault) (Ok u) h k = ok_err (Ok u) u fault.cause refl (Step-one types s a (Ok u) (Err fault.cause) k h.0)
   does_one line s a (Err fault) (Err other) h k =
       ap₂ (λ (c : Cause) (n : ℕ). Err (record { cause = c; line = n }))
-      (err_same {X = StoreMap} fault.cause other.cause (Step-one types s a (Err fault.cause) (Err other.cause) h.0 k.0)) (h.1 ∙ sym k.1)
+      (err_same (Err fault.cause) fault.cause other.cause refl (Step-one types s a (Err fault.cause) (Err other.cause) h.0 k.0)) (h.1 ∙ sym k.1)
 
   -- items end in one store
   items_one : (items : List Item) (s t u : StoreMap) → RunsItems types items s (Ok t) → RunsItems types items s (Ok u) → t ≡ u
