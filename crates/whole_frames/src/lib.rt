@@ -8,4 +8,4 @@ mod handing;
 mod returning;
 
 pub use handing::handed_stores_meet_the_entry;
-pub use returning::returned_stores_are_well_formed;
+pub use returning::{returned_stores_are_well_formed, returned_stores_meet_the_start};

@@ -3,8 +3,6 @@ use Rattle.pale_types.specs.Fitting.{ProcFits}
 use Rattle.hoare_split.proofs.FittingVariableLemmas.{all-at}
 use Rattle.whole_frames.proofs.Handed.{some_same}
 use Rattle.whole_frames.proofs.Returned.{returned_well_formed}
-use Rattle.whole_frames.proofs.ReturnedStart.{pointers_after}
-use Rattle.whole_frames.proofs.ReturnedClaims.{same_cells}
 use Rattle.whole_frames.proofs.returning.returned_stores_are_well_formed.Goals as goal
 
 pub returns : goal.returns
