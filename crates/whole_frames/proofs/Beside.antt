@@ -115,21 +115,34 @@ module _ (vars : List VarEntry) (call : CallParts) (results : List VarId) (rest 
   found R v otherwise (w ∷ rs) (u ∷ us) all = by (found R v otherwise rs us all.1) (w.0 == v.0) refl
     where
       by : Found v otherwise rs us → (z : Bool) → (w.0 == v.0) ≡ z → Found v otherwise (w ∷ rs) (u ∷ us)
-      by later true same = inl (0, u, ap (λ x. Some x) (same-var w v same), refl,
-          ap (λ z. option_map_or (λ (pair : VarId × VarId). variable t pair.1)
-          (cond z (Some (w, u)) (find (λ (pair : VarId × VarId). pair.0.0 == v.0) (zip rs us))) otherwise) same)
-      by (inl h) false same = inl (suc h.0, h.1, h.2, h.3,
-          ap (λ z. option_map_or (λ (pair : VarId × VarId). variable t pair.1)
-          (cond z (Some (w, u)) (find (λ (pair : VarId × VarId). pair.0.0 == v.0) (zip rs us))) otherwise) same ∙ h.4)
-      by (inr h) false same = inr (ap (λ z. z || is_listed rs v) same ∙ h.0,
-          ap (λ z. option_map_or (λ (pair : VarId × VarId). variable t pair.1)
-          (cond z (Some (w, u)) (find (λ (pair : VarId × VarId). pair.0.0 == v.0) (zip rs us))) otherwise) same ∙ h.1)
+      by later true same = inl (
+        0,
+        u,
+        ap (λ x. Some x) (same-var w v same),
+        refl,
+        ap (λ z. option_map_or (λ (pair : VarId × VarId). variable t pair.1)
+            (cond z (Some (w, u)) (find (λ (pair : VarId × VarId). pair.0.0 == v.0) (zip rs us))) otherwise) same,
+      )
+      by (inl h) false same = inl (
+        suc h.0,
+        h.1,
+        h.2,
+        h.3,
+        ap (λ z. option_map_or (λ (pair : VarId × VarId). variable t pair.1)
+            (cond z (Some (w, u)) (find (λ (pair : VarId × VarId). pair.0.0 == v.0) (zip rs us))) otherwise) same ∙ h.4,
+      )
+      by (inr h) false same = inr (
+        ap (λ z. z || is_listed rs v) same ∙ h.0,
+        ap (λ z. option_map_or (λ (pair : VarId × VarId). variable t pair.1)
+            (cond z (Some (w, u)) (find (λ (pair : VarId × VarId). pair.0.0 == v.0) (zip rs us))) otherwise) same ∙ h.1,
+      )
 
   pub after : (R : VarId → VarId → Type 0) (v : VarId) → AllZip R call.results results → After v (value_after vars call results rest t v)
   after R v all = by (is_spent call (class_at vars v) v) refl
       (found R v (if is_spent call (class_at vars v) v then null else variable rest v) call.results results all)
     where
-      by : (z : Bool) → is_spent call (class_at vars v) v ≡ z → Found v (if is_spent call (class_at vars v) v then null else variable rest v) call.results results →
+      by : (z : Bool) → is_spent call (class_at vars v) v ≡ z → Found v (if is_spent call (class_at vars v) v then null else variable rest v) call.results
+          results →
           After v (value_after vars call results rest t v)
       by z is (inl h) = is_result h.0 h.1 h.2 h.3 h.4
       by true is (inr h) = is_null h.0 is (h.1 ∙ ap (λ z. if z then null else variable rest v) is)

@@ -1,5 +1,6 @@
 -- The store that is handed to a callee, variable by variable.
-use Rattle.std.proofs.Common.{◌≡◌, ◌≢◌, ◌==◌, ◌<◌, ◌+◌, inl, inr, ℕ, zero, suc, Bool, true, false, not, IsTrue, ◌||◌, List, [], ◌∷◌, ◌++◌, map, filter, flat_map, length}
+use Rattle.std.proofs.Common.{◌≡◌, ◌≢◌, ◌==◌, ◌<◌, ◌+◌, inl, inr, ℕ, zero, suc, Bool, true, false, not, IsTrue, ◌||◌, List, [], ◌∷◌, ◌++◌, map}
+use Rattle.std.proofs.Common.{filter, flat_map, length}
 use Rattle.std.proofs.Common.{slice_get, Option, Some, None, IsSomeAnd, IfSome, Contains, if◌then◌else◌, unwrap_or, refl, sym, ap, ◌∙◌, subst, arith}
 use Rattle.std.specs.Prelude.{option_map}
 use Rattle.std.specs.List.{AllByRecursion, AllZip, AllPairs}
@@ -123,7 +124,8 @@ cells_later vars true v rest all = λ i j d low high. all (suc i) (suc j) d (ome
 
 pub cells_tail : (vars : List VarEntry) (a : Actual) (args : List Actual) → AllPairs (λ (u w : VarId). u ≢ w) (cells_in vars (a ∷ args)) →
     AllPairs (λ (u w : VarId). u ≢ w) (cells_in vars args)
-cells_tail vars (actual.Var v) args all = cells_later vars (option_map_or (λ kind. holds_cell (class_of kind)) (kind_at vars v) false) v (cells_in vars args) all
+cells_tail vars (actual.Var v) args all = cells_later vars (option_map_or (λ kind. holds_cell (class_of kind)) (kind_at vars v) false) v
+    (cells_in vars args) all
 cells_tail vars actual.Null args all = all
 cells_tail vars (actual.Truth truth) args all = all
 

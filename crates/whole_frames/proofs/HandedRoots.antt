@@ -259,7 +259,8 @@ module _ (types : List TypeEntry) (vars : List VarEntry) (callee : ProcEntry) (c
       }
 
   -- what an actual hands over to a variable of this kind
-  plain_given : (a : Actual) (u : VarId) (entry : VarEntry) → var_at callee.vars u ≡ Some entry → ActualFits vars callee.vars a u → Plain h entry.kind (given a)
+  plain_given : (a : Actual) (u : VarId) (entry : VarEntry) → var_at callee.vars u ≡ Some entry → ActualFits vars callee.vars a u → Plain h entry.kind
+      (given a)
   plain_given (actual.Var w) u entry at fits =
       let got = handed_var w fits.kind fits.own in
       let same : fits.kind ≡ entry.kind = some_same fits.kind entry.kind (sym fits.other ∙ ap (option_map (λ (e : VarEntry). e.kind)) at) in
@@ -269,7 +270,8 @@ module _ (types : List TypeEntry) (vars : List VarEntry) (callee : ProcEntry) (c
         live = subst (λ k. VarHoldsLive h k (given (actual.Var w))) same got.live;
       }
   plain_given actual.Null u entry at fits =
-      plain_null h entry.kind (subst (λ (o : Option VarEntry). IsSomeAnd (option_map (λ (e : VarEntry). e.kind) o) (λ kind. IsTrue (holds_cell (class_of kind)))) at fits)
+      plain_null h entry.kind (subst (λ (o : Option VarEntry). IsSomeAnd (option_map (λ (e : VarEntry). e.kind) o)
+          (λ kind. IsTrue (holds_cell (class_of kind)))) at fits)
   plain_given (actual.Truth truth) u entry at fits =
       plain_truth h entry.kind truth
       (subst (λ (o : Option VarEntry). IsSomeAnd (option_map (λ (e : VarEntry). e.kind) o) (λ kind. IsTrue (holds_truth (class_of kind)))) at fits)
@@ -295,7 +297,8 @@ module _ (types : List TypeEntry) (vars : List VarEntry) (callee : ProcEntry) (c
     fit = vars_fit (λ x u. (var_value h u ≡ Some x) × From vars callee call given x u) h 0 callee.vars (handed_vars callee call r cells)
         (told vars callee call r cells args logics in_order programs are_logic)
         (λ k entry x at is. (plain_at (record { 0 = k }) entry x at is).fits);
-    sets = λ v. IfSome-from (var_at callee.vars v) _ (λ entry at. IfSome-from (var_value h v) (SetHoldsLive h entry.kind) (λ x is. (plain_at v entry x at is).sets));
+    sets = λ v. IfSome-from (var_at callee.vars v) _ (λ entry at. IfSome-from (var_value h v) (SetHoldsLive h entry.kind)
+        (λ x is. (plain_at v entry x at is).sets));
     above = (fits_on cells r types vars wf.fits).above;
   }
 
@@ -337,7 +340,7 @@ module _ (types : List TypeEntry) (vars : List VarEntry) (callee : ProcEntry) (c
   by_source v entry x c at held is (of_arg k a arg param fits from) = by_actual k a v entry c arg param fits at held (sym from ∙ is)
   by_source v entry x c at held is (of_blank known from) =
       let empty : blank_at callee.vars v ≡ null =
-          ap (λ (o : Option VarEntry). option_map_or (λ (e : VarEntry). blank (var_class e.kind)) o null) at ∙ data_blank entry.kind held in
+      ap (λ (o : Option VarEntry). option_map_or (λ (e : VarEntry). blank (var_class e.kind)) o null) at ∙ data_blank entry.kind held in
       let both : null ≡ value.Cell (Some c) = sym empty ∙ sym from ∙ is in let no : None ≡ Some c = cc in absurd cc
   by_source v entry x c at held is (of_logic a fits logic from) =
       absurd (data_or_logic entry.kind held
@@ -358,15 +361,19 @@ module _ (types : List TypeEntry) (vars : List VarEntry) (callee : ProcEntry) (c
       let same : tree.root ≡ c = chain_root h (IsParent types h) root.alone chain.1 in
       let named : Names types vars r (place.Var reached.root) c = subst (Names types vars r (place.Var reached.root)) same tree.named in
       let at = handed_at vars call.args reached.root reached.listed in
-      let got = zip_get _ call.args callee.proc.params at.0 (actual.Var reached.root) (args_given vars callee call r cells args logics in_order programs are_logic) at.1 in
+      let got = zip_get _ call.args callee.proc.params at.0 (actual.Var reached.root) (args_given vars callee call r cells args logics in_order programs
+          are_logic) at.1 in
       let fits = got.2.0 in
       let var_is = handed_var reached.root fits.kind fits.own in
       let held = data_kind vars reached.root fits.kind fits.own at.2 in
-      let stands : variable r reached.root ≡ value.Cell (Some c) = var_is.is ∙ some_same var_is.value_before (value.Cell (Some c)) (sym var_is.stood ∙ named.value) in
-      (got.0, record {
-        place = data_named callee.vars got.0 fits.kind fits.other held;
-        value = got.2.1 ∙ ap (λ z. Some z) (ap (value_on cells) stands ∙ cell_kept cells c inside.0);
-      })
+      let stands : variable r reached.root ≡ value.Cell (Some c) = var_is.is ∙ some_same var_is.value_before (value.Cell (Some c))
+          (sym var_is.stood ∙ named.value) in (
+        got.0,
+        record {
+          place = data_named callee.vars got.0 fits.kind fits.other held;
+          value = got.2.1 ∙ ap (λ z. Some z) (ap (value_on cells) stands ∙ cell_kept cells c inside.0);
+        },
+      )
 
   place_same : (v w : VarId) → place.Var v ≡ place.Var w → v ≡ w
   place_same v w e = cc
@@ -374,7 +381,7 @@ module _ (types : List TypeEntry) (vars : List VarEntry) (callee : ProcEntry) (c
   named_one : (c : CellId) (v w : VarId) → IsNamedBy v c → IsNamedBy w c → v ≡ w
   named_one c v w one other =
       let same : one.from ≡ other.from = place_same one.from other.from
-          (wf.backbone.named_once c (place.Var one.from) (place.Var other.from) (live_named one.from c one.names) one.names other.names) in
+      (wf.backbone.named_once c (place.Var one.from) (place.Var other.from) (live_named one.from c one.names) one.names other.names) in
       let again : slice_get call.args other.place_of ≡ Some (actual.Var one.from) = other.arg ∙ ap (λ (x : VarId). Some (actual.Var x)) (sym same) in
       let places : one.place_of ≡ other.place_of = once_at vars call.args one.place_of other.place_of one.from one.alone once one.arg again in
       some_same v w (sym one.param ∙ ap (slice_get callee.proc.params) places ∙ other.param)

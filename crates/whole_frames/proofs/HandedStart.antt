@@ -280,15 +280,20 @@ module _ (types : List TypeEntry) (procs : List ProcEntry) (vars : List VarEntry
   held_by (actual.Var w) v sort got is =
       subst (Alike (store_on s cells) (variable s w))
       (sym (ap (λ o. unwrap_or o null) got.1 ∙ ap (value_on cells) (variable_now s w))) (alike_handed s cells (variable s w))
-  held_by actual.Null v sort got is = (ap (λ o. unwrap_or o null) got.1,
-      no_set_at (λ kind. IsTrue (holds_cell (class_of kind))) no_set_cell (var_at callee.vars v) sort got.0 is)
-  held_by (actual.Truth truth) v sort got is = (ap (λ o. unwrap_or o null) got.1,
-      no_set_at (λ kind. IsTrue (holds_truth (class_of kind))) no_set_truth (var_at callee.vars v) sort got.0 is)
+  held_by actual.Null v sort got is = (
+    ap (λ o. unwrap_or o null) got.1,
+    no_set_at (λ kind. IsTrue (holds_cell (class_of kind))) no_set_cell (var_at callee.vars v) sort got.0 is,
+  )
+  held_by (actual.Truth truth) v sort got is = (
+    ap (λ o. unwrap_or o null) got.1,
+    no_set_at (λ kind. IsTrue (holds_truth (class_of kind))) no_set_truth (var_at callee.vars v) sort got.0 is,
+  )
 
   pre_holds : SatAll types [] (store_on s cells) outside (pre_for call callee.proc) → SatAll types [] h outside callee.proc.pre
   pre_holds sat =
       (satisfied_too (store_on s cells) (handed_vars callee call (restricted s) cells) (restricted s).next types callee.vars
-      (beside callee.proc.params call.args ++ beside callee.proc.logics call.logics) (Contains (callee.proc.params ++ callee.proc.logics)) callee.proc.pre proc.pre
+      (beside callee.proc.params call.args ++ beside callee.proc.logics call.logics) (Contains (callee.proc.params ++ callee.proc.logics)) callee.proc.pre
+          proc.pre
       (λ v sort among is. held_by _ v sort (put_found Given callee.proc.params callee.proc.logics call.args call.logics
       (args_given vars callee call (restricted s) cells args logics proc.in_order proc.program_variables proc.logic_variables)
       (logics_given vars callee call (restricted s) cells args logics proc.in_order proc.program_variables proc.logic_variables) v among) is)).0 sat
@@ -296,7 +301,8 @@ module _ (types : List TypeEntry) (procs : List ProcEntry) (vars : List VarEntry
   blank_in : (v : VarId) → (var_value h v ≡ Some (blank_at callee.vars v)) × IsProgramVariable callee.vars v → IsSomeAnd (var_value h v) IsBlank
   blank_in v both = subst (λ o. IsSomeAnd o IsBlank) (sym both.0) (blank_value callee.vars v both.1)
 
-  fresh_blank : (v : VarId) (b : Bool) → is_listed callee.proc.results v ≡ b → (b || is_listed callee.proc.locals v) ≡ true → IsSomeAnd (var_value h v) IsBlank
+  fresh_blank : (v : VarId) (b : Bool) → is_listed callee.proc.results v ≡ b → (b || is_listed callee.proc.locals v) ≡ true → IsSomeAnd (var_value h v)
+      IsBlank
   fresh_blank v true first is = blank_in v (listed_all _ callee.proc.results v
       (results_blank vars callee call (restricted s) cells args logics proc.in_order proc.program_variables proc.logic_variables) first)
   fresh_blank v false first is = blank_in v (listed_all _ callee.proc.locals v
@@ -307,7 +313,8 @@ module _ (types : List TypeEntry) (procs : List ProcEntry) (vars : List VarEntry
       let claims = recursion_from_All (IsMet types vars s) (on_part_and_rest (handed_by vars call.args) (pre_of procs call) call.keep) met in
       let on_cells = (Sat-on types vars [] s outside (pre_of procs call) (region.Part (handed_by vars call.args)) cells
       (part_before s types vars (handed_by vars call.args) cells part)).0 claims.0 in
-      let own = subst (λ (o : Option ProcEntry). SatAll types [] (store_on s cells) outside (option_map_or (λ (e : ProcEntry). pre_for call e.proc) o assertion.True))
+      let own = subst (λ (o : Option ProcEntry). SatAll types [] (store_on s cells) outside
+          (option_map_or (λ (e : ProcEntry). pre_for call e.proc) o assertion.True))
       there on_cells in
       record {
         nulls = All-from_recursion (λ v. IsSomeAnd (var_value h v) IsBlank) (those (is_fresh callee.proc) callee.vars)

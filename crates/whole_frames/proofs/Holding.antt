@@ -22,7 +22,8 @@ use Rattle.store_logic.specs.declared.term.Base.TheVariants as base
 use Rattle.store_logic.specs.declared.term.Term.{Term}
 use Rattle.store_logic.specs.declared.term.Term.TheVariants as term
 use Rattle.store_logic.specs.declared.assertion.Assertion.{Assertion}
-use Rattle.store_logic.specs.Terms.{Environment, outside, null, field_of_value, value_along, live_value, term_value, cell_in, truth_in, set_in, cell_at, truth_at, set_at}
+use Rattle.store_logic.specs.Terms.{Environment, outside, null, field_of_value, value_along, live_value, term_value, cell_in, truth_in, set_in}
+use Rattle.store_logic.specs.Terms.{cell_at, truth_at, set_at}
 use Rattle.store_logic.specs.Satisfaction.{IsSetOf, Holds, SatAll, Says}
 use Rattle.store_logic.specs.Sorts.{Sort, Truth, Cell, Set, Scope, var_sort, BaseFits, TermFits}
 use Rattle.store_logic.specs.Fits.{FitsIn}
@@ -308,7 +309,8 @@ module _ (p : StoreMap) (xs : List Value) (n : ℕ) where
           let right = same-set k b more f.ty d bound (other (set_name set d) (set_name more d) pair) f.right in
           become (filled-Subset (put_for puts) set more k) (env bound)
           (both (Holds-Subset types p said _ _ (env bound))
-          (λ sub c live among. (right c live).0 (sub c live ((left c live).1 among)), λ sub c live among. (right c live).1 (sub c live ((left c live).0 among)))
+          (λ sub c live among. (right c live).0 (sub c live ((left c live).1 among)), λ sub c live among. (right c live).1
+              (sub c live ((left c live).0 among)))
           (Holds-Subset types q says set more (env bound)));
       of_Walk = λ t along u k b d bound may h. let f = (Fits-Walk types (inner b) t along u).0 h in let pair = told (names-Walk t along u d) may in
           become (filled-Walk (put_for puts) t along u k) (env bound)

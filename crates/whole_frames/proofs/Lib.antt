@@ -4,6 +4,7 @@ pub mod Handed
 pub mod HandedRoots
 pub mod HandedStart
 pub mod Beside
+pub mod Places
 pub mod ReturnedRoots
 pub mod ReturnedForm
 pub mod Returned

@@ -104,7 +104,8 @@ module _ (r : StoreMap) (cells : List CellId) (x u' p : StoreMap) (live_same : (
         );
       })
 
-  pub alike_logic : (types : List TypeEntry) (kind : VarKind) (y0 y : Value) → IsTrue (is_logic (class_of kind)) → VarFits r kind y0 → SetHoldsLive r kind y0 →
+  pub alike_logic : (types : List TypeEntry) (kind : VarKind) (y0 y : Value) → IsTrue (is_logic (class_of kind)) → VarFits r kind y0 → SetHoldsLive r kind
+      y0 →
       live_part x y ≡ live_part x (value_on cells y0) → Alike p (live_part u' y0) y
   alike_logic types var.Bool y0 y logic fits sets e = absurd (false≢true logic)
   alike_logic types (var.Data ty) y0 y logic fits sets e = absurd (false≢true logic)

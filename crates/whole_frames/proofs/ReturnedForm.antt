@@ -19,7 +19,8 @@ use Rattle.store_core.specs.declared.value.Value.{Value}
 use Rattle.store_core.specs.declared.value.Value.TheVariants as value
 use Rattle.store_core.specs.CellLists.{AreRising}
 use Rattle.store_core.specs.Tables.{TypeEntry, VarEntry, var_at}
-use Rattle.store_core.specs.Stores.{StoreMap, CellEntry, IsLive, cell_of, field_of, var_value, NamesType, VarFits, VarsFit, CellFits, Fits, NamesLiveAlone, NamesNoDead}
+use Rattle.store_core.specs.Stores.{StoreMap, CellEntry, IsLive, cell_of, field_of, var_value, NamesType, VarFits, VarsFit, CellFits, Fits}
+use Rattle.store_core.specs.Stores.{NamesLiveAlone, NamesNoDead}
 use Rattle.store_core.proofs.AboveLemmas.{live_below, IsAbove-from}
 use Rattle.store_laws.proofs.KeepingLemmas.{NamesSuch, CellFits-kept}
 use Rattle.routing_expr.specs.Walks.{IsOfType}
@@ -46,7 +47,8 @@ use Rattle.whole_run.specs.Handing.{rest_store, value_after, beside_rest}
 use Rattle.whole_frames.specs.Leaving.{CameOf}
 use Rattle.whole_frames.proofs.Handed.{some_same, kind_entry, value_there}
 use Rattle.whole_frames.proofs.Beside.{rest_in, of_exit, of_rest, After, is_result, is_null, stays, holds_after}
-use Rattle.whole_frames.proofs.ReturnedRoots.{some_variable, class_kind, spent_cell, together, type_exit, type_rest, result_kind, after_is, held_after, sound_after}
+use Rattle.whole_frames.proofs.ReturnedRoots.{some_variable, class_kind, spent_cell, together, type_exit, type_rest, result_kind, after_is}
+use Rattle.whole_frames.proofs.ReturnedRoots.{held_after, sound_after}
 use Rattle.whole_frames.proofs.ReturnedRoots as roots
 
 -- ---- lists
@@ -80,8 +82,8 @@ slots_live : (s : StoreMap) → NamesNoDead s → (c : CellId) (cell : CellEntry
 slots_live s alive c cell at = slots_by (NamesSuch (IsLive s)) cell.values (λ i x there.
     let f : FieldId = record { ty = cell.variant.ty; index = i } in
     let own : field_of cell f ≡ Some x =
-        ap (λ z. if z then option_and_then (λ (v : Option Value). v) (slice_get cell.values i) else None) (self (cell.variant.ty).0)
-        ∙ ap (λ (o : Option (Option Value)). option_and_then (λ (v : Option Value). v) o) there in
+    ap (λ z. if z then option_and_then (λ (v : Option Value). v) (slice_get cell.values i) else None) (self (cell.variant.ty).0)
+    ∙ ap (λ (o : Option (Option Value)). option_and_then (λ (v : Option Value). v) o) there in
     such_alone s x (IfSome-at (option_and_then (λ (e : CellEntry). field_of e f) (cell_of s c)) (NamesLiveAlone s) x
     (ap (λ (o : Option CellEntry). option_and_then (λ (e : CellEntry). field_of e f) o) at ∙ own) (alive.fields c f)))
 
@@ -179,7 +181,8 @@ module _ (types : List TypeEntry) (vars : List VarEntry) (callee : ProcEntry) (c
   piece_wf : IsWellFormed types vars piece
   piece_wf = roots.piece_wf types vars callee call r cells t like results_once in_order wf part exit_wf came left awaited outer
 
-  type_too : (s : StoreMap) → ((c : CellId) → IsLive s c → cell_of u' c ≡ cell_of s c) → (ty : TypeId) (c : CellId) → IsLive s c → NamesType s ty c → NamesType u' ty c
+  type_too : (s : StoreMap) → ((c : CellId) → IsLive s c → cell_of u' c ≡ cell_of s c) → (ty : TypeId) (c : CellId) → IsLive s c → NamesType s ty c →
+      NamesType u' ty c
   type_too s same ty c live h = subst (λ (o : Option CellEntry). IfSome o (λ cell. cell.variant.ty ≡ ty)) (sym (same c live)) h
 
   same_length : length (u'.vars) ≡ length vars
@@ -205,7 +208,8 @@ module _ (types : List TypeEntry) (vars : List VarEntry) (callee : ProcEntry) (c
       let same : both.kind ≡ kind = some_same both.kind kind (sym both.own ∙ is) in
       let here = stood types callee.vars t exit_wf w kind (both.other ∙ ap (λ k. Some k) same) in
       fits_by u' t kind x (subst (VarFits t kind) (sym from) here.fits)
-      (held_after types vars callee call r cells t like results_once in_order wf part exit_wf came left awaited outer v kind x is (is_result k w one other from))
+      (held_after types vars callee call r cells t like results_once in_order wf part exit_wf came left awaited outer v kind x is
+          (is_result k w one other from))
       (λ ty cs set e. all_map (IsOfType t ty) (NamesType u' ty)
       (λ d h. some_if (cell_of u' d) (λ cell. cell.variant.ty ≡ ty)
       (type_exit types vars callee call r cells t like results_once in_order wf part exit_wf came left awaited outer ty d h)) cs
@@ -216,7 +220,8 @@ module _ (types : List TypeEntry) (vars : List VarEntry) (callee : ProcEntry) (c
   value_fits v kind x is (stays unlisted unspent from) =
       let here = stood types vars r wf v kind is in
       fits_by u' r kind x (subst (VarFits r kind) (sym from) here.fits)
-      (held_after types vars callee call r cells t like results_once in_order wf part exit_wf came left awaited outer v kind x is (stays unlisted unspent from))
+      (held_after types vars callee call r cells t like results_once in_order wf part exit_wf came left awaited outer v kind x is
+          (stays unlisted unspent from))
       (λ ty cs set e. all_map (IsOfType r ty) (NamesType u' ty) (set_named ty) cs (set_of r kind (variable r v) ty cs set (sym from ∙ e) here.sets))
 
   pub fits_after : Fits types vars u'
@@ -238,11 +243,14 @@ module _ (types : List TypeEntry) (vars : List VarEntry) (callee : ProcEntry) (c
     values = fit_each u' vars u'.vars same_length (λ k entry x at is.
         let v : VarId = record { 0 = k } in
         let low = slice_get_within vars k entry at in
-        let value_is : value_after vars call res rest t v ≡ x = some_same (value_after vars call res rest t v) x (sym (holds_after vars call res rest t v low) ∙ is) in
+        let value_is : value_after vars call res rest t v ≡ x = some_same (value_after vars call res rest t v) x
+            (sym (holds_after vars call res rest t v low) ∙ is) in
         subst (VarFits u' entry.kind) value_is (value_fits v entry.kind (value_after vars call res rest t v)
-        (ap (option_map (λ (e : VarEntry). e.kind)) at) (after_is types vars callee call r cells t like results_once in_order wf part exit_wf came left awaited outer v)));
+        (ap (option_map (λ (e : VarEntry). e.kind)) at) (after_is types vars callee call r cells t like results_once in_order wf part exit_wf came left
+            awaited outer v)));
     above = IsAbove-from u' (λ c live. elim (whole.of_either c live) [
-      | inl here ↦ let below = live_below r c wf.fits.above (roots.piece_live types vars callee call r cells t like results_once in_order wf part exit_wf came left awaited outer c here).1 in
+      | inl here ↦ let below = live_below r c wf.fits.above (roots.piece_live types vars callee call r cells t like results_once in_order wf part exit_wf
+          came left awaited outer c here).1 in
           let later = came.later in omega (arith, below, later)
       | inr there ↦ live_below t c exit_wf.fits.above there
     ]);

@@ -55,7 +55,8 @@ use Rattle.whole_frames.proofs.Holding.{Alike, IsNoSet, IsHeld, satisfied_too}
 use Rattle.whole_frames.proofs.Handed.{some_same, kind_entry, value_there, zip_both, all_left, all_right, in_cells, logics_given, IsGiven}
 use Rattle.whole_frames.proofs.HandedStart.{variable_now, reached_before, reached_now, put_found, no_set_at, no_set_truth}
 use Rattle.whole_frames.proofs.Beside.{of_exit, After, is_result, is_null, stays}
-use Rattle.whole_frames.proofs.ReturnedRoots.{listed_argument, at_listed, some_variable, class_kind, spent_cell, an_argument, after_is, result_value, together, never_both}
+use Rattle.whole_frames.proofs.ReturnedRoots.{listed_argument, at_listed, some_variable, class_kind, spent_cell, an_argument, after_is, result_value}
+use Rattle.whole_frames.proofs.ReturnedRoots.{together, never_both}
 use Rattle.whole_frames.proofs.ReturnedRoots.{piece_live, in_piece, others, none_live}
 use Rattle.whole_frames.proofs.Returned as returned
 use Rattle.whole_frames.proofs.ReturnedStart.{stands_after, nulls_after, exit_cells, part_after, pointers_after, reached_live, live_reached, class_there}
@@ -152,7 +153,8 @@ module _ (types : List TypeEntry) (procs : List ProcEntry) (vars : List VarEntry
   handed_in c there_live here = came.handed c there_live (live_below r c wf.fits.above here)
 
   now_is : (v : VarId) (kind : VarKind) → kind_at vars v ≡ Some kind → variable w v ≡ live_part u' (value_of v)
-  now_is v kind known = variable_now u' v ∙ ap (live_part u') (stands_after types vars callee call r cells t like fits.results_once proc.in_order wf part exit_wf came left awaited outer v kind known)
+  now_is v kind known = variable_now u' v ∙ ap (live_part u') (stands_after types vars callee call r cells t like fits.results_once proc.in_order wf part
+      exit_wf came left awaited outer v kind known)
 
   -- ---- what is put in for the callee's variables
 
@@ -171,8 +173,11 @@ module _ (types : List TypeEntry) (procs : List ProcEntry) (vars : List VarEntry
       let program = kind_of_class (λ kind. IsTrue (not (is_logic (class_of kind)))) callee.vars u own.kind own.other known in
       let fits_x = exit_value u own.kind own.other in
       let plain_x : variable t u ≡ variable x u = variable_now x u ∙ program_part x x own.kind (variable x u) program fits_x in
-      let value_is : value_of v ≡ variable x u = result_value types vars callee call r cells t like fits.results_once proc.in_order wf part exit_wf came left awaited outer k v u (value_of v) one other (after_is types vars callee call r cells t like fits.results_once proc.in_order wf part exit_wf came left awaited outer v) ∙ plain_x in
-      let now : variable w v ≡ variable x u = now_is v own.kind own.own ∙ ap (live_part u') value_is ∙ program_part u' x own.kind (variable x u) program fits_x in
+      let value_is : value_of v ≡ variable x u = result_value types vars callee call r cells t like fits.results_once proc.in_order wf part exit_wf came
+          left awaited outer k v u (value_of v) one other (after_is types vars callee call r cells t like fits.results_once proc.in_order wf part exit_wf
+              came left awaited outer v) ∙ plain_x in
+      let now : variable w v ≡ variable x u = now_is v own.kind own.own ∙ ap (live_part u') value_is ∙ program_part u' x own.kind (variable x u) program
+          fits_x in
       subst (λ y. Alike p y (variable x u)) (sym now) (alike_same p (variable x u))
 
   results_known : AllByRecursion (IsProgramVariable callee.vars) res
@@ -200,7 +205,8 @@ module _ (types : List TypeEntry) (procs : List ProcEntry) (vars : List VarEntry
       ∙ spent_cell (holds_cell (class_at vars v)) (is_argument call.args v) (is_listed call.results v) spent))
   stays_logic v kind y known logic (stays unlisted unspent from) = from
 
-  logic_held : (a : Actual) (u : VarId) → IsGiven vars callee call r cells args logics proc.in_order proc.program_variables proc.logic_variables a u → variable t u ≡ live_part t (variable (handed_store callee call r cells) u) →
+  logic_held : (a : Actual) (u : VarId) → IsGiven vars callee call r cells args logics proc.in_order proc.program_variables proc.logic_variables a u →
+      variable t u ≡ live_part t (variable (handed_store callee call r cells) u) →
       IsLogicVariable callee.vars u → Q a u
   logic_held (actual.Var v) u given keeps logic sort is =
       let own = given.0 in
@@ -216,7 +222,8 @@ module _ (types : List TypeEntry) (procs : List ProcEntry) (vars : List VarEntry
       sym (variable_now x u) ∙ keeps ∙ part_same (variable (handed_store callee call r cells) u)
       ∙ ap (live_part x) (some_variable (handed_store callee call r cells) u (handed_value r cells (actual.Var v)) given.1) in
       subst (λ y. Alike p y (variable x u))
-      (sym (now_is v own.kind own.own ∙ ap (live_part u') (stays_logic v own.kind (value_of v) own.own is_logical (after_is types vars callee call r cells t like fits.results_once proc.in_order wf part exit_wf came left awaited outer v))))
+      (sym (now_is v own.kind own.own ∙ ap (live_part u') (stays_logic v own.kind (value_of v) own.own is_logical
+          (after_is types vars callee call r cells t like fits.results_once proc.in_order wf part exit_wf came left awaited outer v))))
       (alike_logic r cells x u' p live_both handed_in types own.kind (variable r v) (variable x u) is_logical fits_r sets_r exit_is)
     where
       part_same : (y : Value) → live_part t y ≡ live_part x y
@@ -236,11 +243,14 @@ module _ (types : List TypeEntry) (procs : List ProcEntry) (vars : List VarEntry
   logics_put : AllZip Q call.logics callee.proc.logics
   logics_put =
       let given = logics_given vars callee call r cells args logics proc.in_order proc.program_variables proc.logic_variables in
-      zip_as (λ a u. (IsGiven vars callee call r cells args logics proc.in_order proc.program_variables proc.logic_variables a u × (variable t u ≡ live_part t (variable (handed_store callee call r cells) u))) × IsLogicVariable callee.vars u) Q
+      zip_as (λ a u. (IsGiven vars callee call r cells args logics proc.in_order proc.program_variables proc.logic_variables a u ×
+          (variable t u ≡ live_part t (variable (handed_store callee call r cells) u))) × IsLogicVariable callee.vars u) Q
       (λ a u h. logic_held a u h.0.0 h.0.1 h.1) call.logics callee.proc.logics
-      (zip_and (λ a u. IsGiven vars callee call r cells args logics proc.in_order proc.program_variables proc.logic_variables a u × (variable t u ≡ live_part t (variable (handed_store callee call r cells) u))) (IsLogicVariable callee.vars)
+      (zip_and (λ a u. IsGiven vars callee call r cells args logics proc.in_order proc.program_variables proc.logic_variables a u ×
+          (variable t u ≡ live_part t (variable (handed_store callee call r cells) u))) (IsLogicVariable callee.vars)
       call.logics callee.proc.logics
-      (zip_and (IsGiven vars callee call r cells args logics proc.in_order proc.program_variables proc.logic_variables) (λ u. variable t u ≡ live_part t (variable (handed_store callee call r cells) u)) call.logics callee.proc.logics given kept)
+      (zip_and (IsGiven vars callee call r cells args logics proc.in_order proc.program_variables proc.logic_variables)
+          (λ u. variable t u ≡ live_part t (variable (handed_store callee call r cells) u)) call.logics callee.proc.logics given kept)
       proc.logic_variables)
 
   -- ---- the claims
@@ -255,7 +265,8 @@ module _ (types : List TypeEntry) (procs : List ProcEntry) (vars : List VarEntry
   post_there sat =
       let moved : x ≡ record p { vars = x.vars; next = x.next } = λ i. record { cells = p_cells i; vars = x.vars; next = x.next } in
       (satisfied_too p x.vars x.next types callee.vars
-      (beside res (map (λ v. actual.Var v) call.results) ++ beside callee.proc.logics call.logics) (Contains (res ++ callee.proc.logics)) callee.proc.post proc.post
+      (beside res (map (λ v. actual.Var v) call.results) ++ beside callee.proc.logics call.logics) (Contains (res ++ callee.proc.logics)) callee.proc.post
+          proc.post
       (λ u sort among is. put_found Q res callee.proc.logics (map (λ v. actual.Var v) call.results) call.logics results_put logics_put u among sort is)).1
       (subst (λ st. SatAll types [] st outside callee.proc.post) moved sat)
 
@@ -279,7 +290,8 @@ module _ (types : List TypeEntry) (procs : List ProcEntry) (vars : List VarEntry
   piece_is d m =
       let h = (outside_r.members d).0 m in
       let here = in_piece types vars callee call r cells t like fits.results_once proc.in_order wf part exit_wf came left awaited outer d h.0 h.1 in
-      subst IsSome (sym ((together types vars callee call r cells t like fits.results_once proc.in_order wf part exit_wf came left awaited outer).of_one d here)) here
+      subst IsSome (sym ((together types vars callee call r cells t like fits.results_once proc.in_order wf part exit_wf came left awaited outer).of_one d
+          here)) here
 
   rest_after : Lists (IsUnreached types vars w (returned_by vars call.results)) R
   rest_after = record {
@@ -288,11 +300,16 @@ module _ (types : List TypeEntry) (procs : List ProcEntry) (vars : List VarEntry
       λ m. let h = (outside_r.members d).0 m in
           record {
             live = piece_is d m;
-            unreached = λ reached. never_both types vars callee call r cells t like fits.results_once proc.in_order wf part exit_wf came left awaited outer d (reached_live types vars callee call r cells t like fits.results_once proc.in_order wf part exit_wf came left awaited outer d (reached_before u' types vars (returned_by vars call.results) d reached)) h.0 h.1;
+            unreached = λ reached. never_both types vars callee call r cells t like fits.results_once proc.in_order wf part exit_wf came left awaited outer
+                d (reached_live types vars callee call r cells t like fits.results_once proc.in_order wf part exit_wf came left awaited outer d
+                    (reached_before u' types vars (returned_by vars call.results) d reached)) h.0 h.1;
           },
-      λ h. elim ((together types vars callee call r cells t like fits.results_once proc.in_order wf part exit_wf came left awaited outer).of_either d h.live) [
-        | inl here ↦ let both = piece_live types vars callee call r cells t like fits.results_once proc.in_order wf part exit_wf came left awaited outer d here in (outside_r.members d).1 (both.1, both.0)
-        | inr far ↦ absurd (h.unreached (reached_now u' types vars (returned_by vars call.results) d (live_reached types vars callee call r cells t like fits.results_once proc.in_order wf part exit_wf came left awaited outer d far)))
+      λ h. elim ((together types vars callee call r cells t like fits.results_once proc.in_order wf part exit_wf came left awaited outer).of_either d
+          h.live) [
+        | inl here ↦ let both = piece_live types vars callee call r cells t like fits.results_once proc.in_order wf part exit_wf came left awaited outer d
+            here in (outside_r.members d).1 (both.1, both.0)
+        | inr far ↦ absurd (h.unreached (reached_now u' types vars (returned_by vars call.results) d
+            (live_reached types vars callee call r cells t like fits.results_once proc.in_order wf part exit_wf came left awaited outer d far)))
       ],
     );
   }
@@ -305,14 +322,16 @@ module _ (types : List TypeEntry) (procs : List ProcEntry) (vars : List VarEntry
     | inl m ↦
         let h = (outside_r.members c).0 m in
         let here = in_piece types vars callee call r cells t like fits.results_once proc.in_order wf part exit_wf came left awaited outer c h.0 h.1 in
-        (store_on-IsOn s R).inside c m ∙ sym ((store_on-IsOn w R).inside c m ∙ (together types vars callee call r cells t like fits.results_once proc.in_order wf part exit_wf came left awaited outer).of_one c here ∙ piece_cell c m)
+        (store_on-IsOn s R).inside c m ∙ sym ((store_on-IsOn w R).inside c m ∙ (together types vars callee call r cells t like fits.results_once
+            proc.in_order wf part exit_wf came left awaited outer).of_one c here ∙ piece_cell c m)
     | inr out ↦ (store_on-IsOn s R).outside c out ∙ sym ((store_on-IsOn w R).outside c out)
   ])
     where
       piece_cell : (c : CellId) → Contains R c → cell_of (piece_on r R) c ≡ cell_of r c
       piece_cell c m = (piece_on-IsOn R r).inside c m
 
-  untouched_stays : (v : VarId) (kind : VarKind) (y : Value) → kind_at vars v ≡ Some kind → IsUntouched vars call v → After vars call res rest t v y → y ≡ variable r v
+  untouched_stays : (v : VarId) (kind : VarKind) (y : Value) → kind_at vars v ≡ Some kind → IsUntouched vars call v → After vars call res rest t v y → y ≡
+      variable r v
   untouched_stays v kind y known free (is_result k u one other from) = absurd (free.no_result (in_at call.results k v one))
   untouched_stays v kind y known free (is_null unlisted spent from) =
       let at = listed_argument call.args v (an_argument (holds_cell (class_at vars v)) (is_argument call.args v) (is_listed call.results v) spent) in
@@ -324,10 +343,12 @@ module _ (types : List TypeEntry) (procs : List ProcEntry) (vars : List VarEntry
       absurd (free.no_cell (in_cells vars call.args at.0 v alone at.1))
   untouched_stays v kind y known free (stays unlisted unspent from) = from
 
-  sort_kind : (v : VarId) (sort : Sort) → option_map (λ (e : VarEntry). var_sort e.kind) (var_at vars v) ≡ Some sort → (kind : VarKind) × (kind_at vars v ≡ Some kind)
+  sort_kind : (v : VarId) (sort : Sort) → option_map (λ (e : VarEntry). var_sort e.kind) (var_at vars v) ≡ Some sort → (kind : VarKind) ×
+      (kind_at vars v ≡ Some kind)
   sort_kind v sort is = of (var_at vars v) refl is
     where
-      of : (o : Option VarEntry) → var_at vars v ≡ o → option_map (λ (e : VarEntry). var_sort e.kind) o ≡ Some sort → (kind : VarKind) × (kind_at vars v ≡ Some kind)
+      of : (o : Option VarEntry) → var_at vars v ≡ o → option_map (λ (e : VarEntry). var_sort e.kind) o ≡ Some sort → (kind : VarKind) ×
+          (kind_at vars v ≡ Some kind)
       of None at e = let no : None ≡ Some sort = e in absurd cc
       of (Some entry) at e = (entry.kind, ap (option_map (λ (z : VarEntry). z.kind)) at)
 
@@ -336,12 +357,14 @@ module _ (types : List TypeEntry) (procs : List ProcEntry) (vars : List VarEntry
   keep_held v sort free is =
       let known = sort_kind v sort is in
       subst (Alike S (variable s v))
-      (sym (now_is v known.0 known.1 ∙ ap (live_part u') (untouched_stays v known.0 (value_of v) known.1 free (after_is types vars callee call r cells t like fits.results_once proc.in_order wf part exit_wf came left awaited outer v) ∙ variable_now s v)))
+      (sym (now_is v known.0 known.1 ∙ ap (live_part u') (untouched_stays v known.0 (value_of v) known.1 free
+          (after_is types vars callee call r cells t like fits.results_once proc.in_order wf part exit_wf came left awaited outer v) ∙ variable_now s v)))
       (alike_rest s u' R (λ c live. piece_is c (live_on R s S (store_on-IsOn s R) c live).0) (variable s v))
 
   keep_there : SatAll types [] S outside call.keep → SatAll types [] (store_on w R) outside call.keep
   keep_there sat =
-      let put = (satisfied_too S S.vars S.next types vars [] (IsUntouched vars call) call.keep fits.keep (λ v sort free is. alike_same S (variable s v))).1 sat in
+      let put = (satisfied_too S S.vars S.next types vars [] (IsUntouched vars call) call.keep fits.keep (λ v sort free is. alike_same S (variable s v))).1
+          sat in
       let own = (satisfied_too S w.vars w.next types vars [] (IsUntouched vars call) call.keep fits.keep keep_held).0 put in
       let moved : record S { vars = w.vars; next = w.next } ≡ store_on w R = λ i. record { cells = S_cells i; vars = w.vars; next = w.next } in
       subst (λ st. SatAll types [] st outside call.keep) moved own
@@ -358,7 +381,8 @@ module _ (types : List TypeEntry) (procs : List ProcEntry) (vars : List VarEntry
         nulls = nulls_after types vars callee call r cells t like fits.results_once proc.in_order wf part exit_wf came left awaited outer;
         pointers = pointers_after types vars callee call r cells t like fits.results_once proc.in_order wf part exit_wf came left awaited outer;
         claims = All-from_recursion (IsMet types vars w) (on_part_and_rest (returned_by vars call.results) (post_of procs call) call.keep) (
-          (Sat-on types vars [] w outside (post_of procs call) (region.Part (returned_by vars call.results)) L (part_after types vars callee call r cells t like fits.results_once proc.in_order wf part exit_wf came left awaited outer)).1 post_is,
+          (Sat-on types vars [] w outside (post_of procs call) (region.Part (returned_by vars call.results)) L
+              (part_after types vars callee call r cells t like fits.results_once proc.in_order wf part exit_wf came left awaited outer)).1 post_is,
           ((Sat-on types vars [] w outside call.keep (region.Rest (returned_by vars call.results)) R rest_after).1 (keep_there on_s), tt),
         );
       }

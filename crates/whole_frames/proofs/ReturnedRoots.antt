@@ -1,6 +1,7 @@
 -- After a return the caller's variables name the roots of the callee's cells beside the rest.
 use Rattle.std.proofs.Common.{◌≡◌, ◌≢◌, ◌==◌, ◌<◌, ◌≤◌, ◌+◌, ◌⊎◌, inl, inr, ℕ, zero, suc, Bool, true, false, not, ◌&&◌, ◌||◌, List, [], ◌∷◌, ◌++◌, length}
-use Rattle.std.proofs.Common.{slice_get, flat_map, Option, Some, None, IsSome, IsSomeAnd, IfSome, Contains, if◌then◌else◌, unwrap_or, refl, sym, ap, ◌∙◌, subst, arith}
+use Rattle.std.proofs.Common.{slice_get, flat_map, Option, Some, None, IsSome, IsSomeAnd, IfSome, Contains, if◌then◌else◌, unwrap_or, refl, sym, ap}
+use Rattle.std.proofs.Common.{◌∙◌, subst, arith}
 use Rattle.std.specs.Prelude.{option_map}
 use Rattle.std.specs.List.{AllByRecursion, AllZip, AllPairs}
 use Rattle.std.specs.Option.{option_map_or, option_and_then}
@@ -54,144 +55,8 @@ use Rattle.whole_frames.proofs.Zips.{zip_get, zip_first, numbers_at}
 use Rattle.whole_frames.proofs.Handed.{some_same, kind_entry, handed_at, on_cell, value_there}
 use Rattle.whole_frames.proofs.HandedRoots.{data_named, named_data, chain_root}
 use Rattle.whole_frames.proofs.Beside.{rest_out, rest_live, rest_piece, b, of_exit, of_rest, of_either, After, is_result, is_null, stays, after, holds_after}
-
--- ---- lists
-
-pub listed_at : (us : List VarId) (v : VarId) → is_listed us v ≡ true → (k : ℕ) × (slice_get us k ≡ Some v)
-listed_at [] v is = absurd (false≢true is)
-listed_at (u ∷ us) v is = by (listed_at us v) (u.0 == v.0) refl is
-  where
-    by : (is_listed us v ≡ true → (k : ℕ) × (slice_get us k ≡ Some v)) → (z : Bool) → (u.0 == v.0) ≡ z → (z || is_listed us v) ≡ true →
-        (k : ℕ) × (slice_get (u ∷ us) k ≡ Some v)
-    by later true same among = (0, ap (λ x. Some x) (same-var u v same))
-    by later false same among = let h = later among in (suc h.0, h.1)
-
-self : (n : ℕ) → (n == n) ≡ true
-self n = grind arith
-
-or_right : (x y : Bool) → y ≡ true → (x || y) ≡ true
-or_right true y is = refl
-or_right false y is = is
-
-pub at_listed : (us : List VarId) (k : ℕ) (v : VarId) → slice_get us k ≡ Some v → is_listed us v ≡ true
-at_listed [] k v at = absurd cc
-at_listed (u ∷ us) zero v at =
-    let same : u ≡ v = some_same u v at in
-    ap (λ z. z || is_listed us v) (subst (λ (w : VarId). (u.0 == w.0) ≡ true) same (self u.0))
-at_listed (u ∷ us) (suc k) v at = or_right (u.0 == v.0) (is_listed us v) (at_listed us k v at)
-
-pub at_argument : (args : List Actual) (k : ℕ) (w : VarId) → slice_get args k ≡ Some (actual.Var w) → is_argument args w ≡ true
-at_argument [] k w at = absurd cc
-at_argument (a ∷ args) zero w at =
-    let same : a ≡ actual.Var w = some_same a (actual.Var w) at in
-    subst (λ (x : Actual). is_argument (x ∷ args) w ≡ true) (sym same) (ap (λ z. z || is_argument args w) (self w.0))
-at_argument (actual.Var v ∷ args) (suc k) w at = or_right (v.0 == w.0) (is_argument args w) (at_argument args k w at)
-at_argument (actual.Null ∷ args) (suc k) w at = at_argument args k w at
-at_argument (actual.Truth truth ∷ args) (suc k) w at = at_argument args k w at
-
-pub listed_argument : (args : List Actual) (v : VarId) → is_argument args v ≡ true → (k : ℕ) × (slice_get args k ≡ Some (actual.Var v))
-listed_argument [] v is = absurd (false≢true is)
-listed_argument (actual.Null ∷ args) v is = let h = listed_argument args v is in (suc h.0, h.1)
-listed_argument (actual.Truth truth ∷ args) v is = let h = listed_argument args v is in (suc h.0, h.1)
-listed_argument (actual.Var w ∷ args) v is = by (listed_argument args v) (w.0 == v.0) refl is
-  where
-    by : (is_argument args v ≡ true → (k : ℕ) × (slice_get args k ≡ Some (actual.Var v))) → (z : Bool) → (w.0 == v.0) ≡ z → (z || is_argument args v) ≡ true →
-        (k : ℕ) × (slice_get (actual.Var w ∷ args) k ≡ Some (actual.Var v))
-    by later true same among = (0, ap (λ (y : VarId). Some (actual.Var y)) (same-var w v same))
-    by later false same among = let h = later among in (suc h.0, h.1)
-
-pub none_live : (o : Option CellEntry) → (IsSome o → ⊥) → o ≡ None
-none_live None dead = refl
-none_live (Some cell) dead = absurd (dead refl)
-
--- a data variable among the arguments is handed over
-pub argument_handed : (vars : List VarEntry) (args : List Actual) (v : VarId) → is_argument args v ≡ true → is_data (class_at vars v) ≡ true →
-    Contains (handed_by vars args) v
-argument_handed vars [] v is held = absurd (false≢true is)
-argument_handed vars (actual.Null ∷ args) v is held = argument_handed vars args v is held
-argument_handed vars (actual.Truth truth ∷ args) v is held = argument_handed vars args v is held
-argument_handed vars (actual.Var w ∷ args) v is held = by (λ more. argument_handed vars args v more held) (w.0 == v.0) refl is
-  where
-    behind : (z : Bool) → Contains (handed_by vars args) v → Contains (if z then w ∷ handed_by vars args else handed_by vars args) v
-    behind true m = in_rest w v (handed_by vars args) m
-    behind false m = m
-
-    by : (is_argument args v ≡ true → Contains (handed_by vars args) v) → (z : Bool) → (w.0 == v.0) ≡ z → (z || is_argument args v) ≡ true →
-        Contains (handed_by vars (actual.Var w ∷ args)) v
-    by later true same among =
-        let e : w ≡ v = same-var w v same in
-        subst (λ (z : Bool). Contains (if z then w ∷ handed_by vars args else handed_by vars args) v)
-        (sym (subst (λ (u : VarId). is_data (class_at vars u) ≡ true) (sym e) held)) (subst (λ (u : VarId). Contains (w ∷ handed_by vars args) u) e (in_first w (handed_by vars args)))
-    by later false same among = behind (is_data (class_at vars w)) (later among)
-
--- a variable stands at one place of a list
-pub one_place : (us : List VarId) (k j : ℕ) (v : VarId) → AllPairs (λ (u w : VarId). u ≢ w) us → slice_get us k ≡ Some v → slice_get us j ≡ Some v → k ≡ j
-one_place [] k j v once one other = absurd cc
-one_place (u ∷ us) zero zero v once one other = refl
-one_place (u ∷ us) zero (suc j) v once one other = absurd (again u us j v once one other)
-  where
-    again : (u : VarId) (us : List VarId) (j : ℕ) (v : VarId) → AllPairs (λ (x w : VarId). x ≢ w) (u ∷ us) → Some u ≡ Some v → slice_get us j ≡ Some v → ⊥
-    again u us j v once one other =
-        once 0 (suc j) v (omega arith) (let low = slice_get_within us j v other in omega (arith, low))
-        (some_same u v one ∙ sym (get_or_from_slice_get us j v v other))
-one_place (u ∷ us) (suc k) zero v once one other = absurd (again u us k v once other one)
-  where
-    again : (u : VarId) (us : List VarId) (j : ℕ) (v : VarId) → AllPairs (λ (x w : VarId). x ≢ w) (u ∷ us) → Some u ≡ Some v → slice_get us j ≡ Some v → ⊥
-    again u us j v once one other =
-        once 0 (suc j) v (omega arith) (let low = slice_get_within us j v other in omega (arith, low))
-        (some_same u v one ∙ sym (get_or_from_slice_get us j v v other))
-one_place (u ∷ us) (suc k) (suc j) v once one other =
-    ap suc (one_place us k j v (λ m n d low high. once (suc m) (suc n) d (omega (arith, low)) (omega (arith, high))) one other)
-
--- ---- values
-
-pub variable_some : (s : StoreMap) (v : VarId) (c : CellId) → variable s v ≡ value.Cell (Some c) → var_value s v ≡ Some (value.Cell (Some c))
-variable_some s v c is = of (var_value s v) is
-  where
-    of : (o : Option Value) → unwrap_or o null ≡ value.Cell (Some c) → o ≡ Some (value.Cell (Some c))
-    of None e = let no : None ≡ Some c = cc in absurd cc
-    of (Some x) e = ap (λ y. Some y) e
-
-pub some_variable : (s : StoreMap) (v : VarId) (x : Value) → var_value s v ≡ Some x → variable s v ≡ x
-some_variable s v x is = ap (λ o. unwrap_or o null) is
-
-pub no_argument : (h a l : Bool) → h ≡ true → l ≡ false → ((h && a) && not l) ≡ false → a ≡ false
-no_argument true true true hi lo is = absurd (false≢true (sym lo))
-no_argument true true false hi lo is = absurd (false≢true (sym is))
-no_argument true false l hi lo is = refl
-no_argument false a l hi lo is = absurd (false≢true hi)
-
-pub spent_cell : (h a l : Bool) → ((h && a) && not l) ≡ true → h ≡ true
-spent_cell true a l is = refl
-spent_cell false a l is = is
-
-pub an_argument : (h a l : Bool) → ((h && a) && not l) ≡ true → a ≡ true
-an_argument true true l is = refl
-an_argument true false l is = is
-an_argument false a l is = absurd (false≢true is)
-
-chain_end : (s : StoreMap) (P : CellId → CellId → Type 0) {a c : CellId} → Chain s P a c → (a ≡ c) ⊎ ((x : CellId) × P x c)
-chain_end s P (stay a live) = inl refl
-chain_end s P (go a x c step rest) = elim (chain_end s P rest) [ inl e ↦ inr (a, subst (P a) e step) | inr h ↦ inr h ]
-
-data_holds : (kind : VarKind) → IsDataVar kind → holds_cell (class_of kind) ≡ true
-data_holds var.Bool h = absurd h
-data_holds (var.Data ty) h = refl
-data_holds (var.Pointer ty) h = absurd h
-data_holds (var.LogicSet ty) h = absurd h
-data_holds var.LogicBool h = absurd h
-
-data_is : (kind : VarKind) → IsDataVar kind → is_data (class_of kind) ≡ true
-data_is var.Bool h = absurd h
-data_is (var.Data ty) h = refl
-data_is (var.Pointer ty) h = absurd h
-data_is (var.LogicSet ty) h = absurd h
-data_is var.LogicBool h = absurd h
-
-pub class_kind : (vars : List VarEntry) (v : VarId) (kind : VarKind) → kind_at vars v ≡ Some kind → class_at vars v ≡ class_of kind
-class_kind vars v kind is =
-    let e = kind_entry vars v kind is in
-    ap (λ (o : Option VarEntry). option_map_or (λ (e : VarEntry). class_of e.kind) o class.Bool) e.1 ∙ ap class_of e.2
+pub use Rattle.whole_frames.proofs.Places.{listed_at, at_listed, at_argument, listed_argument, none_live, argument_handed, one_place, variable_some}
+pub use Rattle.whole_frames.proofs.Places.{some_variable, no_argument, spent_cell, an_argument, class_kind, chain_end, data_holds, data_is}
 
 module _ (types : List TypeEntry) (vars : List VarEntry) (callee : ProcEntry) (call : CallParts) (r : StoreMap) (cells : List CellId) (t : StoreMap)
     (like : AllZip (IsLike vars callee.vars) call.results callee.proc.results)
@@ -261,7 +126,8 @@ module _ (types : List TypeEntry) (vars : List VarEntry) (callee : ProcEntry) (c
       Leads types u' DataAlone f a c
   onto s same f a c leads = record {
     kind = leads.kind;
-    value = ap (λ (o : Option CellEntry). option_and_then (λ (cell : CellEntry). field_of cell f) o) (same a (Leads-live types s DataAlone f a c leads).0) ∙ leads.value;
+    value = ap (λ (o : Option CellEntry). option_and_then (λ (cell : CellEntry). field_of cell f) o) (same a (Leads-live types s DataAlone f a c leads).0) ∙
+        leads.value;
     live = subst IsSome (sym (same c leads.live)) leads.live;
   }
 
@@ -269,7 +135,8 @@ module _ (types : List TypeEntry) (vars : List VarEntry) (callee : ProcEntry) (c
   live_here v c named = IfSome-at (var_value r v) (NamesLiveAlone r) (value.Cell (Some c)) named.value (((IsFresh-well_formed types vars r wf).0).vars v)
 
   live_there : (w : VarId) (c : CellId) → Names types callee.vars t (place.Var w) c → IsLive t c
-  live_there w c named = IfSome-at (var_value t w) (NamesLiveAlone t) (value.Cell (Some c)) named.value (((IsFresh-well_formed types callee.vars t exit_wf).0).vars w)
+  live_there w c named = IfSome-at (var_value t w) (NamesLiveAlone t) (value.Cell (Some c)) named.value
+      (((IsFresh-well_formed types callee.vars t exit_wf).0).vars w)
 
   place_same : (v w : VarId) → place.Var v ≡ place.Var w → v ≡ w
   place_same v w e = cc
@@ -336,14 +203,16 @@ module _ (types : List TypeEntry) (vars : List VarEntry) (callee : ProcEntry) (c
       named_after v e.0.kind c (value_of v) (ap (option_map (λ (x : VarEntry). x.kind)) e.1) e.2
       (some_same (value_of v) (value.Cell (Some c)) (sym held ∙ named.value)) (after_is v)
 
-  pub result_value : (k : ℕ) (v w : VarId) (x : Value) → slice_get call.results k ≡ Some v → slice_get res k ≡ Some w → After vars call res rest t v x → x ≡ variable t w
+  pub result_value : (k : ℕ) (v w : VarId) (x : Value) → slice_get call.results k ≡ Some v → slice_get res k ≡ Some w → After vars call res rest t v x → x ≡
+      variable t w
   result_value k v w x one other (is_result j y first second from) =
       let same : j ≡ k = one_place call.results j k v results_once first one in
       from ∙ ap (variable t) (some_same y w (sym second ∙ ap (slice_get res) same ∙ other))
   result_value k v w x one other (is_null unlisted spent from) = absurd (false≢true (sym unlisted ∙ at_listed call.results k v one))
   result_value k v w x one other (stays unlisted unspent from) = absurd (false≢true (sym unlisted ∙ at_listed call.results k v one))
 
-  stays_value : (v : VarId) (x : Value) → is_listed call.results v ≡ false → is_argument call.args v ≡ false → After vars call res rest t v x → x ≡ variable r v
+  stays_value : (v : VarId) (x : Value) → is_listed call.results v ≡ false → is_argument call.args v ≡ false → After vars call res rest t v x → x ≡ variable
+      r v
   stays_value v x unlisted free (is_result k w one other from) = absurd (false≢true (sym unlisted ∙ at_listed call.results k v one))
   stays_value v x unlisted free (is_null also spent from) =
       absurd (false≢true (sym free ∙ an_argument (holds_cell (class_at vars v)) (is_argument call.args v) (is_listed call.results v) spent))
@@ -372,12 +241,14 @@ module _ (types : List TypeEntry) (vars : List VarEntry) (callee : ProcEntry) (c
           let got = zip_first (IsLike vars callee.vars) call.results res at.0 w like at.1 in
           let v = got.0 in
           let same : kind ≡ got.2.kind = some_same kind got.2.kind (sym is ∙ got.2.other) in
-          let entry = kind_entry vars v got.2.kind got.2.own in
-          (v, record {
-            place = data_named vars v got.2.kind got.2.own (subst IsDataVar same held);
-            value = holds_after vars call res rest t v (low v entry.0 entry.1)
-                ∙ ap (λ x. Some x) (result_value at.0 v w (value_of v) got.1 at.1 (after_is v) ∙ value_is);
-          })
+          let entry = kind_entry vars v got.2.kind got.2.own in (
+            v,
+            record {
+              place = data_named vars v got.2.kind got.2.own (subst IsDataVar same held);
+              value = holds_after vars call res rest t v (low v entry.0 entry.1)
+                  ∙ ap (λ x. Some x) (result_value at.0 v w (value_of v) got.1 at.1 (after_is v) ∙ value_is);
+            },
+          )
 
   rest_root : (c : CellId) → IsLive piece c → IsRoot types u' c → (v : VarId) × Names types vars u' (place.Var v) c
   rest_root c live root =
@@ -399,11 +270,13 @@ module _ (types : List TypeEntry) (vars : List VarEntry) (callee : ProcEntry) (c
         listed = argument_handed vars call.args v yes (ap is_data (class_kind vars v e.0.kind kind) ∙ data_is e.0.kind e.2);
         in_tree = record { root = c; named = here; path = stay c out.1 };
       }))) in
-      let unlisted : is_listed call.results v ≡ false = unless (is_listed call.results v) (λ yes. awaited v c yes no is) in
-      (v, record {
-        place = named.place;
-        value = holds_after vars call res rest t v (low v e.0 e.1) ∙ ap (λ x. Some x) (stays_value v (value_of v) unlisted no (after_is v) ∙ is);
-      })
+      let unlisted : is_listed call.results v ≡ false = unless (is_listed call.results v) (λ yes. awaited v c yes no is) in (
+        v,
+        record {
+          place = named.place;
+          value = holds_after vars call res rest t v (low v e.0 e.1) ∙ ap (λ x. Some x) (stays_value v (value_of v) unlisted no (after_is v) ∙ is);
+        },
+      )
     where
       unless : (z : Bool) → (z ≡ true → ⊥) → z ≡ false
       unless true never = absurd (never refl)
@@ -417,10 +290,10 @@ module _ (types : List TypeEntry) (vars : List VarEntry) (callee : ProcEntry) (c
       let within = slice_get_within res k w at in
       let two : slice_get (p ++ res) (k + length p) ≡ Some w = slice_get-later p res k (k + length p) refl ∙ at in
       let three : slice_get (p ++ res ++ callee.proc.locals) (k + length p) ≡ Some w =
-          slice_get-first (p ++ res) callee.proc.locals (k + length p) (slice_get_within (p ++ res) (k + length p) w two) ∙ two in
+      slice_get-first (p ++ res) callee.proc.locals (k + length p) (slice_get_within (p ++ res) (k + length p) w two) ∙ two in
       let four : slice_get (p ++ res ++ callee.proc.locals ++ callee.proc.logics) (k + length p) ≡ Some w =
-          slice_get-first (p ++ res ++ callee.proc.locals) callee.proc.logics (k + length p)
-          (slice_get_within (p ++ res ++ callee.proc.locals) (k + length p) w three) ∙ three in
+      slice_get-first (p ++ res ++ callee.proc.locals) callee.proc.logics (k + length p)
+      (slice_get_within (p ++ res ++ callee.proc.locals) (k + length p) w three) ∙ three in
       numbers_at 0 callee.vars (k + length p) w (subst (λ us. slice_get us (k + length p) ≡ Some w) in_order four) ∙ omega arith
 
   named_once : (c : CellId) (v w : VarId) → NamedAfter v c → NamedAfter w c → v ≡ w
@@ -452,9 +325,9 @@ module _ (types : List TypeEntry) (vars : List VarEntry) (callee : ProcEntry) (c
         live = subst IsSome (sym (of_piece c here)) here;
         alone = λ a parent. elim (together.of_either a (Leads-live types u' DataAlone parent.field a c parent.leads).0) [
           | inl near ↦ no_parent types vars r wf.backbone v a c named (record {
-              field = parent.field;
-              leads = (leads_off others.0 r piece (piece_on-IsOn others.0 r) types DataAlone parent.field a c (one_from parent.field a c near parent.leads)).2;
-            })
+            field = parent.field;
+            leads = (leads_off others.0 r piece (piece_on-IsOn others.0 r) types DataAlone parent.field a c (one_from parent.field a c near parent.leads)).2;
+          })
           | inr there ↦ never_both c (exit_from parent.field a c there parent.leads).live (live_here v c named) out
         ];
       }
@@ -462,7 +335,8 @@ module _ (types : List TypeEntry) (vars : List VarEntry) (callee : ProcEntry) (c
   -- ---- what a variable holds is live
 
   pub type_exit : (ty : TypeId) (c : CellId) → IsOfType t ty c → IsOfType u' ty c
-  type_exit ty c h = subst (λ (o : Option CellEntry). IsSomeAnd o (λ cell. cell.variant.ty ≡ ty)) (sym (of_exit vars call res rest t c (IsOfType-live types t ty c h))) h
+  type_exit ty c h = subst (λ (o : Option CellEntry). IsSomeAnd o (λ cell. cell.variant.ty ≡ ty))
+      (sym (of_exit vars call res rest t c (IsOfType-live types t ty c h))) h
 
   pub type_rest : (ty : TypeId) (c : CellId) → (Contains cells c → ⊥) → IsOfType r ty c → IsOfType u' ty c
   type_rest ty c out h =

@@ -1,5 +1,6 @@
 -- What holds after a return: the arguments are null, the pointer rule, and the claims on the returned part and on the rest.
-use Rattle.std.proofs.Common.{◌≡◌, ◌≢◌, ◌↔◌, ◌<◌, ◌+◌, ◌⊎◌, inl, inr, ℕ, Bool, true, false, cond, not, IsTrue, ◌&&◌, List, [], ◌∷◌, ◌++◌, map, filter, length, slice_get}
+use Rattle.std.proofs.Common.{◌≡◌, ◌≢◌, ◌↔◌, ◌<◌, ◌+◌, ◌⊎◌, inl, inr, ℕ, Bool, true, false, cond, not, IsTrue, ◌&&◌, List, [], ◌∷◌, ◌++◌, map, filter}
+use Rattle.std.proofs.Common.{length, slice_get}
 use Rattle.std.proofs.Common.{Option, Some, None, IsSome, IsSomeAnd, IfSome, Contains, All, unwrap_or, is_some, refl, sym, ap, ap₂, ◌∙◌, subst, arith}
 use Rattle.std.specs.Prelude.{option_map}
 use Rattle.std.specs.List.{AllByRecursion, AllZip, AllPairs, range_with_len}
@@ -154,7 +155,8 @@ module _ (types : List TypeEntry) (vars : List VarEntry) (callee : ProcEntry) (c
   blank_now v spent =
       let known = class_there vars v (spent_cell (holds_cell (class_at vars v)) (is_argument call.args v) (is_listed call.results v) spent) in
       let held : var_value w v ≡ Some null = slice_get-map (live_part u') u'.vars v.0
-      ∙ ap (option_map (live_part u')) (holds_after vars call res rest t v (in_table v known.0 known.1) ∙ ap (λ x. Some x) (spent_null v (value_of v) spent (after_v v))) in
+      ∙ ap (option_map (live_part u')) (holds_after vars call res rest t v (in_table v known.0 known.1) ∙ ap (λ x. Some x)
+          (spent_null v (value_of v) spent (after_v v))) in
       subst (λ o. IsSomeAnd o IsBlank) (sym held) refl
 
   pub nulls_after : All (λ v. IsSomeAnd (var_value w v) IsBlank) (those (is_spent call) vars)
@@ -173,10 +175,12 @@ module _ (types : List TypeEntry) (vars : List VarEntry) (callee : ProcEntry) (c
   chain_onto (stay a live) = stay a (subst IsSome (sym (whole.of_other a live)) live)
   chain_onto (go a x c step chain) = go a x c (record {
     field = step.field;
-    leads = roots.onto types vars callee call r cells t like results_once in_order wf part exit_wf came left awaited outer t whole.of_other step.field a x step.leads;
+    leads = roots.onto types vars callee call r cells t like results_once in_order wf part exit_wf came left awaited outer t whole.of_other step.field a x
+        step.leads;
   }) (chain_onto chain)
 
-  variable_live : (s : StoreMap) (table : List VarEntry) → IsWellFormed types table s → (y : VarId) (d : CellId) → variable s y ≡ value.Cell (Some d) → IsLive s d
+  variable_live : (s : StoreMap) (table : List VarEntry) → IsWellFormed types table s → (y : VarId) (d : CellId) → variable s y ≡ value.Cell (Some d) →
+      IsLive s d
   variable_live s table is y d e =
       IfSome-at (var_value s y) (NamesLiveAlone s) (value.Cell (Some d)) (variable_some s y d e) (((IsFresh-well_formed types table s is).0).vars y)
 
@@ -223,7 +227,8 @@ module _ (types : List TypeEntry) (vars : List VarEntry) (callee : ProcEntry) (c
               named = record {
                 place = data_named vars v own.kind own.own data_own;
                 value = holds_after vars call res rest t v (in_table v own.kind own.own)
-                    ∙ ap (λ x. Some x) (roots.result_value types vars callee call r cells t like results_once in_order wf part exit_wf came left awaited outer at.0 v y (value_of v) got.1 at.1 (after_v v) ∙ is);
+                    ∙ ap (λ x. Some x) (roots.result_value types vars callee call r cells t like results_once in_order wf part exit_wf came left awaited
+                        outer at.0 v y (value_of v) got.1 at.1 (after_v v) ∙ is);
               };
               path = path;
             };
@@ -271,7 +276,7 @@ module _ (types : List TypeEntry) (vars : List VarEntry) (callee : ProcEntry) (c
       let e = IsSomeAnd-at (var_at vars h.var) _ h.points.pointer in
       let known : kind_at vars h.var ≡ Some e.0.kind = ap (option_map (λ (x : VarEntry). x.kind)) e.1 in
       let named : Some (live_part u' (value_of h.var)) ≡ Some (value.Cell (Some h.cell)) =
-          sym (slice_get-map (live_part u') u'.vars (h.var).0
-          ∙ ap (option_map (live_part u')) (holds_after vars call res rest t h.var (slice_get_within vars (h.var).0 e.0 e.1))) ∙ h.points.names in
+      sym (slice_get-map (live_part u') u'.vars (h.var).0
+      ∙ ap (option_map (live_part u')) (holds_after vars call res rest t h.var (slice_get_within vars (h.var).0 e.0 e.1))) ∙ h.points.names in
       astray h.var h.cell e.0.kind (value_of h.var) known e.2
       (part_cell u' (value_of h.var) h.cell (some_same (live_part u' (value_of h.var)) (value.Cell (Some h.cell)) named)) (after_v h.var) h.wrong_side

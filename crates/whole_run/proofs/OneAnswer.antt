@@ -1,5 +1,6 @@
 -- A whole run has one answer.
-use Rattle.std.proofs.Common.{◌≡◌, inl, inr, ℕ, zero, suc, Bool, true, false, List, [], ◌∷◌, ◌++◌, map, filter, Option, Some, None, Contains, slice_get, Result, Ok, Err, not}
+use Rattle.std.proofs.Common.{◌≡◌, inl, inr, ℕ, zero, suc, Bool, true, false, List, [], ◌∷◌, ◌++◌, map, filter, Option, Some, None, Contains}
+use Rattle.std.proofs.Common.{slice_get, Result, Ok, Err, not}
 use Rattle.std.proofs.Common.{if◌then◌else◌, refl, sym, ap, ap₂, ◌∙◌, subst}
 use Rattle.std.specs.Option.{option_and_then}
 use Rattle.std.specs.FinMap.{retain_keys}
@@ -168,7 +169,8 @@ module _ (program : TypedProgram) where
   returns_one t w waiting a c h k =
       let same : h.0 ≡ k.0 = some_same h.0 k.0 (sym h.1 ∙ k.1) in
       h.2
-      ∙ ap (λ (e : ProcEntry). goes (runs (record w.caller { store = returned_store w.caller.entry.vars w.call e.proc.results w.caller.store t }) waiting)) same
+      ∙ ap (λ (e : ProcEntry). goes (runs (record w.caller { store = returned_store w.caller.entry.vars w.call e.proc.results w.caller.store t }) waiting))
+          same
       ∙ sym k.2
 
   is_one : (turn : Turn) → One (λ next. next ≡ turn)
