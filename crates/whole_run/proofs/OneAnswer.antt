@@ -26,7 +26,7 @@ use Rattle.store_exec.specs.declared.outcome.Outcome.{Outcome}
 use Rattle.store_exec.specs.declared.outcome.Outcome.TheVariants as outcome
 use Rattle.store_exec.specs.declared.triple.Cut.{Cut}
 use Rattle.store_exec.specs.Steps.{Step}
-use Rattle.store_exec.specs.Runs.{Ending, Does, RunsItems, RunsCode}
+use Rattle.store_exec.specs.Runs.{Ending, Does, RunsItems, Follows, RunsCode}
 use Rattle.store_exec.specs.Cuts.{AtCut}
 use Rattle.store_exec.specs.Restricted.{restricted}
 use Rattle.store_exec.proofs.CodeLemmas.{code-cut}
@@ -111,13 +111,38 @@ abbrev One : (Turn → Type 0) → Type 0
 One P = (a c : Turn) → P a → P c → a ≡ c
 
 module _ (types : List TypeEntry) where
-  does_one : (line : ℕ) (s : StoreMap) (a : Act) (e f : Ending) → Does types line s a e → Does types line s a f → e ≡ f
+  pub does_one : (line : ℕ) (s : StoreMap) (a : Act) (e f : Ending) → Does types line s a e → Does types line s a f → e ≡ f
   does_one line s a (Ok t) (Ok u) h k = ap (λ x. Ok x) (ok_same (Ok t) t u refl (Step-one types s a (Ok t) (Ok u) h k))
   does_one line s a (Ok t) (Err fault) h k = ok_err (Ok t) t fault.cause refl (Step-one types s a (Ok t) (Err fault.cause) h k.0)
   does_one line s a (Err fault) (Ok u) h k = ok_err (Ok u) u fault.cause refl (Step-one types s a (Ok u) (Err fault.cause) k h.0)
   does_one line s a (Err fault) (Err other) h k =
       ap₂ (λ (c : Cause) (n : ℕ). Err (record { cause = c; line = n }))
       (err_same (Err fault.cause) fault.cause other.cause refl (Step-one types s a (Err fault.cause) (Err other.cause) h.0 k.0)) (h.1 ∙ sym k.1)
+
+  -- items have one end
+  pub items_end_one : (items : List Item) (s : StoreMap) (e f : Ending) → RunsItems types items s e → RunsItems types items s f → e ≡ f
+  items_end_one items s e f h k =
+      let z : Code-F Tail Code = record { items = items; tail = tail.Cut 0 } in
+      let code = roll-Code z in
+      let ends : code.tail ≡ tail.Cut 0 = ap (λ (x : Code-F Tail Code). x.tail) (out-roll-Code z) in
+      let own : items ≡ code.items = sym (ap (λ (x : Code-F Tail Code). x.items) (out-roll-Code z)) in
+      ended e f (code-one types code s (out_of e) (out_of f) ((code-cut types code 0 ends s (out_of e)).1 (run_of code.items e (subst (λ xs. RunsItems types xs s e) own h)))
+      ((code-cut types code 0 ends s (out_of f)).1 (run_of code.items f (subst (λ xs. RunsItems types xs s f) own k))))
+    where
+      out_of : Ending → Outcome
+      out_of (Ok t) = outcome.End 0 t
+      out_of (Err fault) = outcome.Fail fault.cause fault.line
+
+      run_of : (xs : List Item) (e : Ending) → RunsItems types xs s e → Follows (RunsItems types xs s) (λ t o. o ≡ outcome.End 0 t) (out_of e)
+      run_of xs (Ok t) h = inl (t, h, refl)
+      run_of xs (Err fault) h = inr (fault, h, refl)
+
+      ended : (e f : Ending) → out_of e ≡ out_of f → e ≡ f
+      ended (Ok t) (Ok u) same = let is : t ≡ u = cc in ap (λ x. Ok x) is
+      ended (Ok t) (Err fault) same = absurd cc
+      ended (Err fault) (Ok u) same = absurd cc
+      ended (Err fault) (Err other) same = let why : fault.cause ≡ other.cause = cc in let at : fault.line ≡ other.line = cc in
+          ap₂ (λ (c : Cause) (n : ℕ). Err (record { cause = c; line = n })) why at
 
   -- items end in one store
   items_one : (items : List Item) (s t u : StoreMap) → RunsItems types items s (Ok t) → RunsItems types items s (Ok u) → t ≡ u
