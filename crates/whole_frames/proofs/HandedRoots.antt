@@ -271,7 +271,7 @@ module _ (types : List TypeEntry) (vars : List VarEntry) (callee : ProcEntry) (c
       }
   plain_given actual.Null u entry at fits =
       plain_null h entry.kind (subst (λ (o : Option VarEntry). IsSomeAnd (option_map (λ (e : VarEntry). e.kind) o)
-          (λ kind. IsTrue (holds_cell (class_of kind)))) at fits)
+      (λ kind. IsTrue (holds_cell (class_of kind)))) at fits)
   plain_given (actual.Truth truth) u entry at fits =
       plain_truth h entry.kind truth
       (subst (λ (o : Option VarEntry). IsSomeAnd (option_map (λ (e : VarEntry). e.kind) o) (λ kind. IsTrue (holds_truth (class_of kind)))) at fits)
@@ -362,12 +362,12 @@ module _ (types : List TypeEntry) (vars : List VarEntry) (callee : ProcEntry) (c
       let named : Names types vars r (place.Var reached.root) c = subst (Names types vars r (place.Var reached.root)) same tree.named in
       let at = handed_at vars call.args reached.root reached.listed in
       let got = zip_get _ call.args callee.proc.params at.0 (actual.Var reached.root) (args_given vars callee call r cells args logics in_order programs
-          are_logic) at.1 in
+      are_logic) at.1 in
       let fits = got.2.0 in
       let var_is = handed_var reached.root fits.kind fits.own in
       let held = data_kind vars reached.root fits.kind fits.own at.2 in
       let stands : variable r reached.root ≡ value.Cell (Some c) = var_is.is ∙ some_same var_is.value_before (value.Cell (Some c))
-          (sym var_is.stood ∙ named.value) in (
+      (sym var_is.stood ∙ named.value) in (
         got.0,
         record {
           place = data_named callee.vars got.0 fits.kind fits.other held;

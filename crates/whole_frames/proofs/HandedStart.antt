@@ -293,7 +293,7 @@ module _ (types : List TypeEntry) (procs : List ProcEntry) (vars : List VarEntry
   pre_holds sat =
       (satisfied_too (store_on s cells) (handed_vars callee call (restricted s) cells) (restricted s).next types callee.vars
       (beside callee.proc.params call.args ++ beside callee.proc.logics call.logics) (Contains (callee.proc.params ++ callee.proc.logics)) callee.proc.pre
-          proc.pre
+      proc.pre
       (λ v sort among is. held_by _ v sort (put_found Given callee.proc.params callee.proc.logics call.args call.logics
       (args_given vars callee call (restricted s) cells args logics proc.in_order proc.program_variables proc.logic_variables)
       (logics_given vars callee call (restricted s) cells args logics proc.in_order proc.program_variables proc.logic_variables) v among) is)).0 sat
@@ -314,7 +314,7 @@ module _ (types : List TypeEntry) (procs : List ProcEntry) (vars : List VarEntry
       let on_cells = (Sat-on types vars [] s outside (pre_of procs call) (region.Part (handed_by vars call.args)) cells
       (part_before s types vars (handed_by vars call.args) cells part)).0 claims.0 in
       let own = subst (λ (o : Option ProcEntry). SatAll types [] (store_on s cells) outside
-          (option_map_or (λ (e : ProcEntry). pre_for call e.proc) o assertion.True))
+      (option_map_or (λ (e : ProcEntry). pre_for call e.proc) o assertion.True))
       there on_cells in
       record {
         nulls = All-from_recursion (λ v. IsSomeAnd (var_value h v) IsBlank) (those (is_fresh callee.proc) callee.vars)

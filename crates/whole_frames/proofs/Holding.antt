@@ -308,9 +308,11 @@ module _ (p : StoreMap) (xs : List Value) (n : ℕ) where
           let left = same-set k b set f.ty d bound (one (set_name set d) (set_name more d) pair) f.left in
           let right = same-set k b more f.ty d bound (other (set_name set d) (set_name more d) pair) f.right in
           become (filled-Subset (put_for puts) set more k) (env bound)
-          (both (Holds-Subset types p said _ _ (env bound))
-          (λ sub c live among. (right c live).0 (sub c live ((left c live).1 among)), λ sub c live among. (right c live).1
-              (sub c live ((left c live).0 among)))
+          (both (Holds-Subset types p said _ _ (env bound)) (
+            λ sub c live among. (right c live).0 (sub c live ((left c live).1 among)),
+            λ sub c live among. (right c live).1
+                (sub c live ((left c live).0 among)),
+          )
           (Holds-Subset types q says set more (env bound)));
       of_Walk = λ t along u k b d bound may h. let f = (Fits-Walk types (inner b) t along u).0 h in let pair = told (names-Walk t along u d) may in
           become (filled-Walk (put_for puts) t along u k) (env bound)

@@ -123,7 +123,7 @@ argument_handed vars (actual.Var w ∷ args) v is held = by (λ more. argument_h
         let e : w ≡ v = same-var w v same in
         subst (λ (z : Bool). Contains (if z then w ∷ handed_by vars args else handed_by vars args) v)
         (sym (subst (λ (u : VarId). is_data (class_at vars u) ≡ true) (sym e) held)) (subst (λ (u : VarId). Contains (w ∷ handed_by vars args) u) e
-            (in_first w (handed_by vars args)))
+        (in_first w (handed_by vars args)))
     by later false same among = behind (is_data (class_at vars w)) (later among)
 
 -- a variable stands at one place of a list

@@ -126,7 +126,7 @@ module _ (types : List TypeEntry) (procs : List ProcEntry) (vars : List VarEntry
       kind_at table v ≡ Some kind → test (class_at table v) v ≡ true → (y : Value) × (var_value store v ≡ Some y) × IsBlank y
   blank_at store test table all v kind known is =
       IsSomeAnd-at (var_value store v) IsBlank (All-contains (λ w. IsSomeAnd (var_value store w) IsBlank) (those test table) v all
-          (picked test table v kind known is))
+      (picked test table v kind known is))
 
   pub left : (u : VarId) (kind : VarKind) → kind_at callee.vars u ≡ Some kind → holds_cell (class_of kind) ≡ true → is_listed callee.proc.results u ≡ false →
       variable t u ≡ null

@@ -209,7 +209,7 @@ module _ (types : List TypeEntry) (vars : List VarEntry) (callee : ProcEntry) (c
       let here = stood types callee.vars t exit_wf w kind (both.other ∙ ap (λ k. Some k) same) in
       fits_by u' t kind x (subst (VarFits t kind) (sym from) here.fits)
       (held_after types vars callee call r cells t like results_once in_order wf part exit_wf came left awaited outer v kind x is
-          (is_result k w one other from))
+      (is_result k w one other from))
       (λ ty cs set e. all_map (IsOfType t ty) (NamesType u' ty)
       (λ d h. some_if (cell_of u' d) (λ cell. cell.variant.ty ≡ ty)
       (type_exit types vars callee call r cells t like results_once in_order wf part exit_wf came left awaited outer ty d h)) cs
@@ -221,7 +221,7 @@ module _ (types : List TypeEntry) (vars : List VarEntry) (callee : ProcEntry) (c
       let here = stood types vars r wf v kind is in
       fits_by u' r kind x (subst (VarFits r kind) (sym from) here.fits)
       (held_after types vars callee call r cells t like results_once in_order wf part exit_wf came left awaited outer v kind x is
-          (stays unlisted unspent from))
+      (stays unlisted unspent from))
       (λ ty cs set e. all_map (IsOfType r ty) (NamesType u' ty) (set_named ty) cs (set_of r kind (variable r v) ty cs set (sym from ∙ e) here.sets))
 
   pub fits_after : Fits types vars u'
@@ -244,10 +244,10 @@ module _ (types : List TypeEntry) (vars : List VarEntry) (callee : ProcEntry) (c
         let v : VarId = record { 0 = k } in
         let low = slice_get_within vars k entry at in
         let value_is : value_after vars call res rest t v ≡ x = some_same (value_after vars call res rest t v) x
-            (sym (holds_after vars call res rest t v low) ∙ is) in
+        (sym (holds_after vars call res rest t v low) ∙ is) in
         subst (VarFits u' entry.kind) value_is (value_fits v entry.kind (value_after vars call res rest t v)
         (ap (option_map (λ (e : VarEntry). e.kind)) at) (after_is types vars callee call r cells t like results_once in_order wf part exit_wf came left
-            awaited outer v)));
+        awaited outer v)));
     above = IsAbove-from u' (λ c live. elim (whole.of_either c live) [
       | inl here ↦ let below = live_below r c wf.fits.above (roots.piece_live types vars callee call r cells t like results_once in_order wf part exit_wf
           came left awaited outer c here).1 in

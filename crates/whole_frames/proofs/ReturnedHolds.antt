@@ -174,10 +174,10 @@ module _ (types : List TypeEntry) (procs : List ProcEntry) (vars : List VarEntry
       let fits_x = exit_value u own.kind own.other in
       let plain_x : variable t u ≡ variable x u = variable_now x u ∙ program_part x x own.kind (variable x u) program fits_x in
       let value_is : value_of v ≡ variable x u = result_value types vars callee call r cells t like fits.results_once proc.in_order wf part exit_wf came
-          left awaited outer k v u (value_of v) one other (after_is types vars callee call r cells t like fits.results_once proc.in_order wf part exit_wf
-              came left awaited outer v) ∙ plain_x in
+      left awaited outer k v u (value_of v) one other (after_is types vars callee call r cells t like fits.results_once proc.in_order wf part exit_wf
+      came left awaited outer v) ∙ plain_x in
       let now : variable w v ≡ variable x u = now_is v own.kind own.own ∙ ap (live_part u') value_is ∙ program_part u' x own.kind (variable x u) program
-          fits_x in
+      fits_x in
       subst (λ y. Alike p y (variable x u)) (sym now) (alike_same p (variable x u))
 
   results_known : AllByRecursion (IsProgramVariable callee.vars) res
@@ -223,7 +223,7 @@ module _ (types : List TypeEntry) (procs : List ProcEntry) (vars : List VarEntry
       ∙ ap (live_part x) (some_variable (handed_store callee call r cells) u (handed_value r cells (actual.Var v)) given.1) in
       subst (λ y. Alike p y (variable x u))
       (sym (now_is v own.kind own.own ∙ ap (live_part u') (stays_logic v own.kind (value_of v) own.own is_logical
-          (after_is types vars callee call r cells t like fits.results_once proc.in_order wf part exit_wf came left awaited outer v))))
+      (after_is types vars callee call r cells t like fits.results_once proc.in_order wf part exit_wf came left awaited outer v))))
       (alike_logic r cells x u' p live_both handed_in types own.kind (variable r v) (variable x u) is_logical fits_r sets_r exit_is)
     where
       part_same : (y : Value) → live_part t y ≡ live_part x y
@@ -244,13 +244,13 @@ module _ (types : List TypeEntry) (procs : List ProcEntry) (vars : List VarEntry
   logics_put =
       let given = logics_given vars callee call r cells args logics proc.in_order proc.program_variables proc.logic_variables in
       zip_as (λ a u. (IsGiven vars callee call r cells args logics proc.in_order proc.program_variables proc.logic_variables a u ×
-          (variable t u ≡ live_part t (variable (handed_store callee call r cells) u))) × IsLogicVariable callee.vars u) Q
+      (variable t u ≡ live_part t (variable (handed_store callee call r cells) u))) × IsLogicVariable callee.vars u) Q
       (λ a u h. logic_held a u h.0.0 h.0.1 h.1) call.logics callee.proc.logics
       (zip_and (λ a u. IsGiven vars callee call r cells args logics proc.in_order proc.program_variables proc.logic_variables a u ×
-          (variable t u ≡ live_part t (variable (handed_store callee call r cells) u))) (IsLogicVariable callee.vars)
+      (variable t u ≡ live_part t (variable (handed_store callee call r cells) u))) (IsLogicVariable callee.vars)
       call.logics callee.proc.logics
       (zip_and (IsGiven vars callee call r cells args logics proc.in_order proc.program_variables proc.logic_variables)
-          (λ u. variable t u ≡ live_part t (variable (handed_store callee call r cells) u)) call.logics callee.proc.logics given kept)
+      (λ u. variable t u ≡ live_part t (variable (handed_store callee call r cells) u)) call.logics callee.proc.logics given kept)
       proc.logic_variables)
 
   -- ---- the claims
@@ -266,7 +266,7 @@ module _ (types : List TypeEntry) (procs : List ProcEntry) (vars : List VarEntry
       let moved : x ≡ record p { vars = x.vars; next = x.next } = λ i. record { cells = p_cells i; vars = x.vars; next = x.next } in
       (satisfied_too p x.vars x.next types callee.vars
       (beside res (map (λ v. actual.Var v) call.results) ++ beside callee.proc.logics call.logics) (Contains (res ++ callee.proc.logics)) callee.proc.post
-          proc.post
+      proc.post
       (λ u sort among is. put_found Q res callee.proc.logics (map (λ v. actual.Var v) call.results) call.logics results_put logics_put u among sort is)).1
       (subst (λ st. SatAll types [] st outside callee.proc.post) moved sat)
 
@@ -291,7 +291,7 @@ module _ (types : List TypeEntry) (procs : List ProcEntry) (vars : List VarEntry
       let h = (outside_r.members d).0 m in
       let here = in_piece types vars callee call r cells t like fits.results_once proc.in_order wf part exit_wf came left awaited outer d h.0 h.1 in
       subst IsSome (sym ((together types vars callee call r cells t like fits.results_once proc.in_order wf part exit_wf came left awaited outer).of_one d
-          here)) here
+      here)) here
 
   rest_after : Lists (IsUnreached types vars w (returned_by vars call.results)) R
   rest_after = record {
@@ -302,15 +302,15 @@ module _ (types : List TypeEntry) (procs : List ProcEntry) (vars : List VarEntry
             live = piece_is d m;
             unreached = λ reached. never_both types vars callee call r cells t like fits.results_once proc.in_order wf part exit_wf came left awaited outer
                 d (reached_live types vars callee call r cells t like fits.results_once proc.in_order wf part exit_wf came left awaited outer d
-                    (reached_before u' types vars (returned_by vars call.results) d reached)) h.0 h.1;
+                (reached_before u' types vars (returned_by vars call.results) d reached)) h.0 h.1;
           },
       λ h. elim ((together types vars callee call r cells t like fits.results_once proc.in_order wf part exit_wf came left awaited outer).of_either d
           h.live) [
-        | inl here ↦ let both = piece_live types vars callee call r cells t like fits.results_once proc.in_order wf part exit_wf came left awaited outer d
-            here in (outside_r.members d).1 (both.1, both.0)
-        | inr far ↦ absurd (h.unreached (reached_now u' types vars (returned_by vars call.results) d
-            (live_reached types vars callee call r cells t like fits.results_once proc.in_order wf part exit_wf came left awaited outer d far)))
-      ],
+            | inl here ↦ let both = piece_live types vars callee call r cells t like fits.results_once proc.in_order wf part exit_wf came left awaited outer d
+                here in (outside_r.members d).1 (both.1, both.0)
+            | inr far ↦ absurd (h.unreached (reached_now u' types vars (returned_by vars call.results) d
+                (live_reached types vars callee call r cells t like fits.results_once proc.in_order wf part exit_wf came left awaited outer d far)))
+          ],
     );
   }
 
@@ -323,7 +323,7 @@ module _ (types : List TypeEntry) (procs : List ProcEntry) (vars : List VarEntry
         let h = (outside_r.members c).0 m in
         let here = in_piece types vars callee call r cells t like fits.results_once proc.in_order wf part exit_wf came left awaited outer c h.0 h.1 in
         (store_on-IsOn s R).inside c m ∙ sym ((store_on-IsOn w R).inside c m ∙ (together types vars callee call r cells t like fits.results_once
-            proc.in_order wf part exit_wf came left awaited outer).of_one c here ∙ piece_cell c m)
+        proc.in_order wf part exit_wf came left awaited outer).of_one c here ∙ piece_cell c m)
     | inr out ↦ (store_on-IsOn s R).outside c out ∙ sym ((store_on-IsOn w R).outside c out)
   ])
     where
@@ -358,13 +358,13 @@ module _ (types : List TypeEntry) (procs : List ProcEntry) (vars : List VarEntry
       let known = sort_kind v sort is in
       subst (Alike S (variable s v))
       (sym (now_is v known.0 known.1 ∙ ap (live_part u') (untouched_stays v known.0 (value_of v) known.1 free
-          (after_is types vars callee call r cells t like fits.results_once proc.in_order wf part exit_wf came left awaited outer v) ∙ variable_now s v)))
+      (after_is types vars callee call r cells t like fits.results_once proc.in_order wf part exit_wf came left awaited outer v) ∙ variable_now s v)))
       (alike_rest s u' R (λ c live. piece_is c (live_on R s S (store_on-IsOn s R) c live).0) (variable s v))
 
   keep_there : SatAll types [] S outside call.keep → SatAll types [] (store_on w R) outside call.keep
   keep_there sat =
       let put = (satisfied_too S S.vars S.next types vars [] (IsUntouched vars call) call.keep fits.keep (λ v sort free is. alike_same S (variable s v))).1
-          sat in
+      sat in
       let own = (satisfied_too S w.vars w.next types vars [] (IsUntouched vars call) call.keep fits.keep keep_held).0 put in
       let moved : record S { vars = w.vars; next = w.next } ≡ store_on w R = λ i. record { cells = S_cells i; vars = w.vars; next = w.next } in
       subst (λ st. SatAll types [] st outside call.keep) moved own

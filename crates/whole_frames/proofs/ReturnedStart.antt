@@ -156,7 +156,7 @@ module _ (types : List TypeEntry) (vars : List VarEntry) (callee : ProcEntry) (c
       let known = class_there vars v (spent_cell (holds_cell (class_at vars v)) (is_argument call.args v) (is_listed call.results v) spent) in
       let held : var_value w v ≡ Some null = slice_get-map (live_part u') u'.vars v.0
       ∙ ap (option_map (live_part u')) (holds_after vars call res rest t v (in_table v known.0 known.1) ∙ ap (λ x. Some x)
-          (spent_null v (value_of v) spent (after_v v))) in
+      (spent_null v (value_of v) spent (after_v v))) in
       subst (λ o. IsSomeAnd o IsBlank) (sym held) refl
 
   pub nulls_after : All (λ v. IsSomeAnd (var_value w v) IsBlank) (those (is_spent call) vars)
@@ -228,7 +228,7 @@ module _ (types : List TypeEntry) (vars : List VarEntry) (callee : ProcEntry) (c
                 place = data_named vars v own.kind own.own data_own;
                 value = holds_after vars call res rest t v (in_table v own.kind own.own)
                     ∙ ap (λ x. Some x) (roots.result_value types vars callee call r cells t like results_once in_order wf part exit_wf came left awaited
-                        outer at.0 v y (value_of v) got.1 at.1 (after_v v) ∙ is);
+                    outer at.0 v y (value_of v) got.1 at.1 (after_v v) ∙ is);
               };
               path = path;
             };

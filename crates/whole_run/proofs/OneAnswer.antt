@@ -126,7 +126,8 @@ module _ (types : List TypeEntry) where
       let code = roll-Code z in
       let ends : code.tail ≡ tail.Cut 0 = ap (λ (x : Code-F Tail Code). x.tail) (out-roll-Code z) in
       let own : items ≡ code.items = sym (ap (λ (x : Code-F Tail Code). x.items) (out-roll-Code z)) in
-      ended e f (code-one types code s (out_of e) (out_of f) ((code-cut types code 0 ends s (out_of e)).1 (run_of code.items e (subst (λ xs. RunsItems types xs s e) own h)))
+      ended e f (code-one types code s (out_of e) (out_of f) ((code-cut types code 0 ends s (out_of e)).1
+      (run_of code.items e (subst (λ xs. RunsItems types xs s e) own h)))
       ((code-cut types code 0 ends s (out_of f)).1 (run_of code.items f (subst (λ xs. RunsItems types xs s f) own k))))
     where
       out_of : Ending → Outcome
@@ -195,7 +196,7 @@ module _ (program : TypedProgram) where
       let same : h.0 ≡ k.0 = some_same h.0 k.0 (sym h.1 ∙ k.1) in
       h.2
       ∙ ap (λ (e : ProcEntry). goes (runs (record w.caller { store = returned_store w.caller.entry.vars w.call e.proc.results w.caller.store t }) waiting))
-          same
+      same
       ∙ sym k.2
 
   is_one : (turn : Turn) → One (λ next. next ≡ turn)

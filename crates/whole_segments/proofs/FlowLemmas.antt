@@ -39,8 +39,10 @@ module _ (types : List TypeEntry) (points : List Point) where
 
   -- no items, and then the tail
   no_items : (end : Tail) (s : StoreMap) (out : Outcome) → RunsCode types (roll-Code (record { items = []; tail = end })) s out ↔ RunsTail types end s out
-  no_items end s out = (λ h. forth ((rolled (record { items = []; tail = end }) s out).0 h),
-      λ h. (rolled (record { items = []; tail = end }) s out).1 (inl (s, refl, h)))
+  no_items end s out = (
+    λ h. forth ((rolled (record { items = []; tail = end }) s out).0 h),
+    λ h. (rolled (record { items = []; tail = end }) s out).1 (inl (s, refl, h)),
+  )
     where
       forth : Follows (RunsItems types [] s) (RunsTail types end) out → RunsTail types end s out
       forth (inl (t, e, h)) = subst (λ u. RunsTail types end u out) (ok_same (Ok t) t s refl e) h
@@ -66,9 +68,11 @@ module _ (types : List TypeEntry) (points : List Point) where
     of_whole later s out (inl (u, inl (t, ran, more), end)) = on later s t out ran (inl (u, more, end))
     of_whole later s out (inl (u, inr (fault, ran, e), end)) = ok_err (Ok u) u fault refl e
     of_whole later s out (inr (fault, inl (t, ran, more), e)) = on later s t out ran (inr (fault, more, e))
-    of_whole later s out (inr (fault, inr (other, ran, same), e)) =
-        (stops other.cause other.line, inr (other, ran, refl),
-        e ∙ ap (λ (f : Fault). outcome.Fail f.cause f.line) (err_same (Err fault) fault other refl same))
+    of_whole later s out (inr (fault, inr (other, ran, same), e)) = (
+      stops other.cause other.line,
+      inr (other, ran, refl),
+      e ∙ ap (λ (f : Fault). outcome.Fail f.cause f.line) (err_same (Err fault) fault other refl same),
+    )
 
     does_forth : ((t : StoreMap) (out : Outcome) → RunsCode types code t out → Leads rest t out) → (s : StoreMap) (out : Outcome) →
         RunsCode types (behind i code) s out → Leads (does i rest) s out
