@@ -1,22 +1,19 @@
 -- A whole run has one answer.
-use Rattle.std.proofs.Common.{◌≡◌, inl, inr, ℕ, zero, suc, Bool, true, false, List, [], ◌∷◌, ◌++◌, map, filter, Option, Some, None, Contains}
-use Rattle.std.proofs.Common.{slice_get, Result, Ok, Err, not}
+use Rattle.std.proofs.Common.{◌≡◌, inl, inr, ℕ, zero, suc, Bool, true, false, List, [], ◌∷◌, ◌++◌, map, filter, Some, None, Contains}
+use Rattle.std.proofs.Common.{Result, Ok, Err, not}
 use Rattle.std.proofs.Common.{if◌then◌else◌, refl, sym, ap, ap₂, ◌∙◌, subst}
-use Rattle.std.specs.Option.{option_and_then}
 use Rattle.std.specs.FinMap.{retain_keys}
 use Rattle.std.proofs.lemmas.Bool.{false≢true}
-use Rattle.store_core.specs.declared.ids.VarId.{VarId}
 use Rattle.store_core.specs.declared.ids.CellId.{CellId}
 use Rattle.store_core.specs.declared.value.Value.{Value}
 use Rattle.store_core.specs.declared.value.Value.TheVariants as value
 use Rattle.store_core.specs.Tables.{TypeEntry, VarEntry}
 use Rattle.store_core.specs.Stores.{StoreMap}
-use Rattle.routing_expr.specs.Regions.{has_number, IsPart, IsReachedFrom}
+use Rattle.routing_expr.specs.Regions.{has_number, IsReachedFrom}
 use Rattle.routing_laws.specs.Pieces.{value_on}
 use Rattle.routing_laws.proofs.RegionLemmas.{number_in, in_number}
 use Rattle.store_logic.specs.declared.act.Act.{Act}
 use Rattle.store_exec.specs.declared.cause.Cause.{Cause}
-use Rattle.store_exec.specs.declared.fault.Fault.{Fault}
 use Rattle.store_exec.specs.declared.code.Item.{Item}
 use Rattle.store_exec.specs.declared.code.Code.{Code, roll-Code, out-roll-Code}
 use Rattle.store_exec.specs.declared.code.Tail.TheVariants as tail
@@ -25,9 +22,7 @@ use Rattle.store_exec.specs.declared.code.Tail.{Tail}
 use Rattle.store_exec.specs.declared.outcome.Outcome.{Outcome}
 use Rattle.store_exec.specs.declared.outcome.Outcome.TheVariants as outcome
 use Rattle.store_exec.specs.declared.triple.Cut.{Cut}
-use Rattle.store_exec.specs.Steps.{Step}
-use Rattle.store_exec.specs.Runs.{Ending, Does, RunsItems, Follows, RunsCode}
-use Rattle.store_exec.specs.Cuts.{AtCut}
+use Rattle.store_exec.specs.Runs.{Ending, Does, RunsItems, Follows}
 use Rattle.store_exec.specs.Restricted.{restricted}
 use Rattle.store_exec.proofs.CodeLemmas.{code-cut}
 use Rattle.store_exec.proofs.OneEndLemmas.{Step-one, code-one}
@@ -43,7 +38,7 @@ use Rattle.hoare_split.specs.Calls.{handed_by}
 use Rattle.hoare_split.specs.Cuts.{plain_cut, call_cut}
 use Rattle.hoare_split.specs.Picking.{is_awaited, is_left}
 use Rattle.hoare_split.specs.Settings.{settings}
-use Rattle.whole_run.specs.States.{Frame, Waiting, State, runs, exited, Turn, goes, fails, Answer, Running, Fail, Exit}
+use Rattle.whole_run.specs.States.{Frame, Waiting, State, runs, exited, Turn, goes, fails, Answer}
 use Rattle.whole_run.specs.Handing.{handed_value, blank_at, handed_store, rest_store, returned_store}
 use Rattle.whole_run.specs.Turns.{from_ending, on_with, Arrives, AfterSettings, Begins, Returns, TakesForm, Exits, Takes, behind_cut}
 use Rattle.whole_run.specs.Runs.{EndsBy, Ends, WholeRun}

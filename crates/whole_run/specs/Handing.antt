@@ -1,5 +1,5 @@
 -- What a call hands over, and what stands after it. (Møller and Schwartzbach, PLDI 2001: procedure calls.)
-use Rattle.std.specs.Prelude.{◌==◌, not, Bool, List, ◌++◌, length, map, if◌then◌else◌}
+use Rattle.std.specs.Prelude.{◌==◌, not, List, ◌++◌, length, map, if◌then◌else◌}
 use Rattle.std.specs.Option.{option_map_or}
 use Rattle.std.specs.List.{find, zip, range_with_len}
 use Rattle.std.specs.FinMap.{entries, from_entries, retain_keys}
