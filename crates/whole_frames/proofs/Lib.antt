@@ -1,0 +1,13 @@
+pub mod Holding
+pub mod Zips
+pub mod Handed
+pub mod HandedRoots
+pub mod HandedStart
+pub mod Beside
+pub mod Places
+pub mod ReturnedRoots
+pub mod ReturnedForm
+pub mod Returned
+pub mod ReturnedStart
+pub mod ReturnedClaims
+pub mod ReturnedHolds

@@ -1,0 +1,4 @@
+pub mod States
+pub mod Handing
+pub mod Turns
+pub mod Runs
