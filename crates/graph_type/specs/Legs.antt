@@ -5,7 +5,7 @@ use Rattle.std.specs.Option.{option_and_then}
 use Rattle.store_core.specs.declared.kind.Route.{Route}
 use Rattle.store_core.specs.declared.kind.Route.TheOpen.{Route-F}
 use Rattle.store_core.specs.declared.kind.Route.TheFolds.{fold-Route}
-use Rattle.store_core.specs.Postfix.{Form, form_of, without_parts}
+use Rattle.store_core.specs.Postfix.{Form, form_of, without_parts, form_count}
 use Rattle.ws2s_core.specs.declared.formula.Formula.{Formula}
 use Rattle.graph_view.specs.Routes.{Joining}
 use Rattle.graph_type.specs.declared.legs.Leg.{Leg}
@@ -72,6 +72,10 @@ spans_in (Route-F.Star round) next a b = record { route = round; next = suc (suc
 
 abbrev pub span_parts : Span → List Part
 span_parts span = parts_of span.route span.next span.from span.to
+
+-- how many forms the route is made of
+abbrev pub span_count : Span → ℕ
+span_count span = form_count span.route
 
 -- the form of the route, by its tracks
 abbrev pub part_of : Leg → Part

@@ -2,7 +2,9 @@
 
 ghost use Rattle.std.specs.Prelude.{◌≡◌, ◌++◌, [], ◌∷◌, flat_map, IfOk, OnOk};
 ghost use Rattle.ws2s_core.specs.declared.formula.Formula.TheVariants.{Not};
+ghost use Rattle.ws2s_forms.specs.Forms as forms;
 ghost use Rattle.graph_view.specs.Cuts as formulas;
+ghost use Rattle.graph_view.specs.Routes as routes;
 ghost use Rattle.graph_view.specs.Cuts.{has_value, wrong_parts};
 ghost use Rattle.graph_view.specs.Sights.{sight_of};
 
@@ -76,6 +78,28 @@ pub(crate) fn leaks(
     bound(alloc, next, closed, lost)
 }
 
+/// The cell on track `b` is what the pointer field of that on track `a` names, and no destination of it, or the other way.
+fn is_misled(
+    alloc: Global,
+    l: &Layout<'_>,
+    view: &View,
+    next: u32,
+    f: FieldId,
+    target: TypeId,
+    along: &Route,
+    a: u32,
+    b: u32,
+) -> Result<Formula, AllocError>
+    ensures { IfOk result (λ formula. formula ≡ Not (forms.iff
+        (routes.names l.now.types (sight_of l.now.vars view.now) next f a b)
+        (routes.destination l.now.types (sight_of l.now.vars view.now) next f target along.now a b))) }
+{
+    let named = names(alloc, l, view, next, f, a, b)?;
+    let led = destination(alloc, l, view, next, f, target, along, a, b)?;
+    let same = iff(alloc, named, led)?;
+    Formula::not(alloc, same)
+}
+
 /// The pointer field of some cell names another cell than its destinations.
 fn is_wrong(
     alloc: Global,
@@ -92,10 +116,8 @@ fn is_wrong(
     let other = later(next, 1)?;
     let inner = later(next, 2)?;
     let owned = has(alloc, l, view, other, f, next)?;
-    let named = names(alloc, l, view, inner, f, next, other)?;
-    let led = destination(alloc, l, view, inner, f, target, along, next, other)?;
-    let same = iff(alloc, named, led)?;
-    let apart = ex1(alloc, other, Formula::not(alloc, same)?)?;
+    let misled = is_misled(alloc, l, view, inner, f, target, along, next, other)?;
+    let apart = ex1(alloc, other, misled)?;
     ex1(alloc, next, Formula::and(alloc, owned, apart)?)
 }
 

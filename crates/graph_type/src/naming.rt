@@ -1,6 +1,6 @@
 //! What cell fields name, and walks over data fields.
 
-ghost use Rattle.std.specs.Prelude.{◌≡◌, map, reverse, IfOk, OnOk, IsSome, Some};
+ghost use Rattle.std.specs.Prelude.{◌≡◌, map, reverse, IfOk, OnOk, IsSome, Some, ◌∷◌};
 ghost use Rattle.graph_view.specs.Routes as formulas;
 ghost use Rattle.graph_view.specs.Routes.{walk_rules};
 ghost use Rattle.graph_view.specs.Fields.{is_data};
@@ -132,6 +132,49 @@ pub(crate) fn stay_at_leaf(
     stay_where_none(alloc, l, view, next, a, b, below)
 }
 
+/// The formula of a part of a walk, which takes those of its own parts.
+fn walk_by_data(
+    alloc: Global,
+    l: &Layout<'_>,
+    view: &View,
+    made: &mut Vec<Formula>,
+    leg: Leg<'_>,
+) -> Result<Formula, AllocError>
+    requires { IsSome (applied (walk_rules l.now.types (sight_of l.now.vars view.now)
+        (formulas.names_by_data l.now.types (sight_of l.now.vars view.now)) is_data) (part_of leg) (reverse made.old.items)) }
+    ensures { IfOk result (λ walk. applied (walk_rules l.now.types (sight_of l.now.vars view.now)
+        (formulas.names_by_data l.now.types (sight_of l.now.vars view.now)) is_data) (part_of leg.entry) (reverse made.old.items)
+        ≡ Some (walk ∷ reverse made.new.items)) }
+{
+    let Leg { next, from, to, .. } = leg;
+    match leg.route {
+        Route::Down(name) => down_by_data(alloc, l, view, name.as_slice(), next, from, to),
+        Route::Up(name) => down_by_data(alloc, l, view, name.as_slice(), next, to, from),
+        Route::UpAny => edge(alloc, l, view, next, to, from),
+        Route::Root => stay_at_root(alloc, l, view, next, from, to),
+        Route::Leaf => stay_at_leaf(alloc, l, view, next, from, to),
+        Route::IsType(ty) => stay_in_type(alloc, l, view, next, *ty, from, to),
+        Route::IsVariant(v) => stay_in_variant(alloc, l, view, next, *v, from, to),
+        Route::IsBool(name, value) => {
+            stay_at_truth(alloc, l, view, name.as_slice(), *value, next, from, to)
+        }
+        Route::Then(_, _) => {
+            let second = made.pop().unwrap();
+            let first = made.pop().unwrap();
+            ex1(alloc, next, Formula::and(alloc, first, second)?)
+        }
+        Route::Or(_, _) => {
+            let other = made.pop().unwrap();
+            let one = made.pop().unwrap();
+            or(alloc, one, other)
+        }
+        Route::Star(_) => {
+            let round = made.pop().unwrap();
+            rounds(alloc, l, view, next, from, to, round)
+        }
+    }
+}
+
 /// Puts the formula of a part of a walk over data fields in the place of those of its own parts.
 fn apply_by_data(
     alloc: Global,
@@ -146,33 +189,7 @@ fn apply_by_data(
         (formulas.names_by_data l.now.types (sight_of l.now.vars view.now)) is_data) (part_of leg.entry) (reverse made.old.items)
         ≡ Some (reverse made.new.items)) }
 {
-    let Leg { next, from, to, .. } = leg;
-    let walk = match leg.route {
-        Route::Down(name) => down_by_data(alloc, l, view, name.as_slice(), next, from, to)?,
-        Route::Up(name) => down_by_data(alloc, l, view, name.as_slice(), next, to, from)?,
-        Route::UpAny => edge(alloc, l, view, next, to, from)?,
-        Route::Root => stay_at_root(alloc, l, view, next, from, to)?,
-        Route::Leaf => stay_at_leaf(alloc, l, view, next, from, to)?,
-        Route::IsType(ty) => stay_in_type(alloc, l, view, next, *ty, from, to)?,
-        Route::IsVariant(v) => stay_in_variant(alloc, l, view, next, *v, from, to)?,
-        Route::IsBool(name, value) => {
-            stay_at_truth(alloc, l, view, name.as_slice(), *value, next, from, to)?
-        }
-        Route::Then(_, _) => {
-            let second = made.pop().unwrap();
-            let first = made.pop().unwrap();
-            ex1(alloc, next, Formula::and(alloc, first, second)?)?
-        }
-        Route::Or(_, _) => {
-            let other = made.pop().unwrap();
-            let one = made.pop().unwrap();
-            or(alloc, one, other)?
-        }
-        Route::Star(_) => {
-            let round = made.pop().unwrap();
-            rounds(alloc, l, view, next, from, to, round)?
-        }
-    };
+    let walk = walk_by_data(alloc, l, view, made, leg)?;
     made.push(walk)?;
     Ok(())
 }
@@ -228,7 +245,7 @@ pub fn destination(
 }
 
 /// The same before all events.
-fn first_destination(
+pub(crate) fn first_destination(
     alloc: Global,
     l: &Layout<'_>,
     next: u32,

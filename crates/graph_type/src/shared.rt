@@ -2,7 +2,10 @@
 
 ghost use Rattle.std.specs.Prelude.{◌≡◌, ◌++◌, flat_map, map, IfOk, OnOk};
 ghost use Rattle.tree_formula.specs.WellEncoded.{types_in};
+ghost use Rattle.ws2s_core.specs.declared.formula.Formula.TheVariants.{And};
+ghost use Rattle.ws2s_forms.specs.Forms as forms;
 ghost use Rattle.graph_view.specs.Cuts as formulas;
+ghost use Rattle.graph_view.specs.Live as live;
 ghost use Rattle.graph_view.specs.Cuts.{both_name, two_fields, pairs, field_pairs};
 ghost use Rattle.graph_view.specs.Syms as syms;
 ghost use Rattle.graph_view.specs.Sights.{sight_of};
@@ -215,6 +218,24 @@ fn named_twice(
     Ok(parts)
 }
 
+/// The cell on track `c` is live and named twice.
+fn is_shared(
+    alloc: Global,
+    l: &Layout<'_>,
+    view: &View,
+    next: u32,
+    values: &[Sym],
+    c: u32,
+) -> Result<Formula, AllocError>
+    ensures { IfOk result (λ formula. formula ≡ And (live.is_live l.now.types (sight_of l.now.vars view.now) next c)
+        (forms.or_list next (formulas.named_twice l.now.types (sight_of l.now.vars view.now) values.now next c))) }
+{
+    let live = is_live(alloc, l, view, next, c)?;
+    let parts = named_twice(alloc, l, view, next, values, c)?;
+    let twice = or_list(alloc, next, parts)?;
+    Formula::and(alloc, live, twice)
+}
+
 /// Some live cell is named twice.
 pub(crate) fn shares(
     alloc: Global,
@@ -225,9 +246,6 @@ pub(crate) fn shares(
 ) -> Result<Formula, AllocError>
     ensures { IfOk result (λ formula. formula ≡ formulas.shares l.now.types (sight_of l.now.vars view.now) values.now next) }
 {
-    let inner = later(next, 1)?;
-    let live = is_live(alloc, l, view, inner, next)?;
-    let parts = named_twice(alloc, l, view, inner, values, next)?;
-    let twice = or_list(alloc, inner, parts)?;
-    ex1(alloc, next, Formula::and(alloc, live, twice)?)
+    let shared = is_shared(alloc, l, view, later(next, 1)?, values, next)?;
+    ex1(alloc, next, shared)
 }

@@ -2,9 +2,10 @@
 
 ghost use Rattle.std.specs.Prelude.{◌≡◌, ◌++◌, IfOk, OnOk};
 ghost use Rattle.graph_view.specs.Cuts.{values_by};
-ghost use Rattle.graph_type.specs.Valued.{value_of};
+ghost use Rattle.graph_type.specs.Valued.{value_of, value_at};
 
 use graph_view::Sym;
+use plain_data::at;
 use std::alloc::{AllocError, Global};
 use store_core::{VarId, VarKind, VarTable};
 
@@ -28,6 +29,24 @@ fn push_value(
     Ok(())
 }
 
+/// The same of the variable with this number, if it is there and has a value.
+fn push_value_at(
+    found: &mut Vec<Sym>,
+    vars: &VarTable,
+    pointers: bool,
+    values: &[Sym],
+    index: u32,
+) -> Result<(), AllocError>
+    ensures { OnOk result (found.new.items ≡ found.old.items ++ value_at (value_of pointers) vars.now values.now index) }
+{
+    if let Some(kind) = vars.kind(VarId(index))
+        && let Some(value) = at(values, index as usize)
+    {
+        push_value(found, pointers, *kind, *value)?;
+    }
+    Ok(())
+}
+
 /// The values of data variables, and of pointer variables where those count.
 pub(crate) fn values_by(
     alloc: Global,
@@ -39,9 +58,7 @@ pub(crate) fn values_by(
 {
     let mut found = Vec::new(alloc);
     for index in 0..vars.vars() {
-        if let (Some(kind), Some(value)) = (vars.kind(VarId(index)), values.get(index as usize)) {
-            push_value(&mut found, pointers, *kind, *value)?;
-        }
+        push_value_at(&mut found, vars, pointers, values, index)?;
     }
     Ok(found)
 }

@@ -1,6 +1,6 @@
 //! Walks over data and pointer fields.
 
-ghost use Rattle.std.specs.Prelude.{◌≡◌, map, reverse, IfOk, OnOk, IsSome, Some};
+ghost use Rattle.std.specs.Prelude.{◌≡◌, map, reverse, IfOk, OnOk, IsSome, Some, ◌∷◌};
 ghost use Rattle.graph_view.specs.Routes as formulas;
 ghost use Rattle.graph_view.specs.Routes.{walk_rules};
 ghost use Rattle.graph_view.specs.Fields.{is_reference};
@@ -56,6 +56,49 @@ fn down(
     join_live(alloc, l, view, next, a, b, or_list(alloc, next, parts)?)
 }
 
+/// The formula of a part of a walk, which takes those of its own parts.
+fn walk_of(
+    alloc: Global,
+    l: &Layout<'_>,
+    view: &View,
+    made: &mut Vec<Formula>,
+    leg: Leg<'_>,
+) -> Result<Formula, AllocError>
+    requires { IsSome (applied (walk_rules l.now.types (sight_of l.now.vars view.now)
+        (formulas.names l.now.types (sight_of l.now.vars view.now)) is_reference) (part_of leg) (reverse made.old.items)) }
+    ensures { IfOk result (λ walk. applied (walk_rules l.now.types (sight_of l.now.vars view.now)
+        (formulas.names l.now.types (sight_of l.now.vars view.now)) is_reference) (part_of leg.entry) (reverse made.old.items)
+        ≡ Some (walk ∷ reverse made.new.items)) }
+{
+    let Leg { next, from, to, .. } = leg;
+    match leg.route {
+        Route::Down(name) => down(alloc, l, view, name.as_slice(), next, from, to),
+        Route::Up(name) => down(alloc, l, view, name.as_slice(), next, to, from),
+        Route::UpAny => edge(alloc, l, view, next, to, from),
+        Route::Root => stay_at_root(alloc, l, view, next, from, to),
+        Route::Leaf => stay_at_leaf(alloc, l, view, next, from, to),
+        Route::IsType(ty) => stay_in_type(alloc, l, view, next, *ty, from, to),
+        Route::IsVariant(v) => stay_in_variant(alloc, l, view, next, *v, from, to),
+        Route::IsBool(name, value) => {
+            stay_at_truth(alloc, l, view, name.as_slice(), *value, next, from, to)
+        }
+        Route::Then(_, _) => {
+            let second = made.pop().unwrap();
+            let first = made.pop().unwrap();
+            ex1(alloc, next, Formula::and(alloc, first, second)?)
+        }
+        Route::Or(_, _) => {
+            let other = made.pop().unwrap();
+            let one = made.pop().unwrap();
+            or(alloc, one, other)
+        }
+        Route::Star(_) => {
+            let round = made.pop().unwrap();
+            rounds(alloc, l, view, next, from, to, round)
+        }
+    }
+}
+
 /// Puts the formula of a part of a walk in the place of those of its own parts.
 fn apply(
     alloc: Global,
@@ -70,33 +113,7 @@ fn apply(
         (formulas.names l.now.types (sight_of l.now.vars view.now)) is_reference) (part_of leg.entry) (reverse made.old.items)
         ≡ Some (reverse made.new.items)) }
 {
-    let Leg { next, from, to, .. } = leg;
-    let walk = match leg.route {
-        Route::Down(name) => down(alloc, l, view, name.as_slice(), next, from, to)?,
-        Route::Up(name) => down(alloc, l, view, name.as_slice(), next, to, from)?,
-        Route::UpAny => edge(alloc, l, view, next, to, from)?,
-        Route::Root => stay_at_root(alloc, l, view, next, from, to)?,
-        Route::Leaf => stay_at_leaf(alloc, l, view, next, from, to)?,
-        Route::IsType(ty) => stay_in_type(alloc, l, view, next, *ty, from, to)?,
-        Route::IsVariant(v) => stay_in_variant(alloc, l, view, next, *v, from, to)?,
-        Route::IsBool(name, value) => {
-            stay_at_truth(alloc, l, view, name.as_slice(), *value, next, from, to)?
-        }
-        Route::Then(_, _) => {
-            let second = made.pop().unwrap();
-            let first = made.pop().unwrap();
-            ex1(alloc, next, Formula::and(alloc, first, second)?)?
-        }
-        Route::Or(_, _) => {
-            let other = made.pop().unwrap();
-            let one = made.pop().unwrap();
-            or(alloc, one, other)?
-        }
-        Route::Star(_) => {
-            let round = made.pop().unwrap();
-            rounds(alloc, l, view, next, from, to, round)?
-        }
-    };
+    let walk = walk_of(alloc, l, view, made, leg)?;
     made.push(walk)?;
     Ok(())
 }
