@@ -1,5 +1,5 @@
 -- A walk's parts, run after one another, make its formula.
-use Rattle.std.proofs.Common.{◌≡◌, ℕ, suc, ◌+◌, ◌<◌, Bool, List, [], ◌∷◌, ◌++◌, length, map, drop, get_or, IsSome, Option, Some, None, option_and_then}
+use Rattle.std.proofs.Common.{◌≡◌, ℕ, suc, ◌+◌, ◌<◌, Bool, List, [], ◌∷◌, ◌++◌, length, map, drop, get_or, IsSome, IfOk, Result, Ok, Err, Option, Some, None, option_and_then}
 use Rattle.std.proofs.Common.{drop-cons, add-one, rules, sym, ap, ◌∙◌, subst, append_assoc, append-nil}
 use Rattle.store_core.specs.declared.kind.FieldKind.{FieldKind}
 use Rattle.store_core.specs.declared.kind.Route.{Route, roll-Route}
@@ -82,6 +82,12 @@ module _ (types : List TypeEntry) (sight : Sight) (names : Naming) (followed : F
 
   pub run_on-whole : (r : Route) (next a b : ℕ) → run_on by (parts_of r next a b) [] ≡ Some (walked r next a b ∷ [])
   run_on-whole r next a b = ap (λ s. run_on by s []) (sym (append-nil (parts_of r next a b))) ∙ run_on-parts r next a b [] []
+
+-- a formula in front of those that are made
+pub filled : {E : Type 0} (r : Result Formula E) (walk given : Formula) (made : List Formula) → given ≡ walk → IfOk r (λ formula. formula ≡ given) →
+    IfOk r (λ formula. Some (walk ∷ made) ≡ Some (formula ∷ made))
+filled (Ok formula) walk given made same is = ap (λ f. Some (f ∷ made)) (sym (is ∙ same))
+filled (Err e) walk given made same is = tt
 
 -- ---- a loop over what shows parts
 
