@@ -7,7 +7,10 @@ use Rattle.ws2s_core.specs.declared.formula.Formula.TheVariants.{Sub, Single, Su
 use Rattle.store_core.specs.declared.ids.TypeId.{TypeId}
 use Rattle.store_core.specs.declared.ids.VariantId.{VariantId}
 use Rattle.store_core.specs.declared.ids.FieldId.{FieldId}
-use Rattle.tree_formula.specs.Worked.{t}
+use Rattle.tree_formula.specs.Worked.{list_types, t}
+use Rattle.store_core.specs.declared.kind.Route.TheOpen.{Route-F}
+use Rattle.graph_view.specs.Fields.{is_reference}
+use Rattle.graph_view.specs.Routes.{Joining, names, walk_rules}
 use Rattle.graph_view.specs.declared.view.Event.{Event}
 use Rattle.graph_view.specs.declared.view.Event.TheVariants.{New, Write, Free}
 use Rattle.graph_view.specs.declared.view.Sym.{Sym}
@@ -34,6 +37,10 @@ pushed = record { slots = 1; events = Write None (At (t 2)) list_next (At (t 1))
 -- `free x;` where the guard has the track 2, read outside the region with the track 3
 abbrev pub dropped : Sight
 dropped = record { slots = 1; events = Free (Some (t 2)) (At (t 1)) ∷ []; region = Some (t 3, false) }
+
+-- the rule of each form of route at the start
+abbrev pub list_rules : Route-F Joining → Joining
+list_rules = walk_rules list_types at_start (names list_types at_start) is_reference
 
 -- ---- after the push, with the tracks 3 and 4 for positions, and 5 as the next
 
@@ -83,14 +90,17 @@ edge_at_start a b = And (And (live_at_start a) (live_at_start b)) (Not (Not (nam
 abbrev pub equal_tracks : ℕ → ℕ → Formula
 equal_tracks a b = And (Sub (t a) (t b)) (Sub (t b) (t a))
 
--- `n*` from track 2 to track 3: each set on track 4 that has the first, and from which no n leads out, has the second
+-- the set on track x, which n leads out of, from track a to track b
+abbrev pub left_at_start : ℕ → ℕ → ℕ → Formula
+left_at_start x a b =
+    Ex2 (t a) (And (Single (t a)) (Ex2 (t b) (And (Single (t b))
+    (And (And (Sub (t a) (t x)) (edge_at_start a b)) (Not (Sub (t b) (t x)))))))
+
+-- `n*` from track 2 to track 3: each set on track 4 that has the first, and that n doesn't lead out of, has the second
 abbrev pub rounds_at_start : Formula
 rounds_at_start =
     And (And (live_at_start 2) (live_at_start 3))
-    (Not (Ex2 (t 4) (Not (Not (And
-    (And (Sub (t 2) (t 4)) (Not (Ex2 (t 5) (And (Single (t 5)) (Ex2 (t 6) (And (Single (t 6))
-    (And (And (Sub (t 5) (t 4)) (edge_at_start 5 6)) (Not (Sub (t 6) (t 4)))))))))
-    (Not (Sub (t 3) (t 4))))))))
+    (Not (Ex2 (t 4) (Not (Not (And (And (Sub (t 2) (t 4)) (Not (left_at_start 4 5 6))) (Not (Sub (t 3) (t 4))))))))
 
 -- `^.$` from track 2 to track 3, by way of track 4
 abbrev pub up_to_leaf : Formula
@@ -109,9 +119,7 @@ shared_at_start =
 -- a cell outside a set that has x and is closed under n
 abbrev pub leaked_at_start : Formula
 leaked_at_start =
-    Ex2 (t 2) (And
-    (And (Sub (t 1) (t 2)) (Not (Ex2 (t 3) (And (Single (t 3)) (Ex2 (t 4) (And (Single (t 4))
-    (And (And (Sub (t 3) (t 2)) (edge_at_start 3 4)) (Not (Sub (t 4) (t 2)))))))))
+    Ex2 (t 2) (And (And (Sub (t 1) (t 2)) (Not (left_at_start 2 3 4)))
     (Ex2 (t 3) (And (Single (t 3)) (And (live_at_start 3) (Not (Sub (t 3) (t 2)))))))
 
 -- x is dead, or a field of a cell names a dead cell
