@@ -1,5 +1,6 @@
 -- A walk's parts, run after one another, make its formula.
-use Rattle.std.proofs.Common.{◌≡◌, ℕ, suc, ◌+◌, ◌<◌, Bool, List, [], ◌∷◌, ◌++◌, length, map, drop, get_or, IsSome, IfOk, Result, Ok, Err, Option, Some, None, option_and_then}
+use Rattle.std.proofs.Common.{◌≡◌, ℕ, suc, ◌+◌, ◌<◌, Bool, List, [], ◌∷◌, ◌++◌, length}
+use Rattle.std.proofs.Common.{map, drop, get_or, IsSome, IfOk, Result, Ok, Err, Option, Some, None, option_and_then}
 use Rattle.std.proofs.Common.{drop-cons, add-one, rules, sym, ap, ◌∙◌, subst, append_assoc, append-nil}
 use Rattle.store_core.specs.declared.kind.FieldKind.{FieldKind}
 use Rattle.store_core.specs.declared.kind.Route.{Route, roll-Route}

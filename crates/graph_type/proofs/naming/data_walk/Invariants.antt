@@ -6,5 +6,6 @@ use Rattle.graph_type.specs.Legs.{part_of, run_on}
 use Rattle.graph_type.proofs.naming.data_walk.Given as goal
 
 abbrev pub invariant-loop-leg : goal.invariant-loop-leg
-invariant-loop-leg l = run_on (walk_rules l.l.types (sight_of l.l.vars l.view) (names_by_data l.l.types (sight_of l.l.vars l.view)) is_data) (map part_of (drop l.leg-index l.leg-items)) (reverse l.made.items)
+invariant-loop-leg l = run_on (walk_rules l.l.types (sight_of l.l.vars l.view) (names_by_data l.l.types (sight_of l.l.vars l.view)) is_data) (map
+    part_of (drop l.leg-index l.leg-items)) (reverse l.made.items)
     ≡ Some (walk_by l.l.types (sight_of l.l.vars l.view) (names_by_data l.l.types (sight_of l.l.vars l.view)) is_data l.route l.fn.next l.fn.from l.fn.to ∷ [])

@@ -7,4 +7,5 @@ use Rattle.graph_type.specs.Selecting.{is_of}
 use Rattle.graph_type.proofs.selecting.push_of_kind.Given as goal
 
 abbrev pub invariant-loop-index : goal.invariant-loop-index
-invariant-loop-index l = l.fields.items ≡ l.initial.fields.items ++ filter (λ f. option_map_or (has_kind (is_of l.fn.kinds)) (field_at l.types f) false) (named (field_in l.fn.ty) l.index)
+invariant-loop-index l = l.fields.items ≡ l.initial.fields.items ++ filter (λ f. option_map_or (has_kind (is_of l.fn.kinds)) (field_at l.types f)
+    false) (named (field_in l.fn.ty) l.index)

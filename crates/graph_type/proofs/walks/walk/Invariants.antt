@@ -6,5 +6,6 @@ use Rattle.graph_type.specs.Legs.{part_of, run_on}
 use Rattle.graph_type.proofs.walks.walk.Given as goal
 
 abbrev pub invariant-loop-leg : goal.invariant-loop-leg
-invariant-loop-leg l = run_on (walk_rules l.l.types (sight_of l.l.vars l.view) (names l.l.types (sight_of l.l.vars l.view)) is_reference) (map part_of (drop l.leg-index l.leg-items)) (reverse l.made.items)
+invariant-loop-leg l = run_on (walk_rules l.l.types (sight_of l.l.vars l.view) (names l.l.types (sight_of l.l.vars l.view)) is_reference) (map
+    part_of (drop l.leg-index l.leg-items)) (reverse l.made.items)
     ≡ Some (walk_by l.l.types (sight_of l.l.vars l.view) (names l.l.types (sight_of l.l.vars l.view)) is_reference l.route l.fn.next l.fn.from l.fn.to ∷ [])
