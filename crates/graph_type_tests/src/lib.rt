@@ -1,0 +1,4 @@
+//! Formulas after heap events, written out by hand.
+#![tactic(auto)]
+
+pub mod worked;
