@@ -4,3 +4,5 @@ pub mod SymsLemmas
 pub mod LiveLemmas
 pub mod ReadLemmas
 pub mod TellLemmas
+pub mod FieldsLemmas
+pub mod SeenLemmas

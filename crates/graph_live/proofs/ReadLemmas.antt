@@ -136,7 +136,7 @@ read-cell types a at (Some (x, false)) s t c (cells, rest, region, outside, is) 
 pub record AreFitting (types : List TypeEntry) (s t : StoreMap) : Type 0 where
   pub fit : (c : CellId) (cell : CellEntry) → cell_of t c ≡ Some cell → CellFits types s cell
 
-is-some : {X : Type 0} (o : Option X) (x : X) → o ≡ Some x → IsSome o
+pub is-some : {X : Type 0} (o : Option X) (x : X) → o ≡ Some x → IsSome o
 is-some o x e = subst IsSome (sym e) refl
 
 pub read-fitting : (types : List TypeEntry) (vars : List VarEntry) (a : Assignment) (at : Standing) (region : Option (Track × Bool)) (s t : StoreMap) →
