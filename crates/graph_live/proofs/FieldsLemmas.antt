@@ -2,6 +2,7 @@
 use Rattle.std.proofs.Common.{◌≡◌, ◌≢◌, ◌↔◌, ◌⊎◌, inl, inr, ℕ, ◌+◌, ◌<◌, ◌≤◌, Bool, true, false, cond, IsTrue, IsSomeAnd, IfSome, List, [], ◌∷◌, ◌++◌, take, unwrap_or, Option, Some, None, refl, sym, ap, ◌∙◌, subst, arith}
 use Rattle.std.proofs.lemmas.Bool.{false≢true}
 use Rattle.std.specs.Option.{option_and_then}
+use Rattle.std.specs.Prelude.{IsSome}
 use Rattle.gta_theory.specs.Assignments.{Position, Assignment, IsOnly}
 use Rattle.gta_theory.proofs.ListsLemmas.{Contains-later, Contains-cases}
 use Rattle.ws2s_core.specs.declared.track.Track.{Track}
@@ -52,7 +53,7 @@ use Rattle.graph_live.specs.Standing.{Sits, TypeAt, FieldAt}
 use Rattle.graph_live.specs.Fields.{NamesAt}
 use Rattle.graph_live.proofs.AgreeingLemmas.{member-agreed, sat-three}
 use Rattle.graph_live.proofs.SymsLemmas.{on-agreed, is_in-cell, is_in-null}
-use Rattle.graph_live.proofs.ReadLemmas.{is-some}
+use Rattle.graph_live.proofs.ReadLemmas.{is-some, is-none}
 use Rattle.graph_live.proofs.TellLemmas.{IsSaid, IsTold}
 
 -- ---- truths
@@ -155,6 +156,13 @@ module _ (types : List TypeEntry) (vars : List VarEntry) (s : StoreMap) (a : Ass
               ]),
               (λ e. on.1 (marked.1 (inr (c, (stand c p).0 here, value_is ∙ ap (λ w. Some w) e)))),
             );
+            lacks = λ c here live lacking h. elim (marked.0 (on.0 h)) as (λ _. ⊥) [
+              | inl root ↦ root.1
+              | inr found ↦ (
+                  let same = placed-apart types vars s c found.0 p ((stand c p).0 here) found.1 in
+                  let none : None ≡ Some (value.Bool true) = sym lacking ∙ ap (λ d. field_value s d f) same ∙ found.2 in
+                  let no : ⊥ = cc in no)
+            ];
             none = λ no h. elim (marked.0 (on.0 h)) as (λ _. ⊥) [
               | inl root ↦ root.1
               | inr found ↦ no found.0 ((stand found.0 p).1 found.1)
@@ -290,5 +298,9 @@ module _ (types : List TypeEntry) (vars : List VarEntry) (s : StoreMap) (a : Ass
                 (d, at_d, of_d),
               )),
         );
+        lacks = λ c here live lacking h.
+            let (has_f, position, cell) = whole.0 h in
+            let same = placed-apart types vars s has_f.0 c p ((stand has_f.0 p).0 has_f.1) ((stand c p).0 here) in
+            is-none (field_value s c f) lacking (subst (λ d. IsSome (field_value s d f)) same has_f.2);
         none = λ no h. let (has_f, position, cell) = whole.0 h in no has_f.0 has_f.1;
       }

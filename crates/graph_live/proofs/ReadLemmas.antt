@@ -41,9 +41,9 @@ use Rattle.graph_live.proofs.LiveLemmas.{variant-kept}
 
 -- ---- regions
 
-not-none : (o : Option CellEntry) → o ≡ None → IsSome o → ⊥
-not-none None is live = false≢true live
-not-none (Some cell) is live = cc
+pub is-none : {X : Type 0} (o : Option X) → o ≡ None → IsSome o → ⊥
+is-none None e h = false≢true h
+is-none (Some x) e h = cc
 
 -- a live cell of the store on a set is in the set
 pub on-set : (s : StoreMap) (cells : List CellId) (c : CellId) → IsLive (store_on s cells) c → Contains cells c
@@ -52,7 +52,7 @@ on-set s cells c live = by (has_number cells c.0) refl
     by : (t : Bool) → has_number cells c.0 ≡ t → Contains cells c
     by true is = in_number cells c is
     by false is =
-        absurd (not-none (cell_of (store_on s cells) c)
+        absurd (is-none (cell_of (store_on s cells) c)
         ((store_on-IsOn s cells).outside c (λ here. false≢true (sym is ∙ number_in cells c here))) live)
 
 module _ (types : List TypeEntry) (a : Assignment) (at : Standing) (s : StoreMap) (sits : Sits s at) (v : VariantId) (p : Position) where

@@ -8,6 +8,7 @@ use Rattle.std.proofs.lemmas.List.{reverse-append}
 use Rattle.std.proofs.lemmas.List.Elements.{All-head, All-tail}
 use Rattle.gta_theory.specs.Assignments.{Position, Assignment, IsOnly}
 use Rattle.ws2s_core.specs.declared.track.Track.{Track}
+use Rattle.ws2s_core.specs.declared.formula.Formula.{Formula}
 use Rattle.ws2s_core.specs.declared.formula.Formula.TheVariants.{Sub}
 use Rattle.ws2s_core.specs.Satisfaction.{WSat}
 use Rattle.ws2s_forms.specs.Forms.{track}
@@ -38,17 +39,17 @@ use Rattle.graph_view.specs.declared.view.View.{View}
 use Rattle.graph_view.specs.Syms.{is_in, truth}
 use Rattle.graph_view.specs.Sights.{Sight, var_slots, at_first, sight_of}
 use Rattle.graph_view.specs.Live.{lives, lives_in, has, is_live, is_dead, live_of}
-use Rattle.graph_view.specs.Fields.{first_child, data_names, is_true}
+use Rattle.graph_view.specs.Fields.{after, first_child, data_names, is_true}
 use Rattle.graph_view.specs.Fitting.{AreFree}
 use Rattle.graph_view.specs.After.{Standing, IsAt, AreStanding, StandsFor, StandsForCell, Stood, LeadTo, IsSeen, IsRead, IsSymBelow, IsEventBelow, AreEventsBelow}
 use Rattle.graph_live.specs.Meaning.{Agrees, MeansHere}
 use Rattle.graph_live.specs.Standing.{Sits, LiveAt, VariantAt, TypeAt, FieldAt}
-use Rattle.graph_live.specs.Fields.{NamesAt}
+use Rattle.graph_live.specs.Fields.{NamesAt, FieldNamesAt}
 use Rattle.graph_live.specs.Showing.{Shows}
 use Rattle.graph_live.proofs.LiveLemmas.{first-means, live_of-means, variant-kept}
 use Rattle.graph_live.proofs.ReadLemmas.{in_region-means, read-cell, read-fitting, is-some, AreFitting, lives_in-means, is_live-means, has-means, is_dead-means}
 use Rattle.graph_live.proofs.StandingLemmas.{Sits-first, Sits-led, Sits-seen, Sits-alike}
-use Rattle.graph_live.proofs.TellLemmas.{IsSaid, IsTold, NamesOld, after-told}
+use Rattle.graph_live.proofs.TellLemmas.{IsSaid, IsTold, NamesOld, told-value, after-told}
 use Rattle.graph_live.proofs.FieldsLemmas.{IsTruth, truth-said, truth-means, names-said, names-means, first-truth, first-child}
 
 -- ---- tracks in use
@@ -147,17 +148,30 @@ module _ (l : LaidOut) (view : View) (a : Assignment) (first s t : StoreMap) (at
 
   -- ---- fields of live cells
 
-  ends-value : (c : CellId) (f : FieldId) (x : Value) → field_value t c f ≡ Some x → field_value shows.seen.ends c f ≡ Some x
-  ends-value c f x value_is =
-      let live = IsLive-field_value t c f x value_is in
-      ap (λ o. option_and_then (λ (e : CellEntry). field_of e f) o)
-      (ends-cell c ∙ sym (read-cell l.types a at view.region s t c shows.read live)) ∙ value_is
+  ends-same : (c : CellId) → IsLive t c → cell_of shows.seen.ends c ≡ cell_of t c
+  ends-same c live = ends-cell c ∙ sym (read-cell l.types a at view.region s t c shows.read live)
+
+  ends-live : (c : CellId) → IsLive t c → IsLive shows.seen.ends c
+  ends-live c live = subst IsSome (sym (ends-same c live)) live
+
+  ends-value : (c : CellId) (f : FieldId) → IsLive t c → field_value shows.seen.ends c f ≡ field_value t c f
+  ends-value c f live = ap (λ o. option_and_then (λ (e : CellEntry). field_of e f) o) (ends-same c live)
+
+  -- what is told of a live cell's field is what is read
+  pub told-read : (f : FieldId) (p : Position) (Says : Standing → Value → Type 0) (Holds : Type 0) (c : CellId) → IsTold f p Says Holds finish →
+      IsAt at c p → IsLive t c → Holds ↔ ((y : Value) × (field_value t c f ≡ Some y) × Says at y)
+  told-read f p Says Holds c told here live =
+      let means = told-value f p Says Holds finish c told here (ends-live c live) in
+      let same = ends-value c f live in (
+        (λ h. let (y, is, says) = means.0 h in (y, sym same ∙ is, says)),
+        (λ h. means.1 (h.0, same ∙ h.1, h.2)),
+      )
 
   -- a bool field of a live cell is true
-  pub seen-is_true : (f : FieldId) (entry : FieldEntry) (b : Assignment) (next y : ℕ) (p : Position) (c : CellId) (x : Value) → field_at l.types f ≡ Some entry →
-      entry.kind ≡ field.Bool → Agrees count a b → count ≤ next → y < next → IsOnly (b y) p → IsAt at c p → field_value t c f ≡ Some x →
-      WSat (is_true l.types sight next f y) b ↔ (x ≡ value.Bool true)
-  seen-is_true f entry b next y p c x there kind agrees few less only here value_is =
+  pub seen-is_true : (f : FieldId) (entry : FieldEntry) (b : Assignment) (next y : ℕ) (p : Position) (c : CellId) → field_at l.types f ≡ Some entry →
+      entry.kind ≡ field.Bool → Agrees count a b → count ≤ next → y < next → IsOnly (b y) p → IsAt at c p → IsLive t c →
+      WSat (is_true l.types sight next f y) b ↔ (field_value t c f ≡ Some (value.Bool true))
+  seen-is_true f entry b next y p c there kind agrees few less only here live =
       let said : IsSaid entry.kind IsTruth = subst (λ k. IsSaid k IsTruth) (sym kind) truth-said in
       let told = after-told l.types (var_slots l.vars) count a b next y p agrees few only f entry there IsTruth said (truth next)
       (λ r places u w sits stands fits under.
@@ -167,35 +181,54 @@ module _ (l : LaidOut) (view : View) (a : Assignment) (first s t : StoreMap) (at
       (first-truth l.types l.vars first a shows.seen.start shows.fits shows.backbone shows.assignment shows.seen.stand count shows.free.layout b agrees y p only
       f entry there kind)
       (reverse view.events) finish shows.seen.lead below in
-      told.here c x here (ends-value c f x value_is)
+      let means = told-read f p IsTruth (WSat (is_true l.types sight next f y) b) c told here live in (
+        (λ h. let (y, is, says) = means.0 h in is ∙ ap (λ w. Some w) says),
+        (λ e. means.1 (value.Bool true, e, refl)),
+      )
     where
       no-cell : (d e : CellId) → field_value first d f ≡ Some (value.Cell (Some e)) → ⊥
       no-cell d e named = (let fits = value-fits l.types l.vars first d f (value.Cell (Some e)) entry shows.fits named there in subst (λ k. FieldFits first k (value.Cell (Some e))) kind fits)
 
-  -- the data field of a live cell names the cell, live or dead, that stands there
-  pub seen-data_names : (f : FieldId) (entry : FieldEntry) (target : TypeId) (b : Assignment) (next y z : ℕ) (p q : Position) (c : CellId) (x : Value) →
-      field_at l.types f ≡ Some entry → entry.kind ≡ field.Data target → Agrees count a b → count ≤ next → y < next → z < next → IsOnly (b y) p →
-      IsOnly (b z) q → IsAt at c p → field_value t c f ≡ Some x → WSat (data_names l.types sight next f target y z) b ↔ NamesAt at x q
-  seen-data_names f entry target b next y z p q c x there kind agrees few before behind only also here value_is =
+  -- a cell field of a live cell names the cell, live or dead, that stands there, where it does so before all events
+  pub seen-names : (f : FieldId) (entry : FieldEntry) (b : Assignment) (next y z : ℕ) (p q : Position) (c : CellId) → field_class entry.kind ≡ Reference →
+      field_at l.types f ≡ Some entry → Agrees count a b → count ≤ next → IsOnly (b y) p → IsOnly (b z) q → IsAt at c p → IsLive t c →
+      (start : Formula) → NamesOld f first → IsTold f p (λ places w. NamesAt places w q) (WSat start b) begin →
+      WSat (after next f y (is_in next z) start (reverse view.events)) b ↔ FieldNamesAt t at c f q
+  seen-names f entry b next y z p q c reference there agrees few only also here live start old base =
       let told = after-told l.types (var_slots l.vars) count a b next y p agrees few only f entry there (λ places w. NamesAt places w q)
-      (names-said entry.kind q (ap field_class kind)) (is_in next z)
-      (λ r places u w sits stands fits under.
-          by-value r places u w sits stands (subst (λ k. FieldFits r k w) kind fits) under)
-      (first_child l.types sight next f target y z) begin begin-sits old
+      (names-said entry.kind q reference) (is_in next z)
+      (λ r places u w sits stands fits under. by-value entry.kind reference r places u w sits stands fits under)
+      start begin begin-sits old base (reverse view.events) finish shows.seen.lead below in
+      let means = told-read f p (λ places w. NamesAt places w q) (WSat (after next f y (is_in next z) start (reverse view.events)) b) c told here live in (
+        (λ h. let (w, is, (d, at_d, same)) = means.0 h in (d, at_d, is ∙ ap (λ v. Some v) same)),
+        (λ (h : FieldNamesAt t at c f q). means.1 (value.Cell (Some h.0), h.2, (h.0, h.1, refl))),
+      )
+    where
+      by-value : (kind : FieldKind) → field_class kind ≡ Reference → (r : StoreMap) (places : Standing) (u : Sym) (w : Value) → Sits r places →
+          StandsFor a places u w → FieldFits r kind w → IsSymBelow count u → WSat (is_in next z u) b ↔ NamesAt places w q
+      by-value field.Bool reference r places u w sits stands fits under = (let no : ⊥ = cc in absurd no)
+      by-value (field.Data target) reference r places u (value.Bool k) sits stands fits under = absurd fits
+      by-value (field.Data target) reference r places u (value.Cells k) sits stands fits under = absurd fits
+      by-value (field.Data target) reference r places u (value.Cell o) sits stands fits under =
+          names-means count a b next z q places r u o sits agrees also stands under
+      by-value (field.Pointer target route) reference r places u (value.Bool k) sits stands fits under = absurd fits
+      by-value (field.Pointer target route) reference r places u (value.Cells k) sits stands fits under = absurd fits
+      by-value (field.Pointer target route) reference r places u (value.Cell o) sits stands fits under =
+          names-means count a b next z q places r u o sits agrees also stands under
+
+  old-named : (f : FieldId) (entry : FieldEntry) (target : TypeId) → field_at l.types f ≡ Some entry → entry.kind ≡ field.Data target → NamesOld f first
+  old-named f entry target there kind d e named =
+      let of_e = subst (λ k. FieldHoldsLive first k (value.Cell (Some e))) kind
+      (IfSome-at (field_value first d f) (FieldHoldsLive first entry.kind) (value.Cell (Some e)) named
+      (IfSome-at (field_at l.types f) (λ g. IfSome (field_value first d f) (FieldHoldsLive first g.kind)) entry there (shows.backbone.data_fields d f))) in
+      live_below first e shows.fits.above (IsSome-and (cell_of first e) (λ g. g.variant.ty ≡ target) of_e)
+
+  -- the data field of a live cell names the cell, live or dead, that stands there
+  pub seen-data_names : (f : FieldId) (entry : FieldEntry) (target : TypeId) (b : Assignment) (next y z : ℕ) (p q : Position) (c : CellId) →
+      field_at l.types f ≡ Some entry → entry.kind ≡ field.Data target → Agrees count a b → count ≤ next → y < next → z < next → IsOnly (b y) p →
+      IsOnly (b z) q → IsAt at c p → IsLive t c → WSat (data_names l.types sight next f target y z) b ↔ FieldNamesAt t at c f q
+  seen-data_names f entry target b next y z p q c there kind agrees few before behind only also here live =
+      seen-names f entry b next y z p q c (ap field_class kind) there agrees few only also here live (first_child l.types sight next f target y z)
+      (λ d e named. old-named f entry target there kind d e named)
       (first-child l.types l.vars first a shows.seen.start shows.fits shows.backbone shows.seen.stand count b agrees next y z p q few before behind only also
       sight f entry target there kind (first-has f entry there) (first-lives_in target))
-      (reverse view.events) finish shows.seen.lead below in
-      told.here c x here (ends-value c f x value_is)
-    where
-      by-value : (r : StoreMap) (places : Standing) (u : Sym) (w : Value) → Sits r places → StandsFor a places u w → FieldFits r (field.Data target) w →
-          IsSymBelow count u → WSat (is_in next z u) b ↔ NamesAt places w q
-      by-value r places u (value.Bool k) sits stands fits under = absurd fits
-      by-value r places u (value.Cells k) sits stands fits under = absurd fits
-      by-value r places u (value.Cell o) sits stands fits under = names-means count a b next z q places r u o sits agrees also stands under
-
-      old : NamesOld f first
-      old d e named =
-          let of_e = subst (λ k. FieldHoldsLive first k (value.Cell (Some e))) kind
-          (IfSome-at (field_value first d f) (FieldHoldsLive first entry.kind) (value.Cell (Some e)) named
-          (IfSome-at (field_at l.types f) (λ g. IfSome (field_value first d f) (FieldHoldsLive first g.kind)) entry there (shows.backbone.data_fields d f))) in
-          live_below first e shows.fits.above (IsSome-and (cell_of first e) (λ g. g.variant.ty ≡ target) of_e)

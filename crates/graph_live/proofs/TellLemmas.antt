@@ -18,7 +18,7 @@ use Rattle.store_core.specs.declared.kind.FieldKind.TheVariants as field
 use Rattle.store_core.specs.declared.value.Value.{Value}
 use Rattle.store_core.specs.declared.value.Value.TheVariants as value
 use Rattle.store_core.specs.Tables.{TypeEntry, FieldEntry, field_at, is_had}
-use Rattle.store_core.specs.Stores.{StoreMap, FieldFits, field_value, field_class, blank, blank_slot, put_cell, set_field, remove_cell}
+use Rattle.store_core.specs.Stores.{StoreMap, IsLive, FieldFits, field_value, field_class, blank, blank_slot, put_cell, set_field, remove_cell}
 use Rattle.store_core.proofs.FittingLemmas.{IsSomeAnd-at}
 use Rattle.store_laws.specs.Changed.{IsPut, IsFieldSet, IsRemoved, blank_field}
 use Rattle.store_laws.proofs.CellLemmas.{cell_cases}
@@ -73,14 +73,35 @@ pub record IsSaid (kind : FieldKind) (Says : Standing → Value → Type 0) : Ty
   pub of_blank : (at : Standing) → Says at (blank (field_class kind)) → ⊥
   pub grows : (at : Standing) (c : CellId) (place : Position) (x : Value) → (x ≡ value.Cell (Some c) → ⊥) → Says at x ↔ Says ((c, place) ∷ at) x
 
--- what a formula says of the field's value at the position: of a cell that stands there, and of none
+-- what a formula says of the field's value at the position: of a cell that stands there, of a live one without the field, and
+-- where none stands
 pub record IsTold (f : FieldId) (p : Position) (Says : Standing → Value → Type 0) (Holds : Type 0) (x : Stood) : Type 0 where
   pub here : (c : CellId) (y : Value) → IsAt x.at c p → field_value x.store c f ≡ Some y → Holds ↔ Says x.at y
+  pub lacks : (c : CellId) → IsAt x.at c p → IsLive x.store c → field_value x.store c f ≡ None → Holds → ⊥
   pub none : ((c : CellId) → IsAt x.at c p → ⊥) → Holds → ⊥
 
 -- the values of the field name no number from the next on
 abbrev pub NamesOld : FieldId → StoreMap → Type 0
 NamesOld f s = (c d : CellId) → field_value s c f ≡ Some (value.Cell (Some d)) → d.0 < s.next
+
+-- so of a live cell it says that the field has a value of which this is so
+pub told-value : (f : FieldId) (p : Position) (Says : Standing → Value → Type 0) (Holds : Type 0) (x : Stood) (c : CellId) → IsTold f p Says Holds x →
+    IsAt x.at c p → IsLive x.store c → Holds ↔ ((y : Value) × (field_value x.store c f ≡ Some y) × Says x.at y)
+told-value f p Says Holds x c told here live = by (field_value x.store c f) refl
+  where
+    by : (o : Option Value) → field_value x.store c f ≡ o → Holds ↔ ((y : Value) × (field_value x.store c f ≡ Some y) × Says x.at y)
+    by None lacking = (
+      (λ holds. absurd (told.lacks c here live lacking holds)),
+      (λ h. let none : None ≡ Some h.0 = sym lacking ∙ h.1 in absurd (cc)),
+    )
+    by (Some y) is =
+        let means = told.here c y here is in (
+          (λ holds. (y, is, means.0 holds)),
+          (λ h.
+              let both : Some h.0 ≡ Some y = sym h.1 ∙ is in
+              let same : h.0 ≡ y = cc in
+              means.1 (subst (λ z. Says x.at z) same h.2)),
+        )
 
 -- ---- one change
 
@@ -116,6 +137,14 @@ module _ (types : List TypeEntry) (f : FieldId) (entry : FieldEntry) (there : fi
             (λ says. same.1 (grown.1 says)),
           ))
     ];
+    lacks = λ c here live lacking holds. elim (new-or-old s at place c p here) as (λ _. ⊥) [
+      | inl new ↦ told.none (λ d at_p. empty d (subst (λ q. IsAt at d q) new.1 at_p)) holds
+      | inr stood ↦ (
+          let put = IsPut-put_cell types s v sits.above in
+          let other = old-not_new s at c p sits stood in
+          let before : IsLive s c = elim ((put.live c).0 live) as (λ _. IsLive s c) [ inl h ↦ h | inr same ↦ absurd (other same) ] in
+          told.lacks c stood before (sym (put.other_fields c f other) ∙ lacking) holds)
+    ];
     none = λ no holds. told.none (λ c here. no c (Contains-later (new_cell s, place) (c, p) at here)) holds;
   }
 
@@ -129,6 +158,10 @@ module _ (types : List TypeEntry) (f : FieldId) (entry : FieldEntry) (there : fi
           let none : None ≡ Some y = sym (gone.fields f) ∙ ap (λ e. field_value (remove_cell s c) e f) (sym same) ∙ value_is in absurd (cc))
       | inr other ↦ told.here d y here (sym ((IsRemoved-remove_cell s c).other_fields d f other) ∙ value_is)
     ];
+    lacks = λ d here live lacking holds.
+        let gone = IsRemoved-remove_cell s c in
+        let was = (gone.live d).0 live in
+        told.lacks d here was.0 (sym (gone.other_fields d f was.1) ∙ lacking) holds;
     none = told.none;
   }
 
@@ -141,6 +174,11 @@ module _ (types : List TypeEntry) (f : FieldId) (entry : FieldEntry) (there : fi
       | inl same ↦ told.here d y here (ap (λ e. field_value s e f) same ∙ sym (set.other_fields f apart)
           ∙ ap (λ e. field_value (set_field s c g w) e f) (sym same) ∙ value_is)
       | inr other ↦ told.here d y here (sym (set.fields_of_others d f other) ∙ value_is)
+    ];
+    lacks = λ d here live lacking holds. elim (cell_cases d c) as (λ _. ⊥) [
+      | inl same ↦ told.lacks d here ((set.live d).0 live) (ap (λ e. field_value s e f) same ∙ sym (set.other_fields f apart)
+          ∙ ap (λ e. field_value (set_field s c g w) e f) (sym same) ∙ lacking) holds
+      | inr other ↦ told.lacks d here ((set.live d).0 live) (sym (set.fields_of_others d f other) ∙ lacking) holds
     ];
     none = told.none;
   }
@@ -171,6 +209,15 @@ module _ (types : List TypeEntry) (f : FieldId) (entry : FieldEntry) (there : fi
             ]),
             (λ says. now.1 (inr ((λ at_c. other (sits.apart d c p here at_c)), same.1 says))),
           ))
+    ];
+    lacks = λ d here live lacking holds. elim (cell_cases d c) as (λ _. ⊥) [
+      | inl same ↦ (
+          let none : None ≡ Some w = sym lacking ∙ ap (λ e. field_value (set_field s c f w) e f) same ∙ set.value in
+          let no : ⊥ = cc in no)
+      | inr other ↦ elim (now.0 holds) as (λ _. ⊥) [
+        | inl wrote ↦ other (sits.apart d c p here wrote.0)
+        | inr kept ↦ told.lacks d here ((set.live d).0 live) (sym (set.fields_of_others d f other) ∙ lacking) kept.1
+      ]
     ];
     none = λ no holds. elim (now.0 holds) as (λ _. ⊥) [
       | inl wrote ↦ no c wrote.0
@@ -248,6 +295,7 @@ told-iff f p Says Holds Now x same told = record {
   here = λ c y here value_is.
       let means = told.here c y here value_is in
       ((λ h. means.0 (same.0 h)), (λ h. same.1 (means.1 h)));
+  lacks = λ c here live lacking h. told.lacks c here live lacking (same.0 h);
   none = λ no h. told.none no (same.0 h);
 }
 

@@ -8,7 +8,6 @@ ghost use Rattle.store_core.specs.declared.ids.TypeId.{TypeId};
 ghost use Rattle.store_core.specs.declared.ids.FieldId.{FieldId};
 ghost use Rattle.store_core.specs.declared.ids.VariantId.{VariantId};
 ghost use Rattle.store_core.specs.declared.kind.FieldKind.TheVariants as field;
-ghost use Rattle.store_core.specs.declared.value.Value.{Value};
 ghost use Rattle.store_core.specs.declared.value.Value.TheVariants as value;
 ghost use Rattle.store_core.specs.Tables.{TypeEntry, FieldEntry, VarEntry, KnowsVariant, field_at};
 ghost use Rattle.store_core.specs.Stores.{StoreMap, IsLive, Fits, field_value};
@@ -23,7 +22,7 @@ ghost use Rattle.graph_view.specs.Fields.{is_true, data_names};
 ghost use Rattle.graph_view.specs.After.{Standing, IsAt, StandsForCell, IsSeen, IsSymBelow};
 ghost use Rattle.graph_live.specs.Meaning.{Agrees, MeansHere};
 ghost use Rattle.graph_live.specs.Standing.{Sits, LiveAt, VariantAt, TypeAt, FieldAt};
-ghost use Rattle.graph_live.specs.Fields.{NamesAt};
+ghost use Rattle.graph_live.specs.Fields.{FieldNamesAt};
 ghost use Rattle.graph_live.specs.Showing.{Shows};
 
 /// Each live cell of the store that a view sees has exactly one position, and two cells at one position are one cell, also
@@ -59,11 +58,11 @@ pub fn dead_cells_are_told()
 /// position of the cell, live or dead, that the field names.
 pub fn fields_of_live_cells_are_told()
     ensures bool { (l : LaidOut) (view : View) (a b : Assignment) (first s t : StoreMap) (at : Standing) (count next x : ℕ) (p : Position) (c : CellId)
-        (f : FieldId) (entry : FieldEntry) (w : Value) → Shows l view a first s t at count → field_at l.types f ≡ Some entry → entry.kind ≡ field.Bool →
-        Agrees count a b → count ≤ next → x < next → IsOnly (b x) p → IsAt at c p → field_value t c f ≡ Some w →
-        WSat (is_true l.types (sight_of l.vars view) next f x) b ↔ (w ≡ value.Bool true) }
+        (f : FieldId) (entry : FieldEntry) → Shows l view a first s t at count → field_at l.types f ≡ Some entry → entry.kind ≡ field.Bool →
+        Agrees count a b → count ≤ next → x < next → IsOnly (b x) p → IsAt at c p → IsLive t c →
+        WSat (is_true l.types (sight_of l.vars view) next f x) b ↔ (field_value t c f ≡ Some (value.Bool true)) }
     ensures reference { (l : LaidOut) (view : View) (a b : Assignment) (first s t : StoreMap) (at : Standing) (count next x y : ℕ) (p q : Position) (c : CellId)
-        (f : FieldId) (entry : FieldEntry) (target : TypeId) (w : Value) → Shows l view a first s t at count → field_at l.types f ≡ Some entry →
+        (f : FieldId) (entry : FieldEntry) (target : TypeId) → Shows l view a first s t at count → field_at l.types f ≡ Some entry →
         entry.kind ≡ field.Data target → Agrees count a b → count ≤ next → x < next → y < next → IsOnly (b x) p → IsOnly (b y) q → IsAt at c p →
-        field_value t c f ≡ Some w → WSat (data_names l.types (sight_of l.vars view) next f target x y) b ↔ NamesAt at w q }
+        IsLive t c → WSat (data_names l.types (sight_of l.vars view) next f target x y) b ↔ FieldNamesAt t at c f q }
 {}
