@@ -23,7 +23,6 @@ use Rattle.store_core.specs.declared.value.Value.{Value}
 use Rattle.store_core.specs.declared.value.Value.TheVariants as value
 use Rattle.store_core.specs.Tables.{TypeEntry, FieldEntry, VarEntry, field_at, variant_count}
 use Rattle.store_core.specs.Stores.{StoreMap, CellEntry, IsLive, Fits, FieldFits, cell_of, field_of, field_value, field_class}
-use Rattle.store_core.proofs.AboveLemmas.{live_below}
 use Rattle.store_core.proofs.FittingLemmas.{IfSome-at, slot_at_value}
 use Rattle.routing_expr.specs.Walks.{IsOfVariant, IsOfType}
 use Rattle.routing_expr.specs.WellFormed.{FieldHoldsLive, IsBackbone}
@@ -49,7 +48,7 @@ use Rattle.graph_live.specs.Showing.{Shows}
 use Rattle.graph_live.proofs.LiveLemmas.{first-means, live_of-means, variant-kept}
 use Rattle.graph_live.proofs.ReadLemmas.{in_region-means, read-cell, read-fitting, is-some, AreFitting, lives_in-means, is_live-means, has-means, is_dead-means}
 use Rattle.graph_live.proofs.StandingLemmas.{Sits-first, Sits-led, Sits-seen, Sits-alike}
-use Rattle.graph_live.proofs.TellLemmas.{IsSaid, IsTold, NamesOld, told-value, after-told}
+use Rattle.graph_live.proofs.TellLemmas.{IsSaid, IsTold, NamesPlaced, NamesPlaced-led, told-value, after-told}
 use Rattle.graph_live.proofs.FieldsLemmas.{IsTruth, truth-said, truth-means, names-said, names-means, first-truth, first-child}
 
 -- ---- tracks in use
@@ -66,7 +65,7 @@ events-below n (e ∷ events) all =
 
 -- ---- values that fit their fields
 
-value-fits : (types : List TypeEntry) (vars : List VarEntry) (s : StoreMap) (c : CellId) (f : FieldId) (x : Value) (entry : FieldEntry) → Fits types vars s →
+pub value-fits : (types : List TypeEntry) (vars : List VarEntry) (s : StoreMap) (c : CellId) (f : FieldId) (x : Value) (entry : FieldEntry) → Fits types vars s →
     field_value s c f ≡ Some x → field_at types f ≡ Some entry → FieldFits s entry.kind x
 value-fits types vars s c f x entry fits value_is there =
     let slot = slot_at_value types vars s fits c f x value_is in
@@ -77,16 +76,16 @@ value-fits types vars s c f x entry fits value_is there =
 -- ---- the store that is seen
 
 module _ (l : LaidOut) (view : View) (a : Assignment) (first s t : StoreMap) (at : Standing) (count : ℕ) (shows : Shows l view a first s t at count) where
-  abbrev sight : Sight
+  abbrev pub sight : Sight
   sight = sight_of l.vars view
 
-  abbrev begin : Stood
+  abbrev pub begin : Stood
   begin = record { store = first; at = shows.seen.start }
 
-  abbrev finish : Stood
+  abbrev pub finish : Stood
   finish = record { store = shows.seen.ends; at = at }
 
-  begin-sits : Sits first shows.seen.start
+  pub begin-sits : Sits first shows.seen.start
   begin-sits = Sits-first l.types l.vars first shows.seen.start shows.fits shows.backbone shows.seen.stand
 
   pub seen-sits : Sits s at
@@ -130,7 +129,7 @@ module _ (l : LaidOut) (view : View) (a : Assignment) (first s t : StoreMap) (at
 
   -- ---- before all events
 
-  first-lives : (v : VariantId) → v.index < variant_count l.types v.ty →
+  pub first-lives : (v : VariantId) → v.index < variant_count l.types v.ty →
       MeansHere count a (λ next y. lives l.types (at_first (var_slots l.vars)) next v y) (VariantAt first shows.seen.start v)
   first-lives v known =
       first-means l.types l.vars first a shows.seen.start shows.fits shows.assignment shows.seen.stand count v shows.free.layout known
@@ -192,7 +191,7 @@ module _ (l : LaidOut) (view : View) (a : Assignment) (first s t : StoreMap) (at
   -- a cell field of a live cell names the cell, live or dead, that stands there, where it does so before all events
   pub seen-names : (f : FieldId) (entry : FieldEntry) (b : Assignment) (next y z : ℕ) (p q : Position) (c : CellId) → field_class entry.kind ≡ Reference →
       field_at l.types f ≡ Some entry → Agrees count a b → count ≤ next → IsOnly (b y) p → IsOnly (b z) q → IsAt at c p → IsLive t c →
-      (start : Formula) → NamesOld f first → IsTold f p (λ places w. NamesAt places w q) (WSat start b) begin →
+      (start : Formula) → NamesPlaced f first shows.seen.start → IsTold f p (λ places w. NamesAt places w q) (WSat start b) begin →
       WSat (after next f y (is_in next z) start (reverse view.events)) b ↔ FieldNamesAt t at c f q
   seen-names f entry b next y z p q c reference there agrees few only also here live start old base =
       let told = after-told l.types (var_slots l.vars) count a b next y p agrees few only f entry there (λ places w. NamesAt places w q)
@@ -216,12 +215,12 @@ module _ (l : LaidOut) (view : View) (a : Assignment) (first s t : StoreMap) (at
       by-value (field.Pointer target route) reference r places u (value.Cell o) sits stands fits under =
           names-means count a b next z q places r u o sits agrees also stands under
 
-  old-named : (f : FieldId) (entry : FieldEntry) (target : TypeId) → field_at l.types f ≡ Some entry → entry.kind ≡ field.Data target → NamesOld f first
+  pub old-named : (f : FieldId) (entry : FieldEntry) (target : TypeId) → field_at l.types f ≡ Some entry → entry.kind ≡ field.Data target → NamesPlaced f first shows.seen.start
   old-named f entry target there kind d e named =
       let of_e = subst (λ k. FieldHoldsLive first k (value.Cell (Some e))) kind
       (IfSome-at (field_value first d f) (FieldHoldsLive first entry.kind) (value.Cell (Some e)) named
       (IfSome-at (field_at l.types f) (λ g. IfSome (field_value first d f) (FieldHoldsLive first g.kind)) entry there (shows.backbone.data_fields d f))) in
-      live_below first e shows.fits.above (IsSome-and (cell_of first e) (λ g. g.variant.ty ≡ target) of_e)
+      begin-sits.there e (IsSome-and (cell_of first e) (λ g. g.variant.ty ≡ target) of_e)
 
   -- the data field of a live cell names the cell, live or dead, that stands there
   pub seen-data_names : (f : FieldId) (entry : FieldEntry) (target : TypeId) (b : Assignment) (next y z : ℕ) (p q : Position) (c : CellId) →
@@ -232,3 +231,10 @@ module _ (l : LaidOut) (view : View) (a : Assignment) (first s t : StoreMap) (at
       (λ d e named. old-named f entry target there kind d e named)
       (first-child l.types l.vars first a shows.seen.start shows.fits shows.backbone shows.seen.stand count b agrees next y z p q few before behind only also
       sight f entry target there kind (first-has f entry there) (first-lives_in target))
+
+  -- the cells that a field of live cells names stand somewhere, where they do so before all events
+  pub seen-placed : (f : FieldId) (entry : FieldEntry) → field_at l.types f ≡ Some entry → NamesPlaced f first shows.seen.start → NamesPlaced f t at
+  seen-placed f entry there old c d named =
+      let live = IsLive-field_value t c f (value.Cell (Some d)) named in
+      NamesPlaced-led l.types (var_slots l.vars) a f entry begin there begin-sits old (reverse view.events) finish shows.seen.lead c d
+      (ends-value c f live ∙ named)

@@ -80,9 +80,9 @@ pub record IsTold (f : FieldId) (p : Position) (Says : Standing → Value → Ty
   pub lacks : (c : CellId) → IsAt x.at c p → IsLive x.store c → field_value x.store c f ≡ None → Holds → ⊥
   pub none : ((c : CellId) → IsAt x.at c p → ⊥) → Holds → ⊥
 
--- the values of the field name no number from the next on
-abbrev pub NamesOld : FieldId → StoreMap → Type 0
-NamesOld f s = (c d : CellId) → field_value s c f ≡ Some (value.Cell (Some d)) → d.0 < s.next
+-- the values of the field name cells that stand somewhere
+abbrev pub NamesPlaced : FieldId → StoreMap → Standing → Type 0
+NamesPlaced f s at = (c d : CellId) → field_value s c f ≡ Some (value.Cell (Some d)) → (q : Position) × IsAt at d q
 
 -- so of a live cell it says that the field has a value of which this is so
 pub told-value : (f : FieldId) (p : Position) (Says : Standing → Value → Type 0) (Holds : Type 0) (x : Stood) (c : CellId) → IsTold f p Says Holds x →
@@ -114,7 +114,7 @@ module _ (types : List TypeEntry) (f : FieldId) (entry : FieldEntry) (there : fi
   stood-is y s at store places = λ i. record { store = sym store i; at = sym places i }
 
   -- a new cell
-  told-put : (s : StoreMap) (at : Standing) (v : VariantId) (place : Position) (Holds : Type 0) → Sits s at → NamesOld f s →
+  told-put : (s : StoreMap) (at : Standing) (v : VariantId) (place : Position) (Holds : Type 0) → Sits s at → NamesPlaced f s at →
       ((c : CellId) → IsAt at c place → ⊥) → IsTold f p Says Holds (record { store = s; at = at }) →
       IsTold f p Says Holds (record { store = put_cell s types v; at = (new_cell s, place) ∷ at })
   told-put s at v place Holds sits old empty told = record {
@@ -131,7 +131,8 @@ module _ (types : List TypeEntry) (f : FieldId) (entry : FieldEntry) (there : fi
           let before : field_value s c f ≡ Some y = sym (put.other_fields c f (old-not_new s at c p sits stood)) ∙ value_is in
           let same = told.here c y stood before in
           let grown = said.grows at (new_cell s) place y (λ e.
-          let less : s.next < s.next = old c (new_cell s) (before ∙ ap (λ z. Some z) e) in
+          let (q, at_q) = old c (new_cell s) (before ∙ ap (λ z. Some z) e) in
+          let less : s.next < s.next = sits.below (new_cell s) q at_q in
           let no : ⊥ = omega (arith, less) in no) in (
             (λ holds. grown.0 (same.0 holds)),
             (λ says. same.1 (grown.1 says)),
@@ -225,11 +226,11 @@ module _ (types : List TypeEntry) (f : FieldId) (entry : FieldEntry) (there : fi
     ];
   }
 
--- ---- numbers
+-- ---- cells that fields name stand somewhere
 
-named-put : (types : List TypeEntry) (s : StoreMap) (at : Standing) (v : VariantId) (f : FieldId) (entry : FieldEntry) → field_at types f ≡ Some entry →
-    Sits s at → NamesOld f s → NamesOld f (put_cell s types v)
-named-put types s at v f entry there sits old c d e = elim (cell_cases c (new_cell s)) as (λ _. d.0 < s.next + 1) [
+named-put : (types : List TypeEntry) (s : StoreMap) (at : Standing) (v : VariantId) (place : Position) (f : FieldId) (entry : FieldEntry) →
+    field_at types f ≡ Some entry → Sits s at → NamesPlaced f s at → NamesPlaced f (put_cell s types v) ((new_cell s, place) ∷ at)
+named-put types s at v place f entry there sits old c d e = elim (cell_cases c (new_cell s)) as (λ _. (q : Position) × IsAt ((new_cell s, place) ∷ at) d q) [
   | inl same ↦ (
       let put = IsPut-put_cell types s v sits.above in
       let blank_is = blank-value types v f entry (value.Cell (Some d)) there
@@ -237,7 +238,7 @@ named-put types s at v f entry there sits old c d e = elim (cell_cases c (new_ce
       absurd (not-blank entry.kind d blank_is))
   | inr other ↦ (
       let put = IsPut-put_cell types s v sits.above in
-      let less = old c d (sym (put.other_fields c f other) ∙ e) in omega (arith, less))
+      let (q, at_q) = old c d (sym (put.other_fields c f other) ∙ e) in (q, Contains-later (new_cell s, place) (d, q) at at_q))
 ]
   where
     not-blank : (kind : FieldKind) (d : CellId) → value.Cell (Some d) ≡ blank (field_class kind) → ⊥
@@ -245,47 +246,61 @@ named-put types s at v f entry there sits old c d e = elim (cell_cases c (new_ce
     not-blank (field.Data target) d e = cc
     not-blank (field.Pointer target along) d e = cc
 
-stands-below : (a : Assignment) (s : StoreMap) (at : Standing) (u : Sym) (d : CellId) → Sits s at → StandsForCell a at u (Some d) → d.0 < s.next
-stands-below a s at Null d sits names = absurd names
-stands-below a s at (At x) d sits names = sits.below d names.0 names.2
+stands-somewhere : (a : Assignment) (at : Standing) (u : Sym) (d : CellId) → StandsForCell a at u (Some d) → (q : Position) × IsAt at d q
+stands-somewhere a at Null d names = absurd names
+stands-somewhere a at (At x) d names = (names.0, names.2)
 
-named-set : (a : Assignment) (s : StoreMap) (at : Standing) (c : CellId) (g f : FieldId) (w : Value) (u : Sym) → Sits s at →
-    IsFieldSet c g w s (set_field s c g w) → StandsFor a at u w → NamesOld f s → NamesOld f (set_field s c g w)
-named-set a s at c g f w u sits set stands old d e is = elim (cell_cases d c) as (λ _. e.0 < s.next) [
-  | inl same ↦ by (is_field f g) refl (ap (λ x. field_value (set_field s c g w) x f) (sym same) ∙ is) same
+named-set : (a : Assignment) (s : StoreMap) (at : Standing) (c : CellId) (g f : FieldId) (w : Value) (u : Sym) →
+    IsFieldSet c g w s (set_field s c g w) → StandsFor a at u w → NamesPlaced f s at → NamesPlaced f (set_field s c g w) at
+named-set a s at c g f w u set stands old d e is = elim (cell_cases d c) as (λ _. (q : Position) × IsAt at e q) [
+  | inl same ↦ by (is_field f g) refl (ap (λ x. field_value (set_field s c g w) x f) (sym same) ∙ is)
   | inr other ↦ old d e (sym (set.fields_of_others d f other) ∙ is)
 ]
   where
-    by : (t : Bool) → is_field f g ≡ t → field_value (set_field s c g w) c f ≡ Some (value.Cell (Some e)) → d ≡ c → e.0 < s.next
-    by true equal is_c same =
+    by : (t : Bool) → is_field f g ≡ t → field_value (set_field s c g w) c f ≡ Some (value.Cell (Some e)) → (q : Position) × IsAt at e q
+    by true equal is_c =
         let both : Some w ≡ Some (value.Cell (Some e)) = sym set.value ∙ ap (λ h. field_value (set_field s c g w) c h) (sym (same-field f g equal)) ∙ is_c in
         let value_is : w ≡ value.Cell (Some e) = cc in
-        stands-below a s at u e sits (subst (λ z. StandsFor a at u z) value_is stands)
-    by false apart is_c same =
+        stands-somewhere a at u e (subst (λ z. StandsFor a at u z) value_is stands)
+    by false apart is_c =
         old c e (sym (set.other_fields f (λ h. false≢true (sym apart ∙ field-same f g h))) ∙ is_c)
 
-named-gone : (s : StoreMap) (c : CellId) (f : FieldId) → NamesOld f s → NamesOld f (remove_cell s c)
-named-gone s c f old d e is = elim (cell_cases d c) as (λ _. e.0 < s.next) [
+named-gone : (s : StoreMap) (at : Standing) (c : CellId) (f : FieldId) → NamesPlaced f s at → NamesPlaced f (remove_cell s c) at
+named-gone s at c f old d e is = elim (cell_cases d c) as (λ _. (q : Position) × IsAt at e q) [
   | inl same ↦ (
       let gone = IsRemoved-remove_cell s c in
       let none : None ≡ Some (value.Cell (Some e)) = sym (gone.fields f) ∙ ap (λ x. field_value (remove_cell s c) x f) (sym same) ∙ is in absurd (cc))
   | inr other ↦ old d e (sym ((IsRemoved-remove_cell s c).other_fields d f other) ∙ is)
 ]
 
-pub NamesOld-happens : (types : List TypeEntry) (slots : ℕ) (a : Assignment) (f : FieldId) (entry : FieldEntry) (e : Event) (x z : Stood) →
-    field_at types f ≡ Some entry → Sits x.store x.at → Happens types slots a e x z → NamesOld f x.store → NamesOld f z.store
-NamesOld-happens types slots a f entry e x z there sits happens old = elim (taken-decided a (guard_of e)) as (λ _. NamesOld f z.store) [
+named-along : (f : FieldId) (z : Stood) (s : StoreMap) (at : Standing) → z.store ≡ s → z.at ≡ at → NamesPlaced f s at → NamesPlaced f z.store z.at
+named-along f z s at store places named =
+    subst (λ r. NamesPlaced f r z.at) (sym store) (subst (λ l. NamesPlaced f s l) (sym places) named)
+
+NamesPlaced-happens : (types : List TypeEntry) (slots : ℕ) (a : Assignment) (f : FieldId) (entry : FieldEntry) (e : Event) (x z : Stood) →
+    field_at types f ≡ Some entry → Sits x.store x.at → Happens types slots a e x z → NamesPlaced f x.store x.at → NamesPlaced f z.store z.at
+NamesPlaced-happens types slots a f entry e x z there sits happens old = elim (taken-decided a (guard_of e)) as (λ _. NamesPlaced f z.store z.at) [
   | inl taken ↦ by e (happens.taken taken)
-  | inr passed ↦ subst (λ (st : Stood). NamesOld f st.store) (sym (happens.passed passed)) old
+  | inr passed ↦ subst (λ (st : Stood). NamesPlaced f st.store st.at) (sym (happens.passed passed)) old
 ]
   where
-    by : (e : Event) → Leads types slots a e x z → NamesOld f z.store
+    by : (e : Event) → Leads types slots a e x z → NamesPlaced f z.store z.at
     by (New g k v) made =
-        subst (λ s. NamesOld f s) (sym made.store) (named-put types x.store x.at v f entry there sits old)
+        named-along f z (put_cell x.store types v) ((new_cell x.store, slot_of (slots + k)) ∷ x.at) made.store made.at
+        (named-put types x.store x.at v (slot_of (slots + k)) f entry there sits old)
     by (Write g u h w) wrote =
-        subst (λ s. NamesOld f s) (sym wrote.store)
-        (named-set a x.store x.at wrote.cell h f wrote.value w sits (IsFieldSet-set_field x.store wrote.cell h wrote.value wrote.has) wrote.stands old)
-    by (Free g u) freed = subst (λ s. NamesOld f s) (sym freed.store) (named-gone x.store freed.cell f old)
+        named-along f z (set_field x.store wrote.cell h wrote.value) x.at wrote.store wrote.at
+        (named-set a x.store x.at wrote.cell h f wrote.value w (IsFieldSet-set_field x.store wrote.cell h wrote.value wrote.has) wrote.stands old)
+    by (Free g u) freed =
+        named-along f z (remove_cell x.store freed.cell) x.at freed.store freed.at (named-gone x.store x.at freed.cell f old)
+
+pub NamesPlaced-led : (types : List TypeEntry) (slots : ℕ) (a : Assignment) (f : FieldId) (entry : FieldEntry) (first : Stood) → field_at types f ≡ Some entry →
+    Sits first.store first.at → NamesPlaced f first.store first.at → (events : List Event) (x : Stood) → LeadTo types slots a first events x →
+    NamesPlaced f x.store x.at
+NamesPlaced-led types slots a f entry first there sits old [] x led = subst (λ (st : Stood). NamesPlaced f st.store st.at) (sym led) old
+NamesPlaced-led types slots a f entry first there sits old (e ∷ earlier) x (before, led, happens) =
+    NamesPlaced-happens types slots a f entry e before x there (Sits-led types slots a first earlier before led sits) happens
+    (NamesPlaced-led types slots a f entry first there sits old earlier before led)
 
 -- ---- the formula
 
@@ -366,7 +381,7 @@ module _ (types : List TypeEntry) (slots count : ℕ) (a b : Assignment) (next y
         ) told))
   ]
 
-  event-told : (e : Event) (earlier : Formula) (x z : Stood) → Sits x.store x.at → NamesOld f x.store → IsEventBelow count e →
+  event-told : (e : Event) (earlier : Formula) (x z : Stood) → Sits x.store x.at → NamesPlaced f x.store x.at → IsEventBelow count e →
       Happens types slots a e x z → Told earlier x → Told (written next f y new e earlier) z
   event-told (New g k v) earlier x z sits old below happens told = elim (taken-decided a g) as (λ _. Told earlier z) [
     | inl taken ↦ (
@@ -396,16 +411,10 @@ module _ (types : List TypeEntry) (slots count : ℕ) (a b : Assignment) (next y
         | inr passed ↦ kept earlier x z (happens.passed passed) told
       ]
 
-  module _ (begin : Formula) (first : Stood) (sits : Sits first.store first.at) (old : NamesOld f first.store) (base : Told begin first) where
-    NamesOld-led : (events : List Event) (x : Stood) → LeadTo types slots a first events x → NamesOld f x.store
-    NamesOld-led [] x led = subst (λ (st : Stood). NamesOld f st.store) (sym led) old
-    NamesOld-led (e ∷ earlier) x (before, led, happens) =
-        NamesOld-happens types slots a f entry e before x there (Sits-led types slots a first earlier before led sits) happens
-        (NamesOld-led earlier before led)
-
+  module _ (begin : Formula) (first : Stood) (sits : Sits first.store first.at) (old : NamesPlaced f first.store first.at) (base : Told begin first) where
     pub after-told : (events : List Event) (x : Stood) → LeadTo types slots a first events x → AreEventsBelow count events →
         Told (after next f y new begin events) x
     after-told [] x led below = kept begin first x led base
     after-told (e ∷ earlier) x (before, led, happens) below =
         event-told e (after next f y new begin earlier) before x (Sits-led types slots a first earlier before led sits)
-        (NamesOld-led earlier before led) below.0 happens (after-told earlier before led below.1)
+        (NamesPlaced-led types slots a f entry first there sits old earlier before led) below.0 happens (after-told earlier before led below.1)

@@ -8,9 +8,21 @@ use Rattle.ws2s_core.specs.Satisfaction.{WSat}
 use Rattle.ws2s_forms.specs.Forms.{track, and_list, imp, ex1, all2}
 use Rattle.ws2s_forms.specs.Places.{just, with_position}
 use Rattle.ws2s_forms.proofs.LawsLemmas.{law-all2, law-imp, law-member}
-use Rattle.graph_forms.specs.Meaning.{Agrees, MeansPairs, IsClosed, IsLinked}
-use Rattle.graph_forms.specs.Closing.{closed_set, closing}
-use Rattle.graph_forms.proofs.AgreeingLemmas.{Agrees-set, Agrees-bound, IsOnly-bound, IsOnly-still, IsOnly-kept, sat-and, sat-not, sat-ex1, sat-three}
+use Rattle.graph_view.specs.Routes.{Joining, is_left}
+use Rattle.graph_live.specs.Meaning.{Agrees, MeansPairs}
+use Rattle.graph_live.proofs.AgreeingLemmas.{Agrees-set, Agrees-bound, IsOnly-bound, IsOnly-still, IsOnly-kept, sat-and, sat-not, sat-ex1, sat-three}
+
+-- no pair leads out of the set
+abbrev pub IsClosed : (Position → Position → Type 0) → PositionSet → Type 0
+IsClosed R set = (p q : Position) → IsTrue (set p) → R p q → IsTrue (set q)
+
+-- each finite closed set that holds p holds q
+abbrev pub IsLinked : (Position → Position → Type 0) → Position → Position → Type 0
+IsLinked R p q = (set : PositionSet) → IsFiniteSet set → IsTrue (set p) → IsClosed R set → IsTrue (set q)
+
+-- b is in each closed set that has a
+abbrev pub closing : Joining → Joining
+closing joins next a b = all2 next (imp (And (Sub (track a) (track next)) (Not (is_left joins (suc next) next))) (Sub (track b) (track next)))
 
 -- what isn't false of a test is true
 pub true_from : (t : Bool) → ((IsTrue t → ⊥) → ⊥) → IsTrue t
@@ -19,9 +31,9 @@ true_from false h = absurd (h (λ e. cc))
 
 module _ (count : ℕ) (a : Assignment) (joins : ℕ → ℕ → ℕ → Formula) (R : Position → Position → Type 0) (means : MeansPairs count a joins R) where
   -- the set on track x is closed
-  pub closed_set-means : (b : Assignment) (next x : ℕ) (set : PositionSet) → Agrees count a b → count ≤ next → x < next →
-      ((p : Position) → IsTrue (b x p) ↔ IsTrue (set p)) → WSat (closed_set joins next x) b ↔ IsClosed R set
-  closed_set-means b next x set agrees few below is =
+  pub left-means : (b : Assignment) (next x : ℕ) (set : PositionSet) → Agrees count a b → count ≤ next → x < next →
+      ((p : Position) → IsTrue (b x p) ↔ IsTrue (set p)) → WSat (Not (is_left joins next x)) b ↔ IsClosed R set
+  left-means b next x set agrees few below is =
       let first = λ (p : Position). with_position b next p in
       let second = λ (p q : Position). with_position (first p) (suc next) q in
       let inside : (p q : Position) → WSat (and_list (suc (suc next)) (Sub (track next) (track x)
@@ -66,14 +78,14 @@ module _ (count : ℕ) (a : Assignment) (joins : ℕ → ℕ → ℕ → Formula
   -- each closed set that has the one has the other
   pub closing-means : MeansPairs count a (closing joins) (IsLinked R)
   closing-means b next x y p q agrees few before behind at_p at_q =
-      let within = And (Sub (track x) (track next)) (closed_set joins (suc next) next) in
+      let within = And (Sub (track x) (track next)) (Not (is_left joins (suc next) next)) in
       let all = law-all2 next (imp within (Sub (track y) (track next))) b agrees.finite in
       let each : (set : PositionSet) → IsFiniteSet set → WSat (imp within (Sub (track y) (track next))) (replace b next set)
       ↔ ((IsTrue (set p) × IsClosed R set) → IsTrue (set q)) = λ set bounded.
       let agreed = Agrees-set count a b next set agrees few bounded in
-      let left = sat-and (Sub (track x) (track next)) (closed_set joins (suc next) next) (replace b next set) (IsTrue (set p)) (IsClosed R set)
+      let left = sat-and (Sub (track x) (track next)) (Not (is_left joins (suc next) next)) (replace b next set) (IsTrue (set p)) (IsClosed R set)
       (on set x p (IsOnly-kept b next x set p before at_p))
-      (closed_set-means (replace b next set) (suc next) next set agreed (omega (arith, few)) (omega arith) (shown set)) in
+      (left-means (replace b next set) (suc next) next set agreed (omega (arith, few)) (omega arith) (shown set)) in
       let right = on set y q (IsOnly-kept b next y set q behind at_q) in
       let follows = law-imp within (Sub (track y) (track next)) (replace b next set) agreed.finite in (
         (λ h both. right.0 (follows.0 h (left.1 both))),

@@ -1,0 +1,5 @@
+pub mod ListedLemmas
+pub mod ClosingLemmas
+pub mod GroundLemmas
+pub mod WalkingLemmas
+pub mod SeenLemmas
