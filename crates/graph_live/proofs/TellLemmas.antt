@@ -246,7 +246,7 @@ named-put types s at v place f entry there sits old c d e = elim (cell_cases c (
     not-blank (field.Data target) d e = cc
     not-blank (field.Pointer target along) d e = cc
 
-stands-somewhere : (a : Assignment) (at : Standing) (u : Sym) (d : CellId) → StandsForCell a at u (Some d) → (q : Position) × IsAt at d q
+pub stands-somewhere : (a : Assignment) (at : Standing) (u : Sym) (d : CellId) → StandsForCell a at u (Some d) → (q : Position) × IsAt at d q
 stands-somewhere a at Null d names = absurd names
 stands-somewhere a at (At x) d names = (names.0, names.2)
 

@@ -36,6 +36,7 @@ use Rattle.graph_live.proofs.AgreeingLemmas.{Agrees-bound, IsOnly-bound, IsOnly-
 use Rattle.graph_walks.specs.Walking.{JoinsAt, WalkAt}
 use Rattle.graph_walks.proofs.ListedLemmas.{places_of, on-place, place-on, places-finite}
 use Rattle.graph_walks.proofs.ClosingLemmas.{IsClosed, IsLinked, closing, closing-means}
+use Rattle.graph_walks.proofs.ChainLemmas.{chain-linked, chain-end}
 use Rattle.graph_walks.proofs.GroundLemmas.{MeansNames, IsGround, IsTestOf, down-means, edge-means, root-means, leaf-means, type-means, variant-means, truth-means}
 
 flip : {P Q : Type 0} → P ↔ Q → Q ↔ P
@@ -114,17 +115,6 @@ module _ (types : List TypeEntry) (sight : Sight) (count : ℕ) (a : Assignment)
     abbrev Round : CellId → CellId → Type 0
     Round = Walk types t fields round
 
-    -- a chain leads into each closed set that has its start
-    chain-linked : (c d : CellId) → Chain t Round c d → (p q : Position) → IsAt at c p → IsAt at d q → IsLinked (JoinsAt at Round) p q
-    chain-linked c d (stay e live) p q here there set bounded on closed = subst (λ r. IsTrue (set r)) (ground.one e p q here there) on
-    chain-linked c d (go e m f step chain) p q here there set bounded on closed =
-        let (u, at_u) = ground.there m (Walk-live types t fields round e m step).1 in
-        chain-linked m f chain u q at_u there set bounded (closed p u on (e, m, here, at_u, step)) closed
-
-    chain-end : (c d e : CellId) → Chain t Round c d → Round d e → Chain t Round c e
-    chain-end c d e (stay g live) step = go g e e step (stay e (Walk-live types t fields round g e step).1)
-    chain-end c d e (go g m f first chain) step = go g m e first (chain-end m f e chain step)
-
     -- what is in each closed set that has the start is the end of a chain: the positions of the ends of chains are such a set
     linked-chain : (c : CellId) (p q : Position) → IsAt at c p → IsLive t c → IsLinked (JoinsAt at Round) p q → JoinsAt at (Chain t Round) p q
     linked-chain c p q here live linked =
@@ -139,7 +129,7 @@ module _ (types : List TypeEntry) (sight : Sight) (count : ℕ) (a : Assignment)
             let (d, at_u, so) = on-place (λ d. has_number cells d.0) at u on in
             let (e, f, also_u, at_w, step) = leads in
             let first : Round d f = subst (λ g. Round g f) (ground.apart e d u also_u at_u) step in
-            place-on (λ d. has_number cells d.0) at f w at_w (chain-in f (chain-end c d f (in-chain d so) first))) in
+            place-on (λ d. has_number cells d.0) at f w at_w (chain-in f (chain-end t at ground.there ground.one Round (Walk-live types t fields round) c d f (in-chain d so) first))) in
         let (d, there, so) = on-place (λ d. has_number cells d.0) at q inside in
         (c, d, here, there, in-chain d so)
 
@@ -157,7 +147,7 @@ module _ (types : List TypeEntry) (sight : Sight) (count : ℕ) (a : Assignment)
               let (c, d, here, there, walk) = h in
               let chain = (Walk-Star types t fields round c d).0 walk in
               let ends = Chain-live (Walk-live types t fields round) chain in
-              whole.1 ((c, here, ends.0), (d, there, ends.1), chain-linked c d chain p q here there)),
+              whole.1 ((c, here, ends.0), (d, there, ends.1), chain-linked t at ground.there ground.one Round (Walk-live types t fields round) c d chain p q here there)),
         )
 
   -- ---- all routes

@@ -1,0 +1,24 @@
+//! What the formulas of cuts mean.
+
+ghost use Rattle.std.specs.Prelude.{◌↔◌, ℕ, ◌≤◌};
+ghost use Rattle.gta_theory.specs.Assignments.{Assignment};
+ghost use Rattle.ws2s_core.specs.Satisfaction.{WSat};
+ghost use Rattle.store_core.specs.Stores.{StoreMap};
+ghost use Rattle.routing_expr.specs.CutFaults.{HasDanglingReference, HasLeaked, HasWrongField};
+ghost use Rattle.tree_encode.specs.Layouts.{LaidOut};
+ghost use Rattle.graph_view.specs.declared.view.View.{View};
+ghost use Rattle.graph_view.specs.declared.view.CutCheck.TheVariants as check;
+ghost use Rattle.graph_view.specs.Sights.{sight_of};
+ghost use Rattle.graph_view.specs.Cuts.{cut_formula};
+ghost use Rattle.graph_view.specs.After.{Standing};
+ghost use Rattle.graph_live.specs.Meaning.{Agrees};
+ghost use Rattle.graph_walks.specs.Wells.{ShowsWell};
+
+/// Where a view shows all of the store, the formula of dangling references holds exactly where a variable or a field of a live cell
+/// names a dead cell.
+pub fn dangling_references_are_told()
+    ensures { (l : LaidOut) (view : View) (a b : Assignment) (first s : StoreMap) (at : Standing) (count next : ℕ) →
+        ShowsWell l view a first s s at count → Agrees count a b → count ≤ next →
+        WSat (cut_formula l.types (sight_of l.vars view) l.vars view.vars check.DanglingRef next) b ↔ HasDanglingReference s }
+{}
+
