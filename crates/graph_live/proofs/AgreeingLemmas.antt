@@ -1,15 +1,14 @@
 -- Assignments that agree with one on the tracks in use, under quantifiers, and what formulas mean there.
-use Rattle.std.proofs.Common.{◌≡◌, ◌≢◌, ◌↔◌, ◌⊎◌, inl, inr, ℕ, suc, ◌<◌, ◌≤◌, IsTrue, List, [], ◌∷◌, map, Contains, All, refl, sym, ap, ◌∙◌, subst, arith}
-use Rattle.std.proofs.lemmas.List.Elements.{All-contains}
+use Rattle.std.proofs.Common.{◌≢◌, ◌↔◌, ◌⊎◌, inl, inr, ℕ, ◌<◌, ◌≤◌, IsTrue, List, [], ◌∷◌, map, Contains, refl, sym, ◌∙◌, subst, arith}
 use Rattle.gta_theory.specs.Assignments.{Position, PositionSet, Assignment, IsFinite, IsFiniteSet, IsOnly, replace}
-use Rattle.gta_theory.proofs.AssignmentsLemmas.{replace-same, replace-other}
-use Rattle.gta_theory.proofs.ListsLemmas.{Contains-map, Contains-mapped, Contains-first, Contains-later, Contains-cases, All-from_contains}
+use Rattle.gta_theory.proofs.AssignmentsLemmas.{replace-other}
+use Rattle.gta_theory.proofs.ListsLemmas.{Contains-map, Contains-mapped}
 use Rattle.ws2s_core.specs.declared.formula.Formula.{Formula}
 use Rattle.ws2s_core.specs.declared.formula.Formula.TheVariants.{Sub, And, Not}
 use Rattle.ws2s_core.specs.Satisfaction.{WSat}
 use Rattle.ws2s_core.proofs.SatisfactionLemmas.{WSat-And, WSat-Not}
 use Rattle.ws2s_theory.proofs.ContextsLemmas.{IsFinite-replace}
-use Rattle.ws2s_forms.specs.Forms.{track, or, or_list, and_list, imp, ex1}
+use Rattle.ws2s_forms.specs.Forms.{track, or, or_list, and_list, ex1}
 use Rattle.ws2s_forms.specs.Places.{just, with_position}
 use Rattle.ws2s_forms.proofs.PositionsLemmas.{IsOnly-just, bound_same, bound_other}
 use Rattle.ws2s_forms.proofs.ConnectivesLemmas.{EachSat, WSat-and_list}

@@ -1,5 +1,5 @@
 -- What the formulas of bool and data fields say of live cells.
-use Rattle.std.proofs.Common.{◌≡◌, ◌≢◌, ◌↔◌, ◌⊎◌, inl, inr, ℕ, ◌+◌, ◌<◌, ◌≤◌, Bool, true, false, cond, IsTrue, IsSomeAnd, IfSome, List, [], ◌∷◌, ◌++◌, take, unwrap_or, Option, Some, None, refl, sym, ap, ◌∙◌, subst, arith}
+use Rattle.std.proofs.Common.{◌≡◌, ◌↔◌, inl, inr, ℕ, ◌+◌, ◌<◌, ◌≤◌, true, false, cond, IsSomeAnd, IfSome, List, [], ◌∷◌, ◌++◌, take, unwrap_or, Option, Some, None, refl, sym, ap, ◌∙◌, subst, arith}
 use Rattle.std.proofs.lemmas.Bool.{false≢true}
 use Rattle.std.specs.Option.{option_and_then}
 use Rattle.std.specs.Prelude.{IsSome}
@@ -11,7 +11,6 @@ use Rattle.ws2s_core.specs.Satisfaction.{WSat}
 use Rattle.ws2s_forms.specs.Forms.{track, child}
 use Rattle.ws2s_forms.specs.Places.{child_of, slot_of}
 use Rattle.ws2s_forms.proofs.PositionsLemmas.{IsOnly-inside, IsOnly-same, IsOnly-along}
-use Rattle.ws2s_forms.proofs.ConnectivesLemmas.{WSat-false}
 use Rattle.ws2s_forms.proofs.GoingLemmas.{WSat-flag, WSat-go}
 use Rattle.store_core.specs.declared.ids.CellId.{CellId}
 use Rattle.store_core.specs.declared.ids.TypeId.{TypeId}
@@ -21,12 +20,12 @@ use Rattle.store_core.specs.declared.kind.FieldKind.TheVariants as field
 use Rattle.store_core.specs.declared.value.Value.{Value}
 use Rattle.store_core.specs.declared.value.Value.TheVariants as value
 use Rattle.store_core.specs.Tables.{TypeEntry, FieldEntry, VarEntry, field_at}
-use Rattle.store_core.specs.Stores.{StoreMap, CellEntry, IsLive, Fits, FieldFits, cell_of, field_value, field_class, blank}
+use Rattle.store_core.specs.Stores.{StoreMap, CellEntry, Fits, FieldFits, cell_of, field_value, field_class, blank}
 use Rattle.store_core.specs.declared.value.Class.TheVariants.{Reference}
 use Rattle.store_core.proofs.FittingLemmas.{IfSome-at, IsSomeAnd-at}
 use Rattle.routing_expr.specs.Walks.{DataAlone, IsFollowed, Leads, IsOfType}
 use Rattle.routing_expr.specs.WellFormed.{FieldHoldsLive, IsBackbone}
-use Rattle.routing_expr.proofs.LiveLemmas.{IsSome-and, IsLive-field_value}
+use Rattle.routing_expr.proofs.LiveLemmas.{IsSome-and}
 use Rattle.routing_laws.specs.Paths.{LeadsAlong}
 use Rattle.tree_encode.specs.declared.counting.Counted.TheVariants.{Bools, Children}
 use Rattle.tree_encode.specs.Counting.{counts, is_counted, rank, variants_in, bools_in}
@@ -38,7 +37,7 @@ use Rattle.tree_store.specs.Encoding.{IsAssignmentOf}
 use Rattle.tree_store.proofs.SpotsLemmas.{of-some}
 use Rattle.tree_formula.specs.WellEncoded.{track_or_first}
 use Rattle.tree_meaning.proofs.NumbersLemmas.{fields-apart}
-use Rattle.tree_meaning.proofs.StoresLemmas.{last-step, below-last, below-ends, placed-live}
+use Rattle.tree_meaning.proofs.StoresLemmas.{last-step, below-last, below-ends}
 use Rattle.tree_meaning.proofs.TablesLemmas.{track-few}
 use Rattle.tree_meaning.proofs.WordsLemmas.{EndsInZero, slot-ends, slot-not_child, children-apart}
 use Rattle.graph_view.specs.declared.view.Sym.{Sym}
@@ -47,7 +46,7 @@ use Rattle.graph_view.specs.Syms.{is_in, truth}
 use Rattle.graph_view.specs.Sights.{Sight, at_first}
 use Rattle.graph_view.specs.Live.{has, lives_in}
 use Rattle.graph_view.specs.Fields.{first_child}
-use Rattle.graph_view.specs.After.{Standing, IsAt, AreStanding, StandsFor, StandsForTruth, Stood, IsSymBelow}
+use Rattle.graph_view.specs.After.{Standing, IsAt, AreStanding, StandsFor, IsSymBelow}
 use Rattle.graph_live.specs.Meaning.{Agrees, MeansHere}
 use Rattle.graph_live.specs.Standing.{Sits, TypeAt, FieldAt}
 use Rattle.graph_live.specs.Fields.{NamesAt}

@@ -1,25 +1,24 @@
 -- The formula of live cells of a variant, after all events.
-use Rattle.std.proofs.Common.{◌≡◌, ◌≢◌, ◌↔◌, ◌⊎◌, inl, inr, ℕ, ◌+◌, ◌<◌, ◌≤◌, Bool, true, false, cond, ◌==◌, ◌&&◌, IsTrue, IsSomeAnd, List, [], ◌∷◌, Option, Some, None, refl, sym, ap, ◌∙◌, subst, arith}
+use Rattle.std.proofs.Common.{◌≡◌, ◌≢◌, ◌↔◌, ◌⊎◌, inl, inr, ℕ, ◌+◌, ◌<◌, ◌≤◌, Bool, true, false, cond, ◌==◌, IsSomeAnd, List, [], ◌∷◌, Option, Some, refl, sym, ap, ◌∙◌, subst, arith}
 use Rattle.std.proofs.lemmas.Bool.{false≢true, eqb-true, eq-eqb, and_parts, and_from}
 use Rattle.std.specs.Prelude.{option_map}
-use Rattle.gta_theory.specs.Assignments.{Position, Assignment, IsFinite, IsOnly}
+use Rattle.gta_theory.specs.Assignments.{Position, Assignment, IsOnly}
 use Rattle.ws2s_core.specs.declared.track.Track.{Track}
 use Rattle.ws2s_core.specs.declared.formula.Formula.{Formula}
 use Rattle.ws2s_core.specs.declared.formula.Formula.TheVariants.{And, Not}
 use Rattle.ws2s_core.specs.Satisfaction.{WSat}
 use Rattle.ws2s_forms.specs.Forms.{or, slot}
 use Rattle.ws2s_forms.specs.Places.{slot_of}
-use Rattle.ws2s_forms.proofs.PositionsLemmas.{IsOnly-inside, IsOnly-same, IsOnly-along}
+use Rattle.ws2s_forms.proofs.PositionsLemmas.{IsOnly-same, IsOnly-along}
 use Rattle.ws2s_forms.proofs.GoingLemmas.{WSat-slot}
 use Rattle.store_core.specs.declared.ids.CellId.{CellId}
 use Rattle.store_core.specs.declared.ids.FieldId.{FieldId}
 use Rattle.store_core.specs.declared.ids.VariantId.{VariantId}
 use Rattle.store_core.specs.declared.value.Value.{Value}
 use Rattle.store_core.specs.Tables.{TypeEntry, VarEntry, variant_count}
-use Rattle.store_core.specs.Stores.{StoreMap, CellEntry, IsLive, Fits, cell_of, put_cell, set_field, remove_cell, blank_cell}
+use Rattle.store_core.specs.Stores.{StoreMap, CellEntry, Fits, cell_of, put_cell, set_field, remove_cell, blank_cell}
 use Rattle.store_core.proofs.FittingLemmas.{IsSomeAnd-at}
-use Rattle.store_laws.specs.Changed.{IsPut, IsFieldSet, IsRemoved, variant_of}
-use Rattle.store_laws.proofs.CellLemmas.{cell_cases}
+use Rattle.store_laws.specs.Changed.{IsFieldSet, variant_of}
 use Rattle.store_laws.proofs.ChangeLemmas.{IsPut-put_cell, IsFieldSet-set_field, IsRemoved-remove_cell}
 use Rattle.routing_expr.specs.Walks.{IsOfVariant}
 use Rattle.routing_expr.proofs.LiveLemmas.{IsSome-and}
@@ -28,20 +27,20 @@ use Rattle.tree_store.specs.Encoding.{IsAssignmentOf}
 use Rattle.tree_store.proofs.SpotsLemmas.{of-some, map-some}
 use Rattle.tree_formula.specs.WellEncoded.{is_of}
 use Rattle.tree_shapes.specs.Shapes.{IsCellOf}
-use Rattle.tree_meaning.proofs.StandingLemmas.{StandsOn, is_of-means}
+use Rattle.tree_meaning.proofs.StandingLemmas.{is_of-means}
 use Rattle.tree_meaning.proofs.StoresLemmas.{marked-cell, cell-marked}
 use Rattle.graph_view.specs.declared.view.Sym.{Sym}
 use Rattle.graph_view.specs.declared.view.Event.{Event}
 use Rattle.graph_view.specs.declared.view.Event.TheVariants.{New, Write, Free}
 use Rattle.graph_view.specs.Syms.{is_in, guard}
 use Rattle.graph_view.specs.Live.{is_variant, live_after, live_of}
-use Rattle.graph_view.specs.After.{Standing, IsAt, AreStanding, StandsForCell, IsTaken, Stood, new_cell, Makes, Writes, Frees, Leads, Happens, LeadTo}
+use Rattle.graph_view.specs.After.{Standing, IsAt, AreStanding, IsTaken, Stood, new_cell, Makes, Happens, LeadTo}
 use Rattle.graph_view.specs.After.{IsSymBelow, IsGuardBelow, IsEventBelow, AreEventsBelow}
 use Rattle.graph_live.specs.Meaning.{Agrees, MeansHere}
 use Rattle.graph_live.specs.Standing.{Sits, VariantAt}
 use Rattle.graph_live.proofs.AgreeingLemmas.{sat-and, sat-or, sat-not}
 use Rattle.graph_live.proofs.SymsLemmas.{guard-means, is_in-cell}
-use Rattle.graph_live.proofs.StandingLemmas.{taken-decided, NewOrOld, new-or-old, new-here, old-here, old-not_new, Sits-led}
+use Rattle.graph_live.proofs.StandingLemmas.{taken-decided, new-or-old, new-here, old-here, old-not_new, Sits-led}
 
 -- ---- variants of cells
 
@@ -190,9 +189,9 @@ module _ (types : List TypeEntry) (slots count : ℕ) (a b : Assignment) (v : Va
                   ]),
                   (λ h. either.1 (elim (put-at v p types x.store x.at sits w (slot_of (slots + k)) (made.1 h)) as
                       (λ _. StoodAt x v p ⊎ (IsTaken a g × (p ≡ slot_of (slots + k)))) [
-                    | inl old ↦ inl old
-                    | inr new ↦ inr (taken, new.1)
-                  ])),
+                        | inl old ↦ inl old
+                        | inr new ↦ inr (taken, new.1)
+                      ])),
                 ))
             | inr passed ↦ (
                 let same = happens.passed passed in (

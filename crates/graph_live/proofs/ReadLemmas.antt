@@ -1,5 +1,5 @@
 -- The formulas of live cells where all of a store is read, or a region of it.
-use Rattle.std.proofs.Common.{◌≡◌, ◌≢◌, ◌↔◌, ◌⊎◌, inl, inr, ℕ, zero, suc, ◌<◌, ◌≤◌, Bool, true, false, cond, IsTrue, IsSomeAnd, IfSome, List, [], ◌∷◌, map, length, slice_get, Option, Some, None, Contains, refl, sym, ap, ◌∙◌, subst, arith}
+use Rattle.std.proofs.Common.{◌≡◌, ◌↔◌, ℕ, zero, suc, ◌<◌, ◌≤◌, Bool, true, false, cond, IsTrue, IsSomeAnd, List, [], ◌∷◌, map, length, slice_get, Option, Some, None, Contains, refl, sym, ap, ◌∙◌, subst, arith}
 use Rattle.std.proofs.lemmas.Bool.{false≢true, eq-eqb}
 use Rattle.std.specs.Prelude.{IsSome}
 use Rattle.std.specs.Option.{option_map_or, option_and_then}
@@ -8,7 +8,7 @@ use Rattle.ws2s_core.specs.declared.track.Track.{Track}
 use Rattle.ws2s_core.specs.declared.formula.Formula.{Formula}
 use Rattle.ws2s_core.specs.declared.formula.Formula.TheVariants.{Sub, And, Not}
 use Rattle.ws2s_core.specs.Satisfaction.{WSat}
-use Rattle.ws2s_forms.specs.Forms.{track, or_list, ex1}
+use Rattle.ws2s_forms.specs.Forms.{track, or_list}
 use Rattle.ws2s_forms.specs.Places.{with_position}
 use Rattle.store_core.specs.declared.ids.CellId.{CellId}
 use Rattle.store_core.specs.declared.ids.TypeId.{TypeId}
@@ -19,19 +19,19 @@ use Rattle.store_core.specs.Tables.{TypeEntry, FieldEntry, VarEntry, field_at, f
 use Rattle.store_core.specs.Stores.{StoreMap, CellEntry, IsLive, Fits, SlotsFit, CellFits, cell_of, field_of, field_value}
 use Rattle.store_core.proofs.FittingLemmas.{IsSomeAnd-at, IfSome-at, same_type}
 use Rattle.routing_expr.specs.Walks.{IsOfType, IsOfVariant}
-use Rattle.routing_expr.specs.Regions.{IsOn, IsRest, has_number, store_on}
+use Rattle.routing_expr.specs.Regions.{IsRest, has_number, store_on}
 use Rattle.routing_expr.proofs.LiveLemmas.{IsSome-and}
 use Rattle.routing_laws.proofs.RegionLemmas.{number_in, in_number, store_on-IsOn}
 use Rattle.tree_encode.proofs.TracksLemmas.{and_then-some}
 use Rattle.tree_store.proofs.SpotsLemmas.{of-some}
-use Rattle.tree_formula.specs.WellEncoded.{type_id, variant_in, types_in, variants_of, owner}
+use Rattle.tree_formula.specs.WellEncoded.{type_id, variant_in, types_in, variants_of}
 use Rattle.tree_meaning.specs.Premises.{OwnersAreThere}
 use Rattle.tree_meaning.proofs.ListsLemmas.{Contains-named, named-inside}
 use Rattle.tree_meaning.proofs.TablesLemmas.{type-known, unnamed-is, unnamed-known, owner-is, owner-inside, common-had, own-had, had-own}
 use Rattle.graph_view.specs.declared.view.Sym.{Sym}
 use Rattle.graph_view.specs.Syms.{is_in}
 use Rattle.graph_view.specs.Sights.{Sight}
-use Rattle.graph_view.specs.Live.{in_region, live_of, lives, lives_in, has, is_live, is_dead}
+use Rattle.graph_view.specs.Live.{in_region, lives, lives_in, has, is_live, is_dead}
 use Rattle.graph_view.specs.After.{Standing, IsAt, StandsForCell, IsRegion, IsRead, IsRegionBelow, IsSymBelow}
 use Rattle.graph_live.specs.Meaning.{Agrees, MeansHere}
 use Rattle.graph_live.specs.Standing.{Sits, LiveAt, VariantAt, TypeAt, FieldAt}
@@ -88,10 +88,15 @@ module _ (types : List TypeEntry) (a : Assignment) (at : Standing) (s : StoreMap
   rest-at x cells rest region outside = (
     (λ (h : VariantAt s at v p × (IsTrue (a x.0 p) → ⊥)).
         let (c, here, of_v) = h.0 in
-        (set-at rest).1 (c, here, of_v, (outside.members c).1 (
-          IsSome-and (cell_of s c) (λ e. e.variant ≡ v) of_v,
-          (λ inside. h.1 ((in-cells x cells c region here).1 inside)),
-        ))),
+        (set-at rest).1 (
+          c,
+          here,
+          of_v,
+          (outside.members c).1 (
+            IsSome-and (cell_of s c) (λ e. e.variant ≡ v) of_v,
+            (λ inside. h.1 ((in-cells x cells c region here).1 inside)),
+          ),
+        )),
     (λ (h : VariantAt (store_on s rest) at v p).
         let (c, here, of_v, inside) = (set-at rest).0 h in
         ((c, here, of_v), (λ on. ((outside.members c).0 inside).1 ((in-cells x cells c region here).0 on)))),
@@ -235,10 +240,10 @@ module _ (types : List TypeEntry) (s t : StoreMap) (at : Standing) (fitting : Ar
       by None is =
           let some = sat-or_list next (λ v. lives types sight next v y) (variants_of types ty) b (λ v. (v.ty ≡ ty) × VariantAt t at v p) agrees.finite
           (λ v listed.
-              let (i, inside, name) = named-inside (variant_in ty) (variant_count types ty) v listed in
-              let typed : v.ty ≡ ty = sym (ap (λ (w : VariantId). w.ty) name) in
-              let known : v.index < variant_count types v.ty = subst (λ (w : VariantId). w.index < variant_count types w.ty) name inside in
-              let one = means v known b next y p agrees few less only in ((λ h. (typed, one.0 h)), (λ h. one.1 h.1))) in (
+          let (i, inside, name) = named-inside (variant_in ty) (variant_count types ty) v listed in
+          let typed : v.ty ≡ ty = sym (ap (λ (w : VariantId). w.ty) name) in
+          let known : v.index < variant_count types v.ty = subst (λ (w : VariantId). w.index < variant_count types w.ty) name inside in
+          let one = means v known b next y p agrees few less only in ((λ h. (typed, one.0 h)), (λ h. one.1 h.1))) in (
             (λ h. let (v, listed, found) = some.0 h in subst (λ u. TypeAt t at u p) found.0 (variant-type types s t at fitting v p found.1)),
             (λ h.
                 let (i, inside, of_v) = type-variant types s t at fitting ty p h in

@@ -1,5 +1,5 @@
 -- What the formulas of live cells and of bool and data fields say of the store that a view shows.
-use Rattle.std.proofs.Common.{◌≡◌, ◌↔◌, ◌⊎◌, inl, inr, ℕ, ◌<◌, ◌≤◌, Bool, true, false, IsTrue, IsSomeAnd, IfSome, List, [], ◌∷◌, ◌++◌, length, slice_get, Option, Some, None, Contains, All, refl, sym, ap, ◌∙◌, subst, arith}
+use Rattle.std.proofs.Common.{◌≡◌, ◌↔◌, ℕ, ◌<◌, ◌≤◌, true, IsSomeAnd, IfSome, List, [], ◌∷◌, ◌++◌, Option, Some, None, All, refl, sym, ap, ◌∙◌, subst}
 use Rattle.std.specs.Prelude.{IsSome, reverse}
 use Rattle.std.specs.Ordering.{nat_cmp}
 use Rattle.std.specs.FinMap.{FinMap, get}
@@ -7,7 +7,6 @@ use Rattle.std.specs.Option.{option_and_then}
 use Rattle.std.proofs.lemmas.List.{reverse-append}
 use Rattle.std.proofs.lemmas.List.Elements.{All-head, All-tail}
 use Rattle.gta_theory.specs.Assignments.{Position, Assignment, IsOnly}
-use Rattle.ws2s_core.specs.declared.track.Track.{Track}
 use Rattle.ws2s_core.specs.declared.formula.Formula.{Formula}
 use Rattle.ws2s_core.specs.declared.formula.Formula.TheVariants.{Sub}
 use Rattle.ws2s_core.specs.Satisfaction.{WSat}
@@ -24,14 +23,11 @@ use Rattle.store_core.specs.declared.value.Value.TheVariants as value
 use Rattle.store_core.specs.Tables.{TypeEntry, FieldEntry, VarEntry, field_at, variant_count}
 use Rattle.store_core.specs.Stores.{StoreMap, CellEntry, IsLive, Fits, FieldFits, cell_of, field_of, field_value, field_class}
 use Rattle.store_core.proofs.FittingLemmas.{IfSome-at, slot_at_value}
-use Rattle.routing_expr.specs.Walks.{IsOfVariant, IsOfType}
-use Rattle.routing_expr.specs.WellFormed.{FieldHoldsLive, IsBackbone}
+use Rattle.routing_expr.specs.WellFormed.{FieldHoldsLive}
 use Rattle.routing_expr.proofs.LiveLemmas.{IsSome-and, IsLive-field_value}
 use Rattle.tree_encode.specs.Layouts.{LaidOut}
-use Rattle.tree_encode.specs.Tracks.{track_count, bool_track}
-use Rattle.tree_store.specs.Encoding.{IsAssignmentOf}
+use Rattle.tree_encode.specs.Tracks.{bool_track}
 use Rattle.tree_formula.specs.WellEncoded.{track_or_first}
-use Rattle.tree_meaning.specs.Premises.{OwnersAreThere}
 use Rattle.graph_view.specs.declared.view.Sym.{Sym}
 use Rattle.graph_view.specs.declared.view.Event.{Event}
 use Rattle.graph_view.specs.declared.view.View.{View}
@@ -39,15 +35,14 @@ use Rattle.graph_view.specs.Syms.{is_in, truth}
 use Rattle.graph_view.specs.Sights.{Sight, var_slots, at_first, sight_of}
 use Rattle.graph_view.specs.Live.{lives, lives_in, has, is_live, is_dead, live_of}
 use Rattle.graph_view.specs.Fields.{after, first_child, data_names, is_true}
-use Rattle.graph_view.specs.Fitting.{AreFree}
-use Rattle.graph_view.specs.After.{Standing, IsAt, AreStanding, StandsFor, StandsForCell, Stood, LeadTo, IsSeen, IsRead, IsSymBelow, IsEventBelow, AreEventsBelow}
+use Rattle.graph_view.specs.After.{Standing, IsAt, StandsFor, StandsForCell, Stood, IsSymBelow, IsEventBelow, AreEventsBelow}
 use Rattle.graph_live.specs.Meaning.{Agrees, MeansHere}
 use Rattle.graph_live.specs.Standing.{Sits, LiveAt, VariantAt, TypeAt, FieldAt}
 use Rattle.graph_live.specs.Fields.{NamesAt, FieldNamesAt}
 use Rattle.graph_live.specs.Showing.{Shows}
 use Rattle.graph_live.proofs.LiveLemmas.{first-means, live_of-means, variant-kept}
-use Rattle.graph_live.proofs.ReadLemmas.{in_region-means, read-cell, read-fitting, is-some, AreFitting, lives_in-means, is_live-means, has-means, is_dead-means}
-use Rattle.graph_live.proofs.StandingLemmas.{Sits-first, Sits-led, Sits-seen, Sits-alike}
+use Rattle.graph_live.proofs.ReadLemmas.{in_region-means, read-cell, read-fitting, AreFitting, lives_in-means, is_live-means, has-means, is_dead-means}
+use Rattle.graph_live.proofs.StandingLemmas.{Sits-first, Sits-seen}
 use Rattle.graph_live.proofs.TellLemmas.{IsSaid, IsTold, NamesPlaced, NamesPlaced-led, told-value, after-told}
 use Rattle.graph_live.proofs.FieldsLemmas.{IsTruth, truth-said, truth-means, names-said, names-means, first-truth, first-child}
 
@@ -174,7 +169,7 @@ module _ (l : LaidOut) (view : View) (a : Assignment) (first s t : StoreMap) (at
       let said : IsSaid entry.kind IsTruth = subst (λ k. IsSaid k IsTruth) (sym kind) truth-said in
       let told = after-told l.types (var_slots l.vars) count a b next y p agrees few only f entry there IsTruth said (truth next)
       (λ r places u w sits stands fits under.
-          truth-means count a b next places r u w agrees few stands (subst (λ k. FieldFits r k w) kind fits) under)
+      truth-means count a b next places r u w agrees few stands (subst (λ k. FieldFits r k w) kind fits) under)
       (Sub (track y) (track_or_first (bool_track l.types f))) begin begin-sits
       (λ d e named. absurd (no-cell d e named))
       (first-truth l.types l.vars first a shows.seen.start shows.fits shows.backbone shows.assignment shows.seen.stand count shows.free.layout b agrees y p only

@@ -1,5 +1,5 @@
 -- Each live cell of a seen store has one position of its own.
-use Rattle.std.proofs.Common.{◌≡◌, ◌≢◌, ◌↔◌, ◌⊎◌, inl, inr, ℕ, suc, ◌+◌, ◌<◌, ◌≤◌, Bool, true, false, IsTrue, List, [], ◌∷◌, Option, Some, None, Contains, refl, sym, ap, ◌∙◌, subst, arith}
+use Rattle.std.proofs.Common.{◌≡◌, ◌≢◌, ◌⊎◌, inl, inr, ℕ, ◌+◌, ◌<◌, Bool, true, false, IsTrue, List, [], ◌∷◌, Option, Some, None, refl, sym, ap, ◌∙◌, subst, arith}
 use Rattle.std.proofs.lemmas.Bool.{false≢true}
 use Rattle.std.specs.Prelude.{IsSome}
 use Rattle.std.specs.Ordering.{nat_cmp}
@@ -9,23 +9,19 @@ use Rattle.gta_theory.proofs.ListsLemmas.{Contains-first, Contains-later, Contai
 use Rattle.ws2s_core.specs.declared.track.Track.{Track}
 use Rattle.ws2s_forms.specs.Places.{slot_of}
 use Rattle.store_core.specs.declared.ids.CellId.{CellId}
-use Rattle.store_core.specs.declared.ids.FieldId.{FieldId}
 use Rattle.store_core.specs.declared.ids.VariantId.{VariantId}
-use Rattle.store_core.specs.declared.value.Value.{Value}
 use Rattle.store_core.specs.Tables.{TypeEntry, VarEntry}
-use Rattle.store_core.specs.Stores.{StoreMap, CellEntry, IsLive, IsAbove, Fits, put_cell, set_field, remove_cell}
+use Rattle.store_core.specs.Stores.{StoreMap, CellEntry, IsLive, Fits, put_cell, set_field, remove_cell}
 use Rattle.store_core.proofs.AboveLemmas.{live_below}
-use Rattle.store_laws.specs.Changed.{IsPut, IsFieldSet, IsRemoved}
 use Rattle.store_laws.proofs.ChangeLemmas.{IsPut-put_cell, IsFieldSet-set_field, IsRemoved-remove_cell}
 use Rattle.store_laws.proofs.FitsLemmas.{above_alike, above_put}
 use Rattle.routing_expr.specs.WellFormed.{IsBackbone}
-use Rattle.tree_encode.specs.Positions.{IsPlaced}
 use Rattle.tree_encode.proofs.ApartLemmas.{placed-apart, one-position}
 use Rattle.tree_meaning.proofs.StoresLemmas.{placed-live}
 use Rattle.graph_view.specs.declared.view.Sym.{Sym}
 use Rattle.graph_view.specs.declared.view.Event.{Event}
 use Rattle.graph_view.specs.declared.view.Event.TheVariants.{New, Write, Free}
-use Rattle.graph_view.specs.After.{Standing, IsAt, AreStanding, IsTaken, guard_of, Stood, new_cell, Makes, Writes, Frees, Leads, Happens, LeadTo, IsSeen}
+use Rattle.graph_view.specs.After.{Standing, IsAt, AreStanding, IsTaken, guard_of, Stood, new_cell, Leads, Happens, LeadTo, IsSeen}
 use Rattle.graph_view.specs.Sights.{var_slots}
 use Rattle.graph_live.specs.Standing.{Sits}
 

@@ -1,11 +1,9 @@
 -- What stands for values and guards, where a track has one position.
-use Rattle.std.proofs.Common.{◌≡◌, ◌↔◌, ◌⊎◌, inl, inr, ℕ, ◌<◌, ◌≤◌, Bool, true, false, IsTrue, List, [], ◌∷◌, Option, Some, None, refl, sym, ap, ◌∙◌, subst, arith}
+use Rattle.std.proofs.Common.{◌≡◌, ◌↔◌, ℕ, ◌<◌, ◌≤◌, IsTrue, [], Option, Some, None, sym, ◌∙◌, subst, arith}
 use Rattle.std.proofs.lemmas.Bool.{false≢true}
 use Rattle.gta_theory.specs.Assignments.{Position, PositionSet, Assignment, IsOnly}
 use Rattle.ws2s_core.specs.declared.track.Track.{Track}
 use Rattle.ws2s_core.specs.Satisfaction.{WSat}
-use Rattle.ws2s_forms.specs.Forms.{flag}
-use Rattle.ws2s_forms.proofs.PositionsLemmas.{IsOnly-inside, IsOnly-same}
 use Rattle.ws2s_forms.proofs.ConnectivesLemmas.{WSat-false, WSat-true}
 use Rattle.ws2s_forms.proofs.GoingLemmas.{WSat-flag}
 use Rattle.store_core.specs.declared.ids.CellId.{CellId}
@@ -14,7 +12,6 @@ use Rattle.graph_view.specs.declared.view.Sym.TheVariants.{Null, At}
 use Rattle.graph_view.specs.Syms.{is_in, guard}
 use Rattle.graph_view.specs.After.{Standing, IsAt, StandsForCell, IsTaken, IsSymBelow, IsGuardBelow}
 use Rattle.graph_live.specs.Meaning.{Agrees}
-use Rattle.graph_live.specs.Standing.{Sits}
 use Rattle.graph_live.proofs.AgreeingLemmas.{member-agreed}
 
 -- a track in use has the same positions

@@ -1,8 +1,8 @@
 -- The formula of a field after all events, for whatever is said of its value.
-use Rattle.std.proofs.Common.{◌≡◌, ◌≢◌, ◌↔◌, ◌⊎◌, inl, inr, ℕ, ◌+◌, ◌<◌, ◌≤◌, Bool, true, false, cond, ◌==◌, ◌&&◌, IsTrue, IsSomeAnd, List, [], ◌∷◌, Option, Some, None, refl, sym, ap, ◌∙◌, subst, arith}
+use Rattle.std.proofs.Common.{◌≡◌, ◌≢◌, ◌↔◌, ◌⊎◌, inl, inr, ℕ, ◌+◌, ◌<◌, ◌≤◌, Bool, true, false, cond, ◌==◌, List, [], ◌∷◌, Option, Some, None, refl, sym, ap, ◌∙◌, subst, arith}
 use Rattle.std.proofs.lemmas.Bool.{false≢true, eqb-true, eq-eqb, and_parts, and_from}
 use Rattle.std.specs.Option.{option_and_then}
-use Rattle.gta_theory.specs.Assignments.{Position, Assignment, IsFinite, IsOnly}
+use Rattle.gta_theory.specs.Assignments.{Position, Assignment, IsOnly}
 use Rattle.gta_theory.proofs.ListsLemmas.{Contains-later}
 use Rattle.ws2s_core.specs.declared.track.Track.{Track}
 use Rattle.ws2s_core.specs.declared.formula.Formula.{Formula}
@@ -20,7 +20,7 @@ use Rattle.store_core.specs.declared.value.Value.TheVariants as value
 use Rattle.store_core.specs.Tables.{TypeEntry, FieldEntry, field_at, is_had}
 use Rattle.store_core.specs.Stores.{StoreMap, IsLive, FieldFits, field_value, field_class, blank, blank_slot, put_cell, set_field, remove_cell}
 use Rattle.store_core.proofs.FittingLemmas.{IsSomeAnd-at}
-use Rattle.store_laws.specs.Changed.{IsPut, IsFieldSet, IsRemoved, blank_field}
+use Rattle.store_laws.specs.Changed.{IsFieldSet, blank_field}
 use Rattle.store_laws.proofs.CellLemmas.{cell_cases}
 use Rattle.store_laws.proofs.ChangeLemmas.{IsPut-put_cell, IsFieldSet-set_field, IsRemoved-remove_cell}
 use Rattle.tree_encode.proofs.TracksLemmas.{cond-some, and_then-some}
@@ -30,7 +30,7 @@ use Rattle.graph_view.specs.declared.view.Event.{Event}
 use Rattle.graph_view.specs.declared.view.Event.TheVariants.{New, Write, Free}
 use Rattle.graph_view.specs.Syms.{is_in, guard}
 use Rattle.graph_view.specs.Fields.{is_field, written, after}
-use Rattle.graph_view.specs.After.{Standing, IsAt, StandsForCell, StandsFor, IsTaken, guard_of, Stood, new_cell, Makes, Writes, Frees, Leads, Happens, LeadTo}
+use Rattle.graph_view.specs.After.{Standing, IsAt, StandsForCell, StandsFor, IsTaken, guard_of, Stood, new_cell, Leads, Happens, LeadTo}
 use Rattle.graph_view.specs.After.{IsSymBelow, IsGuardBelow, IsEventBelow, AreEventsBelow}
 use Rattle.graph_live.specs.Meaning.{Agrees}
 use Rattle.graph_live.specs.Standing.{Sits}
@@ -318,7 +318,7 @@ module _ (types : List TypeEntry) (slots count : ℕ) (a b : Assignment) (next y
     (few : count ≤ next) (only : IsOnly (b y) p) (f : FieldId) (entry : FieldEntry) (there : field_at types f ≡ Some entry)
     (Says : Standing → Value → Type 0) (said : IsSaid entry.kind Says) (new : Sym → Formula)
     (means : (s : StoreMap) (at : Standing) (u : Sym) (w : Value) → Sits s at → StandsFor a at u w → FieldFits s entry.kind w → IsSymBelow count u →
-        WSat (new u) b ↔ Says at w) where
+    WSat (new u) b ↔ Says at w) where
   abbrev Told : Formula → Stood → Type 0
   Told g x = IsTold f p Says (WSat g b) x
 
@@ -365,9 +365,9 @@ module _ (types : List TypeEntry) (slots count : ℕ) (a b : Assignment) (next y
           ]),
           (λ h. means_or.1 (elim h as (λ _. (IsTaken a g × WSat (is_in next y u) b × WSat (new w) b)
               ⊎ (((IsTaken a g × WSat (is_in next y u) b) → ⊥) × WSat earlier b)) [
-            | inl new_one ↦ inl (taken, named.1 new_one.0, new_one.1)
-            | inr old_one ↦ inr ((λ k. old_one.0 (named.0 k.1)), old_one.1)
-          ])),
+                | inl new_one ↦ inl (taken, named.1 new_one.0, new_one.1)
+                | inr old_one ↦ inr ((λ k. old_one.0 (named.0 k.1)), old_one.1)
+              ])),
         ) in
         along (rewritten g u w earlier) z (set_field x.store c f wrote.value) x.at wrote.store wrote.at
         (told-set types f entry there p Says said x.store x.at c wrote.value (WSat earlier b) (WSat (new w) b) (WSat (rewritten g u w earlier) b) sits

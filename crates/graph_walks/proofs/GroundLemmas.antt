@@ -1,14 +1,13 @@
 -- What the formulas of walks stand on, and the forms of route without parts.
-use Rattle.std.proofs.Common.{◌≡◌, ◌↔◌, ◌⊎◌, inl, inr, ℕ, suc, ◌<◌, ◌≤◌, ◌&&◌, Bool, true, false, IsTrue, IsSomeAnd, List, [], ◌∷◌, map, Option, Some, None, Contains, refl, sym, ap, ◌∙◌, subst, arith}
+use Rattle.std.proofs.Common.{◌≡◌, ◌↔◌, ℕ, suc, ◌<◌, ◌≤◌, Bool, true, false, IsTrue, IsSomeAnd, List, [], ◌∷◌, map, Option, Some, None, Contains, refl, sym, ap, ◌∙◌, subst, arith}
 use Rattle.std.specs.Prelude.{IsSome}
 use Rattle.std.specs.Str.{bytes_eq}
 use Rattle.std.proofs.lemmas.Bool.{false≢true, and_parts, and_from}
 use Rattle.std.proofs.lemmas.Slice.Eq.{bytes_eq-Decides}
-use Rattle.gta_theory.specs.Assignments.{Position, PositionSet, Assignment, IsFinite, IsOnly}
-use Rattle.ws2s_core.specs.declared.formula.Formula.{Formula}
+use Rattle.gta_theory.specs.Assignments.{Position, Assignment, IsOnly}
 use Rattle.ws2s_core.specs.declared.formula.Formula.TheVariants.{And, Not}
 use Rattle.ws2s_core.specs.Satisfaction.{WSat}
-use Rattle.ws2s_forms.specs.Forms.{track, and_list, or_list, equal, ex1}
+use Rattle.ws2s_forms.specs.Forms.{and_list, or_list, equal, ex1}
 use Rattle.ws2s_forms.specs.Places.{with_position}
 use Rattle.ws2s_forms.proofs.PositionsLemmas.{IsOnly-inside}
 use Rattle.ws2s_forms.proofs.LawsLemmas.{law-equal, same_truth}
@@ -21,20 +20,20 @@ use Rattle.store_core.specs.declared.kind.FieldKind.TheVariants as field
 use Rattle.store_core.specs.declared.value.Value.{Value}
 use Rattle.store_core.specs.declared.value.Value.TheVariants as value
 use Rattle.store_core.specs.Tables.{TypeEntry, FieldEntry, KnowsVariant, field_at}
-use Rattle.store_core.specs.Stores.{StoreMap, IsLive, FieldFits, cell_of, field_value}
+use Rattle.store_core.specs.Stores.{StoreMap, IsLive, FieldFits, field_value}
 use Rattle.store_core.proofs.FittingLemmas.{IsSomeAnd-at}
-use Rattle.routing_expr.specs.Walks.{Fields, DataAlone, DataAndPointers, IsFollowed, Leads, IsNamed, LeadsByName, IsParent, IsOfType, IsOfVariant, HasTruth, IsRoot, IsLeaf, Stays}
-use Rattle.routing_expr.proofs.LiveLemmas.{IsSome-and, IsLive-field_value, Leads-live, IsParent-live}
+use Rattle.routing_expr.specs.Walks.{Fields, DataAlone, DataAndPointers, IsFollowed, Leads, LeadsByName, IsParent, IsOfType, IsOfVariant, HasTruth, IsRoot, IsLeaf, Stays}
+use Rattle.routing_expr.proofs.LiveLemmas.{IsLive-field_value, Leads-live, IsParent-live}
 use Rattle.tree_store.proofs.SpotsLemmas.{of-some}
 use Rattle.graph_view.specs.Sights.{Sight}
 use Rattle.graph_view.specs.Live.{lives, lives_in, has, is_live}
 use Rattle.graph_view.specs.Fields.{is_true, is_bool, is_data, is_reference, has_kind, is_named, fields_named, fields_of_kind}
-use Rattle.graph_view.specs.Routes.{Naming, Joining, names_by_data, edge, down, stays_at_root, stays_at_leaf, has_truth, stays_at_truth}
+use Rattle.graph_view.specs.Routes.{Naming, names_by_data, edge, down, stays_at_root, stays_at_leaf, has_truth, stays_at_truth}
 use Rattle.graph_view.specs.After.{Standing, IsAt}
 use Rattle.graph_live.specs.Meaning.{Agrees, MeansHere, MeansPairs}
 use Rattle.graph_live.specs.Standing.{LiveAt, VariantAt, TypeAt, FieldAt}
 use Rattle.graph_live.proofs.AgreeingLemmas.{Agrees-bound, IsOnly-bound, IsOnly-still, sat-and, sat-not, sat-ex1, sat-three, sat-or_list}
-use Rattle.graph_live.proofs.ReadLemmas.{is-some, is-none}
+use Rattle.graph_live.proofs.ReadLemmas.{is-some}
 use Rattle.graph_walks.specs.Walking.{JoinsAt}
 use Rattle.graph_walks.proofs.ListedLemmas.{field-listed, listed-field}
 
@@ -199,10 +198,13 @@ module _ (types : List TypeEntry) (sight : Sight) (count : ℕ) (a : Assignment)
             let (entry, there, is) = IsSomeAnd-at (field_at types by_name.field) (λ e. e.name ≡ name) by_name.named in
             let (own, found, follows) = IsSomeAnd-at (field_at types by_name.field) (λ e. IsFollowed fields e.kind) by_name.leads.kind in
             let both : Some own ≡ Some entry = sym found ∙ there in
-            let same : own ≡ entry = cc in
-            (by_name.field, field-listed types (is_named name followed) by_name.field entry there
-            (and_from (bytes_eq name entry.name) (followed entry.kind) (same-bytes name entry.name (sym is))
-            (test.to entry.kind (subst (λ (e : FieldEntry). IsFollowed fields e.kind) same follows))), by_name.leads)) p q h)),
+            let same : own ≡ entry = cc in (
+              by_name.field,
+              field-listed types (is_named name followed) by_name.field entry there
+                  (and_from (bytes_eq name entry.name) (followed entry.kind) (same-bytes name entry.name (sym is))
+                  (test.to entry.kind (subst (λ (e : FieldEntry). IsFollowed fields e.kind) same follows))),
+              by_name.leads,
+            )) p q h)),
       )
 
   -- ---- data fields
@@ -234,17 +236,28 @@ module _ (types : List TypeEntry) (sight : Sight) (count : ℕ) (a : Assignment)
           (λ h.
               let parts = whole.0 h in
               let (c, here, lives) = parts.0 in
-              stays.0 ((c, here, record {
-                live = lives;
-                alone = λ parent is.
-                    let (u, at_u) = ground.there parent (IsParent-live types t parent c is).0 in parts.2 (u, (parent, c, at_u, here, is));
-              }), parts.1)),
+              stays.0 (
+                (
+                  c,
+                  here,
+                  record {
+                    live = lives;
+                    alone = λ parent is.
+                        let (u, at_u) = ground.there parent (IsParent-live types t parent c is).0 in parts.2 (u, (parent, c, at_u, here, is));
+                  },
+                ),
+                parts.1,
+              )),
           (λ h.
               let (root, same) = stays.1 h in
               let (c, here, is_root) = root in
-              whole.1 ((c, here, is_root.live), same, (λ k.
-              let (parent, d, at_u, at_d, is) = k.1 in
-              is_root.alone parent (subst (λ e. IsParent types t parent e) (ground.apart d c p at_d here) is)))),
+              whole.1 (
+                (c, here, is_root.live),
+                same,
+                (λ k.
+                    let (parent, d, at_u, at_d, is) = k.1 in
+                    is_root.alone parent (subst (λ e. IsParent types t parent e) (ground.apart d c p at_d here) is)),
+              )),
         )
 
     pub leaf-means : MeansPairs count a (stays_at_leaf types sight) (JoinsAt at (Stays (IsLeaf types t)))
@@ -259,17 +272,28 @@ module _ (types : List TypeEntry) (sight : Sight) (count : ℕ) (a : Assignment)
           (λ h.
               let parts = whole.0 h in
               let (c, here, lives) = parts.0 in
-              stays.0 ((c, here, record {
-                live = lives;
-                alone = λ child is.
-                    let (u, at_u) = ground.there child (IsParent-live types t c child is).1 in parts.2 (u, (c, child, here, at_u, is));
-              }), parts.1)),
+              stays.0 (
+                (
+                  c,
+                  here,
+                  record {
+                    live = lives;
+                    alone = λ child is.
+                        let (u, at_u) = ground.there child (IsParent-live types t c child is).1 in parts.2 (u, (c, child, here, at_u, is));
+                  },
+                ),
+                parts.1,
+              )),
           (λ h.
               let (leaf, same) = stays.1 h in
               let (c, here, is_leaf) = leaf in
-              whole.1 ((c, here, is_leaf.live), same, (λ k.
-              let (d, child, at_d, at_u, is) = k.1 in
-              is_leaf.alone child (subst (λ e. IsParent types t e child) (ground.apart d c p at_d here) is)))),
+              whole.1 (
+                (c, here, is_leaf.live),
+                same,
+                (λ k.
+                    let (d, child, at_d, at_u, is) = k.1 in
+                    is_leaf.alone child (subst (λ e. IsParent types t e child) (ground.apart d c p at_d here) is)),
+              )),
         )
 
   -- ---- bool fields
@@ -287,8 +311,10 @@ module _ (types : List TypeEntry) (sight : Sight) (count : ℕ) (a : Assignment)
             (c, here, (ground.truth f entry b next y p c there kind agrees few less only here (IsLive-field_value t c f x value_is)).0 parts.1)),
         (λ h.
             let (c, here, value_is) = h in
-            both.1 ((c, here, is-some (field_value t c f) (value.Bool true) value_is),
-            (ground.truth f entry b next y p c there kind agrees few less only here (IsLive-field_value t c f (value.Bool true) value_is)).1 value_is)),
+            both.1 (
+              (c, here, is-some (field_value t c f) (value.Bool true) value_is),
+              (ground.truth f entry b next y p c there kind agrees few less only here (IsLive-field_value t c f (value.Bool true) value_is)).1 value_is,
+            )),
       )
   has_truth-means f entry false there kind b next y p agrees few less only =
       let both = sat-and (has types sight next f y) (Not (is_true types sight next f y)) b (FieldAt t at f p) (WSat (is_true types sight next f y) b → ⊥)
@@ -298,15 +324,21 @@ module _ (types : List TypeEntry) (sight : Sight) (count : ℕ) (a : Assignment)
             let parts = both.0 h in
             let (c, here, some) = parts.0 in
             let (x, value_is) = valued (field_value t c f) some in
-            let means = ground.truth f entry b next y p c there kind agrees few less only here (IsLive-field_value t c f x value_is) in
-            (c, here, value_is ∙ ap (λ w. Some w) (not-true x (subst (λ k. FieldFits s k x) kind (ground.fits c f x entry value_is there))
-            (λ e. parts.1 (means.1 (value_is ∙ ap (λ w. Some w) e)))))),
+            let means = ground.truth f entry b next y p c there kind agrees few less only here (IsLive-field_value t c f x value_is) in (
+              c,
+              here,
+              value_is ∙ ap (λ w. Some w) (not-true x (subst (λ k. FieldFits s k x) kind (ground.fits c f x entry value_is there))
+                  (λ e. parts.1 (means.1 (value_is ∙ ap (λ w. Some w) e)))),
+            )),
         (λ h.
             let (c, here, value_is) = h in
             let means = ground.truth f entry b next y p c there kind agrees few less only here (IsLive-field_value t c f (value.Bool false) value_is) in
-            both.1 ((c, here, is-some (field_value t c f) (value.Bool false) value_is), (λ holds.
-            let both_values : Some (value.Bool false) ≡ Some (value.Bool true) = sym value_is ∙ means.0 holds in
-            let no : ⊥ = cc in no))),
+            both.1 (
+              (c, here, is-some (field_value t c f) (value.Bool false) value_is),
+              (λ holds.
+                  let both_values : Some (value.Bool false) ≡ Some (value.Bool true) = sym value_is ∙ means.0 holds in
+                  let no : ⊥ = cc in no),
+            )),
       )
     where
       not-true : (x : Value) → FieldFits s field.Bool x → (x ≡ value.Bool true → ⊥) → x ≡ value.Bool false
@@ -330,23 +362,33 @@ module _ (types : List TypeEntry) (sight : Sight) (count : ℕ) (a : Assignment)
             let (f, listed, found) = one-of.0 parts.1 in
             let (c, here, value_is) = found in
             let (entry, there, so) = listed-field types (is_named name is_bool) f listed in
-            stays.0 ((c, here, record {
-              field = f;
-              named = of-some (λ e. e.name ≡ name) (field_at types f) entry there
-                  (sym (bytes-same name entry.name (and_parts (bytes_eq name entry.name) (is_bool entry.kind) so).0));
-              value = value_is;
-            }), parts.0)),
+            stays.0 (
+              (
+                c,
+                here,
+                record {
+                  field = f;
+                  named = of-some (λ e. e.name ≡ name) (field_at types f) entry there
+                      (sym (bytes-same name entry.name (and_parts (bytes_eq name entry.name) (is_bool entry.kind) so).0));
+                  value = value_is;
+                },
+              ),
+              parts.0,
+            )),
         (λ h.
             let (found, same) = stays.1 h in
             let (c, here, has_it) = found in
             let (entry, there, is) = IsSomeAnd-at (field_at types has_it.field) (λ e. e.name ≡ name) has_it.named in
-            both.1 (same, one-of.1 (
-              has_it.field,
-              field-listed types (is_named name is_bool) has_it.field entry there
-                  (and_from (bytes_eq name entry.name) (is_bool entry.kind) (same-bytes name entry.name (sym is))
-                  (kind-bool entry.kind truth (ground.fits c has_it.field (value.Bool truth) entry has_it.value there))),
-              (c, here, has_it.value),
-            ))),
+            both.1 (
+              same,
+              one-of.1 (
+                has_it.field,
+                field-listed types (is_named name is_bool) has_it.field entry there
+                    (and_from (bytes_eq name entry.name) (is_bool entry.kind) (same-bytes name entry.name (sym is))
+                    (kind-bool entry.kind truth (ground.fits c has_it.field (value.Bool truth) entry has_it.value there))),
+                (c, here, has_it.value),
+              ),
+            )),
       )
     where
       bool-kind : (kind : FieldKind) → is_bool kind ≡ true → kind ≡ field.Bool

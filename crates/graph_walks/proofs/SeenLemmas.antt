@@ -1,10 +1,9 @@
 -- What the formulas of walks and of cell fields say of the store that a view shows.
-use Rattle.std.proofs.Common.{◌≡◌, ◌↔◌, ◌⊎◌, inl, inr, ℕ, zero, suc, ◌<◌, ◌≤◌, true, IsTrue, IsSomeAnd, IfSome, List, [], ◌∷◌, length, slice_get, Option, Some, None, refl, sym, ap, ◌∙◌, subst, arith}
-use Rattle.std.specs.Prelude.{IsSome, reverse}
+use Rattle.std.proofs.Common.{◌≡◌, ◌↔◌, ℕ, zero, suc, ◌<◌, ◌≤◌, true, List, [], ◌∷◌, slice_get, Some, None, refl, sym, ap, ◌∙◌, subst}
+use Rattle.std.specs.Prelude.{IsSome}
 use Rattle.std.specs.List.{AllByRecursion}
 use Rattle.std.specs.Option.{option_map_or, option_and_then}
 use Rattle.gta_theory.specs.Assignments.{Position, Assignment, IsOnly}
-use Rattle.ws2s_core.specs.declared.formula.Formula.{Formula}
 use Rattle.ws2s_core.specs.declared.formula.Formula.TheVariants.{Sub}
 use Rattle.ws2s_core.specs.Satisfaction.{WSat}
 use Rattle.ws2s_forms.specs.Forms.{track, false_at}
@@ -14,27 +13,25 @@ use Rattle.store_core.specs.declared.ids.FieldId.{FieldId}
 use Rattle.store_core.specs.declared.kind.FieldKind.{FieldKind}
 use Rattle.store_core.specs.declared.kind.FieldKind.TheVariants as field
 use Rattle.store_core.specs.declared.kind.Route.{Route}
-use Rattle.store_core.specs.declared.value.Class.TheVariants.{Reference}
 use Rattle.store_core.specs.declared.value.Value.{Value}
 use Rattle.store_core.specs.declared.value.Value.TheVariants as value
-use Rattle.store_core.specs.Tables.{TypeEntry, FieldEntry, KnowsVariant, KnowsRoute, KnowsKind, IsTypeTable, IsTypeEntry, IsFieldEntry, count_of_variants, field_at}
-use Rattle.store_core.specs.Stores.{StoreMap, CellEntry, IsLive, FieldFits, cell_of, field_of, field_value, field_class}
+use Rattle.store_core.specs.Tables.{TypeEntry, FieldEntry, KnowsRoute, KnowsKind, IsTypeTable, IsTypeEntry, IsFieldEntry, count_of_variants, field_at}
+use Rattle.store_core.specs.Stores.{StoreMap, CellEntry, IsLive, cell_of, field_of, field_value, field_class}
 use Rattle.store_core.proofs.FittingLemmas.{IsSomeAnd-at, IfSome-at}
-use Rattle.routing_expr.specs.Walks.{Fields, DataAlone, DataAndPointers, IsFollowed, IsOfType, Walk}
+use Rattle.routing_expr.specs.Walks.{DataAlone, DataAndPointers, IsFollowed, IsOfType, Walk}
 use Rattle.routing_expr.specs.Destinations.{EndsKind, Dest, IsOnlyDestination, IsPointer}
 use Rattle.routing_expr.specs.WellFormed.{IsWellFormed}
-use Rattle.routing_expr.proofs.LiveLemmas.{IsSome-and, IsLive-field_value, Walk-live}
+use Rattle.routing_expr.proofs.LiveLemmas.{IsSome-and, IsLive-field_value}
 use Rattle.tree_encode.specs.Layouts.{LaidOut}
 use Rattle.tree_encode.specs.Tracks.{bool_track}
 use Rattle.tree_encode.proofs.TracksLemmas.{fielded}
 use Rattle.tree_store.proofs.SpotsLemmas.{of-some}
 use Rattle.tree_formula.specs.WellEncoded.{track_or_first}
 use Rattle.graph_view.specs.declared.view.View.{View}
-use Rattle.graph_view.specs.Syms.{is_in}
 use Rattle.graph_view.specs.Sights.{Sight, var_slots, at_first, sight_of}
 use Rattle.graph_view.specs.Live.{has, lives_in}
-use Rattle.graph_view.specs.Fields.{after, first_child, data_names, is_data, is_reference}
-use Rattle.graph_view.specs.Routes.{Naming, data_names_in, names_by_data, names_in, names, data_walk, walk, destination}
+use Rattle.graph_view.specs.Fields.{first_child, data_names, is_data, is_reference}
+use Rattle.graph_view.specs.Routes.{data_names_in, names_by_data, names_in, names, data_walk, walk, destination}
 use Rattle.graph_view.specs.After.{Standing, IsAt}
 use Rattle.graph_live.specs.Meaning.{Agrees, MeansPairs}
 use Rattle.graph_live.specs.Standing.{Sits, TypeAt, FieldAt}
@@ -48,7 +45,6 @@ use Rattle.graph_live.proofs.SeenLemmas.{value-fits, begin-sits, seen-sits, live
 use Rattle.graph_live.proofs.ReadLemmas.{is_live-means}
 use Rattle.graph_live.proofs.SeenLemmas.{first-fitting}
 use Rattle.graph_walks.specs.Walking.{WalkAt}
-use Rattle.graph_walks.specs.Wells.{ShowsWell}
 use Rattle.graph_walks.proofs.GroundLemmas.{MeansNames, IsGround, data-test, reference-test}
 use Rattle.graph_walks.proofs.WalkingLemmas.{walk-means}
 

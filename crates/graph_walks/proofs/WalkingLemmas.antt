@@ -1,15 +1,11 @@
 -- The formulas of walks mean the pairs of walks, route form by route form.
-use Rattle.std.proofs.Common.{◌≡◌, ◌↔◌, ◌⊎◌, inl, inr, ℕ, suc, ◌<◌, ◌≤◌, ◌&&◌, nat_lt, Bool, true, false, IsTrue, List, [], ◌∷◌, length, Contains, refl, sym, ap, ◌∙◌, subst, arith}
+use Rattle.std.proofs.Common.{◌≡◌, ◌↔◌, ◌⊎◌, inl, inr, ℕ, suc, Bool, true, IsTrue, List, sym, ap, ◌∙◌, subst, arith}
 use Rattle.std.proofs.lemmas.Bool.{and_parts, ltb-true}
-use Rattle.gta_theory.specs.Assignments.{Position, PositionSet, Assignment, IsOnly}
-use Rattle.ws2s_core.specs.declared.formula.Formula.{Formula}
+use Rattle.gta_theory.specs.Assignments.{Position, Assignment}
 use Rattle.ws2s_core.specs.declared.formula.Formula.TheVariants.{And}
-use Rattle.ws2s_core.specs.Satisfaction.{WSat}
 use Rattle.ws2s_forms.specs.Forms.{or, ex1}
 use Rattle.ws2s_forms.specs.Places.{with_position}
 use Rattle.store_core.specs.declared.ids.CellId.{CellId}
-use Rattle.store_core.specs.declared.ids.TypeId.{TypeId}
-use Rattle.store_core.specs.declared.ids.VariantId.{VariantId}
 use Rattle.store_core.specs.declared.kind.FieldKind.{FieldKind}
 use Rattle.store_core.specs.declared.kind.Route.{Route, roll-Route}
 use Rattle.store_core.specs.declared.kind.Route.TheVariants.{Down, Up, UpAny, Root, Leaf, IsType, IsVariant, IsBool, Then, Or, Star, rolls-Down}
@@ -17,9 +13,9 @@ use Rattle.store_core.specs.declared.kind.Route.TheVariants.{rolls-Up, rolls-UpA
 use Rattle.store_core.specs.declared.kind.Route.TheVariants.{rolls-IsBool, rolls-Then, rolls-Or, rolls-Star}
 use Rattle.store_core.specs.declared.kind.Route.TheOpen.{Route-F}
 use Rattle.store_core.specs.declared.kind.Route.TheFolds.{fold-Route, fold-roll-Route, map-Route}
-use Rattle.store_core.specs.Tables.{TypeEntry, KnowsVariant, KnowsRoute, knows_node, variant_count}
+use Rattle.store_core.specs.Tables.{TypeEntry, KnowsRoute, knows_node, variant_count}
 use Rattle.store_core.specs.Stores.{StoreMap, IsLive}
-use Rattle.routing_expr.specs.Walks.{Fields, DataAlone, LeadsByName, IsParent, IsOfType, IsOfVariant, HasTruth, IsRoot, IsLeaf, Stays, Chain, stay, go, Walk}
+use Rattle.routing_expr.specs.Walks.{Fields, DataAlone, LeadsByName, IsParent, IsOfType, IsOfVariant, HasTruth, IsRoot, IsLeaf, Stays, Chain, stay, Walk}
 use Rattle.routing_expr.specs.Regions.{has_number}
 use Rattle.routing_expr.proofs.LiveLemmas.{Walk-live, Chain-live}
 use Rattle.routing_expr.proofs.RouteLemmas.{IsHereditary, route-induction}
@@ -30,12 +26,12 @@ use Rattle.graph_view.specs.Sights.{Sight}
 use Rattle.graph_view.specs.Live.{is_live}
 use Rattle.graph_view.specs.Routes.{Naming, Joining, names_by_data, edge, star, walk_rules, walk_by}
 use Rattle.graph_view.specs.After.{Standing, IsAt}
-use Rattle.graph_live.specs.Meaning.{Agrees, MeansPairs}
+use Rattle.graph_live.specs.Meaning.{MeansPairs}
 use Rattle.graph_live.specs.Standing.{LiveAt}
 use Rattle.graph_live.proofs.AgreeingLemmas.{Agrees-bound, IsOnly-bound, IsOnly-still, sat-and, sat-or, sat-ex1, sat-three}
 use Rattle.graph_walks.specs.Walking.{JoinsAt, WalkAt}
 use Rattle.graph_walks.proofs.ListedLemmas.{places_of, on-place, place-on, places-finite}
-use Rattle.graph_walks.proofs.ClosingLemmas.{IsClosed, IsLinked, closing, closing-means}
+use Rattle.graph_walks.proofs.ClosingLemmas.{IsLinked, closing, closing-means}
 use Rattle.graph_walks.proofs.ChainLemmas.{chain-linked, chain-end}
 use Rattle.graph_walks.proofs.GroundLemmas.{MeansNames, IsGround, IsTestOf, down-means, edge-means, root-means, leaf-means, type-means, variant-means, truth-means}
 
@@ -82,9 +78,14 @@ module _ (types : List TypeEntry) (sight : Sight) (count : ℕ) (a : Assignment)
         (λ h.
             let (u, parts) = some.0 h in
             let (c, e, here, at_u, walk) = parts.0 in
-            let (f, d, also_u, there, further) = parts.1 in
-            (c, d, here, there, (Walk-Then types t fields first second c d).1
-            (e, walk, subst (λ g. Walk types t fields second g d) (ground.apart f e u also_u at_u) further))),
+            let (f, d, also_u, there, further) = parts.1 in (
+              c,
+              d,
+              here,
+              there,
+              (Walk-Then types t fields first second c d).1
+                  (e, walk, subst (λ g. Walk types t fields second g d) (ground.apart f e u also_u at_u) further),
+            )),
         (λ (h : WalkAt types t at fields (Then first second) p q).
             let (c, d, here, there, walk) = h in
             let (e, one_walk, further) = (Walk-Then types t fields first second c d).0 walk in
@@ -126,10 +127,10 @@ module _ (types : List TypeEntry) (sight : Sight) (count : ℕ) (a : Assignment)
         let inside = linked (places_of (λ d. has_number cells d.0) at) (places-finite (λ d. has_number cells d.0) at)
         (place-on (λ d. has_number cells d.0) at c p here (chain-in c (stay c live)))
         (λ u w on leads.
-            let (d, at_u, so) = on-place (λ d. has_number cells d.0) at u on in
-            let (e, f, also_u, at_w, step) = leads in
-            let first : Round d f = subst (λ g. Round g f) (ground.apart e d u also_u at_u) step in
-            place-on (λ d. has_number cells d.0) at f w at_w (chain-in f (chain-end t at ground.there ground.one Round (Walk-live types t fields round) c d f (in-chain d so) first))) in
+        let (d, at_u, so) = on-place (λ d. has_number cells d.0) at u on in
+        let (e, f, also_u, at_w, step) = leads in
+        let first : Round d f = subst (λ g. Round g f) (ground.apart e d u also_u at_u) step in
+        place-on (λ d. has_number cells d.0) at f w at_w (chain-in f (chain-end t at ground.there ground.one Round (Walk-live types t fields round) c d f (in-chain d so) first))) in
         let (d, there, so) = on-place (λ d. has_number cells d.0) at q inside in
         (c, d, here, there, in-chain d so)
 
