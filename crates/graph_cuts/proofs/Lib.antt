@@ -1,2 +1,4 @@
 pub mod ValuesLemmas
 pub mod DanglingLemmas
+pub mod LeakLemmas
+pub mod WrongLemmas

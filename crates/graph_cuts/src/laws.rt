@@ -22,3 +22,17 @@ pub fn dangling_references_are_told()
         WSat (cut_formula l.types (sight_of l.vars view) l.vars view.vars check.DanglingRef next) b ↔ HasDanglingReference s }
 {}
 
+/// The formula of leaks holds exactly where a live cell isn't reached from a data variable by data fields.
+pub fn leaks_are_told()
+    ensures { (l : LaidOut) (view : View) (a b : Assignment) (first s : StoreMap) (at : Standing) (count next : ℕ) →
+        ShowsWell l view a first s s at count → Agrees count a b → count ≤ next →
+        WSat (cut_formula l.types (sight_of l.vars view) l.vars view.vars check.Leak next) b ↔ HasLeaked l.types l.vars s }
+{}
+
+/// The formula of wrong fields holds exactly where a pointer field of a live cell isn't its only destination, or null where there
+/// is none.
+pub fn wrong_fields_are_told()
+    ensures { (l : LaidOut) (view : View) (a b : Assignment) (first s : StoreMap) (at : Standing) (count next : ℕ) →
+        ShowsWell l view a first s s at count → Agrees count a b → count ≤ next →
+        WSat (cut_formula l.types (sight_of l.vars view) l.vars view.vars check.Field next) b ↔ HasWrongField l.types s }
+{}
