@@ -38,7 +38,7 @@ use Rattle.graph_view.specs.Sights.{Sight, sight_of}
 use Rattle.graph_view.specs.Live.{has, lives_in}
 use Rattle.graph_view.specs.Fields.{is_reference, has_kind, fields_of_kind}
 use Rattle.graph_view.specs.Routes.{names, data_walk, destination}
-use Rattle.graph_view.specs.Cuts.{wrong_in, is_wrong, fields_are_wrong}
+use Rattle.graph_view.specs.Cuts.{wrong_in, wrong_parts, fields_are_wrong}
 use Rattle.graph_view.specs.After.{Standing, IsAt}
 use Rattle.graph_live.specs.Meaning.{Agrees}
 use Rattle.graph_live.specs.Standing.{TypeAt, FieldAt}
@@ -273,7 +273,7 @@ module _ (l : LaidOut) (view : View) (a : Assignment) (first s : StoreMap) (at :
   abbrev fields : List FieldId
   fields = fields_of_kind l.types is_reference
 
-  from-field : (f : FieldId) (g : Formula) → Contains (is_wrong l.types sight next f) g → WSat g b → HasWrongField l.types s
+  from-field : (f : FieldId) (g : Formula) → Contains (wrong_parts l.types sight next f) g → WSat g b → HasWrongField l.types s
   from-field f g inside holds =
       let (entry, there, listed) = listed-inside (λ e. wrong_in l.types sight next f e.kind) (field_at l.types f) g inside in
       by entry there entry.kind refl listed
@@ -286,12 +286,12 @@ module _ (l : LaidOut) (view : View) (a : Assignment) (first s : StoreMap) (at :
           differs-field f entry target along there is ((whole-means f entry target along there is).0
           (subst (λ k. WSat k b) (sym (Contains-one (whole f entry target along there is) g listed)) holds))
 
-  to-field : (c : CellId) (f : FieldId) → IsWrongField l.types s c f → (g : Formula) × Contains (flat_map (is_wrong l.types sight next) fields) g × WSat g b
+  to-field : (c : CellId) (f : FieldId) → IsWrongField l.types s c f → (g : Formula) × Contains (flat_map (wrong_parts l.types sight next) fields) g × WSat g b
   to-field c f wrong =
       let (entry, there, pointer) = IsSomeAnd-at (field_at l.types f) (λ e. IsPointer e.kind) wrong.kind in by entry there entry.kind refl pointer
     where
       by : (entry : FieldEntry) → field_at l.types f ≡ Some entry → (kind : FieldKind) → entry.kind ≡ kind → IsPointer kind →
-          (g : Formula) × Contains (flat_map (is_wrong l.types sight next) fields) g × WSat g b
+          (g : Formula) × Contains (flat_map (wrong_parts l.types sight next) fields) g × WSat g b
       by entry there field.Bool is none = absurd none
       by entry there (field.Data target) is none = absurd none
       by entry there (field.Pointer target along) is some =
@@ -299,7 +299,7 @@ module _ (l : LaidOut) (view : View) (a : Assignment) (first s : StoreMap) (at :
           let listed : Contains (wrong_in l.types sight next f entry.kind) g =
           subst (λ k. Contains (wrong_in l.types sight next f k) g) (sym is) (Contains-first g []) in (
             g,
-            Contains-flat_map (is_wrong l.types sight next) fields f g
+            Contains-flat_map (wrong_parts l.types sight next) fields f g
                 (field-listed l.types (has_kind is_reference) f entry there (ap is_reference is))
                 (Contains-listed (λ e. wrong_in l.types sight next f e.kind) (field_at l.types f) entry g there listed),
             (whole-means f entry target along there is).1 (field-differs f entry target along there is c wrong),
@@ -307,10 +307,10 @@ module _ (l : LaidOut) (view : View) (a : Assignment) (first s : StoreMap) (at :
 
   pub wrong-means : WSat (fields_are_wrong l.types sight next) b ↔ HasWrongField l.types s
   wrong-means =
-      let some = law-or_list next (flat_map (is_wrong l.types sight next) fields) b agrees.finite in (
+      let some = law-or_list next (flat_map (wrong_parts l.types sight next) fields) b agrees.finite in (
         (λ h.
             let (g, listed, holds) = some.0 h in
-            let (f, among, inside) = flat_map-inside (is_wrong l.types sight next) fields g listed in
+            let (f, among, inside) = flat_map-inside (wrong_parts l.types sight next) fields g listed in
             from-field f g inside holds),
         (λ h. some.1 (to-field h.cell h.field h.wrong)),
       )
