@@ -223,7 +223,7 @@ module _ (l : LaidOut) (view : View) (a : Assignment) (first s : StoreMap) (at :
   -- ---- sets and stores
 
   leak-from : (set : PositionSet) → IsFiniteSet set → ShowsLeakAt set → HasLeaked l.types l.vars s
-  leak-from set finite (has_values, closed, (p, (c, here, live), out)) = record {
+  leak-from set finite (has_values, closed, (p, ((c, here, live), out))) = record {
     cell = c;
     leaked = record {
       live = live;
@@ -270,8 +270,8 @@ module _ (l : LaidOut) (view : View) (a : Assignment) (first s : StoreMap) (at :
       has-all : (test : CellId → Bool) (u : Sym) (o : Option CellId) → StandsForCell a at u o → ((root : CellId) → o ≡ Some root → test root ≡ true) →
           HasSym a (places_of test at) u
       has-all test Null o stands each = tt
-      has-all test (At w) None stands each p on = absurd (false≢true (sym (stands p) ∙ on))
-      has-all test (At w) (Some root) stands each p on =
+      has-all test (At w) None stands each = λ p on. absurd (false≢true (sym (stands p) ∙ on))
+      has-all test (At w) (Some root) stands each = λ p on.
           place-on test at root p (subst (λ q. IsAt at root q) (sym ((stands.1 p).0 on)) stands.2) (each root refl)
 
   pub leaks-means : WSat (leaks l.types sight values next) b ↔ HasLeaked l.types l.vars s
