@@ -56,7 +56,7 @@ passing-inside {X} {Y} test pair (x ∷ xs) g h = by (λ k. shifted test pair x 
   where
     by : (Contains (pairs pair (filter test xs)) g → IsPassingPair test pair (x ∷ xs) g) → (t : Bool) → test x ≡ t →
         Contains (pairs pair (cond t (x ∷ filter test xs) (filter test xs))) g → IsPassingPair test pair (x ∷ xs) g
-    by rest false no k = rest k
+    by rest false fails k = rest k
     by rest true so k = elim (Contains-append_cases (map (pair x) (filter test xs)) (pairs pair (filter test xs)) g k) as (λ _. IsPassingPair test pair (x ∷ xs) g) [
       | inl here ↦ (
           let (y, among, is) = Contains-mapped (pair x) (filter test xs) g here in
@@ -88,8 +88,8 @@ inside-passing {X} {Y} test pair (z ∷ xs) zero (suc j) x y less at also so oth
     z_is = cc
 
     by : (t : Bool) → test z ≡ t → Contains (pairs pair (cond t (z ∷ filter test xs) (filter test xs))) (pair x y)
-    by false no = absurd (false≢true (sym no ∙ ap test z_is ∙ so))
-    by true yes =
+    by false fails = absurd (false≢true (sym fails ∙ ap test z_is ∙ so))
+    by true passes =
         Contains-append_left (map (pair z) (filter test xs)) (pairs pair (filter test xs)) (pair x y)
         (subst (λ (w : X). Contains (map (pair z) (filter test xs)) (pair w y)) z_is
         (Contains-map (pair z) (filter test xs) y (in_filter test xs y (in_at xs j y also) other)))
@@ -106,7 +106,7 @@ length-named : {X : Type 0} (name : ℕ → X) (n : ℕ) → length (named name 
 length-named name zero = refl
 length-named name (suc n) = simp length-append (omega (arith, length-named name n))
 
-named-at : {X : Type 0} (name : ℕ → X) (n k : ℕ) → k < n → slice_get (named name n) k ≡ Some (name k)
+pub named-at : {X : Type 0} (name : ℕ → X) (n k : ℕ) → k < n → slice_get (named name n) k ≡ Some (name k)
 named-at name zero k less = absurd (omega (arith, less))
 named-at name (suc n) k less = elim (cases_lt k n) as (λ _. slice_get (named name n ++ name n ∷ []) k ≡ Some (name k)) [
   | inl inside ↦ in_first (named name n) (name n ∷ []) k (name k) (named-at name n k inside)
