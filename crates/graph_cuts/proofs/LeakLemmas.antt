@@ -58,7 +58,7 @@ use Rattle.graph_cuts.proofs.ValuesLemmas.{IsValueOf, valued-in, in-valued, IsHe
 
 -- ---- data variables
 
-data-kind : (s : StoreMap) (kind : VarKind) (w u : Sym) (x : Value) → Contains (data_value kind w) u → VarFits s kind x →
+pub data-kind : (s : StoreMap) (kind : VarKind) (w u : Sym) (x : Value) → Contains (data_value kind w) u → VarFits s kind x →
     IsDataVar kind × (w ≡ u) × ((o : Option CellId) × (x ≡ value.Cell o))
 data-kind s var.Bool w u x one fits = absurd (in_none u one)
 data-kind s (var.LogicSet ty) w u x one fits = absurd (in_none u one)
@@ -68,7 +68,7 @@ data-kind s (var.Data ty) w u (value.Bool k) one fits = absurd fits
 data-kind s (var.Data ty) w u (value.Cells k) one fits = absurd fits
 data-kind s (var.Data ty) w u (value.Cell o) one fits = (tt, Contains-one w u one, (o, refl))
 
-kind-data : (kind : VarKind) (w : Sym) → IsDataVar kind → Contains (data_value kind w) w
+pub kind-data : (kind : VarKind) (w : Sym) → IsDataVar kind → Contains (data_value kind w) w
 kind-data var.Bool w is = absurd is
 kind-data (var.LogicSet ty) w is = absurd is
 kind-data var.LogicBool w is = absurd is

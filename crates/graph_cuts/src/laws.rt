@@ -4,7 +4,7 @@ ghost use Rattle.std.specs.Prelude.{◌↔◌, ℕ, ◌≤◌};
 ghost use Rattle.gta_theory.specs.Assignments.{Assignment};
 ghost use Rattle.ws2s_core.specs.Satisfaction.{WSat};
 ghost use Rattle.store_core.specs.Stores.{StoreMap};
-ghost use Rattle.routing_expr.specs.CutFaults.{HasDanglingReference, HasLeaked, HasWrongField};
+ghost use Rattle.routing_expr.specs.CutFaults.{HasDanglingReference, HasShared, HasLeaked, HasWrongField};
 ghost use Rattle.tree_encode.specs.Layouts.{LaidOut};
 ghost use Rattle.graph_view.specs.declared.view.View.{View};
 ghost use Rattle.graph_view.specs.declared.view.CutCheck.TheVariants as check;
@@ -20,6 +20,13 @@ pub fn dangling_references_are_told()
     ensures { (l : LaidOut) (view : View) (a b : Assignment) (first s : StoreMap) (at : Standing) (count next : ℕ) →
         ShowsWell l view a first s s at count → Agrees count a b → count ≤ next →
         WSat (cut_formula l.types (sight_of l.vars view) l.vars view.vars check.DanglingRef next) b ↔ HasDanglingReference s }
+{}
+
+/// The formula of shared cells holds exactly where a live cell is named twice by data variables and data fields of live cells.
+pub fn shared_cells_are_told()
+    ensures { (l : LaidOut) (view : View) (a b : Assignment) (first s : StoreMap) (at : Standing) (count next : ℕ) →
+        ShowsWell l view a first s s at count → Agrees count a b → count ≤ next →
+        WSat (cut_formula l.types (sight_of l.vars view) l.vars view.vars check.Shared next) b ↔ HasShared l.types l.vars s }
 {}
 
 /// The formula of leaks holds exactly where a live cell isn't reached from a data variable by data fields.

@@ -19,7 +19,7 @@ use Rattle.graph_view.specs.After.{Standing, IsAt}
 
 -- ---- fields of which something is so
 
-in_filter : {X : Type 0} (test : X → Bool) (xs : List X) (x : X) → Contains xs x → test x ≡ true → Contains (filter test xs) x
+pub in_filter : {X : Type 0} (test : X → Bool) (xs : List X) (x : X) → Contains xs x → test x ≡ true → Contains (filter test xs) x
 in_filter test [] x h is = absurd (in_none x h)
 in_filter {X} test (y ∷ xs) x h is = by (λ later. in_filter test xs x later is) (test y) refl (Contains-cases y x xs h)
   where
@@ -30,7 +30,7 @@ in_filter {X} test (y ∷ xs) x h is = by (λ later. in_filter test xs x later i
     by rest false at_y (inl same) = absurd (false≢true (sym at_y ∙ ap test same ∙ is))
     by rest false at_y (inr later) = rest later
 
-filter-inside : {X : Type 0} (test : X → Bool) (xs : List X) (x : X) → Contains (filter test xs) x → Contains xs x × (test x ≡ true)
+pub filter-inside : {X : Type 0} (test : X → Bool) (xs : List X) (x : X) → Contains (filter test xs) x → Contains xs x × (test x ≡ true)
 filter-inside test [] x h = absurd (in_none x h)
 filter-inside {X} test (y ∷ xs) x h = by (λ inside. filter-inside test xs x inside) (test y) refl h
   where
@@ -42,7 +42,7 @@ filter-inside {X} test (y ∷ xs) x h = by (λ inside. filter-inside test xs x i
     ]
     by more false at_y inside = (let rest = more inside in (Contains-later y x xs rest.0, rest.1))
 
-entry-of : (o : Option FieldEntry) (is : FieldEntry → Bool) → option_map_or is o false ≡ true → (entry : FieldEntry) × (o ≡ Some entry) × (is entry ≡ true)
+pub entry-of : (o : Option FieldEntry) (is : FieldEntry → Bool) → option_map_or is o false ≡ true → (entry : FieldEntry) × (o ≡ Some entry) × (is entry ≡ true)
 entry-of None is h = absurd (false≢true h)
 entry-of (Some entry) is h = (entry, refl, h)
 
