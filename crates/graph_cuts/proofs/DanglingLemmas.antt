@@ -175,12 +175,18 @@ module _ (l : LaidOut) (view : View) (a : Assignment) (first s : StoreMap) (at :
         let (p, at_p) = (ground l view a first s s at count wells.shows).there c live in
         let (q, at_q) = named-placed l view a first s s at count wells.shows wells.table wells.well f entry there follows c d value_is in
         let (cell, found, typed) = own_type s c f (value.Cell (Some d)) value_is in
-        some.1 (p, (each p).1 (q, (whole p q).1 (
-          (c, at_p, of-some (λ e. e.variant.ty ≡ f.ty) (cell_of s c) cell found typed),
-          (told p q c at_p live).1 (d, at_q, value_is),
-          (λ (k : LiveAt s at q). is-none (cell_of s d) gone
-              (subst (λ e. IsLive s e) ((ground l view a first s s at count wells.shows).apart k.0 d q k.1 at_q) k.2)),
-        )))),
+        some.1 (
+          p,
+          (each p).1 (
+            q,
+            (whole p q).1 (
+              (c, at_p, of-some (λ e. e.variant.ty ≡ f.ty) (cell_of s c) cell found typed),
+              (told p q c at_p live).1 (d, at_q, value_is),
+              (λ (k : LiveAt s at q). is-none (cell_of s d) gone
+                  (subst (λ e. IsLive s e) ((ground l view a first s s at count wells.shows).apart k.0 d q k.1 at_q) k.2)),
+            ),
+          ),
+        )),
   )
     where
       agreed : (p : Position) → Agrees count a (with_position b next p)

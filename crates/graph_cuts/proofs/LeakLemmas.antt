@@ -260,10 +260,16 @@ module _ (l : LaidOut) (view : View) (a : Assignment) (first s : StoreMap) (at :
               let live = (IsParent-live l.types s e f leads).0 in
               let inside = live-in d (subst (λ z. IsLive s z) same live) so in
               place-on test at f w at_w (in-test f (λ living. found.shows.closed d f inside (subst (λ z. IsParent l.types s z f) same leads)))),
-          (p, ((c, here, found.shows.live), (λ on.
-              let (d, also, so) = on-place test at p on in
-              let same : d ≡ c = g.apart d c p also here in
-              found.shows.without (live-in c found.shows.live (subst (λ z. test z ≡ true) same so))))),
+          (
+            p,
+            (
+              (c, here, found.shows.live),
+              (λ on.
+                  let (d, also, so) = on-place test at p on in
+                  let same : d ≡ c = g.apart d c p also here in
+                  found.shows.without (live-in c found.shows.live (subst (λ z. test z ≡ true) same so))),
+            ),
+          ),
         ),
       )
     where

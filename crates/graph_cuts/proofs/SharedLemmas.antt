@@ -332,10 +332,10 @@ module _ (l : LaidOut) (view : View) (a : Assignment) (first s : StoreMap) (at :
           Contains-append_right by_values (by_both ∷ two_above l.types sight n next ∷ by_fields) by_both
               (Contains-first by_both (two_above l.types sight n next ∷ by_fields)),
           (sat-and (or_list n (map (is_in n next) values)) (is_below l.types sight n next) bound
-          ((x : Sym) × Contains values x × WSat (is_in n next x) bound) ((d : CellId) × IsParent l.types s d c) some-value below-means).1 (
-            (u, in-valued data_value l.vars view.vars u v.0 one.entry one.sym_of one.there one.stands one.one, (var-named u v.0 one).1 by_v),
-            (e, field-parent e f live by_f),
-          ),
+              ((x : Sym) × Contains values x × WSat (is_in n next x) bound) ((d : CellId) × IsParent l.types s d c) some-value below-means).1 (
+                (u, in-valued data_value l.vars view.vars u v.0 one.entry one.sym_of one.there one.stands one.one, (var-named u v.0 one).1 by_v),
+                (e, field-parent e f live by_f),
+              ),
         )
 
     at-fields : (e : CellId) (f g : FieldId) → f.ty ≡ g.ty → f.index < g.index → Named (place.Field e f) → Named (place.Field e g) → SomeTwice
@@ -364,12 +364,12 @@ module _ (l : LaidOut) (view : View) (a : Assignment) (first s : StoreMap) (at :
     at-cells : (e d : CellId) (f g : FieldId) → IsLive s c → (place.Field e f ≡ place.Field d g → ⊥) → Named (place.Field e f) → Named (place.Field d g) → SomeTwice
     at-cells e d f g live apart by_f by_g = elim (cell_cases e d) as (λ _. SomeTwice) [
       | inr differ ↦ (
-          two_above l.types sight n next,
-          Contains-append_right by_values (by_both ∷ two_above l.types sight n next ∷ by_fields) (two_above l.types sight n next)
-              (Contains-later by_both (two_above l.types sight n next) (two_above l.types sight n next ∷ by_fields)
-              (Contains-first (two_above l.types sight n next) by_fields)),
-          two-means.1 (e, d, differ, field-parent e f live by_f, field-parent d g live by_g),
-        )
+        two_above l.types sight n next,
+        Contains-append_right by_values (by_both ∷ two_above l.types sight n next ∷ by_fields) (two_above l.types sight n next)
+            (Contains-later by_both (two_above l.types sight n next) (two_above l.types sight n next ∷ by_fields)
+            (Contains-first (two_above l.types sight n next) by_fields)),
+        two-means.1 (e, d, differ, field-parent e f live by_f, field-parent d g live by_g),
+      )
       | inl same ↦ (
           let also : Named (place.Field e g) = subst (λ k. Named (place.Field k g)) (sym same) by_g in
           let (x, at_x, x_typed) = own_type s e f (value.Cell (Some c)) by_f.value in
