@@ -8,4 +8,3 @@ pub mod Acts
 pub mod Cuts
 pub mod Codes
 pub mod Triples
-pub mod Reached
