@@ -9,7 +9,8 @@ use pale_types::check_types;
 use std::alloc::{AllocError, Global};
 use std::fmt::Write;
 use store_core::VarId;
-use store_exec::{Cut, Triple};
+use store_exec::{Cut, Item, Tail, Triple};
+use store_logic::Act;
 
 fn triples_of(alloc: Global, text: &[u8]) -> Result<TripleList, TextStop>
     requires { length text.now < u32.MAX }
@@ -69,25 +70,76 @@ fn push_triples(out: &mut String, triples: &[Triple]) -> Result<(), AllocError> 
     Ok(())
 }
 
-/// Each triple: the number of its procedure, its line, what its start names, and its cuts; or what is printed of the refusal.
-fn told(alloc: Global, text: &[u8]) -> Result<String, AllocError>
+fn push_item(out: &mut String, item: &Item) -> Result<(), AllocError> {
+    match item {
+        Item::Do(line, Act::Assign(path, _)) => write!(out, "{line}:{} ", path.var.0),
+        Item::Do(line, _) => write!(out, "{line} "),
+        Item::If(line, _, taken, other) => {
+            write!(out, "if {line} {} {} ", taken.len(), other.len())
+        }
+    }
+}
+
+fn push_tail(out: &mut String, tail: &Tail) -> Result<(), AllocError> {
+    match tail {
+        Tail::Cut(place) => write!(out, "cut {place}; "),
+        Tail::Branch(line, _, taken, other) => {
+            let (taken, other) = (taken.get().items.len(), other.get().items.len());
+            write!(out, "branch {line} {taken} {other}; ")
+        }
+    }
+}
+
+fn push_codes(out: &mut String, triples: &[Triple]) -> Result<(), AllocError> {
+    for triple in triples {
+        for item in triple.code.items.as_slice() {
+            push_item(out, item)?;
+        }
+        push_tail(out, &triple.code.tail)?;
+    }
+    Ok(())
+}
+
+/// What of triples is told.
+#[derive(Clone, Copy)]
+enum Aspect {
+    /// The number of its procedure, its line, what its start names, and its cuts.
+    Ends,
+    /// The items of its code, and what follows them.
+    Codes,
+}
+
+/// What is told of the triples of the text, or what is printed of the refusal.
+fn told(alloc: Global, text: &[u8], aspect: Aspect) -> Result<String, AllocError>
     requires { length text.now < u32.MAX }
 {
     match triples_of(alloc, text) {
         Err(stop) => format!(in alloc; "{stop}"),
         Ok(triples) => {
             let mut out = String::new(alloc);
-            push_triples(&mut out, triples.as_slice())?;
+            match aspect {
+                Aspect::Ends => push_triples(&mut out, triples.as_slice())?,
+                Aspect::Codes => push_codes(&mut out, triples.as_slice())?,
+            }
             Ok(out)
         }
     }
 }
 
-/// Whether this is told of the text.
-pub(crate) fn is_told(alloc: Global, text: &[u8], want: &str) -> Result<bool, AllocError> {
+fn is_so_told(alloc: Global, text: &[u8], aspect: Aspect, want: &str) -> Result<bool, AllocError> {
     if text.len() >= 100_000 {
         return Ok(false);
     }
-    let got = told(alloc, text)?;
+    let got = told(alloc, text, aspect)?;
     Ok(got.as_str() == want)
+}
+
+/// Whether this is told of where the triples of the text start and end.
+pub(crate) fn is_told(alloc: Global, text: &[u8], want: &str) -> Result<bool, AllocError> {
+    is_so_told(alloc, text, Aspect::Ends, want)
+}
+
+/// Whether this is told of the codes of the triples of the text.
+pub(crate) fn are_codes_told(alloc: Global, text: &[u8], want: &str) -> Result<bool, AllocError> {
+    is_so_told(alloc, text, Aspect::Codes, want)
 }
