@@ -153,8 +153,8 @@ uncut_replay text program part is whole typed triples read r says =
 -- a stop of the program's part, where the text is cut or isn't
 pub stop_of_parts : (text program : List ℕ) (part : Option (Bor (List ℕ))) → IfSome part (λ after. IsCutAs text program after.now) →
     IfNone part ((program ≡ text) × HasNoCut text) → (e : TextStop) → IsStopOf program e → IsReplayStop text e
-stop_of_parts text program None cut whole e is = uncut_stop whole.1 (subst (λ (l : List ℕ). IsStopOf l e) whole.0 is)
-stop_of_parts text program (Some after) cut whole e is = cut_stop program after.now cut is
+stop_of_parts text program None cut_so whole e is = uncut_stop whole.1 (subst (λ (l : List ℕ). IsStopOf l e) whole.0 is)
+stop_of_parts text program (Some after) cut_so whole e is = cut_stop program after.now cut_so is
 
 -- a `?` hands a stop on
 pub handed_on : {X : Type 0} (text : List ℕ) (r : Result X TextStop) (e : TextStop) → IsErrAnd r (λ y. y ≡ e) → IsReplayStop text e → IfErr r (IsReplayStop text)

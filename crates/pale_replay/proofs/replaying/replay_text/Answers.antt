@@ -1,4 +1,4 @@
-use Rattle.std.proofs.Common.{◌≡◌, ◌∙◌, sym}
+use Rattle.std.proofs.Common.{◌≡◌, ◌∙◌}
 use Rattle.std.proofs.lemmas.Bool.{false≢true}
 use denote.Enum.Bare.{true_same}
 use Rattle.store_text.specs.contracts.fault.StoreKind.{the_type}
@@ -24,6 +24,6 @@ returns-in_ok-answer-in-Ok c =
 pub returns-in-Err-2 : goal.returns-in-Err-2
 returns-in-Err-2 c =
     let whole = c.args.whole.now in
-    let read = c.in-Err-2.ensures.fault (λ e. false≢true (c.if-eq.ensures ∙ true_same the_type c.in-Err-2.fault.kind NoMemory e)) in
+    let read = c.in-Err.ensures.fault (λ e. false≢true (c.if-eq.ensures ∙ true_same the_type c.in-Err.fault.kind NoMemory e)) in
     says_unread whole.typed c.args.triple.now c.types-types.result.now c.in-Some.vars.now c.types-types.ensures c.in-Some.ensures whole.triples
-    c.args.text.now c.in-Err-2.fault read c.from.result c.from.ensures c.store_refused.result c.store_refused.ensures
+    c.args.text.now c.in-Err.fault read c.from.result c.from.ensures c.store_refused.result c.store_refused.ensures
