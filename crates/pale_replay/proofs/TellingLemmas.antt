@@ -1,5 +1,5 @@
 -- What is said of a store text in a triple.
-use Rattle.std.proofs.Common.{◌≡◌, ◌+◌, ◌-◌, ◌<◌, ◌≤◌, ◌==◌, ℕ, zero, suc, true, List, [], ◌∷◌, length, Option, Some, None, Ok, Err, option_map, sym, ap, ◌∙◌, subst}
+use Rattle.std.proofs.Common.{◌≡◌, ◌+◌, ◌-◌, ◌<◌, ◌==◌, ℕ, suc, true, List, [], ◌∷◌, length, Option, Some, None, Ok, Err, option_map, sym, ap, ◌∙◌, subst}
 use Rattle.std.proofs.Common.{Result, IfSome, IfNone, arith, refl}
 use Rattle.std.specs.Prelude.{slice_get, IfOk, IfErr, IsErrAnd}
 use Rattle.std.proofs.lemmas.Bool.Decides.{nat_tests}

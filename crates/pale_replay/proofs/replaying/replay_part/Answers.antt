@@ -1,4 +1,4 @@
-use Rattle.std.proofs.Common.{◌≡◌, ◌-◌, sym, ◌∙◌}
+use Rattle.std.proofs.Common.{◌-◌, sym}
 use Rattle.store_text.specs.Lines.{lines_of}
 use Rattle.store_text.specs.declared.fault.StoreKind.TheVariants.{Missing, Syntax, UnknownName}
 use Rattle.hoare_split.specs.Fitting.{FitsProgram, IsShort}
