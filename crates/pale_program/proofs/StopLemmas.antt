@@ -1,13 +1,13 @@
 -- The first refusal of a text.
-use Rattle.std.proofs.Common.{◌≡◌, ℕ, List, None, Some, Result, Ok, Err, sym, ap, ◌∙◌, subst}
+use Rattle.std.proofs.Common.{◌≡◌, ℕ, List, None, Result, Ok, Err, sym, ap, ◌∙◌, subst}
 use Rattle.std.specs.Prelude.{IfErr, IsErrAnd}
 use Rattle.pale_text.specs.declared.refusal.TextStop.{TextStop}
 use Rattle.pale_text.specs.declared.refusal.TextStop.TheVariants as stop
 use Rattle.pale_text.specs.declared.token.TokenList.{TokenList}
 use Rattle.pale_text.specs.Lexing.{IsLexed, IsLexStop}
 use Rattle.pale_syntax.specs.declared.tree.declaration.Program.{Program}
-use Rattle.pale_syntax.specs.ProgramReading.{IsParsedAs, IsParseStop}
-use Rattle.pale_tables.specs.Faults.{Fault, IsStop}
+use Rattle.pale_syntax.specs.ProgramReading.{IsParseStop}
+use Rattle.pale_tables.specs.Faults.{IsStop}
 use Rattle.pale_types.specs.Programs.{program_fault, typed_program}
 use Rattle.pale_types.specs.TypedPrograms.{TypedProgram}
 use Rattle.hoare_split.specs.Triples.{split_fault}

@@ -6,7 +6,6 @@ use Rattle.pale_text.specs.declared.place.Pos.{Pos}
 use Rattle.pale_text.specs.declared.refusal.Refusal.{Refusal}
 use Rattle.pale_text.specs.declared.refusal.TextStop.{TextStop}
 use Rattle.pale_text.specs.declared.refusal.TextStop.TheVariants as stop
-use Rattle.pale_text.specs.declared.token.Token.{Token}
 use Rattle.pale_text.specs.declared.token.TokenKind.{TokenKind}
 use Rattle.pale_text.specs.declared.token.TokenKind.TheVariants as kind
 use Rattle.pale_text.specs.declared.token.TokenList.{TokenList}

@@ -1,7 +1,6 @@
 -- The numbers of the cells of a store that was read are at most 1,000,000, and so its next number is at most one above.
-use Rattle.std.proofs.Common.{◌≡◌, ℕ, ◌+◌, ◌<◌, ◌≤◌, ◌==◌, ◌&&◌, nat_le, Bool, true, false, cond, List, [], ◌∷◌, map, Option, Some, None, Result, Ok, Err}
-use Rattle.std.proofs.Common.{IfSome, inl, inr, codes, refl, sym, ap, ◌∙◌, subst, arith}
-use Rattle.std.specs.Option.{option_map, option_map_or}
+use Rattle.std.proofs.Common.{◌≡◌, ℕ, ◌+◌, ◌≤◌, ◌==◌, ◌&&◌, nat_le, Bool, true, false, cond, List, [], ◌∷◌, map, Some, None, Ok}
+use Rattle.std.proofs.Common.{inl, inr, codes, refl, sym, ap, ◌∙◌, subst, arith}
 use Rattle.std.specs.List.{AllByRecursion, find, list_all}
 use Rattle.std.specs.Str.{bytes_eq}
 use Rattle.std.specs.Ordering.{nat_cmp, match_ordering}
@@ -15,7 +14,6 @@ use Rattle.std.proofs.lemmas.Cmp.{nat_cmp_total}
 use Rattle.std.specs.Prelude.{slice_get, length}
 use Rattle.store_core.specs.Tables.{TypeEntry, VarEntry, var_at, var_named}
 use Rattle.store_core.specs.Stores.{StoreMap, CellEntry}
-use Rattle.store_text.specs.declared.read.holds.Mention.{Mention}
 use Rattle.store_text.specs.declared.read.spelled.Given.{Given}
 use Rattle.store_text.specs.declared.read.spelled.CellLine.{CellLine}
 use Rattle.store_text.specs.declared.read.spelled.Line.{Line}

@@ -1,6 +1,6 @@
 //! A text replayed.
 
-ghost use Rattle.std.specs.Prelude.{◌≡◌, ◌<◌, ◌∷◌, Some, length, slice_get, IfOk, IfErr, All, List, ℕ};
+ghost use Rattle.std.specs.Prelude.{◌<◌, ◌∷◌, length, IfOk, IfErr, All, List, ℕ};
 ghost use Rattle.store_text.specs.Lines.{lines_of};
 ghost use Rattle.hoare_split.specs.Fitting.{FitsProgram, IsShort};
 ghost use Rattle.pale_replay.specs.Replaying.{SaysOf, NamesTriple, IsReplayOf, IsReplayStop};
@@ -13,7 +13,7 @@ use pale_program::{WholeProgram, read_program};
 use pale_text::TextStop;
 use std::alloc::{AllocError, Global};
 use store_exec::Triple;
-use store_text::{StoreKind, read_store, read_stores_fit, read_stores_go_on};
+use store_text::{StoreKind, read_store, read_stores_fit};
 
 /// What is said of a store text in a triple of the program. The text begins at line 2 of its part.
 fn replay_text(
@@ -29,7 +29,6 @@ fn replay_text(
         SaysOf whole.now.typed whole.now.triples (first ∷ lines_of text.now) r.answer r.line) }
 {
     read_stores_fit();
-    read_stores_go_on();
     let types = whole.typed.types();
     let Some(vars) = whole.typed.vars(triple.proc) else {
         unreachable!()

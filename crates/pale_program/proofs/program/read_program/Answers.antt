@@ -1,4 +1,4 @@
-use Rattle.std.proofs.Common.{List, ℕ, sym}
+use Rattle.std.proofs.Common.{sym}
 use Rattle.pale_program.proofs.StopLemmas.{handed_on, lex_stop, parse_stop, type_stop, split_stop}
 use Rattle.pale_program.proofs.program.read_program.Goals as goal
 

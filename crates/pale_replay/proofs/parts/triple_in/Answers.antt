@@ -1,4 +1,4 @@
-use Rattle.std.proofs.Common.{◌≡◌, ◌∙◌, ap, ◌++◌, ℕ, List, Option, Some, None, sym}
+use Rattle.std.proofs.Common.{◌∙◌, ap, ◌++◌, ℕ, List, Some}
 use Rattle.std.proofs.lemmas.Bool.Decides.{Decides-eqb}
 use Rattle.std.proofs.lemmas.Slice.Eq.{strip_prefix_is}
 use Rattle.pale_replay.proofs.PartLemmas.{counted}
