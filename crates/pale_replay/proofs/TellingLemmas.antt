@@ -157,6 +157,7 @@ stop_of_parts text program None cut_so whole e is = uncut_stop whole.1 (subst (�
 stop_of_parts text program (Some after) cut_so whole e is = cut_stop program after.now cut_so is
 
 -- a `?` hands a stop on
-pub handed_on : {X : Type 0} (text : List ℕ) (r : Result X TextStop) (e : TextStop) → IsErrAnd r (λ y. y ≡ e) → IsReplayStop text e → IfErr r (IsReplayStop text)
+pub handed_on : {X : Type 0} (text : List ℕ) (r : Result X TextStop) (e : TextStop) → IsErrAnd r (λ y. y ≡ e) → IsReplayStop text e →
+    IfErr r (IsReplayStop text)
 handed_on text (Ok x) e is said = absurd is
 handed_on text (Err y) e is said = subst (IsReplayStop text) (sym is) said
