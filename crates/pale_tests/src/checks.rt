@@ -119,67 +119,76 @@ fn the_values_that_fail_are_printed(rt: HostRuntime) -> Result<(), Fail> {
     Ok(())
 }
 
-/// Texts that aren't read yet.
-static REFUSED: &[&str] = &[
+/// Texts that are no programs of bools, with the place and the kind that are written.
+static REFUSED: &[(&str, &str)] = &[
     // Which names may stand where.
-    "proc p() pre [t] { bool t; }",
-    "proc p() post [t] { bool t; }",
-    "proc p(bool a) post [a] { }",
-    "proc p() returns (bool b) pre [b] { }",
-    "proc p() logic bool v returns (bool b) { }",
-    "proc p() returns (bool b) logic bool v { b = v; }",
-    "proc p() logic bool v { v = true; }",
-    "proc p(bool a) pre [c] { }",
-    "proc p(bool a) { c = a; }",
-    "proc p(bool a) { a = p; }",
-    "proc p() { t = true; bool t; }",
+    ("proc p() pre [t] { bool t; }", "1:15 unknown"),
+    ("proc p() post [t] { bool t; }", "1:16 unknown"),
+    ("proc p(bool a) post [a] { }", "1:22 kind"),
+    ("proc p() returns (bool b) pre [b] { }", "1:32 kind"),
+    ("proc p() logic bool v returns (bool b) { }", "1:23 syntax"),
+    (
+        "proc p() returns (bool b) logic bool v { b = v; }",
+        "1:46 kind",
+    ),
+    ("proc p() logic bool v { v = true; }", "1:25 kind"),
+    ("proc p(bool a) pre [c] { }", "1:21 unknown"),
+    ("proc p(bool a) { c = a; }", "1:18 unknown"),
+    ("proc p(bool a) { a = p; }", "1:22 unknown"),
+    ("proc p() { t = true; bool t; }", "1:22 syntax"),
     // Names that are there, or are none.
-    "proc p(bool a, bool a) { }",
-    "proc p(bool a) returns (bool a) { }",
-    "proc p() logic bool v { bool v; }",
-    "proc p() { bool t; bool t; }",
-    "proc set() { }",
-    "proc p(bool in) { }",
-    "proc p(bool 1) { }",
-    "proc p(bool _a) { }",
+    ("proc p(bool a, bool a) { }", "1:21 duplicate"),
+    ("proc p(bool a) returns (bool a) { }", "1:30 duplicate"),
+    ("proc p() logic bool v { bool v; }", "1:30 duplicate"),
+    ("proc p() { bool t; bool t; }", "1:25 duplicate"),
+    ("proc set() { }", "1:6 syntax"),
+    ("proc p(bool in) { }", "1:13 syntax"),
+    ("proc p(bool 1) { }", "1:13 syntax"),
+    ("proc p(bool _a) { }", "1:13 char"),
     // Grammar.
-    "proc p() {",
-    "proc p() }",
-    "proc p() { } proc q() { }",
-    "proc p() { } ;",
-    "proc p(bool a,) { }",
-    "proc p() returns () { }",
-    "proc p() logic { }",
-    "proc p() pre [] { }",
-    "proc p() post [true] pre [true] { }",
-    "proc p(bool a) { a = true }",
-    "proc p(bool a) { a = ; }",
-    "proc p(bool a) { a == true; }",
-    "proc p(bool a) { a = ~a; }",
-    "proc p(bool a) pre [!a] { }",
-    "proc p(bool a) pre [a <=> ~] { }",
-    "proc p(bool a) pre [~a <=> ~~] { }",
-    // Forms of the whole language, which aren't read yet.
-    "type T = { }",
-    "pred q() = [true];",
-    "proc p(bool a) pre [(a)] { }",
-    "proc p(bool a) pre [a & a] { }",
-    "proc p(bool a) { a = a && a; }",
-    "proc p(bool a) { if (a) { } }",
-    "proc p(data x: T) { }",
+    ("proc p() {", "1:11 syntax"),
+    ("proc p() }", "1:10 syntax"),
+    ("proc p() { } ;", "1:14 syntax"),
+    ("proc p(bool a,) { }", "1:15 syntax"),
+    ("proc p() returns () { }", "1:19 syntax"),
+    ("proc p() logic { }", "1:16 syntax"),
+    ("proc p() pre [] { }", "1:15 syntax"),
+    ("proc p() post [true] pre [true] { }", "1:22 syntax"),
+    ("proc p(bool a) { a = true }", "1:27 syntax"),
+    ("proc p(bool a) { a = ; }", "1:22 syntax"),
+    ("proc p(bool a) { a == true; }", "1:20 syntax"),
+    ("proc p(bool a) { a = ~a; }", "1:22 syntax"),
+    ("proc p(bool a) pre [!a] { }", "1:21 syntax"),
+    ("proc p(bool a) pre [a <=> ~] { }", "1:28 syntax"),
+    ("proc p(bool a) pre [~a <=> ~~] { }", "1:30 syntax"),
+    // A type that isn't there.
+    ("proc p(data x: T) { }", "1:16 unknown"),
     // No token begins with these bytes.
-    "proc p() { % }",
-    "proc p() { \u{e9} }",
+    ("proc p() { % }", "1:12 char"),
+    ("proc p() { \u{e9} }", "1:12 char"),
+    // Forms of the whole language, which aren't judged yet: at the first `proc`, and where there is none at the first token.
+    ("proc p() { } proc q() { }", "1:1 not-yet"),
+    ("proc p(bool a) pre [(a)] { }", "1:1 not-yet"),
+    ("proc p(bool a) pre [a & a] { }", "1:1 not-yet"),
+    ("proc p(bool a) { a = a && a; }", "1:1 not-yet"),
+    ("proc p(bool a) { if (a) { } }", "1:1 not-yet"),
+    (
+        "# a type\ntype T = { }\n  proc p(data x: T) { }\nproc q() { }",
+        "3:3 not-yet",
+    ),
+    ("\n type T = { }", "2:2 not-yet"),
+    ("pred q() = [true];", "1:1 not-yet"),
 ];
+
+fn is_refused(alloc: Global, text: &str, fault: &str) -> Result<bool, AllocError> {
+    let want = format!(in alloc; "refused {fault}\n")?;
+    writes(alloc, "check", text.as_bytes(), want.as_bytes(), 3)
+}
 
 #[test]
 fn a_text_that_is_no_program_of_bools_is_refused(rt: HostRuntime) -> Result<(), Fail> {
-    for text in REFUSED {
-        let want = b"refused 1:1 not-yet\n";
-        assert!(rt;
-            writes(rt.alloc(), "check", text.as_bytes(), want, 3)?,
-            "{text}"
-        );
+    for (text, fault) in REFUSED {
+        assert!(rt; is_refused(rt.alloc(), text, fault)?, "{text}");
     }
     Ok(())
 }

@@ -17,4 +17,6 @@ mod formats;
 #[cfg(test)]
 mod made;
 #[cfg(test)]
+mod replays;
+#[cfg(test)]
 mod words;

@@ -15,64 +15,74 @@ fn with_names(alloc: Global, count: usize) -> Result<String, AllocError> {
     Ok(text)
 }
 
-/// Whether `check` reads a text as a program whose one triple is valid, or refuses it as one that isn't read yet.
-fn is_judged(alloc: Global, text: &str, is_read: bool) -> Result<bool, AllocError> {
-    if is_read {
+/// Whether `check` reads a text as a program whose one triple is valid; or refuses it so, where a fault is given.
+fn is_judged(alloc: Global, text: &str, fault: &str) -> Result<bool, AllocError> {
+    if fault.is_empty() {
         let want = b"triple 1 p line 1 valid\ntriples 1 valid 1 invalid 0 limit 0\n";
         writes(alloc, "check", text.as_bytes(), want, 0)
     } else {
-        writes(alloc, "check", text.as_bytes(), b"refused 1:1 not-yet\n", 3)
+        let want = format!(in alloc; "refused {fault}\n")?;
+        writes(alloc, "check", text.as_bytes(), want.as_bytes(), 3)
     }
 }
 
 fn repeated_is_judged(
     alloc: Global,
     (front, piece, count, back): (&str, &str, usize, &str),
-    is_read: bool,
+    fault: &str,
 ) -> Result<bool, AllocError> {
     let text = repeated(alloc, front, piece, count, back)?;
-    is_judged(alloc, text.as_str(), is_read)
+    is_judged(alloc, text.as_str(), fault)
 }
 
-fn names_are_judged(alloc: Global, count: usize, is_read: bool) -> Result<bool, AllocError> {
+fn names_are_judged(alloc: Global, count: usize, fault: &str) -> Result<bool, AllocError> {
     let text = with_names(alloc, count)?;
-    is_judged(alloc, text.as_str(), is_read)
+    is_judged(alloc, text.as_str(), fault)
 }
 
-/// A piece so many times between two others, and whether that is read.
-static BOUNDS: &[((&str, &str, usize, &str), bool)] = &[
+/// A piece so many times between two others, and what is refused there, if anything.
+static BOUNDS: &[((&str, &str, usize, &str), &str)] = &[
     // Levels: an assertion has none open round it, the body's brace is one.
-    (("proc p() pre [", "~", 200, "true] { }"), true),
-    (("proc p() pre [", "~", 201, "true] { }"), false),
-    (("proc p() post [true <=> ", "~", 200, "true] { }"), true),
-    (("proc p() post [true <=> ", "~", 201, "true] { }"), false),
-    (("proc p(bool a) { a = ", "!", 199, "a; }"), true),
-    (("proc p(bool a) { a = ", "!", 200, "a; }"), false),
+    (("proc p() pre [", "~", 200, "true] { }"), ""),
+    (("proc p() pre [", "~", 201, "true] { }"), "1:215 deep"),
+    (("proc p() post [true <=> ", "~", 200, "true] { }"), ""),
+    (
+        ("proc p() post [true <=> ", "~", 201, "true] { }"),
+        "1:225 deep",
+    ),
+    (("proc p(bool a) { a = ", "!", 199, "a; }"), ""),
+    (("proc p(bool a) { a = ", "!", 200, "a; }"), "1:221 deep"),
     // Atoms, of which `skip` is none.
-    (("proc p(bool a) { skip; ", "a = !a; ", 128, "}"), true),
-    (("proc p(bool a) { skip; ", "a = !a; ", 129, "}"), false),
+    (("proc p(bool a) { skip; ", "a = !a; ", 128, "}"), ""),
+    (
+        ("proc p(bool a) { skip; ", "a = !a; ", 129, "}"),
+        "1:1 long-part",
+    ),
     // Nodes: each `<=>` counts both sides twice.
-    (("proc p(bool a) pre [a", " <=> a", 14, "] { }"), true),
-    (("proc p(bool a) pre [a", " <=> a", 15, "] { }"), false),
+    (("proc p(bool a) pre [a", " <=> a", 14, "] { }"), ""),
+    (
+        ("proc p(bool a) pre [a", " <=> a", 15, "] { }"),
+        "1:20 big-formula",
+    ),
     // Bytes.
-    (("", " ", 1_048_576 - 12, "proc p() { }"), true),
+    (("", " ", 1_048_576 - 12, "proc p() { }"), ""),
     // What stands far back counts.
-    (("proc p() { ", "skip; ", 10_000, "}"), true),
-    (("proc p() { ", "skip; ", 10_000, "} x"), false),
+    (("proc p() { ", "skip; ", 10_000, "}"), ""),
+    (("proc p() { ", "skip; ", 10_000, "} x"), "1:60014 syntax"),
 ];
 
 #[test]
 fn each_bound_is_the_last_that_is_read(rt: HostRuntime) -> Result<(), Fail> {
-    for ((front, piece, count, back), is_read) in BOUNDS {
+    for ((front, piece, count, back), fault) in BOUNDS {
         let parts = (*front, *piece, *count, *back);
         assert!(rt;
-            repeated_is_judged(rt.alloc(), parts, *is_read)?,
+            repeated_is_judged(rt.alloc(), parts, fault)?,
             "{front} {count}"
         );
     }
-    for (count, is_read) in [(12, true), (13, false)] {
+    for (count, fault) in [(12, ""), (13, "1:1 not-yet")] {
         assert!(rt;
-            names_are_judged(rt.alloc(), count, is_read)?,
+            names_are_judged(rt.alloc(), count, fault)?,
             "{count} names"
         );
     }

@@ -27,6 +27,7 @@ fn words_give_their_settings_or_are_refused(rt: HostRuntime) -> Result<(), Fail>
         ("pale", refused),
         ("pale check", given(Mode::Check, 2_000_000, 0)),
         ("--help check", given(Mode::Check, 2_000_000, 0)),
+        ("pale replay", given(Mode::Replay, 2_000_000, 0)),
         ("pale ws2s --limit 58", given(Mode::Ws2s, 58, 0)),
         ("pale check extra", refused),
         ("pale check check", refused),
@@ -77,7 +78,6 @@ fn words_ask_for_format_as_for_check(rt: HostRuntime) -> Result<(), Fail> {
         ("pale form", refused),
         ("pale formats", refused),
         ("pale format --limit 0", refused),
-        ("pale replay", refused),
     ];
     for (line, wanted) in rows {
         assert!(rt; gives(rt.alloc(), line, wanted)?, "{line}");

@@ -13,16 +13,21 @@ use Rattle.pale_io.specs.declared.stops.WriteStop.TheVariants.{Failed, NoMemory}
 use Rattle.pale_top.specs.declared.status.Status.{Status}
 use Rattle.pale_top.specs.declared.status.Status.TheVariants.{Good, Bad, Words, Text, Limit, Memory, ReadFault, WriteFault}
 use Rattle.pale_top.specs.declared.words.Mode.{Mode}
-use Rattle.pale_top.specs.declared.words.Mode.TheVariants.{Check, Format, Ws2s}
+use Rattle.pale_top.specs.declared.words.Mode.TheVariants.{Check, Replay, Format, Ws2s}
 use Rattle.pale_top.specs.declared.words.Settings.{Settings}
 use Rattle.pale_top.specs.Words.{Gives, IsRefused}
 use Rattle.pale_top.proofs.WrittenLemmas.{Wrote-weaker, WroteAtMost-weaker}
 use Rattle.pale_top.specs.Formatting.{Formats}
 use Rattle.pale_top.specs.Formatting as formatting
+use Rattle.pale_replay.specs.declared.answer.Answer.{Answer}
+use Rattle.pale_replay.specs.declared.answer.Answer.TheVariants as answer
+use Rattle.pale_top.specs.Replaying.{Replays}
+use Rattle.pale_top.specs.Replaying as replaying
 use Rattle.pale_top.specs.Deciding.{Decides, Says}
 use Rattle.ws2s_syntax.specs.Checked.{Text as WsText}
 use Rattle.pale_top.specs.Deciding as deciding
-use Rattle.pale_top.specs.Output.{Answers, Begins, CallOutput, Checks, too_long, not_yet, report, EndsBy, IsAnswer, IsCutShort, Output, check, format, ws2s}
+use Rattle.pale_top.specs.Output.{Answers, Begins, CallOutput, Checks, too_long, unjudged, report, EndsBy, IsAnswer, IsCutShort, Output}
+use Rattle.pale_top.specs.Output.{check, replay, format, ws2s}
 use Rattle.pale_top.specs.Output.{given, Reports, Wrote, WroteAtMost, status_of}
 use Rattle.pale_top.specs.Report.{too_long_line}
 use Rattle.pale_top.specs.Texts.{most_bytes}
@@ -75,8 +80,20 @@ program_given (Some p) output status reports = subst IsGiven (sym reports.ends) 
 
 checked_given : (text output : List ℕ) (status : Status) → Checks text output status → IsGiven status
 checked_given text output status (too_long more) = tt
-checked_given text output status (not_yet within unread) = tt
+checked_given text output status (unjudged refusal within no_bools is) = tt
 checked_given text output status (report program o s within reads reports) = program_given program.procedure output status reports
+
+answer_given : (a : Answer) → IsGiven (replaying.status_of a)
+answer_given (answer.StoreRefused line kind) = tt
+answer_given (answer.NotWellFormed wrong) = tt
+answer_given answer.StartFalse = tt
+answer_given (answer.Fails why line) = tt
+answer_given (answer.Ends line) = tt
+
+replayed_given : (text output : List ℕ) (status : Status) → Replays text output status → IsGiven status
+replayed_given text output status (replaying.too_long more) = tt
+replayed_given text output status (replaying.refused refusal within stop) = tt
+replayed_given text output status (replaying.replay a line within is) = answer_given a
 
 formatted_given : (text output : List ℕ) (status : Status) → Formats text output status → IsGiven status
 formatted_given text output status (formatting.too_long more) = tt
@@ -98,6 +115,7 @@ decided_given limit text output status (deciding.read tree o s within is says) =
 
 output_given : (settings : Settings) (text output : List ℕ) (status : Status) → Output settings text output status → IsGiven status
 output_given settings text output status (check is written answer checks) = checked_given text output status checks
+output_given settings text output status (replay is written answer replays) = replayed_given text output status replays
 output_given settings text output status (format is written answer formats) = formatted_given text output status formats
 output_given settings text output status (ws2s is written answer decides) = decided_given settings.limit text output status decides
 
@@ -148,6 +166,7 @@ too_long_output settings text more = by_mode settings.mode refl
   where
     by_mode : (mode : Mode) → settings.mode ≡ mode → Output settings text too_long_line Text
     by_mode Check is = check is too_long_line Text (too_long more)
+    by_mode Replay is = replay is too_long_line Text (replaying.too_long more)
     by_mode Format is = format is too_long_line Text (formatting.too_long more)
     by_mode Ws2s is = ws2s is too_long_line Text (deciding.too_long more)
 

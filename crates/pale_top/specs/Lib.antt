@@ -1,6 +1,8 @@
 pub mod Deciding
 pub mod Formatting
 pub mod Output
+pub mod Refusing
+pub mod Replaying
 pub mod Report
 pub mod Statuses
 pub mod Texts

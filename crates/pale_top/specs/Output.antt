@@ -1,6 +1,7 @@
 -- What a call of the program writes and how it ends, by its words and by the text that its source had left.
 -- The definitions speak of texts, programs and the values of variables, and of no step that the program makes.
 use Rattle.std.specs.Prelude.{◌≡◌, ◌⊎◌, ◌<◌, ◌≤◌, ℕ, List, ◌++◌, length, Option, Some, None, IfSome, Result, Ok, Err}
+use Rattle.pale_text.specs.declared.refusal.Refusal.{Refusal}
 use Rattle.bool_path.specs.Reading.{Reads}
 use Rattle.bool_path.specs.Judging.{Says}
 use Rattle.bool_path.specs.declared.program.BoolProc.{BoolProc}
@@ -12,13 +13,15 @@ use Rattle.pale_io.specs.declared.stops.WriteStop.TheVariants.{Failed, NoMemory}
 use Rattle.pale_io.specs.Whole.{WritesAll, WritesFront}
 use Rattle.pale_top.specs.declared.status.Status.{Status}
 use Rattle.pale_top.specs.declared.status.Status.TheVariants.{Good, Bad, Words, Text, Memory, ReadFault, WriteFault}
-use Rattle.pale_top.specs.declared.words.Mode.TheVariants.{Check, Format, Ws2s}
+use Rattle.pale_top.specs.declared.words.Mode.TheVariants.{Check, Replay, Format, Ws2s}
 use Rattle.pale_top.specs.declared.words.Settings.{Settings}
 use Rattle.pale_top.specs.Texts.{most_bytes}
 use Rattle.pale_top.specs.Deciding.{Decides}
 use Rattle.pale_top.specs.Formatting.{Formats}
+use Rattle.pale_top.specs.Refusing.{HasNoBools, IsUnjudged}
+use Rattle.pale_top.specs.Replaying.{Replays}
 use Rattle.pale_top.specs.Words.{Gives, IsRefused}
-use Rattle.pale_top.specs.Report.{invalid_line, not_yet_line, store_text, too_long_line, totals_line, usage_line, valid_line}
+use Rattle.pale_top.specs.Report.{invalid_line, refused_line, store_text, too_long_line, totals_line, usage_line, valid_line}
 
 -- ---- `check`
 
@@ -48,10 +51,10 @@ abbrev pub Reports : Option BoolProc → List ℕ → Status → Type 0
 Reports None output status = (output ≡ totals_line 0 0 0) × (status ≡ Good)
 Reports (Some p) output status = ReportsTriple p output status
 
--- what `check` writes for a text, and the status: the text has too many bytes, is no program of bools, or is one
+-- what `check` writes for a text, and the status: the text has too many bytes, is no program of bools and isn't judged, or is one
 pub data Checks (text : List ℕ) : List ℕ → Status → Type 0 where
   too_long : most_bytes < length text → Checks text too_long_line Text
-  not_yet : length text ≤ most_bytes → ((program : BoolProgram) → Reads text program → ⊥) → Checks text not_yet_line Text
+  unjudged : (refusal : Refusal) → length text ≤ most_bytes → HasNoBools text → IsUnjudged text refusal → Checks text (refused_line refusal) Text
   report : (program : BoolProgram) (output : List ℕ) (status : Status) → length text ≤ most_bytes → Reads text program
       → Reports program.procedure output status → Checks text output status
 
@@ -60,6 +63,7 @@ pub data Checks (text : List ℕ) : List ℕ → Status → Type 0 where
 -- what a call with these settings writes for a text, and its status, by the mode
 pub data Output (settings : Settings) (text : List ℕ) : List ℕ → Status → Type 0 where
   check : settings.mode ≡ Check → (written : List ℕ) (status : Status) → Checks text written status → Output settings text written status
+  replay : settings.mode ≡ Replay → (written : List ℕ) (status : Status) → Replays text written status → Output settings text written status
   format : settings.mode ≡ Format → (written : List ℕ) (status : Status) → Formats text written status → Output settings text written status
   ws2s : settings.mode ≡ Ws2s → (written : List ℕ) (status : Status) → Decides settings.limit text written status → Output settings text written status
 

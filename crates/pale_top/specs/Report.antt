@@ -19,10 +19,6 @@ abbrev pub refused_line : Refusal → List ℕ
 refused_line refusal =
     codes "refused " ++ decimal refusal.line ++ codes ":" ++ decimal refusal.column ++ codes " " ++ word_of refusal.kind ++ codes "\n"
 
--- the line for a text that is no program of bools
-abbrev pub not_yet_line : List ℕ
-not_yet_line = codes "refused 1:1 not-yet\n"
-
 -- `triple 1 NAME line L`, for the procedure's one triple, which begins at its line
 abbrev pub triple_head : BoolProc → List ℕ
 triple_head p = codes "triple 1 " ++ p.name ++ codes " line " ++ decimal p.line

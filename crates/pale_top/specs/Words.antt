@@ -8,7 +8,7 @@ use Rattle.clap.specs.declared.builder.action.ArgAction.TheVariants.{Set}
 use Rattle.clap.specs.declared.builder.value_parser.ValueParser.{ValueParser}
 use Rattle.clap.specs.declared.builder.value_parser.ValueParser.TheVariants.{Names, Signed}
 use Rattle.pale_top.specs.declared.words.Mode.{Mode}
-use Rattle.pale_top.specs.declared.words.Mode.TheVariants.{Check, Format, Ws2s}
+use Rattle.pale_top.specs.declared.words.Mode.TheVariants.{Check, Replay, Format, Ws2s}
 use Rattle.pale_top.specs.declared.words.Settings.{Settings}
 
 -- ---- the command
@@ -16,12 +16,13 @@ use Rattle.pale_top.specs.declared.words.Settings.{Settings}
 -- the name of a mode
 abbrev pub mode_name : Mode → Text
 mode_name Check = codes "check"
+mode_name Replay = codes "replay"
 mode_name Format = codes "format"
 mode_name Ws2s = codes "ws2s"
 
 -- the names of all modes
 abbrev pub mode_names : List Text
-mode_names = mode_name Check ∷ mode_name Format ∷ mode_name Ws2s ∷ []
+mode_names = mode_name Check ∷ mode_name Replay ∷ mode_name Format ∷ mode_name Ws2s ∷ []
 
 -- a value that is lent; where it stands is of no account
 abbrev pub lent : {X : Type 0} → X → Bor X

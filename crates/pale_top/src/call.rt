@@ -12,6 +12,7 @@ ghost use Rattle.pale_top.specs.Words.{IsLimit, IsRefused};
 use crate::check::check_text;
 use crate::decide::decide_text;
 use crate::format::format_text;
+use crate::replay::replay_text;
 use crate::writing::{ended, say};
 use crate::{Mode, Settings, Status, WordsStop, read_words};
 use pale_io::{ReadStop, Sink, Source, WriteStop, read_all};
@@ -36,6 +37,7 @@ fn answer_text<K: Sink>(
 {
     match settings.mode {
         Mode::Check => check_text(alloc, text, sink),
+        Mode::Replay => replay_text(alloc, text, sink),
         Mode::Format => format_text(alloc, text, sink),
         Mode::Ws2s => decide_text(alloc, settings.limit, text, sink),
     }

@@ -3,9 +3,9 @@ ghost use Rattle.std.specs.Prelude.{◌≡◌, ◌≤◌, length, IfOk, OnErr, I
 ghost use Rattle.pale_io.specs.Faults.{Rose};
 ghost use Rattle.pale_top.specs.Texts.{most_bytes};
 ghost use Rattle.pale_top.specs.Output.{Checks, Reports, ReportsTriple, Wrote, WroteAtMost, status_of, totals_of, triple_report};
-ghost use Rattle.pale_top.specs.Report.{not_yet_line};
 
 use crate::Status;
+use crate::refuse::refuse_text;
 use crate::report::{invalid_report, totals, valid_report};
 use crate::writing::say;
 use bool_path::{BoolJudged, BoolProc, BoolProgram, BoolStop, judge_bools, read_bools};
@@ -88,7 +88,7 @@ pub(crate) fn check_text<K: Sink>(
 {
     match read_bools(alloc, text) {
         Ok(program) => check_program(alloc, &program, sink),
-        Err(BoolStop::NotYet) => say(sink, b"refused 1:1 not-yet\n", Status::Text),
+        Err(BoolStop::NotYet) => refuse_text(alloc, text, sink),
         Err(BoolStop::NoMemory) => Err(WriteStop::NoMemory),
     }
 }

@@ -13,6 +13,8 @@ use std::alloc::{AllocError, Global};
 pub enum Mode {
     /// Reads a program and judges its triples.
     Check,
+    /// Executes a store through a triple of a program.
+    Replay,
     /// Writes a program in its canonical spelling.
     Format,
     /// Answers a WS2S text.
@@ -52,7 +54,7 @@ ghost use Rattle.clap.specs.declared.builder.value_parser.ValueParser.TheVariant
 ghost use Rattle.pale_top.specs.Words.{Gives, HasMode, HasNumber, HasSettings, HasValues, number_of, mode_rule, number_rule, IsRefused, IsModeParser};
 ghost use Rattle.pale_top.specs.Words.{mode_name, command_with};
 
-static MODE_NAMES: [&str; 3] = ["check", "format", "ws2s"];
+static MODE_NAMES: [&str; 4] = ["check", "replay", "format", "ws2s"];
 
 impl Mode {
     /// The mode of this name.
@@ -62,6 +64,7 @@ impl Mode {
     {
         match name {
             "check" => Some(Mode::Check),
+            "replay" => Some(Mode::Replay),
             "format" => Some(Mode::Format),
             "ws2s" => Some(Mode::Ws2s),
             _ => None,

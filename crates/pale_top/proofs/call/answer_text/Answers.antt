@@ -1,6 +1,7 @@
 use Rattle.pale_top.specs.Formatting.{Formats}
-use Rattle.pale_top.specs.Output.{Checks, Output, check, format, ws2s}
+use Rattle.pale_top.specs.Output.{Checks, Output, check, replay, format, ws2s}
 use Rattle.pale_top.specs.Deciding.{Decides}
+use Rattle.pale_top.specs.Replaying.{Replays}
 use Rattle.pale_top.proofs.WrittenLemmas.{begun-weaker, whole-weaker}
 use Rattle.pale_top.proofs.call.answer_text.Goals as goal
 
@@ -13,6 +14,16 @@ pub returns-in-Check-clause-err : goal.returns-in-Check-clause-err
 returns-in-Check-clause-err g c =
     begun-weaker (Checks c.args.text.now) (Output c.args.settings c.args.text.now) (check c.in-Check.is)
     (g.K.Sink.written c.args.sink.now) (g.K.Sink.written c.check_text.new.sink) c.check_text.result c.check_text.ensures.err
+
+pub returns-in-Replay-clause-ok : goal.returns-in-Replay-clause-ok
+returns-in-Replay-clause-ok g c =
+    whole-weaker (Replays c.args.text.now) (Output c.args.settings c.args.text.now) (replay c.in-Replay.is)
+    (g.K.Sink.written c.args.sink.now) (g.K.Sink.written c.replay_text.new.sink) c.replay_text.result c.replay_text.ensures.ok
+
+pub returns-in-Replay-clause-err : goal.returns-in-Replay-clause-err
+returns-in-Replay-clause-err g c =
+    begun-weaker (Replays c.args.text.now) (Output c.args.settings c.args.text.now) (replay c.in-Replay.is)
+    (g.K.Sink.written c.args.sink.now) (g.K.Sink.written c.replay_text.new.sink) c.replay_text.result c.replay_text.ensures.err
 
 pub returns-in-Format-clause-ok : goal.returns-in-Format-clause-ok
 returns-in-Format-clause-ok g c =

@@ -1,0 +1,4 @@
+pub mod PartLemmas
+pub mod NumberLemmas
+pub mod ArrivalLemmas
+pub mod TellingLemmas

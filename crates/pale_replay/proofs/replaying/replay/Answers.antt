@@ -1,0 +1,33 @@
+use Rattle.pale_text.specs.declared.refusal.TextStop.TheVariants as stop
+use Rattle.pale_replay.proofs.TellingLemmas.{handed_on, stop_of_parts, cut_replay, uncut_replay}
+use Rattle.pale_replay.proofs.replaying.replay.Goals as goal
+
+pub returns-in_err-whole-clause-stop : goal.returns-in_err-whole-clause-stop
+returns-in_err-whole-clause-stop c =
+    let text = c.args.text.now in
+    let parts = c.cut_text.result in
+    let e = c.in_err-whole.field-0.0 in
+    handed_on text c.from_residual.result e c.from_residual.ensures.1
+    (stop_of_parts text parts.0.now parts.1 c.cut_text.ensures.cut c.cut_text.ensures.whole e c.in_err-whole.ensures.stop)
+
+pub returns-in_err-replay_part-in-Some-clause-stop : goal.returns-in_err-replay_part-in-Some-clause-stop
+returns-in_err-replay_part-in-Some-clause-stop c =
+    let text = c.args.text.now in
+    let parts = c.cut_text.result in
+    handed_on text c.from_residual-in_err-replay_part-in-Some.result stop.NoMemory c.from_residual-in_err-replay_part-in-Some.ensures.1
+    (stop_of_parts text parts.0.now parts.1 c.cut_text.ensures.cut c.cut_text.ensures.whole stop.NoMemory tt)
+
+pub returns-in-Some-clause-replay : goal.returns-in-Some-clause-replay
+returns-in-Some-clause-replay c =
+    let parts = c.cut_text.result in
+    let whole = c.in_ok-whole.whole in
+    let said = c.in_ok-replay_part-in-Some.field-0 in
+    cut_replay c.args.text.now parts.0.now parts.1 c.in-Some.part c.in-Some.is c.cut_text.ensures.cut whole.typed whole.triples
+    c.in_ok-whole.ensures.program said.answer said.line c.in_ok-replay_part-in-Some.ensures
+
+pub returns-clause-replay : goal.returns-clause-replay
+returns-clause-replay c =
+    let parts = c.cut_text.result in
+    let whole = c.in_ok-whole.whole in
+    uncut_replay c.args.text.now parts.0.now parts.1 c.in-None.is c.cut_text.ensures.whole whole.typed whole.triples
+    c.in_ok-whole.ensures.program c.in_ok-store_refused-in-None.field-0 c.in_ok-store_refused-in-None.ensures

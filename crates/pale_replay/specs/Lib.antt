@@ -1,0 +1,5 @@
+pub mod Parts
+pub mod Lines
+pub mod Replays
+pub mod Replaying
+pub mod Running

@@ -1,0 +1,74 @@
+-- The lines that are written of a replay. Each ends with LF.
+use Rattle.std.specs.Prelude.{ℕ, List, [], ◌++◌, codes}
+use Rattle.std.specs.Option.{option_map_or}
+use Rattle.std.specs.Fmt.{decimal}
+use Rattle.store_core.specs.declared.ids.VarId.{VarId}
+use Rattle.store_core.specs.declared.ids.CellId.{CellId}
+use Rattle.store_core.specs.declared.ids.FieldId.{FieldId}
+use Rattle.store_core.specs.Tables.{TypeEntry, VarEntry, field_at, var_at}
+use Rattle.routing_expr.specs.declared.fault.Place.{Place}
+use Rattle.routing_expr.specs.declared.fault.Place.TheVariants as place
+use Rattle.routing_expr.specs.declared.fault.WfFault.{WfFault}
+use Rattle.routing_expr.specs.declared.fault.WfFault.TheVariants as fault
+use Rattle.store_exec.specs.declared.cause.Cause.{Cause}
+use Rattle.store_exec.specs.declared.cause.Cause.TheVariants as cause
+use Rattle.store_text.specs.declared.fault.StoreKind.{StoreKind}
+use Rattle.store_text.specs.Faults.{word_of}
+use Rattle.pale_replay.specs.declared.answer.Answer.{Answer}
+use Rattle.pale_replay.specs.declared.answer.Answer.TheVariants as answer
+
+-- the word that is printed for a cause
+abbrev pub word_of_cause : Cause → List ℕ
+word_of_cause cause.Null = codes "null"
+word_of_cause cause.Dangling = codes "dangling"
+word_of_cause cause.DoubleFree = codes "double-free"
+word_of_cause cause.DanglingRef = codes "dangling-ref"
+word_of_cause cause.Shared = codes "shared"
+word_of_cause cause.Leak = codes "leak"
+word_of_cause cause.Field = codes "field"
+word_of_cause cause.Escape = codes "escape"
+word_of_cause cause.Post = codes "post"
+word_of_cause cause.Assert = codes "assert"
+word_of_cause cause.Variant = codes "variant"
+
+-- ---- faults of a store
+
+abbrev pub var_name : List VarEntry → VarId → List ℕ
+var_name vars v = option_map_or (λ e. e.name) (var_at vars v) []
+
+abbrev pub field_name : List TypeEntry → FieldId → List ℕ
+field_name types f = option_map_or (λ e. e.name) (field_at types f) []
+
+-- `cell N`
+abbrev pub cell_text : CellId → List ℕ
+cell_text c = codes "cell " ++ decimal c.0
+
+-- `cell N F`
+abbrev pub field_text : List TypeEntry → CellId → FieldId → List ℕ
+field_text types c f = cell_text c ++ codes " " ++ field_name types f
+
+-- `var X` or `cell N F`
+abbrev pub place_text : List TypeEntry → List VarEntry → Place → List ℕ
+place_text types vars (place.Var v) = codes "var " ++ var_name vars v
+place_text types vars (place.Field c f) = field_text types c f
+
+-- what is wrong with a store
+abbrev pub fault_text : List TypeEntry → List VarEntry → WfFault → List ℕ
+fault_text types vars (fault.Dangling p) = codes "dangling " ++ place_text types vars p
+fault_text types vars (fault.Shared c) = codes "shared " ++ cell_text c
+fault_text types vars (fault.Leak c) = codes "leak " ++ cell_text c
+fault_text types vars (fault.Field c f) = codes "field " ++ field_text types c f
+
+-- ---- lines
+
+-- `store refused N KIND`
+abbrev pub store_refused_line : ℕ → StoreKind → List ℕ
+store_refused_line line kind = codes "store refused " ++ decimal line ++ codes " " ++ word_of kind ++ codes "\n"
+
+-- `not-well-formed FAULT`, `start condition false`, `fail CAUSE line M` or `end line M`
+abbrev pub line_of : List TypeEntry → List VarEntry → Answer → List ℕ
+line_of types vars (answer.StoreRefused line kind) = store_refused_line line kind
+line_of types vars (answer.NotWellFormed wrong) = codes "not-well-formed " ++ fault_text types vars wrong ++ codes "\n"
+line_of types vars answer.StartFalse = codes "start condition false\n"
+line_of types vars (answer.Fails why line) = codes "fail " ++ word_of_cause why ++ codes " line " ++ decimal line ++ codes "\n"
+line_of types vars (answer.Ends line) = codes "end line " ++ decimal line ++ codes "\n"

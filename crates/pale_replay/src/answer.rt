@@ -1,0 +1,28 @@
+//! What is said of a text that is replayed.
+
+use routing_expr::WfFault;
+use store_core::ByteList;
+use store_exec::Cause;
+use store_text::StoreKind;
+
+/// What comes of the store of a text whose program has no fault.
+#[derive(Clone, Copy, Debug, PartialEq, Eq)]
+pub enum Answer {
+    /// The part after the line `---` is refused at this line of it, counted from 1; the line is 0 where there is no line `---`.
+    StoreRefused(u64, StoreKind),
+    /// The store isn't well-formed.
+    NotWellFormed(WfFault),
+    /// The store doesn't meet the triple's start.
+    StartFalse,
+    /// Execution fails, or the cut that it reaches does, with this cause at this line.
+    Fails(Cause, u32),
+    /// Execution ends at the cut with this line, and nothing is wrong there.
+    Ends(u32),
+}
+
+/// An answer, and the line that is written of it.
+#[derive(Debug, Drop)]
+pub struct Replay {
+    pub answer: Answer,
+    pub line: ByteList,
+}
