@@ -1,6 +1,5 @@
 use Rattle.std.proofs.Common.{subst, sym}
 use Rattle.pale_text.specs.declared.refusal.Refusal.{Refusal}
-use Rattle.pale_text.specs.declared.refusal.TextStop.{TextStop}
 use Rattle.pale_program.specs.ProgramTexts.{IsStopOf}
 use Rattle.pale_top.specs.Refusing.{IsUnjudged, fault, not_yet}
 use Rattle.pale_top.proofs.refuse.refusal_of.Goals as goal

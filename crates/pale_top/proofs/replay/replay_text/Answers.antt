@@ -1,6 +1,5 @@
 use Rattle.std.proofs.Common.{List, ℕ, subst, sym, ◌∙◌}
 use Rattle.pale_replay.specs.Replaying.{IsReplayStop}
-use Rattle.pale_text.specs.declared.refusal.TextStop.{TextStop}
 use Rattle.pale_top.specs.declared.status.Status.{Status}
 use Rattle.pale_top.specs.declared.status.Status.TheVariants.{Text}
 use Rattle.pale_top.specs.Replaying.{Replays, replay, refused, status_of}
