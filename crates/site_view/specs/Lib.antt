@@ -1,0 +1,9 @@
+pub mod States
+pub mod Reading
+pub mod Conditions
+pub mod Claims
+pub mod Parts
+pub mod Acts
+pub mod Cuts
+pub mod Codes
+pub mod Triples
