@@ -117,19 +117,23 @@ leaks types sight values next =
 -- ---- `field`
 
 -- the pointer field of some cell names a cell that is no destination, or doesn't name one that is
+abbrev pub is_wrong : List TypeEntry → Sight → ℕ → FieldId → TypeId → Route → Formula
+is_wrong types sight next f target along =
+    ex1 next (And (has types sight (suc next) f next)
+    (ex1 (suc next) (Not (iff (names types sight (suc (suc next)) f next (suc next))
+    (destination types sight (suc (suc next)) f target along next (suc next))))))
+
 abbrev pub wrong_in : List TypeEntry → Sight → ℕ → FieldId → FieldKind → List Formula
 wrong_in types sight next f field.Bool = []
 wrong_in types sight next f (field.Data target) = []
-wrong_in types sight next f (field.Pointer target along) =
-    ex1 next (And (has types sight (suc next) f next)
-    (ex1 (suc next) (Not (iff (names types sight (suc (suc next)) f next (suc next))
-    (destination types sight (suc (suc next)) f target along next (suc next)))))) ∷ []
+wrong_in types sight next f (field.Pointer target along) = is_wrong types sight next f target along ∷ []
 
-abbrev pub is_wrong : List TypeEntry → Sight → ℕ → FieldId → List Formula
-is_wrong types sight next f = option_map_or (λ entry. wrong_in types sight next f entry.kind) (field_at types f) []
+abbrev pub wrong_parts : List TypeEntry → Sight → ℕ → FieldId → List Formula
+wrong_parts types sight next f = option_map_or (λ entry. wrong_in types sight next f entry.kind) (field_at types f) []
 
+-- some pointer field is wrong
 abbrev pub fields_are_wrong : List TypeEntry → Sight → ℕ → Formula
-fields_are_wrong types sight next = or_list next (flat_map (is_wrong types sight next) (fields_of_kind types is_reference))
+fields_are_wrong types sight next = or_list next (flat_map (wrong_parts types sight next) (fields_of_kind types is_reference))
 
 -- ---- all four
 
@@ -154,8 +158,10 @@ forks_in types sight next f field.Bool = false_at next
 forks_in types sight next f (field.Data target) = false_at next
 forks_in types sight next f (field.Pointer target along) = forks types sight next f target along
 
+abbrev pub field_forks : List TypeEntry → Sight → ℕ → FieldId → Formula
+field_forks types sight next f = option_map_or (λ entry. forks_in types sight next f entry.kind) (field_at types f) (false_at next)
+
 -- the tree is that of a backbone, and some cell of it has two destinations
 abbrev pub field_formula : List TypeEntry → List VarEntry → FieldId → Formula
 field_formula types vars f =
-    And (well_encoded (track_count types vars) types vars)
-    (option_map_or (λ entry. forks_in types (at_first (var_slots vars)) (track_count types vars) f entry.kind) (field_at types f) (false_at (track_count types vars)))
+    And (well_encoded (track_count types vars) types vars) (field_forks types (at_first (var_slots vars)) (track_count types vars) f)

@@ -16,7 +16,7 @@ use Rattle.tree_formula.specs.WellEncoded.{types_in, fields_in, track_or_first}
 use Rattle.graph_view.specs.declared.view.Sym.{Sym}
 use Rattle.graph_view.specs.declared.view.Event.{Event}
 use Rattle.graph_view.specs.declared.view.Event.TheVariants.{New, Write, Free}
-use Rattle.graph_view.specs.Syms.{is_in, truth, guard}
+use Rattle.graph_view.specs.Syms.{is_in, is_changed, truth, guard}
 use Rattle.graph_view.specs.Sights.{Sight, at_first}
 use Rattle.graph_view.specs.Live.{lives_in, has}
 
@@ -69,7 +69,7 @@ is_field f g = (f.ty.0 == g.ty.0) && (f.index == g.index)
 abbrev pub written : ℕ → FieldId → ℕ → (Sym → Formula) → Event → Formula → Formula
 written next f a new (New g k v) earlier = earlier
 written next f a new (Write g u h x) earlier =
-    if is_field f h then or (and_list next (guard next g ∷ is_in next a u ∷ new x ∷ [])) (And (Not (And (guard next g) (is_in next a u))) earlier)
+    if is_field f h then or (and_list next (guard next g ∷ is_in next a u ∷ new x ∷ [])) (And (Not (is_changed next a g u)) earlier)
     else earlier
 written next f a new (Free g u) earlier = earlier
 

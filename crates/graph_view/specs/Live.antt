@@ -14,18 +14,22 @@ use Rattle.tree_formula.specs.WellEncoded.{types_in, variants_of, owner, is_of}
 use Rattle.graph_view.specs.declared.view.Sym.{Sym}
 use Rattle.graph_view.specs.declared.view.Event.{Event}
 use Rattle.graph_view.specs.declared.view.Event.TheVariants.{New, Write, Free}
-use Rattle.graph_view.specs.Syms.{is_in, guard}
+use Rattle.graph_view.specs.Syms.{is_in, is_changed, guard}
 use Rattle.graph_view.specs.Sights.{Sight}
 
 -- the same variant
 abbrev pub is_variant : VariantId → VariantId → Bool
 is_variant v w = (v.ty.0 == w.ty.0) && (v.index == w.index)
 
+-- the event is taken, and track a is the slot of its new cell, behind those of data variables
+abbrev pub is_made : ℕ → ℕ → ℕ → Option Track → ℕ → Formula
+is_made next slots a g k = And (guard next g) (slot next (slots + k) a)
+
 -- one event: a new cell of the variant is live in its slot, a freed cell isn't
 abbrev pub live_after : ℕ → ℕ → VariantId → ℕ → Event → Formula → Formula
-live_after next slots v a (New g k w) earlier = if is_variant v w then or earlier (And (guard next g) (slot next (slots + k) a)) else earlier
+live_after next slots v a (New g k w) earlier = if is_variant v w then or earlier (is_made next slots a g k) else earlier
 live_after next slots v a (Write g u f x) earlier = earlier
-live_after next slots v a (Free g u) earlier = And earlier (Not (And (guard next g) (is_in next a u)))
+live_after next slots v a (Free g u) earlier = And earlier (Not (is_changed next a g u))
 
 -- the position has a live cell of the variant
 abbrev pub live_of : List TypeEntry → ℕ → ℕ → VariantId → ℕ → List Event → Formula

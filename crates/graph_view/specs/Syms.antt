@@ -3,7 +3,7 @@
 use Rattle.std.specs.Prelude.{ℕ, Option, Some, None}
 use Rattle.ws2s_core.specs.declared.track.Track.{Track}
 use Rattle.ws2s_core.specs.declared.formula.Formula.{Formula}
-use Rattle.ws2s_core.specs.declared.formula.Formula.TheVariants.{Sub}
+use Rattle.ws2s_core.specs.declared.formula.Formula.TheVariants.{Sub, And}
 use Rattle.ws2s_forms.specs.Forms.{track, false_at, true_at, flag, empty_at, equal}
 use Rattle.graph_view.specs.declared.view.Sym.{Sym}
 use Rattle.graph_view.specs.declared.view.Sym.TheVariants.{Null, At}
@@ -34,3 +34,7 @@ truth next (At h) = flag next h.0
 abbrev pub guard : ℕ → Option Track → Formula
 guard next None = true_at next
 guard next (Some h) = flag next h.0
+
+-- the guard's event is taken, and its cell is on track a
+abbrev pub is_changed : ℕ → ℕ → Option Track → Sym → Formula
+is_changed next a g u = And (guard next g) (is_in next a u)

@@ -1,0 +1,4 @@
+pub mod Saying
+pub mod Selecting
+pub mod Legs
+pub mod Valued

@@ -1,0 +1,151 @@
+//! Cells that no data variable reaches, and pointer fields that are wrong, as formulas.
+
+ghost use Rattle.std.specs.Prelude.{◌≡◌, ◌++◌, [], ◌∷◌, flat_map, IfOk, OnOk};
+ghost use Rattle.ws2s_core.specs.declared.formula.Formula.TheVariants.{Not};
+ghost use Rattle.graph_view.specs.Cuts as formulas;
+ghost use Rattle.graph_view.specs.Cuts.{has_value, wrong_parts};
+ghost use Rattle.graph_view.specs.Sights.{sight_of};
+
+use crate::live::{has, is_live};
+use crate::naming::{destination, edge, names};
+use crate::selecting::{Kinds, fields_of_kind};
+use crate::steps::is_left;
+use graph_view::{Sym, View};
+use std::alloc::{AllocError, Global};
+use store_core::{FieldId, FieldKind, Route, TypeId};
+use tree_encode::Layout;
+use ws2s_core::{Formula, Track};
+use ws2s_forms::{and_list, bound, ex1, iff, later, or_list};
+
+/// The set on track `x` has each value that isn't null.
+fn push_values(
+    alloc: Global,
+    parts: &mut Vec<Formula>,
+    x: u32,
+    values: &[Sym],
+) -> Result<(), AllocError>
+    ensures { OnOk result (parts.new.items ≡ parts.old.items ++ flat_map (has_value x) values.now) }
+{
+    for value in values {
+        if let Sym::At(v) = value {
+            parts.push(Formula::Sub(*v, Track(x)))?;
+        }
+    }
+    Ok(())
+}
+
+/// The set on track `x` has these values and all that data fields reach from it.
+///
+/// # Errors
+///
+/// Want of memory, also where there are not as many tracks.
+pub fn closes(
+    alloc: Global,
+    l: &Layout<'_>,
+    view: &View,
+    next: u32,
+    values: &[Sym],
+    x: u32,
+) -> Result<Formula, AllocError>
+    ensures { IfOk result (λ formula. formula ≡ formulas.closes l.now.types (sight_of l.now.vars view.now) values.now next x) }
+{
+    let mut parts = Vec::new(alloc);
+    push_values(alloc, &mut parts, x, values)?;
+    let other = later(next, 1)?;
+    let led = edge(alloc, l, view, later(next, 2)?, next, other)?;
+    let left = is_left(alloc, next, x, led)?;
+    parts.push(Formula::not(alloc, left)?)?;
+    and_list(alloc, next, parts)
+}
+
+/// Some live cell is outside a set that has these values and all that data fields reach from it.
+pub(crate) fn leaks(
+    alloc: Global,
+    l: &Layout<'_>,
+    view: &View,
+    next: u32,
+    values: &[Sym],
+) -> Result<Formula, AllocError>
+    ensures { IfOk result (λ formula. formula ≡ formulas.leaks l.now.types (sight_of l.now.vars view.now) values.now next) }
+{
+    let cell = later(next, 1)?;
+    let closed = closes(alloc, l, view, cell, values, next)?;
+    let live = is_live(alloc, l, view, later(next, 2)?, cell)?;
+    let outside = Formula::not(alloc, Formula::Sub(Track(cell), Track(next)))?;
+    let lost = ex1(alloc, cell, Formula::and(alloc, live, outside)?)?;
+    bound(alloc, next, closed, lost)
+}
+
+/// The pointer field of some cell names another cell than its destinations.
+fn is_wrong(
+    alloc: Global,
+    l: &Layout<'_>,
+    view: &View,
+    next: u32,
+    f: FieldId,
+    target: TypeId,
+    along: &Route,
+) -> Result<Formula, AllocError>
+    ensures { IfOk result (λ formula. formula
+        ≡ formulas.is_wrong l.now.types (sight_of l.now.vars view.now) next f target along.now) }
+{
+    let other = later(next, 1)?;
+    let inner = later(next, 2)?;
+    let owned = has(alloc, l, view, other, f, next)?;
+    let named = names(alloc, l, view, inner, f, next, other)?;
+    let led = destination(alloc, l, view, inner, f, target, along, next, other)?;
+    let same = iff(alloc, named, led)?;
+    let apart = ex1(alloc, other, Formula::not(alloc, same)?)?;
+    ex1(alloc, next, Formula::and(alloc, owned, apart)?)
+}
+
+/// The same, if the field is a pointer field.
+fn push_wrong(
+    alloc: Global,
+    parts: &mut Vec<Formula>,
+    l: &Layout<'_>,
+    view: &View,
+    next: u32,
+    f: FieldId,
+) -> Result<(), AllocError>
+    ensures { OnOk result (parts.new.items ≡ parts.old.items ++ wrong_parts l.now.types (sight_of l.now.vars view.now) next f) }
+{
+    if let Some(FieldKind::Pointer(target, along)) = l.types().kind(f) {
+        parts.push(is_wrong(alloc, l, view, next, f, *target, along)?)?;
+    }
+    Ok(())
+}
+
+/// The same of each of the fields.
+fn each_wrong(
+    alloc: Global,
+    l: &Layout<'_>,
+    view: &View,
+    next: u32,
+    fields: &[FieldId],
+) -> Result<Vec<Formula>, AllocError>
+    ensures { IfOk result (λ parts. parts.items ≡ flat_map (wrong_parts l.now.types (sight_of l.now.vars view.now) next) fields.now) }
+{
+    let mut parts = Vec::new(alloc);
+    for f in fields {
+        push_wrong(alloc, &mut parts, l, view, next, *f)?;
+    }
+    Ok(parts)
+}
+
+/// Some pointer field is wrong.
+pub(crate) fn fields_are_wrong(
+    alloc: Global,
+    l: &Layout<'_>,
+    view: &View,
+    next: u32,
+) -> Result<Formula, AllocError>
+    ensures { IfOk result (λ formula. formula ≡ formulas.fields_are_wrong l.now.types (sight_of l.now.vars view.now) next) }
+{
+    let fields = fields_of_kind(alloc, l.types(), Kinds::References)?;
+    or_list(
+        alloc,
+        next,
+        each_wrong(alloc, l, view, next, fields.as_slice())?,
+    )
+}

@@ -1,0 +1,89 @@
+//! Values and fields that name dead cells, as formulas.
+
+ghost use Rattle.std.specs.Prelude.{◌≡◌, ◌++◌, map, IfOk, OnOk};
+ghost use Rattle.graph_view.specs.Cuts as formulas;
+ghost use Rattle.graph_view.specs.Live as live;
+ghost use Rattle.graph_view.specs.Sights.{sight_of};
+
+use crate::live::{is_dead, is_live, lives_in};
+use crate::naming::names;
+use crate::selecting::{Kinds, fields_of_kind};
+use crate::syms::all_three;
+use graph_view::{Sym, View};
+use std::alloc::{AllocError, Global};
+use store_core::FieldId;
+use tree_encode::Layout;
+use ws2s_core::Formula;
+use ws2s_forms::{ex1, later, or_list};
+
+/// The field of some live cell names a dead cell.
+fn field_dangles(
+    alloc: Global,
+    l: &Layout<'_>,
+    view: &View,
+    next: u32,
+    f: FieldId,
+) -> Result<Formula, AllocError>
+    ensures { IfOk result (λ formula. formula ≡ formulas.field_dangles l.now.types (sight_of l.now.vars view.now) next f) }
+{
+    let other = later(next, 1)?;
+    let inner = later(next, 2)?;
+    let owned = lives_in(alloc, l, view, inner, f.ty, next)?;
+    let named = names(alloc, l, view, inner, f, next, other)?;
+    let live = is_live(alloc, l, view, inner, other)?;
+    let all = all_three(alloc, inner, owned, named, Formula::not(alloc, live)?)?;
+    ex1(alloc, next, ex1(alloc, other, all)?)
+}
+
+/// One of the values is a dead cell.
+fn push_dead(
+    alloc: Global,
+    parts: &mut Vec<Formula>,
+    l: &Layout<'_>,
+    view: &View,
+    next: u32,
+    cells: &[Sym],
+) -> Result<(), AllocError>
+    ensures { OnOk result (parts.new.items
+        ≡ parts.old.items ++ map (live.is_dead l.now.types (sight_of l.now.vars view.now) next) cells.now) }
+{
+    for value in cells {
+        parts.push(is_dead(alloc, l, view, next, *value)?)?;
+    }
+    Ok(())
+}
+
+/// One of the fields names a dead cell.
+fn push_dangling(
+    alloc: Global,
+    parts: &mut Vec<Formula>,
+    l: &Layout<'_>,
+    view: &View,
+    next: u32,
+    fields: &[FieldId],
+) -> Result<(), AllocError>
+    ensures { OnOk result (parts.new.items
+        ≡ parts.old.items ++ map (formulas.field_dangles l.now.types (sight_of l.now.vars view.now) next) fields.now) }
+{
+    for f in fields {
+        parts.push(field_dangles(alloc, l, view, next, *f)?)?;
+    }
+    Ok(())
+}
+
+/// One of these values is a dead cell, or a field names one.
+pub(crate) fn dangles(
+    alloc: Global,
+    l: &Layout<'_>,
+    view: &View,
+    next: u32,
+    cells: &[Sym],
+) -> Result<Formula, AllocError>
+    ensures { IfOk result (λ formula. formula ≡ formulas.dangles l.now.types (sight_of l.now.vars view.now) cells.now next) }
+{
+    let fields = fields_of_kind(alloc, l.types(), Kinds::References)?;
+    let mut parts = Vec::new(alloc);
+    push_dead(alloc, &mut parts, l, view, next, cells)?;
+    push_dangling(alloc, &mut parts, l, view, next, fields.as_slice())?;
+    or_list(alloc, next, parts)
+}
