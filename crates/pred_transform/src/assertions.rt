@@ -1,9 +1,7 @@
 //! Assertions as formulas.
 
-use crate::seeing::is_live;
-use crate::symbols::is_in;
 use crate::terms::{base_value, term_is, term_is_true};
-use graph_type::{live_formula, variant_formula, walk_formula};
+use graph_type::{is_in, is_live, lives, lives_in};
 use graph_view::View;
 use plain_data::Stack;
 use std::alloc::{AllocError, Global};
@@ -116,8 +114,8 @@ fn is_of(
     variant: VariantId,
 ) -> Result<Formula, AllocError> {
     let inner = later(next, 1)?;
-    let value = term_is(alloc, l, view, next, inner, term, Track(next))?;
-    let live = variant_formula(alloc, l, view, variant, Track(next), inner)?;
+    let value = term_is(alloc, l, view, next, inner, term, next)?;
+    let live = lives(alloc, l, view, inner, variant, next)?;
     ex1(alloc, next, Formula::and(alloc, value, live)?)
 }
 
@@ -131,8 +129,8 @@ fn same(
     other: &Term,
 ) -> Result<Formula, AllocError> {
     let inner = later(next, 1)?;
-    let left = term_is(alloc, l, view, next, inner, one, Track(next))?;
-    let right = term_is(alloc, l, view, next, inner, other, Track(next))?;
+    let left = term_is(alloc, l, view, next, inner, one, next)?;
+    let right = term_is(alloc, l, view, next, inner, other, next)?;
     all1(alloc, next, iff(alloc, left, right)?)
 }
 
@@ -146,8 +144,8 @@ fn member(
     set: Base,
 ) -> Result<Formula, AllocError> {
     let inner = later(next, 1)?;
-    let value = term_is(alloc, l, view, next, inner, term, Track(next))?;
-    let within = is_in(alloc, inner, Track(next), base_value(view, next, set))?;
+    let value = term_is(alloc, l, view, next, inner, term, next)?;
+    let within = is_in(alloc, inner, next, base_value(view, next, set))?;
     ex1(alloc, next, Formula::and(alloc, value, within)?)
 }
 
@@ -161,10 +159,10 @@ fn subset(
     other: Base,
 ) -> Result<Formula, AllocError> {
     let inner = later(next, 1)?;
-    let live = is_live(alloc, l, view, inner, Track(next))?;
-    let within = is_in(alloc, inner, Track(next), base_value(view, next, one))?;
+    let live = is_live(alloc, l, view, inner, next)?;
+    let within = is_in(alloc, inner, next, base_value(view, next, one))?;
     let both = Formula::and(alloc, live, within)?;
-    let there = is_in(alloc, inner, Track(next), base_value(view, next, other))?;
+    let there = is_in(alloc, inner, next, base_value(view, next, other))?;
     all1(alloc, next, imp(alloc, both, there)?)
 }
 
@@ -181,18 +179,9 @@ fn walk(
     let second = later(next, 1)?;
     let inner = later(next, 2)?;
     let mut parts = Vec::new(alloc);
-    parts.push(term_is(alloc, l, view, next, inner, from, Track(next))?)?;
-    parts.push(term_is(alloc, l, view, next, inner, to, Track(second))?)?;
-    parts.push(walk_formula(
-        alloc,
-        l,
-        view,
-        route,
-        true,
-        Track(next),
-        Track(second),
-        inner,
-    )?)?;
+    parts.push(term_is(alloc, l, view, next, inner, from, next)?)?;
+    parts.push(term_is(alloc, l, view, next, inner, to, second)?)?;
+    parts.push(graph_type::walk(alloc, l, view, route, inner, next, second)?)?;
     let ends = ex1(alloc, second, and_list(alloc, inner, parts)?)?;
     ex1(alloc, next, ends)
 }
@@ -210,11 +199,11 @@ fn joined(
     match part {
         Assertion::Not(_) => Formula::not(alloc, last),
         Assertion::Ex(ty, _) => {
-            let live = live_formula(alloc, l, view, *ty, Track(next), later(next, 1)?)?;
+            let live = lives_in(alloc, l, view, later(next, 1)?, *ty, next)?;
             ex1(alloc, next, Formula::and(alloc, live, last)?)
         }
         Assertion::All(ty, _) => {
-            let live = live_formula(alloc, l, view, *ty, Track(next), later(next, 1)?)?;
+            let live = lives_in(alloc, l, view, later(next, 1)?, *ty, next)?;
             all1(alloc, next, imp(alloc, live, last)?)
         }
         Assertion::ExSet(ty, _) => some_set(alloc, l, view, next, *ty, last),
@@ -252,7 +241,7 @@ fn some_set(
     inner: Formula,
 ) -> Result<Formula, AllocError> {
     let own = later(next, 1)?;
-    let live = live_formula(alloc, l, view, ty, Track(own), later(next, 2)?)?;
+    let live = lives_in(alloc, l, view, later(next, 2)?, ty, own)?;
     let each = all1(
         alloc,
         own,

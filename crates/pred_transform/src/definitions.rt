@@ -1,12 +1,10 @@
 //! What defines the tracks that a walk made, as formulas.
 
 use crate::heap::Moment;
-use crate::seeing::closes;
-use crate::symbols::{is_in, is_same};
 use crate::trace::Definition;
 use crate::truths::TruthId;
 use crate::writer::Writer;
-use graph_type::step_formula;
+use graph_type::{closes, is_in, is_same, names};
 use graph_view::Sym;
 use std::alloc::{AllocError, Global};
 use store_core::FieldId;
@@ -45,11 +43,10 @@ impl<'a> Writer<'a> {
         let view = self.heap(alloc, moment)?;
         let from = later(self.next, 1)?;
         let inner = later(self.next, 2)?;
-        let to = Track(self.next);
-        let there = is_in(alloc, inner, Track(from), cell)?;
-        let names = step_formula(alloc, self.layout, &view, field, Track(from), to, inner)?;
-        let named = ex1(alloc, from, Formula::and(alloc, there, names)?)?;
-        let both = iff(alloc, Formula::Sub(to, track), named)?;
+        let there = is_in(alloc, inner, from, cell)?;
+        let step = names(alloc, self.layout, &view, inner, field, from, self.next)?;
+        let named = ex1(alloc, from, Formula::and(alloc, there, step)?)?;
+        let both = iff(alloc, Formula::Sub(Track(self.next), track), named)?;
         all1(alloc, self.next, both)
     }
 
@@ -93,11 +90,10 @@ impl<'a> Writer<'a> {
         moment: Moment,
     ) -> Result<Formula, AllocError> {
         let view = self.heap(alloc, moment)?;
-        let own = Track(self.next);
         let inner = later(self.next, 1)?;
-        let holds = closes(alloc, self.layout, &view, self.next, roots, track)?;
-        let other = closes(alloc, self.layout, &view, inner, roots, own)?;
-        let within = imp(alloc, other, Formula::Sub(track, own))?;
+        let holds = closes(alloc, self.layout, &view, self.next, roots, track.0)?;
+        let other = closes(alloc, self.layout, &view, inner, roots, self.next)?;
+        let within = imp(alloc, other, Formula::Sub(track, Track(self.next)))?;
         let least = all2(alloc, self.next, within)?;
         Formula::and(alloc, holds, least)
     }

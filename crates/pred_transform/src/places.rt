@@ -1,12 +1,11 @@
 //! The conditions of places as formulas.
 
 use crate::assertions::assertion;
-use crate::seeing::{is_dead, lacks};
-use crate::symbols::{is_in, is_null};
+use crate::seeing::lacks;
 use crate::trace::{Condition, Scene};
 use crate::walker::value_of;
 use crate::writer::Writer;
-use graph_type::cut_formula;
+use graph_type::{cut_formula, is_dead, is_in, is_null};
 use graph_view::Sym;
 use std::alloc::{AllocError, Global};
 use store_core::{VarId, VarKind};
@@ -39,7 +38,7 @@ impl<'a> Writer<'a> {
             }
             Condition::Lacks(cell, field, moment) => {
                 let view = self.heap(alloc, *moment)?;
-                lacks(alloc, self.layout, &view, self.next, *cell, *field)
+                lacks(alloc, self.layout, &view, self.next, *field, *cell)
             }
             Condition::Broken(whole, scene) => {
                 let view = self.seen(alloc, scene.values.as_slice(), scene.moment, None)?;
@@ -92,7 +91,7 @@ impl<'a> Writer<'a> {
         part: Track,
     ) -> Result<Formula, AllocError> {
         let own = Track(self.next);
-        let there = is_in(alloc, later(self.next, 1)?, own, value)?;
+        let there = is_in(alloc, later(self.next, 1)?, self.next, value)?;
         let within = Formula::Sub(own, part);
         let wrong = if inside {
             Formula::not(alloc, within)?

@@ -1,9 +1,7 @@
 //! Terms of assertions as formulas.
 
-use crate::seeing::is_live;
-use crate::symbols::{is_in, is_true};
 use crate::walker::value_of;
-use graph_type::{bool_formula, step_formula};
+use graph_type::{is_in, is_live, is_true, names, truth};
 use graph_view::{Sym, View};
 use std::alloc::{AllocError, Global};
 use store_core::FieldId;
@@ -28,7 +26,7 @@ fn is_value(
     view: &View,
     next: u32,
     value: Sym,
-    cell: Track,
+    cell: u32,
 ) -> Result<Formula, AllocError> {
     let there = is_in(alloc, next, cell, value)?;
     let live = is_live(alloc, l, view, next, cell)?;
@@ -43,21 +41,21 @@ fn one_more(
     next: u32,
     before: Formula,
     field: FieldId,
-    cell: Track,
+    cell: u32,
 ) -> Result<Formula, AllocError> {
     let inner = later(next, 1)?;
-    let step = step_formula(alloc, l, view, field, Track(next), cell, inner)?;
+    let step = names(alloc, l, view, inner, field, next, cell)?;
     let leads = ex1(alloc, next, Formula::and(alloc, before, step)?)?;
     let live = is_live(alloc, l, view, next, cell)?;
     Formula::and(alloc, leads, live)
 }
 
 /// The track of the cell that so many of the fields lead to, where so many are left.
-fn cell_before(next: u32, left: u32, cell: Track) -> Result<Track, AllocError> {
+fn cell_before(next: u32, left: u32, cell: u32) -> Result<u32, AllocError> {
     if left == 0 {
         Ok(cell)
     } else {
-        Ok(Track(later(next, left - 1)?))
+        later(next, left - 1)
     }
 }
 
@@ -69,7 +67,7 @@ fn leads_to(
     next: u32,
     value: Sym,
     fields: &[FieldId],
-    cell: Track,
+    cell: u32,
 ) -> Result<Formula, AllocError> {
     let Ok(mut left) = u32::try_from(fields.len()) else {
         return Err(AllocError);
@@ -93,7 +91,7 @@ pub(crate) fn term_is(
     own: u32,
     next: u32,
     term: &Term,
-    cell: Track,
+    cell: u32,
 ) -> Result<Formula, AllocError> {
     match term {
         Term::Null => false_at(alloc, next),
@@ -117,10 +115,10 @@ pub(crate) fn term_is_true(
     };
     let value = base_value(view, next, *base);
     let Some((last, before)) = fields.as_slice().split_last() else {
-        return is_true(alloc, next, value);
+        return truth(alloc, next, value);
     };
     let inner = later(next, 1)?;
-    let leads = leads_to(alloc, l, view, inner, value, before, Track(next))?;
-    let truth = bool_formula(alloc, l, view, *last, Track(next), inner)?;
-    ex1(alloc, next, Formula::and(alloc, leads, truth)?)
+    let leads = leads_to(alloc, l, view, inner, value, before, next)?;
+    let holds = is_true(alloc, l, view, inner, *last, next)?;
+    ex1(alloc, next, Formula::and(alloc, leads, holds)?)
 }

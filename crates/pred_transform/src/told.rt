@@ -1,9 +1,9 @@
 //! Truth values as formulas.
 
-use crate::seeing::{is_of, is_true_at};
-use crate::symbols::{is_same, is_true};
+use crate::seeing::{is_of_variant, is_true_of};
 use crate::truths::{Truth, TruthId};
 use crate::writer::Writer;
+use graph_type::{is_same, truth};
 use plain_data::Stack;
 use std::alloc::{AllocError, Global};
 use ws2s_core::Formula;
@@ -67,11 +67,11 @@ impl<'a> Writer<'a> {
     fn write(
         &self,
         alloc: Global,
-        truth: Truth,
+        form: Truth,
         tasks: &mut Stack<Task>,
         made: &mut Stack<Formula>,
     ) -> Result<(), AllocError> {
-        match truth {
+        match form {
             Truth::Not(part) => {
                 tasks.push(Task::Not)?;
                 tasks.push(Task::Write(part))
@@ -80,15 +80,15 @@ impl<'a> Writer<'a> {
             Truth::Or(left, right) => push_two(tasks, Task::Or, left, right),
             Truth::True => made.push(true_at(alloc, self.next)?),
             Truth::False => made.push(false_at(alloc, self.next)?),
-            Truth::Value(value) => made.push(is_true(alloc, self.next, value)?),
+            Truth::Value(value) => made.push(truth(alloc, self.next, value)?),
             Truth::Same(one, other) => made.push(is_same(alloc, self.next, one, other)?),
             Truth::Field(cell, field, moment) => {
                 let view = self.heap(alloc, moment)?;
-                made.push(is_true_at(alloc, self.layout, &view, self.next, cell, field)?)
+                made.push(is_true_of(alloc, self.layout, &view, self.next, field, cell)?)
             }
             Truth::Is(cell, variant, moment) => {
                 let view = self.heap(alloc, moment)?;
-                made.push(is_of(alloc, self.layout, &view, self.next, cell, variant)?)
+                made.push(is_of_variant(alloc, self.layout, &view, self.next, variant, cell)?)
             }
         }
     }

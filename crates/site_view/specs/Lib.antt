@@ -1,3 +1,4 @@
+pub mod Sites
 pub mod States
 pub mod Reading
 pub mod Conditions

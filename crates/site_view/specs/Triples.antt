@@ -41,9 +41,9 @@ walked types vars t = code types vars t.cuts t.code (started types vars t.start)
 abbrev pub site_of : Check → Site
 site_of c = record { cause = c.cause; line = c.line }
 
--- every place where a cause can come, in order
-abbrev pub sites_of : List TypeEntry → List VarEntry → Triple → List Site
-sites_of types vars t = map site_of (walked types vars t).checks
+-- the places that the walk passed, which are the sites of the triple
+abbrev pub passed : List TypeEntry → List VarEntry → Triple → List Site
+passed types vars t = map site_of (walked types vars t).checks
 
 -- ---- tracks that are made are bound where they are free, the last one innermost
 

@@ -6,6 +6,7 @@
 //! places of a triple and the formula of each.
 #![tactic(auto)]
 
+pub mod laws;
 mod site;
 
 pub use site::{Site, SiteList};

@@ -1,11 +1,10 @@
-//! The places where a triple can fail, and their formulas.
+//! The formulas of the places where a triple can fail.
 
 use crate::heap::Moment;
 use crate::trace::{Check, Scene};
 use crate::walker::{Walker, own_track, own_values};
 use crate::writer::Writer;
 use graph_view::SymList;
-use site_view::{Site, SiteList};
 use std::alloc::{AllocError, Global};
 use store_exec::{Start, Triple};
 use tree_encode::Layout;
@@ -21,23 +20,6 @@ fn walk<'a>(alloc: Global, l: &'a Layout<'a>, t: &'a Triple) -> Result<Walker<'a
     }
     walker.code(alloc, &t.code)?;
     Ok(walker)
-}
-
-/// Every place where a cause can come, in order.
-///
-/// # Errors
-///
-/// Want of memory, also where the tracks or the changes of the heap are more than a `u32` counts.
-pub fn sites<'a>(alloc: Global, l: &'a Layout<'a>, t: &'a Triple) -> Result<SiteList, AllocError> {
-    let walker = walk(alloc, l, t)?;
-    let mut sites = SiteList::new(alloc);
-    for check in walker.trace.checks.as_slice() {
-        sites.push(Site {
-            cause: check.cause,
-            line: check.line,
-        })?;
-    }
-    Ok(sites)
 }
 
 /// The claims of a start, and after a call that no pointer is on the wrong side of the returned part.

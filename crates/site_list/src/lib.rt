@@ -1,0 +1,11 @@
+//! The places where a triple can fail, in order. `site_view` says which they are.
+#![tactic(auto)]
+
+mod acts;
+mod codes;
+mod conditions;
+mod cuts;
+mod reading;
+mod sites;
+
+pub use sites::sites;
