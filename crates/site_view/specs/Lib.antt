@@ -8,3 +8,4 @@ pub mod Acts
 pub mod Cuts
 pub mod Codes
 pub mod Triples
+pub mod Reached

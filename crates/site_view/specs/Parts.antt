@@ -1,6 +1,7 @@
 -- What is handed over and returned at calls: whole trees. (Møller and Schwartzbach, PLDI 2001, "procedure calls".)
-use Rattle.std.specs.Prelude.{ℕ, suc, Bool, true, false, List, [], ◌∷◌, map, flat_map, contains, ◌==◌, if◌then◌else◌}
+use Rattle.std.specs.Prelude.{ℕ, suc, Bool, true, false, List, [], ◌∷◌, map, flat_map, ◌==◌, if◌then◌else◌}
 use Rattle.std.specs.Option.{option_map_or}
+use Rattle.std.specs.List.{list_any}
 use Rattle.store_core.specs.declared.ids.VarId.{VarId}
 use Rattle.store_core.specs.declared.kind.VarKind.{VarKind}
 use Rattle.store_core.specs.declared.kind.VarKind.TheVariants as var
@@ -33,7 +34,7 @@ is_var v w = v.0 == w.0
 abbrev pub is_astray : List VarId → List Sym → ℕ → ℕ → VarId → Formula
 is_astray inside values p next v =
     ex1 next (And (is_in (suc next) next (value_of values v))
-    (if contains is_var inside v then Not (Sub (track next) (track p)) else Sub (track next) (track p)))
+    (if list_any (is_var v) inside then Not (Sub (track next) (track p)) else Sub (track next) (track p)))
 
 -- the same of each pointer variable
 abbrev pub astray_of : List VarEntry → List VarId → List Sym → ℕ → ℕ → VarId → List Formula
