@@ -1,25 +1,15 @@
--- The causes of conditions, places and code, form by form.
-use Rattle.std.proofs.Common.{◌≡◌, ℕ, ◌+◌, List, [], ◌∷◌, ◌++◌, map, flat_map, sum_by, refl, sym, ap, ap₂, ◌∙◌, append_assoc, append-nil, slice_get}
+-- The sites of places and of code, part by part.
+use Rattle.std.proofs.Common.{◌≡◌, ℕ, List, [], ◌∷◌, ◌++◌, map, refl, sym, ap, ap₂, ◌∙◌, append_assoc, slice_get}
 use Rattle.std.specs.Option.{option_map_or}
 use Rattle.std.proofs.lemmas.List.Folds.{flat_map-map}
-use Rattle.std.proofs.lemmas.List.Concat.{flat_map-append}
 use Rattle.std.proofs.lemmas.List.{map-append}
-use Rattle.store_core.specs.declared.ids.VariantId.{VariantId}
 use Rattle.store_core.specs.declared.ids.FieldId.{FieldId}
 use Rattle.store_core.specs.Tables.{TypeEntry}
-use Rattle.store_logic.specs.declared.path.Path.{Path}
-use Rattle.store_logic.specs.declared.path.Operand.{Operand}
 use Rattle.store_logic.specs.declared.cond.Cond.{Cond}
-use Rattle.store_logic.specs.declared.cond.Cond.TheVariants as cond
-use Rattle.store_logic.specs.declared.cond.Cond.TheVariants.{rolls-True, rolls-False, rolls-Bool, rolls-Is, rolls-Same, rolls-Not, rolls-And, rolls-Or}
-use Rattle.store_logic.specs.declared.cond.Cond.TheOpen.{Cond-F}
-use Rattle.store_logic.specs.declared.cond.Cond.TheFolds.{fold-roll-Cond}
-use Rattle.store_logic.specs.PostfixConds.{form_count, form_count_of_node}
-use Rattle.store_logic.specs.declared.act.Act.{Act}
 use Rattle.store_exec.specs.declared.cause.Cause.{Cause}
 use Rattle.store_exec.specs.declared.code.Item.{Item}
 use Rattle.store_exec.specs.declared.code.Item.TheVariants as item
-use Rattle.store_exec.specs.declared.code.Item.TheVariants.{rolls-Do, rolls-If}
+use Rattle.store_exec.specs.declared.code.Item.TheVariants.{rolls-If}
 use Rattle.store_exec.specs.declared.code.Item.TheOpen.{Item-F}
 use Rattle.store_exec.specs.declared.code.Item.TheFolds.{fold-roll-Item}
 use Rattle.store_exec.specs.declared.code.Code.{Code, roll-out-Code, out-Code}
@@ -30,43 +20,8 @@ use Rattle.store_exec.specs.declared.code.Tail.TheOpen.{Tail-F}
 use Rattle.store_exec.specs.declared.code.Tail.TheFolds.{fold-Tail, fold-roll-Tail, fold-roll-Code}
 use Rattle.store_exec.specs.declared.triple.Cut.{Cut}
 use Rattle.site_view.specs.declared.site.Site.{Site}
-use Rattle.site_view.specs.Sites.{site_at, cell_causes, field_causes, path_causes, operand_causes, cond_causes, cond_causes_rule, place_causes, assign_causes}
-use Rattle.site_view.specs.Sites.{act_causes, cut_sites, item_sites, item_sites_rule, items_sites, code_sites, code_sites_rule, tail_sites_rule}
-
--- ---- conditions
-
-pub causes-True : (types : List TypeEntry) → cond_causes types cond.True ≡ []
-causes-True types = ap (cond_causes types) (sym rolls-True) ∙ fold-roll-Cond (List Cause) (cond_causes_rule types) Cond-F.True
-
-pub causes-False : (types : List TypeEntry) → cond_causes types cond.False ≡ []
-causes-False types = ap (cond_causes types) (sym rolls-False) ∙ fold-roll-Cond (List Cause) (cond_causes_rule types) Cond-F.False
-
-pub causes-Bool : (types : List TypeEntry) (p : Path) → cond_causes types (cond.Bool p) ≡ path_causes types p.fields
-causes-Bool types p = ap (cond_causes types) (sym (rolls-Bool p)) ∙ fold-roll-Cond (List Cause) (cond_causes_rule types) (Cond-F.Bool p)
-
-pub causes-Is : (types : List TypeEntry) (p : Path) (v : VariantId) → cond_causes types (cond.Is p v) ≡ path_causes types p.fields ++ cell_causes
-causes-Is types p v = ap (cond_causes types) (sym (rolls-Is p v)) ∙ fold-roll-Cond (List Cause) (cond_causes_rule types) (Cond-F.Is p v)
-
-pub causes-Same : (types : List TypeEntry) (p q : Operand) → cond_causes types (cond.Same p q) ≡ operand_causes types p ++ operand_causes types q
-causes-Same types p q = ap (cond_causes types) (sym (rolls-Same p q)) ∙ fold-roll-Cond (List Cause) (cond_causes_rule types) (Cond-F.Same p q)
-
-pub causes-Not : (types : List TypeEntry) (c : Cond) → cond_causes types (cond.Not c) ≡ cond_causes types c
-causes-Not types c = ap (cond_causes types) (sym (rolls-Not c)) ∙ fold-roll-Cond (List Cause) (cond_causes_rule types) (Cond-F.Not c)
-
-pub causes-And : (types : List TypeEntry) (c d : Cond) → cond_causes types (cond.And c d) ≡ cond_causes types c ++ cond_causes types d
-causes-And types c d = ap (cond_causes types) (sym (rolls-And c d)) ∙ fold-roll-Cond (List Cause) (cond_causes_rule types) (Cond-F.And c d)
-
-pub causes-Or : (types : List TypeEntry) (c d : Cond) → cond_causes types (cond.Or c d) ≡ cond_causes types c ++ cond_causes types d
-causes-Or types c d = ap (cond_causes types) (sym (rolls-Or c d)) ∙ fold-roll-Cond (List Cause) (cond_causes_rule types) (Cond-F.Or c d)
-
-pub forms-Not : (c : Cond) → form_count (cond.Not c) ≡ form_count c + 1
-forms-Not c = ap form_count (sym (rolls-Not c)) ∙ fold-roll-Cond ℕ form_count_of_node (Cond-F.Not c)
-
-pub forms-And : (c d : Cond) → form_count (cond.And c d) ≡ form_count c + form_count d + 1
-forms-And c d = ap form_count (sym (rolls-And c d)) ∙ fold-roll-Cond ℕ form_count_of_node (Cond-F.And c d)
-
-pub forms-Or : (c d : Cond) → form_count (cond.Or c d) ≡ form_count c + form_count d + 1
-forms-Or c d = ap form_count (sym (rolls-Or c d)) ∙ fold-roll-Cond ℕ form_count_of_node (Cond-F.Or c d)
+use Rattle.site_view.specs.Sites.{site_at, field_causes, path_causes, cond_causes, place_causes, assign_causes}
+use Rattle.site_view.specs.Sites.{cut_sites, item_sites, item_sites_rule, items_sites, code_sites, code_sites_rule, tail_sites_rule}
 
 -- ---- places
 
@@ -86,9 +41,6 @@ assign-last types (g ∷ before) f evaluated =
     ∙ sym (append_assoc (field_causes types g) (path_causes types before) (evaluated ++ field_causes types f))
 
 -- ---- code
-
-pub sites-Do : (types : List TypeEntry) (line : ℕ) (a : Act) → item_sites types (item.Do line a) ≡ map (site_at line) (act_causes types a)
-sites-Do types line a = ap (item_sites types) (sym (rolls-Do line a)) ∙ fold-roll-Item (List Site) (item_sites_rule types) (Item-F.Do line a)
 
 pub sites-If : (types : List TypeEntry) (line : ℕ) (c : Cond) (taken other : List Item) →
     item_sites types (item.If line c taken other) ≡ map (site_at line) (cond_causes types c) ++ (items_sites types taken ++ items_sites types other)
@@ -115,6 +67,50 @@ pub sites-Branch : (types : List TypeEntry) (cuts : List Cut) (line : ℕ) (b : 
 sites-Branch types cuts line b taken other = ap (tail_sites types cuts) (sym (rolls-Branch line b taken other))
     ∙ fold-roll-Tail (List Site) (List Site) (tail_sites_rule types cuts) (code_sites_rule types) (Tail-F.Branch line b taken other)
 
--- each form
-pub ruleset forms = (causes-True, causes-False, causes-Bool, causes-Is, causes-Same, causes-Not, causes-And, causes-Or, forms-Not, forms-And, forms-Or,
-    sites-Do, sites-If, sites-code, sites-Cut, sites-Branch, map-append, flat_map-append, append_assoc, append-nil)
+-- ---- sites that were added one after the other
+
+pub assign_made : (types : List TypeEntry) (line : ℕ) (s0 s1 s2 s3 : List Site) (place before : List FieldId) (f : FieldId) (evaluated : List Cause) →
+    place ≡ before ++ f ∷ [] → s1 ≡ s0 ++ map (site_at line) (path_causes types before) → s2 ≡ s1 ++ map (site_at line) evaluated →
+    s3 ≡ s2 ++ map (site_at line) (field_causes types f) → s3 ≡ s0 ++ map (site_at line) (assign_causes types place evaluated)
+assign_made types line s0 s1 s2 s3 place before f evaluated is one two three =
+    three ∙ ap (λ s. s ++ map (site_at line) (field_causes types f)) (two ∙ ap (λ s. s ++ map (site_at line) evaluated) one)
+    ∙ append_assoc (s0 ++ map (site_at line) (path_causes types before)) (map (site_at line) evaluated) (map (site_at line) (field_causes types f))
+    ∙ append_assoc s0 (map (site_at line) (path_causes types before)) (map (site_at line) evaluated ++ map (site_at line) (field_causes types f))
+    ∙ ap (λ s. s0 ++ (map (site_at line) (path_causes types before) ++ s)) (sym (map-append (site_at line) evaluated (field_causes types f)))
+    ∙ ap (λ s. s0 ++ s) (sym (map-append (site_at line) (path_causes types before) (evaluated ++ field_causes types f)))
+    ∙ ap (λ causes. s0 ++ map (site_at line) causes) (sym (ap (λ fields. assign_causes types fields evaluated) is ∙ assign-last types before f evaluated))
+
+pub if_made : (types : List TypeEntry) (line : ℕ) (i : Item) (c : Cond) (taken other xs ys : List Item) (s0 s1 s2 s3 : List Site) →
+    i ≡ item.If line c taken other → xs ≡ taken → ys ≡ other → s1 ≡ s0 ++ map (site_at line) (cond_causes types c) →
+    s2 ≡ s1 ++ items_sites types xs → s3 ≡ s2 ++ items_sites types ys → s3 ≡ s0 ++ item_sites types i
+if_made types line i c taken other xs ys s0 s1 s2 s3 is one_is other_is one two three =
+    three ∙ ap (λ s. s ++ items_sites types ys) (two ∙ ap (λ s. s ++ items_sites types xs) one)
+    ∙ append_assoc (s0 ++ map (site_at line) (cond_causes types c)) (items_sites types xs) (items_sites types ys)
+    ∙ append_assoc s0 (map (site_at line) (cond_causes types c)) (items_sites types xs ++ items_sites types ys)
+    ∙ ap₂ (λ (us vs : List Item). s0 ++ (map (site_at line) (cond_causes types c) ++ (items_sites types us ++ items_sites types vs))) one_is other_is
+    ∙ ap (λ s. s0 ++ s) (sym (ap (item_sites types) is ∙ sites-If types line c taken other))
+
+pub cut_made : (types : List TypeEntry) (cuts : List Cut) (c : Code) (xs : List Item) (place : ℕ) (s0 s1 s2 : List Site) → xs ≡ c.items →
+    c.tail ≡ tail.Cut place → s1 ≡ s0 ++ items_sites types xs → s2 ≡ s1 ++ option_map_or cut_sites (slice_get cuts place) [] →
+    s2 ≡ s0 ++ code_sites types cuts c
+cut_made types cuts c xs place s0 s1 s2 same is one two =
+    two ∙ ap (λ s. s ++ option_map_or cut_sites (slice_get cuts place) []) one
+    ∙ append_assoc s0 (items_sites types xs) (option_map_or cut_sites (slice_get cuts place) [])
+    ∙ ap₂ (λ (us : List Item) (ss : List Site). s0 ++ (items_sites types us ++ ss)) same
+    (sym (ap (tail_sites types cuts) is ∙ sites-Cut types cuts place))
+    ∙ ap (λ s. s0 ++ s) (sym (sites-code types cuts c))
+
+pub branch_made : (types : List TypeEntry) (cuts : List Cut) (c : Code) (xs : List Item) (line : ℕ) (b : Cond) (taken other x y : Code) (s0 s1 s2 s3 s4 : List Site) →
+    xs ≡ c.items → c.tail ≡ tail.Branch line b taken other → x ≡ taken → y ≡ other → s1 ≡ s0 ++ items_sites types xs →
+    s2 ≡ s1 ++ map (site_at line) (cond_causes types b) → s3 ≡ s2 ++ code_sites types cuts x → s4 ≡ s3 ++ code_sites types cuts y →
+    s4 ≡ s0 ++ code_sites types cuts c
+branch_made types cuts c xs line b taken other x y s0 s1 s2 s3 s4 same is x_is y_is one two three four =
+    four ∙ ap (λ s. s ++ code_sites types cuts y) (three ∙ ap (λ s. s ++ code_sites types cuts x)
+    (two ∙ ap (λ s. s ++ map (site_at line) (cond_causes types b)) one))
+    ∙ append_assoc ((s0 ++ items_sites types xs) ++ map (site_at line) (cond_causes types b)) (code_sites types cuts x) (code_sites types cuts y)
+    ∙ append_assoc (s0 ++ items_sites types xs) (map (site_at line) (cond_causes types b)) (code_sites types cuts x ++ code_sites types cuts y)
+    ∙ append_assoc s0 (items_sites types xs) (map (site_at line) (cond_causes types b) ++ (code_sites types cuts x ++ code_sites types cuts y))
+    ∙ ap₂ (λ (u v : Code). s0 ++ (items_sites types xs ++ (map (site_at line) (cond_causes types b) ++ (code_sites types cuts u ++ code_sites types cuts v)))) x_is y_is
+    ∙ ap₂ (λ (us : List Item) (ss : List Site). s0 ++ (items_sites types us ++ ss)) same
+    (sym (ap (tail_sites types cuts) is ∙ sites-Branch types cuts line b taken other))
+    ∙ ap (λ s. s0 ++ s) (sym (sites-code types cuts c))

@@ -44,7 +44,8 @@ fn push_assign(
     };
     push_path(types, sites, line, before)?;
     push_rhs(alloc, types, sites, line, value)?;
-    push_field(types, sites, line, *last)
+    push_field(types, sites, line, *last)?;
+    Ok(())
 }
 
 pub(crate) fn push_act(

@@ -41,12 +41,14 @@ fn push_item(
         Item::If(line, cond, taken, other) => {
             push_cond(alloc, types, sites, *line, cond)?;
             push_items(alloc, types, sites, taken.as_slice())?;
-            push_items(alloc, types, sites, other.as_slice())
+            push_items(alloc, types, sites, other.as_slice())?;
+            Ok(())
         }
     }
 }
 
 /// A code of a triple with these cuts. Takes a level of the stack for each branch within another one.
+#[tactic(auto, using(crate::proofs::CauseLemmas::cut_made, crate::proofs::CauseLemmas::branch_made))]
 pub(crate) fn push_code(
     alloc: Global,
     types: &TypeTable,
@@ -58,11 +60,15 @@ pub(crate) fn push_code(
 {
     push_items(alloc, types, sites, code.items.as_slice())?;
     match &code.tail {
-        Tail::Cut(place) => push_cut_at(sites, cuts, *place),
+        Tail::Cut(place) => {
+            push_cut_at(sites, cuts, *place)?;
+            Ok(())
+        }
         Tail::Branch(line, cond, taken, other) => {
             push_cond(alloc, types, sites, *line, cond)?;
             push_code(alloc, types, sites, cuts, taken.get())?;
-            push_code(alloc, types, sites, cuts, other.get())
+            push_code(alloc, types, sites, cuts, other.get())?;
+            Ok(())
         }
     }
 }

@@ -5,6 +5,7 @@ ghost use Rattle.std.specs.Option.{option_map_or};
 ghost use Rattle.site_view.specs.Sites.{cut_sites};
 
 use crate::reading::push_site;
+use plain_data::at;
 use site_view::SiteList;
 use std::alloc::AllocError;
 use store_exec::{Cause, Cut};
@@ -26,7 +27,7 @@ fn push_cut(sites: &mut SiteList, cut: &Cut) -> Result<(), AllocError>
 pub(crate) fn push_cut_at(sites: &mut SiteList, cuts: &[Cut], place: u32) -> Result<(), AllocError>
     ensures { OnOk result (sites.new ≡ sites.old ++ option_map_or cut_sites (slice_get cuts.now place) []) }
 {
-    match cuts.get(place as usize) {
+    match at(cuts, place as usize) {
         Some(cut) => push_cut(sites, cut),
         None => Ok(()),
     }

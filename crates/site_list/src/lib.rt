@@ -5,7 +5,7 @@ mod acts;
 mod codes;
 mod conditions;
 mod cuts;
+mod listing;
 mod reading;
-mod sites;
 
-pub use sites::sites;
+pub use listing::sites;
