@@ -6,10 +6,11 @@ use Rattle.std.proofs.lemmas.List.{map-append}
 use Rattle.store_core.specs.declared.ids.FieldId.{FieldId}
 use Rattle.store_core.specs.Tables.{TypeEntry}
 use Rattle.store_logic.specs.declared.cond.Cond.{Cond}
+use Rattle.store_logic.specs.declared.act.Act.{Act}
 use Rattle.store_exec.specs.declared.cause.Cause.{Cause}
 use Rattle.store_exec.specs.declared.code.Item.{Item}
 use Rattle.store_exec.specs.declared.code.Item.TheVariants as item
-use Rattle.store_exec.specs.declared.code.Item.TheVariants.{rolls-If}
+use Rattle.store_exec.specs.declared.code.Item.TheVariants.{rolls-Do, rolls-If}
 use Rattle.store_exec.specs.declared.code.Item.TheOpen.{Item-F}
 use Rattle.store_exec.specs.declared.code.Item.TheFolds.{fold-roll-Item}
 use Rattle.store_exec.specs.declared.code.Code.{Code, roll-out-Code, out-Code}
@@ -21,7 +22,7 @@ use Rattle.store_exec.specs.declared.code.Tail.TheFolds.{fold-Tail, fold-roll-Ta
 use Rattle.store_exec.specs.declared.triple.Cut.{Cut}
 use Rattle.site_view.specs.declared.site.Site.{Site}
 use Rattle.site_view.specs.Sites.{site_at, field_causes, path_causes, cond_causes, place_causes, assign_causes}
-use Rattle.site_view.specs.Sites.{cut_sites, item_sites, item_sites_rule, items_sites, code_sites, code_sites_rule, tail_sites_rule}
+use Rattle.site_view.specs.Sites.{act_causes, cut_sites, item_sites, item_sites_rule, items_sites, code_sites, code_sites_rule, tail_sites_rule}
 
 -- ---- places
 
@@ -41,6 +42,9 @@ assign-last types (g ∷ before) f evaluated =
     ∙ sym (append_assoc (field_causes types g) (path_causes types before) (evaluated ++ field_causes types f))
 
 -- ---- code
+
+pub sites-Do : (types : List TypeEntry) (line : ℕ) (a : Act) → item_sites types (item.Do line a) ≡ map (site_at line) (act_causes types a)
+sites-Do types line a = ap (item_sites types) (sym (rolls-Do line a)) ∙ fold-roll-Item (List Site) (item_sites_rule types) (Item-F.Do line a)
 
 pub sites-If : (types : List TypeEntry) (line : ℕ) (c : Cond) (taken other : List Item) →
     item_sites types (item.If line c taken other) ≡ map (site_at line) (cond_causes types c) ++ (items_sites types taken ++ items_sites types other)

@@ -5,6 +5,7 @@ mod acts;
 mod codes;
 mod conditions;
 mod cuts;
+pub mod laws;
 mod listing;
 mod reading;
 
