@@ -40,9 +40,7 @@ impl<'a> Walker<'a> {
         if first == other {
             return Ok(first);
         }
-        Ok(Sym::At(self.define(Definition::Merged(
-            way, first, other,
-        ))?))
+        Ok(Sym::At(self.define(Definition::Merged(way, first, other))?))
     }
 
     /// The values after both ways; those of the other way stand here.
@@ -82,8 +80,13 @@ impl<'a> Walker<'a> {
         for item in items {
             match item {
                 Item::Do(line, act) => self.act(alloc, *line, act)?,
-                Item::If(line, cond, taken, other) =>
-                    self.plain_if(alloc, *line, cond, taken.as_slice(), other.as_slice())?,
+                Item::If(line, cond, taken, other) => self.plain_if(
+                    alloc,
+                    *line,
+                    cond,
+                    taken.as_slice(),
+                    other.as_slice(),
+                )?,
             }
         }
         Ok(())
@@ -117,8 +120,13 @@ impl<'a> Walker<'a> {
                 Some(cut) => self.arrive(alloc, cut),
                 None => Ok(()),
             },
-            Tail::Branch(line, cond, taken, other) =>
-                self.branch(alloc, *line, cond, taken.get(), other.get()),
+            Tail::Branch(line, cond, taken, other) => self.branch(
+                alloc,
+                *line,
+                cond,
+                taken.get(),
+                other.get(),
+            ),
         }
     }
 }

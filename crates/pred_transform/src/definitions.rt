@@ -20,14 +20,20 @@ impl<'a> Writer<'a> {
         definition: &Definition,
     ) -> Result<Formula, AllocError> {
         match definition {
-            Definition::Read(cell, field, moment) =>
-                self.is_read(alloc, track, *cell, *field, *moment),
+            Definition::Read(cell, field, moment) => self.is_read(
+                alloc, track, *cell, *field, *moment,
+            ),
             Definition::Truth(truth) => self.is_truth(alloc, track, *truth),
             Definition::Slot(number) => slot(alloc, self.next, *number, track),
-            Definition::Merged(way, first, other) =>
-                self.is_merged(alloc, track, *way, *first, *other),
-            Definition::Part(roots, moment) =>
-                self.is_part(alloc, track, roots.as_slice(), *moment),
+            Definition::Merged(way, first, other) => self.is_merged(
+                alloc, track, *way, *first, *other,
+            ),
+            Definition::Part(roots, moment) => self.is_part(
+                alloc,
+                track,
+                roots.as_slice(),
+                *moment,
+            ),
         }
     }
 
@@ -51,12 +57,7 @@ impl<'a> Writer<'a> {
     }
 
     /// The root where it is true, and else nothing.
-    fn is_truth(
-        &self,
-        alloc: Global,
-        track: Track,
-        truth: TruthId,
-    ) -> Result<Formula, AllocError> {
+    fn is_truth(&self, alloc: Global, track: Track, truth: TruthId) -> Result<Formula, AllocError> {
         let holds = self.truth(alloc, truth)?;
         let fails = Formula::not(alloc, holds.copy(alloc)?)?;
         let root = Formula::and(alloc, Formula::Root(track), holds)?;

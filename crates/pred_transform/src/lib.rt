@@ -7,7 +7,6 @@
 #![tactic(auto)]
 
 mod acts;
-mod assertions;
 mod binding;
 mod codes;
 mod conditions;
@@ -18,7 +17,6 @@ mod heap;
 mod places;
 mod reading;
 mod seeing;
-mod terms;
 mod told;
 mod trace;
 mod truths;

@@ -1,10 +1,10 @@
 //! The conditions of places as formulas.
 
-use crate::assertions::assertion;
 use crate::seeing::lacks;
 use crate::trace::{Condition, Scene};
 use crate::walker::value_of;
 use crate::writer::Writer;
+use claim_formula::assertion_formula;
 use graph_type::{cut_formula, is_dead, is_in, is_null};
 use graph_view::Sym;
 use std::alloc::{AllocError, Global};
@@ -42,15 +42,19 @@ impl<'a> Writer<'a> {
             }
             Condition::Broken(whole, scene) => {
                 let view = self.seen(alloc, scene.values.as_slice(), scene.moment, None)?;
-                let holds = assertion(alloc, self.layout, &view, self.next, whole)?;
+                let holds = assertion_formula(alloc, self.layout, &view, self.next, whole)?;
                 Formula::not(alloc, holds)
             }
             Condition::Store(look, scene) => {
                 let view = self.seen(alloc, scene.values.as_slice(), scene.moment, None)?;
                 cut_formula(alloc, self.layout, &view, *look)
             }
-            Condition::Escape(inside, scene, part) =>
-                self.escapes(alloc, inside, scene.values.as_slice(), *part),
+            Condition::Escape(inside, scene, part) => self.escapes(
+                alloc,
+                inside,
+                scene.values.as_slice(),
+                *part,
+            ),
             Condition::Claims(claims, scene, part) => {
                 let holds = self.claims(alloc, claims, scene, *part)?;
                 let all = and_list(alloc, self.next, holds)?;
@@ -71,13 +75,7 @@ impl<'a> Writer<'a> {
         for claim in claims {
             let region = region_on(part, &claim.region);
             let view = self.seen(alloc, scene.values.as_slice(), scene.moment, region)?;
-            parts.push(assertion(
-                alloc,
-                self.layout,
-                &view,
-                self.next,
-                &claim.assertion,
-            )?)?;
+            parts.push(assertion_formula(alloc, self.layout, &view, self.next, &claim.assertion)?)?;
         }
         Ok(parts)
     }

@@ -19,7 +19,12 @@ impl<'a> Walker<'a> {
     ) -> Result<(), AllocError> {
         self.check(line, reached, Cause::Null, Condition::Null(cell))?;
         let moment = self.moment;
-        self.check(line, reached, Cause::Dangling, Condition::Dead(cell, moment))
+        self.check(
+            line,
+            reached,
+            Cause::Dangling,
+            Condition::Dead(cell, moment),
+        )
     }
 
     /// The same, and for a field that isn't common the place where the cell hasn't it.

@@ -1,5 +1,5 @@
 -- The walk over a code.
-use Rattle.std.specs.Prelude.{ℕ, suc, ◌==◌, Bool, true, false, List, [], ◌∷◌, slice_get, Option, Some, None, if◌then◌else◌}
+use Rattle.std.specs.Prelude.{ℕ, suc, ◌==◌, Bool, true, false, List, [], ◌∷◌, slice_get, Some, if◌then◌else◌}
 use Rattle.std.specs.Option.{option_map_or}
 use Rattle.store_core.specs.Tables.{TypeEntry, VarEntry}
 use Rattle.store_exec.specs.declared.code.Item.{Item}

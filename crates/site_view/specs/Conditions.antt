@@ -7,7 +7,6 @@ use Rattle.store_logic.specs.declared.path.Operand.{Operand}
 use Rattle.store_logic.specs.declared.cond.Cond.{Cond}
 use Rattle.store_logic.specs.declared.cond.Cond.TheOpen.{Cond-F}
 use Rattle.store_logic.specs.declared.cond.Cond.TheFolds.{fold-Cond}
-use Rattle.ws2s_core.specs.declared.formula.Formula.TheVariants.{And, Not}
 use Rattle.ws2s_forms.specs.Forms.{false_at, true_at, or}
 use Rattle.graph_view.specs.declared.view.Sym.{Sym}
 use Rattle.graph_view.specs.Syms.{is_same}

@@ -1,5 +1,5 @@
 -- What is handed over and returned at calls: whole trees. (Møller and Schwartzbach, PLDI 2001, "procedure calls".)
-use Rattle.std.specs.Prelude.{ℕ, suc, Bool, true, false, List, [], ◌∷◌, map, flat_map, ◌==◌, if◌then◌else◌}
+use Rattle.std.specs.Prelude.{ℕ, suc, Bool, true, false, List, [], ◌∷◌, flat_map, ◌==◌, if◌then◌else◌}
 use Rattle.std.specs.Option.{option_map_or}
 use Rattle.std.specs.List.{list_any}
 use Rattle.store_core.specs.declared.ids.VarId.{VarId}

@@ -1,14 +1,12 @@
 -- What the walk over code means: the invariant of symbolic execution. Where a statement is reached, the state sees the store that the
 -- code before has led to, and no place before fails; where it isn't, nothing happens. (Møller and Schwartzbach, PLDI 2001.)
-use Rattle.std.specs.Prelude.{◌≡◌, ◌↔◌, ◌+◌, ◌≤◌, ℕ, Bool, true, false, List, [], ◌∷◌, ◌++◌, length, slice_get, All, IfSome, Option, Some, None, Result, Ok, Err}
+use Rattle.std.specs.Prelude.{◌≡◌, ◌+◌, ◌≤◌, ℕ, Bool, true, false, List, ◌∷◌, ◌++◌, length, slice_get, All, IfSome, Option, Some, None, Result, Ok, Err}
 use Rattle.gta_theory.specs.Assignments.{Assignment, IsFinite}
-use Rattle.ws2s_core.specs.declared.formula.Formula.{Formula}
 use Rattle.ws2s_core.specs.Satisfaction.{WSat}
 use Rattle.store_core.specs.Tables.{TypeEntry, VarEntry}
 use Rattle.store_core.specs.Stores.{StoreMap}
 use Rattle.store_core.specs.declared.value.Value.{Value}
 use Rattle.store_exec.specs.declared.cause.Cause.{Cause}
-use Rattle.store_exec.specs.declared.fault.Fault.{Fault}
 use Rattle.store_exec.specs.declared.outcome.Outcome.{Outcome}
 use Rattle.store_exec.specs.declared.outcome.Outcome.TheVariants as outcome
 use Rattle.store_exec.specs.declared.triple.Cut.{Cut}

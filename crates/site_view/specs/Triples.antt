@@ -1,8 +1,7 @@
 -- The places where a triple can fail, in order, and the formula of each: the trees of the stores that meet the triple and fail
 -- there, with some sets on the tracks that were made. (Møller and Schwartzbach, PLDI 2001.)
-use Rattle.std.specs.Prelude.{ℕ, ◌+◌, List, [], ◌∷◌, ◌++◌, length, map, reverse, slice_get, Option, Some, None, if◌then◌else◌}
+use Rattle.std.specs.Prelude.{ℕ, ◌+◌, List, [], ◌∷◌, ◌++◌, length, map, reverse, slice_get, Option, None, if◌then◌else◌}
 use Rattle.std.specs.Option.{option_map_or, option_map}
-use Rattle.store_core.specs.declared.ids.VarId.{VarId}
 use Rattle.store_core.specs.Tables.{TypeEntry, VarEntry}
 use Rattle.store_exec.specs.declared.triple.Start.{Start}
 use Rattle.store_exec.specs.declared.triple.Triple.{Triple}
@@ -13,7 +12,6 @@ use Rattle.ws2s_core.specs.Tracks.{is_free}
 use Rattle.ws2s_forms.specs.Forms.{track, and_list, empty_at}
 use Rattle.tree_encode.specs.Tracks.{track_count, var_track}
 use Rattle.tree_formula.specs.WellEncoded.{vars_in, track_or_first, well_encoded}
-use Rattle.graph_view.specs.declared.view.Sym.{Sym}
 use Rattle.graph_view.specs.declared.view.Sym.TheVariants.{At}
 use Rattle.site_view.specs.declared.site.Site.{Site}
 use Rattle.site_view.specs.States.{Text, Check, State, sight}

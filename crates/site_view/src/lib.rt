@@ -6,7 +6,6 @@
 //! places of a triple and the formula of each.
 #![tactic(auto)]
 
-pub mod laws;
 mod site;
 
 pub use site::{Site, SiteList};
