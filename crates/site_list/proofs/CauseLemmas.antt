@@ -61,7 +61,8 @@ pub sites-code : (types : List TypeEntry) (cuts : List Cut) (c : Code) → code_
 sites-code types cuts c = ap (code_sites types cuts) (sym (roll-out-Code c))
     ∙ fold-roll-Code (List Site) (List Site) (tail_sites_rule types cuts) (code_sites_rule types) (out-Code c)
 
-pub sites-Cut : (types : List TypeEntry) (cuts : List Cut) (place : ℕ) → tail_sites types cuts (tail.Cut place) ≡ option_map_or cut_sites (slice_get cuts place) []
+pub sites-Cut : (types : List TypeEntry) (cuts : List Cut) (place : ℕ) →
+    tail_sites types cuts (tail.Cut place) ≡ option_map_or cut_sites (slice_get cuts place) []
 sites-Cut types cuts place = ap (tail_sites types cuts) (sym (rolls-Cut place))
     ∙ fold-roll-Tail (List Site) (List Site) (tail_sites_rule types cuts) (code_sites_rule types) (Tail-F.Cut place)
 
@@ -104,7 +105,8 @@ cut_made types cuts c xs place s0 s1 s2 same is one two =
     (sym (ap (tail_sites types cuts) is ∙ sites-Cut types cuts place))
     ∙ ap (λ s. s0 ++ s) (sym (sites-code types cuts c))
 
-pub branch_made : (types : List TypeEntry) (cuts : List Cut) (c : Code) (xs : List Item) (line : ℕ) (b : Cond) (taken other x y : Code) (s0 s1 s2 s3 s4 : List Site) →
+pub branch_made : (types : List TypeEntry) (cuts : List Cut) (c : Code) (xs : List Item) (line : ℕ) (b : Cond) (taken other x y : Code)
+    (s0 s1 s2 s3 s4 : List Site) →
     xs ≡ c.items → c.tail ≡ tail.Branch line b taken other → x ≡ taken → y ≡ other → s1 ≡ s0 ++ items_sites types xs →
     s2 ≡ s1 ++ map (site_at line) (cond_causes types b) → s3 ≡ s2 ++ code_sites types cuts x → s4 ≡ s3 ++ code_sites types cuts y →
     s4 ≡ s0 ++ code_sites types cuts c
@@ -114,7 +116,8 @@ branch_made types cuts c xs line b taken other x y s0 s1 s2 s3 s4 same is x_is y
     ∙ append_assoc ((s0 ++ items_sites types xs) ++ map (site_at line) (cond_causes types b)) (code_sites types cuts x) (code_sites types cuts y)
     ∙ append_assoc (s0 ++ items_sites types xs) (map (site_at line) (cond_causes types b)) (code_sites types cuts x ++ code_sites types cuts y)
     ∙ append_assoc s0 (items_sites types xs) (map (site_at line) (cond_causes types b) ++ (code_sites types cuts x ++ code_sites types cuts y))
-    ∙ ap₂ (λ (u v : Code). s0 ++ (items_sites types xs ++ (map (site_at line) (cond_causes types b) ++ (code_sites types cuts u ++ code_sites types cuts v)))) x_is y_is
+    ∙ ap₂
+    (λ (u v : Code). s0 ++ (items_sites types xs ++ (map (site_at line) (cond_causes types b) ++ (code_sites types cuts u ++ code_sites types cuts v)))) x_is y_is
     ∙ ap₂ (λ (us : List Item) (ss : List Site). s0 ++ (items_sites types us ++ ss)) same
     (sym (ap (tail_sites types cuts) is ∙ sites-Branch types cuts line b taken other))
     ∙ ap (λ s. s0 ++ s) (sym (sites-code types cuts c))

@@ -1,14 +1,13 @@
 -- The places that the walk over a code passes are its sites.
-use Rattle.std.proofs.Common.{◌≡◌, ℕ, suc, Bool, true, false, List, [], ◌∷◌, ◌++◌, map, slice_get, Option, Some, None, refl, sym, ap, ◌∙◌, subst, append_assoc, append-nil, if◌then◌else◌}
+use Rattle.std.proofs.Common.{◌≡◌, ℕ, suc, Bool, true, false, List, [], ◌∷◌, ◌++◌, map, slice_get, Option, Some, None}
+use Rattle.std.proofs.Common.{refl, sym, ap, ◌∙◌, subst, append_assoc, append-nil, if◌then◌else◌}
 use Rattle.std.specs.Option.{option_map_or}
 use Rattle.std.proofs.lemmas.List.{map-append}
-use Rattle.ws2s_core.specs.declared.track.Track.{Track}
 use Rattle.ws2s_forms.specs.Forms.{track}
 use Rattle.store_core.specs.declared.ids.VariantId.{VariantId}
 use Rattle.store_core.specs.declared.ids.FieldId.{FieldId}
 use Rattle.store_core.specs.declared.ids.VarId.{VarId}
 use Rattle.store_core.specs.Tables.{TypeEntry, VarEntry}
-use Rattle.store_logic.specs.declared.path.Path.{Path}
 use Rattle.store_logic.specs.declared.path.Operand.{Operand}
 use Rattle.store_logic.specs.declared.path.Operand.TheVariants as operand
 use Rattle.store_logic.specs.declared.cond.Cond.{Cond, roll-Cond}
@@ -41,7 +40,7 @@ use Rattle.graph_view.specs.declared.view.Sym.TheVariants as sym_is
 use Rattle.site_view.specs.declared.site.Site.{Site}
 use Rattle.site_view.specs.Sites.{site_at, cell_causes, field_causes, path_causes, operand_causes, cond_causes, cond_causes_rule, rhs_causes}
 use Rattle.site_view.specs.Sites.{place_causes, assign_causes, act_causes, escape_causes, cut_sites, item_sites, items_sites, code_sites, sites_of}
-use Rattle.site_view.specs.States.{Text, Check, State, Got, next_track, define, check, guard, both, fails, is_truth_of, sight, value_of}
+use Rattle.site_view.specs.States.{Text, State, Got, next_track, define, check, guard, both, fails, sight, value_of}
 use Rattle.site_view.specs.Reading.{Told, lacks, check_cell, check_access, read, read_along, operand_value, truth_along, truth_at}
 use Rattle.site_view.specs.Conditions.{Telling, cond_rule, condition}
 use Rattle.site_view.specs.Acts.{evaluated, write_along, act_rule, assigned}
@@ -78,7 +77,8 @@ module _ (types : List TypeEntry) (vars : List VarEntry) where
       one-after line s (check line reached cause.Null _ s) (check_cell types vars line reached u s) (cause.Null ∷ []) (cause.Dangling ∷ [])
       (one-more line reached cause.Null _ s) (one-more line reached cause.Dangling _ (check line reached cause.Null _ s))
 
-  access-adds : (line : ℕ) (reached : Text) (f : FieldId) (u : Sym) (s : State) → Adds line s (field_causes types f) (check_access types vars line reached f u s)
+  access-adds : (line : ℕ) (reached : Text) (f : FieldId) (u : Sym) (s : State) →
+      Adds line s (field_causes types f) (check_access types vars line reached f u s)
   access-adds line reached f u s = by (owner types f)
     where
       by : (o : Option VariantId) → Adds line s (cell_causes ++ option_map_or (λ (v : VariantId). cause.Variant ∷ []) o [])

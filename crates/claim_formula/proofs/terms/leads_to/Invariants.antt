@@ -7,5 +7,6 @@ use Rattle.claim_formula.proofs.terms.leads_to.Given as goal
 -- the fields so far lead to the cell before those that are left
 abbrev pub invariant-loop-field : goal.invariant-loop-field
 invariant-loop-field l =
-    (l.formula ≡ leads_to l.l.types (sight_of l.l.vars l.view) l.fn.value (reverse (take l.field-index l.fields)) (l.next + l.left) (target l.next l.left l.cell))
+    (l.formula ≡ leads_to l.l.types (sight_of l.l.vars l.view) l.fn.value (reverse (take l.field-index l.fields))
+    (l.next + l.left) (target l.next l.left l.cell))
     × (l.left + l.field-index ≡ length l.fields)
