@@ -1,0 +1,5 @@
+pub mod StandingLemmas
+pub mod AssignmentLemmas
+pub mod BeginningLemmas
+pub mod ForkingLemmas
+pub mod FunctionalLemmas
