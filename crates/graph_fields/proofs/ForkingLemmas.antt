@@ -1,7 +1,7 @@
 -- The formula of a field on the assignment of a backbone.
 use Rattle.std.proofs.Common.{◌≡◌, ◌↔◌, ℕ, suc, ◌<◌, ◌≤◌, IsSomeAnd, IsTrue, List, [], ◌∷◌, Option, Some, None, refl, sym, ap, ◌∙◌, subst, arith}
 use Rattle.std.specs.Prelude.{IsSome}
-use Rattle.std.specs.Option.{option_map_or}
+use Rattle.std.specs.Option.{option_map_or, option_and_then}
 use Rattle.gta_theory.specs.Assignments.{Position, Assignment, IsFinite, IsOnly}
 use Rattle.ws2s_core.specs.declared.formula.Formula.{Formula}
 use Rattle.ws2s_core.specs.declared.formula.Formula.TheVariants.{Sub, Not}
@@ -19,7 +19,7 @@ use Rattle.store_core.specs.declared.kind.FieldKind.{FieldKind}
 use Rattle.store_core.specs.declared.kind.FieldKind.TheVariants as field
 use Rattle.store_core.specs.declared.kind.Route.{Route}
 use Rattle.store_core.specs.Tables.{TypeEntry, FieldEntry, VarEntry, IsTypeTable, KnowsKind, field_at}
-use Rattle.store_core.specs.Stores.{StoreMap, IsLive, Fits, cell_of, field_value}
+use Rattle.store_core.specs.Stores.{StoreMap, CellEntry, IsLive, Fits, cell_of, field_of, field_value}
 use Rattle.store_core.proofs.FittingLemmas.{IsSomeAnd-at}
 use Rattle.routing_expr.specs.Walks.{DataAlone, IsOfType, Walk}
 use Rattle.routing_expr.specs.Destinations.{EndsKind, Dest}
@@ -56,6 +56,14 @@ use Rattle.graph_fields.proofs.StandingLemmas.{standing}
 use Rattle.graph_fields.proofs.BeginningLemmas.{first-shows}
 
 -- ---- destinations
+
+-- a cell that has a field is live
+pub live-with : (s : StoreMap) (c : CellId) (f : FieldId) → IsSome (field_value s c f) → IsLive s c
+live-with s c f some = by (cell_of s c) some
+  where
+    by : (o : Option CellEntry) → IsSome (option_and_then (λ cell. field_of cell f) o) → IsSome o
+    by None h = h
+    by (Some cell) h = refl
 
 -- a destination by the route of the field
 module _ (types : List TypeEntry) (s : StoreMap) (f : FieldId) (entry : FieldEntry) (target : TypeId) (along : Route) (there : field_at types f ≡ Some entry)
@@ -214,7 +222,7 @@ module _ (types : List TypeEntry) (vars : List VarEntry) (s : StoreMap) (a : Ass
 
     fork-at : HasFork types s f → (p : Position) × ((q : Position) × ((r : Position) × ForksAt p q r))
     fork-at (c, fork) =
-        let (p, here) = sits.there c (live-with c fork.has) in
+        let (p, here) = sits.there c (live-with s c f fork.has) in
         let (q, at_q) = dest-stands c fork.one fork.to_one in
         let (r, at_r) = dest-stands c fork.other fork.to_other in (
           p,
@@ -224,13 +232,6 @@ module _ (types : List TypeEntry) (vars : List VarEntry) (s : StoreMap) (a : Ass
             λ same. fork.apart (sits.apart fork.one fork.other r (subst (λ w. IsAt at fork.one w) same at_q) at_r),
           ))),
         )
-      where
-        live-with : (d : CellId) → IsSome (field_value s d f) → IsLive s d
-        live-with d some = by (cell_of s d) some
-          where
-            by : (o : Option CellEntry) → IsSome (option_and_then (λ cell. field_of cell f) o) → IsSome o
-            by None h = h
-            by (Some cell) h = refl
 
     forks-means : WSat (forks types sight next f target along) a ↔ HasFork types s f
     forks-means = (

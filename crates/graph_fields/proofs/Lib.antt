@@ -3,3 +3,4 @@ pub mod AssignmentLemmas
 pub mod BeginningLemmas
 pub mod ForkingLemmas
 pub mod FunctionalLemmas
+pub mod AloneLemmas

@@ -1,7 +1,10 @@
 -- Where a pointer field has two destinations. (Klarlund and Schwartzbach 1993: a field is functional where its routing
 -- expression leads to one cell at most.)
-use Rattle.std.specs.Prelude.{◌≢◌, List, IsSome}
-use Rattle.gta_theory.specs.Assignments.{Assignment}
+use Rattle.std.specs.Prelude.{◌≢◌, ◌≤◌, ℕ, List, length, IsSome}
+use Rattle.std.specs.FinMap.{keys}
+use Rattle.gta_theory.specs.Assignments.{Assignment, Covers}
+use Rattle.gta_theory.specs.Weights.{weight}
+use Rattle.ws2s_core.specs.Satisfaction.{WSat}
 use Rattle.store_core.specs.declared.ids.FieldId.{FieldId}
 use Rattle.store_core.specs.declared.ids.CellId.{CellId}
 use Rattle.store_core.specs.Tables.{TypeEntry, VarEntry}
@@ -9,7 +12,9 @@ use Rattle.store_core.specs.Stores.{StoreMap, Fits, field_value}
 use Rattle.routing_expr.specs.Destinations.{Dest}
 use Rattle.routing_expr.specs.WellFormed.{IsBackbone}
 use Rattle.tree_store.specs.Encoding.{IsAssignmentOf}
+use Rattle.tree_store.specs.Weighing.{AreVariantTracks}
 use Rattle.tree_meaning.specs.Premises.{SetsHoldLive}
+use Rattle.graph_view.specs.Cuts.{field_formula}
 
 -- the cell has the field, and two destinations for it
 pub record Forks (types : List TypeEntry) (s : StoreMap) (f : FieldId) (c : CellId) : Type 0 where
@@ -33,3 +38,11 @@ pub record IsOfFork (types : List TypeEntry) (vars : List VarEntry) (f : FieldId
   pub sets : SetsHoldLive vars store
   pub assignment : IsAssignmentOf types vars store a
   pub fork : HasFork types store f
+
+-- finite sets satisfy the formula of the field, with no more positions on the tracks of the variants than the store has cells
+pub record HasLightTree (types : List TypeEntry) (vars : List VarEntry) (f : FieldId) (s : StoreMap) : Type 0 where
+  pub depth : ℕ
+  pub sets : Assignment
+  pub covered : Covers depth sets
+  pub satisfies : WSat (field_formula types vars f) sets
+  pub light : (tracks : List ℕ) → AreVariantTracks types tracks → weight tracks depth sets ≤ length (keys s.cells)

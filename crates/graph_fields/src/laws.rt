@@ -19,7 +19,7 @@ ghost use Rattle.graph_live.specs.Standing.{Sits};
 ghost use Rattle.graph_live.specs.Showing.{Shows};
 ghost use Rattle.graph_walks.specs.Wells.{ShowsWell};
 ghost use Rattle.graph_fields.specs.Beginning.{first_view};
-ghost use Rattle.graph_fields.specs.Forking.{HasFork, IsOfFork};
+ghost use Rattle.graph_fields.specs.Forking.{HasFork, IsOfFork, HasLightTree};
 
 /// The cells of a backbone and where they stand are a list: each live cell with its one position, and no two cells with one.
 pub fn backbones_have_their_standing()
@@ -63,4 +63,11 @@ pub fn fields_are_functional_where_no_tree_forks()
         IsFunctional types f ↔ ((depth : ℕ) (a : Assignment) → Covers depth a → WSat (field_formula types vars f) a → ⊥) }
     ensures any { (types : List TypeEntry) (vars : List VarEntry) (a : Assignment) (f : FieldId) → IsTypeTable types → IsFinite a →
         WSat (field_formula types vars f) a → IsFunctional types f → ⊥ }
+{}
+
+/// Where some cell of a backbone, over whatever variables, has two destinations, the formula over a table with one data variable a
+/// type is satisfied by a tree of no more cells.
+pub fn each_fork_has_a_tree_as_light()
+    ensures { (types : List TypeEntry) (vars others : List VarEntry) (s : StoreMap) (f : FieldId) → IsTypeTable types →
+        IsOneEach types vars → Fits types others s → IsBackbone types others s → HasFork types s f → HasLightTree types vars f s }
 {}
