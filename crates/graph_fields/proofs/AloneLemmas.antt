@@ -1,6 +1,6 @@
 -- The tree of a cell with two destinations, alone under the variable of its root's type: a backbone with no more cells.
-use Rattle.std.proofs.Common.{◌≡◌, inl, inr, ℕ, ◌+◌, ◌<◌, ◌≤◌, Bool, true, false, List, [], ◌∷◌, map, length, slice_get, Option, Some, None, IsSomeAnd, IfSome, Contains, nat_eq, if◌then◌else◌}
-use Rattle.std.proofs.Common.{refl, sym, ap, ◌∙◌, subst, arith}
+use Rattle.std.proofs.Common.{◌≡◌, inl, inr, ℕ, ◌<◌, ◌≤◌, Bool, true, false, List, [], ◌∷◌, map, length, slice_get, Option, Some, None}
+use Rattle.std.proofs.Common.{IsSomeAnd, IfSome, Contains, nat_eq, if◌then◌else◌, refl, sym, ap, ◌∙◌, subst, arith}
 use Rattle.std.specs.Prelude.{IsSome, option_map}
 use Rattle.std.specs.FinMap.{keys}
 use Rattle.std.proofs.lemmas.Bool.{cases_lt, false≢true}
@@ -56,6 +56,9 @@ itself n = grind (arith, nat_tests)
 
 same_number : (x y : ℕ) → nat_eq x y ≡ true → x ≡ y
 same_number x y e = grind (arith, nat_tests)
+
+abbrev cell_numbered : ℕ → CellId
+cell_numbered n = record { 0 = n }
 
 -- a chain of data fields to a root is no step long
 chain-root : (types : List TypeEntry) (t : StoreMap) (a b : CellId) → IsRoot types t b → Chain t (IsParent types t) a b → a ≡ b
@@ -206,11 +209,7 @@ module _ (types : List TypeEntry) (vars : List VarEntry) (each : IsOneEach types
   fewer : length (keys alone.cells) ≤ length (keys s.cells)
   fewer = matched-le (length (keys s.cells)) (length (keys alone.cells)) IsSameCell (record { partner = partner; once = once })
     where
-      cell_numbered : ℕ → CellId
-      cell_numbered n = record { 0 = n }
-
       partner : (i : ℕ) → i < length (keys alone.cells) → (j : ℕ) × (j < length (keys s.cells)) × IsSameCell i j
-      unfolding cell_numbered
       partner i inside =
           let (number, found) = present (keys alone.cells) i inside in
           let live = (live_on cells s alone on (cell_numbered number) (live_of_key alone (cell_numbered number) i found)).1 in

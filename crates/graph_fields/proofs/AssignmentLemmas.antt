@@ -1,5 +1,6 @@
 -- A backbone's assignment, from the list of its cells with their positions.
-use Rattle.std.proofs.Common.{◌≡◌, ◌↔◌, ℕ, suc, ◌+◌, ◌<◌, ◌≤◌, Bool, true, false, IsTrue, List, [], ◌∷◌, length, slice_get, Option, Some, None, IsSomeAnd, Contains, inl, inr, refl, sym, ap, ◌∙◌, subst, arith}
+use Rattle.std.proofs.Common.{◌≡◌, ◌↔◌, ℕ, suc, ◌+◌, ◌<◌, Bool, true, false, IsTrue, List, [], ◌∷◌, length, slice_get, Option, Some, None}
+use Rattle.std.proofs.Common.{IsSomeAnd, inl, inr, refl, sym, ap, ◌∙◌, subst, arith}
 use Rattle.std.proofs.lemmas.Bool.{false≢true}
 use Rattle.gta_theory.specs.Assignments.{Position, Assignment, Covers, is_same_position}
 use Rattle.gta_theory.proofs.ListsLemmas.{Contains-cases, Contains-none}
@@ -101,8 +102,8 @@ module _ (types : List TypeEntry) (vars : List VarEntry) (s : StoreMap) (at : St
 
   decided_placed : (what : TrackUse) (p : Position) → Decided ((c : CellId) × IsPlaced types vars s c p × CellIsOn s what c)
   decided_placed what p = decided_as
-      (λ h. (h.0.0, (stand h.0.0 p).0 (subst (λ q. IsAt at h.0.0 q) h.2 h.1), h.3))
-      (λ h. ((h.0, p), (stand h.0 p).1 h.1, refl, h.2))
+      (λ h. (h.0.0, (stand h.0.0 p).0 (subst (λ q. IsAt at h.0.0 q) h.2.0 h.1), h.2.1))
+      (λ h. ((h.0, p), (stand h.0 p).1 h.1, (refl, h.2)))
       (decided_one_of (λ (x : CellId × Position). (x.1 ≡ p) × CellIsOn s what x.0)
       (λ x. decided_both (decided_position x.1 p) (decided_cell_on what x.0)) at)
 

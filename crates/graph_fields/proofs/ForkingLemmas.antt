@@ -296,9 +296,10 @@ module _ (types : List TypeEntry) (vars : List VarEntry) (a : Assignment) (f : F
 
   pub store-of_fork : WSat (field_formula types vars f) a → (s : StoreMap) × IsStoreOf types vars a s × HasFork types s f
   store-of_fork h =
-      let both_hold = parts.0 h in
-      let (s, is) = store_of_finite types vars a ((well_encoded-means types vars (owners-there types table) a first (omega arith) finite).0 both_hold.0) finite in
-      (s, is, (forked-means s is.fits is.backbone is.sets is.assignment).0 both_hold.1)
+      let (encoded, forks_there) = parts.0 h in
+      let lays = (well_encoded-means types vars (owners-there types table) a first (omega arith) finite).0 encoded in
+      let (s, is) = store_of_finite types vars a lays finite in
+      (s, is, (forked-means s is.fits is.backbone is.sets is.assignment).0 forks_there)
 
   pub field_formula-means : WSat (field_formula types vars f) a ↔ IsOfFork types vars f a
   field_formula-means = (

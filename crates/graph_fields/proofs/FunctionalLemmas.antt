@@ -24,7 +24,7 @@ use Rattle.graph_fields.proofs.AssignmentLemmas.{assignment}
 use Rattle.graph_fields.proofs.ForkingLemmas.{field_formula-store, field_formula-means}
 
 -- where all variables are data variables, there is no logic set
-no-sets : (types : List TypeEntry) (vars : List VarEntry) (s : StoreMap) → IsOneEach types vars → SetsHoldLive vars s
+pub no-sets : (types : List TypeEntry) (vars : List VarEntry) (s : StoreMap) → IsOneEach types vars → SetsHoldLive vars s
 no-sets types vars s each v =
     IfSome-from (var_at vars v) (λ entry. IfSome (var_value s v) (SetHoldsLive s entry.kind)) (λ entry there.
     IfSome-from (var_value s v) (SetHoldsLive s entry.kind) (λ x is.
