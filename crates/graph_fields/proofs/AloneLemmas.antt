@@ -17,11 +17,10 @@ use Rattle.store_core.specs.declared.kind.VarKind.TheVariants as var
 use Rattle.store_core.specs.declared.value.Value.{Value}
 use Rattle.store_core.specs.declared.value.Value.TheVariants as value
 use Rattle.store_core.specs.Tables.{TypeEntry, VarEntry, IsTypeTable, var_at}
-use Rattle.store_core.specs.Stores.{StoreMap, CellEntry, IsLive, Fits, VarFits, VarsFit, NamesType, CellFits, cell_of, field_value, var_value, var_class, blank}
+use Rattle.store_core.specs.Stores.{StoreMap, CellEntry, IsLive, Fits, VarFits, VarsFit, NamesType, CellFits, cell_of, var_value}
 use Rattle.store_core.proofs.FittingLemmas.{IfSome-from, IfSome-at, IsSomeAnd-at}
 use Rattle.routing_expr.specs.declared.fault.Place.TheVariants as place
 use Rattle.routing_expr.specs.Walks.{DataAlone, IsOfType, IsParent, IsRoot, Chain, stay, go}
-use Rattle.routing_expr.specs.Destinations.{Dest}
 use Rattle.routing_expr.specs.WellFormed.{IsDataVar, Names, VarHoldsLive, IsBackbone}
 use Rattle.routing_expr.specs.Regions.{store_on, IsOn, IsPart, IsApart}
 use Rattle.routing_expr.proofs.KeyLemmas.{keys-rise, key_of_live, live_of_key}

@@ -4,7 +4,6 @@ use Rattle.std.proofs.Common.{IsSomeAnd, inl, inr, refl, sym, ap, ◌∙◌, sub
 use Rattle.std.proofs.lemmas.Bool.{false≢true}
 use Rattle.gta_theory.specs.Assignments.{Position, Assignment, Covers, is_same_position}
 use Rattle.gta_theory.proofs.ListsLemmas.{Contains-cases, Contains-none}
-use Rattle.ws2s_core.specs.declared.track.Track.{Track}
 use Rattle.ws2s_core.proofs.ExamplesLemmas.{same_position-true, same_position-refl}
 use Rattle.ws2s_theory.proofs.SetsLemmas.{not_so}
 use Rattle.store_core.specs.declared.ids.CellId.{CellId}
@@ -21,7 +20,7 @@ use Rattle.routing_laws.proofs.DecidedLemmas.{decided_as, decided_both, decided_
 use Rattle.routing_laws.proofs.DecidedWalks.{decided_same_cell}
 use Rattle.tree_encode.specs.Tracks.{TrackUse, of_variant, of_bool, of_var, tracks_of}
 use Rattle.tree_encode.specs.Positions.{IsPlaced}
-use Rattle.tree_store.specs.Encoding.{track_of, NamesCell, CellIsOn, RootIsOn, IsOn, IsAssignmentOf}
+use Rattle.tree_store.specs.Encoding.{NamesCell, CellIsOn, RootIsOn, IsOn, IsAssignmentOf}
 use Rattle.tree_store.proofs.EncodingLemmas.{track-place}
 use Rattle.tree_store.proofs.SpotsLemmas.{of-some}
 use Rattle.graph_view.specs.After.{Standing, IsAt, AreStanding}

@@ -10,7 +10,6 @@ use Rattle.gta_theory.proofs.ListsLemmas.{All-from_contains, Contains-mapped}
 use Rattle.ws2s_core.specs.declared.track.Track.{Track}
 use Rattle.ws2s_theory.proofs.SetsLemmas.{not_so}
 use Rattle.store_core.specs.declared.ids.CellId.{CellId}
-use Rattle.store_core.specs.declared.ids.TypeId.{TypeId}
 use Rattle.store_core.specs.declared.ids.VarId.{VarId}
 use Rattle.store_core.specs.declared.kind.VarKind.{VarKind}
 use Rattle.store_core.specs.declared.kind.VarKind.TheVariants as var
@@ -33,9 +32,8 @@ use Rattle.tree_formula.specs.WellEncoded.{named, var_id, vars_in, track_or_firs
 use Rattle.tree_meaning.specs.Premises.{OwnersAreThere, SetsHoldLive}
 use Rattle.tree_meaning.proofs.ListsLemmas.{named-inside}
 use Rattle.tree_meaning.proofs.TablesLemmas.{number_of_var, var-there, track-few, owners-there}
-use Rattle.graph_view.specs.declared.view.Sym.{Sym}
 use Rattle.graph_view.specs.declared.view.Sym.TheVariants.{At}
-use Rattle.graph_view.specs.After.{Standing, IsAt, AreStanding, StandsForTruth, StandsForCell, StandsForCells, StandsFor, IsSeen, IsSymBelow, IsEventBelow}
+use Rattle.graph_view.specs.After.{Standing, IsAt, AreStanding, StandsForCell, StandsForCells, StandsFor, IsSeen, IsSymBelow, IsEventBelow}
 use Rattle.graph_view.specs.Fitting.{AreFree}
 use Rattle.graph_live.specs.Showing.{Shows}
 use Rattle.graph_walks.specs.Wells.{ShowsWell}

@@ -1,5 +1,5 @@
 -- The formula of a field on the assignment of a backbone.
-use Rattle.std.proofs.Common.{◌≡◌, ◌↔◌, ℕ, suc, ◌<◌, ◌≤◌, IsSomeAnd, IsTrue, List, [], ◌∷◌, Option, Some, None, refl, sym, ap, ◌∙◌, subst, arith}
+use Rattle.std.proofs.Common.{◌≡◌, ◌↔◌, ℕ, suc, ◌<◌, ◌≤◌, IsSomeAnd, List, [], ◌∷◌, Option, Some, None, refl, sym, ap, ◌∙◌, subst, arith}
 use Rattle.std.specs.Prelude.{IsSome}
 use Rattle.std.specs.Option.{option_map_or, option_and_then}
 use Rattle.gta_theory.specs.Assignments.{Position, Assignment, IsFinite, IsOnly}
@@ -45,13 +45,13 @@ use Rattle.graph_view.specs.After.{Standing, IsAt, AreStanding}
 use Rattle.graph_live.specs.Meaning.{Agrees}
 use Rattle.graph_live.specs.Standing.{Sits, FieldAt, TypeAt}
 use Rattle.graph_live.specs.Showing.{Shows}
-use Rattle.graph_live.proofs.AgreeingLemmas.{Agrees-itself, Agrees-bound, IsOnly-bound, IsOnly-still, sat-and, sat-not, sat-ex1, sat-three}
+use Rattle.graph_live.proofs.AgreeingLemmas.{Agrees-itself, Agrees-bound, IsOnly-bound, IsOnly-still, sat-not, sat-ex1, sat-three}
 use Rattle.graph_live.proofs.SeenLemmas.{seen-has, seen-lives_in}
 use Rattle.graph_live.proofs.StandingLemmas.{Sits-first}
 use Rattle.graph_walks.specs.Walking.{WalkAt}
 use Rattle.graph_walks.proofs.SeenLemmas.{kind-known, data_walk-means}
 use Rattle.graph_fields.specs.Beginning.{first_view}
-use Rattle.graph_fields.specs.Forking.{Forks, HasFork, IsOfFork}
+use Rattle.graph_fields.specs.Forking.{HasFork, IsOfFork}
 use Rattle.graph_fields.proofs.StandingLemmas.{standing}
 use Rattle.graph_fields.proofs.BeginningLemmas.{first-shows}
 

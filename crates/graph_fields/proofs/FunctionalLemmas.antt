@@ -1,5 +1,5 @@
 -- A field is functional exactly where no assignment satisfies its formula.
-use Rattle.std.proofs.Common.{◌≡◌, ◌↔◌, ℕ, ◌<◌, List, Option, Some, None, IsSomeAnd, IfSome, sym, ap, ◌∙◌, subst, refl}
+use Rattle.std.proofs.Common.{◌≡◌, ◌↔◌, ℕ, ◌<◌, List, Option, Some, None, IsSomeAnd, IfSome, sym, ap, ◌∙◌, subst}
 use Rattle.std.specs.Prelude.{IsSome, length}
 use Rattle.std.proofs.lemmas.Bool.{false≢true}
 use Rattle.std.proofs.lemmas.Option.{slice_get_within}
@@ -7,7 +7,6 @@ use Rattle.gta_theory.specs.Assignments.{Assignment, IsFinite, Covers}
 use Rattle.gta_theory.proofs.AssignmentsLemmas.{Covers-finite}
 use Rattle.ws2s_core.specs.Satisfaction.{WSat}
 use Rattle.store_core.specs.declared.ids.FieldId.{FieldId}
-use Rattle.store_core.specs.declared.ids.VarId.{VarId}
 use Rattle.store_core.specs.declared.kind.VarKind.TheVariants as var
 use Rattle.store_core.specs.declared.value.Value.{Value}
 use Rattle.store_core.specs.Tables.{TypeEntry, VarEntry, IsTypeTable, var_at}
@@ -19,7 +18,7 @@ use Rattle.routing_laws.specs.Refuting.{IsOneEach, Refutes}
 use Rattle.routing_laws.proofs.OneEachLemmas.{functional_from}
 use Rattle.tree_meaning.specs.Premises.{SetsHoldLive}
 use Rattle.graph_view.specs.Cuts.{field_formula}
-use Rattle.graph_fields.specs.Forking.{Forks, HasFork, IsOfFork}
+use Rattle.graph_fields.specs.Forking.{HasFork}
 use Rattle.graph_fields.proofs.AssignmentLemmas.{assignment}
 use Rattle.graph_fields.proofs.ForkingLemmas.{field_formula-store, field_formula-means}
 
