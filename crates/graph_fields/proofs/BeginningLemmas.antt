@@ -130,10 +130,10 @@ module _ (types : List TypeEntry) (vars : List VarEntry) (s : StoreMap) (a : Ass
                   one.only p (subst (λ d. IsPlaced types vars s d p) same cell.1))
             ]),
             (λ e. (on p).1 (inr (
-                c,
-                subst (λ q. IsPlaced types vars s c q) (sym e) one.placed,
-                of-some (λ x. NamesCell x c) (var_value s v) (value.Cell (Some c)) is refl,
-              ))),
+              c,
+              subst (λ q. IsPlaced types vars s c q) (sym e) one.placed,
+              of-some (λ x. NamesCell x c) (var_value s v) (value.Cell (Some c)) is refl,
+            ))),
           ),
           (stand c one.position).1 one.placed,
         )

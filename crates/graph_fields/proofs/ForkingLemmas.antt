@@ -189,11 +189,14 @@ module _ (types : List TypeEntry) (vars : List VarEntry) (s : StoreMap) (a : Ass
     cell-from : (c : CellId) (p q : Position) → IsAt at c p → DestAt p q → (d : CellId) × IsAt at d q × Dest types s c f d
     cell-from c p q here (has_f, walks, typed) =
         let (e, d, at_p, at_q, walk) = walks in
-        let (g, also_q, of_target) = typed in
-        (d, at_q, (is-dest types s f entry target along there kind c d).1 (
-          subst (λ x. Walk types s DataAlone along x d) (sits.apart e c p at_p here) walk,
-          subst (λ x. IsOfType s target x) (sits.apart g d q also_q at_q) of_target,
-        ))
+        let (g, also_q, of_target) = typed in (
+          d,
+          at_q,
+          (is-dest types s f entry target along there kind c d).1 (
+            subst (λ x. Walk types s DataAlone along x d) (sits.apart e c p at_p here) walk,
+            subst (λ x. IsOfType s target x) (sits.apart g d q also_q at_q) of_target,
+          ),
+        )
 
     at-positions : (c d : CellId) (p q : Position) → IsAt at c p → IsAt at d q → IsSome (field_value s c f) → Dest types s c f d → DestAt p q
     at-positions c d p q here at_q some dest =
@@ -226,11 +229,17 @@ module _ (types : List TypeEntry) (vars : List VarEntry) (s : StoreMap) (a : Ass
         let (q, at_q) = dest-stands c fork.one fork.to_one in
         let (r, at_r) = dest-stands c fork.other fork.to_other in (
           p,
-          (q, (r, (
-            at-positions c fork.one p q here at_q fork.has fork.to_one,
-            at-positions c fork.other p r here at_r fork.has fork.to_other,
-            λ same. fork.apart (sits.apart fork.one fork.other r (subst (λ w. IsAt at fork.one w) same at_q) at_r),
-          ))),
+          (
+            q,
+            (
+              r,
+              (
+                at-positions c fork.one p q here at_q fork.has fork.to_one,
+                at-positions c fork.other p r here at_r fork.has fork.to_other,
+                λ same. fork.apart (sits.apart fork.one fork.other r (subst (λ w. IsAt at fork.one w) same at_q) at_r),
+              ),
+            ),
+          ),
         )
 
     forks-means : WSat (forks types sight next f target along) a ↔ HasFork types s f
