@@ -18,15 +18,15 @@ pub data IsPicked : List Pos → List Pos → Type 0 where
   take : (picked places : List Pos) (p : Pos) → IsPicked picked places → IsPicked (p ∷ picked) (p ∷ places)
 
 all_picked : (P : Pos → Type 0) (picked places : List Pos) → IsPicked picked places → AllByRecursion P places → AllByRecursion P picked
-all_picked P picked places (none places) all = tt
-all_picked P picked places (skip picked places p more) all = all_picked P picked places more all.1
-all_picked P picked places (take picked places p more) all = (all.0, all_picked P picked places more all.1)
+all_picked P picked places (none others) all = tt
+all_picked P picked places (skip own others p more) all = all_picked P own others more all.1
+all_picked P picked places (take own others p more) all = (all.0, all_picked P own others more all.1)
 
 pub picked_rises : (picked places : List Pos) → IsPicked picked places → Rises places → Rises picked
-picked_rises picked places (none places) rises = tt
-picked_rises picked places (skip picked places p more) rises = picked_rises picked places more rises.1
-picked_rises picked places (take picked places p more) rises =
-    (all_picked (IsBefore p) picked places more rises.0, picked_rises picked places more rises.1)
+picked_rises picked places (none others) rises = tt
+picked_rises picked places (skip own others p more) rises = picked_rises own others more rises.1
+picked_rises picked places (take own others p more) rises =
+    (all_picked (IsBefore p) own others more rises.0, picked_rises own others more rises.1)
 
 -- ---- among words
 
@@ -60,17 +60,17 @@ data First (places : List Pos) (first : Word) (words : List Word) : Type 0 where
       First places first words
 
 first_word : (places : List Pos) (all : List Word) → Occur places all → (first : Word) (words : List Word) → all ≡ first ∷ words → First places first words
-first_word places all (no_more all) first words is = is_none refl
-first_word places all (past places own w more) first words is =
-    let same : own ≡ words = cc in is_past (subst (Occur places) same more)
+first_word places all (no_more every) first words is = is_none refl
+first_word places all (past chosen own w more) first words is =
+    let same : own ≡ words = cc in is_past (subst (Occur chosen) same more)
 first_word places all (here rest own w bytes p named at more) first words is =
     let same : own ≡ words = cc in
     let one : w ≡ first = cc in
     is_here p rest bytes refl (ap (λ (z : Word). z.kind) (sym one) ∙ named) (ap (λ (z : Word). z.place) (sym one) ∙ at) (subst (Occur rest) same more)
 
 none_left : (places : List Pos) (words : List Word) → Occur places words → words ≡ [] → places ≡ []
-none_left places words (no_more words) is = refl
-none_left places words (past places own w more) is = absurd cc
+none_left places words (no_more every) is = refl
+none_left places words (past chosen own w more) is = absurd cc
 none_left places words (here rest own w bytes p named at more) is = absurd cc
 
 -- so they stand among the names of the tokens
@@ -78,15 +78,16 @@ pub occur_picked : (tokens : List Token) (words : List Word) → AreWords tokens
     IsPicked places (name_places tokens)
 occur_picked tokens words no_words places occur = subst (λ (l : List Pos). IsPicked l []) (sym (none_left places [] occur refl)) (none [])
 occur_picked tokens words (parenthesis one rest words is more) places occur = skip_token one rest places (occur_picked rest words more places occur)
-occur_picked tokens words (word one rest first own same at next more) places occur = by (first_word places (first ∷ own) occur first own refl)
+occur_picked tokens words (word one rest first own same at next more) places occur =
+    by (first_word places (first ∷ own) occur first own refl) (λ picked later. occur_picked rest own more picked later)
   where
-    by : First places first own → IsPicked places (name_places (one ∷ rest))
-    by (is_none e) = subst (λ (l : List Pos). IsPicked l (name_places (one ∷ rest))) (sym e) (none (name_places (one ∷ rest)))
-    by (is_past later) = skip_token one rest places (occur_picked rest own more places later)
-    by (is_here p picked bytes e named is later) =
+    by : First places first own → ((picked : List Pos) → Occur picked own → IsPicked picked (name_places rest)) → IsPicked places (name_places (one ∷ rest))
+    by (is_none e) each = subst (λ (l : List Pos). IsPicked l (name_places (one ∷ rest))) (sym e) (none (name_places (one ∷ rest)))
+    by (is_past later) each = skip_token one rest places (each places later)
+    by (is_here p picked bytes e named is later) each =
         let stands : one.span.start ≡ p = subst (λ (o : Option Pos). IsAt o (Some one)) is at in
         subst (λ (l : List Pos). IsPicked l (name_places (one ∷ rest))) (sym (e ∙ ap (λ (q : Pos). q ∷ picked) (sym stands)))
-        (take_token one rest picked bytes (same ∙ named) (occur_picked rest own more picked later))
+        (take_token one rest picked bytes (same ∙ named) (each picked later))
 
 -- ---- words that are passed over
 

@@ -1,5 +1,6 @@
 -- The places of each procedure's cut points occur in order among a program's words, so they are distinct.
-use Rattle.std.proofs.Common.{◌≡◌, ◌≢◌, ℕ, List, [], ◌∷◌, ◌++◌, map, flat_map, Option, Some, None, append-nil, refl, sym, ap, ◌∙◌, subst, codes}
+use Rattle.std.proofs.Common.{◌≡◌, ◌≢◌, ℕ, List, [], ◌∷◌, ◌++◌, map, flat_map, Option, Some, None, append-nil, refl, sym, ap, ◌∙◌, subst}
+use Rattle.std.specs.Prelude.{codes}
 use Rattle.std.specs.Prelude.{filter_map}
 use Rattle.std.specs.List.{AllByRecursion, AllPairs}
 use Rattle.pale_text.specs.declared.place.Pos.{Pos}
@@ -107,8 +108,8 @@ fewer [] places words occur = occur
 fewer (p ∷ first) places words occur = fewer first places words (one_less (p ∷ (first ++ places)) words occur p (first ++ places) refl)
   where
     one_less : (all : List Pos) (words : List Word) → Occur all words → (p : Pos) (rest : List Pos) → all ≡ p ∷ rest → Occur rest words
-    one_less all words (no_more words) p rest is = absurd cc
-    one_less all words (past all own w more) p rest is = past rest own w (one_less all own more p rest is)
+    one_less all words (no_more every) p rest is = absurd cc
+    one_less all words (past chosen own w more) p rest is = past rest own w (one_less chosen own more p rest is)
     one_less all words (here places own w bytes q named at more) p rest is =
         let same : places ≡ rest = cc in past rest own w (subst (λ (l : List Pos). Occur l own) same more)
 

@@ -114,17 +114,17 @@ one_more tokens place (kind.Mark mark) piece spells so_far = (
 
 so_far : (text : List ℕ) (tokens : List Token) (place : Pos) (left : List ℕ) → Reaches text tokens place left → AreSoFar tokens place
 so_far text tokens place left at_start = (tt, tt)
-so_far text tokens place left (past_gap tokens before byte left reached gap) =
-    let h = so_far text tokens before (byte ∷ left) reached in (
+so_far text tokens place left (past_gap earlier before byte rest reached gap) =
+    let h = so_far text earlier before (byte ∷ rest) reached in (
       h.0,
-      all_then before (place_after before byte) (name_places tokens)
+      all_then before (place_after before byte) (name_places earlier)
           (λ p less. before_then p before (place_after before byte) less (after_one before byte)) h.1,
     )
-so_far text tokens place left (past_comment tokens before comment left reached is ends) =
-    let h = so_far text tokens before (comment ++ left) reached in
-    (h.0, all_then before (place_past before comment) (name_places tokens) (λ p less. past_all p before comment less) h.1)
-so_far text tokens place left (past_token earlier before k piece left reached longest) =
-    let h = so_far text earlier before (piece ++ left) reached in
+so_far text tokens place left (past_comment earlier before comment rest reached is ends) =
+    let h = so_far text earlier before (comment ++ rest) reached in
+    (h.0, all_then before (place_past before comment) (name_places earlier) (λ p less. past_all p before comment less) h.1)
+so_far text tokens place left (past_token earlier before k piece rest reached longest) =
+    let h = so_far text earlier before (piece ++ rest) reached in
     let more = one_more earlier before k piece longest.spells h in
     let are = sym (places_more earlier (token_at before k piece)) in
     (subst Rises are more.0, subst (AreBefore (place_past before piece)) are more.1)

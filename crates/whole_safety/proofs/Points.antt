@@ -139,12 +139,15 @@ module _ (P : Arrival → Type 0) (one : AreOne P) (flow : Flow) (all : AllByRec
     where
       never : stops fault.cause fault.line ≡ arrives a t → ⊥
       never e = cc
-  arrival_of types Q (branches line c taken other) each s a t lead is runs = by (truth_of s c) runs
+  arrival_of types Q (branches line c taken other) each s a t lead is runs =
+      by (truth_of s c) (λ h. arrival_of types Q taken (all-first Q (arrivals_of taken) (arrivals_of other) each) s a t lead is h)
+      (λ h. arrival_of types Q other (all-second Q (arrivals_of taken) (arrivals_of other) each) s a t lead is h) runs
     where
-      by : (r : Result Bool Cause) → Chosen line r (RunsFlow types taken s) (RunsFlow types other s) lead → Q a
-      by (Ok true) h = arrival_of types Q taken (all-first Q (arrivals_of taken) (arrivals_of other) each) s a t lead is h
-      by (Ok false) h = arrival_of types Q other (all-second Q (arrivals_of taken) (arrivals_of other) each) s a t lead is h
-      by (Err why) h = absurd (never (sym h ∙ is))
+      by : (r : Result Bool Cause) → (RunsFlow types taken s lead → Q a) → (RunsFlow types other s lead → Q a) →
+          Chosen line r (RunsFlow types taken s) (RunsFlow types other s) lead → Q a
+      by (Ok true) one two h = one h
+      by (Ok false) one two h = two h
+      by (Err why) one two h = absurd (never (sym h ∙ is))
         where
           never : stops why line ≡ arrives a t → ⊥
           never e = cc
