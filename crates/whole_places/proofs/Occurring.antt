@@ -77,7 +77,7 @@ none_left places words (here rest own w bytes p named at more) is = absurd cc
 pub occur_picked : (tokens : List Token) (words : List Word) → AreWords tokens words → (places : List Pos) → Occur places words →
     IsPicked places (name_places tokens)
 occur_picked tokens words no_words places occur = subst (λ (l : List Pos). IsPicked l []) (sym (none_left places [] occur refl)) (none [])
-occur_picked tokens words (parenthesis one rest words is more) places occur = skip_token one rest places (occur_picked rest words more places occur)
+occur_picked tokens words (parenthesis one rest every is more) places occur = skip_token one rest places (occur_picked rest every more places occur)
 occur_picked tokens words (word one rest first own same at next more) places occur =
     by (first_word places (first ∷ own) occur first own refl) (λ picked later. occur_picked rest own more picked later)
   where

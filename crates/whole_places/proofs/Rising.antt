@@ -80,13 +80,14 @@ name_places (one ∷ tokens) = name_at one.kind one.span.start ++ name_places to
 
 places_more : (tokens : List Token) (one : Token) → name_places (tokens ++ one ∷ []) ≡ name_places tokens ++ name_at one.kind one.span.start
 places_more [] one = append-nil (name_at one.kind one.span.start)
-places_more (first ∷ tokens) one = by first.kind
+places_more (first ∷ tokens) one = by first.kind (places_more tokens one)
   where
-    by : (k : TokenKind) → name_at k first.span.start ++ name_places (tokens ++ one ∷ [])
+    by : (k : TokenKind) → name_places (tokens ++ one ∷ []) ≡ name_places tokens ++ name_at one.kind one.span.start →
+        name_at k first.span.start ++ name_places (tokens ++ one ∷ [])
         ≡ (name_at k first.span.start ++ name_places tokens) ++ name_at one.kind one.span.start
-    by (kind.Name bytes) = ap (λ l. first.span.start ∷ l) (places_more tokens one)
-    by (kind.Number digits) = places_more tokens one
-    by (kind.Mark mark) = places_more tokens one
+    by (kind.Name bytes) more = ap (λ (l : List Pos). first.span.start ∷ l) more
+    by (kind.Number digits) more = more
+    by (kind.Mark mark) more = more
 
 abbrev AreSoFar : List Token → Pos → Type 0
 AreSoFar tokens place = Rises (name_places tokens) × AreBefore place (name_places tokens)

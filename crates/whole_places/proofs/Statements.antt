@@ -1,11 +1,11 @@
 -- The places of a statement's cut points occur in order among its words.
 use Rattle.std.proofs.Common.{◌≡◌, ℕ, Bool, true, false, List, [], ◌∷◌, ◌++◌, map, flat_map, Option, Some, None, append_assoc, refl, sym, ap, ◌∙◌, subst}
 use Rattle.std.specs.Prelude.{codes}
-use Rattle.std.specs.Prelude.{option_map}
 use Rattle.pale_text.specs.declared.place.Pos.{Pos}
 use Rattle.pale_text.specs.declared.token.Mark.TheVariants as mark
 use Rattle.pale_text.specs.declared.token.TokenKind.TheVariants as kind
 use Rattle.pale_syntax.specs.declared.tree.names.Name.{Name}
+use Rattle.pale_syntax.specs.declared.tree.condition.Condition.{Condition}
 use Rattle.pale_syntax.specs.declared.tree.assertion.Bracketed.{Bracketed}
 use Rattle.pale_syntax.specs.declared.tree.statement.Argument.{Argument}
 use Rattle.pale_syntax.specs.declared.tree.statement.Argument.TheVariants as argument
@@ -28,7 +28,7 @@ use Rattle.pale_types.specs.declared.typed.Stmt.TheOpen.{Stmt-F}
 use Rattle.pale_types.specs.declared.typed.Stmt.TheFolds.{map-Stmt, fold-roll-Stmt}
 use Rattle.pale_types.specs.declared.basis.Basis.{Basis}
 use Rattle.pale_types.specs.declared.sights.Frame.{Frame}
-use Rattle.pale_types.specs.Statements.{else_of, typing_rules, typed_statement, typed_block}
+use Rattle.pale_types.specs.Statements.{typing_rules, typed_statement, typed_block}
 use Rattle.pale_types.proofs.StatementLemmas.{typed_form}
 use Rattle.whole_safety.specs.Places.{places_in, cut_places}
 use Rattle.whole_places.proofs.Occurring.{Occur, no_more, past, here, ArePassed, one_passed, each_passed, separated_passed}
@@ -120,11 +120,16 @@ module _ (basis : Basis) (frame : Frame) where
   braced block places after occur = sign_passed mark.LeftBrace (own_places block ++ places) _
       (block_stands block places (sign mark.RightBrace after) (sign_passed mark.RightBrace places after occur))
 
-  else_stands : (otherwise : Option (List Standing)) (places : List Pos) (after : List Word) → Occur places after →
-      Occur (places_of (else_of (option_map (λ (block : List Standing). map typed (own block)) otherwise)) ++ places)
-      (else_words (option_map own_words otherwise) after)
-  else_stands None places after occur = occur
-  else_stands (Some block) places after occur = word_passed (codes "else") (own_places block ++ places) _ (braced block places after occur)
+  -- an `if`, and what stands where it is false
+  if_stands : (place : Pos) (c : Condition) (first : List Standing) (elses : List Stmt) (words : Words) →
+      ((places : List Pos) (after : List Word) → Occur places after → Occur (places_of elses ++ places) (words after)) →
+      (places : List Pos) (after : List Word) → Occur places after →
+      Occur ((own_places first ++ places_of elses) ++ places)
+      (word_at (codes "if") place >> condition_words c >> block_words (own_words first) >> words after)
+  if_stands place c first elses words each places after occur =
+      word_at_passed (codes "if") place _ _ (condition_passed c _ _
+      (subst (λ (l : List Pos). Occur l (block_words (own_words first) (words after))) (sym (append_assoc (own_places first) (places_of elses) places))
+      (braced first (places_of elses ++ places) (words after) (each places after occur))))
 
   -- a form whose places are these
   with_places : (s : Stmt) (x : Stmt-F Stmt) (places : List Pos) (words : List Word) → roll-Stmt x ≡ s →
@@ -138,13 +143,13 @@ module _ (basis : Basis) (frame : Frame) where
   node_stands (Statement-F.Skip place) places after occur =
       with_places stmt.Skip Stmt-F.Skip places _ stmt.rolls-Skip
       (word_at_passed (codes "skip") place places _ (sign_passed mark.Semicolon places after occur))
-  node_stands (Statement-F.If place c first otherwise) places after occur =
-      with_places _ (Stmt-F.If place.line _ (map typed (own first)) (else_of (option_map (λ (block : List Standing). map typed (own block)) otherwise)))
-      places _ (stmt.rolls-If place.line _ _ _)
-      (word_at_passed (codes "if") place _ _ (condition_passed c _ _
-      (subst (λ (l : List Pos). Occur l (block_words (own_words first) (else_words (option_map own_words otherwise) after)))
-      (sym (append_assoc (own_places first) (places_of (else_of (option_map (λ (block : List Standing). map typed (own block)) otherwise))) places))
-      (braced first _ (else_words (option_map own_words otherwise) after) (else_stands otherwise places after occur)))))
+  node_stands (Statement-F.If place c first None) places after occur =
+      with_places _ (Stmt-F.If place.line _ (map typed (own first)) []) places _ (stmt.rolls-If place.line _ _ _)
+      (if_stands place c first [] (λ rest. rest) (λ more rest h. h) places after occur)
+  node_stands (Statement-F.If place c first (Some block)) places after occur =
+      with_places _ (Stmt-F.If place.line _ (map typed (own first)) (map typed (own block))) places _ (stmt.rolls-If place.line _ _ _)
+      (if_stands place c first (map typed (own block)) (else_words (Some (own_words block)))
+      (λ more rest h. word_passed (codes "else") (own_places block ++ more) _ (braced block more rest h)) places after occur)
   node_stands (Statement-F.While place c invariant body) places after occur =
       with_places _ (Stmt-F.While place _ _ (map typed (own body))) places _ (stmt.rolls-While place _ _ _)
       (taken (codes "while") place (own_places body ++ places) _ (condition_passed c _ _ (bracketed_passed invariant _ _ (braced body places after occur))))
