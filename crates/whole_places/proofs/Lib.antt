@@ -1,0 +1,5 @@
+pub mod Rising
+pub mod Occurring
+pub mod Forms
+pub mod Statements
+pub mod Programs

@@ -1,0 +1,13 @@
+pub mod SafeFlows
+pub mod Moving
+pub mod Settings
+pub mod Returning
+pub mod Laws
+pub mod Standing
+pub mod Blocks
+pub mod Steps
+pub mod Runs
+pub mod Arrivals
+pub mod Points
+pub mod Claims
+pub mod Safety
