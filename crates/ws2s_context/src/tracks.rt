@@ -17,7 +17,8 @@ pub(crate) fn of_two(alloc: Global, x: Track, y: Track) -> Result<HashSet<u32>, 
     Ok(tracks)
 }
 
-fn insert(tracks: &mut HashSet<u32>, x: Track) -> Result<(), AllocError>
+/// Puts in the number of a track.
+pub(crate) fn insert(tracks: &mut HashSet<u32>, x: Track) -> Result<(), AllocError>
     ensures { OnOk result ((t : ℕ) → contains nat_eq tracks.new t ≡ (x.0 == t) || contains nat_eq tracks.old t) }
 {
     match tracks.insert(x.0) {
