@@ -42,9 +42,7 @@ fn step(
 {
     match task {
         Task::Visit(place) => visit(alloc, interner, facts, place, machine),
-        Task::Turn(place, left, right) => turn(
-            alloc, interner, facts, place, left, right, machine,
-        ),
+        Task::Turn(place, left, right) => turn(alloc, interner, facts, place, left, right, machine),
         Task::Conjoin(place, left, right) => make_conjunction(
             alloc, interner, facts, place, left, right, machine,
         ),

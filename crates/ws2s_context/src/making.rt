@@ -61,7 +61,15 @@ pub(crate) fn make_negation(
 {
     let part = machine.rewritings.to(inner);
     let watched = machine.choice.watched(alloc, interner, place.context)?;
-    let made = negated(alloc, interner, facts, machine, place.context, inner.id, part)?;
+    let made = negated(
+        alloc,
+        interner,
+        facts,
+        machine,
+        place.context,
+        inner.id,
+        part,
+    )?;
     machine.uses.pass_on(&watched, part, made)?;
     machine.rewritings.add(place, made)?;
     Ok(())

@@ -115,7 +115,16 @@ pub(crate) fn turn(
 {
     let first = machine.rewritings.to(left);
     machine.choice.take(alloc, interner, facts, left.id, first)?;
-    let around = right_context(alloc, interner, facts, &machine.choice, place, left, first, g)?;
+    let around = right_context(
+        alloc,
+        interner,
+        facts,
+        &machine.choice,
+        place,
+        left,
+        first,
+        g,
+    )?;
     let right = Place {
         context: around,
         id: g,

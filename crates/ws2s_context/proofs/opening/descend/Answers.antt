@@ -31,6 +31,6 @@ returns-then-may-clause-opened c = λ tracks of.
     (formula_at-is fs old.last.0 _ (sym c.in-Some.ensures.value) ∙ ap (formula_of_node fs) c.in-Ex2.is ∙ rolls-Ex2 c.in-Ex2.t (formula_of fs c.in-Ex2.f)) in
     subst (λ (f : Formula). IsOpened tracks f (conjoined (formulas_at fs old.conjuncts.items) (formula_of fs c.in-Ex2.f))) (sym same)
     (IsOpened-conjoined tracks c.in-Ex2.t fs old.conjuncts.items (formula_of fs c.in-Ex2.f)
-    (λ there. c.may_open-may.ensures.unweighed c.if-may.true (of c.in-Ex2.t there)) 
+    (λ there. c.may_open-may.ensures.unweighed c.if-may.true (of c.in-Ex2.t there))
     (subst (λ (ids : List FormulaId). AllByRecursion (λ id. IsFree c.in-Ex2.t.0 (formula_of fs id) → ⊥) ids) c.as_slice.ensures.value
     (c.may_open-may.ensures.unbound c.if-may.true fs c.requires.facts)))
