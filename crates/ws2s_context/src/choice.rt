@@ -11,7 +11,7 @@ ghost use Rattle.ws2s_context.specs.Conjuncts.{IsContext, IsThere};
 use crate::context::{Context, members_of, note};
 use crate::facts::Facts;
 use crate::spine::{conjuncts_of, has_step, is_atom};
-use crate::tracks::insert;
+use crate::tracks::of_list;
 use std::alloc::{AllocError, Global};
 use std::collections::{HashMap, HashSet};
 use ws2s_core::{FormulaId, Interner, Node, Track, TrackList};
@@ -53,24 +53,13 @@ impl Choice {
             spine: HashSet::new(alloc),
             defined: HashMap::new(alloc),
             taken: HashSet::new(alloc),
-            weighed: HashSet::new(alloc),
+            weighed: of_list(alloc, weigh)?,
         };
-        for track in weigh.as_slice() {
-            insert(&mut choice.weighed, *track)?;
-        }
-        choice.is_whole = choice.has_stranger(facts, id);
+        choice.is_whole = facts.has_stranger(id, &choice.weighed);
         if choice.is_whole {
             choice.follow(alloc, interner, id)?;
         }
         Ok(choice)
-    }
-
-    /// Whether the formula has a free track that isn't weighed, as far as known.
-    fn has_stranger(&self, facts: &Facts, id: FormulaId) -> bool {
-        let Some(fact) = facts.get(id) else {
-            return false;
-        };
-        fact.tracks.iter().any(|t| !self.weighed.contains(t))
     }
 
     /// Whether other conjuncts than atoms come into contexts.

@@ -200,6 +200,14 @@ impl Facts {
         }
     }
 
+    /// Whether the formula has a free track that isn't among these numbers, as far as known.
+    pub(crate) fn has_stranger(&self, id: FormulaId, tracks: &HashSet<u32>) -> bool {
+        match self.get(id) {
+            Some(fact) => !is_within(&fact.tracks, tracks),
+            None => false,
+        }
+    }
+
     /// Whether the conjunct has free tracks, all of which are free in the formula, as far as known.
     pub(crate) fn is_relevant(&self, conjunct: FormulaId, id: FormulaId) -> bool {
         match (self.get(conjunct), self.get(id)) {

@@ -1,4 +1,7 @@
 //! Quantifiers at the end of a formula's outer spine are opened: an automaton need not be projected for the verdict.
+//!
+//! They are where some free track isn't weighed, so that the formula is one of a store: a text's own formulas were decided faster
+//! with their quantifiers, without which all conjunctions above have the bound tracks.
 
 ghost use Rattle.std.specs.Prelude.{◌≡◌, ℕ, List, Contains, IfOk, OnOk, Some, true, slice_get};
 ghost use Rattle.std.specs.List.{AllByRecursion};
@@ -10,6 +13,7 @@ ghost use Rattle.ws2s_context.specs.Facts.{AreFacts};
 ghost use Rattle.ws2s_context.specs.Opening.{AreOf, IsOpened, IsSpine, spined};
 
 use crate::facts::{Facts, make};
+use crate::tracks::of_list;
 use std::alloc::{AllocError, Global};
 use ws2s_core::{FormulaId, Interner, Node, Track, TrackList};
 
@@ -23,7 +27,7 @@ pub(crate) struct Spine {
     pub(crate) last: FormulaId,
 }
 
-/// The number of the formula without the quantifiers at the end of its outer spine whose tracks aren't weighed: what satisfies
+/// The number of the formula without quantifiers at the end of its outer spine whose tracks aren't weighed: what satisfies
 /// it satisfies the formula, and for what satisfies the formula something satisfies it that weighs the same.
 ///
 /// # Errors
@@ -61,7 +65,8 @@ fn opened_number(
     ensures kept { Extends interner.old interner.new }
 {
     let mut facts = Facts::of_parts(alloc, interner, id)?;
-    let spine = spine_of(alloc, interner, &facts, id, weigh)?;
+    let is_wanted = facts.has_stranger(id, &of_list(alloc, weigh)?);
+    let spine = spine_of(alloc, interner, &facts, id, weigh, is_wanted)?;
     let made = joined_again(alloc, interner, &mut facts, spine)?;
     Ok(made)
 }
@@ -73,6 +78,7 @@ fn spine_of(
     facts: &Facts,
     id: FormulaId,
     weigh: &TrackList,
+    is_wanted: bool,
 ) -> Result<Spine, AllocError>
     requires there { IsThere interner.now id }
     requires facts { AreFacts interner.now facts.now.facts.items }
@@ -85,7 +91,7 @@ fn spine_of(
         last: id,
     };
     'steps: for _ in 0..MANY_STEPS {
-        if !descend(interner, facts, weigh, &mut spine)? {
+        if !descend(interner, facts, weigh, is_wanted, &mut spine)? {
             break 'steps;
         }
     }
@@ -97,6 +103,7 @@ fn descend(
     interner: &Interner,
     facts: &Facts,
     weigh: &TrackList,
+    is_wanted: bool,
     spine: &mut Spine,
 ) -> Result<bool, AllocError>
     requires there { IsSpine interner.now spine.old }
@@ -115,7 +122,13 @@ fn descend(
             Ok(true)
         }
         Node::Ex2(t, f) => {
-            let may = may_open(facts, weigh, spine.conjuncts.as_slice(), t);
+            let may = may_open(
+                facts,
+                weigh,
+                is_wanted,
+                spine.conjuncts.as_slice(),
+                t,
+            );
             if may {
                 spine.last = f;
             }
@@ -125,13 +138,19 @@ fn descend(
     }
 }
 
-/// Whether the track isn't weighed, and is free in none of the conjuncts, as far as known.
-fn may_open(facts: &Facts, weigh: &TrackList, conjuncts: &[FormulaId], t: Track) -> bool
+/// Whether its quantifier is to be opened: the track isn't weighed, and is free in none of the conjuncts, as far as known.
+fn may_open(
+    facts: &Facts,
+    weigh: &TrackList,
+    is_wanted: bool,
+    conjuncts: &[FormulaId],
+    t: Track,
+) -> bool
     ensures unweighed { result ≡ true → Contains weigh.now t → ⊥ }
     ensures unbound { result ≡ true → (formulas : List Formula) → AreFacts formulas facts.now.facts.items →
         AllByRecursion (λ c. IsFree t.0 (formula_of formulas c) → ⊥) conjuncts.now }
 {
-    !weigh.as_slice().contains(&t) && all_lack(facts, conjuncts, t)
+    is_wanted && !weigh.as_slice().contains(&t) && all_lack(facts, conjuncts, t)
 }
 
 /// Whether the track is known to be free in none of the conjuncts.

@@ -5,7 +5,7 @@ ghost use Rattle.std.specs.HashSet.{contains};
 
 use std::alloc::{AllocError, Global};
 use std::collections::HashSet;
-use ws2s_core::Track;
+use ws2s_core::{Track, TrackList};
 
 /// The numbers of two tracks.
 pub(crate) fn of_two(alloc: Global, x: Track, y: Track) -> Result<HashSet<u32>, AllocError>
@@ -32,6 +32,15 @@ pub(crate) fn add_all(both: &mut HashSet<u32>, others: &HashSet<u32>) -> Result<
     ensures { OnOk result ((t : ℕ) → contains nat_eq both.new t ≡ contains nat_eq both.old t || contains nat_eq others.now t) }
 {
     both.extend(others.iter().copied())
+}
+
+/// The numbers of the tracks.
+pub(crate) fn of_list(alloc: Global, list: &TrackList) -> Result<HashSet<u32>, AllocError> {
+    let mut tracks = HashSet::new(alloc);
+    for track in list.as_slice() {
+        insert(&mut tracks, *track)?;
+    }
+    Ok(tracks)
 }
 
 /// The same numbers.
