@@ -122,13 +122,7 @@ fn descend(
             Ok(true)
         }
         Node::Ex2(t, f) => {
-            let may = may_open(
-                facts,
-                weigh,
-                is_wanted,
-                spine.conjuncts.as_slice(),
-                t,
-            );
+            let may = may_open(facts, weigh, is_wanted, spine.conjuncts.as_slice(), t);
             if may {
                 spine.last = f;
             }

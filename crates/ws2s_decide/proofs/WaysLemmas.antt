@@ -33,22 +33,22 @@ IsVerdict-same tracks f g (Verdict.Witness nodes w) same model = record {
 IsVerdict-same tracks f g Verdict.Limit same any = tt
 
 -- the tracks of a list, each once, are of the list
+Contains-later : (track : Track) (tracks : List Track) (t : Track) → Contains tracks t → Contains (track ∷ tracks) t
+Contains-later track tracks t (k, below, e) = (suc k, omega (arith, below), e)
+
+each_once-step : (track : Track) (tracks : List Track) (t : Track) → (Contains (each_once tracks) t.0 → Contains tracks t) → (b : Bool) →
+    Contains (cond b (each_once tracks) (track.0 ∷ each_once tracks)) t.0 → Contains (track ∷ tracks) t
+each_once-step track tracks t rest true h = Contains-later track tracks t (rest h)
+each_once-step track tracks t rest false (zero, below, e) = (0, omega arith, ap (λ (n : ℕ). let u : Track = record { 0 = n } in u) e)
+each_once-step track tracks t rest false (suc k, below, e) = Contains-later track tracks t (rest (k, omega (arith, below), e))
+
 each_once-of : (tracks : List Track) → AreOf tracks (each_once tracks)
 each_once-of [] t (k, below, e) = absurd (no-below k below)
   where
     no-below : (k : ℕ) → k < 0 → ⊥
     no-below k below = omega (arith, below)
 each_once-of (track ∷ tracks) t there =
-    pick (is_among tracks track.0) there
-  where
-    later : Contains tracks t → Contains (track ∷ tracks) t
-    later (k, below, e) = (suc k, omega (arith, below), e)
-    first : Contains (track.0 ∷ each_once tracks) t.0 → Contains (track ∷ tracks) t
-    first (zero, below, e) = (0, omega arith, ap (λ (n : ℕ). let u : Track = record { 0 = n } in u) e)
-    first (suc k, below, e) = later (each_once-of tracks t (k, omega (arith, below), e))
-    pick : (b : Bool) → Contains (cond b (each_once tracks) (track.0 ∷ each_once tracks)) t.0 → Contains (track ∷ tracks) t
-    pick true h = later (each_once-of tracks t h)
-    pick false h = first h
+    each_once-step track tracks t (each_once-of tracks t) (is_among tracks track.0) there
 
 -- a verdict on a formula with quantifiers opened is one on the formula
 pub IsVerdict-opened : (tracks : List Track) (f g : Formula) (verdict : Verdict) → ((ts : List ℕ) → AreOf tracks ts → IsOpened ts f g) →

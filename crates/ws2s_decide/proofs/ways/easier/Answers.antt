@@ -10,10 +10,13 @@ opened-requires c =
 pub returns-clause-value : goal.returns-clause-value
 returns-clause-value c = λ f e.
     let rewritten = c.in_ok-rewritten.ensures.value f e in
-    let made = c.in_ok-made.ensures.value rewritten.0 rewritten.1 in
-    (made.0, made.1, λ verdict h.
-    IsVerdict-same c.args.weigh.now f rewritten.0 verdict rewritten.2
-    (IsVerdict-opened c.args.weigh.now rewritten.0 made.0 verdict made.2 h))
+    let made = c.in_ok-made.ensures.value rewritten.0 rewritten.1 in (
+      made.0,
+      made.1,
+      λ verdict h.
+          IsVerdict-same c.args.weigh.now f rewritten.0 verdict rewritten.2
+          (IsVerdict-opened c.args.weigh.now rewritten.0 made.0 verdict made.2 h),
+    )
 
 pub returns-clause-kept : goal.returns-clause-kept
 returns-clause-kept c =
