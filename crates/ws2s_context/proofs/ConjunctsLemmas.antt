@@ -21,6 +21,7 @@ use Rattle.ws2s_core.proofs.NodesLemmas.{formula_at-is}
 use Rattle.gta_theory.proofs.ListedLemmas.{slice_get-front}
 use Rattle.ws2s_core.proofs.SatisfactionLemmas.{WSat-And}
 use Rattle.ws2s_theory.specs.Contexts.{SatisfiesAll}
+use Rattle.ws2s_theory.proofs.ContextsLemmas.{WSat-quantified}
 use Rattle.ws2s_context.specs.Conjuncts.{IsThere, IsContext, IsConjunct, IsUnbound, IsAmong, formula_of, context_at, Implies, before, joined, formulas_at}
 
 -- what holds of all holds of each
@@ -141,6 +142,17 @@ pub Implies-tail : (f : Formula) (context : List Formula) → Implies (f ∷ con
 Implies-tail f context = record { satisfied = λ a finite all. All-tail (λ c. WSat c a) f context all }
 
 -- conjuncts
+pub IsConjunct-quantified : (old new : List Formula) (id made next : FormulaId) (t : Track) → Extends old new → IsThere old id →
+    IsConjunct old (formula_of old id ∷ []) made → formula_of new next ≡ Ex2 t (formula_of old made) → IsThere new next →
+    IsConjunct new (formula_of new id ∷ []) next
+IsConjunct-quantified old new id made next t h there one is next_there = record {
+  there = next_there;
+  implied = Implies-one (formula_of new id ∷ []) (formula_of new next)
+      (λ a finite all. subst (λ f. WSat f a) (sym is) (WSat-quantified t (formula_of old made) a finite
+      (one-implied (formula_of old id ∷ []) (formula_of old made) one.implied a finite
+      (subst (λ f. SatisfiesAll (f ∷ []) a) (at-extends old new id h there) all))));
+}
+
 pub IsConjunct-itself : (formulas : List Formula) (id : FormulaId) → IsThere formulas id → IsConjunct formulas (formula_of formulas id ∷ []) id
 IsConjunct-itself formulas id there = record { there = there; implied = Implies-refl (formula_of formulas id ∷ []) }
 

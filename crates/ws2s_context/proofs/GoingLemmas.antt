@@ -10,12 +10,12 @@ use Rattle.ws2s_core.specs.Tracks.{IsFree}
 use Rattle.ws2s_theory.specs.Contexts.{SameUnder}
 use Rattle.ws2s_theory.proofs.ContextsLemmas.{SameUnder-and, SameUnder-not, SameUnder-ex2, SameUnder-trans, SameUnder-refl, SameUnder-conjoined}
 use Rattle.ws2s_theory.proofs.ContextsLemmas.{All-members, All-members_under, SameUnder-Same}
-use Rattle.ws2s_core.specs.Satisfaction.{Same}
+use Rattle.ws2s_core.specs.Satisfaction.{Same, WSat}
 use Rattle.ws2s_context.specs.declared.task.Place.{Place}
 use Rattle.ws2s_context.specs.declared.task.Task.{Task}
 use Rattle.ws2s_context.specs.declared.rewritings.Rewriting.{Rewriting}
 use Rattle.ws2s_context.specs.Conjuncts.{IsThere, IsContext, formula_of, context_at, Implies}
-use Rattle.ws2s_context.specs.Going.{IsPlace, whole, around, IsSame, IsRewriting, IsConjoining, IsNegating, IsQuantifying, IsSound, IsGoing}
+use Rattle.ws2s_context.specs.Going.{IsPlace, whole, around, IsSame, IsRewriting, IsTurning, IsConjoining, IsNegating, IsQuantifying, IsSound, IsGoing}
 use Rattle.ws2s_context.proofs.ConjunctsLemmas.{at-extends, there-extends, context-extends, IsContext-extends, Extends-trans}
 
 -- what holds in the inner context holds in the one that implies it
@@ -75,6 +75,16 @@ module _ (old new : List Formula) (h : Extends old new) where
         (sym (around-extends old new right h was.right_here)) was.in_right;
   }
 
+  pub IsTurning-extends : (place left : Place) (right : FormulaId) → IsTurning old place left right → IsTurning new place left right
+  IsTurning-extends place left right was = record {
+    here = IsPlace-extends old new place h was.here;
+    left_here = IsPlace-extends old new left h was.left_here;
+    right_there = there-extends old new right h was.right_there;
+    is = whole-extends old new place h was.here ∙ was.is
+        ∙ ap₂ And (sym (whole-extends old new left h was.left_here)) (sym (at-extends old new right h was.right_there));
+    in_left = Implies-along _ _ _ _ (sym (around-extends old new place h was.here)) (sym (around-extends old new left h was.left_here)) was.in_left;
+  }
+
   IsNegating-extends : (place inner : Place) → IsNegating old place inner → IsNegating new place inner
   IsNegating-extends place inner was = record {
     here = IsPlace-extends old new place h was.here;
@@ -94,6 +104,7 @@ module _ (old new : List Formula) (h : Extends old new) where
 
   IsSound-extends : (task : Task) → IsSound old task → IsSound new task
   IsSound-extends (Task.Visit place) was = IsPlace-extends old new place h was
+  IsSound-extends (Task.Turn place left right) was = IsTurning-extends place left right was
   IsSound-extends (Task.Conjoin place left right) was = IsConjoining-extends place left right was
   IsSound-extends (Task.Negate place inner) was = IsNegating-extends place inner was
   IsSound-extends (Task.Quantify place t inner) was = IsQuantifying-extends place t inner was
@@ -126,23 +137,49 @@ pub IsGoing-made : (formulas : List Formula) (tasks : List Task) (old new : List
     All (IsRewriting formulas) new → IsGoing formulas tasks new
 IsGoing-made formulas tasks old new going all = record { sound = going.sound; made = all }
 
--- the tasks of a conjunction, where its contexts were made one after the other
-pub IsConjoining-new : (a b c : List Formula) (place : Place) (f g : FormulaId) (left right : Option FormulaId) → Extends a b → Extends b c →
+-- a conjunction whose left half has its context
+pub IsTurning-new : (a b : List Formula) (place : Place) (f g : FormulaId) (left : Option FormulaId) → Extends a b →
     IsPlace a place → IsThere a f → IsThere a g → whole a place ≡ And (formula_of a f) (formula_of a g) →
-    IsContext b left → IsContext c right → Implies (context_at a place.context) (context_at b left) →
-    Implies (formula_of b f ∷ context_at b place.context) (context_at c right) →
-    IsConjoining c place (record { context = left; id = f }) (record { context = right; id = g })
-IsConjoining-new a b c place f g left right first second here f_there g_there is left_there right_there in_left in_right =
-    let h : Extends a c = Extends-trans a b c first second in
+    IsContext b left → Implies (context_at a place.context) (context_at b left) →
+    IsTurning b place (record { context = left; id = f }) g
+IsTurning-new a b place f g left h here f_there g_there is left_there in_left = record {
+  here = IsPlace-extends a b place h here;
+  left_here = record { id_there = there-extends a b f h f_there; context_there = left_there };
+  right_there = there-extends a b g h g_there;
+  is = whole-extends a b place h here ∙ is ∙ ap₂ And (sym (at-extends a b f h f_there)) (sym (at-extends a b g h g_there));
+  in_left = Implies-along _ _ _ _ (sym (around-extends a b place h here)) refl in_left;
+}
+
+-- what holds around the right half, where the left one was rewritten, holds by the left half as it was
+Implies-turned : (formulas : List Formula) (place left : Place) (g first : FormulaId) (inner : List Formula) → IsTurning formulas place left g →
+    IsSame formulas left first → Implies (formula_of formulas first ∷ around formulas place) inner →
+    Implies (whole formulas left ∷ around formulas place) inner
+Implies-turned formulas place left g first inner was same implied = record {
+  satisfied = λ a finite all.
+      let both = All-tail (λ c. WSat c a) (whole formulas left) (around formulas place) all in
+      let rewritten = (same.same.satisfied a finite (was.in_left.satisfied a finite both)).0
+      (All-head (λ c. WSat c a) (whole formulas left) (around formulas place) all) in
+      implied.satisfied a finite (All-cons (λ c. WSat c a) (formula_of formulas first) (around formulas place) rewritten both);
+}
+
+-- the halves of a conjunction with their contexts, the left one having been rewritten
+pub IsConjoining-turned : (a b c : List Formula) (place left : Place) (g first : FormulaId) (inner : Option FormulaId) → Extends a b → Extends b c →
+    IsTurning a place left g → IsSame a left first → IsContext c inner →
+    Implies (formula_of b first ∷ context_at b place.context) (context_at c inner) →
+    IsConjoining c place left (record { context = inner; id = g })
+IsConjoining-turned a b c place left g first inner before after was same inner_there implied =
+    let h : Extends a c = Extends-trans a b c before after in
+    let turned = IsTurning-extends a c h place left g was in
     record {
-      here = IsPlace-extends a c place h here;
-      left_here = record { id_there = there-extends a c f h f_there; context_there = IsContext-extends b c left second left_there };
-      right_here = record { id_there = there-extends a c g h g_there; context_there = right_there };
-      is = whole-extends a c place h here ∙ is ∙ ap₂ And (sym (at-extends a c f h f_there)) (sym (at-extends a c g h g_there));
-      in_left = Implies-along _ _ _ _ (sym (around-extends a c place h here)) (sym (context-extends b c left second left_there)) in_left;
-      in_right = Implies-along _ _ _ _ (ap₂ (λ x y. x ∷ y)
-          (sym (at-extends b c f second (there-extends a b f first f_there)))
-          (sym (around-extends b c place second (IsPlace-extends a b place first here)))) refl in_right;
+      here = turned.here;
+      left_here = turned.left_here;
+      right_here = record { id_there = turned.right_there; context_there = inner_there };
+      is = turned.is;
+      in_left = turned.in_left;
+      in_right = Implies-turned c place left g first (context_at c inner) turned (IsSame-extends a c left first h same)
+          (Implies-along _ _ _ _ (ap₂ (λ x y. x ∷ y)
+          (sym (at-extends b c first after (there-extends a b first before same.to_there)))
+          (sym (around-extends b c place after (IsPlace-extends a b place before was.here)))) refl implied);
     }
 
 pub IsNegating-new : (formulas : List Formula) (place : Place) (f : FormulaId) → IsPlace formulas place → IsThere formulas f →
@@ -220,13 +257,20 @@ IsGoing-pushed formulas task old new made sound going e =
     subst (λ (tasks : List Task). IsGoing formulas tasks made) (sym e) (IsGoing-push formulas task old made sound going)
 
 -- the tasks of a conjunction come
-pub IsGoing-divided : (formulas : List Formula) (place left right : Place) (first second third last : List Task) (made : List Rewriting) →
+pub IsGoing-dividing : (formulas : List Formula) (place left : Place) (right : FormulaId) (first second last : List Task) (made : List Rewriting) →
+    IsTurning formulas place left right → IsGoing formulas first made → second ≡ Task.Turn place left right ∷ first →
+    last ≡ Task.Visit left ∷ second → IsGoing formulas last made
+IsGoing-dividing formulas place left right first second last made turning going e e' =
+    IsGoing-pushed formulas (Task.Visit left) second last made turning.left_here
+    (IsGoing-pushed formulas (Task.Turn place left right) first second made turning going e) e'
+
+-- the tasks of its right half come
+pub IsGoing-turning : (formulas : List Formula) (place left right : Place) (first second last : List Task) (made : List Rewriting) →
     IsConjoining formulas place left right → IsGoing formulas first made → second ≡ Task.Conjoin place left right ∷ first →
-    third ≡ Task.Visit right ∷ second → last ≡ Task.Visit left ∷ third → IsGoing formulas last made
-IsGoing-divided formulas place left right first second third last made conjoining going e e' e'' =
-    IsGoing-pushed formulas (Task.Visit left) third last made conjoining.left_here
-    (IsGoing-pushed formulas (Task.Visit right) second third made conjoining.right_here
-    (IsGoing-pushed formulas (Task.Conjoin place left right) first second made conjoining going e) e') e''
+    last ≡ Task.Visit right ∷ second → IsGoing formulas last made
+IsGoing-turning formulas place left right first second last made conjoining going e e' =
+    IsGoing-pushed formulas (Task.Visit right) second last made conjoining.right_here
+    (IsGoing-pushed formulas (Task.Conjoin place left right) first second made conjoining going e) e'
 
 -- the tasks of a negation come
 pub IsGoing-negating : (formulas : List Formula) (place inner : Place) (first second last : List Task) (made : List Rewriting) →

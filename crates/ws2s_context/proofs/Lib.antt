@@ -1,3 +1,4 @@
 pub mod ConjunctsLemmas
 pub mod FactsLemmas
 pub mod GoingLemmas
+pub mod OpeningLemmas

@@ -41,6 +41,14 @@ pub record IsConjoining (formulas : List Formula) (place left right : Place) : T
   pub in_left : Implies (around formulas place) (around formulas left)
   pub in_right : Implies (whole formulas left ∷ around formulas place) (around formulas right)
 
+-- a conjunction, the left half with its context, and the right half
+pub record IsTurning (formulas : List Formula) (place left : Place) (right : FormulaId) : Type 0 where
+  pub here : IsPlace formulas place
+  pub left_here : IsPlace formulas left
+  pub right_there : IsThere formulas right
+  pub is : whole formulas place ≡ And (whole formulas left) (formula_of formulas right)
+  pub in_left : Implies (around formulas place) (around formulas left)
+
 -- a negation, and what it negates in the same context
 pub record IsNegating (formulas : List Formula) (place inner : Place) : Type 0 where
   pub here : IsPlace formulas place
@@ -59,6 +67,7 @@ pub record IsQuantifying (formulas : List Formula) (place : Place) (t : Track) (
 -- what a task is about is there, and its contexts hold
 abbrev pub IsSound : List Formula → Task → Type 0
 IsSound formulas (Task.Visit place) = IsPlace formulas place
+IsSound formulas (Task.Turn place left right) = IsTurning formulas place left right
 IsSound formulas (Task.Conjoin place left right) = IsConjoining formulas place left right
 IsSound formulas (Task.Negate place inner) = IsNegating formulas place inner
 IsSound formulas (Task.Quantify place t inner) = IsQuantifying formulas place t inner

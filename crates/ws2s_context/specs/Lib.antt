@@ -1,3 +1,4 @@
 pub mod Conjuncts
 pub mod Facts
 pub mod Going
+pub mod Opening

@@ -7,12 +7,13 @@ ghost use Rattle.ws2s_core.specs.Tracks.{IsFree};
 ghost use Rattle.ws2s_context.specs.Conjuncts.{IsThere, IsContext, IsConjunct, IsUnbound, IsAmong, formula_of, context_at, Implies, before, joined, formulas_at};
 ghost use Rattle.ws2s_context.specs.Facts.{AreFacts};
 
-use crate::facts::Facts;
-use crate::spine::{conjuncts_of, is_atom};
+use crate::choice::Choice;
+use crate::facts::{Facts, make};
+use crate::spine::conjuncts_of;
 use crate::uses::Uses;
 use std::alloc::{AllocError, Global};
 use std::collections::HashSet;
-use ws2s_core::{FormulaId, Interner, Node, Track, intern_form};
+use ws2s_core::{FormulaId, Interner, Node, Track};
 
 /// How many conjuncts a context has at most.
 const MANY_CONJUNCTS: usize = 128;
@@ -21,16 +22,23 @@ const MANY_CONJUNCTS: usize = 128;
 pub(crate) type Context = Option<FormulaId>;
 
 /// The conjunction of conjuncts, as a context.
-fn conjunction_of(interner: &mut Interner, conjuncts: Vec<FormulaId>) -> Result<Context, AllocError>
-    requires { All (IsThere interner.old) conjuncts.items }
+fn conjunction_of(
+    alloc: Global,
+    interner: &mut Interner,
+    facts: &mut Facts,
+    conjuncts: Vec<FormulaId>,
+) -> Result<Context, AllocError>
+    requires there { All (IsThere interner.old) conjuncts.items }
+    requires facts { AreFacts interner.old facts.old.facts.items }
     ensures kept { Extends interner.old interner.new }
     ensures there { IfOk result (IsContext interner.new) }
     ensures value { IfOk result (λ context. context_at interner.new context ≡ joined (formulas_at interner.old conjuncts.items) []) }
+    ensures facts { IfOk result (λ context. AreFacts interner.new facts.new.facts.items) }
 {
     let mut conjuncts = conjuncts;
     let mut context = None;
     while let Some(conjunct) = conjuncts.pop() {
-        let made = put_before(interner, conjunct, context)?;
+        let made = put_before(alloc, interner, facts, conjunct, context)?;
         context = Some(made);
     }
     Ok(context)
@@ -38,20 +46,24 @@ fn conjunction_of(interner: &mut Interner, conjuncts: Vec<FormulaId>) -> Result<
 
 /// The conjunct before what the context has.
 fn put_before(
+    alloc: Global,
     interner: &mut Interner,
+    facts: &mut Facts,
     conjunct: FormulaId,
     context: Context,
 ) -> Result<FormulaId, AllocError>
     requires conjunct { IsThere interner.old conjunct }
     requires context { IsContext interner.old context }
+    requires facts { AreFacts interner.old facts.old.facts.items }
     ensures kept { Extends interner.old interner.new }
     ensures there { IfOk result (IsThere interner.new) }
     ensures value { IfOk result (λ id. formula_of interner.new id ∷ [] ≡
         before (formula_of interner.old conjunct) (context_at interner.old context)) }
+    ensures facts { IfOk result (λ id. AreFacts interner.new facts.new.facts.items) }
 {
     match context {
         Some(rest) => {
-            let made = intern_form(interner, Node::And(conjunct, rest))?;
+            let made = make(alloc, interner, facts, Node::And(conjunct, rest))?;
             Ok(made)
         }
         None => Ok(conjunct),
@@ -95,8 +107,8 @@ fn choose(
     Ok(())
 }
 
-/// Makes a conjunct known.
-fn note(known: &mut HashSet<FormulaId>, conjunct: FormulaId) -> Result<(), AllocError> {
+/// Puts a formula into a set.
+pub(crate) fn note(known: &mut HashSet<FormulaId>, conjunct: FormulaId) -> Result<(), AllocError> {
     match known.insert(conjunct) {
         Ok(_) => Ok(()),
         Err(_) => Err(AllocError),
@@ -107,20 +119,22 @@ fn note(known: &mut HashSet<FormulaId>, conjunct: FormulaId) -> Result<(), Alloc
 pub(crate) fn narrowed(
     alloc: Global,
     interner: &mut Interner,
-    facts: &Facts,
+    facts: &mut Facts,
     context: Context,
     id: FormulaId,
 ) -> Result<Context, AllocError>
-    requires { IsContext interner.old context }
+    requires context { IsContext interner.old context }
+    requires facts { AreFacts interner.old facts.old.facts.items }
     ensures kept { Extends interner.old interner.new }
     ensures there { IfOk result (IsContext interner.new) }
     ensures implied { IfOk result (λ inner. Implies (context_at interner.old context) (context_at interner.new inner)) }
+    ensures facts { IfOk result (λ inner. AreFacts interner.new facts.new.facts.items) }
 {
     let members = members_of(alloc, interner, context)?;
     let mut chosen = Vec::new(alloc);
     let mut known = HashSet::new(alloc);
     choose(&mut chosen, &mut known, facts, &members, id)?;
-    let made = conjunction_of(interner, chosen)?;
+    let made = conjunction_of(alloc, interner, facts, chosen)?;
     Ok(made)
 }
 
@@ -128,19 +142,22 @@ pub(crate) fn narrowed(
 pub(crate) fn used(
     alloc: Global,
     interner: &mut Interner,
+    facts: &mut Facts,
     uses: &Uses,
     context: Context,
     inside: FormulaId,
 ) -> Result<Context, AllocError>
-    requires { IsContext interner.old context }
+    requires context { IsContext interner.old context }
+    requires facts { AreFacts interner.old facts.old.facts.items }
     ensures kept { Extends interner.old interner.new }
     ensures there { IfOk result (IsContext interner.new) }
     ensures implied { IfOk result (λ inner. Implies (context_at interner.old context) (context_at interner.new inner)) }
+    ensures facts { IfOk result (λ inner. AreFacts interner.new facts.new.facts.items) }
 {
     let members = members_of(alloc, interner, context)?;
     let mut chosen = Vec::new(alloc);
     choose_used(&mut chosen, uses, &members, inside)?;
-    let made = conjunction_of(interner, chosen)?;
+    let made = conjunction_of(alloc, interner, facts, chosen)?;
     Ok(made)
 }
 
@@ -161,48 +178,94 @@ fn choose_used(
     Ok(())
 }
 
-/// The context of the right half of a conjunction: what is relevant to it of the left half's atoms and of the context of
-/// both.
+/// The context of the right half of a conjunction: what is relevant to it of what the left half has, of a projection of that,
+/// and of the context of both.
 pub(crate) fn beside(
     alloc: Global,
     interner: &mut Interner,
-    facts: &Facts,
+    facts: &mut Facts,
+    choice: &Choice,
     context: Context,
     left: FormulaId,
+    projection: FormulaId,
     right: FormulaId,
 ) -> Result<Context, AllocError>
     requires context { IsContext interner.old context }
     requires left { IsThere interner.old left }
+    requires projection { IsConjunct interner.old (formula_of interner.old left ∷ []) projection }
+    requires facts { AreFacts interner.old facts.old.facts.items }
     ensures kept { Extends interner.old interner.new }
     ensures there { IfOk result (IsContext interner.new) }
     ensures implied { IfOk result (λ inner. Implies (formula_of interner.old left ∷ context_at interner.old context) (context_at interner.new inner)) }
+    ensures facts { IfOk result (λ inner. AreFacts interner.new facts.new.facts.items) }
 {
-    let of_left = left_atoms(alloc, interner, left)?;
+    let of_left = left_conjuncts(alloc, interner, choice, left, projection)?;
     let members = members_of(alloc, interner, context)?;
     let mut chosen = Vec::new(alloc);
     let mut known = HashSet::new(alloc);
     choose(&mut chosen, &mut known, facts, &of_left, right)?;
     choose(&mut chosen, &mut known, facts, &members, right)?;
-    let made = conjunction_of(interner, chosen)?;
+    let made = conjunction_of(alloc, interner, facts, chosen)?;
     Ok(made)
 }
 
-/// The atoms among the conjuncts of the left half of a conjunction.
-fn left_atoms(
+/// Those conjuncts of the left half of a conjunction that come into contexts, and the projection where it is another formula.
+fn left_conjuncts(
     alloc: Global,
     interner: &Interner,
+    choice: &Choice,
+    left: FormulaId,
+    projection: FormulaId,
+) -> Result<Vec<FormulaId>, AllocError>
+    requires left { IsThere interner.now left }
+    requires projection { IsConjunct interner.now (formula_of interner.now left ∷ []) projection }
+    ensures { IfOk result (λ taken. All (IsConjunct interner.now (formula_of interner.now left ∷ [])) taken.items) }
+{
+    let mut taken = taken_conjuncts(alloc, interner, choice, left)?;
+    if projection != left {
+        taken.push(projection)?;
+    }
+    Ok(taken)
+}
+
+/// Those conjuncts of the left half of a conjunction that come into contexts.
+fn taken_conjuncts(
+    alloc: Global,
+    interner: &Interner,
+    choice: &Choice,
     left: FormulaId,
 ) -> Result<Vec<FormulaId>, AllocError>
     requires { IsThere interner.now left }
-    ensures { IfOk result (λ atoms. All (IsConjunct interner.now (formula_of interner.now left ∷ [])) atoms.items) }
+    ensures { IfOk result (λ taken. All (IsConjunct interner.now (formula_of interner.now left ∷ [])) taken.items) }
 {
-    let mut atoms = Vec::new(alloc);
+    let mut taken = Vec::new(alloc);
     for conjunct in &conjuncts_of(alloc, interner, left)? {
-        if is_atom(interner, *conjunct) {
-            atoms.push(*conjunct)?;
+        if choice.takes(interner, *conjunct) {
+            taken.push(*conjunct)?;
         }
     }
-    Ok(atoms)
+    Ok(taken)
+}
+
+/// The formula with these tracks quantified.
+pub(crate) fn projected(
+    alloc: Global,
+    interner: &mut Interner,
+    facts: &mut Facts,
+    id: FormulaId,
+    tracks: &[u32],
+) -> Result<FormulaId, AllocError>
+    requires id { IsThere interner.old id }
+    requires facts { AreFacts interner.old facts.old.facts.items }
+    ensures kept { Extends interner.old interner.new }
+    ensures conjunct { IfOk result (IsConjunct interner.new (formula_of interner.new id ∷ [])) }
+    ensures facts { IfOk result (λ made. AreFacts interner.new facts.new.facts.items) }
+{
+    let mut made = id;
+    for t in tracks {
+        made = make(alloc, interner, facts, Node::Ex2(Track(*t), made))?;
+    }
+    Ok(made)
 }
 
 /// The context under a quantifier of a track: what is relevant to what stands there, hasn't the track free, and isn't one
@@ -210,24 +273,25 @@ fn left_atoms(
 pub(crate) fn inside(
     alloc: Global,
     interner: &mut Interner,
-    facts: &Facts,
+    facts: &mut Facts,
     context: Context,
     t: Track,
     id: FormulaId,
 ) -> Result<Context, AllocError>
     requires context { IsContext interner.old context }
     requires id { IsThere interner.old id }
-    requires facts { AreFacts interner.old facts.now.facts.items }
+    requires facts { AreFacts interner.old facts.old.facts.items }
     ensures kept { Extends interner.old interner.new }
     ensures there { IfOk result (IsContext interner.new) }
     ensures implied { IfOk result (λ inner. Implies (context_at interner.old context) (context_at interner.new inner)) }
+    ensures facts { IfOk result (λ inner. AreFacts interner.new facts.new.facts.items) }
     ensures unbound { IfOk result (λ inner. All (λ c. IsFree t.0 c → ⊥) (context_at interner.new inner)) }
 {
     let unbound = lacking(alloc, interner, facts, context, t)?;
     let mut known = known_of(alloc, interner, id)?;
     let mut chosen = Vec::new(alloc);
     choose(&mut chosen, &mut known, facts, &unbound, id)?;
-    let made = conjunction_of(interner, chosen)?;
+    let made = conjunction_of(alloc, interner, facts, chosen)?;
     Ok(made)
 }
 

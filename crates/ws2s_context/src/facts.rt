@@ -3,7 +3,7 @@
 ghost use Rattle.std.specs.Prelude.{◌≡◌, ℕ, ◌<◌, IfOk, OnOk, IfSome, IfNone, List, length, true, Contains, ◌||◌, ◌==◌, if◌then◌else◌, false, nat_eq, Some, slice_get};
 ghost use Rattle.std.specs.HashSet.{contains};
 ghost use Rattle.ws2s_core.specs.declared.formula.Formula.{Formula};
-ghost use Rattle.ws2s_core.specs.Nodes.{formula_of_node};
+ghost use Rattle.ws2s_core.specs.Nodes.{Extends, HasPartsBelow, formula_of_node};
 ghost use Rattle.ws2s_core.specs.Tracks.{is_free, IsFree};
 ghost use Rattle.ws2s_context.specs.Conjuncts.{IsThere, formula_of};
 ghost use Rattle.ws2s_context.specs.Facts.{IsFact, AreFacts, Finds};
@@ -11,10 +11,10 @@ ghost use Rattle.ws2s_context.specs.Facts.{IsFact, AreFacts, Finds};
 use crate::tracks::{copy_of, is_within, of_two, union, without};
 use std::alloc::{AllocError, Global};
 use std::collections::{HashMap, HashSet};
-use ws2s_core::{FormulaId, Interner, Node, Track};
+use ws2s_core::{FormulaId, Interner, Node, Track, intern_form};
 
 /// How many free tracks a formula has at most of which anything is kept.
-const MANY_TRACKS: usize = 64;
+const MANY_TRACKS: usize = 256;
 
 /// What is known of a formula.
 #[derive(Drop)]
@@ -22,6 +22,8 @@ pub(crate) struct Fact {
     pub(crate) id: FormulaId,
     /// The numbers of its free tracks.
     pub(crate) tracks: HashSet<u32>,
+    /// How many nodes it has as a tree, or the greatest number where it has more.
+    size: u32,
 }
 
 /// What is known of the parts of a formula. Nothing is known of those with too many free tracks.
@@ -66,11 +68,14 @@ impl Facts {
         None
     }
 
-    /// Puts in what is found of a formula by what is known of its parts.
+    /// Puts in what is found of a formula by what is known of its parts, unless it is known.
     fn add(&mut self, alloc: Global, interner: &Interner, id: FormulaId) -> Result<(), AllocError>
         requires { AreFacts interner.now self.old.facts.items }
         ensures { OnOk result (AreFacts interner.now self.new.facts.items) }
     {
+        if self.get(id).is_some() {
+            return Ok(());
+        }
         let Some(node) = interner.form(id) else {
             return Ok(());
         };
@@ -82,8 +87,30 @@ impl Facts {
             return Ok(());
         }
         self.places.insert(id, self.facts.len())?;
-        self.facts.push(Fact { id, tracks })?;
+        let size = self.size_of(node);
+        self.facts.push(Fact { id, tracks, size })?;
         Ok(())
+    }
+
+    /// How many nodes the formula has as a tree, or the greatest number where it has more or that isn't known.
+    pub(crate) fn size(&self, id: FormulaId) -> u32 {
+        match self.get(id) {
+            Some(fact) => fact.size,
+            None => u32::MAX,
+        }
+    }
+
+    /// The same of a node's formula.
+    fn size_of(&self, node: Node) -> u32 {
+        match node {
+            Node::Sub(_, _)
+            | Node::Single(_)
+            | Node::Succ0(_, _)
+            | Node::Succ1(_, _)
+            | Node::Root(_) => 1,
+            Node::And(f, g) => self.size(f).saturating_add(self.size(g)).saturating_add(1),
+            Node::Not(f) | Node::Ex2(_, f) => self.size(f).saturating_add(1),
+        }
     }
 
     /// The free tracks of a node's formula. `None` where they aren't known of a part.
@@ -173,6 +200,14 @@ impl Facts {
         }
     }
 
+    /// Whether the formula has a free track that isn't among these numbers, as far as known.
+    pub(crate) fn has_stranger(&self, id: FormulaId, tracks: &HashSet<u32>) -> bool {
+        match self.get(id) {
+            Some(fact) => !is_within(&fact.tracks, tracks),
+            None => false,
+        }
+    }
+
     /// Whether the conjunct has free tracks, all of which are free in the formula, as far as known.
     pub(crate) fn is_relevant(&self, conjunct: FormulaId, id: FormulaId) -> bool {
         match (self.get(conjunct), self.get(id)) {
@@ -181,4 +216,22 @@ impl Facts {
             (None, Some(_)) => false,
         }
     }
+}
+
+/// The number of the node's formula, of which is found what can be known of it.
+pub(crate) fn make(
+    alloc: Global,
+    interner: &mut Interner,
+    facts: &mut Facts,
+    node: Node,
+) -> Result<FormulaId, AllocError>
+    requires parts { HasPartsBelow (length interner.old) node }
+    requires facts { AreFacts interner.old facts.old.facts.items }
+    ensures kept { Extends interner.old interner.new }
+    ensures value { IfOk result (λ id. slice_get interner.new id.0 ≡ Some (formula_of_node interner.old node)) }
+    ensures facts { IfOk result (λ id. AreFacts interner.new facts.new.facts.items) }
+{
+    let id = intern_form(interner, node)?;
+    facts.add(alloc, interner, id)?;
+    Ok(id)
 }

@@ -1,17 +1,18 @@
 //! Formulas rewritten in their contexts, task by task.
 
-ghost use Rattle.std.specs.Prelude.{◌≡◌, ◌+◌, ◌*◌, ◌<◌, ◌≤◌, ◌∷◌, length, List, OnOk};
+ghost use Rattle.std.specs.Prelude.{◌≡◌, ◌<◌, ◌∷◌, length, List, OnOk};
 ghost use Rattle.ws2s_core.specs.declared.formula.Formula.{Formula};
 ghost use Rattle.ws2s_core.specs.Nodes.{Extends};
 ghost use Rattle.ws2s_context.specs.Facts.{AreFacts};
 ghost use Rattle.ws2s_context.specs.Going.{IsPlace, IsSound, IsGoing};
 
+use crate::choice::Choice;
 use crate::facts::Facts;
 use crate::making::{make_conjunction, make_negation, make_quantified};
 use crate::rewritings::Rewritings;
 use crate::task::Task;
 use crate::uses::Uses;
-use crate::visiting::visit;
+use crate::visiting::{turn, visit};
 use plain_data::Stack;
 use std::alloc::{AllocError, Global};
 use ws2s_core::Interner;
@@ -21,50 +22,56 @@ use ws2s_core::Interner;
 pub(crate) struct Machine {
     pub(crate) tasks: Stack<Task>,
     pub(crate) rewritings: Rewritings,
+    pub(crate) choice: Choice,
     pub(crate) uses: Uses,
-    /// How many more formulas may be taken apart.
-    pub(crate) room: u32,
 }
 
 /// Does a task.
 fn step(
     alloc: Global,
     interner: &mut Interner,
-    facts: &Facts,
+    facts: &mut Facts,
     task: Task,
     machine: &mut Machine,
 ) -> Result<(), AllocError>
-    requires facts { AreFacts interner.old facts.now.facts.items }
+    requires facts { AreFacts interner.old facts.old.facts.items }
     requires going { IsGoing interner.old (task ∷ machine.old.tasks) machine.old.rewritings.made.items }
     ensures kept { Extends interner.old interner.new }
     ensures ok { OnOk result (IsGoing interner.new machine.new.tasks machine.new.rewritings.made.items) }
-    ensures fewer { OnOk result (4 * machine.new.room + length machine.new.tasks ≤ 4 * machine.old.room + length machine.old.tasks) }
+    ensures facts { OnOk result (AreFacts interner.new facts.new.facts.items) }
 {
     match task {
         Task::Visit(place) => visit(alloc, interner, facts, place, machine),
+        Task::Turn(place, left, right) => turn(alloc, interner, facts, place, left, right, machine),
         Task::Conjoin(place, left, right) => make_conjunction(
-            alloc, interner, place, left, right, machine,
+            alloc, interner, facts, place, left, right, machine,
         ),
-        Task::Negate(place, inner) => make_negation(alloc, interner, place, inner, machine),
+        Task::Negate(place, inner) => make_negation(alloc, interner, facts, place, inner, machine),
         Task::Quantify(place, t, inner) => make_quantified(
-            alloc, interner, place, t, inner, machine,
+            alloc, interner, facts, place, t, inner, machine,
         ),
     }
 }
 
-/// Does all tasks.
+/// How many tasks are done at most.
+const MANY_TASKS: u32 = 400_000;
+
+/// Does all tasks, as far as they are many.
 pub(crate) fn run(
     alloc: Global,
     interner: &mut Interner,
-    facts: &Facts,
+    facts: &mut Facts,
     machine: &mut Machine,
 ) -> Result<(), AllocError>
-    requires facts { AreFacts interner.old facts.now.facts.items }
+    requires facts { AreFacts interner.old facts.old.facts.items }
     requires going { IsGoing interner.old machine.old.tasks machine.old.rewritings.made.items }
     ensures kept { Extends interner.old interner.new }
     ensures ok { OnOk result (IsGoing interner.new machine.new.tasks machine.new.rewritings.made.items) }
 {
-    while let Some(task) = machine.tasks.pop() {
+    'tasks: for _ in 0..MANY_TASKS {
+        let Some(task) = machine.tasks.pop() else {
+            break 'tasks;
+        };
         step(alloc, interner, facts, task, machine)?;
     }
     Ok(())

@@ -7,6 +7,7 @@ ghost use Rattle.ws2s_core.specs.Satisfaction.{Same};
 ghost use Rattle.ws2s_context.specs.Conjuncts.{IsThere, formula_of};
 ghost use Rattle.ws2s_context.specs.Going.{IsPlace, IsGoing};
 
+use crate::choice::Choice;
 use crate::facts::Facts;
 use crate::machine::{Machine, run};
 use crate::rewritings::Rewritings;
@@ -14,13 +15,10 @@ use crate::task::{Place, Task};
 use crate::uses::Uses;
 use plain_data::Stack;
 use std::alloc::{AllocError, Global};
-use ws2s_core::{FormulaId, Interner};
+use ws2s_core::{FormulaId, Interner, TrackList};
 
-/// How many formulas are taken apart at most.
-const MANY_VISITS: u32 = 100_000;
-
-/// The number of a formula with the same satisfying assignments, in which atoms that hold around a part are conjoined inside
-/// it.
+/// The number of a formula with the same satisfying assignments, in which what holds around a part is conjoined inside it.
+/// Definitions are conjoined as projections too: to their own tracks and those that are weighed.
 ///
 /// # Errors
 ///
@@ -29,6 +27,7 @@ pub fn in_context(
     alloc: Global,
     interner: &mut Interner,
     id: FormulaId,
+    weigh: &TrackList,
 ) -> Result<FormulaId, AllocError>
     requires { (f : Formula) × (slice_get interner.old id.0 ≡ Some f) }
     ensures value { IfOk result (λ made. (f : Formula) → slice_get interner.old id.0 ≡ Some f →
@@ -36,28 +35,40 @@ pub fn in_context(
     ensures kept { Extends interner.old interner.new }
     ensures once { IsOnceEach interner.new }
 {
-    let made = rewritten(alloc, interner, id);
+    let made = rewritten(alloc, interner, id, weigh);
     // Only for its clause `once`.
     let _ = interner.form(id);
     made
 }
 
-fn rewritten(alloc: Global, interner: &mut Interner, id: FormulaId) -> Result<FormulaId, AllocError>
+/// The same, with formulas by their places.
+fn rewritten(
+    alloc: Global,
+    interner: &mut Interner,
+    id: FormulaId,
+    weigh: &TrackList,
+) -> Result<FormulaId, AllocError>
     requires { IsThere interner.old id }
     ensures there { IfOk result (IsThere interner.new) }
     ensures same { IfOk result (λ made. Same (formula_of interner.old id) (formula_of interner.new made)) }
     ensures kept { Extends interner.old interner.new }
 {
-    let facts = Facts::of_parts(alloc, interner, id)?;
+    let mut facts = Facts::of_parts(alloc, interner, id)?;
+    let choice = Choice::of_formula(alloc, interner, &facts, id, weigh)?;
     let place = Place { context: None, id };
-    let mut machine = first_machine(alloc, interner, place)?;
-    run(alloc, interner, &facts, &mut machine)?;
+    let mut machine = first_machine(alloc, interner, place, choice)?;
+    run(alloc, interner, &mut facts, &mut machine)?;
     let made = machine.rewritings.to(place);
     Ok(made)
 }
 
 /// The machine that is to rewrite a formula.
-fn first_machine(alloc: Global, interner: &Interner, place: Place) -> Result<Machine, AllocError>
+fn first_machine(
+    alloc: Global,
+    interner: &Interner,
+    place: Place,
+    choice: Choice,
+) -> Result<Machine, AllocError>
     requires { IsPlace interner.now place }
     ensures { IfOk result (λ machine. IsGoing interner.now machine.tasks machine.rewritings.made.items) }
 {
@@ -67,7 +78,7 @@ fn first_machine(alloc: Global, interner: &Interner, place: Place) -> Result<Mac
     Ok(Machine {
         tasks,
         rewritings,
+        choice,
         uses: Uses::new(alloc),
-        room: MANY_VISITS,
     })
 }

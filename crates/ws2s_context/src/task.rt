@@ -15,6 +15,8 @@ pub(crate) struct Place {
 pub(crate) enum Task {
     /// The formula is to be rewritten.
     Visit(Place),
+    /// The right half of the conjunction is to be rewritten, the left one having been.
+    Turn(Place, Place, FormulaId),
     /// The conjunction is to be put together of its halves, which were rewritten in these contexts.
     Conjoin(Place, Place, Place),
     /// The negation is to be made again of what was rewritten.

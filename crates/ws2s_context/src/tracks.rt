@@ -5,7 +5,7 @@ ghost use Rattle.std.specs.HashSet.{contains};
 
 use std::alloc::{AllocError, Global};
 use std::collections::HashSet;
-use ws2s_core::Track;
+use ws2s_core::{Track, TrackList};
 
 /// The numbers of two tracks.
 pub(crate) fn of_two(alloc: Global, x: Track, y: Track) -> Result<HashSet<u32>, AllocError>
@@ -17,7 +17,8 @@ pub(crate) fn of_two(alloc: Global, x: Track, y: Track) -> Result<HashSet<u32>, 
     Ok(tracks)
 }
 
-fn insert(tracks: &mut HashSet<u32>, x: Track) -> Result<(), AllocError>
+/// Puts in the number of a track.
+pub(crate) fn insert(tracks: &mut HashSet<u32>, x: Track) -> Result<(), AllocError>
     ensures { OnOk result ((t : ℕ) → contains nat_eq tracks.new t ≡ (x.0 == t) || contains nat_eq tracks.old t) }
 {
     match tracks.insert(x.0) {
@@ -31,6 +32,15 @@ pub(crate) fn add_all(both: &mut HashSet<u32>, others: &HashSet<u32>) -> Result<
     ensures { OnOk result ((t : ℕ) → contains nat_eq both.new t ≡ contains nat_eq both.old t || contains nat_eq others.now t) }
 {
     both.extend(others.iter().copied())
+}
+
+/// The numbers of the tracks.
+pub(crate) fn of_list(alloc: Global, list: &TrackList) -> Result<HashSet<u32>, AllocError> {
+    let mut tracks = HashSet::new(alloc);
+    for track in list.as_slice() {
+        insert(&mut tracks, *track)?;
+    }
+    Ok(tracks)
 }
 
 /// The same numbers.

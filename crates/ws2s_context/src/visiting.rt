@@ -1,38 +1,38 @@
 //! Visits: a formula is taken apart, and its parts are to be rewritten in contexts of their own.
 
-ghost use Rattle.std.specs.Prelude.{◌≡◌, ◌+◌, ◌*◌, ◌≤◌, ◌<◌, ◌∷◌, length, OnOk};
+ghost use Rattle.std.specs.Prelude.{◌≡◌, ◌<◌, length, IfOk, OnOk};
 ghost use Rattle.ws2s_core.specs.declared.formula.Formula.TheVariants.{And, Not, Ex2};
 ghost use Rattle.ws2s_core.specs.Nodes.{Extends, HasPartsBelow, formula_of_node};
 ghost use Rattle.ws2s_context.specs.Conjuncts.{IsThere, formula_of};
 ghost use Rattle.ws2s_context.specs.Facts.{AreFacts};
-ghost use Rattle.ws2s_context.specs.Going.{IsPlace, IsGoing, whole};
+ghost use Rattle.ws2s_context.specs.Going.{IsPlace, IsSame, IsTurning, IsConjoining, IsGoing, whole};
 
-use crate::context::{beside, inside, narrowed};
+use crate::choice::Choice;
+use crate::context::{Context, beside, inside, narrowed, projected};
 use crate::facts::Facts;
 use crate::machine::Machine;
 use crate::task::{Place, Task};
 use std::alloc::{AllocError, Global};
 use ws2s_core::{FormulaId, Interner, Node, Track};
 
-/// The formula is taken apart, unless it was rewritten in its context before, or there is no more room.
+/// The formula is taken apart, unless it was rewritten in its context before.
 pub(crate) fn visit(
     alloc: Global,
     interner: &mut Interner,
-    facts: &Facts,
+    facts: &mut Facts,
     place: Place,
     machine: &mut Machine,
 ) -> Result<(), AllocError>
-    requires facts { AreFacts interner.old facts.now.facts.items }
+    requires facts { AreFacts interner.old facts.old.facts.items }
     requires place { IsPlace interner.old place }
     requires going { IsGoing interner.old machine.old.tasks machine.old.rewritings.made.items }
     ensures kept { Extends interner.old interner.new }
     ensures ok { OnOk result (IsGoing interner.new machine.new.tasks machine.new.rewritings.made.items) }
-    ensures fewer { OnOk result (4 * machine.new.room + length machine.new.tasks ≤ 4 * machine.old.room + length machine.old.tasks) }
+    ensures facts { OnOk result (AreFacts interner.new facts.new.facts.items) }
 {
-    if machine.room == 0 || machine.rewritings.get(place).is_some() {
+    if machine.rewritings.get(place).is_some() {
         return Ok(());
     }
-    machine.room -= 1;
     match interner.form(place.id) {
         Some(node) => take_apart(alloc, interner, facts, place, node, machine),
         None => Ok(()),
@@ -43,20 +43,19 @@ pub(crate) fn visit(
 fn take_apart(
     alloc: Global,
     interner: &mut Interner,
-    facts: &Facts,
+    facts: &mut Facts,
     place: Place,
     node: Node,
     machine: &mut Machine,
 ) -> Result<(), AllocError>
-    requires facts { AreFacts interner.old facts.now.facts.items }
+    requires facts { AreFacts interner.old facts.old.facts.items }
     requires place { IsPlace interner.old place }
     requires is { whole interner.old place ≡ formula_of_node interner.old node }
     requires parts { HasPartsBelow (length interner.old) node }
     requires going { IsGoing interner.old machine.old.tasks machine.old.rewritings.made.items }
     ensures kept { Extends interner.old interner.new }
     ensures ok { OnOk result (IsGoing interner.new machine.new.tasks machine.new.rewritings.made.items) }
-    ensures tasks { OnOk result (length machine.new.tasks ≤ length machine.old.tasks + 3) }
-    ensures room { machine.new.room ≡ machine.old.room }
+    ensures facts { OnOk result (AreFacts interner.new facts.new.facts.items) }
 {
     match node {
         Node::And(f, g) => divide(alloc, interner, facts, place, f, g, machine),
@@ -67,16 +66,17 @@ fn take_apart(
     }
 }
 
-/// The halves of a conjunction are to be rewritten, the right one with the left one in its context.
+/// The left half of a conjunction is to be rewritten, and after it the right one.
 fn divide(
     alloc: Global,
     interner: &mut Interner,
-    facts: &Facts,
+    facts: &mut Facts,
     place: Place,
     f: FormulaId,
     g: FormulaId,
     machine: &mut Machine,
 ) -> Result<(), AllocError>
+    requires facts { AreFacts interner.old facts.old.facts.items }
     requires place { IsPlace interner.old place }
     requires left { IsThere interner.old f }
     requires right { IsThere interner.old g }
@@ -84,23 +84,87 @@ fn divide(
     requires going { IsGoing interner.old machine.old.tasks machine.old.rewritings.made.items }
     ensures kept { Extends interner.old interner.new }
     ensures ok { OnOk result (IsGoing interner.new machine.new.tasks machine.new.rewritings.made.items) }
-    ensures tasks { OnOk result (length machine.new.tasks ≡ length machine.old.tasks + 3) }
-    ensures room { machine.new.room ≡ machine.old.room }
+    ensures facts { OnOk result (AreFacts interner.new facts.new.facts.items) }
 {
-    let around_left = narrowed(alloc, interner, facts, place.context, f)?;
-    let around_right = beside(alloc, interner, facts, place.context, f, g)?;
+    let around = narrowed(alloc, interner, facts, place.context, f)?;
     let left = Place {
-        context: around_left,
+        context: around,
         id: f,
     };
+    machine.tasks.push(Task::Turn(place, left, g))?;
+    machine.tasks.push(Task::Visit(left))?;
+    Ok(())
+}
+
+/// The right half of a conjunction is to be rewritten, with what holds by the left one in its context.
+pub(crate) fn turn(
+    alloc: Global,
+    interner: &mut Interner,
+    facts: &mut Facts,
+    place: Place,
+    left: Place,
+    g: FormulaId,
+    machine: &mut Machine,
+) -> Result<(), AllocError>
+    requires facts { AreFacts interner.old facts.old.facts.items }
+    requires place { IsTurning interner.old place left g }
+    requires going { IsGoing interner.old machine.old.tasks machine.old.rewritings.made.items }
+    ensures kept { Extends interner.old interner.new }
+    ensures ok { OnOk result (IsGoing interner.new machine.new.tasks machine.new.rewritings.made.items) }
+    ensures facts { OnOk result (AreFacts interner.new facts.new.facts.items) }
+{
+    let first = machine.rewritings.to(left);
+    machine.choice.take(alloc, interner, facts, left.id, first)?;
+    let around = right_context(
+        alloc,
+        interner,
+        facts,
+        &machine.choice,
+        place,
+        left,
+        first,
+        g,
+    )?;
     let right = Place {
-        context: around_right,
+        context: around,
         id: g,
     };
     machine.tasks.push(Task::Conjoin(place, left, right))?;
     machine.tasks.push(Task::Visit(right))?;
-    machine.tasks.push(Task::Visit(left))?;
     Ok(())
+}
+
+/// The context of the right half of a conjunction, the left one having been rewritten to the first formula.
+fn right_context(
+    alloc: Global,
+    interner: &mut Interner,
+    facts: &mut Facts,
+    choice: &Choice,
+    place: Place,
+    left: Place,
+    first: FormulaId,
+    g: FormulaId,
+) -> Result<Context, AllocError>
+    requires facts { AreFacts interner.old facts.old.facts.items }
+    requires place { IsTurning interner.old place left g }
+    requires first { IsSame interner.old left first }
+    ensures kept { Extends interner.old interner.new }
+    ensures right { IfOk result (λ around. IsConjoining interner.new place left (record { context = around; id = g })) }
+    ensures facts { IfOk result (λ around. AreFacts interner.new facts.new.facts.items) }
+{
+    let strangers = choice.strangers(alloc, facts, left.id, first)?;
+    let projection = projected(alloc, interner, facts, first, strangers.as_slice())?;
+    let around = beside(
+        alloc,
+        interner,
+        facts,
+        choice,
+        place.context,
+        first,
+        projection,
+        g,
+    )?;
+    Ok(around)
 }
 
 /// What is negated is to be rewritten in the same context.
@@ -115,8 +179,6 @@ fn enter_negation(
     requires is { whole interner.now place ≡ Not (formula_of interner.now f) }
     requires going { IsGoing interner.now machine.old.tasks machine.old.rewritings.made.items }
     ensures ok { OnOk result (IsGoing interner.now machine.new.tasks machine.new.rewritings.made.items) }
-    ensures tasks { OnOk result (length machine.new.tasks ≡ length machine.old.tasks + 2) }
-    ensures room { machine.new.room ≡ machine.old.room }
 {
     let inner = Place {
         context: place.context,
@@ -131,21 +193,20 @@ fn enter_negation(
 fn enter_quantifier(
     alloc: Global,
     interner: &mut Interner,
-    facts: &Facts,
+    facts: &mut Facts,
     place: Place,
     t: Track,
     f: FormulaId,
     machine: &mut Machine,
 ) -> Result<(), AllocError>
-    requires facts { AreFacts interner.old facts.now.facts.items }
+    requires facts { AreFacts interner.old facts.old.facts.items }
     requires place { IsPlace interner.old place }
     requires inner { IsThere interner.old f }
     requires is { whole interner.old place ≡ Ex2 t (formula_of interner.old f) }
     requires going { IsGoing interner.old machine.old.tasks machine.old.rewritings.made.items }
     ensures kept { Extends interner.old interner.new }
     ensures ok { OnOk result (IsGoing interner.new machine.new.tasks machine.new.rewritings.made.items) }
-    ensures tasks { OnOk result (length machine.new.tasks ≡ length machine.old.tasks + 2) }
-    ensures room { machine.new.room ≡ machine.old.room }
+    ensures facts { OnOk result (AreFacts interner.new facts.new.facts.items) }
 {
     let around = inside(alloc, interner, facts, place.context, t, f)?;
     let inner = Place {

@@ -1,5 +1,5 @@
 -- On verdicts on formulas that are easier to decide.
-use Rattle.std.proofs.Common.{◌≡◌, ℕ, List, ap, ◌∙◌, slice_get, Some}
+use Rattle.std.proofs.Common.{◌≡◌, ℕ, zero, suc, ◌≤◌, Bool, true, false, cond, List, [], ◌∷◌, ◌<◌, arith, Contains, ap, subst, ◌∙◌, slice_get, Some}
 use Rattle.std.proofs.lemmas.Option.{slice_get_within}
 use Rattle.bdd_nodes.specs.Shelf.{Contents}
 use Rattle.gta_core.specs.Auto.{AutoView}
@@ -11,7 +11,9 @@ use Rattle.ws2s_core.specs.declared.node.FormulaId.{FormulaId}
 use Rattle.ws2s_core.specs.declared.track.Track.{Track}
 use Rattle.ws2s_core.specs.LabelTrees.{assignment_of}
 use Rattle.ws2s_core.specs.Nodes.{Extends}
+use Rattle.gta_witness.specs.Lightest.{is_among, each_once}
 use Rattle.ws2s_core.specs.Satisfaction.{Same}
+use Rattle.ws2s_context.specs.Opening.{AreOf, IsOpened}
 use Rattle.ws2s_core.proofs.LabelTreesLemmas.{Covers-tree}
 use Rattle.ws2s_decide.specs.declared.verdict.Verdict.{Verdict}
 use Rattle.ws2s_decide.specs.Deciding.{IsVerdict}
@@ -29,6 +31,42 @@ IsVerdict-same tracks f g (Verdict.Witness nodes w) same model = record {
   least = λ n a covers sat. model.least n a covers ((same.satisfied a (Covers-finite n a covers)).0 sat);
 }
 IsVerdict-same tracks f g Verdict.Limit same any = tt
+
+-- the tracks of a list, each once, are of the list
+Contains-later : (track : Track) (tracks : List Track) (t : Track) → Contains tracks t → Contains (track ∷ tracks) t
+Contains-later track tracks t (k, below, e) = (suc k, omega (arith, below), e)
+
+each_once-step : (track : Track) (tracks : List Track) (t : Track) → (Contains (each_once tracks) t.0 → Contains tracks t) → (b : Bool) →
+    Contains (cond b (each_once tracks) (track.0 ∷ each_once tracks)) t.0 → Contains (track ∷ tracks) t
+each_once-step track tracks t rest true h = Contains-later track tracks t (rest h)
+each_once-step track tracks t rest false (zero, below, e) = (0, omega arith, ap (λ (n : ℕ). let u : Track = record { 0 = n } in u) e)
+each_once-step track tracks t rest false (suc k, below, e) = Contains-later track tracks t (rest (k, omega (arith, below), e))
+
+each_once-of : (tracks : List Track) → AreOf tracks (each_once tracks)
+each_once-of [] t (k, below, e) = absurd (no-below k below)
+  where
+    no-below : (k : ℕ) → k < 0 → ⊥
+    no-below k below = omega (arith, below)
+each_once-of (track ∷ tracks) t there =
+    each_once-step track tracks t (each_once-of tracks t) (is_among tracks track.0) there
+
+-- a verdict on a formula with quantifiers opened is one on the formula
+pub IsVerdict-opened : (tracks : List Track) (f g : Formula) (verdict : Verdict) → ((ts : List ℕ) → AreOf tracks ts → IsOpened ts f g) →
+    IsVerdict tracks g verdict → IsVerdict tracks f verdict
+IsVerdict-opened tracks f g Verdict.None opened none =
+    λ n a covers sat.
+    let b = (opened (each_once tracks) (each_once-of tracks)).satisfied n a covers sat in
+    none b.depth b.assignment b.covers b.satisfied
+IsVerdict-opened tracks f g (Verdict.Witness nodes w) opened model =
+    let one = opened (each_once tracks) (each_once-of tracks) in
+    record {
+      satisfies = one.satisfies (assignment_of nodes) (Covers-finite (length nodes) (assignment_of nodes) (Covers-tree nodes)) model.satisfies;
+      weighs = model.weighs;
+      least = λ n a covers sat.
+          let b = one.satisfied n a covers sat in
+          subst (λ v. w ≤ v) b.is_weight (model.least b.depth b.assignment b.covers b.satisfied);
+    }
+IsVerdict-opened tracks f g Verdict.Limit opened any = tt
 
 -- what rests still does where more formulas have numbers
 pub Rests-extends : (g : Spaces) (old new : List Formula) (shelf : Contents) (automata : List AutoView) (kept : List (FormulaId × AutoView)) → Extends old new →

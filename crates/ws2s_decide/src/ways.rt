@@ -1,10 +1,11 @@
-//! Two ways to a verdict: by a formula that is the same and easier to decide, and where that is at the limit by the formula
+//! Two ways to a verdict: by a formula that is easier to decide, and where that is at the limit by the formula
 //! as it stands.
 
 ghost use Rattle.std.specs.Prelude.{◌≡◌, ◌<◌, ℕ, [], Some, Ok, IfOk, slice_get};
 ghost use Rattle.bdd_nodes.specs.Shelf.{limit_of};
 ghost use Rattle.gta_theory.specs.Guides.{IsGuide};
 ghost use Rattle.ws2s_core.specs.declared.formula.Formula.{Formula};
+ghost use Rattle.ws2s_core.specs.Nodes.{Extends};
 ghost use Rattle.ws2s_theory.specs.Peaks.{HasPeak};
 ghost use Rattle.ws2s_decide.specs.declared.verdict.Verdict.{Verdict};
 ghost use Rattle.ws2s_decide.specs.Going.{Rests};
@@ -16,8 +17,30 @@ use bdd_nodes::Shelf;
 use bdd_walk::NoMemory;
 use gta_keep::Kept;
 use std::alloc::Global;
-use ws2s_context::in_context;
+use ws2s_context::{in_context, opened};
 use ws2s_core::{FormulaId, Guide, Interner, TrackList};
+
+/// The number of a formula each verdict on which is one on the formula with the given number: it is rewritten in its context,
+/// and the quantifiers at its end are opened.
+///
+/// # Errors
+///
+/// Want of memory.
+fn easier(
+    alloc: Global,
+    interner: &mut Interner,
+    id: FormulaId,
+    weigh: &TrackList,
+) -> Result<FormulaId, NoMemory>
+    requires { (f : Formula) × (slice_get interner.old id.0 ≡ Some f) }
+    ensures value { IfOk result (λ made. (f : Formula) → slice_get interner.old id.0 ≡ Some f →
+        (g : Formula) × (slice_get interner.new made.0 ≡ Some g) × ((verdict : Verdict) → IsVerdict weigh.now g verdict → IsVerdict weigh.now f verdict)) }
+    ensures kept { Extends interner.old interner.new }
+{
+    let rewritten = in_context(alloc, interner, id, weigh)?;
+    let made = opened(alloc, interner, rewritten, weigh)?;
+    Ok(made)
+}
 
 /// The verdict on the formula with the number. Its Peak alone licenses a limit, so only the second way answers one.
 ///
@@ -42,7 +65,7 @@ pub(crate) fn decide_number(
     ensures rests { Rests g.now interner.new shelf.new [] kept.new }
     ensures same_limit { limit_of shelf.new ≡ limit_of shelf.old }
 {
-    let made = in_context(alloc, interner, id)?;
+    let made = easier(alloc, interner, id, weigh)?;
     if made == id {
         return verdict_of(alloc, g, interner, id, weigh, kept, shelf);
     }

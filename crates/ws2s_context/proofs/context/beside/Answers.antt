@@ -5,8 +5,8 @@ use Rattle.ws2s_context.specs.Conjuncts.{IsConjunct, Implies, formula_of, contex
 use Rattle.ws2s_context.proofs.ConjunctsLemmas.{All-chosen, All-among, IsConjunct-wider, IsConjunct-there, Implies-head, Implies-tail, Implies-joined}
 use Rattle.ws2s_context.proofs.context.beside.Goals as goal
 
-pub conjunction_of-requires : goal.conjunction_of-requires
-conjunction_of-requires c =
+pub conjunction_of-requires-clause-there : goal.conjunction_of-requires-clause-there
+conjunction_of-requires-clause-there c =
     let fs = c.args.interner.now in
     let left = formula_of fs c.args.left in
     let context = context_at fs c.args.context in

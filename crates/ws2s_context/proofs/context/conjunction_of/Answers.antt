@@ -5,7 +5,7 @@ use Rattle.ws2s_context.proofs.ConjunctsLemmas.{Extends-refl, Extends-trans, the
 use Rattle.ws2s_context.proofs.context.conjunction_of.Goals as goal
 
 pub loop-conjunct-init : goal.loop-conjunct-init
-loop-conjunct-init c = record { kept = Extends-refl c.args.interner.now; there = tt; inside = c.requires; value = refl }
+loop-conjunct-init c = record { kept = Extends-refl c.args.interner.now; there = tt; inside = c.requires.there; value = refl; facts = c.requires.facts }
 
 pub put_before-requires-clause-conjunct : goal.put_before-requires-clause-conjunct
 put_before-requires-clause-conjunct c =
@@ -24,4 +24,5 @@ loop-conjunct-preserved c =
       inside = popped.0;
       value = joined-turn a l.interner c.put_before.new.interner c.pop.new.self.items l.conjuncts.items c.in-Some.conjunct c.in_ok-made.made l.context _
           l.invariant.kept popped.1 c.in-Some.ensures.items l.invariant.value c.in_ok-made.ensures.value;
+      facts = c.in_ok-made.ensures.facts;
     }

@@ -1,6 +1,7 @@
 use Rattle.std.proofs.Common.{◌≡◌, [], All, vec_len}
 use Rattle.ws2s_core.specs.Nodes.{Extends}
 use Rattle.ws2s_context.specs.Conjuncts.{IsThere, IsContext, context_at, joined, formulas_at}
+use Rattle.ws2s_context.specs.Facts.{AreFacts}
 use Rattle.ws2s_context.proofs.context.conjunction_of.Given as goal
 
 abbrev pub invariant-loop-conjunct : goal.invariant-loop-conjunct
@@ -10,6 +11,7 @@ invariant-loop-conjunct l = record {
   inside : All (IsThere l.fn.interner) l.conjuncts.items;
   value : joined (formulas_at l.fn.interner l.conjuncts.items) (context_at l.interner l.context)
       ≡ joined (formulas_at l.fn.interner l.fn.conjuncts.items) [];
+  facts : AreFacts l.interner l.facts.facts.items;
 }
 
 abbrev pub decreases-loop-conjunct : goal.decreases-loop-conjunct

@@ -6,8 +6,8 @@ use Rattle.ws2s_context.specs.Conjuncts.{IsUnbound, Implies, context_at}
 use Rattle.ws2s_context.proofs.ConjunctsLemmas.{All-chosen, IsUnbound-conjuncts, IsConjunct-there, Implies-joined, unbound-joined}
 use Rattle.ws2s_context.proofs.context.inside.Goals as goal
 
-pub conjunction_of-requires : goal.conjunction_of-requires
-conjunction_of-requires c =
+pub conjunction_of-requires-clause-there : goal.conjunction_of-requires-clause-there
+conjunction_of-requires-clause-there c =
     let fs = c.args.interner.now in
     let context = context_at fs c.args.context in
     IsConjunct-there fs context c.choose.new.chosen.items (IsUnbound-conjuncts fs context c.args.t.0 c.choose.new.chosen.items

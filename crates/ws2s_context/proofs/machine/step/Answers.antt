@@ -9,6 +9,12 @@ visit-requires-clause-place c = subst (IsSound c.args.interner.now) c.in-Visit.i
 pub visit-requires-clause-going : goal.visit-requires-clause-going
 visit-requires-clause-going c = IsGoing-rest c.args.interner.now c.args.task _ _ c.requires.going
 
+pub turn-requires-clause-place : goal.turn-requires-clause-place
+turn-requires-clause-place c = subst (IsSound c.args.interner.now) c.in-Turn.is (IsGoing-first c.args.interner.now c.args.task _ _ c.requires.going)
+
+pub turn-requires-clause-going : goal.turn-requires-clause-going
+turn-requires-clause-going c = IsGoing-rest c.args.interner.now c.args.task _ _ c.requires.going
+
 pub make_conjunction-requires-clause-place : goal.make_conjunction-requires-clause-place
 make_conjunction-requires-clause-place c = subst (IsSound c.args.interner.now) c.in-Conjoin.is (IsGoing-first c.args.interner.now c.args.task _ _ c.requires.going)
 

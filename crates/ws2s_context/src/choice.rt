@@ -1,0 +1,198 @@
+//! Which conjuncts come into contexts, and where they are conjoined. It is a choice alone, so it promises nothing.
+//!
+//! Where each free track is weighed, a formula is a text's own: atoms alone come into contexts, and are conjoined where a
+//! position is found by steps from others, since a set of many positions there needs many states. Otherwise it says of a
+//! store's tree that it fails: conjuncts of its outer spine say what a tree of a store is, and without them automata inside
+//! tell apart trees of none. So these and small conjuncts come into contexts, as they were rewritten, and are conjoined at each
+//! quantifier and negation.
+
+ghost use Rattle.ws2s_context.specs.Conjuncts.{IsContext, IsThere};
+
+use crate::context::{Context, members_of, note};
+use crate::facts::Facts;
+use crate::spine::{conjuncts_of, has_step, is_atom};
+use crate::tracks::of_list;
+use std::alloc::{AllocError, Global};
+use std::collections::{HashMap, HashSet};
+use ws2s_core::{FormulaId, Interner, Node, Track, TrackList};
+
+/// How many nodes a conjunct has at most that comes into contexts wherever it stands.
+const MANY_NODES: u32 = 1_000;
+
+/// How far the outer spine is followed.
+const MANY_STEPS: u32 = 100_000;
+
+/// What comes into contexts.
+#[derive(Drop)]
+pub(crate) struct Choice {
+    /// Whether other conjuncts than atoms come into contexts.
+    is_whole: bool,
+    /// Those formulas that are conjuncts all along: they come into contexts however large they are.
+    spine: HashSet<FormulaId>,
+    /// The tracks that conjuncts define: each is the first one under the quantifier of a track.
+    defined: HashMap<FormulaId, Track>,
+    /// Conjuncts, as they were rewritten, that come into contexts.
+    taken: HashSet<FormulaId>,
+    /// The numbers of the tracks that definitions are projected to, beside their own.
+    weighed: HashSet<u32>,
+}
+
+impl Choice {
+    /// What comes into the contexts of a formula's parts, where these tracks are weighed.
+    pub(crate) fn of_formula(
+        alloc: Global,
+        interner: &Interner,
+        facts: &Facts,
+        id: FormulaId,
+        weigh: &TrackList,
+    ) -> Result<Choice, AllocError>
+        requires { IsThere interner.now id }
+    {
+        let mut choice = Choice {
+            is_whole: false,
+            spine: HashSet::new(alloc),
+            defined: HashMap::new(alloc),
+            taken: HashSet::new(alloc),
+            weighed: of_list(alloc, weigh)?,
+        };
+        choice.is_whole = facts.has_stranger(id, &choice.weighed);
+        if choice.is_whole {
+            choice.follow(alloc, interner, id)?;
+        }
+        Ok(choice)
+    }
+
+    /// Whether other conjuncts than atoms come into contexts.
+    pub(crate) fn is_whole(&self) -> bool {
+        self.is_whole
+    }
+
+    /// Follows the outer spine: the right halves of conjunctions, and what stands under quantifiers.
+    fn follow(
+        &mut self,
+        alloc: Global,
+        interner: &Interner,
+        id: FormulaId,
+    ) -> Result<(), AllocError>
+        requires { IsThere interner.now id }
+    {
+        let mut next = id;
+        let mut bound = None;
+        'steps: for _ in 0..MANY_STEPS {
+            let Some(node) = interner.form(next) else {
+                break 'steps;
+            };
+            match node {
+                Node::And(f, g) => {
+                    self.pass(alloc, interner, f, bound)?;
+                    bound = None;
+                    next = g;
+                }
+                Node::Ex2(t, f) => {
+                    bound = Some(t);
+                    next = f;
+                }
+                _ => break 'steps,
+            }
+        }
+        Ok(())
+    }
+
+    /// Notes a conjunct of the spine, which defines the track that was bound just before.
+    fn pass(
+        &mut self,
+        alloc: Global,
+        interner: &Interner,
+        conjunct: FormulaId,
+        bound: Option<Track>,
+    ) -> Result<(), AllocError>
+        requires { IsThere interner.now conjunct }
+    {
+        note(&mut self.spine, conjunct)?;
+        for part in &conjuncts_of(alloc, interner, conjunct)? {
+            note(&mut self.spine, *part)?;
+        }
+        match bound {
+            Some(t) => {
+                let _ = self.defined.insert(conjunct, t)?;
+                Ok(())
+            }
+            None => Ok(()),
+        }
+    }
+
+    /// The left half of a conjunction was rewritten: its conjuncts are taken where it is small or on the spine.
+    pub(crate) fn take(
+        &mut self,
+        alloc: Global,
+        interner: &Interner,
+        facts: &Facts,
+        left: FormulaId,
+        to: FormulaId,
+    ) -> Result<(), AllocError>
+        requires { IsThere interner.now to }
+    {
+        let is_large = facts.size(left) > MANY_NODES && !self.spine.contains(&left);
+        if !self.is_whole || is_large {
+            return Ok(());
+        }
+        for conjunct in &conjuncts_of(alloc, interner, to)? {
+            note(&mut self.taken, *conjunct)?;
+        }
+        Ok(())
+    }
+
+    /// Whether the conjunct comes into contexts.
+    pub(crate) fn takes(&self, interner: &Interner, conjunct: FormulaId) -> bool {
+        is_atom(interner, conjunct) || self.taken.contains(&conjunct)
+    }
+
+    /// The tracks of a definition that aren't its own or weighed, in their order; none where the formula is no definition.
+    pub(crate) fn strangers(
+        &self,
+        alloc: Global,
+        facts: &Facts,
+        left: FormulaId,
+        to: FormulaId,
+    ) -> Result<Vec<u32>, AllocError> {
+        let mut strangers = Vec::new(alloc);
+        let (Some(own), Some(fact)) = (self.defined.get(&left), facts.get(to)) else {
+            return Ok(strangers);
+        };
+        for track in &fact.tracks {
+            if *track != own.0 && !self.weighed.contains(track) {
+                strangers.push(*track)?;
+            }
+        }
+        strangers.sort()?;
+        Ok(strangers)
+    }
+
+    /// Whether a context is conjoined under a quantifier of the formula.
+    pub(crate) fn is_wanted(
+        &self,
+        alloc: Global,
+        interner: &Interner,
+        id: FormulaId,
+    ) -> Result<bool, AllocError> {
+        if self.is_whole {
+            return Ok(true);
+        }
+        has_step(alloc, interner, id)
+    }
+
+    /// The conjuncts of a context of which is noted where they are conjoined: none where all are conjoined everywhere.
+    pub(crate) fn watched(
+        &self,
+        alloc: Global,
+        interner: &Interner,
+        context: Context,
+    ) -> Result<Vec<FormulaId>, AllocError>
+        requires { IsContext interner.now context }
+    {
+        if self.is_whole {
+            return Ok(Vec::new(alloc));
+        }
+        members_of(alloc, interner, context)
+    }
+}
