@@ -212,6 +212,7 @@ fn agrees_on_walk(
 }
 
 /// What a scene is compared by.
+#[derive(Clone, Copy)]
 struct Stage<'a> {
     scene: &'a Scene<'a>,
     layout: &'a Layout<'a>,
@@ -343,7 +344,7 @@ fn check_cells(
     Ok(())
 }
 
-fn check_walks(
+fn check_fields(
     rt: &impl Abort,
     alloc: Global,
     stage: &Stage<'_>,
@@ -352,15 +353,22 @@ fn check_walks(
     for f in stage.scene.fields {
         assert!(rt; field_agrees(alloc, stage, sets, *f)?, "field {}", f.index);
     }
+    Ok(())
+}
+
+/// Walks over all fields, or over data fields alone.
+fn check_walks(
+    rt: &impl Abort,
+    alloc: Global,
+    stage: &Stage<'_>,
+    sets: &mut [Set],
+    pointers: bool,
+) -> Result<(), Fail> {
     let mut number = 0u32;
     for way in stage.scene.ways {
         assert!(rt;
-            walk_agrees(alloc, stage, sets, way, false)?,
+            walk_agrees(alloc, stage, sets, way, pointers)?,
             "walk {number}"
-        );
-        assert!(rt;
-            walk_agrees(alloc, stage, sets, way, true)?,
-            "walk {number} over pointers"
         );
         number = number.saturating_add(1);
     }
@@ -407,6 +415,43 @@ fn changed_cells(alloc: Global, scene: &Scene<'_>, sets: &[Set]) -> Result<Vec<C
     )
 }
 
+fn check_stage(
+    rt: &impl Abort,
+    alloc: Global,
+    stage: &Stage<'_>,
+    sets: &mut [Set],
+) -> Result<(), Fail> {
+    check_cells(rt, alloc, stage, sets)?;
+    check_fields(rt, alloc, stage, sets)?;
+    if stage.scene.pointer.is_some() {
+        check_walks(rt, alloc, stage, sets, false)?;
+    }
+    check_walks(rt, alloc, stage, sets, true)?;
+    check_cuts(rt, alloc, stage, sets)
+}
+
+fn check_on(
+    rt: &impl Abort,
+    alloc: Global,
+    layout: &Layout<'_>,
+    scene: &Scene<'_>,
+    sets: &mut [Set],
+) -> Result<(), Fail> {
+    let cells = changed_cells(alloc, scene, sets)?;
+    let view = view_of(alloc, &scene.look)?;
+    let heap = Heap {
+        types: layout.types(),
+        cells: cells.as_slice(),
+    };
+    let stage = Stage {
+        scene,
+        layout,
+        view: &view,
+        heap,
+    };
+    check_stage(rt, alloc, &stage, sets)
+}
+
 fn check_over(
     rt: &impl Abort,
     alloc: Global,
@@ -419,21 +464,7 @@ fn check_over(
     let layout = Layout::new(alloc, types, vars, &VariantList::new(alloc))?;
     let mut sets = [0; TRACKS];
     add_all(&mut sets, &layout, scene);
-    let cells = changed_cells(alloc, scene, &sets)?;
-    let view = view_of(alloc, &scene.look)?;
-    let heap = Heap {
-        types,
-        cells: cells.as_slice(),
-    };
-    let stage = Stage {
-        scene,
-        layout: &layout,
-        view: &view,
-        heap,
-    };
-    check_cells(rt, alloc, &stage, &mut sets)?;
-    check_walks(rt, alloc, &stage, &mut sets)?;
-    check_cuts(rt, alloc, &stage, &mut sets)
+    check_on(rt, alloc, &layout, scene, &mut sets)
 }
 
 /// The formulas of the scene hold exactly where what they say is so.

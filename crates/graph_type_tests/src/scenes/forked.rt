@@ -11,7 +11,7 @@ use std::test::Fail;
 use store_core::{FieldId, VarKind};
 use ws2s_core::Track;
 
-static TWO: &[Cell] = &[
+const TWO: &[Cell] = &[
     Cell {
         place: 2,
         variant: CELL,
@@ -26,7 +26,7 @@ static TWO: &[Cell] = &[
     },
 ];
 
-static ONE: &[Cell] = &[Cell {
+const ONE: &[Cell] = &[Cell {
     place: 2,
     variant: CELL,
     live: true,

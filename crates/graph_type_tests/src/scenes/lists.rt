@@ -11,7 +11,7 @@ use std::test::Fail;
 use store_core::VarKind;
 use ws2s_core::Track;
 
-static WAYS: &[Way] = &[
+const WAYS: &[Way] = &[
     Way::Down(b"next"),
     Way::Up(b"next"),
     Way::UpAny,
@@ -21,7 +21,7 @@ static WAYS: &[Way] = &[
     Way::Then(&Way::Down(b"next"), &Way::Down(b"next")),
     Way::Or(&Way::Root, &Way::Up(b"next")),
     Way::Star(&Way::Down(b"next")),
-    Way::Then(&Way::Star(&Way::UpAny), &Way::Root),
+    Way::Then(&Way::Leaf, &Way::Star(&Way::UpAny)),
 ];
 
 const X: Sym = Sym::At(Track(1));

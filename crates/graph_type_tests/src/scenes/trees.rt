@@ -11,7 +11,7 @@ use std::test::Fail;
 use store_core::VarKind;
 use ws2s_core::Track;
 
-static WAYS: &[Way] = &[
+const WAYS: &[Way] = &[
     Way::Down(b"right"),
     Way::UpAny,
     Way::Leaf,
