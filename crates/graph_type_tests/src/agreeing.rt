@@ -44,11 +44,15 @@ pub(crate) fn changed<'a>(
     change: &Change<'a>,
     region: Option<(Track, bool)>,
 ) -> Scene<'a> {
-    let mut scene = *start;
-    scene.look.values = change.0;
-    scene.look.events = change.1;
-    scene.look.region = region;
-    scene
+    let look = Look {
+        types: start.look.types,
+        vars: start.look.vars,
+        values: change.0,
+        events: change.1,
+        region,
+        next: start.look.next,
+    };
+    Scene { look, ..*start }
 }
 
 /// Tracks of one position each that the formulas are about, and the first that quantifiers bind.
