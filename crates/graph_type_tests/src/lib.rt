@@ -1,4 +1,4 @@
-//! Tests of formulas after heap events: some written out by hand, others compared with small stores. The crate has nothing else.
+//! Tests of formulas after heap events: some written out, others compared with small stores. The crate has nothing else.
 #![tactic(auto)]
 
 #[cfg(test)]

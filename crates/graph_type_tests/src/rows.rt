@@ -1,4 +1,5 @@
-//! The formulas of small programs at the places where they can fail, written out by hand from the rules of the formulas.
+//! The formulas of small programs at the places where they can fail, worked out from the rules of the formulas by another
+//! program.
 
 mod cut_off;
 mod grown;

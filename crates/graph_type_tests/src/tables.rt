@@ -1,4 +1,4 @@
-//! The types of the rows, and two more.
+//! The types of the programs whose formulas are written out, and of painted trees.
 
 use crate::made::{FIRST, add_any_next, add_bool, add_data, add_prev, add_type, add_variant};
 use std::alloc::{AllocError, Global};
