@@ -12,7 +12,7 @@ use Rattle.pale_syntax.specs.declared.tree.statement.Argument.TheVariants as arg
 use Rattle.pale_syntax.specs.declared.tree.statement.Call.{Call}
 use Rattle.pale_syntax.specs.declared.tree.statement.Statement.{Statement, roll-Statement}
 use Rattle.pale_syntax.specs.declared.tree.statement.Statement.TheOpen.{Statement-F}
-use Rattle.pale_syntax.specs.declared.tree.statement.Statement.TheFolds.{map-Statement, ind-Statement}
+use Rattle.pale_syntax.specs.declared.tree.statement.Statement.TheFolds.{fold-roll-Statement, map-Statement, ind-Statement}
 use Rattle.pale_syntax.specs.declared.tree.statement.Value.{Value}
 use Rattle.pale_syntax.specs.declared.tree.statement.Value.TheVariants as value
 use Rattle.pale_place_laws.specs.Words.{Word, Words, ◌>>◌, each, separated, sign, word_at, name_words, path_words}
@@ -21,7 +21,6 @@ use Rattle.pale_place_laws.specs.AssertionWords.{bracketed_words}
 use Rattle.pale_place_laws.specs.StatementWords.{truth_word, argument_words, new_variant_words, value_words, value_place, assigns, clause_words}
 use Rattle.pale_place_laws.specs.StatementWords.{call_result_words, logic_argument_words, given_words, call_words}
 use Rattle.pale_place_laws.specs.StatementWords.{block_words, else_words, statement_node, statement_words}
-use Rattle.pale_place_laws.proofs.StatementForms.{words_at}
 use Rattle.pale_types.specs.declared.typed.Stmt.{Stmt, roll-Stmt}
 use Rattle.pale_types.specs.declared.typed.Stmt.TheVariants as stmt
 use Rattle.pale_types.specs.declared.typed.Stmt.TheOpen.{Stmt-F}
@@ -78,7 +77,11 @@ taken : (bytes : List ℕ) (place : Pos) (places : List Pos) (after : List Word)
 taken bytes place places after occur =
     here places after (record { kind = kind.Name bytes; place = Some place; next = None }) bytes place refl refl occur
 
--- ---- the places of typed statements, by their forms
+-- ---- the words and places of statements, by their forms
+
+words_at : (x : Statement-F Statement) → statement_words (roll-Statement x) ≡ statement_node (map-Statement Statement Words statement_words x)
+unfolding statement_words
+words_at x = fold-roll-Statement Words statement_node x
 
 places_form : (x : Stmt-F Stmt) → cut_places (roll-Stmt x) ≡ places_in (map-Stmt Stmt (List Pos) cut_places x)
 unfolding cut_places

@@ -10,4 +10,4 @@ pub mod Runs
 pub mod Arrivals
 pub mod Points
 pub mod Claims
-pub mod Safety
+pub mod Procedures

@@ -1,7 +1,7 @@
 use Rattle.store_exec.proofs.RestrictedLemmas.{well_formed-at_cut}
 use Rattle.whole_safety.proofs.Laws.{Laws}
 use Rattle.whole_safety.proofs.Claims.{met_stays}
-use Rattle.whole_safety.proofs.Safety.{runs_never_fail}
+use Rattle.whole_safety.proofs.Procedures.{runs_never_fail}
 use Rattle.whole_safety.proofs.safety.whole_runs_never_fail.Goals as goal
 
 pub returns : goal.returns
