@@ -8,6 +8,7 @@ ghost use Rattle.ws2s_context.specs.Conjuncts.{IsThere, IsContext, IsConjunct, I
 ghost use Rattle.ws2s_context.specs.Facts.{AreFacts};
 
 use crate::facts::Facts;
+use crate::manner::Manner;
 use crate::spine::{conjuncts_of, is_atom};
 use crate::uses::Uses;
 use std::alloc::{AllocError, Global};
@@ -170,6 +171,7 @@ pub(crate) fn beside(
     context: Context,
     left: FormulaId,
     right: FormulaId,
+    manner: &Manner,
 ) -> Result<Context, AllocError>
     requires context { IsContext interner.old context }
     requires left { IsThere interner.old left }
@@ -177,7 +179,7 @@ pub(crate) fn beside(
     ensures there { IfOk result (IsContext interner.new) }
     ensures implied { IfOk result (λ inner. Implies (formula_of interner.old left ∷ context_at interner.old context) (context_at interner.new inner)) }
 {
-    let of_left = left_atoms(alloc, interner, left)?;
+    let of_left = left_atoms(alloc, interner, facts, left, manner)?;
     let members = members_of(alloc, interner, context)?;
     let mut chosen = Vec::new(alloc);
     let mut known = HashSet::new(alloc);
@@ -191,16 +193,21 @@ pub(crate) fn beside(
 fn left_atoms(
     alloc: Global,
     interner: &Interner,
+    facts: &Facts,
     left: FormulaId,
+    manner: &Manner,
 ) -> Result<Vec<FormulaId>, AllocError>
     requires { IsThere interner.now left }
     ensures { IfOk result (λ atoms. All (IsConjunct interner.now (formula_of interner.now left ∷ [])) atoms.items) }
 {
     let mut atoms = Vec::new(alloc);
     for conjunct in &conjuncts_of(alloc, interner, left)? {
-        if is_atom(interner, *conjunct) {
+        if is_atom(interner, *conjunct) || manner.is_taken(*conjunct) {
             atoms.push(*conjunct)?;
         }
+    }
+    if let Some(p) = manner.projection(left) {
+        atoms.push(p)?;
     }
     Ok(atoms)
 }

@@ -14,7 +14,7 @@ use std::collections::{HashMap, HashSet};
 use ws2s_core::{FormulaId, Interner, Node, Track};
 
 /// How many free tracks a formula has at most of which anything is kept.
-const MANY_TRACKS: usize = 64;
+const MANY_TRACKS: usize = 256;
 
 /// What is known of a formula.
 #[derive(Drop)]
@@ -22,6 +22,8 @@ pub(crate) struct Fact {
     pub(crate) id: FormulaId,
     /// The numbers of its free tracks.
     pub(crate) tracks: HashSet<u32>,
+    /// How many nodes it has as a tree, at most the greatest number.
+    pub(crate) size: u32,
 }
 
 /// What is known of the parts of a formula. Nothing is known of those with too many free tracks.
@@ -30,6 +32,7 @@ pub(crate) struct Facts {
     pub(crate) facts: Vec<Fact>,
     /// Where the fact about a formula stands.
     places: HashMap<FormulaId, usize>,
+    unknown: HashSet<FormulaId>,
 }
 
 impl Facts {
@@ -46,6 +49,7 @@ impl Facts {
         let mut facts = Facts {
             facts: Vec::new(alloc),
             places: HashMap::new(alloc),
+            unknown: HashSet::new(alloc),
         };
         for part in parts.as_slice() {
             facts.add(alloc, interner, *part)?;
@@ -67,13 +71,14 @@ impl Facts {
     }
 
     /// Puts in what is found of a formula by what is known of its parts.
-    fn add(&mut self, alloc: Global, interner: &Interner, id: FormulaId) -> Result<(), AllocError>
+    pub(crate) fn add(&mut self, alloc: Global, interner: &Interner, id: FormulaId) -> Result<(), AllocError>
         requires { AreFacts interner.now self.old.facts.items }
         ensures { OnOk result (AreFacts interner.now self.new.facts.items) }
     {
         let Some(node) = interner.form(id) else {
             return Ok(());
         };
+        if self.places.contains_key(&id) { return Ok(()); }
         let found = self.found(alloc, node)?;
         let Some(tracks) = found else {
             return Ok(());
@@ -82,7 +87,8 @@ impl Facts {
             return Ok(());
         }
         self.places.insert(id, self.facts.len())?;
-        self.facts.push(Fact { id, tracks })?;
+        let size = self.size_of(node);
+        self.facts.push(Fact { id, tracks, size })?;
         Ok(())
     }
 
@@ -160,6 +166,50 @@ impl Facts {
         };
         let tracks = without(alloc, &inner.tracks, t)?;
         Ok(Some(tracks))
+    }
+
+    pub(crate) fn learn(&mut self, alloc: Global, interner: &Interner, id: FormulaId) -> Result<(), AllocError> {
+        let mut waiting = Vec::new(alloc);
+        waiting.push(id)?;
+        while let Some(next) = waiting.pop() {
+            if self.places.contains_key(&next) { continue; }
+            let mut ready = true;
+            let mut wanted = Vec::new(alloc);
+            match interner.form(next) {
+                Some(Node::And(f, g)) => { wanted.push(f)?; wanted.push(g)?; }
+                Some(Node::Not(f) | Node::Ex2(_, f)) => wanted.push(f)?,
+                _ => {}
+            }
+            for w in &wanted {
+                if !self.places.contains_key(w) && !self.unknown.contains(w) { ready = false; }
+            }
+            if ready {
+                self.add(alloc, interner, next)?;
+                if !self.places.contains_key(&next) { let Ok(_) = self.unknown.insert(next) else { return Err(AllocError); }; }
+            } else {
+                waiting.push(next)?;
+                for w in &wanted {
+                    if !self.places.contains_key(w) && !self.unknown.contains(w) { waiting.push(*w)?; }
+                }
+            }
+        }
+        Ok(())
+    }
+
+    fn size_of(&self, node: Node) -> u32 {
+        match node {
+            Node::And(f, g) => self.size(f).saturating_add(self.size(g)).saturating_add(1),
+            Node::Not(f) => self.size(f).saturating_add(1),
+            Node::Ex2(_, f) => self.size(f).saturating_add(1),
+            Node::Sub(_, _) | Node::Single(_) | Node::Succ0(_, _) | Node::Succ1(_, _) | Node::Root(_) => 1,
+        }
+    }
+
+    pub(crate) fn size(&self, id: FormulaId) -> u32 {
+        match self.get(id) {
+            Some(fact) => fact.size,
+            None => u32::MAX,
+        }
     }
 
     /// Whether the track is known not to be free in the formula.

@@ -10,6 +10,8 @@ mod context;
 mod facts;
 mod machine;
 mod making;
+mod manner;
+mod opening;
 mod rewriting;
 mod rewritings;
 mod spine;
@@ -18,4 +20,5 @@ mod tracks;
 mod uses;
 mod visiting;
 
-pub use rewriting::in_context;
+pub use rewriting::{in_context, in_whole_context};
+pub use opening::opened;

@@ -7,11 +7,12 @@ ghost use Rattle.ws2s_context.specs.Facts.{AreFacts};
 ghost use Rattle.ws2s_context.specs.Going.{IsPlace, IsSound, IsGoing};
 
 use crate::facts::Facts;
+use crate::manner::Manner;
 use crate::making::{make_conjunction, make_negation, make_quantified};
 use crate::rewritings::Rewritings;
 use crate::task::Task;
 use crate::uses::Uses;
-use crate::visiting::visit;
+use crate::visiting::{turn, visit};
 use plain_data::Stack;
 use std::alloc::{AllocError, Global};
 use ws2s_core::Interner;
@@ -22,6 +23,7 @@ pub(crate) struct Machine {
     pub(crate) tasks: Stack<Task>,
     pub(crate) rewritings: Rewritings,
     pub(crate) uses: Uses,
+    pub(crate) manner: Manner,
     /// How many more formulas may be taken apart.
     pub(crate) room: u32,
 }
@@ -30,11 +32,11 @@ pub(crate) struct Machine {
 fn step(
     alloc: Global,
     interner: &mut Interner,
-    facts: &Facts,
+    facts: &mut Facts,
     task: Task,
     machine: &mut Machine,
 ) -> Result<(), AllocError>
-    requires facts { AreFacts interner.old facts.now.facts.items }
+    requires facts { AreFacts interner.old facts.old.facts.items }
     requires going { IsGoing interner.old (task ∷ machine.old.tasks) machine.old.rewritings.made.items }
     ensures kept { Extends interner.old interner.new }
     ensures ok { OnOk result (IsGoing interner.new machine.new.tasks machine.new.rewritings.made.items) }
@@ -42,6 +44,7 @@ fn step(
 {
     match task {
         Task::Visit(place) => visit(alloc, interner, facts, place, machine),
+        Task::Turn(place, left, right) => turn(alloc, interner, facts, place, left, right, machine),
         Task::Conjoin(place, left, right) => make_conjunction(
             alloc, interner, place, left, right, machine,
         ),
@@ -56,10 +59,10 @@ fn step(
 pub(crate) fn run(
     alloc: Global,
     interner: &mut Interner,
-    facts: &Facts,
+    facts: &mut Facts,
     machine: &mut Machine,
 ) -> Result<(), AllocError>
-    requires facts { AreFacts interner.old facts.now.facts.items }
+    requires facts { AreFacts interner.old facts.old.facts.items }
     requires going { IsGoing interner.old machine.old.tasks machine.old.rewritings.made.items }
     ensures kept { Extends interner.old interner.new }
     ensures ok { OnOk result (IsGoing interner.new machine.new.tasks machine.new.rewritings.made.items) }

@@ -9,7 +9,7 @@ ghost use Rattle.ws2s_context.specs.Going.{IsGoing, IsConjoining, IsNegating, Is
 
 use crate::context::{Context, members_of, used};
 use crate::machine::Machine;
-use crate::spine::has_step;
+use crate::spine::{has_step, is_atom};
 use crate::task::Place;
 use crate::uses::Uses;
 use std::alloc::{AllocError, Global};
@@ -58,7 +58,14 @@ pub(crate) fn make_negation(
 {
     let part = machine.rewritings.to(inner);
     let atoms = members_of(alloc, interner, place.context)?;
-    let made = negated(alloc, interner, &machine.uses, place.context, part)?;
+    let made = if machine.manner.is_whole && !is_atom(interner, inner.id) {
+        let negation = intern_form(interner, Node::Not(part))?;
+        beside_context(interner, place.context, negation, true)?
+    } else if machine.manner.is_whole {
+        intern_form(interner, Node::Not(part))?
+    } else {
+        negated(alloc, interner, &machine.uses, place.context, part)?
+    };
     machine.uses.pass_on(&atoms, part, made)?;
     machine.rewritings.add(place, made)?;
     Ok(())
@@ -81,7 +88,7 @@ pub(crate) fn make_quantified(
     ensures room { machine.new.room ≡ machine.old.room }
 {
     let part = machine.rewritings.to(inner);
-    let is_wanted = has_step(alloc, interner, inner.id)?;
+    let is_wanted = machine.manner.is_whole || has_step(alloc, interner, inner.id)?;
     let atoms = members_of(alloc, interner, inner.context)?;
     let beside = beside_context(interner, inner.context, part, is_wanted)?;
     let made = intern_form(interner, Node::Ex2(t, beside))?;

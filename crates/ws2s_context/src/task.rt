@@ -17,6 +17,8 @@ pub(crate) enum Task {
     Visit(Place),
     /// The conjunction is to be put together of its halves, which were rewritten in these contexts.
     Conjoin(Place, Place, Place),
+    /// The right half of a conjunction is to be rewritten, the left half having been.
+    Turn(Place, Place, FormulaId),
     /// The negation is to be made again of what was rewritten.
     Negate(Place, Place),
     /// The quantifier of the track is to be put before what was rewritten.

@@ -18,11 +18,11 @@ use ws2s_core::{FormulaId, Interner, Node, Track};
 pub(crate) fn visit(
     alloc: Global,
     interner: &mut Interner,
-    facts: &Facts,
+    facts: &mut Facts,
     place: Place,
     machine: &mut Machine,
 ) -> Result<(), AllocError>
-    requires facts { AreFacts interner.old facts.now.facts.items }
+    requires facts { AreFacts interner.old facts.old.facts.items }
     requires place { IsPlace interner.old place }
     requires going { IsGoing interner.old machine.old.tasks machine.old.rewritings.made.items }
     ensures kept { Extends interner.old interner.new }
@@ -43,12 +43,12 @@ pub(crate) fn visit(
 fn take_apart(
     alloc: Global,
     interner: &mut Interner,
-    facts: &Facts,
+    facts: &mut Facts,
     place: Place,
     node: Node,
     machine: &mut Machine,
 ) -> Result<(), AllocError>
-    requires facts { AreFacts interner.old facts.now.facts.items }
+    requires facts { AreFacts interner.old facts.old.facts.items }
     requires place { IsPlace interner.old place }
     requires is { whole interner.old place ≡ formula_of_node interner.old node }
     requires parts { HasPartsBelow (length interner.old) node }
@@ -71,7 +71,7 @@ fn take_apart(
 fn divide(
     alloc: Global,
     interner: &mut Interner,
-    facts: &Facts,
+    facts: &mut Facts,
     place: Place,
     f: FormulaId,
     g: FormulaId,
@@ -88,18 +88,43 @@ fn divide(
     ensures room { machine.new.room ≡ machine.old.room }
 {
     let around_left = narrowed(alloc, interner, facts, place.context, f)?;
-    let around_right = beside(alloc, interner, facts, place.context, f, g)?;
     let left = Place {
         context: around_left,
         id: f,
     };
+    machine.tasks.push(Task::Turn(place, left, g))?;
+    machine.tasks.push(Task::Visit(left))?;
+    Ok(())
+}
+
+pub(crate) fn turn(
+    alloc: Global,
+    interner: &mut Interner,
+    facts: &mut Facts,
+    place: Place,
+    left: Place,
+    g: FormulaId,
+    machine: &mut Machine,
+) -> Result<(), AllocError> {
+    let mut first = left.id;
+    if machine.manner.is_whole {
+        first = machine.rewritings.to(left);
+        let is_taken = machine.manner.takes(facts, left.id);
+        facts.learn(alloc, interner, first)?;
+        if is_taken {
+            machine.manner.take(alloc, interner, first)?;
+        }
+        if let Some(t) = machine.manner.defined(left.id) {
+            machine.manner.project(alloc, interner, facts, first, t)?;
+        }
+    }
+    let around_right = beside(alloc, interner, facts, place.context, first, g, &machine.manner)?;
     let right = Place {
         context: around_right,
         id: g,
     };
     machine.tasks.push(Task::Conjoin(place, left, right))?;
     machine.tasks.push(Task::Visit(right))?;
-    machine.tasks.push(Task::Visit(left))?;
     Ok(())
 }
 
@@ -131,13 +156,13 @@ fn enter_negation(
 fn enter_quantifier(
     alloc: Global,
     interner: &mut Interner,
-    facts: &Facts,
+    facts: &mut Facts,
     place: Place,
     t: Track,
     f: FormulaId,
     machine: &mut Machine,
 ) -> Result<(), AllocError>
-    requires facts { AreFacts interner.old facts.now.facts.items }
+    requires facts { AreFacts interner.old facts.old.facts.items }
     requires place { IsPlace interner.old place }
     requires inner { IsThere interner.old f }
     requires is { whole interner.old place ≡ Ex2 t (formula_of interner.old f) }

@@ -9,12 +9,14 @@ ghost use Rattle.ws2s_decide.specs.Deciding.{IsVerdict, guide_of, HasKept};
 
 use crate::verdict::Verdict;
 use crate::ways::decide_number;
+use crate::deciding::verdict_of;
+use ws2s_context::{in_whole_context, opened};
 use bdd_nodes::Shelf;
 use bdd_walk::NoMemory;
 use gta_keep::Kept;
 use plain_data::Items;
-use std::alloc::Global;
-use ws2s_core::{Formula, Guide, Interner, TrackList, intern};
+use std::alloc::{AllocError, Global};
+use ws2s_core::{Formula, FormulaId, Guide, Interner, Node, TrackList, intern, intern_form};
 
 /// Decides formulas under one guide, one after the other, on one shelf: what two formulas share is built once where it is
 /// still kept. In a clause `HasKept` says that the tables of the shelf are those of the automata that it keeps.
@@ -84,6 +86,57 @@ impl Decider {
             &mut self.kept,
             shelf,
         )
+    }
+
+    pub fn add_node(&mut self, node: Node) -> Result<FormulaId, AllocError> {
+        intern_form(&mut self.interner, node)
+    }
+
+    pub fn decide_id(
+        &mut self,
+        alloc: Global,
+        id: FormulaId,
+        weigh: &TrackList,
+        shelf: &mut Shelf,
+    ) -> Result<Verdict, NoMemory> {
+        let _ = shelf.count();
+        decide_number(
+            alloc,
+            &self.guide,
+            &mut self.interner,
+            id,
+            weigh,
+            &mut self.kept,
+            shelf,
+        )
+    }
+
+    pub fn rewritten_id(
+        &mut self,
+        alloc: Global,
+        id: FormulaId,
+        weigh: &TrackList,
+    ) -> Result<FormulaId, NoMemory> {
+        let whole = in_whole_context(alloc, &mut self.interner, id, weigh)?;
+        opened(alloc, &mut self.interner, whole, weigh)
+    }
+
+    pub fn parts_of(&self, alloc: Global, id: FormulaId) -> Result<Items<FormulaId>, NoMemory> {
+        self.interner.parts(alloc, id)
+    }
+
+    pub fn node_of(&self, id: FormulaId) -> Option<Node> {
+        self.interner.form(id)
+    }
+
+    pub fn build_id(
+        &mut self,
+        alloc: Global,
+        id: FormulaId,
+        weigh: &TrackList,
+        shelf: &mut Shelf,
+    ) -> Result<Verdict, NoMemory> {
+        verdict_of(alloc, &self.guide, &self.interner, id, weigh, &mut self.kept, shelf)
     }
 
     /// Releases all that is kept. Takes no memory.

@@ -16,7 +16,7 @@ use bdd_nodes::Shelf;
 use bdd_walk::NoMemory;
 use gta_keep::Kept;
 use std::alloc::Global;
-use ws2s_context::in_context;
+use ws2s_context::{in_whole_context, opened};
 use ws2s_core::{FormulaId, Guide, Interner, TrackList};
 
 /// The verdict on the formula with the number. Its Peak alone licenses a limit, so only the second way answers one.
@@ -42,7 +42,8 @@ pub(crate) fn decide_number(
     ensures rests { Rests g.now interner.new shelf.new [] kept.new }
     ensures same_limit { limit_of shelf.new ≡ limit_of shelf.old }
 {
-    let made = in_context(alloc, interner, id)?;
+    let whole = in_whole_context(alloc, interner, id, weigh)?;
+    let made = opened(alloc, interner, whole, weigh)?;
     if made == id {
         return verdict_of(alloc, g, interner, id, weigh, kept, shelf);
     }

@@ -1,0 +1,112 @@
+//! Forms of assertions without parts, as formulas.
+
+ghost use Rattle.std.specs.Prelude.{◌≡◌, IfOk};
+ghost use Rattle.graph_view.specs.Sights.{sight_of};
+ghost use Rattle.claim_formula.specs.Joining.{variant_formula, same_formula, member_formula, subset_formula, walk_formula};
+
+use crate::terms::{base_value, is_value};
+use graph_type::{is_in, is_live, lives, walk};
+use graph_view::View;
+use std::alloc::{AllocError, Global};
+use store_core::{Route, VariantId};
+use store_logic::{Base, Term};
+use tree_encode::Layout;
+use ws2s_core::Formula;
+use ws2s_forms::{all1, and_list, ex1, iff, imp, later};
+
+/// `t:v`.
+pub(crate) fn variant_formula(
+    alloc: Global,
+    l: &Layout<'_>,
+    view: &View,
+    next: u32,
+    term: &Term,
+    variant: VariantId,
+) -> Result<Formula, AllocError>
+    ensures { IfOk result (λ formula. formula
+        ≡ variant_formula l.now.types (sight_of l.now.vars view.now) view.now.vars term.now variant next) }
+{
+    let inner = later(next, 1)?;
+    let value = is_value(alloc, l, view, next, inner, term, next)?;
+    let live = lives(alloc, l, view, inner, variant, next)?;
+    ex1(alloc, next, Formula::and(alloc, value, live)?)
+}
+
+/// `t = u`.
+pub(crate) fn same_formula(
+    alloc: Global,
+    l: &Layout<'_>,
+    view: &View,
+    next: u32,
+    one: &Term,
+    other: &Term,
+) -> Result<Formula, AllocError>
+    ensures { IfOk result (λ formula. formula
+        ≡ same_formula l.now.types (sight_of l.now.vars view.now) view.now.vars one.now other.now next) }
+{
+    let inner = later(next, 1)?;
+    let left = is_value(alloc, l, view, next, inner, one, next)?;
+    let right = is_value(alloc, l, view, next, inner, other, next)?;
+    all1(alloc, next, iff(alloc, left, right)?)
+}
+
+/// `t in S`.
+pub(crate) fn member_formula(
+    alloc: Global,
+    l: &Layout<'_>,
+    view: &View,
+    next: u32,
+    term: &Term,
+    set: Base,
+) -> Result<Formula, AllocError>
+    ensures { IfOk result (λ formula. formula
+        ≡ member_formula l.now.types (sight_of l.now.vars view.now) view.now.vars term.now set next) }
+{
+    let inner = later(next, 1)?;
+    let value = is_value(alloc, l, view, next, inner, term, next)?;
+    let within = is_in(alloc, inner, next, base_value(view, next, set))?;
+    ex1(alloc, next, Formula::and(alloc, value, within)?)
+}
+
+/// `S sub U`.
+pub(crate) fn subset_formula(
+    alloc: Global,
+    l: &Layout<'_>,
+    view: &View,
+    next: u32,
+    one: Base,
+    other: Base,
+) -> Result<Formula, AllocError>
+    ensures { IfOk result (λ formula. formula
+        ≡ subset_formula l.now.types (sight_of l.now.vars view.now) view.now.vars one other next) }
+{
+    let inner = later(next, 1)?;
+    let live = is_live(alloc, l, view, inner, next)?;
+    let within = is_in(alloc, inner, next, base_value(view, next, one))?;
+    let both = Formula::and(alloc, live, within)?;
+    let there = is_in(alloc, inner, next, base_value(view, next, other))?;
+    all1(alloc, next, imp(alloc, both, there)?)
+}
+
+/// `t<R>u`.
+pub(crate) fn walk_formula(
+    alloc: Global,
+    l: &Layout<'_>,
+    view: &View,
+    next: u32,
+    from: &Term,
+    route: &Route,
+    to: &Term,
+) -> Result<Formula, AllocError>
+    ensures { IfOk result (λ formula. formula
+        ≡ walk_formula l.now.types (sight_of l.now.vars view.now) view.now.vars from.now route.now to.now next) }
+{
+    let second = later(next, 1)?;
+    let inner = later(second, 1)?;
+    let start = is_value(alloc, l, view, next, inner, from, next)?;
+    let end = is_value(alloc, l, view, next, inner, to, second)?;
+    let leads = walk(alloc, l, view, route, inner, next, second)?;
+    let parts = vec![in alloc; start, end, leads]?;
+    let some = ex1(alloc, second, and_list(alloc, inner, parts)?)?;
+    ex1(alloc, next, some)
+}

@@ -1,0 +1,9 @@
+//! Assertions as formulas on the tree of a store after heap events, on all its cells or on a region. `site_view` has the formulas.
+#![tactic(auto)]
+
+mod forms;
+mod joining;
+mod terms;
+mod whole;
+
+pub use whole::assertion_formula;
