@@ -82,33 +82,32 @@ unlisted-same reached listed ids classes representatives are indicator none q ma
       ]
     ]
 
+-- the state is among the first ones
+abbrev pub SeenIn : List ℕ → ℕ → ℕ → Type 0
+SeenIn listed below q = Contains (take below listed) q
+
 -- the listed states one after the other
 module _ (reached : List Bool) (ids old first listed : List ℕ) (classes : AreClasses reached old first)
     (all_reached : (q : ℕ) → Contains listed q → is_marked reached q ≡ true) where
-  pub Seen : ℕ → ℕ → Type 0
-  Seen below q = Contains (take below listed) q
-
-  pub Splits-none : (made : Made) → ((class id : ℕ) → made_for made class id ≡ None) → Splits reached ids old first made first old (Seen 0)
-  unfolding Seen
-  Splits-none made none = Splits-start reached ids old first made (Seen 0) (λ q seen. Contains-none q seen) classes none
+  pub Splits-none : (made : Made) → ((class id : ℕ) → made_for made class id ≡ None) → Splits reached ids old first made first old (SeenIn listed 0)
+  Splits-none made none = Splits-start reached ids old first made (SeenIn listed 0) (λ q seen. Contains-none q seen) classes none
 
   module _ (made : Made) (representatives now : List ℕ) (below : ℕ) (inside : below < length listed)
-      (so_far : Splits reached ids old first made representatives now (Seen below)) where
+      (so_far : Splits reached ids old first made representatives now (SeenIn listed below)) where
     state : ℕ
     state = slice_index listed below
 
-    kept : (q : ℕ) → Seen below q → Seen (below + 1) q
-    unfolding Seen
+    kept : (q : ℕ) → SeenIn listed below q → SeenIn listed (below + 1) q
     kept q seen = subst (λ (xs : List ℕ). Contains xs q) (sym (take_more listed below 0 inside))
         (Contains-append_left (take below listed) (slice_index listed below ∷ []) q seen)
 
-    here : Seen (below + 1) state
-    unfolding Seen state
+    here : SeenIn listed (below + 1) state
+    unfolding state
     here = subst (λ (xs : List ℕ). Contains xs (slice_index listed below)) (sym (take_more listed below 0 inside))
         (Contains-push (take below listed) (slice_index listed below))
 
-    either : (q : ℕ) → Seen (below + 1) q → Seen below q ⊎ (q ≡ state)
-    unfolding Seen state
+    either : (q : ℕ) → SeenIn listed (below + 1) q → SeenIn listed below q ⊎ (q ≡ state)
+    unfolding state
     either q seen = elim (Contains-push_cases (take below listed) (slice_index listed below) q
         (subst (λ (xs : List ℕ). Contains xs q) (take_more listed below 0 inside) seen)) [
           | inl before ↦ inl before
@@ -128,14 +127,12 @@ module _ (reached : List Bool) (ids old first listed : List ℕ) (classes : AreC
         (let l = (so_far.sound (slice_index old state) (slice_index ids state) (slice_index now state) e).least in omega arith)
 
     was : slice_index now state < length first → slice_index now state ≡ slice_index old state
-    unfolding Seen
     was small = elim (cases_contains (take below listed) state) [
       | inl seen ↦ stayed-old small (so_far.done state seen marked)
       | inr unseen ↦ so_far.ahead state unseen
     ]
 
     had : (slice_index now state < length first → ⊥) → IsDone reached ids old first made now state
-    unfolding Seen
     had past = elim (cases_contains (take below listed) state) [
       | inl seen ↦ so_far.done state seen marked
       | inr unseen ↦ absurd (past (let e = so_far.ahead state unseen in let o = old_within in omega arith))
@@ -143,23 +140,23 @@ module _ (reached : List Bool) (ids old first listed : List ℕ) (classes : AreC
 
     pub Splits-listed : slice_index now (slice_index listed below) < length first → (after : Made) (more : List ℕ) (class : ℕ) →
         IsStep ids (slice_index listed below) (slice_index now (slice_index listed below)) made representatives after more class →
-        Splits reached ids old first after more (slice_set now (slice_index listed below) class) (Seen (below + 1))
+        Splits reached ids old first after more (slice_set now (slice_index listed below) class) (SeenIn listed (below + 1))
     unfolding state
-    Splits-listed small after more class step = Splits-step reached ids old first made representatives now state (Seen below) (Seen (below + 1)) kept here either
+    Splits-listed small after more class step = Splits-step reached ids old first made representatives now state (SeenIn listed below) (SeenIn listed (below + 1)) kept here either
         classes so_far marked (was small) after more class step
 
     pub Splits-past : (slice_index now (slice_index listed below) < length first → ⊥) →
-        Splits reached ids old first made representatives now (Seen (below + 1))
+        Splits reached ids old first made representatives now (SeenIn listed (below + 1))
     unfolding state
-    Splits-past past = Splits-again reached ids old first made representatives now state (Seen below) (Seen (below + 1)) kept here either classes so_far
+    Splits-past past = Splits-again reached ids old first made representatives now state (SeenIn listed below) (SeenIn listed (below + 1)) kept here either classes so_far
         (had past)
 
   -- the others stay
-  module _ (made : Made) (representatives now : List ℕ) (all : Splits reached ids old first made representatives now (Seen (length listed)))
+  module _ (made : Made) (representatives now : List ℕ) (all : Splits reached ids old first made representatives now (SeenIn listed (length listed)))
       (others : (q : ℕ) → is_marked reached q ≡ true → (Contains listed q → ⊥) → slice_index ids q ≡ slice_index ids (slice_index first (slice_index old q)))
     where
       done-at : (q : ℕ) → is_marked reached q ≡ true → IsDone reached ids old first made now q
-      unfolding Seen first_id
+      unfolding first_id
       done-at q q_marked = elim (cases_contains listed q) [
         | inl there ↦ all.done q (subst (λ (xs : List ℕ). Contains xs q) (sym (take_all (length listed) listed (omega arith))) there) q_marked
         | inr unlisted ↦ stayed
@@ -168,10 +165,10 @@ module _ (reached : List Bool) (ids old first listed : List ℕ) (classes : AreC
       ]
 
       pub AreClasses-listed : AreClasses reached now representatives
-      AreClasses-listed = AreClasses-all reached ids old first made representatives now (Seen (length listed)) classes all done-at
+      AreClasses-listed = AreClasses-all reached ids old first made representatives now (SeenIn listed (length listed)) classes all done-at
 
       pub IsSplit-listed : IsSplit reached ids old now
-      IsSplit-listed = IsSplit-all reached ids old first made representatives now (Seen (length listed)) classes all done-at
+      IsSplit-listed = IsSplit-all reached ids old first made representatives now (SeenIn listed (length listed)) classes all done-at
 
 -- a part with no fewer classes leaves no more room
 pub room-less : (spaces : List SpaceClasses) (c : ℕ) (part : SpaceClasses) → c < length spaces →

@@ -35,7 +35,7 @@ pub Leads-none : (lists : List (List ℕ)) → ((place number : ℕ) → Leads l
 Leads-none lists none place number there = elim (cases_lt place (length lists)) [
   | inl before ↦ none place number (subst (λ (xs : List ℕ). Contains xs number) (get_or_append_left lists ([] ∷ []) [] place before) there)
   | inr past ↦ elim (cases_eq place (length lists)) [
-    | inl last ↦ Contains-none number (subst (λ (xs : List ℕ). Contains xs number) (get_or_push lists [] [] place last) there)
+    | inl last ↦ Contains-none number (subst (λ (xs : List ℕ). Contains xs number) (get_or_push lists [] [] place (sym last)) there)
     | inr beyond ↦ Contains-none number (subst (λ (xs : List ℕ). Contains xs number)
         (get_or_past (lists ++ [] ∷ []) place [] (let e = length-append lists ([] ∷ []) in omega arith)) there)
   ]

@@ -1,17 +1,19 @@
 //! The child states whose steps give states of a class.
 
-ghost use Rattle.std.specs.Prelude.{◌≡◌, ◌<◌, ◌≤◌, ℕ, Contains, Some, length, map, slice_get, flat_map, IfOk};
+ghost use Rattle.std.specs.Prelude.{◌≡◌, ◌<◌, ℕ, Contains, Some, length, map, slice_get, flat_map, IfOk};
 ghost use Rattle.bdd_list.specs.declared.listing.Listed.TheVariants.{Leaf};
 ghost use Rattle.bdd_list.specs.Listing.{AreOrdered};
 ghost use Rattle.gta_refine.specs.declared.form.FormSpace.{FormSpace};
 ghost use Rattle.gta_refine.specs.Form.{IsForm};
-ghost use Rattle.gta_refine.specs.Refined.{ArePartition};
+ghost use Rattle.gta_refine.specs.Refined.{part_at, ArePartition};
 ghost use Rattle.gta_refine.specs.Uses.{above_of, AreAbove, HasSide, IsUses};
+ghost use Rattle.gta_refine.specs.Cuts.{Covers};
 ghost use Rattle.gta_refine.specs.Givers.{AddsNodes, AreClimbed, AreMembers, AreGivers};
 
 use crate::chosen::{is_marked, mark};
-use crate::form::Form;
-use crate::lists::{distinct, gather, number_of};
+use crate::cut::add_members;
+use crate::form::{Form, NumberList};
+use crate::lists::{distinct, gather, numbers_at};
 use crate::rounds::{SpaceClasses, part_of, spread};
 use crate::rows::{Side, kinds_of};
 use crate::uses::{Above, SpaceUses};
@@ -19,18 +21,18 @@ use bdd_list::{Listed, ListedNode};
 use std::alloc::{AllocError, Global};
 
 /// The reached states of a class.
-fn members(alloc: Global, part: &SpaceClasses, class: u32) -> Result<Vec<u32>, AllocError>
-    requires { length part.now.reached ≤ length part.now.classes }
+fn members(
+    alloc: Global,
+    lists: &[NumberList],
+    part: &SpaceClasses,
+    class: u32,
+) -> Result<Vec<u32>, AllocError>
+    requires many { length part.now.classes ≡ length part.now.reached }
+    requires covers { Covers part.now lists.now }
     ensures { IfOk result (λ members. AreMembers part.now class members.items) }
 {
-    let reached = part.reached.as_slice();
-    let classes = part.classes.as_slice();
     let mut members = Vec::new(alloc);
-    for state in 0..reached.len() {
-        if classes[state] == class && reached[state] {
-            members.push(number_of(state)?)?;
-        }
-    }
+    add_members(numbers_at(lists, class), part, class, &mut members)?;
     Ok(members)
 }
 
@@ -102,15 +104,17 @@ pub(crate) fn givers(
     side: Side,
     class: u32,
     spaces: &[SpaceClasses],
+    lists: &[NumberList],
 ) -> Result<Vec<u32>, AllocError>
     requires form { IsForm form.now }
     requires space { s < length form.now.spaces }
     requires partition { ArePartition form.now spaces.now }
     requires uses { (space : FormSpace) → slice_get form.now.spaces s ≡ Some space → IsUses form.now s space uses.now }
+    requires covers { Covers (part_at spaces.now s) lists.now }
     ensures { IfOk result (λ givers. AreGivers form.now spaces.now s side class givers.items) }
 {
     let space = form.space(s);
-    let states = members(alloc, part_of(spaces, s), class)?;
+    let states = members(alloc, lists, part_of(spaces, s), class)?;
     let list = climb(
         alloc,
         space.listing.nodes.as_slice(),

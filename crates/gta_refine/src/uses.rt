@@ -29,6 +29,8 @@ pub(crate) struct SideUses {
     pub owners: NumberLists,
     /// For each class of `kinds_of` the reached states that have it.
     pub likes: NumberLists,
+    /// Whether one state owns all: then all reached states on the side give the same.
+    pub is_single: bool,
 }
 
 /// Who uses what in a space.
@@ -163,8 +165,12 @@ fn owners_of(
     Ok(Items::from_vec(owners))
 }
 
-/// For each class of a child's states the reached ones.
-fn likes_of(alloc: Global, kinds: &[u32], reached: &[bool]) -> Result<NumberLists, AllocError>
+/// For each class of states the reached ones.
+pub(crate) fn likes_of(
+    alloc: Global,
+    kinds: &[u32],
+    reached: &[bool],
+) -> Result<NumberLists, AllocError>
     requires { length reached.now ≤ length kinds.now }
     ensures { IfOk result (λ likes. AreLikes kinds.now reached.now likes) }
 {
@@ -199,6 +205,7 @@ fn side_uses(
     Ok(SideUses {
         owners: owners_of(alloc, space, side, &own, &beside)?,
         likes: likes_of(alloc, kinds_of(space, side), reached)?,
+        is_single: own.len() < 2,
     })
 }
 
