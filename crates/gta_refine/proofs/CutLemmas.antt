@@ -4,6 +4,7 @@ use Rattle.std.proofs.Common.{sym, ◌∙◌, ap, refl, subst, arith}
 use Rattle.std.specs.Prelude.{⊥, Contains, slice_get, slice_index, slice_set, replicate, Some}
 use Rattle.std.proofs.lemmas.List.{take_more, take_all, get_or_default, get_or-set_same, get_or-set_other, length-set, length-replicate, get_or-replicate}
 use Rattle.std.proofs.lemmas.List.Elements.{Contains-push, Contains-push_cases, Contains-append_left, Contains-get_or}
+use Rattle.std.proofs.lemmas.Option.{slice_get_within, slice_get-get_or}
 use Rattle.std.proofs.lemmas.Bool.{cases_eq, cases_lt}
 use Rattle.gta_theory.specs.Guides.{IsSpace}
 use Rattle.gta_theory.specs.Minimal.{AreSeparated}
@@ -15,7 +16,8 @@ use Rattle.gta_refine.specs.Form.{guide_of, automaton_of, IsForm}
 use Rattle.gta_refine.specs.Chosen.{is_marked}
 use Rattle.gta_refine.specs.Classes.{AreClasses, IsSplit}
 use Rattle.gta_refine.specs.Splitting.{Made, made_for, IsStep}
-use Rattle.gta_refine.specs.Cuts.{IsIndicator, IsCut, IsCutAt}
+use Rattle.gta_refine.specs.Lists.{list_at, Leads, IsAdded}
+use Rattle.gta_refine.specs.Cuts.{IsIndicator, IsIn, Covers, HasOthers, IsCut, IsCutAt, ClassLists, AllCover}
 use Rattle.gta_refine.specs.Givers.{Gives, AreGivers}
 use Rattle.gta_refine.specs.Refined.{part_at, is_reached_in, ArePartition, GiveOthersAt, child_at, child_of, room_in}
 use Rattle.gta_refine.proofs.ChosenLemmas.{marked-inside}
@@ -65,22 +67,196 @@ IsIndicator-all listed ids all q = elim (all q) [
   | inr none ↦ inr (none.0, λ there. none.1 there.0 there.1 (get_or_default listed there.0 0 q there.1 ∙ there.2))
 ]
 
--- a state that isn't listed has the number of its representative, where no listed state represents its class
-pub unlisted-same : (reached : List Bool) (listed ids classes representatives : List ℕ) → AreClasses reached classes representatives →
-    IsIndicator listed ids →
-    ((q : ℕ) → Contains listed q → slice_index representatives (slice_index classes q) ≢ q) → (q : ℕ) → is_marked reached q ≡ true →
-    (Contains listed q → ⊥) → slice_index ids q ≡ slice_index ids (slice_index representatives (slice_index classes q))
-unlisted-same reached listed ids classes representatives are indicator none q marked unlisted =
-    let class = slice_index classes q in
-    let first = slice_index representatives class in
-    let within = are.within q (let i = marked-inside reached q marked in let m = are.many in omega arith) in
+-- a state beside the order has the number of its representative
+pub others-same : (part : SpaceClasses) (listed order ids : List ℕ) → HasOthers part listed order → IsIndicator listed ids → (q : ℕ) →
+    is_marked part.reached q ≡ true → (Contains order q → ⊥) →
+    slice_index ids q ≡ slice_index ids (slice_index part.representatives (slice_index part.classes q))
+others-same part listed order ids has indicator q marked outside =
+    let first = slice_index part.representatives (slice_index part.classes q) in
     elim (indicator q) [
-      | inl one ↦ absurd (unlisted one.1)
+      | inl one ↦ absurd (outside (has.kept q one.1))
       | inr zero_q ↦ elim (indicator first) [
-        | inl one ↦ absurd (none first one.1 (ap (slice_index representatives) (are.has class within)))
+        | inl one ↦ absurd (outside (has.others q marked one.1))
         | inr zero_first ↦ zero_q.0 ∙ sym zero_first.0
       ]
     ]
+
+-- another state of a class represents it
+pub AreClasses-represent : (reached : List Bool) (classes representatives : List ℕ) (class state : ℕ) → AreClasses reached classes representatives →
+    class < length representatives → is_marked reached state ≡ true → slice_index classes state ≡ class →
+    AreClasses reached classes (slice_set representatives class state)
+AreClasses-represent reached classes representatives class state are inside marked is =
+    let many = length-set representatives class state in
+    let here : slice_index (slice_set representatives class state) class ≡ state = get_or-set_same representatives class state 0 inside in
+    record {
+      many = are.many;
+      few = let f = are.few in omega arith;
+      within = λ q q_in. let w = are.within q q_in in omega arith;
+      inside = λ x x_in. elim (cases_eq x class) [
+        | inl same ↦ ap (is_marked reached) (ap (slice_index (slice_set representatives class state)) same ∙ here) ∙ marked
+        | inr other ↦ ap (is_marked reached) (get_or-set_other representatives class x state 0 other) ∙ are.inside x (omega arith)
+      ];
+      has = λ x x_in. elim (cases_eq x class) [
+        | inl same ↦ ap (slice_index classes) (ap (slice_index (slice_set representatives class state)) same ∙ here) ∙ is ∙ sym same
+        | inr other ↦ ap (slice_index classes) (get_or-set_other representatives class x state 0 other) ∙ are.has x (omega arith)
+      ];
+    }
+
+-- the states of a class so far
+pub record AddsMembers (members : List ℕ) (part : SpaceClasses) (class : ℕ) (old now : List ℕ) (below : ℕ) : Type 0 where
+  pub kept : (q : ℕ) → Contains old q → Contains now q
+  pub added : (k : ℕ) → k < below → IsIn part class (slice_index members k) → Contains now (slice_index members k)
+  pub sound : (q : ℕ) → Contains now q → Contains old q ⊎ IsIn part class q
+
+pub AddsMembers-none : (members : List ℕ) (part : SpaceClasses) (class : ℕ) (old : List ℕ) → AddsMembers members part class old old 0
+AddsMembers-none members part class old = record {
+  kept = λ q there. there;
+  added = λ k k_in is. absurd (omega arith);
+  sound = λ q there. inl there;
+}
+
+module _ (members : List ℕ) (part : SpaceClasses) (class : ℕ) (old now : List ℕ) (below : ℕ)
+    (so_far : AddsMembers members part class old now below) where
+  pub AddsMembers-skip : (IsIn part class (slice_index members below) → ⊥) → AddsMembers members part class old now (below + 1)
+  AddsMembers-skip other = record {
+    kept = so_far.kept;
+    added = λ k k_in is. elim (cases_eq k below) [
+      | inl same ↦ absurd (other (subst (λ (i : ℕ). IsIn part class (slice_index members i)) same is))
+      | inr before ↦ so_far.added k (omega arith) is
+    ];
+    sound = so_far.sound;
+  }
+
+  pub AddsMembers-push : IsIn part class (slice_index members below) →
+      AddsMembers members part class old (now ++ slice_index members below ∷ []) (below + 1)
+  AddsMembers-push is =
+      let state = slice_index members below in
+      record {
+        kept = λ q there. Contains-append_left now (state ∷ []) q (so_far.kept q there);
+        added = λ k k_in k_is. elim (cases_eq k below) [
+          | inl same ↦ subst (λ (i : ℕ). Contains (now ++ state ∷ []) (slice_index members i)) (sym same) (Contains-push now state)
+          | inr before ↦ Contains-append_left now (state ∷ []) (slice_index members k) (so_far.added k (omega arith) k_is)
+        ];
+        sound = λ q there. elim (Contains-push_cases now state q there) [
+          | inl before ↦ so_far.sound q before
+          | inr same ↦ inr (subst (IsIn part class) same is)
+        ];
+      }
+
+pub added-all : (members : List ℕ) (part : SpaceClasses) (class : ℕ) (old now : List ℕ) → AddsMembers members part class old now (length members) →
+    (q : ℕ) → Contains members q → IsIn part class q → Contains now q
+added-all members part class old now all q there is =
+    let at : slice_index members there.0 ≡ q = get_or_default members there.0 0 q there.1 ∙ there.2 in
+    subst (Contains now) at (all.added there.0 there.1 (subst (IsIn part class) (sym at) is))
+
+-- the listed states, and those of the classes that the first ones represent
+pub record OthersBelow (part : SpaceClasses) (listed order : List ℕ) (below : ℕ) : Type 0 where
+  pub reached : (q : ℕ) → Contains order q → is_marked part.reached q ≡ true
+  pub kept : (q : ℕ) → Contains listed q → Contains order q
+  pub others : (k q : ℕ) → k < below → is_marked part.reached q ≡ true →
+      slice_index part.representatives (slice_index part.classes q) ≡ slice_index listed k → Contains order q
+
+pub OthersBelow-none : (part : SpaceClasses) (listed : List ℕ) → ((q : ℕ) → Contains listed q → is_marked part.reached q ≡ true) →
+    OthersBelow part listed listed 0
+OthersBelow-none part listed reached = record { reached = reached; kept = λ q there. there; others = λ k q k_in marked is. absurd (omega arith) }
+
+module _ (part : SpaceClasses) (listed order : List ℕ) (below : ℕ) (are : AreClasses part.reached part.classes part.representatives)
+    (so_far : OthersBelow part listed order below) where
+  class-below : (q : ℕ) → is_marked part.reached q ≡ true → slice_index part.classes q < length part.representatives
+  class-below q marked = are.within q (let i = marked-inside part.reached q marked in let m = are.many in omega arith)
+
+  -- a state that a listed one represents has its class
+  class-represented : (q state : ℕ) → is_marked part.reached q ≡ true →
+      slice_index part.representatives (slice_index part.classes q) ≡ state → slice_index part.classes q ≡ slice_index part.classes state
+  class-represented q state marked is = sym (are.has (slice_index part.classes q) (class-below q marked)) ∙ ap (slice_index part.classes) is
+
+  pub OthersBelow-skip : (slice_index part.representatives (slice_index part.classes (slice_index listed below)) ≡ slice_index listed below → ⊥) →
+      OthersBelow part listed order (below + 1)
+  OthersBelow-skip other = record {
+    reached = so_far.reached;
+    kept = so_far.kept;
+    others = λ k q k_in marked is. elim (cases_eq k below) [
+      | inl same ↦
+          let at : slice_index part.representatives (slice_index part.classes q) ≡ slice_index listed below = is ∙ ap (slice_index listed) same in
+          absurd (other (ap (slice_index part.representatives) (sym (class-represented q (slice_index listed below) marked at)) ∙ at))
+      | inr before ↦ so_far.others k q (omega arith) marked is
+    ];
+  }
+
+  pub OthersBelow-add : (lists : List (List ℕ)) (now : List ℕ) → Covers part lists →
+      ((q : ℕ) → Contains order q → Contains now q) →
+      ((q : ℕ) → Contains (list_at lists (slice_index part.classes (slice_index listed below))) q →
+      IsIn part (slice_index part.classes (slice_index listed below)) q → Contains now q) →
+      ((q : ℕ) → Contains now q → Contains order q ⊎ IsIn part (slice_index part.classes (slice_index listed below)) q) →
+      OthersBelow part listed now (below + 1)
+  OthersBelow-add lists now covers kept added sound = record {
+    reached = λ q there. elim (sound q there) [
+      | inl before ↦ so_far.reached q before
+      | inr is ↦ is.0
+    ];
+    kept = λ q there. kept q (so_far.kept q there);
+    others = λ k q k_in marked is. elim (cases_eq k below) [
+      | inl same ↦
+          let class = class-represented q (slice_index listed below) marked (is ∙ ap (slice_index listed) same) in
+          added q (subst (λ (c : ℕ). Contains (list_at lists c) q) class (covers q marked)) (marked, class)
+      | inr before ↦ kept q (so_far.others k q (omega arith) marked is)
+    ];
+  }
+
+pub HasOthers-all : (part : SpaceClasses) (listed order : List ℕ) → OthersBelow part listed order (length listed) → HasOthers part listed order
+HasOthers-all part listed order all = record {
+  reached = all.reached;
+  kept = all.kept;
+  others = λ q marked there. all.others there.0 q there.1 marked
+      (sym (get_or_default listed there.0 0 (slice_index part.representatives (slice_index part.classes q)) there.1 ∙ there.2));
+}
+
+-- the states of new classes are listed so far
+pub record ListsNew (order : List ℕ) (before : ℕ) (part : SpaceClasses) (old now : List (List ℕ)) (below : ℕ) : Type 0 where
+  pub many : length now ≡ length old
+  pub kept : (place number : ℕ) → Leads old place number → Leads now place number
+  pub added : (k : ℕ) → k < below → (slice_index part.classes (slice_index order k) < before → ⊥) →
+      Leads now (slice_index part.classes (slice_index order k)) (slice_index order k)
+
+pub ListsNew-none : (order : List ℕ) (before : ℕ) (part : SpaceClasses) (old : List (List ℕ)) → ListsNew order before part old old 0
+ListsNew-none order before part old = record { many = refl; kept = λ place number there. there; added = λ k k_in past. absurd (omega arith) }
+
+module _ (order : List ℕ) (before : ℕ) (part : SpaceClasses) (old now : List (List ℕ)) (below : ℕ)
+    (so_far : ListsNew order before part old now below) where
+  pub ListsNew-skip : slice_index part.classes (slice_index order below) < before → ListsNew order before part old now (below + 1)
+  ListsNew-skip small = record {
+    many = so_far.many;
+    kept = so_far.kept;
+    added = λ k k_in past. elim (cases_eq k below) [
+      | inl same ↦ absurd (past (subst (λ (i : ℕ). slice_index part.classes (slice_index order i) < before) (sym same) small))
+      | inr other ↦ so_far.added k (omega arith) past
+    ];
+  }
+
+  pub ListsNew-add : (new : List (List ℕ)) → slice_index part.classes (slice_index order below) < length now →
+      IsAdded now (slice_index part.classes (slice_index order below)) (slice_index order below) new → ListsNew order before part old new (below + 1)
+  ListsNew-add new inside added = record {
+    many = added.many ∙ so_far.many;
+    kept = λ place number there. added.kept place number (so_far.kept place number there);
+    added = λ k k_in past. elim (cases_eq k below) [
+      | inl same ↦ subst (λ (i : ℕ). Leads new (slice_index part.classes (slice_index order i)) (slice_index order i)) (sym same) (added.added inside)
+      | inr other ↦ added.kept (slice_index part.classes (slice_index order k)) (slice_index order k) (so_far.added k (omega arith) past)
+    ];
+  }
+
+pub Covers-new : (order : List ℕ) (before : ℕ) (part : SpaceClasses) (old now : List (List ℕ)) →
+    ListsNew order before part old now (length order) →
+    ((q : ℕ) → is_marked part.reached q ≡ true → slice_index part.classes q < before → Leads old (slice_index part.classes q) q) →
+    ((q : ℕ) → is_marked part.reached q ≡ true → (slice_index part.classes q < before → ⊥) → Contains order q) → Covers part now
+Covers-new order before part old now all olds news q marked = elim (cases_lt (slice_index part.classes q) before) [
+  | inl small ↦ all.kept (slice_index part.classes q) q (olds q marked small)
+  | inr past ↦
+      let no : slice_index part.classes q < before → ⊥ = λ small. absurd (omega arith) in
+      let there = news q marked no in
+      let at : slice_index order there.0 ≡ q = get_or_default order there.0 0 q there.1 ∙ there.2 in
+      subst (λ (p : ℕ). Leads now (slice_index part.classes p) p) at
+      (all.added there.0 there.1 (subst (λ (p : ℕ). slice_index part.classes p < before → ⊥) (sym at) no))
+]
 
 -- the state is among the first ones
 abbrev pub SeenIn : List ℕ → ℕ → ℕ → Type 0
@@ -167,8 +343,52 @@ module _ (reached : List Bool) (ids old first listed : List ℕ) (classes : AreC
       pub AreClasses-listed : AreClasses reached now representatives
       AreClasses-listed = AreClasses-all reached ids old first made representatives now (SeenIn listed (length listed)) classes all done-at
 
-      pub IsSplit-listed : IsSplit reached ids old now
+      -- a class below is the old one
+    pub stays-listed : (q : ℕ) → is_marked reached q ≡ true → slice_index now q < length first → slice_index now q ≡ slice_index old q
+    stays-listed q q_marked small = stays-at q small (done-at q q_marked)
+      where
+        stays-at : (p : ℕ) → slice_index now p < length first → IsDone reached ids old first made now p → slice_index now p ≡ slice_index old p
+        stays-at p p_small (stayed e f) = e
+        stays-at p p_small (went e f) = absurd (let l = (all.sound (slice_index old p) (slice_index ids p) (slice_index now p) e).least in omega arith)
+
+    -- a state with a new class is listed
+    pub moved-listed : (q : ℕ) → is_marked reached q ≡ true → (slice_index now q < length first → ⊥) → Contains listed q
+    moved-listed q q_marked past = elim (cases_contains listed q) [
+      | inl there ↦ there
+      | inr unlisted ↦ absurd (past
+          (let e = all.ahead q (λ seen. unlisted (subst (λ (xs : List ℕ). Contains xs q) (take_all (length listed) listed (omega arith)) seen)) in
+          let w = classes.within q (let i = marked-inside reached q q_marked in let m = classes.many in omega arith) in omega arith))
+    ]
+
+    pub IsSplit-listed : IsSplit reached ids old now
       IsSplit-listed = IsSplit-all reached ids old first made representatives now (SeenIn listed (length listed)) classes all done-at
+
+-- the lists of another space stay
+pub AllCover-set : (spaces : List SpaceClasses) (lists : List ClassLists) (c : ℕ) (part : SpaceClasses) (own : ClassLists) → AllCover spaces lists →
+    c < length spaces → Covers part own.items → AllCover (slice_set spaces c part) (slice_set lists c own)
+AllCover-set spaces lists c part own all inside covers =
+    let none : SpaceClasses = record { reached = []; classes = []; representatives = [] } in
+    record {
+      many = length-set lists c own ∙ all.many ∙ sym (length-set spaces c part);
+      each = λ s one there. elim (cases_eq s c) [
+        | inl same ↦
+            let at : slice_get (slice_set lists c own) c ≡ Some own =
+            slice_get-get_or (slice_set lists c own) c own (let e = length-set lists c own in let m = all.many in omega arith)
+            ∙ ap (λ (x : ClassLists). Some x) (get_or-set_same lists c own own (let m = all.many in omega arith)) in
+            let is : Some own ≡ Some one = sym at ∙ ap (slice_get (slice_set lists c own)) (sym same) ∙ there in
+            let same_lists : own ≡ one = cc in
+            subst (λ (x : ClassLists). Covers (part_at (slice_set spaces c part) s) x.items) same_lists
+            (subst (λ (p : SpaceClasses). Covers p own.items)
+            (sym (ap (part_at (slice_set spaces c part)) same ∙ get_or-set_same spaces c part none inside)) covers)
+        | inr other ↦
+            let b = slice_get_within (slice_set lists c own) s one there in
+            let at : slice_get lists s ≡ Some one =
+            slice_get-get_or lists s one (let e = length-set lists c own in omega arith)
+            ∙ ap (λ (x : ClassLists). Some x) (sym (get_or-set_other lists c s own one other))
+            ∙ sym (slice_get-get_or (slice_set lists c own) s one b) ∙ there in
+            subst (λ (p : SpaceClasses). Covers p one.items) (sym (get_or-set_other spaces c s part none other)) (all.each s one at)
+      ];
+    }
 
 -- a part with no fewer classes leaves no more room
 pub room-less : (spaces : List SpaceClasses) (c : ℕ) (part : SpaceClasses) → c < length spaces →

@@ -2,8 +2,6 @@
 use Rattle.std.proofs.Common.{◌≡◌, ℕ, suc, ◌+◌, ◌<◌, ◌≤◌, Bool, true, List, [], ◌∷◌, ◌++◌, length, map, Some, ◌⊎◌, inl, inr}
 use Rattle.std.proofs.Common.{sym, ◌∙◌, ap, refl, subst, arith}
 use Rattle.std.specs.Prelude.{⊥, Contains, flat_map, slice_get, slice_index, slice_index_or, ◌↔◌}
-use Rattle.std.proofs.lemmas.List.Elements.{Contains-push, Contains-push_cases, Contains-append_left}
-use Rattle.std.proofs.lemmas.Bool.{cases_eq, false≢true}
 use Rattle.labels.specs.Labels.{Label}
 use Rattle.bdd_list.specs.declared.listing.Listed.{Listed}
 use Rattle.bdd_list.specs.declared.listing.Listed.TheVariants.{Leaf, Inner}
@@ -30,43 +28,6 @@ use Rattle.gta_refine.proofs.ReachLemmas.{step-at}
 use Rattle.gta_refine.proofs.RowsLemmas.{cell_at-same}
 use Rattle.gta_refine.proofs.RefineLemmas.{there-is, child-space, has_root-at}
 use Rattle.gta_refine.proofs.ListsLemmas.{FromSome-flat_map, Contains-flat_map, FromMap-map, Contains-map}
-
--- the members of a class so far
-pub record MembersBelow (part : SpaceClasses) (class : ℕ) (members : List ℕ) (below : ℕ) : Type 0 where
-  pub sound : (q : ℕ) → Contains members q → (is_marked part.reached q ≡ true) × (slice_index part.classes q ≡ class)
-  pub all : (q : ℕ) → q < below → is_marked part.reached q ≡ true → slice_index part.classes q ≡ class → Contains members q
-
-module _ (part : SpaceClasses) (class : ℕ) (members : List ℕ) (below : ℕ) (so_far : MembersBelow part class members below) where
-  pub MembersBelow-skip : (is_marked part.reached below ≡ true → slice_index part.classes below ≡ class → ⊥) →
-      MembersBelow part class members (below + 1)
-  MembersBelow-skip other = record {
-    sound = so_far.sound;
-    all = λ q q_in marked is. elim (cases_eq q below) [
-      | inl same ↦ absurd (other (subst (λ (k : ℕ). is_marked part.reached k ≡ true) same marked)
-          (subst (λ (k : ℕ). slice_index part.classes k ≡ class) same is))
-      | inr before ↦ so_far.all q (omega arith) marked is
-    ];
-  }
-
-  pub MembersBelow-push : is_marked part.reached below ≡ true → slice_index part.classes below ≡ class →
-      MembersBelow part class (members ++ below ∷ []) (below + 1)
-  MembersBelow-push here is_class = record {
-    sound = λ q there. elim (Contains-push_cases members below q there) [
-      | inl before ↦ so_far.sound q before
-      | inr same ↦ (subst (λ (k : ℕ). is_marked part.reached k ≡ true) same here, subst (λ (k : ℕ). slice_index part.classes k ≡ class) same is_class)
-    ];
-    all = λ q q_in marked is. elim (cases_eq q below) [
-      | inl same ↦ subst (Contains (members ++ below ∷ [])) (sym same) (Contains-push members below)
-      | inr before ↦ Contains-append_left members (below ∷ []) q (so_far.all q (omega arith) marked is)
-    ];
-  }
-
-pub AreMembers-all : (part : SpaceClasses) (class : ℕ) (members : List ℕ) → MembersBelow part class members (length part.reached) →
-    AreMembers part class members
-AreMembers-all part class members all = record {
-  sound = all.sound;
-  complete = λ q marked is. all.all q (marked-inside part.reached q marked) marked is;
-}
 
 module _ (form : Form) (is_form : IsForm form) (spaces : List SpaceClasses) (partition : ArePartition form spaces)
     (s : ℕ) (space : FormSpace) (at : slice_get form.spaces s ≡ Some space) (class : ℕ) (states : List ℕ)

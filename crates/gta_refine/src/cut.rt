@@ -1,9 +1,9 @@
 //! Classes are cut in two: the states of a list, and others. The smaller part has the new class.
 
-ghost use Rattle.std.specs.Prelude.{◌≡◌, ◌<◌, ◌≤◌, ⊥, ℕ, ◌⊎◌, Contains, true, length, slice_index, IfOk, IsTrue, ◌↔◌};
+ghost use Rattle.std.specs.Prelude.{◌≡◌, ◌<◌, ◌≤◌, ⊥, ℕ, ◌⊎◌, Contains, true, length, slice_index, vec_len, IfOk, IsTrue, ◌↔◌};
 ghost use Rattle.gta_refine.specs.Chosen.{is_marked};
 ghost use Rattle.gta_refine.specs.Classes.{AreClasses, IsSplit};
-ghost use Rattle.gta_refine.specs.Lists.{list_at};
+ghost use Rattle.gta_refine.specs.Lists.{Leads};
 ghost use Rattle.gta_refine.specs.Cuts.{IsIndicator, IsIn, IsCut, HasOthers, Covers};
 
 use crate::form::NumberList;
@@ -212,24 +212,32 @@ fn split_listed(
     Ok(())
 }
 
+/// Adds empty lists until there are so many.
+fn grow(alloc: Global, many: usize, lists: &mut Vec<NumberList>) -> Result<(), AllocError>
+    ensures kept { IfOk result (λ done. (place number : ℕ) → Leads lists.old.items place number → Leads lists.new.items place number) }
+    ensures many { IfOk result (λ done. many ≤ vec_len lists.new) }
+{
+    for _place in lists.len()..many {
+        lists.push(Items::new(alloc))?;
+    }
+    Ok(())
+}
+
 /// Lists the states of the classes that came.
 fn list_new(
-    alloc: Global,
     order: &[u32],
     before: usize,
     part: &SpaceClasses,
     lists: &mut Vec<NumberList>,
 ) -> Result<(), AllocError>
     requires classes { AreClasses part.now.reached part.now.classes part.now.representatives }
+    requires many { length part.now.representatives ≤ vec_len lists.old }
     requires reached { (q : ℕ) → Contains order.now q → is_marked part.now.reached q ≡ true }
     requires olds { (q : ℕ) → is_marked part.now.reached q ≡ true → slice_index part.now.classes q < before
-        → Contains (list_at lists.old.items (slice_index part.now.classes q)) q }
+        → Leads lists.old.items (slice_index part.now.classes q) q }
     requires news { (q : ℕ) → is_marked part.now.reached q ≡ true → (slice_index part.now.classes q < before → ⊥) → Contains order.now q }
     ensures { IfOk result (λ done. Covers part.now lists.new.items) }
 {
-    for _place in lists.len()..part.representatives.len() {
-        lists.push(Items::new(alloc))?;
-    }
     for state in order {
         let class = part.classes.as_slice()[*state as usize];
         if (class as usize) >= before {
@@ -260,6 +268,7 @@ pub(crate) fn cut(
     let order = with_others(alloc, listed, lists, part)?;
     let before = part.representatives.len();
     split_listed(alloc, &order, &ids, part)?;
-    list_new(alloc, &order, before, part, lists)?;
+    grow(alloc, part.representatives.len(), lists)?;
+    list_new(&order, before, part, lists)?;
     Ok(())
 }
