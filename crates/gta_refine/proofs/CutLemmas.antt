@@ -318,32 +318,33 @@ module _ (reached : List Bool) (ids old first listed : List ℕ) (classes : AreC
         IsStep ids (slice_index listed below) (slice_index now (slice_index listed below)) made representatives after more class →
         Splits reached ids old first after more (slice_set now (slice_index listed below) class) (SeenIn listed (below + 1))
     unfolding state
-    Splits-listed small after more class step = Splits-step reached ids old first made representatives now state (SeenIn listed below) (SeenIn listed (below + 1)) kept here either
-        classes so_far marked (was small) after more class step
+    Splits-listed small after more class step = Splits-step reached ids old first made representatives now state (SeenIn listed below)
+        (SeenIn listed (below + 1)) kept here either classes so_far marked (was small) after more class step
 
     pub Splits-past : (slice_index now (slice_index listed below) < length first → ⊥) →
         Splits reached ids old first made representatives now (SeenIn listed (below + 1))
     unfolding state
-    Splits-past past = Splits-again reached ids old first made representatives now state (SeenIn listed below) (SeenIn listed (below + 1)) kept here either classes so_far
-        (had past)
+    Splits-past past = Splits-again reached ids old first made representatives now state (SeenIn listed below)
+        (SeenIn listed (below + 1)) kept here either classes so_far (had past)
 
   -- the others stay
   module _ (made : Made) (representatives now : List ℕ) (all : Splits reached ids old first made representatives now (SeenIn listed (length listed)))
-      (others : (q : ℕ) → is_marked reached q ≡ true → (Contains listed q → ⊥) → slice_index ids q ≡ slice_index ids (slice_index first (slice_index old q)))
-    where
-      done-at : (q : ℕ) → is_marked reached q ≡ true → IsDone reached ids old first made now q
-      unfolding first_id
-      done-at q q_marked = elim (cases_contains listed q) [
-        | inl there ↦ all.done q (subst (λ (xs : List ℕ). Contains xs q) (sym (take_all (length listed) listed (omega arith))) there) q_marked
-        | inr unlisted ↦ stayed
-            (all.ahead q (λ seen. unlisted (subst (λ (xs : List ℕ). Contains xs q) (take_all (length listed) listed (omega arith)) seen)))
-            (others q q_marked unlisted)
-      ]
+      (others : (q : ℕ) → is_marked reached q ≡ true → (Contains listed q → ⊥) →
+      slice_index ids q ≡ slice_index ids (slice_index first (slice_index old q))) where
+    whole : take (length listed) listed ≡ listed
+    whole = take_all (length listed) listed (omega arith)
 
-      pub AreClasses-listed : AreClasses reached now representatives
-      AreClasses-listed = AreClasses-all reached ids old first made representatives now (SeenIn listed (length listed)) classes all done-at
+    done-at : (q : ℕ) → is_marked reached q ≡ true → IsDone reached ids old first made now q
+    unfolding first_id
+    done-at q q_marked = elim (cases_contains listed q) [
+      | inl there ↦ all.done q (subst (λ (xs : List ℕ). Contains xs q) (sym whole) there) q_marked
+      | inr unlisted ↦ stayed (all.ahead q (λ seen. unlisted (subst (λ (xs : List ℕ). Contains xs q) whole seen))) (others q q_marked unlisted)
+    ]
 
-      -- a class below is the old one
+    pub AreClasses-listed : AreClasses reached now representatives
+    AreClasses-listed = AreClasses-all reached ids old first made representatives now (SeenIn listed (length listed)) classes all done-at
+
+    -- a class below is the old one
     pub stays-listed : (q : ℕ) → is_marked reached q ≡ true → slice_index now q < length first → slice_index now q ≡ slice_index old q
     stays-listed q q_marked small = stays-at q small (done-at q q_marked)
       where
@@ -355,13 +356,12 @@ module _ (reached : List Bool) (ids old first listed : List ℕ) (classes : AreC
     pub moved-listed : (q : ℕ) → is_marked reached q ≡ true → (slice_index now q < length first → ⊥) → Contains listed q
     moved-listed q q_marked past = elim (cases_contains listed q) [
       | inl there ↦ there
-      | inr unlisted ↦ absurd (past
-          (let e = all.ahead q (λ seen. unlisted (subst (λ (xs : List ℕ). Contains xs q) (take_all (length listed) listed (omega arith)) seen)) in
+      | inr unlisted ↦ absurd (past (let e = all.ahead q (λ seen. unlisted (subst (λ (xs : List ℕ). Contains xs q) whole seen)) in
           let w = classes.within q (let i = marked-inside reached q q_marked in let m = classes.many in omega arith) in omega arith))
     ]
 
     pub IsSplit-listed : IsSplit reached ids old now
-      IsSplit-listed = IsSplit-all reached ids old first made representatives now (SeenIn listed (length listed)) classes all done-at
+    IsSplit-listed = IsSplit-all reached ids old first made representatives now (SeenIn listed (length listed)) classes all done-at
 
 -- the lists of another space stay
 pub AllCover-set : (spaces : List SpaceClasses) (lists : List ClassLists) (c : ℕ) (part : SpaceClasses) (own : ClassLists) → AllCover spaces lists →
