@@ -116,6 +116,12 @@ module _ (nodes : List ℕ) (found : List Bool) (list : List Listed) (now_found 
         ];
       }
 
+pub AddsBelow-same : (nodes : List ℕ) (found : List Bool) (list : List Listed) (one one' : List Bool) (other other' : List Listed) (below : ℕ) →
+    one ≡ one' → other ≡ other' → AddsBelow nodes found list one other below → AddsBelow nodes found list one' other' below
+AddsBelow-same nodes found list one one' other other' below same_one same_other so_far =
+    subst (λ (xs : List Listed). AddsBelow nodes found list one' xs below) same_other
+    (subst (λ (xs : List Bool). AddsBelow nodes found list xs other below) same_one so_far)
+
 pub AddsNodes-all : (nodes : List ℕ) (found : List Bool) (list : List Listed) (now_found : List Bool) (now_list : List Listed) →
     AddsBelow nodes found list now_found now_list (length nodes) → AddsNodes nodes found list now_found now_list
 AddsNodes-all nodes found list now_found now_list all = record {

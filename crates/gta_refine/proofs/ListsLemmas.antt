@@ -173,3 +173,8 @@ Once-all numbers seen once all number = (
   (λ there. all.sound number there),
   (λ there. subst (Contains once) there.2 (subst (Contains once) (get_or_default numbers there.0 0 number there.1) (all.all there.0 there.1))),
 )
+
+pub OnceBelow-same : (numbers : List ℕ) (seen seen' : List Bool) (once once' : List ℕ) (below : ℕ) → seen ≡ seen' → once ≡ once' →
+    OnceBelow numbers seen once below → OnceBelow numbers seen' once' below
+OnceBelow-same numbers seen seen' once once' below same_seen same_once so_far =
+    subst (λ (xs : List ℕ). OnceBelow numbers seen' xs below) same_once (subst (λ (xs : List Bool). OnceBelow numbers xs once below) same_seen so_far)

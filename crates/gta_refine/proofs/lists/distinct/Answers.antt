@@ -1,7 +1,7 @@
 -- One number more.
-use Rattle.std.proofs.Common.{◌<◌, Bool, List, length, sym, ◌∙◌, ap, subst, arith}
+use Rattle.std.proofs.Common.{◌≡◌, ◌<◌, ℕ, Bool, false, List, length, sym, ◌∙◌, ap, subst, arith}
 use Rattle.std.specs.Prelude.{slice_index, slice_index_or}
-use Rattle.gta_refine.proofs.ListsLemmas.{OnceBelow, OnceBelow-seen, OnceBelow-push, Once-all}
+use Rattle.gta_refine.proofs.ListsLemmas.{OnceBelow, OnceBelow-same, OnceBelow-seen, OnceBelow-push, Once-all}
 use Rattle.gta_refine.proofs.lists.distinct.Goals as goal
 use Rattle.gta_refine.proofs.lists.distinct.Goals.{then-not-is_marked+in_ok-push, else-not-is_marked}
 
@@ -14,14 +14,21 @@ loop-number-preserved c =
     let inside : at < length numbers = (let t = c.loop-number-test.true in let e = c.loop-number.auto.number-index-end in omega arith) in
     elim c.if-not-is_marked.branch [
       | then-not-is_marked+in_ok-push w ↦
-          subst (λ v. OnceBelow numbers v.items c.if-not-is_marked.once.items _) (sym w.seen-is)
-          (subst (λ v. OnceBelow numbers _ v.items _) (sym w.once-is)
-          (subst (λ (xs : List Bool). OnceBelow numbers xs _ _) (sym w.mark.ensures)
-          (subst (λ xs. OnceBelow numbers _ xs _) (sym w.in_ok-push.ensures.items)
-          (OnceBelow-push numbers seen once at inside c.loop-number.invariant))))
+          OnceBelow-same numbers _ c.if-not-is_marked.seen.items _ c.if-not-is_marked.once.items _
+          (sym (ap (λ v. v.items) w.seen-is ∙ w.mark.ensures)) (sym (ap (λ v. v.items) w.once-is ∙ w.in_ok-push.ensures.items))
+          (OnceBelow-push numbers seen once at inside c.loop-number.invariant)
       | else-not-is_marked w ↦
-          subst (λ v. OnceBelow numbers v.items c.if-not-is_marked.once.items _) (sym w.seen-is)
-          (subst (λ v. OnceBelow numbers _ v.items _) (sym w.once-is)
+          OnceBelow-same numbers _ c.if-not-is_marked.seen.items _ c.if-not-is_marked.once.items _
+          (sym (ap (λ v. v.items) w.seen-is)) (sym (ap (λ v. v.items) w.once-is))
           (OnceBelow-seen numbers seen once at inside c.loop-number.invariant
-          (ap (λ (xs : List Bool). slice_index_or xs (slice_index numbers at) _) (sym c.deref.ensures.value) ∙ sym c.is_marked.ensures ∙ w.if-not-is_marked.false)))
+          (ap (λ (xs : List Bool). slice_index_or xs (slice_index numbers at) false) (sym c.deref.ensures.value) ∙ sym c.is_marked.ensures
+          ∙ w.if-not-is_marked.false))
     ]
+
+pub returns : goal.returns
+returns c =
+    let numbers = c.args.numbers.now in
+    let end : c.loop-number.number-index ≡ length numbers =
+    (let t = c.loop-number-test.false in let e = c.loop-number.auto.number-index-end in omega arith) in
+    Once-all numbers c.loop-number.seen.items c.loop-number.once.items
+    (subst (OnceBelow numbers c.loop-number.seen.items c.loop-number.once.items) end c.loop-number.invariant)
