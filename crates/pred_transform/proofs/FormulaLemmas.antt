@@ -1,6 +1,7 @@
 -- The formula of a place from what the walk keeps.
 use Rattle.std.proofs.Common.{◌≡◌, ℕ, ◌+◌, List, [], ◌∷◌, ◌++◌, length, map, reverse, slice_get, Option, Some, None, option_map}
-use Rattle.std.proofs.Common.{refl, sym, ap, ◌∙◌, append_assoc, length-map}
+use Rattle.std.proofs.Common.{refl, sym, ap, ◌∙◌, append_assoc}
+use Rattle.std.proofs.lemmas.List.{length-map}
 use Rattle.store_core.specs.Tables.{TypeEntry, VarEntry}
 use Rattle.store_exec.specs.declared.triple.Triple.{Triple}
 use Rattle.ws2s_core.specs.declared.formula.Formula.{Formula}

@@ -1,8 +1,8 @@
 -- How the steps of a walk are kept.
 use Rattle.std.proofs.Common.{◌≡◌, ℕ, zero, suc, ◌+◌, ◌==◌, Bool, true, false, List, [], ◌∷◌, ◌++◌, length, map, reverse, slice_get, Option, Some, None}
-use Rattle.std.proofs.Common.{if◌then◌else◌, option_map, refl, sym, ap, ◌∙◌, subst, inl, inr, arith, length-append, length-map, add-one}
+use Rattle.std.proofs.Common.{if◌then◌else◌, option_map, refl, sym, ap, ◌∙◌, subst, inl, inr, arith, length-append, add-one}
 use Rattle.std.proofs.lemmas.Bool.Decides.{eqb_tells}
-use Rattle.std.proofs.lemmas.List.{map-append, reverse-reverse, reverse-append}
+use Rattle.std.proofs.lemmas.List.{length-map, map-append, reverse-reverse, reverse-append}
 use Rattle.store_core.specs.Tables.{TypeEntry, VarEntry}
 use Rattle.store_exec.specs.declared.cause.Cause.{Cause}
 use Rattle.ws2s_core.specs.declared.formula.Formula.{Formula}
