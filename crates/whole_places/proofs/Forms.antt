@@ -1,5 +1,5 @@
 -- The words of names, routes, assertions and conditions are passed over.
-use Rattle.std.proofs.Common.{◌≡◌, ℕ, Bool, true, false, List, [], ◌∷◌, map, Option, Some, None, sym, subst}
+use Rattle.std.proofs.Common.{◌≡◌, ℕ, Bool, true, false, List, [], ◌∷◌, map, Some, None, sym, subst}
 use Rattle.std.specs.Prelude.{codes}
 use Rattle.pale_text.specs.declared.place.Pos.{Pos}
 use Rattle.pale_text.specs.declared.token.Mark.{Mark}
@@ -23,12 +23,12 @@ use Rattle.pale_syntax.specs.declared.tree.assertion.Bracketed.{Bracketed}
 use Rattle.pale_syntax.specs.declared.tree.assertion.Quantifier.{Quantifier}
 use Rattle.pale_syntax.specs.declared.tree.assertion.QuantifierKind.{QuantifierKind}
 use Rattle.pale_syntax.specs.declared.tree.assertion.QuantifierKind.TheVariants as quantifier
-use Rattle.pale_place_laws.specs.Words.{Word, Words, ◌>>◌, placed, unplaced, each, each_behind, separated, sign, sign_at, word_of, word_at, name_words}
+use Rattle.pale_place_laws.specs.Words.{Words, ◌>>◌, placed, unplaced, each, each_behind, separated, sign, sign_at, word_of, word_at, name_words}
 use Rattle.pale_place_laws.specs.Words.{path_words, term_words}
 use Rattle.pale_place_laws.specs.RouteWords.{bool_test, route_node, route_words}
 use Rattle.pale_place_laws.specs.ConditionWords.{condition_node, condition_words}
 use Rattle.pale_place_laws.specs.AssertionWords.{quantifier_word, set_word, quantifier_words, assertion_node, assertion_words, bracketed_words}
-use Rattle.whole_places.proofs.Occurring.{Occur, ArePassed, one_passed, each_passed, behind_passed, separated_passed}
+use Rattle.whole_places.proofs.Occurring.{ArePassed, one_passed, each_passed, behind_passed, separated_passed}
 
 -- ---- one after the other
 

@@ -1,10 +1,9 @@
 -- The places of each procedure's cut points occur in order among a program's words, so they are distinct.
-use Rattle.std.proofs.Common.{◌≡◌, ◌≢◌, ℕ, List, [], ◌∷◌, ◌++◌, map, flat_map, Option, Some, None, append-nil, refl, sym, ap, ◌∙◌, subst}
+use Rattle.std.proofs.Common.{◌≡◌, ◌≢◌, ℕ, List, [], ◌∷◌, ◌++◌, map, flat_map, append-nil, refl, sym, subst}
 use Rattle.std.specs.Prelude.{codes}
 use Rattle.std.specs.Prelude.{filter_map}
 use Rattle.std.specs.List.{AllByRecursion, AllPairs}
 use Rattle.pale_text.specs.declared.place.Pos.{Pos}
-use Rattle.pale_text.specs.declared.token.Token.{Token}
 use Rattle.pale_text.specs.declared.token.TokenList.{TokenList}
 use Rattle.pale_text.specs.declared.token.Mark.TheVariants as mark
 use Rattle.pale_text.specs.Lexing.{IsLexed}
@@ -25,9 +24,7 @@ use Rattle.pale_syntax.specs.declared.tree.declaration.Program.{Program}
 use Rattle.pale_syntax.specs.declared.tree.declaration.TypeDeclaration.{TypeDeclaration}
 use Rattle.pale_syntax.specs.declared.tree.declaration.VariantDeclaration.{VariantDeclaration}
 use Rattle.pale_syntax.specs.declared.tree.names.Name.{Name}
-use Rattle.pale_syntax.specs.declared.tree.statement.Statement.{Statement}
-use Rattle.pale_place_laws.specs.Words.{Word, Words, ◌>>◌, AreWords, each, each_behind, separated, sign, sign_at, name_words, typed_words}
-use Rattle.pale_place_laws.specs.StatementWords.{statement_words}
+use Rattle.pale_place_laws.specs.Words.{Word, AreWords, each, typed_words}
 use Rattle.pale_place_laws.specs.DeclarationWords.{field_form_words, field_words, fields_words, variant_words, type_words, predicate_parameter_words}
 use Rattle.pale_place_laws.specs.DeclarationWords.{predicate_words, parameter_words, results_words, logic_parameter_words, logics_words, local_words}
 use Rattle.pale_place_laws.specs.DeclarationWords.{procedure_words, declaration_words, program_words}

@@ -9,17 +9,15 @@ use Rattle.pale_syntax.specs.declared.tree.condition.Condition.{Condition}
 use Rattle.pale_syntax.specs.declared.tree.assertion.Bracketed.{Bracketed}
 use Rattle.pale_syntax.specs.declared.tree.statement.Argument.{Argument}
 use Rattle.pale_syntax.specs.declared.tree.statement.Argument.TheVariants as argument
-use Rattle.pale_syntax.specs.declared.tree.statement.Call.{Call}
 use Rattle.pale_syntax.specs.declared.tree.statement.Statement.{Statement, roll-Statement}
 use Rattle.pale_syntax.specs.declared.tree.statement.Statement.TheOpen.{Statement-F}
 use Rattle.pale_syntax.specs.declared.tree.statement.Statement.TheFolds.{fold-roll-Statement, map-Statement, ind-Statement}
 use Rattle.pale_syntax.specs.declared.tree.statement.Value.{Value}
 use Rattle.pale_syntax.specs.declared.tree.statement.Value.TheVariants as value
-use Rattle.pale_place_laws.specs.Words.{Word, Words, ◌>>◌, each, separated, sign, word_at, name_words, path_words}
+use Rattle.pale_place_laws.specs.Words.{Word, Words, ◌>>◌, each, sign, word_at, name_words}
 use Rattle.pale_place_laws.specs.ConditionWords.{condition_words}
-use Rattle.pale_place_laws.specs.AssertionWords.{bracketed_words}
-use Rattle.pale_place_laws.specs.StatementWords.{truth_word, argument_words, new_variant_words, value_words, value_place, assigns, clause_words}
-use Rattle.pale_place_laws.specs.StatementWords.{call_result_words, logic_argument_words, given_words, call_words}
+use Rattle.pale_place_laws.specs.StatementWords.{truth_word, argument_words, new_variant_words, value_words, value_place, clause_words}
+use Rattle.pale_place_laws.specs.StatementWords.{call_result_words, logic_argument_words, given_words}
 use Rattle.pale_place_laws.specs.StatementWords.{block_words, else_words, statement_node, statement_words}
 use Rattle.pale_types.specs.declared.typed.Stmt.{Stmt, roll-Stmt}
 use Rattle.pale_types.specs.declared.typed.Stmt.TheVariants as stmt
@@ -30,7 +28,7 @@ use Rattle.pale_types.specs.declared.sights.Frame.{Frame}
 use Rattle.pale_types.specs.Statements.{typing_rules, typed_statement, typed_block}
 use Rattle.pale_types.proofs.StatementLemmas.{typed_form}
 use Rattle.whole_safety.specs.Places.{places_in, cut_places}
-use Rattle.whole_places.proofs.Occurring.{Occur, no_more, past, here, ArePassed, one_passed, each_passed, separated_passed}
+use Rattle.whole_places.proofs.Occurring.{Occur, here, ArePassed, one_passed, separated_passed}
 use Rattle.whole_places.proofs.Forms.{sign_passed, word_passed, word_at_passed, name_passed, path_passed, condition_passed, bracketed_passed}
 
 -- ---- parts of statements

@@ -1,5 +1,5 @@
 -- The cuts at which a procedure's flows arrive are those of its text and its exit.
-use Rattle.std.proofs.Common.{◌≡◌, ℕ, List, [], ◌∷◌, ◌++◌, map, flat_map, Option, Some, None, refl, sym, ap, ◌∙◌, subst}
+use Rattle.std.proofs.Common.{◌≡◌, ℕ, List, [], ◌∷◌, ◌++◌, map, flat_map, Option, Some, None, refl, sym, subst}
 use Rattle.std.specs.List.{AllByRecursion, AllZip}
 use Rattle.store_core.specs.Tables.{VarEntry}
 use Rattle.store_logic.specs.declared.assertion.Assertion.{Assertion}

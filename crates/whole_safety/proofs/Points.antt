@@ -1,7 +1,7 @@
 -- Where the places of a procedure's cut points are distinct, a triple that never fails has a flow that is safe.
 use Rattle.std.proofs.Common.{◌≡◌, ◌≢◌, ◌==◌, ◌⊎◌, inl, inr, ℕ, zero, suc, ◌+◌, ◌<◌, Bool}
-use Rattle.std.proofs.Common.{true, false, cond, not, ◌&&◌, ◌||◌, List, [], ◌∷◌, ◌++◌, map, flat_map, Option}
-use Rattle.std.proofs.Common.{Some, None, Result, Ok, Err, Contains, slice_get, length, refl, sym, ap, ap₂, ◌∙◌, subst, arith}
+use Rattle.std.proofs.Common.{true, false, cond, not, ◌&&◌, ◌||◌, List, [], ◌∷◌, ◌++◌, flat_map}
+use Rattle.std.proofs.Common.{Some, None, Result, Ok, Err, slice_get, refl, sym, ap, ap₂, ◌∙◌, subst, arith}
 use Rattle.std.specs.Prelude.{option_map}
 use Rattle.std.specs.List.{AllByRecursion, AllPairs}
 use Rattle.std.proofs.lemmas.Bool.{false≢true}
@@ -10,14 +10,13 @@ use Rattle.store_core.specs.Tables.{TypeEntry, VarEntry}
 use Rattle.store_core.specs.Stores.{StoreMap}
 use Rattle.store_core.proofs.FreshLemmas.{AllByRecursion-from}
 use Rattle.store_core.proofs.Bodies.{AllByRecursion-at}
-use Rattle.routing_expr.specs.WellFormed.{IsWellFormed}
 use Rattle.store_logic.proofs.ExpandingLists.{all-first, all-second}
 use Rattle.store_exec.specs.declared.cause.Cause.{Cause}
 use Rattle.store_exec.specs.declared.outcome.Outcome.TheVariants as outcome
 use Rattle.store_exec.specs.declared.triple.Cut.{Cut}
 use Rattle.store_exec.specs.Steps.{truth_of}
 use Rattle.store_exec.specs.Cuts.{IsWrong, number_of, IsFirstCause, AtCut}
-use Rattle.store_exec.specs.Failing.{StartHolds, Meets, Fails}
+use Rattle.store_exec.specs.Failing.{Fails}
 use Rattle.pale_text.specs.declared.place.Pos.{Pos}
 use Rattle.pale_types.specs.declared.typed.ProcEntry.{ProcEntry}
 use Rattle.hoare_split.specs.declared.reached.Point.{Point}
@@ -25,7 +24,7 @@ use Rattle.hoare_split.specs.declared.reached.Point.TheVariants as point
 use Rattle.hoare_split.specs.Picking.{is_left}
 use Rattle.hoare_split.specs.Settings.{settings}
 use Rattle.hoare_split.specs.Flows.{Arrival, Flow, ends, does, branches, is_point, is_among}
-use Rattle.hoare_split.specs.Flows.{arrivals_of, first_of_each, reached_by, points_in, cuts_in, cuts_of, place_among, code_of}
+use Rattle.hoare_split.specs.Flows.{arrivals_of, first_of_each, reached_by, points_in, cuts_in, cuts_of, place_among}
 use Rattle.hoare_split.specs.Cuts.{at_exit}
 use Rattle.hoare_split.specs.Passages.{Started}
 use Rattle.hoare_split.specs.Triples.{exit_of, starts_of, triple_of}
@@ -34,7 +33,7 @@ use Rattle.whole_frames.proofs.Zips.{zip_get}
 use Rattle.whole_segments.specs.FlowRuns.{Leading, arrives, stops, Chosen, RunsFlow}
 use Rattle.whole_segments.proofs.FlowLemmas.{code_back}
 use Rattle.whole_safety.specs.Places.{cut_places}
-use Rattle.whole_safety.proofs.SafeFlows.{IsFine, IsSafe}
+use Rattle.whole_safety.proofs.SafeFlows.{IsSafe}
 use Rattle.whole_safety.proofs.Arrivals.{cut_arrivals, IsAt, all_paired, all_lead}
 
 -- ---- a place is one of a list's places

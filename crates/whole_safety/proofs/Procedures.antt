@@ -1,8 +1,8 @@
 -- What is known of each procedure of a program whose triples never fail, and so of each whole run.
-use Rattle.std.proofs.Common.{◌≡◌, ◌≢◌, ◌+◌, ℕ, zero, suc, List, [], ◌∷◌, map, flat_map, Some, Contains, slice_get, refl, sym, ap, ◌∙◌, subst, arith}
+use Rattle.std.proofs.Common.{◌≡◌, ◌≢◌, ◌+◌, ℕ, zero, suc, List, [], ◌∷◌, map, flat_map, Some, slice_get, sym, ◌∙◌, subst, arith}
 use Rattle.std.specs.List.{AllByRecursion, AllPairs}
 use Rattle.std.proofs.lemmas.Option.{slice_get_within, get_or_from_slice_get}
-use Rattle.store_core.specs.Tables.{TypeEntry, VarEntry}
+use Rattle.store_core.specs.Tables.{TypeEntry}
 use Rattle.store_core.specs.Stores.{StoreMap}
 use Rattle.store_core.proofs.FreshLemmas.{AllByRecursion-from}
 use Rattle.routing_expr.proofs.FreshLemmas.{IsFresh-well_formed}

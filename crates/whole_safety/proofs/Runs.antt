@@ -1,5 +1,5 @@
 -- Whole runs don't fail when no triple fails.
-use Rattle.std.proofs.Common.{◌≡◌, ℕ, zero, suc, List, [], ◌∷◌, ◌++◌, Some, None, Contains, slice_get, refl, sym, ap, ◌∙◌, subst}
+use Rattle.std.proofs.Common.{◌≡◌, ℕ, zero, suc, List, [], ◌∷◌, ◌++◌, Some, Contains, slice_get, refl, sym, ap, ◌∙◌, subst}
 use Rattle.std.specs.List.{AllByRecursion, AllZip}
 use Rattle.store_core.specs.declared.ids.VarId.{VarId}
 use Rattle.store_core.specs.declared.ids.CellId.{CellId}
@@ -15,12 +15,11 @@ use Rattle.store_exec.specs.declared.cause.Cause.{Cause}
 use Rattle.store_exec.specs.declared.cause.Cause.TheVariants as cause
 use Rattle.store_exec.specs.Steps.{variable}
 use Rattle.store_exec.specs.Restricted.{live_part, restricted}
-use Rattle.store_exec.proofs.KeepLemmas.{IsWell}
 use Rattle.pale_types.specs.declared.typed.ProcEntry.{ProcEntry}
 use Rattle.pale_types.specs.TypedPrograms.{TypedProgram}
-use Rattle.pale_types.specs.Fitting.{CallFits, ProcFits, ProgramFits, IsLike, IsProgramVariable}
+use Rattle.pale_types.specs.Fitting.{ProgramFits, IsLike, IsProgramVariable}
 use Rattle.hoare_split.specs.Cuts.{call_cut}
-use Rattle.whole_run.specs.States.{Waiting, State, runs, exited, Turn, goes, fails, Answer, Running, Fail, Exit}
+use Rattle.whole_run.specs.States.{Waiting, State, runs, exited, Turn, goes, fails, Answer, Fail}
 use Rattle.whole_run.specs.Handing.{handed_store, rest_store, returned_store}
 use Rattle.whole_run.specs.Turns.{Returns}
 use Rattle.whole_run.specs.Runs.{EndsBy, Ends}

@@ -11,7 +11,7 @@ use Rattle.store_exec.specs.Steps.{truth_of}
 use Rattle.store_exec.specs.Runs.{Ending, ByTruth, RunsItem, RunsItems}
 use Rattle.store_exec.specs.Cuts.{AtCut}
 use Rattle.store_exec.proofs.RunLemmas.{RunsItem-If}
-use Rattle.hoare_split.specs.Flows.{Arrival, Flow, ends, does, branches, after_items}
+use Rattle.hoare_split.specs.Flows.{Flow, does, branches, after_items}
 use Rattle.hoare_split.specs.Passages.{Passage, choice, choice_of}
 use Rattle.hoare_split.proofs.PlainLemmas.{WhenPlain}
 use Rattle.whole_segments.specs.FlowRuns.{Leading, arrives, stops, Chosen, RunsFlow}

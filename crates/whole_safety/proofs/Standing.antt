@@ -1,5 +1,5 @@
 -- Where a whole run may stand when no triple fails.
-use Rattle.std.proofs.Common.{◌≡◌, ◌<◌, ℕ, List, [], ◌∷◌, Some, None, slice_get, sym, subst}
+use Rattle.std.proofs.Common.{◌≡◌, ℕ, List, [], ◌∷◌, Some, None, slice_get}
 use Rattle.std.specs.List.{AllByRecursion}
 use Rattle.store_core.specs.declared.ids.CellId.{CellId}
 use Rattle.store_core.specs.Tables.{TypeEntry, VarEntry}
@@ -23,7 +23,7 @@ use Rattle.hoare_split.specs.Starts.{call_start}
 use Rattle.hoare_split.specs.Passages.{Started}
 use Rattle.hoare_split.specs.Statements.{block_of}
 use Rattle.hoare_split.specs.Triples.{exit_of}
-use Rattle.whole_run.specs.States.{Frame, Waiting, State, runs, exited, Turn, goes, fails}
+use Rattle.whole_run.specs.States.{Waiting, State, runs, exited, Turn, goes, fails}
 use Rattle.whole_run.specs.Handing.{handed_store, rest_store}
 use Rattle.whole_frames.specs.Leaving.{CameOf, AreBlank}
 use Rattle.whole_segments.specs.Segments.{flow_left}

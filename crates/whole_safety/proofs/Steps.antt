@@ -1,6 +1,6 @@
 -- Each step of a whole run keeps it standing so, when no triple fails.
-use Rattle.std.proofs.Common.{◌≡◌, ◌≤◌, ◌<◌, inl, inr, ℕ, Bool, true, false, List, []}
-use Rattle.std.proofs.Common.{◌∷◌, ◌++◌, map, Some, None, Result, Ok, Err, Contains, slice_get, if◌then◌else◌}
+use Rattle.std.proofs.Common.{◌≡◌, inl, inr, ℕ, Bool, true, false, List, []}
+use Rattle.std.proofs.Common.{◌∷◌, ◌++◌, map, Some, None, Result, Ok, Err, slice_get, if◌then◌else◌}
 use Rattle.std.proofs.Common.{Option, IsSome, IsSomeAnd, is_some, refl, sym, ap, ◌∙◌, subst, arith}
 use Rattle.std.specs.Ordering.{nat_cmp}
 use Rattle.std.specs.FinMap.{FinMap, get}
@@ -11,26 +11,23 @@ use Rattle.store_core.specs.declared.ids.VarId.{VarId}
 use Rattle.store_core.specs.declared.ids.CellId.{CellId}
 use Rattle.store_core.specs.Tables.{TypeEntry, VarEntry}
 use Rattle.store_core.specs.Stores.{StoreMap, CellEntry, IsFresh, cell_of, var_value}
-use Rattle.routing_expr.specs.Regions.{IsPart, store_on}
+use Rattle.routing_expr.specs.Regions.{store_on}
 use Rattle.routing_expr.specs.WellFormed.{IsWellFormed}
 use Rattle.routing_expr.proofs.FreshLemmas.{IsFresh-well_formed}
-use Rattle.routing_expr.proofs.TreeLemmas.{IsInTree-live}
 use Rattle.routing_laws.proofs.DecidedLemmas.{decided_in}
 use Rattle.routing_laws.proofs.DecidedWalks.{decided_same_cell}
 use Rattle.routing_laws.proofs.RegionLemmas.{store_on-IsOn}
 use Rattle.store_logic.specs.declared.act.Act.{Act}
 use Rattle.store_logic.specs.declared.assertion.Assertion.{Assertion}
 use Rattle.store_logic.specs.declared.cond.Cond.{Cond}
-use Rattle.store_logic.specs.FitsCode.{ActFits}
 use Rattle.store_logic.specs.Fits.{AssertionFits}
 use Rattle.store_logic.proofs.ExpandingLists.{all-first, all-second, all-append}
 use Rattle.store_exec.specs.declared.cause.Cause.{Cause}
 use Rattle.store_exec.specs.declared.cause.Cause.TheVariants as cause
-use Rattle.store_exec.specs.declared.code.Item.{Item}
 use Rattle.store_exec.specs.declared.code.Item.TheVariants as item
 use Rattle.store_exec.specs.declared.triple.Cut.{Cut}
 use Rattle.store_exec.specs.Steps.{truth_of}
-use Rattle.store_exec.specs.Runs.{Ending, Does, RunsItem, RunsItems}
+use Rattle.store_exec.specs.Runs.{Ending, Does, RunsItems}
 use Rattle.store_exec.specs.Restricted.{restricted}
 use Rattle.store_exec.specs.Cuts.{AtCut, AreMet}
 use Rattle.store_exec.specs.Failing.{StartHolds, IsBlank}
@@ -44,32 +41,31 @@ use Rattle.pale_types.specs.declared.typed.Stmt.{Stmt, out-Stmt, roll-out-Stmt}
 use Rattle.pale_types.specs.declared.typed.Stmt.TheOpen.{Stmt-F}
 use Rattle.pale_types.specs.declared.typed.Stmt.TheFolds.{map-Stmt}
 use Rattle.pale_types.specs.TypedPrograms.{TypedProgram}
-use Rattle.pale_types.specs.Fitting.{CallFits, ProcFits, StatementFits, StatementFitsNode, ProgramFits}
+use Rattle.pale_types.specs.Fitting.{ProcFits, StatementFits, StatementFitsNode, ProgramFits}
 use Rattle.hoare_split.specs.Picking.{those, is_awaited, is_left}
 use Rattle.hoare_split.specs.Settings.{setting, settings}
-use Rattle.hoare_split.specs.Calls.{handed_by, on_all}
-use Rattle.hoare_split.specs.Flows.{Flow, ends, does, branches}
+use Rattle.hoare_split.specs.Flows.{Flow, ends, branches}
 use Rattle.hoare_split.specs.Cuts.{plain_cut, call_cut, at_assertion, at_call, at_exit}
-use Rattle.hoare_split.specs.Starts.{plain_start, entry_start, call_start}
-use Rattle.hoare_split.specs.Passages.{Passage, choice}
+use Rattle.hoare_split.specs.Starts.{plain_start, entry_start}
+use Rattle.hoare_split.specs.Passages.{Passage}
 use Rattle.hoare_split.specs.Statements.{rules, passage_of, block_of}
 use Rattle.hoare_split.specs.Triples.{exit_of}
 use Rattle.hoare_split.proofs.StatementLemmas.{passage-form}
 use Rattle.hoare_split.proofs.PlainLemmas.{plain-block}
 use Rattle.hoare_split.proofs.FittingVariableLemmas.{left-program, settings-fit}
 use Rattle.hoare_split.proofs.FittingClaimLemmas.{call-settings}
-use Rattle.whole_run.specs.States.{Frame, Waiting, State, runs, exited, Turn, goes, fails}
+use Rattle.whole_run.specs.States.{Waiting, exited, Turn, goes}
 use Rattle.whole_run.specs.Handing.{handed_store, rest_store}
 use Rattle.whole_run.specs.Turns.{from_ending, from_truth, on_with, Arrives, AfterSettings, Begins, TakesForm, Exits, Takes, behind_cut}
-use Rattle.whole_frames.specs.Leaving.{CameOf, AreBlank}
+use Rattle.whole_frames.specs.Leaving.{CameOf}
 use Rattle.whole_segments.specs.FlowRuns.{arrives}
 use Rattle.whole_segments.specs.Segments.{flow_left}
 use Rattle.whole_safety.proofs.SafeFlows.{IsSafe, BothSafe, safe-unless, safe-item, no-fault, safe-after, choice-safe}
-use Rattle.whole_safety.proofs.Moving.{Moves, IsKept, variable_below, act_moves, restricted_moves}
-use Rattle.whole_safety.proofs.Settings.{AreSet, set_all, IsBlankIn}
+use Rattle.whole_safety.proofs.Moving.{IsKept, variable_below, act_moves, restricted_moves}
+use Rattle.whole_safety.proofs.Settings.{AreSet, set_all}
 use Rattle.whole_safety.proofs.Laws.{Laws}
-use Rattle.whole_safety.proofs.Blocks.{flow_front, starts_front, choice_starts, behind_flow, behind_starts, form_fits, behind_fits, while_fits}
-use Rattle.whole_safety.proofs.Standing.{SafeFrom, IsGood, IsReady, IsCalled, Stands, stands_move, IsRunning, IsDone, Holds, OnTurn}
+use Rattle.whole_safety.proofs.Blocks.{flow_front, starts_front, choice_starts, behind_flow, behind_starts, form_fits, behind_fits}
+use Rattle.whole_safety.proofs.Standing.{SafeFrom, IsGood, IsReady, IsCalled, Stands, stands_move, IsRunning, Holds, OnTurn}
 
 -- the store arrives at a cut that has no cause
 arrived : (types : List TypeEntry) (vars : List VarEntry) (s : StoreMap) (cut : Cut) (Next : StoreMap → Turn → Type 0) (turn : Turn) →
