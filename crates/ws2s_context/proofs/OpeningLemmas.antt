@@ -1,17 +1,16 @@
 -- On quantifiers that are opened.
-use Rattle.std.proofs.Common.{◌≡◌, ℕ, max, List, [], ◌∷◌, ◌++◌, All, Contains, refl, ap, subst, ◌∙◌, arith}
+use Rattle.std.proofs.Common.{◌≡◌, ℕ, max, List, [], ◌∷◌, ◌++◌, Contains, refl, ap, subst, ◌∙◌, arith}
 use Rattle.std.proofs.Common.{Result, Ok, Err, IfOk, Some, slice_get}
 use Rattle.std.proofs.lemmas.List.{map-append}
 use Rattle.std.specs.List.{AllByRecursion}
-use Rattle.gta_theory.specs.Assignments.{Assignment, Covers, replace}
-use Rattle.gta_theory.specs.Weights.{weight}
+use Rattle.gta_theory.specs.Assignments.{Covers, replace}
 use Rattle.gta_theory.proofs.AssignmentsLemmas.{Covers-more, Covers-finite, Covers-replace, IsWithin-more}
 use Rattle.gta_theory.proofs.WeightsLemmas.{weight-same, weight-unlisted}
 use Rattle.ws2s_core.specs.declared.track.Track.{Track}
 use Rattle.ws2s_core.specs.declared.formula.Formula.{Formula}
 use Rattle.ws2s_core.specs.declared.formula.Formula.TheVariants.{And, Ex2}
 use Rattle.ws2s_core.specs.declared.node.FormulaId.{FormulaId}
-use Rattle.ws2s_core.specs.Satisfaction.{WSat, Same}
+use Rattle.ws2s_core.specs.Satisfaction.{Same}
 use Rattle.ws2s_core.specs.Tracks.{IsFree}
 use Rattle.ws2s_core.proofs.SatisfactionLemmas.{WSat-And, WSat-Ex2}
 use Rattle.ws2s_theory.specs.Contexts.{conjoined}

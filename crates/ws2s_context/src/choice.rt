@@ -1,8 +1,8 @@
 //! Which conjuncts come into contexts, and where they are conjoined. It is a choice alone, so it promises nothing.
 //!
-//! Where each free track is weighed, a formula is a text's own: atoms alone come into contexts, and are conjoined where a
+//! Where each free track is weighed, or none, a formula is a text's own: atoms alone come into contexts, and are conjoined where a
 //! position is found by steps from others, since a set of many positions there needs many states. Otherwise it says of a
-//! store's tree that it fails: conjuncts of its outer spine say what a tree of a store is, and without them automata inside
+//! store's tree that it fails, and cells are weighed: conjuncts of its outer spine say what a tree of a store is, and without them automata inside
 //! tell apart trees of none. So these and small conjuncts come into contexts, as they were rewritten, and are conjoined at each
 //! quantifier and negation.
 

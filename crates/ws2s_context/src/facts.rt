@@ -200,10 +200,10 @@ impl Facts {
         }
     }
 
-    /// Whether the formula has a free track that isn't among these numbers, as far as known.
+    /// Whether there are numbers, and the formula has a free track that isn't among them, as far as known.
     pub(crate) fn has_stranger(&self, id: FormulaId, tracks: &HashSet<u32>) -> bool {
         match self.get(id) {
-            Some(fact) => !is_within(&fact.tracks, tracks),
+            Some(fact) => !tracks.is_empty() && !is_within(&fact.tracks, tracks),
             None => false,
         }
     }

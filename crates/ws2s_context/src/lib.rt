@@ -2,8 +2,8 @@
 //!
 //! What holds around a part of a formula is conjoined inside it: automata then need not tell apart assignments that are ruled
 //! out outside. All goes on numbers of formulas, each of which is looked at once in each context. `specs/Going.antt` says
-//! what a context holds, and what there is on the way. Which conjuncts come into contexts, and where they are conjoined, is free: `src/choice.rt` has the two
-//! ways.
+//! what a context holds, and what there is on the way. Which conjuncts come into contexts, and where they are conjoined, is
+//! free: `src/choice.rt` has the two ways.
 #![tactic(auto)]
 
 mod choice;

@@ -1,6 +1,6 @@
 //! Quantifiers at the end of a formula's outer spine are opened: an automaton need not be projected for the verdict.
 //!
-//! They are where some free track isn't weighed, so that the formula is one of a store: a text's own formulas were decided faster
+//! They are where some free tracks are weighed and others aren't, so that the formula is one of a store: a text's own formulas were decided faster
 //! with their quantifiers, without which all conjunctions above have the bound tracks.
 
 ghost use Rattle.std.specs.Prelude.{◌≡◌, ℕ, List, Contains, IfOk, OnOk, Some, true, slice_get};
