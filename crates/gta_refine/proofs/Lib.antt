@@ -7,3 +7,8 @@ pub mod SplitLemmas
 pub mod IdsLemmas
 pub mod RefineLemmas
 pub mod RoomLemmas
+pub mod ListsLemmas
+pub mod ClimbLemmas
+pub mod UsesLemmas
+pub mod CutLemmas
+pub mod GiversLemmas

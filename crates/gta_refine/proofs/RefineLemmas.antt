@@ -367,7 +367,7 @@ module _ (form : Form) (spaces : List SpaceClasses) (is_form : IsForm form) (par
 -- a space and its children
 module _ (form : Form) (is_form : IsForm form) (spaces : List SpaceClasses) (partition : ArePartition form spaces)
     (s : ℕ) (space : FormSpace) (at : slice_get form.spaces s ≡ Some space) where
-  there-is : IsSpace (guide_of form) s
+  pub there-is : IsSpace (guide_of form) s
   there-is = let e = many_spaces form in let b = slice_get_within form.spaces s space at in omega arith
 
   pub child-space : (side : Side) → IsSpace (guide_of form) (child_at (guide_of form) side s)

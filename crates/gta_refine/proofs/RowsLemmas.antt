@@ -79,7 +79,7 @@ map-same : (f h : ℕ → NodeRef) → ((k : ℕ) → f k ≡ h k) → (xs : Lis
 map-same f h same [] = refl
 map-same f h same (x ∷ xs) = ap (λ (r : NodeRef). r ∷ map f xs) (same x) ∙ ap (λ (rs : List NodeRef). h x ∷ rs) (map-same f h same xs)
 
-cell_at-same : (space : FormSpace) (side : Side) (p q other : ℕ) →
+pub cell_at-same : (space : FormSpace) (side : Side) (p q other : ℕ) →
     slice_index (kinds_in space side) p ≡ slice_index (kinds_in space side) q → cell_at space side p other ≡ cell_at space side q other
 cell_at-same space Left p q other same = cell-same space p q other other same refl
 cell_at-same space Right p q other same = cell-same space other other p q refl same

@@ -26,11 +26,10 @@ module _ (reached : List Bool) (ids old first : List ℕ) where
   first_id class = slice_index ids (slice_index first class)
 
   -- a class that was made for states of a class with a number
-  pub record IsMade (representatives : List ℕ) (below class id made : ℕ) : Type 0 where
+  pub record IsMade (representatives : List ℕ) (class id made : ℕ) : Type 0 where
     pub least : length first ≤ made
     pub within : made < length representatives
     pub marked : is_marked reached (slice_index representatives made) ≡ true
-    pub before : slice_index representatives made < below
     pub class_is : slice_index old (slice_index representatives made) ≡ class
     pub id_is : slice_index ids (slice_index representatives made) ≡ id
     pub other : id ≢ first_id class
@@ -41,70 +40,78 @@ module _ (reached : List Bool) (ids old first : List ℕ) where
     went : made_for made (slice_index old q) (slice_index ids q) ≡ Some (slice_index now q) →
         slice_index ids q ≢ first_id (slice_index old q) → IsDone made now q
 
-  -- the states below have their classes
-  pub record Splits (made : Made) (representatives now : List ℕ) (below : ℕ) : Type 0 where
+  -- the states that were seen have their classes
+  pub record Splits (made : Made) (representatives now : List ℕ) (Seen : ℕ → Type 0) : Type 0 where
     pub many : length now ≡ length old
     pub more : List ℕ
     pub grown : representatives ≡ first ++ more
     pub few : length representatives ≤ 2 ^ 31
-    pub ahead : (q : ℕ) → below ≤ q → slice_index now q ≡ slice_index old q
+    pub ahead : (q : ℕ) → (Seen q → ⊥) → slice_index now q ≡ slice_index old q
     pub within : (q : ℕ) → q < length now → slice_index now q < length representatives
-    pub done : (q : ℕ) → q < below → is_marked reached q ≡ true → IsDone made now q
-    pub sound : (class id x : ℕ) → made_for made class id ≡ Some x → IsMade representatives below class id x
+    pub done : (q : ℕ) → Seen q → is_marked reached q ≡ true → IsDone made now q
+    pub sound : (class id x : ℕ) → made_for made class id ≡ Some x → IsMade representatives class id x
     pub full : (x : ℕ) → length first ≤ x → x < length representatives →
         made_for made (slice_index old (slice_index representatives x)) (slice_index ids (slice_index representatives x)) ≡ Some x
     pub unchanged : length representatives ≡ length first → now ≡ old
 
-  pub Splits-start : (made : Made) → AreClasses reached old first → ((class id : ℕ) → made_for made class id ≡ None) → Splits made first old 0
-  Splits-start made classes none = record {
+  pub Splits-start : (made : Made) (Seen : ℕ → Type 0) → ((q : ℕ) → Seen q → ⊥) → AreClasses reached old first →
+      ((class id : ℕ) → made_for made class id ≡ None) → Splits made first old Seen
+  Splits-start made Seen unseen classes none = record {
     many = refl;
     more = [];
     grown = sym (append-nil first);
     few = classes.few;
     ahead = λ q above. refl;
     within = classes.within;
-    done = λ q inside. absurd (omega arith);
+    done = λ q seen. absurd (unseen q seen);
     sound = λ class id x there. absurd (let e : None ≡ Some x = sym (none class id) ∙ there in cc);
     full = λ x least within. absurd (omega arith);
     unchanged = λ same. refl;
   }
 
-  IsMade-later : (representatives : List ℕ) (below class id x : ℕ) → IsMade representatives below class id x → IsMade representatives (below + 1) class id x
-  IsMade-later representatives below class id x is_made = record {
-    least = is_made.least;
-    within = is_made.within;
-    marked = is_made.marked;
-    before = let b = is_made.before in omega arith;
-    class_is = is_made.class_is;
-    id_is = is_made.id_is;
-    other = is_made.other;
-  }
+  -- one state more is seen
+  module _ (made : Made) (representatives now : List ℕ) (state : ℕ) (Seen After : ℕ → Type 0) (kept : (q : ℕ) → Seen q → After q)
+      (here : After state) (either : (q : ℕ) → After q → Seen q ⊎ (q ≡ state)) (classes : AreClasses reached old first)
+      (so_far : Splits made representatives now Seen) where
+    -- it had its class already
+    pub Splits-again : IsDone made now state → Splits made representatives now After
+    Splits-again had = record {
+      many = so_far.many;
+      more = so_far.more;
+      grown = so_far.grown;
+      few = so_far.few;
+      ahead = λ q unseen. so_far.ahead q (λ seen. unseen (kept q seen));
+      within = so_far.within;
+      done = λ q seen marked. elim (either q seen) [
+        | inl before ↦ so_far.done q before marked
+        | inr same ↦ subst (IsDone made now) (sym same) had
+      ];
+      sound = so_far.sound;
+      full = so_far.full;
+      unchanged = so_far.unchanged;
+    }
 
-  module _ (made : Made) (representatives now : List ℕ) (state : ℕ) (classes : AreClasses reached old first)
-      (so_far : Splits made representatives now state) where
-    pub Splits-skip : is_marked reached state ≡ false → Splits made representatives now (state + 1)
+    -- it isn't reached
+    pub Splits-skip : is_marked reached state ≡ false → Splits made representatives now After
     Splits-skip unmarked = record {
       many = so_far.many;
       more = so_far.more;
       grown = so_far.grown;
       few = so_far.few;
-      ahead = λ q above. so_far.ahead q (omega arith);
+      ahead = λ q unseen. so_far.ahead q (λ seen. unseen (kept q seen));
       within = so_far.within;
-      done = λ q inside marked. elim (cases_eq q state) [
-        | inl same ↦ absurd (false≢true (sym unmarked ∙ sym (ap (is_marked reached) same) ∙ marked))
-        | inr other ↦ so_far.done q (omega arith) marked
+      done = λ q seen marked. elim (either q seen) [
+        | inl before ↦ so_far.done q before marked
+        | inr same ↦ absurd (false≢true (sym unmarked ∙ sym (ap (is_marked reached) same) ∙ marked))
       ];
-      sound = λ class id x there. IsMade-later representatives state class id x (so_far.sound class id x there);
+      sound = so_far.sound;
       full = so_far.full;
       unchanged = so_far.unchanged;
     }
 
-    module _ (marked : is_marked reached state ≡ true) where
+    module _ (marked : is_marked reached state ≡ true) (was : slice_index now state ≡ slice_index old state) where
       inside : state < length now
       inside = let a = marked-inside reached state marked in let b = classes.many in let c = so_far.many in omega arith
-
-      was : slice_index now state ≡ slice_index old state
-      was = so_far.ahead state (omega arith)
 
       old_class : slice_index old state < length first
       old_class = classes.within state (let a = marked-inside reached state marked in let b = classes.many in omega arith)
@@ -117,6 +124,12 @@ module _ (reached : List Bool) (ids old first : List ℕ) where
       first_is : slice_index ids (slice_index representatives (slice_index now state)) ≡ first_id (slice_index old state)
       unfolding first_id
       first_is = ap (slice_index ids) same_first
+
+      before-seen : (q : ℕ) → After q → (q ≡ state → ⊥) → Seen q
+      before-seen q seen other = elim (either q seen) [
+        | inl before ↦ before
+        | inr same ↦ absurd (other same)
+      ]
 
       -- the classes with that of the state
       after-here : (class : ℕ) → slice_index (slice_set now state class) state ≡ class
@@ -133,11 +146,11 @@ module _ (reached : List Bool) (ids old first : List ℕ) where
             let b = so_far.within q (let l = length-set now state class in omega arith) in omega arith
       ]
 
-      ahead-after : (class q : ℕ) → state + 1 ≤ q → slice_index (slice_set now state class) q ≡ slice_index old q
-      ahead-after class q above = after-other class q (λ e. absurd (omega arith)) ∙ so_far.ahead q (omega arith)
+      ahead-after : (class q : ℕ) → (After q → ⊥) → slice_index (slice_set now state class) q ≡ slice_index old q
+      ahead-after class q unseen = after-other class q (λ e. unseen (subst After (sym e) here)) ∙ so_far.ahead q (λ seen. unseen (kept q seen))
 
       stay : slice_index ids state ≡ slice_index ids (slice_index representatives (slice_index now state)) →
-          Splits made representatives (slice_set now state (slice_index now state)) (state + 1)
+          Splits made representatives (slice_set now state (slice_index now state)) After
       stay same_id = let class = slice_index now state in record {
         many = length-set now state class ∙ so_far.many;
         more = so_far.more;
@@ -145,22 +158,22 @@ module _ (reached : List Bool) (ids old first : List ℕ) where
         few = so_far.few;
         ahead = ahead-after class;
         within = within-after class (length representatives) (omega arith) (so_far.within state inside);
-        done = λ q q_in q_marked. elim (cases_eq q state) [
+        done = λ q seen q_marked. elim (cases_eq q state) [
           | inl same ↦ subst (IsDone made (slice_set now state class)) (sym same)
               (stayed (after-here class ∙ was) (same_id ∙ first_is))
-          | inr other ↦ elim (so_far.done q (omega arith) q_marked) [
+          | inr other ↦ elim (so_far.done q (before-seen q seen other) q_marked) [
             | stayed e f ↦ stayed (after-other class q other ∙ e) f
             | went e f ↦ went (e ∙ ap (λ (n : ℕ). Some n) (sym (after-other class q other))) f
           ]
         ];
-        sound = λ c id x there. IsMade-later representatives state c id x (so_far.sound c id x there);
+        sound = so_far.sound;
         full = so_far.full;
         unchanged = λ same. set-get_or now state 0 ∙ so_far.unchanged same;
       }
 
       go : (other : ℕ) → slice_index ids state ≢ slice_index ids (slice_index representatives (slice_index now state)) →
           made_for made (slice_index now state) (slice_index ids state) ≡ Some other →
-          Splits made representatives (slice_set now state other) (state + 1)
+          Splits made representatives (slice_set now state other) After
       go other differs there =
           let is_made = so_far.sound (slice_index now state) (slice_index ids state) other there in
           record {
@@ -170,16 +183,16 @@ module _ (reached : List Bool) (ids old first : List ℕ) where
             few = so_far.few;
             ahead = ahead-after other;
             within = within-after other (length representatives) (omega arith) is_made.within;
-            done = λ q q_in q_marked. elim (cases_eq q state) [
+            done = λ q seen q_marked. elim (cases_eq q state) [
               | inl same ↦ subst (IsDone made (slice_set now state other)) (sym same)
                   (went (ap (λ (c : ℕ). made_for made c (slice_index ids state)) (sym was) ∙ there ∙ ap (λ (n : ℕ). Some n) (sym (after-here other)))
                   (λ e. differs (e ∙ sym first_is)))
-              | inr apart ↦ elim (so_far.done q (omega arith) q_marked) [
+              | inr apart ↦ elim (so_far.done q (before-seen q seen apart) q_marked) [
                 | stayed e f ↦ stayed (after-other other q apart ∙ e) f
                 | went e f ↦ went (e ∙ ap (λ (n : ℕ). Some n) (sym (after-other other q apart))) f
               ]
             ];
-            sound = λ c id x is. IsMade-later representatives state c id x (so_far.sound c id x is);
+            sound = so_far.sound;
             full = so_far.full;
             unchanged = λ same. absurd (let a = is_made.least in let b = is_made.within in omega arith);
           }
@@ -194,15 +207,15 @@ module _ (reached : List Bool) (ids old first : List ℕ) where
         least : length first ≤ length representatives
         least = let e = ap length so_far.grown in let f = length-append first so_far.more in omega arith
 
-        here : slice_index (representatives ++ state ∷ []) other ≡ state
-        here = ap (slice_index (representatives ++ state ∷ [])) is ∙ get_or-append_seam representatives state [] 0
+        at_other : slice_index (representatives ++ state ∷ []) other ≡ state
+        at_other = ap (slice_index (representatives ++ state ∷ [])) is ∙ get_or-append_seam representatives state [] 0
 
         before-at : (x : ℕ) → x < length representatives → slice_index (representatives ++ state ∷ []) x ≡ slice_index representatives x
         before-at x x_in = get_or-append representatives (state ∷ []) 0 x x_in
 
         -- what was made for another class or number
-        kept : (c id x : ℕ) → made_for made c id ≡ Some x → made_for after c id ≡ Some x
-        kept c id x there = elim (cases_Bool (same_pair (slice_index now state, slice_index ids state) (c, id))) [
+        kept-made : (c id x : ℕ) → made_for made c id ≡ Some x → made_for after c id ≡ Some x
+        kept-made c id x there = elim (cases_Bool (same_pair (slice_index now state, slice_index ids state) (c, id))) [
           | inl same ↦
               let class_same = eqb-true (slice_index now state) c (and-left (nat_eq (slice_index now state) c) (nat_eq (slice_index ids state) id) same) in
               let id_same = eqb-true (slice_index ids state) id (and-right (nat_eq (slice_index now state) c) (nat_eq (slice_index ids state) id) same) in
@@ -211,29 +224,27 @@ module _ (reached : List Bool) (ids old first : List ℕ) where
           | inr apart ↦ updates.2 (c, id) apart ∙ there
         ]
 
-        IsMade-before : (c id x : ℕ) → IsMade representatives state c id x → IsMade (representatives ++ state ∷ []) (state + 1) c id x
+        IsMade-before : (c id x : ℕ) → IsMade representatives c id x → IsMade (representatives ++ state ∷ []) c id x
         IsMade-before c id x is_made = let at = before-at x is_made.within in record {
           least = is_made.least;
           within = let a = is_made.within in let l = longer in omega arith;
           marked = ap (is_marked reached) at ∙ is_made.marked;
-          before = let b = is_made.before in omega arith;
           class_is = ap (slice_index old) at ∙ is_made.class_is;
           id_is = ap (slice_index ids) at ∙ is_made.id_is;
           other = is_made.other;
         }
 
-        IsMade-here : IsMade (representatives ++ state ∷ []) (state + 1) (slice_index now state) (slice_index ids state) other
+        IsMade-here : IsMade (representatives ++ state ∷ []) (slice_index now state) (slice_index ids state) other
         IsMade-here = record {
           least = let l = least in omega arith;
           within = let l = longer in omega arith;
-          marked = ap (is_marked reached) here ∙ marked;
-          before = let h = here in omega arith;
-          class_is = ap (slice_index old) here ∙ sym was;
-          id_is = ap (slice_index ids) here;
+          marked = ap (is_marked reached) at_other ∙ marked;
+          class_is = ap (slice_index old) at_other ∙ sym was;
+          id_is = ap (slice_index ids) at_other;
           other = λ e. differs (e ∙ ap first_id was ∙ sym first_is);
         }
 
-        sound-after : (c id x : ℕ) → made_for after c id ≡ Some x → IsMade (representatives ++ state ∷ []) (state + 1) c id x
+        sound-after : (c id x : ℕ) → made_for after c id ≡ Some x → IsMade (representatives ++ state ∷ []) c id x
         sound-after c id x there = elim (cases_Bool (same_pair (slice_index now state, slice_index ids state) (c, id))) [
           | inl same ↦
               let class_same = eqb-true (slice_index now state) c (and-left (nat_eq (slice_index now state) c) (nat_eq (slice_index ids state) id) same) in
@@ -241,9 +252,9 @@ module _ (reached : List Bool) (ids old first : List ℕ) where
               let e : Some other ≡ Some x = sym updates.1 ∙ ap (λ (k : ℕ). made_for after k (slice_index ids state)) class_same
               ∙ ap (made_for after c) id_same ∙ there in
               let x_is : other ≡ x = cc in
-              subst (λ (k : ℕ). IsMade (representatives ++ state ∷ []) (state + 1) k id x) class_same
-              (subst (λ (k : ℕ). IsMade (representatives ++ state ∷ []) (state + 1) (slice_index now state) k x) id_same
-              (subst (IsMade (representatives ++ state ∷ []) (state + 1) (slice_index now state) (slice_index ids state)) x_is IsMade-here))
+              subst (λ (k : ℕ). IsMade (representatives ++ state ∷ []) k id x) class_same
+              (subst (λ (k : ℕ). IsMade (representatives ++ state ∷ []) (slice_index now state) k x) id_same
+              (subst (IsMade (representatives ++ state ∷ []) (slice_index now state) (slice_index ids state)) x_is IsMade-here))
           | inr apart ↦ IsMade-before c id x (so_far.sound c id x (sym (updates.2 (c, id) apart) ∙ there))
         ]
 
@@ -252,15 +263,15 @@ module _ (reached : List Bool) (ids old first : List ℕ) where
             ≡ Some x
         full-after x x_least x_in = elim (cases_lt x (length representatives)) [
           | inl before ↦ ap (λ (q : ℕ). made_for after (slice_index old q) (slice_index ids q)) (before-at x before)
-              ∙ kept (slice_index old (slice_index representatives x)) (slice_index ids (slice_index representatives x)) x (so_far.full x x_least before)
+              ∙ kept-made (slice_index old (slice_index representatives x)) (slice_index ids (slice_index representatives x)) x (so_far.full x x_least before)
           | inr last ↦
               let x_is : x ≡ other = (let l = longer in omega arith) in
               ap (λ (k : ℕ). let q = slice_index (representatives ++ state ∷ []) k in made_for after (slice_index old q) (slice_index ids q)) x_is
-              ∙ ap (λ (q : ℕ). made_for after (slice_index old q) (slice_index ids q)) here
+              ∙ ap (λ (q : ℕ). made_for after (slice_index old q) (slice_index ids q)) at_other
               ∙ ap (λ (c : ℕ). made_for after c (slice_index ids state)) (sym was) ∙ updates.1 ∙ ap (λ (n : ℕ). Some n) (sym x_is)
         ]
 
-        make : Splits after (representatives ++ state ∷ []) (slice_set now state other) (state + 1)
+        make : Splits after (representatives ++ state ∷ []) (slice_set now state other) After
         make = record {
           many = length-set now state other ∙ so_far.many;
           more = so_far.more ++ state ∷ [];
@@ -268,13 +279,13 @@ module _ (reached : List Bool) (ids old first : List ℕ) where
           few = let l = longer in omega arith;
           ahead = ahead-after other;
           within = within-after other (length (representatives ++ state ∷ [])) (let l = longer in omega arith) (let l = longer in omega arith);
-          done = λ q q_in q_marked. elim (cases_eq q state) [
+          done = λ q seen q_marked. elim (cases_eq q state) [
             | inl same ↦ subst (IsDone after (slice_set now state other)) (sym same)
                 (went (ap (λ (c : ℕ). made_for after c (slice_index ids state)) (sym was) ∙ updates.1 ∙ ap (λ (n : ℕ). Some n) (sym (after-here other)))
                 (λ e. differs (e ∙ sym first_is)))
-            | inr apart ↦ elim (so_far.done q (omega arith) q_marked) [
+            | inr apart ↦ elim (so_far.done q (before-seen q seen apart) q_marked) [
               | stayed e f ↦ stayed (after-other other q apart ∙ e) f
-              | went e f ↦ went (kept (slice_index old q) (slice_index ids q) (slice_index now q) e ∙ ap (λ (n : ℕ). Some n)
+              | went e f ↦ went (kept-made (slice_index old q) (slice_index ids q) (slice_index now q) e ∙ ap (λ (n : ℕ). Some n)
                   (sym (after-other other q apart))) f
             ]
           ];
@@ -284,17 +295,14 @@ module _ (reached : List Bool) (ids old first : List ℕ) where
         }
 
       pub Splits-step : (after : Made) (more : List ℕ) (class : ℕ) → IsStep ids state (slice_index now state) made representatives after more class →
-          Splits after more (slice_set now state class) (state + 1)
+          Splits after more (slice_set now state class) After
       Splits-step _ _ _ (stays same) = stay same
       Splits-step _ _ _ (known other differs there) = go other differs there
       Splits-step _ _ _ (makes after other differs none is small updates) = make after other differs none is small updates
 
   -- all states have their classes
-  module _ (made : Made) (representatives now : List ℕ) (classes : AreClasses reached old first)
-      (all : Splits made representatives now (length reached)) where
-    done-at : (q : ℕ) → is_marked reached q ≡ true → IsDone made now q
-    done-at q marked = all.done q (marked-inside reached q marked) marked
-
+  module _ (made : Made) (representatives now : List ℕ) (Seen : ℕ → Type 0) (classes : AreClasses reached old first)
+      (all : Splits made representatives now Seen) (done-at : (q : ℕ) → is_marked reached q ≡ true → IsDone made now q) where
     old_within : (q : ℕ) → is_marked reached q ≡ true → slice_index old q < length first
     old_within q marked = classes.within q (let a = marked-inside reached q marked in let b = classes.many in omega arith)
 
@@ -345,7 +353,7 @@ module _ (reached : List Bool) (ids old first : List ℕ) where
     has-first x x_in (stayed e f) = e ∙ classes.has x x_in
     has-first x x_in (went e f) = absurd (f (ap (λ (c : ℕ). slice_index ids (slice_index first c)) (sym (classes.has x x_in))))
 
-    has-made : (x : ℕ) → IsMade representatives (length reached) (slice_index old (slice_index representatives x))
+    has-made : (x : ℕ) → IsMade representatives (slice_index old (slice_index representatives x))
         (slice_index ids (slice_index representatives x)) x →
         made_for made (slice_index old (slice_index representatives x)) (slice_index ids (slice_index representatives x)) ≡ Some x →
         IsDone made now (slice_index representatives x) → slice_index now (slice_index representatives x) ≡ x
@@ -372,6 +380,7 @@ module _ (reached : List Bool) (ids old first : List ℕ) where
       ];
     }
 
+  module _ (made : Made) (representatives now : List ℕ) (Seen : ℕ → Type 0) (all : Splits made representatives now Seen) where
     pub representatives-unchanged : length representatives ≡ length first → representatives ≡ first
     representatives-unchanged same = all.grown ∙ ap (λ (xs : List ℕ). first ++ xs) (none-left all.more
         (let e = ap length all.grown in let f = length-append first all.more in omega arith)) ∙ append-nil first
@@ -381,10 +390,11 @@ module _ (reached : List Bool) (ids old first : List ℕ) where
         none-left (x ∷ xs) e = absurd (omega arith)
 
 -- the same classes
-pub Splits-same : (reached : List Bool) (ids old first : List ℕ) (made made' : Made) (representatives representatives' now now' : List ℕ) (below : ℕ) →
+pub Splits-same : (reached : List Bool) (ids old first : List ℕ) (made made' : Made) (representatives representatives' now now' : List ℕ)
+    (Seen : ℕ → Type 0) →
     made ≡ made' → representatives ≡ representatives' → now ≡ now' →
-    Splits reached ids old first made representatives now below → Splits reached ids old first made' representatives' now' below
-Splits-same reached ids old first made made' representatives representatives' now now' below same_made same_representatives same_now splits =
-    subst (λ (n : List ℕ). Splits reached ids old first made' representatives' n below) same_now
-    (subst (λ (r : List ℕ). Splits reached ids old first made' r now below) same_representatives
-    (subst (λ (m : Made). Splits reached ids old first m representatives now below) same_made splits))
+    Splits reached ids old first made representatives now Seen → Splits reached ids old first made' representatives' now' Seen
+Splits-same reached ids old first made made' representatives representatives' now now' Seen same_made same_representatives same_now splits =
+    subst (λ (n : List ℕ). Splits reached ids old first made' representatives' n Seen) same_now
+    (subst (λ (r : List ℕ). Splits reached ids old first made' r now Seen) same_representatives
+    (subst (λ (m : Made). Splits reached ids old first m representatives now Seen) same_made splits))

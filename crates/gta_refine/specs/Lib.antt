@@ -7,3 +7,7 @@ pub mod Firsts
 pub mod Classes
 pub mod Splitting
 pub mod Refined
+pub mod Lists
+pub mod Uses
+pub mod Givers
+pub mod Cuts

@@ -28,7 +28,7 @@ pub(crate) fn choose(
 
 /// Whether a class is marked.
 #[inline]
-fn is_marked(marks: &[bool], class: u32) -> bool
+pub(crate) fn is_marked(marks: &[bool], class: u32) -> bool
     ensures { result ≡ slice_index_or marks.now class false }
 {
     marks.get(class as usize).copied().unwrap_or(false)

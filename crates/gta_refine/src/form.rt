@@ -41,6 +41,19 @@ pub struct Form {
     pub accepting: Items<bool>,
 }
 
+impl Form {
+    ghost use Rattle.std.specs.Prelude.{Some, slice_get};
+
+    /// The part of a space.
+    #[inline]
+    pub(crate) fn space(&self, s: usize) -> &FormSpace
+        requires { s < length self.now.spaces }
+        ensures { slice_get self.now.spaces s ≡ Some result.now }
+    {
+        &self.spaces.as_slice()[s]
+    }
+}
+
 impl FormSpace {
     ghost use Rattle.gta_refine.specs.Form.{cell_in, root_in};
     ghost use Rattle.gta_refine.specs.Reached.{HasRoot};

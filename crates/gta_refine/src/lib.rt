@@ -5,14 +5,19 @@
 //! its states are.
 #![tactic(auto)]
 
+mod cascade;
 mod chosen;
+mod cut;
 mod form;
+mod givers;
+mod lists;
 mod numbers;
 mod reach;
 mod rounds;
 mod rows;
 mod split;
 mod sweep;
+mod uses;
 
 pub use form::{Form, FormSpace, FormSpaceList, NumberList};
 pub use numbers::{reference, references};

@@ -8,12 +8,14 @@ ghost use Rattle.gta_refine.specs.Classes.{AreClasses, IsSplit};
 ghost use Rattle.gta_refine.specs.Refined.{part_at, opposite, child_of, bit_of, AreSingle, ArePartition, AreChildIds, IsStableAt, IsRefined, room_in, TakesRoom};
 ghost use Rattle.gta_refine.specs.declared.rows.Side.TheVariants.{Left, Right};
 
+use crate::cascade::cascade;
 use crate::chosen::choose;
 use crate::form::{Form, FormSpace, NumberList};
 use crate::numbers::number_roots;
 use crate::reach::reach;
 use crate::rows::{Side, kinds_of, number_rows};
 use crate::split::split;
+use crate::uses::uses_of;
 use plain_data::Items;
 use std::alloc::{AllocError, Global};
 
@@ -33,7 +35,7 @@ pub struct SpaceClasses {
 pub type SpaceClassesList = Items<SpaceClasses>;
 
 /// The number of each state, by that of its kind.
-fn spread(alloc: Global, kinds: &[u32], ids: &[u32]) -> Result<Vec<u32>, AllocError>
+pub(crate) fn spread(alloc: Global, kinds: &[u32], ids: &[u32]) -> Result<Vec<u32>, AllocError>
     ensures { IfOk result (λ spread. spread.items ≡ map (slice_index ids.now) kinds.now) }
 {
     let mut spread = Vec::with_capacity(alloc, kinds.len())?;
@@ -85,7 +87,11 @@ fn one_class_each(alloc: Global, form: &Form) -> Result<Vec<SpaceClasses>, Alloc
 }
 
 /// Splits the classes of a space by the numbers of the states, and says whether there are more classes now.
-fn split_part(alloc: Global, ids: &[u32], part: &mut SpaceClasses) -> Result<bool, AllocError>
+pub(crate) fn split_part(
+    alloc: Global,
+    ids: &[u32],
+    part: &mut SpaceClasses,
+) -> Result<bool, AllocError>
     requires classes { AreClasses part.old.reached part.old.classes part.old.representatives }
     requires many { length part.old.reached ≤ length ids.now }
     requires few { length part.old.reached ≤ 2 ^ 31 }
@@ -118,7 +124,7 @@ fn classes_at_first(alloc: Global, form: &Form) -> Result<Vec<SpaceClasses>, All
 
 /// The space of a child.
 #[inline]
-fn child(space: &FormSpace, side: Side) -> u32
+pub(crate) fn child(space: &FormSpace, side: Side) -> u32
     ensures { result ≡ child_of space.now side }
 {
     match side {
@@ -129,7 +135,7 @@ fn child(space: &FormSpace, side: Side) -> u32
 
 /// The part of a space.
 #[inline]
-fn part_of(spaces: &[SpaceClasses], s: usize) -> &SpaceClasses
+pub(crate) fn part_of(spaces: &[SpaceClasses], s: usize) -> &SpaceClasses
     requires { s < length spaces.now }
     ensures { result.now ≡ part_at spaces.now s }
 {
@@ -137,7 +143,7 @@ fn part_of(spaces: &[SpaceClasses], s: usize) -> &SpaceClasses
 }
 
 /// Some reached states of a child.
-fn choose_of(
+pub(crate) fn choose_of(
     alloc: Global,
     space: &FormSpace,
     side: Side,
@@ -157,7 +163,7 @@ fn choose_of(
 
 /// The other child.
 #[inline]
-fn other(side: Side) -> Side
+pub(crate) fn other(side: Side) -> Side
     ensures { result ≡ opposite side }
 {
     match side {
@@ -253,6 +259,29 @@ fn refine_more(
     Ok(is_more)
 }
 
+/// How many rounds come before each new class cuts others at once: most automata need no more.
+const FEW_ROUNDS: u32 = 8;
+
+/// Splits classes in a few rounds, and says whether there may be more classes.
+fn refine_some(
+    alloc: Global,
+    form: &Form,
+    spaces: &mut Vec<SpaceClasses>,
+) -> Result<bool, AllocError>
+    requires form { IsForm form.now }
+    requires partition { ArePartition form.now spaces.old.items }
+    ensures partition { IfOk result (λ more. ArePartition form.now spaces.new.items) }
+    ensures left { IfOk result (λ more. more ≡ false → (s : ℕ) → s < length form.now.spaces → IsStableAt form.now spaces.new.items s Left) }
+    ensures right { IfOk result (λ more. more ≡ false → (s : ℕ) → s < length form.now.spaces → IsStableAt form.now spaces.new.items s Right) }
+{
+    for _ in 0..FEW_ROUNDS {
+        if !refine_more(alloc, form, spaces)? {
+            return Ok(false);
+        }
+    }
+    Ok(true)
+}
+
 /// The classes of the reached states that can't be told apart, in each space.
 ///
 /// # Errors
@@ -263,7 +292,13 @@ pub fn refine(alloc: Global, form: &Form) -> Result<SpaceClassesList, AllocError
     ensures { IfOk result (IsRefined form.now) }
 {
     let mut spaces = classes_at_first(alloc, form)?;
+    if !refine_some(alloc, form, &mut spaces)? {
+        return Ok(Items::from_vec(spaces));
+    }
+    let uses = uses_of(alloc, form, &spaces)?;
+    let mut done = vec![in alloc; 0; spaces.len()]?;
     'rounds: loop {
+        cascade(alloc, form, &uses, &mut done, &mut spaces)?;
         let is_more = refine_more(alloc, form, &mut spaces)?;
         if !is_more {
             break 'rounds;

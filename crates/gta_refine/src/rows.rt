@@ -32,7 +32,7 @@ pub(crate) fn kinds_of(space: &FormSpace, side: Side) -> &[u32]
 
 /// Which root a state of a child has with one of the other child.
 #[inline]
-fn cell_of(space: &FormSpace, side: Side, own: u32, beside: u32) -> usize
+pub(crate) fn cell_of(space: &FormSpace, side: Side, own: u32, beside: u32) -> usize
     requires { HasRootAt space.now side own beside }
     ensures value { result ≡ cell_at space.now side own beside }
     ensures within { result < length space.now.listing.roots }
@@ -92,7 +92,7 @@ fn first_with(
 }
 
 /// A number above all of these.
-fn above(numbers: &[u32]) -> usize
+pub(crate) fn above(numbers: &[u32]) -> usize
     ensures { (i : ℕ) → slice_index numbers.now i < result }
 {
     let mut above = 1;
@@ -106,7 +106,7 @@ fn above(numbers: &[u32]) -> usize
 
 /// Puts a number at a place.
 #[inline]
-fn set_at(numbers: &mut Vec<u32>, place: u32, number: u32)
+pub(crate) fn set_at(numbers: &mut Vec<u32>, place: u32, number: u32)
     requires { place < length numbers.old.items }
     ensures { numbers.new.items ≡ slice_set numbers.old.items place number }
 {

@@ -24,7 +24,7 @@ fn next_class(representatives: &NumberList) -> Result<u32, AllocError>
 
 /// The class of a state once its class is split: the representative of the class keeps it, and with it the states that
 /// have its number.
-fn class_of(
+pub(crate) fn class_of(
     made: &mut HashMap<(u32, u32), u32>,
     representatives: &mut NumberList,
     ids: &[u32],

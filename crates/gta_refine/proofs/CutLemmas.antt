@@ -1,0 +1,471 @@
+-- Classes are cut in two.
+use Rattle.std.proofs.Common.{◌≡◌, ◌≢◌, ℕ, zero, suc, ◌+◌, ◌<◌, ◌≤◌, ◌^◌, Bool, true, false, List, [], ◌∷◌, ◌++◌, length, take, None, ◌⊎◌, inl, inr}
+use Rattle.std.proofs.Common.{sym, ◌∙◌, ap, refl, subst, arith}
+use Rattle.std.specs.Prelude.{⊥, Contains, slice_get, slice_index, slice_set, replicate, Some}
+use Rattle.std.proofs.lemmas.List.{take_more, take_all, get_or_default, get_or-set_same, get_or-set_other, length-set, length-replicate, get_or-replicate}
+use Rattle.std.proofs.lemmas.List.Elements.{Contains-push, Contains-push_cases, Contains-append_left, Contains-get_or}
+use Rattle.std.proofs.lemmas.Option.{slice_get_within, slice_get-get_or}
+use Rattle.std.proofs.lemmas.Bool.{cases_eq, cases_lt}
+use Rattle.gta_theory.specs.Guides.{IsSpace}
+use Rattle.gta_theory.specs.Minimal.{AreSeparated}
+use Rattle.gta_refine.specs.declared.form.FormSpace.{FormSpace}
+use Rattle.gta_refine.specs.declared.form.Form.{Form}
+use Rattle.gta_refine.specs.declared.rounds.SpaceClasses.{SpaceClasses}
+use Rattle.gta_refine.specs.declared.rows.Side.{Side}
+use Rattle.gta_refine.specs.Form.{guide_of, automaton_of, IsForm}
+use Rattle.gta_refine.specs.Chosen.{is_marked}
+use Rattle.gta_refine.specs.Classes.{AreClasses, IsSplit}
+use Rattle.gta_refine.specs.Splitting.{Made, made_for, IsStep}
+use Rattle.gta_refine.specs.Lists.{list_at, Leads, IsAdded}
+use Rattle.gta_refine.specs.Cuts.{IsIndicator, IsIn, Covers, HasOthers, IsCut, IsCutAt, ClassLists, AllCover}
+use Rattle.gta_refine.specs.Givers.{Gives, AreGivers}
+use Rattle.gta_refine.specs.Refined.{part_at, is_reached_in, ArePartition, GiveOthersAt, child_at, child_of, room_in}
+use Rattle.gta_refine.proofs.ChosenLemmas.{marked-inside}
+use Rattle.gta_refine.proofs.ListsLemmas.{cases_contains, Contains-none}
+use Rattle.gta_refine.proofs.RoomLemmas.{room-set, room_of}
+use Rattle.gta_refine.proofs.SplitLemmas.{Splits, Splits-start, Splits-step, Splits-again, IsDone, stayed, went, first_id, AreClasses-all, IsSplit-all}
+use Rattle.gta_refine.proofs.RefineLemmas.{ArePartition-split, after-part, separated-child, there-is, child-is, child-inside}
+
+-- 1 at each state that is listed so far, and 0 at each other one
+abbrev pub IsIndicatorBelow : List ℕ → List ℕ → ℕ → Type 0
+IsIndicatorBelow listed ids below = (q : ℕ) →
+    ((slice_index ids q ≡ 1) × Contains listed q) ⊎ ((slice_index ids q ≡ 0) × ((k : ℕ) → k < below → slice_index listed k ≡ q → ⊥))
+
+pub IsIndicatorBelow-start : (listed : List ℕ) (many : ℕ) → IsIndicatorBelow listed (replicate many 0) 0
+IsIndicatorBelow-start listed many q = inr (zeros many q, λ k k_in e. absurd (omega arith))
+  where
+    zeros : (n i : ℕ) → slice_index (replicate n 0) i ≡ 0
+    zeros zero zero = refl
+    zeros zero (suc i) = refl
+    zeros (suc n) zero = refl
+    zeros (suc n) (suc i) = zeros n i
+
+pub IsIndicatorBelow-next : (listed ids : List ℕ) (below : ℕ) → below < length listed → slice_index listed below < length ids →
+    IsIndicatorBelow listed ids below → IsIndicatorBelow listed (slice_set ids (slice_index listed below) 1) (below + 1)
+IsIndicatorBelow-next listed ids below inside small so_far q = elim (cases_eq q (slice_index listed below)) [
+  | inl same ↦ inl (
+    ap (slice_index (slice_set ids (slice_index listed below) 1)) same ∙ get_or-set_same ids (slice_index listed below) 1 0 small,
+    subst (Contains listed) (sym same) (Contains-get_or listed below 0 inside),
+  )
+  | inr other ↦
+      let at : slice_index (slice_set ids (slice_index listed below) 1) q ≡ slice_index ids q = get_or-set_other ids (slice_index listed below) q 1 0 other in
+      elim (so_far q) [
+        | inl one ↦ inl (at ∙ one.0, one.1)
+        | inr none ↦ inr (
+          at ∙ none.0,
+          λ k k_in e. elim (cases_eq k below) [
+            | inl last ↦ absurd (other (sym e ∙ ap (slice_index listed) last))
+            | inr before ↦ none.1 k (omega arith) e
+          ],
+        )
+      ]
+]
+
+pub IsIndicator-all : (listed ids : List ℕ) → IsIndicatorBelow listed ids (length listed) → IsIndicator listed ids
+IsIndicator-all listed ids all q = elim (all q) [
+  | inl one ↦ inl one
+  | inr none ↦ inr (none.0, λ there. none.1 there.0 there.1 (get_or_default listed there.0 0 q there.1 ∙ there.2))
+]
+
+-- a state beside the order has the number of its representative
+pub others-same : (part : SpaceClasses) (listed order ids : List ℕ) → HasOthers part listed order → IsIndicator listed ids → (q : ℕ) →
+    is_marked part.reached q ≡ true → (Contains order q → ⊥) →
+    slice_index ids q ≡ slice_index ids (slice_index part.representatives (slice_index part.classes q))
+others-same part listed order ids has indicator q marked outside =
+    let first = slice_index part.representatives (slice_index part.classes q) in
+    elim (indicator q) [
+      | inl one ↦ absurd (outside (has.kept q one.1))
+      | inr zero_q ↦ elim (indicator first) [
+        | inl one ↦ absurd (outside (has.others q marked one.1))
+        | inr zero_first ↦ zero_q.0 ∙ sym zero_first.0
+      ]
+    ]
+
+-- another state of a class represents it
+pub AreClasses-represent : (reached : List Bool) (classes representatives : List ℕ) (class state : ℕ) → AreClasses reached classes representatives →
+    class < length representatives → is_marked reached state ≡ true → slice_index classes state ≡ class →
+    AreClasses reached classes (slice_set representatives class state)
+AreClasses-represent reached classes representatives class state are inside marked is =
+    let many = length-set representatives class state in
+    let here : slice_index (slice_set representatives class state) class ≡ state = get_or-set_same representatives class state 0 inside in
+    record {
+      many = are.many;
+      few = let f = are.few in omega arith;
+      within = λ q q_in. let w = are.within q q_in in omega arith;
+      inside = λ x x_in. elim (cases_eq x class) [
+        | inl same ↦ ap (is_marked reached) (ap (slice_index (slice_set representatives class state)) same ∙ here) ∙ marked
+        | inr other ↦ ap (is_marked reached) (get_or-set_other representatives class x state 0 other) ∙ are.inside x (omega arith)
+      ];
+      has = λ x x_in. elim (cases_eq x class) [
+        | inl same ↦ ap (slice_index classes) (ap (slice_index (slice_set representatives class state)) same ∙ here) ∙ is ∙ sym same
+        | inr other ↦ ap (slice_index classes) (get_or-set_other representatives class x state 0 other) ∙ are.has x (omega arith)
+      ];
+    }
+
+-- the states of a class so far
+pub record AddsMembers (members : List ℕ) (part : SpaceClasses) (class : ℕ) (old now : List ℕ) (below : ℕ) : Type 0 where
+  pub kept : (q : ℕ) → Contains old q → Contains now q
+  pub added : (k : ℕ) → k < below → IsIn part class (slice_index members k) → Contains now (slice_index members k)
+  pub sound : (q : ℕ) → Contains now q → Contains old q ⊎ IsIn part class q
+
+pub AddsMembers-none : (members : List ℕ) (part : SpaceClasses) (class : ℕ) (old : List ℕ) → AddsMembers members part class old old 0
+AddsMembers-none members part class old = record {
+  kept = λ q there. there;
+  added = λ k k_in is. absurd (omega arith);
+  sound = λ q there. inl there;
+}
+
+module _ (members : List ℕ) (part : SpaceClasses) (class : ℕ) (old now : List ℕ) (below : ℕ)
+    (so_far : AddsMembers members part class old now below) where
+  pub AddsMembers-skip : (IsIn part class (slice_index members below) → ⊥) → AddsMembers members part class old now (below + 1)
+  AddsMembers-skip other = record {
+    kept = so_far.kept;
+    added = λ k k_in is. elim (cases_eq k below) [
+      | inl same ↦ absurd (other (subst (λ (i : ℕ). IsIn part class (slice_index members i)) same is))
+      | inr before ↦ so_far.added k (omega arith) is
+    ];
+    sound = so_far.sound;
+  }
+
+  pub AddsMembers-push : IsIn part class (slice_index members below) →
+      AddsMembers members part class old (now ++ slice_index members below ∷ []) (below + 1)
+  AddsMembers-push is =
+      let state = slice_index members below in
+      record {
+        kept = λ q there. Contains-append_left now (state ∷ []) q (so_far.kept q there);
+        added = λ k k_in k_is. elim (cases_eq k below) [
+          | inl same ↦ subst (λ (i : ℕ). Contains (now ++ state ∷ []) (slice_index members i)) (sym same) (Contains-push now state)
+          | inr before ↦ Contains-append_left now (state ∷ []) (slice_index members k) (so_far.added k (omega arith) k_is)
+        ];
+        sound = λ q there. elim (Contains-push_cases now state q there) [
+          | inl before ↦ so_far.sound q before
+          | inr same ↦ inr (subst (IsIn part class) same is)
+        ];
+      }
+
+pub added-all : (members : List ℕ) (part : SpaceClasses) (class : ℕ) (old now : List ℕ) → AddsMembers members part class old now (length members) →
+    (q : ℕ) → Contains members q → IsIn part class q → Contains now q
+added-all members part class old now all q there is =
+    let at : slice_index members there.0 ≡ q = get_or_default members there.0 0 q there.1 ∙ there.2 in
+    subst (Contains now) at (all.added there.0 there.1 (subst (IsIn part class) (sym at) is))
+
+-- the listed states, and those of the classes that the first ones represent
+pub record OthersBelow (part : SpaceClasses) (listed order : List ℕ) (below : ℕ) : Type 0 where
+  pub reached : (q : ℕ) → Contains order q → is_marked part.reached q ≡ true
+  pub kept : (q : ℕ) → Contains listed q → Contains order q
+  pub others : (k q : ℕ) → k < below → is_marked part.reached q ≡ true →
+      slice_index part.representatives (slice_index part.classes q) ≡ slice_index listed k → Contains order q
+
+pub OthersBelow-none : (part : SpaceClasses) (listed : List ℕ) → ((q : ℕ) → Contains listed q → is_marked part.reached q ≡ true) →
+    OthersBelow part listed listed 0
+OthersBelow-none part listed reached = record { reached = reached; kept = λ q there. there; others = λ k q k_in marked is. absurd (omega arith) }
+
+module _ (part : SpaceClasses) (listed order : List ℕ) (below : ℕ) (are : AreClasses part.reached part.classes part.representatives)
+    (so_far : OthersBelow part listed order below) where
+  class-below : (q : ℕ) → is_marked part.reached q ≡ true → slice_index part.classes q < length part.representatives
+  class-below q marked = are.within q (let i = marked-inside part.reached q marked in let m = are.many in omega arith)
+
+  -- a state that a listed one represents has its class
+  class-represented : (q state : ℕ) → is_marked part.reached q ≡ true →
+      slice_index part.representatives (slice_index part.classes q) ≡ state → slice_index part.classes q ≡ slice_index part.classes state
+  class-represented q state marked is = sym (are.has (slice_index part.classes q) (class-below q marked)) ∙ ap (slice_index part.classes) is
+
+  pub OthersBelow-skip : (slice_index part.representatives (slice_index part.classes (slice_index listed below)) ≡ slice_index listed below → ⊥) →
+      OthersBelow part listed order (below + 1)
+  OthersBelow-skip other = record {
+    reached = so_far.reached;
+    kept = so_far.kept;
+    others = λ k q k_in marked is. elim (cases_eq k below) [
+      | inl same ↦
+          let at : slice_index part.representatives (slice_index part.classes q) ≡ slice_index listed below = is ∙ ap (slice_index listed) same in
+          absurd (other (ap (slice_index part.representatives) (sym (class-represented q (slice_index listed below) marked at)) ∙ at))
+      | inr before ↦ so_far.others k q (omega arith) marked is
+    ];
+  }
+
+  pub OthersBelow-add : (lists : List (List ℕ)) (now : List ℕ) → Covers part lists →
+      ((q : ℕ) → Contains order q → Contains now q) →
+      ((q : ℕ) → Contains (list_at lists (slice_index part.classes (slice_index listed below))) q →
+      IsIn part (slice_index part.classes (slice_index listed below)) q → Contains now q) →
+      ((q : ℕ) → Contains now q → Contains order q ⊎ IsIn part (slice_index part.classes (slice_index listed below)) q) →
+      OthersBelow part listed now (below + 1)
+  OthersBelow-add lists now covers kept added sound = record {
+    reached = λ q there. elim (sound q there) [
+      | inl before ↦ so_far.reached q before
+      | inr is ↦ is.0
+    ];
+    kept = λ q there. kept q (so_far.kept q there);
+    others = λ k q k_in marked is. elim (cases_eq k below) [
+      | inl same ↦
+          let class = class-represented q (slice_index listed below) marked (is ∙ ap (slice_index listed) same) in
+          added q (subst (λ (c : ℕ). Contains (list_at lists c) q) class (covers q marked)) (marked, class)
+      | inr before ↦ kept q (so_far.others k q (omega arith) marked is)
+    ];
+  }
+
+pub HasOthers-all : (part : SpaceClasses) (listed order : List ℕ) → OthersBelow part listed order (length listed) → HasOthers part listed order
+HasOthers-all part listed order all = record {
+  reached = all.reached;
+  kept = all.kept;
+  others = λ q marked there. all.others there.0 q there.1 marked
+      (sym (get_or_default listed there.0 0 (slice_index part.representatives (slice_index part.classes q)) there.1 ∙ there.2));
+}
+
+-- the states of new classes are listed so far
+pub record ListsNew (order : List ℕ) (before : ℕ) (part : SpaceClasses) (old now : List (List ℕ)) (below : ℕ) : Type 0 where
+  pub many : length now ≡ length old
+  pub kept : (place number : ℕ) → Leads old place number → Leads now place number
+  pub added : (k : ℕ) → k < below → (slice_index part.classes (slice_index order k) < before → ⊥) →
+      Leads now (slice_index part.classes (slice_index order k)) (slice_index order k)
+
+pub ListsNew-none : (order : List ℕ) (before : ℕ) (part : SpaceClasses) (old : List (List ℕ)) → ListsNew order before part old old 0
+ListsNew-none order before part old = record { many = refl; kept = λ place number there. there; added = λ k k_in past. absurd (omega arith) }
+
+module _ (order : List ℕ) (before : ℕ) (part : SpaceClasses) (old now : List (List ℕ)) (below : ℕ)
+    (so_far : ListsNew order before part old now below) where
+  pub ListsNew-skip : slice_index part.classes (slice_index order below) < before → ListsNew order before part old now (below + 1)
+  ListsNew-skip small = record {
+    many = so_far.many;
+    kept = so_far.kept;
+    added = λ k k_in past. elim (cases_eq k below) [
+      | inl same ↦ absurd (past (subst (λ (i : ℕ). slice_index part.classes (slice_index order i) < before) (sym same) small))
+      | inr other ↦ so_far.added k (omega arith) past
+    ];
+  }
+
+  pub ListsNew-add : (new : List (List ℕ)) → slice_index part.classes (slice_index order below) < length now →
+      IsAdded now (slice_index part.classes (slice_index order below)) (slice_index order below) new → ListsNew order before part old new (below + 1)
+  ListsNew-add new inside added = record {
+    many = added.many ∙ so_far.many;
+    kept = λ place number there. added.kept place number (so_far.kept place number there);
+    added = λ k k_in past. elim (cases_eq k below) [
+      | inl same ↦ subst (λ (i : ℕ). Leads new (slice_index part.classes (slice_index order i)) (slice_index order i)) (sym same) (added.added inside)
+      | inr other ↦ added.kept (slice_index part.classes (slice_index order k)) (slice_index order k) (so_far.added k (omega arith) past)
+    ];
+  }
+
+pub Covers-new : (order : List ℕ) (before : ℕ) (part : SpaceClasses) (old now : List (List ℕ)) →
+    ListsNew order before part old now (length order) →
+    ((q : ℕ) → is_marked part.reached q ≡ true → slice_index part.classes q < before → Leads old (slice_index part.classes q) q) →
+    ((q : ℕ) → is_marked part.reached q ≡ true → (slice_index part.classes q < before → ⊥) → Contains order q) → Covers part now
+Covers-new order before part old now all olds news q marked = elim (cases_lt (slice_index part.classes q) before) [
+  | inl small ↦ all.kept (slice_index part.classes q) q (olds q marked small)
+  | inr past ↦
+      let no : slice_index part.classes q < before → ⊥ = λ small. absurd (omega arith) in
+      let there = news q marked no in
+      let at : slice_index order there.0 ≡ q = get_or_default order there.0 0 q there.1 ∙ there.2 in
+      subst (λ (p : ℕ). Leads now (slice_index part.classes p) p) at
+      (all.added there.0 there.1 (subst (λ (p : ℕ). slice_index part.classes p < before → ⊥) (sym at) no))
+]
+
+-- the state is among the first ones
+abbrev pub SeenIn : List ℕ → ℕ → ℕ → Type 0
+SeenIn listed below q = Contains (take below listed) q
+
+-- the listed states one after the other
+module _ (reached : List Bool) (ids old first listed : List ℕ) (classes : AreClasses reached old first)
+    (all_reached : (q : ℕ) → Contains listed q → is_marked reached q ≡ true) where
+  pub Splits-none : (made : Made) → ((class id : ℕ) → made_for made class id ≡ None) → Splits reached ids old first made first old (SeenIn listed 0)
+  Splits-none made none = Splits-start reached ids old first made (SeenIn listed 0) (λ q seen. Contains-none q seen) classes none
+
+  module _ (made : Made) (representatives now : List ℕ) (below : ℕ) (inside : below < length listed)
+      (so_far : Splits reached ids old first made representatives now (SeenIn listed below)) where
+    state : ℕ
+    state = slice_index listed below
+
+    kept : (q : ℕ) → SeenIn listed below q → SeenIn listed (below + 1) q
+    kept q seen = subst (λ (xs : List ℕ). Contains xs q) (sym (take_more listed below 0 inside))
+        (Contains-append_left (take below listed) (slice_index listed below ∷ []) q seen)
+
+    here : SeenIn listed (below + 1) state
+    unfolding state
+    here = subst (λ (xs : List ℕ). Contains xs (slice_index listed below)) (sym (take_more listed below 0 inside))
+        (Contains-push (take below listed) (slice_index listed below))
+
+    either : (q : ℕ) → SeenIn listed (below + 1) q → SeenIn listed below q ⊎ (q ≡ state)
+    unfolding state
+    either q seen = elim (Contains-push_cases (take below listed) (slice_index listed below) q
+        (subst (λ (xs : List ℕ). Contains xs q) (take_more listed below 0 inside) seen)) [
+          | inl before ↦ inl before
+          | inr same ↦ inr (sym same)
+        ]
+
+    marked : is_marked reached state ≡ true
+    unfolding state
+    marked = all_reached (slice_index listed below) (Contains-get_or listed below 0 inside)
+
+    old_within : slice_index old state < length first
+    old_within = classes.within state (let i = marked-inside reached state marked in let m = classes.many in omega arith)
+
+    stayed-old : slice_index now state < length first → IsDone reached ids old first made now state → slice_index now state ≡ slice_index old state
+    stayed-old small (stayed e f) = e
+    stayed-old small (went e f) = absurd
+        (let l = (so_far.sound (slice_index old state) (slice_index ids state) (slice_index now state) e).least in omega arith)
+
+    was : slice_index now state < length first → slice_index now state ≡ slice_index old state
+    was small = elim (cases_contains (take below listed) state) [
+      | inl seen ↦ stayed-old small (so_far.done state seen marked)
+      | inr unseen ↦ so_far.ahead state unseen
+    ]
+
+    had : (slice_index now state < length first → ⊥) → IsDone reached ids old first made now state
+    had past = elim (cases_contains (take below listed) state) [
+      | inl seen ↦ so_far.done state seen marked
+      | inr unseen ↦ absurd (past (let e = so_far.ahead state unseen in let o = old_within in omega arith))
+    ]
+
+    pub Splits-listed : slice_index now (slice_index listed below) < length first → (after : Made) (more : List ℕ) (class : ℕ) →
+        IsStep ids (slice_index listed below) (slice_index now (slice_index listed below)) made representatives after more class →
+        Splits reached ids old first after more (slice_set now (slice_index listed below) class) (SeenIn listed (below + 1))
+    unfolding state
+    Splits-listed small after more class step = Splits-step reached ids old first made representatives now state (SeenIn listed below)
+        (SeenIn listed (below + 1)) kept here either classes so_far marked (was small) after more class step
+
+    pub Splits-past : (slice_index now (slice_index listed below) < length first → ⊥) →
+        Splits reached ids old first made representatives now (SeenIn listed (below + 1))
+    unfolding state
+    Splits-past past = Splits-again reached ids old first made representatives now state (SeenIn listed below)
+        (SeenIn listed (below + 1)) kept here either classes so_far (had past)
+
+  -- the others stay
+  module _ (made : Made) (representatives now : List ℕ) (all : Splits reached ids old first made representatives now (SeenIn listed (length listed)))
+      (others : (q : ℕ) → is_marked reached q ≡ true → (Contains listed q → ⊥) →
+      slice_index ids q ≡ slice_index ids (slice_index first (slice_index old q))) where
+    whole : take (length listed) listed ≡ listed
+    whole = take_all (length listed) listed (omega arith)
+
+    done-at : (q : ℕ) → is_marked reached q ≡ true → IsDone reached ids old first made now q
+    unfolding first_id
+    done-at q q_marked = elim (cases_contains listed q) [
+      | inl there ↦ all.done q (subst (λ (xs : List ℕ). Contains xs q) (sym whole) there) q_marked
+      | inr unlisted ↦ stayed (all.ahead q (λ seen. unlisted (subst (λ (xs : List ℕ). Contains xs q) whole seen))) (others q q_marked unlisted)
+    ]
+
+    pub AreClasses-listed : AreClasses reached now representatives
+    AreClasses-listed = AreClasses-all reached ids old first made representatives now (SeenIn listed (length listed)) classes all done-at
+
+    -- a class below is the old one
+    pub stays-listed : (q : ℕ) → is_marked reached q ≡ true → slice_index now q < length first → slice_index now q ≡ slice_index old q
+    stays-listed q q_marked small = stays-at q small (done-at q q_marked)
+      where
+        stays-at : (p : ℕ) → slice_index now p < length first → IsDone reached ids old first made now p → slice_index now p ≡ slice_index old p
+        stays-at p p_small (stayed e f) = e
+        stays-at p p_small (went e f) = absurd (let l = (all.sound (slice_index old p) (slice_index ids p) (slice_index now p) e).least in omega arith)
+
+    -- a state with a new class is listed
+    pub moved-listed : (q : ℕ) → is_marked reached q ≡ true → (slice_index now q < length first → ⊥) → Contains listed q
+    moved-listed q q_marked past = elim (cases_contains listed q) [
+      | inl there ↦ there
+      | inr unlisted ↦ absurd (past (let e = all.ahead q (λ seen. unlisted (subst (λ (xs : List ℕ). Contains xs q) whole seen)) in
+          let w = classes.within q (let i = marked-inside reached q q_marked in let m = classes.many in omega arith) in omega arith))
+    ]
+
+    pub IsSplit-listed : IsSplit reached ids old now
+    IsSplit-listed = IsSplit-all reached ids old first made representatives now (SeenIn listed (length listed)) classes all done-at
+
+-- the lists of another space stay
+pub AllCover-set : (spaces : List SpaceClasses) (lists : List ClassLists) (c : ℕ) (part : SpaceClasses) (own : ClassLists) → AllCover spaces lists →
+    c < length spaces → Covers part own.items → AllCover (slice_set spaces c part) (slice_set lists c own)
+AllCover-set spaces lists c part own all inside covers =
+    let none : SpaceClasses = record { reached = []; classes = []; representatives = [] } in
+    record {
+      many = length-set lists c own ∙ all.many ∙ sym (length-set spaces c part);
+      each = λ s one there. elim (cases_eq s c) [
+        | inl same ↦
+            let at : slice_get (slice_set lists c own) c ≡ Some own =
+            slice_get-get_or (slice_set lists c own) c own (let e = length-set lists c own in let m = all.many in omega arith)
+            ∙ ap (λ (x : ClassLists). Some x) (get_or-set_same lists c own own (let m = all.many in omega arith)) in
+            let is : Some own ≡ Some one = sym at ∙ ap (slice_get (slice_set lists c own)) (sym same) ∙ there in
+            let same_lists : own ≡ one = cc in
+            subst (λ (x : ClassLists). Covers (part_at (slice_set spaces c part) s) x.items) same_lists
+            (subst (λ (p : SpaceClasses). Covers p own.items)
+            (sym (ap (part_at (slice_set spaces c part)) same ∙ get_or-set_same spaces c part none inside)) covers)
+        | inr other ↦
+            let b = slice_get_within (slice_set lists c own) s one there in
+            let at : slice_get lists s ≡ Some one =
+            slice_get-get_or lists s one (let e = length-set lists c own in omega arith)
+            ∙ ap (λ (x : ClassLists). Some x) (sym (get_or-set_other lists c s own one other))
+            ∙ sym (slice_get-get_or (slice_set lists c own) s one b) ∙ there in
+            subst (λ (p : SpaceClasses). Covers p one.items) (sym (get_or-set_other spaces c s part none other)) (all.each s one at)
+      ];
+    }
+
+-- a part with no fewer classes leaves no more room
+pub room-less : (spaces : List SpaceClasses) (c : ℕ) (part : SpaceClasses) → c < length spaces →
+    length (part_at spaces c).representatives ≤ length part.representatives → room_in (slice_set spaces c part) ≤ room_in spaces
+unfolding room_of
+room-less spaces c part inside more = let e = room-set spaces c part inside in omega arith
+
+-- the classes of a child are cut
+module _ (form : Form) (is_form : IsForm form) (spaces : List SpaceClasses) (partition : ArePartition form spaces)
+    (s : ℕ) (there : IsSpace (guide_of form) s) (side : Side) (class : ℕ) (listed ids : List ℕ)
+    (givers : AreGivers form spaces s side class listed) (indicator : IsIndicator listed ids) where
+  others-given : (p q : ℕ) → is_reached_in spaces (child_at (guide_of form) side s) q ≡ true →
+      Contains listed p → (Contains listed q → ⊥) → GiveOthersAt form spaces s side p q
+  others-given p q q_reached p_listed q_unlisted =
+      let gives = (givers.sound p p_listed).1 in
+      record {
+        beside = gives.beside;
+        label = gives.label;
+        reached = gives.reached;
+        differs = λ e. q_unlisted (givers.complete q q_reached
+            (record { beside = gives.beside; label = gives.label; reached = gives.reached; gives = sym e ∙ gives.gives }));
+      }
+
+  others-given-back : (p q : ℕ) → is_reached_in spaces (child_at (guide_of form) side s) p ≡ true →
+      (Contains listed p → ⊥) → Contains listed q → GiveOthersAt form spaces s side p q
+  others-given-back p q p_reached p_unlisted q_listed =
+      let other = others-given q p p_reached q_listed p_unlisted in
+      record { beside = other.beside; label = other.label; reached = other.reached; differs = λ e. other.differs (sym e) }
+
+  give-others : (p q : ℕ) → is_reached_in spaces (child_at (guide_of form) side s) p ≡ true →
+      is_reached_in spaces (child_at (guide_of form) side s) q ≡ true → slice_index ids p ≢ slice_index ids q → GiveOthersAt form spaces s side p q
+  give-others p q p_reached q_reached differ = elim (indicator p) [
+    | inl p_one ↦ elim (indicator q) [
+      | inl q_one ↦ absurd (differ (p_one.0 ∙ sym q_one.0))
+      | inr q_zero ↦ others-given p q q_reached p_one.1 q_zero.1
+    ]
+    | inr p_zero ↦ elim (indicator q) [
+      | inl q_one ↦ others-given-back p q p_reached p_zero.1 q_one.1
+      | inr q_zero ↦ absurd (differ (p_zero.0 ∙ sym q_zero.0))
+    ]
+  ]
+
+  pub separated-cut : (p q : ℕ) → is_reached_in spaces (child_at (guide_of form) side s) p ≡ true →
+      is_reached_in spaces (child_at (guide_of form) side s) q ≡ true → slice_index ids p ≢ slice_index ids q →
+      AreSeparated (guide_of form) (automaton_of form) (child_at (guide_of form) side s) p q
+  separated-cut p q p_reached q_reached differ =
+      separated-child form spaces is_form partition s there side p q p_reached q_reached (give-others p q p_reached q_reached differ)
+
+pub ArePartition-cut : (form : Form) (is_form : IsForm form) (spaces : List SpaceClasses) (partition : ArePartition form spaces)
+    (s : ℕ) (there : IsSpace (guide_of form) s) (side : Side) (class c : ℕ) (child : child_at (guide_of form) side s ≡ c) (c_inside : c < length spaces)
+    (listed : List ℕ) (part : SpaceClasses) → AreGivers form spaces s side class listed →
+    part.reached ≡ (part_at spaces c).reached → AreClasses (part_at spaces c).reached part.classes part.representatives →
+    IsCut (part_at spaces c).reached listed (part_at spaces c).classes part.classes → ArePartition form (slice_set spaces c part)
+ArePartition-cut form is_form spaces partition s there side class c child c_inside listed part givers marks classes cut =
+    subst (ArePartition form) (after-part form spaces c c_inside part marks)
+    (ArePartition-split form spaces c c_inside part.classes part.representatives cut.ids partition classes cut.split
+    (λ p q p_reached q_reached differ.
+    subst (λ (k : ℕ). AreSeparated (guide_of form) (automaton_of form) k p q) child
+    (separated-cut form is_form spaces partition s there side class listed cut.ids givers cut.indicator p q
+    (ap (λ (k : ℕ). is_reached_in spaces k p) child ∙ p_reached) (ap (λ (k : ℕ). is_reached_in spaces k q) child ∙ q_reached) differ)))
+
+-- a space cuts the classes of a child
+module _ (form : Form) (is_form : IsForm form) (spaces : List SpaceClasses) (partition : ArePartition form spaces)
+    (s : ℕ) (space : FormSpace) (at : slice_get form.spaces s ≡ Some space) (side : Side) (class : ℕ) (listed : List ℕ)
+    (givers : AreGivers form spaces s side class listed) where
+  pub listed-reached : (q : ℕ) → Contains listed q → is_reached_in spaces (child_of space side) q ≡ true
+  listed-reached q q_in = ap (λ (k : ℕ). is_reached_in spaces k q) (sym (child-is form is_form spaces partition s space at side)) ∙ (givers.sound q q_in).0
+
+  module _ (new : List SpaceClasses) (cut : IsCutAt spaces (child_of space side) listed new) where
+    pub ArePartition-cut_at : ArePartition form new
+    ArePartition-cut_at = subst (ArePartition form) (sym cut.is)
+        (ArePartition-cut form is_form spaces partition s (there-is form is_form spaces partition s space at) side class (child_of space side)
+        (child-is form is_form spaces partition s space at side) (child-inside form is_form spaces partition s space at side) listed cut.part givers
+        cut.reached cut.classes cut.cut)
+
+    pub room-cut_at : room_in new ≤ room_in spaces
+    room-cut_at =
+        let e = ap room_in cut.is in
+        let l = room-less spaces (child_of space side) cut.part (child-inside form is_form spaces partition s space at side) cut.more in
+        omega arith

@@ -1,0 +1,11 @@
+use Rattle.std.proofs.Common.{◌≡◌, length}
+use Rattle.gta_refine.specs.Classes.{AreClasses}
+use Rattle.gta_refine.proofs.cut.choose_representatives.Given as goal
+
+abbrev pub invariant-loop-state : goal.invariant-loop-state
+invariant-loop-state l = record {
+  classes : AreClasses l.part.reached l.part.classes l.part.representatives;
+  reached : l.part.reached ≡ l.fn.part.reached;
+  kept : l.part.classes ≡ l.fn.part.classes;
+  many : length l.part.representatives ≡ length l.fn.part.representatives;
+}

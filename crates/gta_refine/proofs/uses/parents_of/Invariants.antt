@@ -1,0 +1,11 @@
+use Rattle.std.proofs.Common.{◌≡◌, length, vec_len}
+use Rattle.gta_refine.specs.Uses.{HasSide}
+use Rattle.gta_refine.proofs.UsesLemmas.{AboveBelow}
+use Rattle.gta_refine.proofs.uses.parents_of.Given as goal
+
+abbrev pub invariant-loop-index : goal.invariant-loop-index
+invariant-loop-index l = record {
+  leaves : vec_len l.leaf_lists ≡ l.states;
+  nodes : vec_len l.node_lists ≡ length l.nodes;
+  above : AboveBelow (HasSide l.nodes) l.leaf_lists.items l.node_lists.items l.index;
+}

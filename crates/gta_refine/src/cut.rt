@@ -1,0 +1,274 @@
+//! Classes are cut in two: the states of a list, and others. The smaller part has the new class.
+
+ghost use Rattle.std.specs.Prelude.{◌≡◌, ◌<◌, ◌≤◌, ⊥, ℕ, ◌⊎◌, Contains, true, length, slice_index, vec_len, IfOk, IsTrue, ◌↔◌};
+ghost use Rattle.gta_refine.specs.Chosen.{is_marked};
+ghost use Rattle.gta_refine.specs.Classes.{AreClasses, IsSplit};
+ghost use Rattle.gta_refine.specs.Lists.{Leads};
+ghost use Rattle.gta_refine.specs.Cuts.{IsIndicator, IsIn, IsCut, HasOthers, Covers};
+
+use crate::form::NumberList;
+use crate::lists::{add_at, numbers_at};
+use crate::rounds::SpaceClasses;
+use crate::rows::set_at;
+use crate::split::class_of;
+use plain_data::Items;
+use std::alloc::{AllocError, Global};
+use std::collections::HashMap;
+
+/// Whether a state is reached and of a class.
+#[inline]
+pub(crate) fn is_in(part: &SpaceClasses, state: u32, class: u32) -> bool
+    requires { length part.now.classes ≡ length part.now.reached }
+    ensures { IsTrue result ↔ IsIn part.now class state }
+{
+    let place = state as usize;
+    place < part.reached.len()
+        && part.reached.as_slice()[place]
+        && part.classes.as_slice()[place] == class
+}
+
+/// 1 at each listed state, and 0 at each other one.
+fn indicator(alloc: Global, listed: &[u32], many: usize) -> Result<Vec<u32>, AllocError>
+    requires { (q : ℕ) → Contains listed.now q → q < many }
+    ensures indicator { IfOk result (λ ids. IsIndicator listed.now ids.items) }
+    ensures many { IfOk result (λ ids. length ids.items ≡ many) }
+{
+    let mut ids = vec![in alloc; 0; many]?;
+    for state in listed {
+        set_at(&mut ids, *state, 1);
+    }
+    Ok(ids)
+}
+
+/// How many listed states each class has.
+fn counts(
+    alloc: Global,
+    listed: &[u32],
+    part: &SpaceClasses,
+) -> Result<HashMap<u32, u32>, AllocError> {
+    let mut counts = HashMap::new(alloc);
+    for state in listed {
+        if let Some(class) = part.classes.get(*state as usize) {
+            let count = counts.get(class).copied().unwrap_or(0_u32);
+            counts.insert(*class, count.saturating_add(1))?;
+        }
+    }
+    Ok(counts)
+}
+
+/// Makes a state the representative of a class, where it is of the class.
+fn represent(part: &mut SpaceClasses, class: u32, state: u32)
+    requires { AreClasses part.old.reached part.old.classes part.old.representatives }
+    ensures classes { AreClasses part.new.reached part.new.classes part.new.representatives }
+    ensures reached { part.new.reached ≡ part.old.reached }
+    ensures kept { part.new.classes ≡ part.old.classes }
+    ensures many { length part.new.representatives ≡ length part.old.representatives }
+{
+    if (class as usize) < part.representatives.len() && is_in(part, state, class) {
+        part.representatives.set(class as usize, state);
+    }
+}
+
+/// A state of a class that isn't listed.
+fn unlisted(part: &SpaceClasses, members: &[u32], ids: &[u32], class: u32) -> Option<u32>
+    requires { length part.now.classes ≡ length part.now.reached }
+{
+    for state in members {
+        if is_in(part, *state, class) && ids.get(*state as usize).copied() == Some(0) {
+            return Some(*state);
+        }
+    }
+    None
+}
+
+/// Has a listed state's class represented by a state of its larger part: the listed states of the class, or its others.
+fn choose_larger(
+    state: u32,
+    ids: &[u32],
+    counts: &HashMap<u32, u32>,
+    lists: &[NumberList],
+    part: &mut SpaceClasses,
+)
+    requires { AreClasses part.old.reached part.old.classes part.old.representatives }
+    ensures classes { AreClasses part.new.reached part.new.classes part.new.representatives }
+    ensures reached { part.new.reached ≡ part.old.reached }
+    ensures kept { part.new.classes ≡ part.old.classes }
+    ensures many { length part.new.representatives ≡ length part.old.representatives }
+{
+    let Some(class) = part.classes.get(state as usize).copied() else {
+        return;
+    };
+    let Some(first) = part.representatives.get(class as usize).copied() else {
+        return;
+    };
+    let members = numbers_at(lists, class);
+    let is_first_listed = ids.get(first as usize).copied() == Some(1);
+    let count = counts.get(&class).copied().unwrap_or(0) as usize;
+    let is_more = count > members.len() / 2;
+    if !is_first_listed && is_more {
+        represent(part, class, state);
+    }
+    if is_first_listed && !is_more && first == state {
+        if let Some(other) = unlisted(part, members, ids, class) {
+            represent(part, class, other);
+        }
+    }
+}
+
+/// Has each class represented by a state of its larger part.
+fn choose_representatives(
+    alloc: Global,
+    listed: &[u32],
+    ids: &[u32],
+    lists: &[NumberList],
+    part: &mut SpaceClasses,
+) -> Result<(), AllocError>
+    requires { AreClasses part.old.reached part.old.classes part.old.representatives }
+    ensures classes { IfOk result (λ done. AreClasses part.new.reached part.new.classes part.new.representatives) }
+    ensures reached { IfOk result (λ done. part.new.reached ≡ part.old.reached) }
+    ensures kept { IfOk result (λ done. part.new.classes ≡ part.old.classes) }
+    ensures many { IfOk result (λ done. length part.new.representatives ≡ length part.old.representatives) }
+{
+    let counts = counts(alloc, listed, part)?;
+    for state in listed {
+        choose_larger(*state, ids, &counts, lists, part);
+    }
+    Ok(())
+}
+
+/// Adds the states of a class.
+pub(crate) fn add_members(
+    members: &[u32],
+    part: &SpaceClasses,
+    class: u32,
+    all: &mut Vec<u32>,
+) -> Result<(), AllocError>
+    requires { length part.now.classes ≡ length part.now.reached }
+    ensures kept { IfOk result (λ done. (q : ℕ) → Contains all.old.items q → Contains all.new.items q) }
+    ensures added { IfOk result (λ done. (q : ℕ) → Contains members.now q → IsIn part.now class q → Contains all.new.items q) }
+    ensures sound { IfOk result (λ done. (q : ℕ) → Contains all.new.items q → Contains all.old.items q ⊎ IsIn part.now class q) }
+{
+    for state in members {
+        if is_in(part, *state, class) {
+            all.push(*state)?;
+        }
+    }
+    Ok(())
+}
+
+/// The listed states, and all of each class that a listed state represents.
+fn with_others(
+    alloc: Global,
+    listed: &[u32],
+    lists: &[NumberList],
+    part: &SpaceClasses,
+) -> Result<Vec<u32>, AllocError>
+    requires classes { AreClasses part.now.reached part.now.classes part.now.representatives }
+    requires covers { Covers part.now lists.now }
+    requires reached { (q : ℕ) → Contains listed.now q → is_marked part.now.reached q ≡ true }
+    ensures { IfOk result (λ order. HasOthers part.now listed.now order.items) }
+{
+    let mut order = Vec::from_slice(alloc, listed)?;
+    for state in listed {
+        let class = part.classes.as_slice()[*state as usize];
+        if part.representatives.as_slice()[class as usize] == *state {
+            add_members(numbers_at(lists, class), part, class, &mut order)?;
+        }
+    }
+    Ok(order)
+}
+
+/// Splits classes by numbers of their states, where only the states in the list have other numbers than the
+/// representatives.
+fn split_listed(
+    alloc: Global,
+    order: &[u32],
+    ids: &[u32],
+    part: &mut SpaceClasses,
+) -> Result<(), AllocError>
+    requires classes { AreClasses part.old.reached part.old.classes part.old.representatives }
+    requires many { length part.old.reached ≤ length ids.now }
+    requires reached { (q : ℕ) → Contains order.now q → is_marked part.old.reached q ≡ true }
+    requires others { (q : ℕ) → is_marked part.old.reached q ≡ true → (Contains order.now q → ⊥)
+        → slice_index ids.now q ≡ slice_index ids.now (slice_index part.old.representatives (slice_index part.old.classes q)) }
+    ensures reached { IfOk result (λ done. part.new.reached ≡ part.old.reached) }
+    ensures classes { IfOk result (λ done. AreClasses part.old.reached part.new.classes part.new.representatives) }
+    ensures split { IfOk result (λ done. IsSplit part.old.reached ids.now part.old.classes part.new.classes) }
+    ensures more { IfOk result (λ done. length part.old.representatives ≤ length part.new.representatives) }
+    ensures stays { IfOk result (λ done. (q : ℕ) → is_marked part.old.reached q ≡ true
+        → slice_index part.new.classes q < length part.old.representatives → slice_index part.new.classes q ≡ slice_index part.old.classes q) }
+    ensures moved { IfOk result (λ done. (q : ℕ) → is_marked part.old.reached q ≡ true
+        → (slice_index part.new.classes q < length part.old.representatives → ⊥) → Contains order.now q) }
+{
+    let before = part.representatives.len();
+    let mut made = HashMap::new(alloc);
+    for state in order {
+        let class = part.classes.as_slice()[*state as usize];
+        if (class as usize) < before {
+            let class = class_of(&mut made, &mut part.representatives, ids, *state, class)?;
+            part.classes.set(*state as usize, class);
+        }
+    }
+    Ok(())
+}
+
+/// Adds empty lists until there are so many.
+fn grow(alloc: Global, many: usize, lists: &mut Vec<NumberList>) -> Result<(), AllocError>
+    ensures kept { IfOk result (λ done. (place number : ℕ) → Leads lists.old.items place number → Leads lists.new.items place number) }
+    ensures many { IfOk result (λ done. many ≤ vec_len lists.new) }
+{
+    for _place in lists.len()..many {
+        lists.push(Items::new(alloc))?;
+    }
+    Ok(())
+}
+
+/// Lists the states of the classes that came.
+fn list_new(
+    order: &[u32],
+    before: usize,
+    part: &SpaceClasses,
+    lists: &mut Vec<NumberList>,
+) -> Result<(), AllocError>
+    requires classes { AreClasses part.now.reached part.now.classes part.now.representatives }
+    requires many { length part.now.representatives ≤ vec_len lists.old }
+    requires reached { (q : ℕ) → Contains order.now q → is_marked part.now.reached q ≡ true }
+    requires olds { (q : ℕ) → is_marked part.now.reached q ≡ true → slice_index part.now.classes q < before
+        → Leads lists.old.items (slice_index part.now.classes q) q }
+    requires news { (q : ℕ) → is_marked part.now.reached q ≡ true → (slice_index part.now.classes q < before → ⊥) → Contains order.now q }
+    ensures { IfOk result (λ done. Covers part.now lists.new.items) }
+{
+    for state in order {
+        let class = part.classes.as_slice()[*state as usize];
+        if (class as usize) >= before {
+            add_at(lists, class, *state)?;
+        }
+    }
+    Ok(())
+}
+
+/// Cuts each class of a space in two: its listed states, and its others.
+pub(crate) fn cut(
+    alloc: Global,
+    listed: &[u32],
+    part: &mut SpaceClasses,
+    lists: &mut Vec<NumberList>,
+) -> Result<(), AllocError>
+    requires classes { AreClasses part.old.reached part.old.classes part.old.representatives }
+    requires reached { (q : ℕ) → Contains listed.now q → is_marked part.old.reached q ≡ true }
+    requires covers { Covers part.old lists.old.items }
+    ensures reached { IfOk result (λ done. part.new.reached ≡ part.old.reached) }
+    ensures classes { IfOk result (λ done. AreClasses part.old.reached part.new.classes part.new.representatives) }
+    ensures cut { IfOk result (λ done. IsCut part.old.reached listed.now part.old.classes part.new.classes) }
+    ensures more { IfOk result (λ done. length part.old.representatives ≤ length part.new.representatives) }
+    ensures covers { IfOk result (λ done. Covers part.new lists.new.items) }
+{
+    let ids = indicator(alloc, listed, part.reached.len())?;
+    choose_representatives(alloc, listed, &ids, lists, part)?;
+    let order = with_others(alloc, listed, lists, part)?;
+    let before = part.representatives.len();
+    split_listed(alloc, &order, &ids, part)?;
+    grow(alloc, part.representatives.len(), lists)?;
+    list_new(&order, before, part, lists)?;
+    Ok(())
+}

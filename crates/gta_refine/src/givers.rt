@@ -1,0 +1,132 @@
+//! The child states whose steps give states of a class.
+
+ghost use Rattle.std.specs.Prelude.{◌≡◌, ◌<◌, ℕ, Contains, Some, length, map, slice_get, flat_map, IfOk};
+ghost use Rattle.bdd_list.specs.declared.listing.Listed.TheVariants.{Leaf};
+ghost use Rattle.bdd_list.specs.Listing.{AreOrdered};
+ghost use Rattle.gta_refine.specs.declared.form.FormSpace.{FormSpace};
+ghost use Rattle.gta_refine.specs.Form.{IsForm};
+ghost use Rattle.gta_refine.specs.Refined.{part_at, ArePartition};
+ghost use Rattle.gta_refine.specs.Uses.{above_of, AreAbove, HasSide, IsUses};
+ghost use Rattle.gta_refine.specs.Cuts.{Covers};
+ghost use Rattle.gta_refine.specs.Givers.{AddsNodes, AreClimbed, AreMembers, AreGivers};
+
+use crate::chosen::{is_marked, mark};
+use crate::cut::add_members;
+use crate::form::{Form, NumberList};
+use crate::lists::{distinct, gather, numbers_at};
+use crate::rounds::{SpaceClasses, part_of, spread};
+use crate::rows::{Side, kinds_of};
+use crate::uses::{Above, SpaceUses};
+use bdd_list::{Listed, ListedNode};
+use std::alloc::{AllocError, Global};
+
+/// The reached states of a class.
+fn members(
+    alloc: Global,
+    lists: &[NumberList],
+    part: &SpaceClasses,
+    class: u32,
+) -> Result<Vec<u32>, AllocError>
+    requires many { length part.now.classes ≡ length part.now.reached }
+    requires covers { Covers part.now lists.now }
+    ensures { IfOk result (λ members. AreMembers part.now class members.items) }
+{
+    let mut members = Vec::new(alloc);
+    add_members(numbers_at(lists, class), part, class, &mut members)?;
+    Ok(members)
+}
+
+/// A leaf for each state.
+fn leaves(alloc: Global, states: &[u32]) -> Result<Vec<Listed>, AllocError>
+    ensures { IfOk result (λ leaves. leaves.items ≡ map (λ state. Leaf state) states.now) }
+{
+    let mut leaves = Vec::new(alloc);
+    for state in states {
+        leaves.push(Listed::Leaf(*state))?;
+    }
+    Ok(leaves)
+}
+
+/// Adds nodes that aren't found yet.
+fn add_nodes(nodes: &[u32], found: &mut Vec<bool>, list: &mut Vec<Listed>) -> Result<(), AllocError>
+    ensures { IfOk result (λ done. AddsNodes nodes.now found.old.items list.old.items found.new.items list.new.items) }
+{
+    for node in nodes {
+        if !is_marked(found, *node) {
+            mark(found, *node);
+            list.push(Listed::Inner(*node))?;
+        }
+    }
+    Ok(())
+}
+
+/// What is listed and gives one of the states for some label.
+fn climb(
+    alloc: Global,
+    nodes: &[ListedNode],
+    parents: &Above,
+    states: &[u32],
+) -> Result<Vec<Listed>, AllocError>
+    requires ordered { AreOrdered nodes.now }
+    requires parents { AreAbove (HasSide nodes.now) parents.now.leaves parents.now.nodes }
+    requires states { (q : ℕ) → Contains states.now q → q < length parents.now.leaves }
+    requires nodes { length parents.now.nodes ≡ length nodes.now }
+    ensures { IfOk result (λ list. AreClimbed nodes.now states.now list.items) }
+{
+    let mut found = vec![in alloc; false; nodes.len()]?;
+    let mut list = leaves(alloc, states)?;
+    for at in 0..usize::MAX {
+        if at >= list.len() {
+            return Ok(list);
+        }
+        add_nodes(parents.of(list[at]), &mut found, &mut list)?;
+    }
+    Err(AllocError)
+}
+
+/// The numbers of what has what is listed.
+fn gather_above(alloc: Global, above: &Above, list: &[Listed]) -> Result<Vec<u32>, AllocError>
+    ensures { IfOk result (λ all. all.items ≡ flat_map (above_of above.now.leaves above.now.nodes) list.now) }
+{
+    let mut all = Vec::new(alloc);
+    for listed in list {
+        all.extend_from_slice(above.of(*listed))?;
+    }
+    Ok(all)
+}
+
+/// The child states on a side that give a state of a class, with some state beside them and some label.
+pub(crate) fn givers(
+    alloc: Global,
+    form: &Form,
+    uses: &SpaceUses,
+    s: usize,
+    side: Side,
+    class: u32,
+    spaces: &[SpaceClasses],
+    lists: &[NumberList],
+) -> Result<Vec<u32>, AllocError>
+    requires form { IsForm form.now }
+    requires space { s < length form.now.spaces }
+    requires partition { ArePartition form.now spaces.now }
+    requires uses { (space : FormSpace) → slice_get form.now.spaces s ≡ Some space → IsUses form.now s space uses.now }
+    requires covers { Covers (part_at spaces.now s) lists.now }
+    ensures { IfOk result (λ givers. AreGivers form.now spaces.now s side class givers.items) }
+{
+    let space = form.space(s);
+    let states = members(alloc, lists, part_of(spaces, s), class)?;
+    let list = climb(
+        alloc,
+        space.listing.nodes.as_slice(),
+        &uses.parents,
+        &states,
+    )?;
+    let roots = gather_above(alloc, &uses.roots, &list)?;
+    let side_uses = uses.side(side);
+    let owners = gather(alloc, side_uses.owners.as_slice(), &roots)?;
+    let kinds = kinds_of(space, side);
+    let once = distinct(alloc, &owners, kinds.len())?;
+    let owner_kinds = spread(alloc, &once, kinds)?;
+    let givers = gather(alloc, side_uses.likes.as_slice(), &owner_kinds)?;
+    Ok(givers)
+}

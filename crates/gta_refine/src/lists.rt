@@ -1,0 +1,89 @@
+//! Lists of numbers at places, as an index of what leads where.
+
+ghost use Rattle.std.specs.Prelude.{◌≡◌, ◌↔◌, ℕ, ⊥, Contains, IfOk, flat_map, vec_len};
+ghost use Rattle.gta_refine.specs.Lists.{list_at, Leads, IsAdded};
+
+use crate::chosen::{is_marked, mark};
+use crate::form::NumberList;
+use plain_data::Items;
+use std::alloc::{AllocError, Global};
+
+/// The last number.
+const MOST: usize = 0xffff_ffff;
+
+/// A list of numbers for each place.
+pub(crate) type NumberLists = Items<NumberList>;
+
+/// A place as a number. Past the last number: want of memory.
+#[inline]
+pub(crate) fn number_of(place: usize) -> Result<u32, AllocError>
+    ensures { IfOk result (λ number. number ≡ place) }
+{
+    if place > MOST {
+        return Err(AllocError);
+    }
+    Ok(place as u32)
+}
+
+/// So many empty lists.
+pub(crate) fn empty_lists(alloc: Global, many: usize) -> Result<Vec<NumberList>, AllocError>
+    ensures many { IfOk result (λ lists. vec_len lists ≡ many) }
+    ensures empty { IfOk result (λ lists. (place number : ℕ) → Leads lists.items place number → ⊥) }
+{
+    let mut lists = Vec::new(alloc);
+    for _place in 0..many {
+        lists.push(Items::new(alloc))?;
+    }
+    Ok(lists)
+}
+
+/// Adds a number to the list at a place; past the last place nothing is added.
+pub(crate) fn add_at(lists: &mut Vec<NumberList>, place: u32, number: u32) -> Result<(), AllocError>
+    ensures { IfOk result (λ done. IsAdded lists.old.items place number lists.new.items) }
+{
+    if (place as usize) < lists.len() {
+        lists[place as usize].push(number)?;
+    }
+    Ok(())
+}
+
+/// The list at a place; past the last place none.
+#[inline]
+pub(crate) fn numbers_at(lists: &[NumberList], place: u32) -> &[u32]
+    ensures { result.now ≡ list_at lists.now place }
+{
+    match lists.get(place as usize) {
+        Some(list) => list.as_slice(),
+        None => &[],
+    }
+}
+
+/// The lists at some places, one after the other.
+pub(crate) fn gather(
+    alloc: Global,
+    lists: &[NumberList],
+    places: &[u32],
+) -> Result<Vec<u32>, AllocError>
+    ensures { IfOk result (λ all. all.items ≡ flat_map (list_at lists.now) places.now) }
+{
+    let mut all = Vec::new(alloc);
+    for place in places {
+        all.extend_from_slice(numbers_at(lists, *place))?;
+    }
+    Ok(all)
+}
+
+/// The same numbers; those below the bound once.
+pub(crate) fn distinct(alloc: Global, numbers: &[u32], bound: usize) -> Result<Vec<u32>, AllocError>
+    ensures { IfOk result (λ once. (number : ℕ) → Contains once.items number ↔ Contains numbers.now number) }
+{
+    let mut seen = vec![in alloc; false; bound]?;
+    let mut once = Vec::new(alloc);
+    for number in numbers {
+        if !is_marked(&seen, *number) {
+            mark(&mut seen, *number);
+            once.push(*number)?;
+        }
+    }
+    Ok(once)
+}
