@@ -1,7 +1,7 @@
 -- What gives some states is found from the leaves up.
 use Rattle.std.proofs.Common.{◌≡◌, ℕ, zero, suc, ◌+◌, ◌<◌, ◌≤◌, Bool, true, false, List, [], ◌∷◌, ◌++◌, length, map, ◌⊎◌, inl, inr}
 use Rattle.std.proofs.Common.{if◌then◌else◌, sym, ◌∙◌, ap, refl, subst, arith, length-append, append-nil, append_assoc}
-use Rattle.std.specs.Prelude.{⊥, Contains, slice_index, slice_index_or, slice_set, replicate}
+use Rattle.std.specs.Prelude.{Contains, slice_index, slice_index_or, slice_set, replicate}
 use Rattle.std.proofs.lemmas.List.{get_or_default, get_or_append_left, get_or-replicate}
 use Rattle.std.proofs.lemmas.List.Elements.{Contains-push, Contains-push_cases, Contains-append_left, Contains-append_right, Contains-append_cases}
 use Rattle.std.proofs.lemmas.List.Elements.{Contains-get_or}
@@ -227,15 +227,16 @@ module _ (nodes : List ListedNode) (states : List ℕ) (leaves above : List (Lis
           let low = (ordered.low i inside).before in
           let high = (ordered.high i inside).before in
           let e = function_in-inner nodes i label inside low high in
-          choose (label n.track) low high (subst (Contains states) e there)
+          choose (λ l l_below l_in l_gives. climb-at bound l label l_below l_in l_gives) (label n.track) low high (subst (Contains states) e there)
         where
-          choose : (b : Bool) → rank (node_at nodes i).low ≤ i → rank (node_at nodes i).high ≤ i →
+          choose : ((l : Listed) → rank l ≤ bound → IsIn nodes l → Contains states (function_in nodes l label) → Contains list l) →
+              (b : Bool) → rank (node_at nodes i).low ≤ i → rank (node_at nodes i).high ≤ i →
               Contains states (if b then function_in nodes (node_at nodes i).high label else function_in nodes (node_at nodes i).low label) →
               Contains list (Inner i)
-          choose true low high gives = up (node_at nodes i).high i label (omega arith, inr refl) (omega arith) gives
-              (climb-at bound (node_at nodes i).high label (omega arith) (omega arith) gives)
-          choose false low high gives = up (node_at nodes i).low i label (omega arith, inl refl) (omega arith) gives
-              (climb-at bound (node_at nodes i).low label (omega arith) (omega arith) gives)
+          choose climbed true low high gives = up (node_at nodes i).high i label (omega arith, inr refl) (omega arith) gives
+              (climbed (node_at nodes i).high (omega arith) (omega arith) gives)
+          choose climbed false low high gives = up (node_at nodes i).low i label (omega arith, inl refl) (omega arith) gives
+              (climbed (node_at nodes i).low (omega arith) (omega arith) gives)
 
       pub AreClimbed-all : AreClimbed nodes states list
       AreClimbed-all = record {

@@ -1,7 +1,7 @@
 -- Classes are cut in two.
 use Rattle.std.proofs.Common.{◌≡◌, ◌≢◌, ℕ, zero, suc, ◌+◌, ◌<◌, ◌≤◌, ◌^◌, Bool, true, false, List, [], ◌∷◌, ◌++◌, length, take, None, ◌⊎◌, inl, inr}
 use Rattle.std.proofs.Common.{sym, ◌∙◌, ap, refl, subst, arith}
-use Rattle.std.specs.Prelude.{⊥, Contains, slice_get, slice_index, slice_set, replicate, Some}
+use Rattle.std.specs.Prelude.{Contains, slice_get, slice_index, slice_set, replicate, Some}
 use Rattle.std.proofs.lemmas.List.{take_more, take_all, get_or_default, get_or-set_same, get_or-set_other, length-set, length-replicate, get_or-replicate}
 use Rattle.std.proofs.lemmas.List.Elements.{Contains-push, Contains-push_cases, Contains-append_left, Contains-get_or}
 use Rattle.std.proofs.lemmas.Option.{slice_get_within, slice_get-get_or}

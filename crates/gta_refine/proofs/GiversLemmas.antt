@@ -1,7 +1,7 @@
 -- The child states that give states of a class, from the index of who uses what.
 use Rattle.std.proofs.Common.{◌≡◌, ℕ, suc, ◌+◌, ◌<◌, ◌≤◌, Bool, true, List, [], ◌∷◌, ◌++◌, length, map, Some, ◌⊎◌, inl, inr}
 use Rattle.std.proofs.Common.{sym, ◌∙◌, ap, refl, subst, arith}
-use Rattle.std.specs.Prelude.{⊥, Contains, flat_map, slice_get, slice_index, slice_index_or, ◌↔◌}
+use Rattle.std.specs.Prelude.{Contains, flat_map, slice_get, slice_index, slice_index_or, ◌↔◌}
 use Rattle.labels.specs.Labels.{Label}
 use Rattle.bdd_list.specs.declared.listing.Listed.{Listed}
 use Rattle.bdd_list.specs.declared.listing.Listed.TheVariants.{Leaf, Inner}

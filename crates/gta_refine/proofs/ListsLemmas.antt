@@ -1,7 +1,7 @@
 -- Lists of numbers at places.
 use Rattle.std.proofs.Common.{◌≡◌, ℕ, zero, suc, ◌+◌, ◌<◌, ◌≤◌, Bool, true, List, [], ◌∷◌, ◌++◌, length, map, ◌⊎◌, inl, inr}
 use Rattle.std.proofs.Common.{sym, ◌∙◌, ap, refl, subst, arith}
-use Rattle.std.specs.Prelude.{⊥, Contains, flat_map, slice_index, slice_index_or, slice_set, ◌↔◌, Option, Some, unwrap_or}
+use Rattle.std.specs.Prelude.{Contains, flat_map, slice_index, slice_index_or, slice_set, ◌↔◌, Option, Some, unwrap_or}
 use Rattle.std.proofs.lemmas.List.{get_or-set_same, get_or-set_other, length-set, get_or_default}
 use Rattle.std.proofs.lemmas.Option.{slice_get_within, unwrap_or-slice_get, slice_get-get_or}
 use Rattle.std.proofs.lemmas.List.Elements.{Contains-push, Contains-push_cases, Contains-append_left, Contains-append_right, Contains-append_cases}

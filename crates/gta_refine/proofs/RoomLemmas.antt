@@ -7,7 +7,7 @@ use Rattle.gta_refine.specs.declared.rounds.SpaceClasses.{SpaceClasses}
 use Rattle.gta_refine.specs.Refined.{part_at, room_in, TakesRoom}
 
 -- how many more classes a space may have
-pub room_of : SpaceClasses → ℕ
+unfoldable pub room_of : SpaceClasses → ℕ
 room_of part = 2 ^ 31 - length part.representatives
 
 -- another part of a space takes the place of its room

@@ -1,5 +1,5 @@
 -- Classes are split.
-use Rattle.std.proofs.Common.{◌≡◌, ◌≢◌, ℕ, ◌+◌, ◌<◌, ◌≤◌, ◌^◌, Bool, true, false, List, [], ◌∷◌, ◌++◌, length, Some, None, inl, inr}
+use Rattle.std.proofs.Common.{◌≡◌, ◌≢◌, ℕ, ◌+◌, ◌<◌, ◌≤◌, ◌^◌, Bool, true, false, List, [], ◌∷◌, ◌++◌, length, Some, None, ◌⊎◌, inl, inr}
 use Rattle.std.proofs.Common.{sym, ◌∙◌, ap, refl, subst, arith, length-append, append_assoc, append-nil}
 use Rattle.std.specs.Prelude.{slice_index, slice_set, ◌&&◌, nat_eq}
 use Rattle.std.specs.HashMap.{Updates}
@@ -22,7 +22,7 @@ and-right false b e = absurd (false≢true e)
 
 module _ (reached : List Bool) (ids old first : List ℕ) where
   -- the number of the representative of a class
-  pub first_id : ℕ → ℕ
+  unfoldable pub first_id : ℕ → ℕ
   first_id class = slice_index ids (slice_index first class)
 
   -- a class that was made for states of a class with a number

@@ -1,5 +1,5 @@
 -- How classes are cut in two.
-use Rattle.std.specs.Prelude.{◌≡◌, ◌≤◌, ⊥, ℕ, Bool, true, List, ◌⊎◌, length, Contains, Some, slice_get, slice_index, slice_set}
+use Rattle.std.specs.Prelude.{◌≡◌, ◌≤◌, ℕ, Bool, true, List, ◌⊎◌, length, Contains, Some, slice_get, slice_index, slice_set}
 use Rattle.std.specs.declared.vec.Vec.{Vec}
 use Rattle.std.specs.declared.alloc.Global.{Global}
 use Rattle.gta_refine.specs.declared.rounds.SpaceClasses.{SpaceClasses}

@@ -1,6 +1,6 @@
 //! Classes are cut in two: the states of a list, and others. The smaller part has the new class.
 
-ghost use Rattle.std.specs.Prelude.{◌≡◌, ◌<◌, ◌≤◌, ⊥, ℕ, ◌⊎◌, Contains, true, length, slice_index, vec_len, IfOk, IsTrue, ◌↔◌};
+ghost use Rattle.std.specs.Prelude.{◌≡◌, ◌<◌, ◌≤◌, ℕ, ◌⊎◌, Contains, true, length, slice_index, vec_len, IfOk, IsTrue, ◌↔◌};
 ghost use Rattle.gta_refine.specs.Chosen.{is_marked};
 ghost use Rattle.gta_refine.specs.Classes.{AreClasses, IsSplit};
 ghost use Rattle.gta_refine.specs.Lists.{Leads};

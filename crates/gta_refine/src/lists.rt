@@ -1,6 +1,6 @@
 //! Lists of numbers at places, as an index of what leads where.
 
-ghost use Rattle.std.specs.Prelude.{◌≡◌, ◌↔◌, ℕ, ⊥, Contains, IfOk, flat_map, vec_len};
+ghost use Rattle.std.specs.Prelude.{◌≡◌, ◌↔◌, ℕ, Contains, IfOk, flat_map, vec_len};
 ghost use Rattle.gta_refine.specs.Lists.{list_at, Leads, IsAdded};
 
 use crate::chosen::{is_marked, mark};

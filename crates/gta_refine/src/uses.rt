@@ -136,7 +136,7 @@ fn add_owner(
     beside: &[u32],
     owners: &mut Vec<NumberList>,
 ) -> Result<(), AllocError>
-    requires { (other : ℕ) → Contains beside.now other → HasRootAt space.now side own other }
+    requires roots { (other : ℕ) → Contains beside.now other → HasRootAt space.now side own other }
     requires many { vec_len owners.old ≡ length space.now.listing.roots }
     ensures { IfOk result (λ done. AddsOwner space.now side own beside.now owners.old.items owners.new.items) }
 {
