@@ -6,6 +6,7 @@ use Rattle.std.proofs.lemmas.List.{take_more, take_all, get_or_default, get_or-s
 use Rattle.std.proofs.lemmas.List.Elements.{Contains-push, Contains-push_cases, Contains-append_left, Contains-get_or}
 use Rattle.std.proofs.lemmas.Option.{slice_get_within, slice_get-get_or}
 use Rattle.std.proofs.lemmas.Bool.{cases_eq, cases_lt}
+use Rattle.gta_theory.proofs.ListedLemmas.{slice_get-push}
 use Rattle.gta_theory.specs.Guides.{IsSpace}
 use Rattle.gta_theory.specs.Minimal.{AreSeparated}
 use Rattle.gta_refine.specs.declared.form.FormSpace.{FormSpace}
@@ -469,3 +470,14 @@ module _ (form : Form) (is_form : IsForm form) (spaces : List SpaceClasses) (par
         let e = ap room_in cut.is in
         let l = room-less spaces (child_of space side) cut.part (child-inside form is_form spaces partition s space at side) cut.more in
         omega arith
+
+-- the lists of one space more
+pub AllCover-push : (spaces : List SpaceClasses) (lists : List ClassLists) (below : ℕ) (more : ClassLists) → length lists ≡ below →
+    ((s : ℕ) (one : ClassLists) → slice_get lists s ≡ Some one → Covers (part_at spaces s) one.items) → Covers (part_at spaces below) more.items →
+    (s : ℕ) (one : ClassLists) → slice_get (lists ++ more ∷ []) s ≡ Some one → Covers (part_at spaces s) one.items
+AllCover-push spaces lists below more many each new s one there = elim (slice_get-push lists more one s there) [
+  | inl before ↦ each s one before
+  | inr last ↦
+      let is : below ≡ s = sym many ∙ sym last.0 in
+      subst (λ (k : ℕ). Covers (part_at spaces k) one.items) is (subst (λ (x : ClassLists). Covers (part_at spaces below) x.items) last.1 new)
+]

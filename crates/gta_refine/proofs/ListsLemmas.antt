@@ -2,11 +2,11 @@
 use Rattle.std.proofs.Common.{◌≡◌, ℕ, zero, suc, ◌+◌, ◌<◌, ◌≤◌, Bool, true, List, [], ◌∷◌, ◌++◌, length, map, ◌⊎◌, inl, inr}
 use Rattle.std.proofs.Common.{sym, ◌∙◌, ap, refl, subst, arith}
 use Rattle.std.specs.Prelude.{Contains, flat_map, slice_index, slice_index_or, slice_set, ◌↔◌, Option, Some, unwrap_or}
-use Rattle.std.proofs.lemmas.List.{get_or-set_same, get_or-set_other, length-set, get_or_default}
+use Rattle.std.proofs.lemmas.List.{get_or-set_same, get_or-set_other, length-set, get_or_default, get_or_append_left, get_or_past}
 use Rattle.std.proofs.lemmas.Option.{slice_get_within, unwrap_or-slice_get, slice_get-get_or}
 use Rattle.std.proofs.lemmas.List.Elements.{Contains-push, Contains-push_cases, Contains-append_left, Contains-append_right, Contains-append_cases}
 use Rattle.std.proofs.lemmas.List.Elements.{Contains-get_or}
-use Rattle.std.proofs.lemmas.Bool.{cases_eq}
+use Rattle.std.proofs.lemmas.Bool.{cases_eq, cases_lt}
 use Rattle.gta_refine.specs.Chosen.{is_marked, IsAmong}
 use Rattle.gta_refine.specs.Lists.{list_at, Leads, IsAdded}
 use Rattle.gta_refine.proofs.ChosenLemmas.{marked-set_cases}
@@ -178,3 +178,10 @@ pub OnceBelow-same : (numbers : List ℕ) (seen seen' : List Bool) (once once' :
     OnceBelow numbers seen once below → OnceBelow numbers seen' once' below
 OnceBelow-same numbers seen seen' once once' below same_seen same_once so_far =
     subst (λ (xs : List ℕ). OnceBelow numbers seen' xs below) same_once (subst (λ (xs : List Bool). OnceBelow numbers xs once below) same_seen so_far)
+
+-- one list more
+pub Leads-more : (lists : List (List ℕ)) (more : List ℕ) (place number : ℕ) → Leads lists place number → Leads (lists ++ more ∷ []) place number
+Leads-more lists more place number there = elim (cases_lt place (length lists)) [
+  | inl before ↦ subst (λ (xs : List ℕ). Contains xs number) (sym (get_or_append_left lists (more ∷ []) [] place before)) there
+  | inr past ↦ absurd (Contains-none number (subst (λ (xs : List ℕ). Contains xs number) (get_or_past lists place [] past) there))
+]

@@ -333,3 +333,11 @@ IsUses-push form uses below more many each new s space one at there = elim (slic
       subst (IsUses form s space) last.1 (subst (λ (k : ℕ). IsUses form k space more) is
       (new space (ap (slice_get form.spaces) is ∙ at)))
 ]
+
+-- all numbers that have something are below the bound
+pub AreAbove-all : (Owns : ℕ → Listed → Type 0) (leaves nodes : List (List ℕ)) (below : ℕ) → AboveBelow Owns leaves nodes below →
+    ((b : ℕ) (listed : Listed) → Owns b listed → b < below) → AreAbove Owns leaves nodes
+AreAbove-all Owns leaves nodes below all bound = record {
+  sound = all.sound;
+  complete = λ listed b owns place. all.complete listed b (bound b listed owns) owns place;
+}

@@ -7,6 +7,6 @@ use Rattle.gta_refine.proofs.rounds.refine.Goals as goal
 
 pub returns : goal.returns
 returns c =
-    subst (λ (xs : List SpaceClasses). IsRefined c.args.form.now xs) (sym c.from_vec.ensures)
+    subst (λ (xs : List SpaceClasses). IsRefined c.args.form.now xs) (sym c.from_vec-2.ensures)
     (IsRefined-stable c.args.form.now c.refine_more.new.spaces.items c.requires c.in_ok-is_more.ensures.partition
     (c.in_ok-is_more.ensures.left c.if-not-is_more.true) (c.in_ok-is_more.ensures.right c.if-not-is_more.true))
