@@ -20,8 +20,8 @@ loop-state-preserved c =
     elim c.if-class-before.branch [
       | then-class-before+in_ok-add_at w ↦
           let is = c.requires.classes.within state
-              (let i = marked-inside part.reached state (c.requires.reached state (Contains-get_or order at 0 c.loop-state-test.true)) in
-              let m = c.requires.classes.many in omega arith) in
+          (let i = marked-inside part.reached state (c.requires.reached state (Contains-get_or order at 0 c.loop-state-test.true)) in
+          let m = c.requires.classes.many in omega arith) in
           ListsNew-add order c.args.before part old now at c.loop-state.invariant c.if-class-before.lists.items
           (let m = c.loop-state.invariant.many in let r = c.requires.many in omega arith)
           (subst (λ (xs : List (List ℕ)). IsAdded now (slice_index part.classes state) state xs) (sym (ap (λ v. v.items) w.lists-is))

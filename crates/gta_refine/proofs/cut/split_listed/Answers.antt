@@ -49,22 +49,22 @@ loop-state-preserved c =
     ap (λ (xs : List ℕ). slice_index xs (slice_index order at)) c.as_slice.ensures in
     elim c.if-class-before.branch [
       | then-class-before+in_ok-class w ↦ record {
-          reached = ap (λ p. p.reached) w.part-is ∙ inv.reached;
-          splits = Splits-same reached ids old first _ after.made _ after.part.representatives _ after.part.classes (SeenIn order (at + 1))
-              (sym w.made-is) (sym (ap (λ p. p.representatives) w.part-is)) (sym (ap (λ p. p.classes) w.part-is ∙ w.set.ensures))
-              (Splits-listed reached ids old first order c.requires.classes c.requires.reached made reps now at c.loop-state-test.true inv.splits
-              (let t = w.if-class-before.true in let e = class in let l = c.len-before.ensures in omega arith)
-              w.class_of.new.made w.class_of.new.representatives w.in_ok-class.class
-              (subst (λ (k : ℕ). IsStep ids (slice_index order at) k made reps w.class_of.new.made w.class_of.new.representatives w.in_ok-class.class)
-              class w.in_ok-class.ensures));
-        }
+        reached = ap (λ p. p.reached) w.part-is ∙ inv.reached;
+        splits = Splits-same reached ids old first _ after.made _ after.part.representatives _ after.part.classes (SeenIn order (at + 1))
+            (sym w.made-is) (sym (ap (λ p. p.representatives) w.part-is)) (sym (ap (λ p. p.classes) w.part-is ∙ w.set.ensures))
+            (Splits-listed reached ids old first order c.requires.classes c.requires.reached made reps now at c.loop-state-test.true inv.splits
+            (let t = w.if-class-before.true in let e = class in let l = c.len-before.ensures in omega arith)
+            w.class_of.new.made w.class_of.new.representatives w.in_ok-class.class
+            (subst (λ (k : ℕ). IsStep ids (slice_index order at) k made reps w.class_of.new.made w.class_of.new.representatives w.in_ok-class.class)
+            class w.in_ok-class.ensures));
+      }
       | else-class-before w ↦ record {
-          reached = ap (λ p. p.reached) w.part-is ∙ inv.reached;
-          splits = Splits-same reached ids old first _ after.made _ after.part.representatives _ after.part.classes (SeenIn order (at + 1))
-              (sym w.made-is) (sym (ap (λ p. p.representatives) w.part-is)) (sym (ap (λ p. p.classes) w.part-is))
-              (Splits-past reached ids old first order c.requires.classes c.requires.reached made reps now at c.loop-state-test.true inv.splits
-              (λ small. absurd (let t = w.if-class-before.false in let e = class in let l = c.len-before.ensures in omega arith)));
-        }
+        reached = ap (λ p. p.reached) w.part-is ∙ inv.reached;
+        splits = Splits-same reached ids old first _ after.made _ after.part.representatives _ after.part.classes (SeenIn order (at + 1))
+            (sym w.made-is) (sym (ap (λ p. p.representatives) w.part-is)) (sym (ap (λ p. p.classes) w.part-is))
+            (Splits-past reached ids old first order c.requires.classes c.requires.reached made reps now at c.loop-state-test.true inv.splits
+            (λ small. absurd (let t = w.if-class-before.false in let e = class in let l = c.len-before.ensures in omega arith)));
+      }
     ]
 
 pub returns-clause-classes : goal.returns-clause-classes

@@ -44,7 +44,7 @@ loop-state-preserved c =
     let order = c.loop-state.order.items in
     let class : slice_index c.as_slice.result.now state ≡ slice_index part.classes state = ap (λ (xs : List ℕ). slice_index xs state) c.as_slice.ensures in
     let first : slice_index c.as_slice-in-loop-state.result.now (slice_index c.as_slice.result.now state) ≡
-        slice_index part.representatives (slice_index part.classes state) =
+    slice_index part.representatives (slice_index part.classes state) =
     ap (λ (xs : List ℕ). slice_index xs (slice_index c.as_slice.result.now state)) c.as_slice-in-loop-state.ensures
     ∙ ap (slice_index part.representatives) class in
     elim c.if-as_slice-class.branch [

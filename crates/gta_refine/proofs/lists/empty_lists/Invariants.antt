@@ -1,5 +1,4 @@
 use Rattle.std.proofs.Common.{◌≡◌, ℕ, vec_len}
-
 use Rattle.gta_refine.specs.Lists.{Leads}
 use Rattle.gta_refine.proofs.lists.empty_lists.Given as goal
 
