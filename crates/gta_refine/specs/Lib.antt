@@ -11,3 +11,4 @@ pub mod Lists
 pub mod Uses
 pub mod Givers
 pub mod Cuts
+pub mod Scratch

@@ -6,6 +6,7 @@ ghost use Rattle.gta_refine.specs.Form.{IsForm};
 ghost use Rattle.gta_refine.specs.Classes.{AreClasses};
 ghost use Rattle.gta_refine.specs.Refined.{part_at, is_reached_in, ArePartition, room_in};
 ghost use Rattle.gta_refine.specs.Cuts.{IsCutAt, Covers, AllCover};
+ghost use Rattle.gta_refine.specs.Scratch.{IsReady};
 ghost use Rattle.gta_refine.specs.Uses.{AreUses};
 
 use crate::cut::cut;
@@ -13,6 +14,7 @@ use crate::form::{Form, NumberList};
 use crate::givers::givers;
 use crate::rounds::{SpaceClasses, child};
 use crate::rows::Side;
+use crate::scratch::{Scratch, scratch_of};
 use crate::uses::{SpaceUses, likes_of};
 use std::alloc::{AllocError, Global};
 
@@ -58,7 +60,9 @@ fn cut_at(
     c: usize,
     spaces: &mut Vec<SpaceClasses>,
     lists: &mut Vec<Vec<NumberList>>,
+    scratch: &mut Scratch,
 ) -> Result<(), AllocError>
+    requires ready { IsReady spaces.old.items scratch.old }
     requires inside { c < length spaces.old.items }
     requires classes { AreClasses (part_at spaces.old.items c).reached (part_at spaces.old.items c).classes
         (part_at spaces.old.items c).representatives }
@@ -66,10 +70,11 @@ fn cut_at(
     requires covers { AllCover spaces.old.items lists.old.items }
     ensures cut { IfOk result (λ done. IsCutAt spaces.old.items c listed.now spaces.new.items) }
     ensures covers { IfOk result (λ done. AllCover spaces.new.items lists.new.items) }
+    ensures ready { IfOk result (λ done. IsReady spaces.new.items scratch.new) }
 {
     let part = &mut spaces[c];
     let part_lists = &mut lists[c];
-    cut(alloc, listed, part, part_lists)?;
+    cut(alloc, listed, part, part_lists, &mut scratch.ids)?;
     Ok(())
 }
 
@@ -83,7 +88,9 @@ fn cut_by(
     class: u32,
     spaces: &mut Vec<SpaceClasses>,
     lists: &mut Vec<Vec<NumberList>>,
+    scratch: &mut Scratch,
 ) -> Result<(), AllocError>
+    requires ready { IsReady spaces.old.items scratch.old }
     requires form { IsForm form.now }
     requires space { s < length form.now.spaces }
     requires uses { AreUses form.now uses.now }
@@ -92,14 +99,24 @@ fn cut_by(
     ensures partition { IfOk result (λ done. ArePartition form.now spaces.new.items) }
     ensures covers { IfOk result (λ done. AllCover spaces.new.items lists.new.items) }
     ensures room { IfOk result (λ done. room_in spaces.new.items ≤ room_in spaces.old.items) }
+    ensures ready { IfOk result (λ done. IsReady spaces.new.items scratch.new) }
 {
     let space = form.space(s);
     let uses = uses_at(uses, s);
     if uses.side(side).is_single {
         return Ok(());
     }
-    let listed = givers(alloc, form, uses, s, side, class, spaces, &lists[s])?;
-    cut_at(alloc, &listed, child(space, side) as usize, spaces, lists)?;
+    let listed = givers(
+        alloc, form, uses, s, side, class, spaces, &lists[s], scratch,
+    )?;
+    cut_at(
+        alloc,
+        &listed,
+        child(space, side) as usize,
+        spaces,
+        lists,
+        scratch,
+    )?;
     Ok(())
 }
 
@@ -141,12 +158,33 @@ pub(crate) fn cascade(
     ensures room { IfOk result (λ done. room_in spaces.new.items ≤ room_in spaces.old.items) }
 {
     let mut lists = all_lists(alloc, form, spaces)?;
+    let mut scratch = scratch_of(alloc, form, spaces)?;
     for _ in 0..u64::MAX {
         let Some(Next { s, class }) = next_class(done, spaces) else {
             return Ok(());
         };
-        cut_by(alloc, form, uses, s, Side::Left, class, spaces, &mut lists)?;
-        cut_by(alloc, form, uses, s, Side::Right, class, spaces, &mut lists)?;
+        cut_by(
+            alloc,
+            form,
+            uses,
+            s,
+            Side::Left,
+            class,
+            spaces,
+            &mut lists,
+            &mut scratch,
+        )?;
+        cut_by(
+            alloc,
+            form,
+            uses,
+            s,
+            Side::Right,
+            class,
+            spaces,
+            &mut lists,
+            &mut scratch,
+        )?;
     }
     Ok(())
 }

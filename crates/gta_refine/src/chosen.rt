@@ -1,8 +1,11 @@
 //! Some states of each class.
 
-ghost use Rattle.std.specs.Prelude.{◌≡◌, ◌^◌, ◌≤◌, IfOk, length, slice_index_or, slice_set, true, false};
+ghost use Rattle.std.specs.Prelude.{◌≡◌, ◌^◌, ◌≤◌, ℕ, Contains, IfOk, length, slice_index_or, slice_set, true, false};
+ghost use Rattle.bdd_list.specs.declared.listing.Listed.TheVariants.{Inner};
 ghost use Rattle.gta_refine.specs.Chosen.{AreChosen};
+ghost use Rattle.gta_refine.specs.Chosen as marks_of;
 
+use bdd_list::Listed;
 use std::alloc::{AllocError, Global};
 
 /// Reached states: at least one of each class that some reached state has, and mostly no more.
@@ -41,5 +44,35 @@ pub(crate) fn mark(marks: &mut Vec<bool>, class: u32)
 {
     if (class as usize) < marks.len() {
         marks[class as usize] = true;
+    }
+}
+
+/// Takes a mark away, if there is one.
+#[inline]
+fn unmark(marks: &mut Vec<bool>, class: u32)
+    ensures { marks.new.items ≡ slice_set marks.old.items class false }
+{
+    if (class as usize) < marks.len() {
+        marks[class as usize] = false;
+    }
+}
+
+/// Takes the marks of numbers away.
+pub(crate) fn unmark_all(marks: &mut Vec<bool>, numbers: &[u32])
+    ensures { (i : ℕ) → marks_of.is_marked marks.new.items i ≡ true → (marks_of.is_marked marks.old.items i ≡ true) × (Contains numbers.now i → ⊥) }
+{
+    for number in numbers {
+        unmark(marks, *number);
+    }
+}
+
+/// Takes the marks of nodes away.
+pub(crate) fn unmark_nodes(marks: &mut Vec<bool>, list: &[Listed])
+    ensures { (i : ℕ) → marks_of.is_marked marks.new.items i ≡ true → (marks_of.is_marked marks.old.items i ≡ true) × (Contains list.now (Inner i) → ⊥) }
+{
+    for listed in list {
+        if let Listed::Inner(index) = *listed {
+            unmark(marks, index);
+        }
     }
 }

@@ -5,6 +5,7 @@ ghost use Rattle.gta_refine.specs.Chosen.{is_marked};
 ghost use Rattle.gta_refine.specs.Classes.{AreClasses, IsSplit};
 ghost use Rattle.gta_refine.specs.Lists.{Leads};
 ghost use Rattle.gta_refine.specs.Cuts.{IsIndicator, IsIn, IsCut, HasOthers, Covers};
+ghost use Rattle.gta_refine.specs.Scratch.{AreZero};
 
 use crate::form::NumberList;
 use crate::lists::{add_at, numbers_at};
@@ -28,16 +29,27 @@ pub(crate) fn is_in(part: &SpaceClasses, state: u32, class: u32) -> bool
 }
 
 /// 1 at each listed state, and 0 at each other one.
-fn indicator(alloc: Global, listed: &[u32], many: usize) -> Result<Vec<u32>, AllocError>
-    requires { (q : ℕ) → Contains listed.now q → q < many }
-    ensures indicator { IfOk result (λ ids. IsIndicator listed.now ids.items) }
-    ensures many { IfOk result (λ ids. length ids.items ≡ many) }
+fn indicate(listed: &[u32], ids: &mut Vec<u32>)
+    requires small { (q : ℕ) → Contains listed.now q → q < length ids.old.items }
+    requires zero { AreZero ids.old.items }
+    ensures indicator { IsIndicator listed.now ids.new.items }
+    ensures many { length ids.new.items ≡ length ids.old.items }
 {
-    let mut ids = vec![in alloc; 0; many]?;
     for state in listed {
-        set_at(&mut ids, *state, 1);
+        set_at(ids, *state, 1);
     }
-    Ok(ids)
+}
+
+/// 0 at each state again.
+fn reset(listed: &[u32], ids: &mut Vec<u32>)
+    requires small { (q : ℕ) → Contains listed.now q → q < length ids.old.items }
+    requires indicator { IsIndicator listed.now ids.old.items }
+    ensures zero { AreZero ids.new.items }
+    ensures many { length ids.new.items ≡ length ids.old.items }
+{
+    for state in listed {
+        set_at(ids, *state, 0);
+    }
 }
 
 /// How many listed states each class has.
@@ -253,7 +265,10 @@ pub(crate) fn cut(
     listed: &[u32],
     part: &mut SpaceClasses,
     lists: &mut Vec<NumberList>,
+    ids: &mut Vec<u32>,
 ) -> Result<(), AllocError>
+    requires long { length part.old.reached ≤ length ids.old.items }
+    requires zero { AreZero ids.old.items }
     requires classes { AreClasses part.old.reached part.old.classes part.old.representatives }
     requires reached { (q : ℕ) → Contains listed.now q → is_marked part.old.reached q ≡ true }
     requires covers { Covers part.old lists.old.items }
@@ -262,12 +277,15 @@ pub(crate) fn cut(
     ensures cut { IfOk result (λ done. IsCut part.old.reached listed.now part.old.classes part.new.classes) }
     ensures more { IfOk result (λ done. length part.old.representatives ≤ length part.new.representatives) }
     ensures covers { IfOk result (λ done. Covers part.new lists.new.items) }
+    ensures zero { IfOk result (λ done. AreZero ids.new.items) }
+    ensures long { IfOk result (λ done. length ids.new.items ≡ length ids.old.items) }
 {
-    let ids = indicator(alloc, listed, part.reached.len())?;
-    choose_representatives(alloc, listed, &ids, lists, part)?;
+    indicate(listed, ids);
+    choose_representatives(alloc, listed, ids, lists, part)?;
     let order = with_others(alloc, listed, lists, part)?;
     let before = part.representatives.len();
-    split_listed(alloc, &order, &ids, part)?;
+    split_listed(alloc, &order, ids, part)?;
+    reset(listed, ids);
     grow(alloc, part.representatives.len(), lists)?;
     list_new(&order, before, part, lists)?;
     Ok(())

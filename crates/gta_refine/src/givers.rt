@@ -8,14 +8,16 @@ ghost use Rattle.gta_refine.specs.Form.{IsForm};
 ghost use Rattle.gta_refine.specs.Refined.{part_at, ArePartition};
 ghost use Rattle.gta_refine.specs.Uses.{above_of, AreAbove, HasSide, IsUses};
 ghost use Rattle.gta_refine.specs.Cuts.{Covers};
+ghost use Rattle.gta_refine.specs.Scratch.{IsClear};
 ghost use Rattle.gta_refine.specs.Givers.{AddsNodes, AreClimbed, AreMembers, AreGivers};
 
-use crate::chosen::{is_marked, mark};
+use crate::chosen::{is_marked, mark, unmark_nodes};
 use crate::cut::add_members;
 use crate::form::{Form, NumberList};
 use crate::lists::{distinct, gather, numbers_at};
 use crate::rounds::{SpaceClasses, part_of, spread};
 use crate::rows::{Side, kinds_of};
+use crate::scratch::Scratch;
 use crate::uses::{Above, SpaceUses};
 use bdd_list::{Listed, ListedNode};
 use std::alloc::{AllocError, Global};
@@ -66,20 +68,23 @@ fn climb(
     nodes: &[ListedNode],
     parents: &Above,
     states: &[u32],
+    found: &mut Vec<bool>,
 ) -> Result<Vec<Listed>, AllocError>
+    requires clear { IsClear found.old.items }
     requires ordered { AreOrdered nodes.now }
     requires parents { AreAbove (HasSide nodes.now) parents.now.leaves parents.now.nodes }
     requires states { (q : ℕ) → Contains states.now q → q < length parents.now.leaves }
     requires nodes { length parents.now.nodes ≡ length nodes.now }
-    ensures { IfOk result (λ list. AreClimbed nodes.now states.now list.items) }
+    ensures climbed { IfOk result (λ list. AreClimbed nodes.now states.now list.items) }
+    ensures clear { IfOk result (λ list. IsClear found.new.items) }
 {
-    let mut found = vec![in alloc; false; nodes.len()]?;
     let mut list = leaves(alloc, states)?;
     for at in 0..usize::MAX {
         if at >= list.len() {
+            unmark_nodes(found, &list);
             return Ok(list);
         }
-        add_nodes(parents.of(list[at]), &mut found, &mut list)?;
+        add_nodes(parents.of(list[at]), found, &mut list)?;
     }
     Err(AllocError)
 }
@@ -105,13 +110,19 @@ pub(crate) fn givers(
     class: u32,
     spaces: &[SpaceClasses],
     lists: &[NumberList],
+    scratch: &mut Scratch,
 ) -> Result<Vec<u32>, AllocError>
+    requires seen { IsClear scratch.old.seen.items }
+    requires found { IsClear scratch.old.found.items }
     requires form { IsForm form.now }
     requires space { s < length form.now.spaces }
     requires partition { ArePartition form.now spaces.now }
     requires uses { (space : FormSpace) → slice_get form.now.spaces s ≡ Some space → IsUses form.now s space uses.now }
     requires covers { Covers (part_at spaces.now s) lists.now }
-    ensures { IfOk result (λ givers. AreGivers form.now spaces.now s side class givers.items) }
+    ensures givers { IfOk result (λ givers. AreGivers form.now spaces.now s side class givers.items) }
+    ensures seen { IfOk result (λ givers. IsClear scratch.new.seen.items) }
+    ensures found { IfOk result (λ givers. IsClear scratch.new.found.items) }
+    ensures ids { IfOk result (λ givers. scratch.new.ids ≡ scratch.old.ids) }
 {
     let space = form.space(s);
     let states = members(alloc, lists, part_of(spaces, s), class)?;
@@ -120,12 +131,13 @@ pub(crate) fn givers(
         space.listing.nodes.as_slice(),
         &uses.parents,
         &states,
+        &mut scratch.found,
     )?;
     let roots = gather_above(alloc, &uses.roots, &list)?;
     let side_uses = uses.side(side);
     let owners = gather(alloc, side_uses.owners.as_slice(), &roots)?;
     let kinds = kinds_of(space, side);
-    let once = distinct(alloc, &owners, kinds.len())?;
+    let once = distinct(alloc, &owners, &mut scratch.seen)?;
     let owner_kinds = spread(alloc, &once, kinds)?;
     let givers = gather(alloc, side_uses.likes.as_slice(), &owner_kinds)?;
     Ok(givers)

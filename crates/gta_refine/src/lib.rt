@@ -15,6 +15,7 @@ mod numbers;
 mod reach;
 mod rounds;
 mod rows;
+mod scratch;
 mod split;
 mod sweep;
 mod uses;

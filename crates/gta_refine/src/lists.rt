@@ -2,8 +2,9 @@
 
 ghost use Rattle.std.specs.Prelude.{◌≡◌, ◌↔◌, ℕ, Contains, IfOk, flat_map, vec_len};
 ghost use Rattle.gta_refine.specs.Lists.{list_at, Leads, IsAdded};
+ghost use Rattle.gta_refine.specs.Scratch.{IsClear};
 
-use crate::chosen::{is_marked, mark};
+use crate::chosen::{is_marked, mark, unmark_all};
 use crate::form::NumberList;
 use plain_data::Items;
 use std::alloc::{AllocError, Global};
@@ -73,17 +74,23 @@ pub(crate) fn gather(
     Ok(all)
 }
 
-/// The same numbers; those below the bound once.
-pub(crate) fn distinct(alloc: Global, numbers: &[u32], bound: usize) -> Result<Vec<u32>, AllocError>
-    ensures { IfOk result (λ once. (number : ℕ) → Contains once.items number ↔ Contains numbers.now number) }
+/// The same numbers, once where the marks reach. The marks are clear again.
+pub(crate) fn distinct(
+    alloc: Global,
+    numbers: &[u32],
+    seen: &mut Vec<bool>,
+) -> Result<Vec<u32>, AllocError>
+    requires { IsClear seen.old.items }
+    ensures once { IfOk result (λ once. (number : ℕ) → Contains once.items number ↔ Contains numbers.now number) }
+    ensures clear { IfOk result (λ once. IsClear seen.new.items) }
 {
-    let mut seen = vec![in alloc; false; bound]?;
     let mut once = Vec::new(alloc);
     for number in numbers {
-        if !is_marked(&seen, *number) {
-            mark(&mut seen, *number);
+        if !is_marked(seen, *number) {
+            mark(seen, *number);
             once.push(*number)?;
         }
     }
+    unmark_all(seen, &once);
     Ok(once)
 }
