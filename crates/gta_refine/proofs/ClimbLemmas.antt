@@ -15,6 +15,7 @@ use Rattle.bdd_list.specs.Listing.{rank, function_in, node_at, IsIn, AreOrdered}
 use Rattle.bdd_list.proofs.ListingLemmas.{function_in-leaf, function_in-inner, function_in-unasked}
 use Rattle.gta_refine.specs.Chosen.{is_marked}
 use Rattle.gta_refine.specs.Uses.{above_of, HasPlace, AreAbove, HasSide}
+use Rattle.gta_refine.specs.Scratch.{IsClear}
 use Rattle.gta_refine.specs.Givers.{GivesSome, AreClimbed, AddsNodes}
 use Rattle.gta_refine.proofs.ChosenLemmas.{marked-set_cases}
 use Rattle.gta_refine.proofs.ListsLemmas.{FromMap-map, Contains-map, Contains-none}
@@ -141,10 +142,10 @@ module _ (nodes : List ListedNode) (states : List ℕ) (leaves above : List (Lis
     pub closed : (k i : ℕ) → k < at → k < length list → Contains (above_of leaves above (slice_index_or list k (Leaf 0))) i → Contains list (Inner i)
     pub sound : (listed : Listed) → Contains list listed → IsIn nodes listed × GivesSome nodes states listed
 
-  pub Climbs-start : (many : ℕ) → Climbs (replicate many false) (map (λ q. Leaf q) states) 0
-  Climbs-start many = record {
+  pub Climbs-start : (found : List Bool) → IsClear found → Climbs found (map (λ q. Leaf q) states) 0
+  Climbs-start found clear = record {
     starts = λ q there. Contains-map (λ p. Leaf p) states q there;
-    marks = λ i marked. absurd (false≢true (sym (none many i) ∙ marked));
+    marks = λ i marked. absurd (false≢true (sym (clear i) ∙ marked));
     closed = λ k i k_in inside there. absurd (omega arith);
     sound = λ listed there.
         let from = FromMap-map (λ p. Leaf p) states listed there in (
@@ -155,12 +156,6 @@ module _ (nodes : List ListedNode) (states : List ℕ) (leaves above : List (Lis
           }),
         );
   }
-    where
-      none : (n i : ℕ) → is_marked (replicate n false) i ≡ false
-      none zero zero = refl
-      none zero (suc i) = refl
-      none (suc n) zero = refl
-      none (suc n) (suc i) = none n i
 
   module _ (ordered : AreOrdered nodes) (parents : AreAbove (HasSide nodes) leaves above) where
     pub Climbs-step : (found new_found : List Bool) (list new_list : List Listed) (at : ℕ) → Climbs found list at → at < length list →

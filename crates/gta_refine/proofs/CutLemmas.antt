@@ -19,6 +19,7 @@ use Rattle.gta_refine.specs.Classes.{AreClasses, IsSplit}
 use Rattle.gta_refine.specs.Splitting.{Made, made_for, IsStep}
 use Rattle.gta_refine.specs.Lists.{list_at, Leads, IsAdded}
 use Rattle.gta_refine.specs.Cuts.{IsIndicator, IsIn, Covers, HasOthers, IsCut, IsCutAt, ClassLists, AllCover}
+use Rattle.gta_refine.specs.Scratch.{AreZero}
 use Rattle.gta_refine.specs.Givers.{Gives, AreGivers}
 use Rattle.gta_refine.specs.Refined.{part_at, is_reached_in, ArePartition, GiveOthersAt, child_at, child_of, room_in}
 use Rattle.gta_refine.proofs.ChosenLemmas.{marked-inside}
@@ -32,14 +33,8 @@ abbrev pub IsIndicatorBelow : List ℕ → List ℕ → ℕ → Type 0
 IsIndicatorBelow listed ids below = (q : ℕ) →
     ((slice_index ids q ≡ 1) × Contains listed q) ⊎ ((slice_index ids q ≡ 0) × ((k : ℕ) → k < below → slice_index listed k ≡ q → ⊥))
 
-pub IsIndicatorBelow-start : (listed : List ℕ) (many : ℕ) → IsIndicatorBelow listed (replicate many 0) 0
-IsIndicatorBelow-start listed many q = inr (zeros many q, λ k k_in e. absurd (omega arith))
-  where
-    zeros : (n i : ℕ) → slice_index (replicate n 0) i ≡ 0
-    zeros zero zero = refl
-    zeros zero (suc i) = refl
-    zeros (suc n) zero = refl
-    zeros (suc n) (suc i) = zeros n i
+pub IsIndicatorBelow-start : (listed ids : List ℕ) → AreZero ids → IsIndicatorBelow listed ids 0
+IsIndicatorBelow-start listed ids none q = inr (none q, λ k k_in e. absurd (omega arith))
 
 pub IsIndicatorBelow-next : (listed ids : List ℕ) (below : ℕ) → below < length listed → slice_index listed below < length ids →
     IsIndicatorBelow listed ids below → IsIndicatorBelow listed (slice_set ids (slice_index listed below) 1) (below + 1)
@@ -481,3 +476,8 @@ AllCover-push spaces lists below more many each new s one there = elim (slice_ge
       let is : below ≡ s = sym many ∙ sym last.0 in
       subst (λ (k : ℕ). Covers (part_at spaces k) one.items) is (subst (λ (x : ClassLists). Covers (part_at spaces below) x.items) last.1 new)
 ]
+
+-- a listed state has a place
+pub small-at : (listed ids now : List ℕ) (at : ℕ) → ((q : ℕ) → Contains listed q → q < length ids) → at < length listed → length now ≡ length ids →
+    slice_index listed at < length now
+small-at listed ids now at small inside same = let s = small (slice_index listed at) (Contains-get_or listed at 0 inside) in omega arith

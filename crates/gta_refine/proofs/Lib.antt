@@ -12,3 +12,4 @@ pub mod ClimbLemmas
 pub mod UsesLemmas
 pub mod CutLemmas
 pub mod GiversLemmas
+pub mod ScratchLemmas

@@ -71,8 +71,9 @@ pub(crate) fn unmark_nodes(marks: &mut Vec<bool>, list: &[Listed])
     ensures { (i : ℕ) → marks_of.is_marked marks.new.items i ≡ true → (marks_of.is_marked marks.old.items i ≡ true) × (Contains list.now (Inner i) → ⊥) }
 {
     for listed in list {
-        if let Listed::Inner(index) = *listed {
-            unmark(marks, index);
+        match *listed {
+            Listed::Leaf(_state) => {}
+            Listed::Inner(index) => unmark(marks, index),
         }
     }
 }

@@ -10,6 +10,7 @@ use Rattle.gta_refine.specs.Refined.{part_at, is_reached_in, child_of}
 use Rattle.gta_refine.proofs.ReachLemmas.{many_spaces}
 use Rattle.gta_refine.proofs.RefineLemmas.{child-inside, child-classes}
 use Rattle.gta_refine.proofs.CutLemmas.{listed-reached, ArePartition-cut_at, room-cut_at}
+use Rattle.gta_refine.specs.Scratch.{AreZero}
 use Rattle.gta_refine.proofs.cascade.cut_by.Goals as goal
 
 pub givers-requires-clause-uses : goal.givers-requires-clause-uses
@@ -46,7 +47,7 @@ cut_at-requires-clause-reached c = λ q there.
     subst (λ (k : ℕ). is_reached_in spaces k q ≡ true) (sym c.child.ensures)
     (listed-reached c.args.form.now c.requires.form spaces c.requires.partition c.args.s c.space-space.result.now c.space-space.ensures c.args.side
     c.args.class listed
-    (subst (λ (xs : List SpaceClasses). AreGivers c.args.form.now xs c.args.s c.args.side c.args.class listed) c.deref.ensures.value c.in_ok-listed.ensures)
+    (subst (λ (xs : List SpaceClasses). AreGivers c.args.form.now xs c.args.s c.args.side c.args.class listed) c.deref.ensures.value c.in_ok-listed.ensures.givers)
     q (subst (λ (xs : List ℕ). Contains xs q) c.deref-3.ensures.value there))
 
 pub returns-clause-partition : goal.returns-clause-partition
@@ -56,7 +57,7 @@ returns-clause-partition c =
     let listed = c.in_ok-listed.listed.items in
     ArePartition-cut_at c.args.form.now c.requires.form spaces c.requires.partition c.args.s c.space-space.result.now c.space-space.ensures c.args.side
     c.args.class listed
-    (subst (λ (xs : List SpaceClasses). AreGivers c.args.form.now xs c.args.s c.args.side c.args.class listed) c.deref.ensures.value c.in_ok-listed.ensures)
+    (subst (λ (xs : List SpaceClasses). AreGivers c.args.form.now xs c.args.s c.args.side c.args.class listed) c.deref.ensures.value c.in_ok-listed.ensures.givers)
     new
     (subst (λ (xs : List ℕ). IsCutAt spaces (child_of c.space-space.result.now c.args.side) xs new) c.deref-3.ensures.value
     (subst (λ (k : ℕ). IsCutAt spaces k c.deref-3.result.now new) c.child.ensures c.in_ok-cut_at.ensures.cut))
@@ -68,7 +69,17 @@ returns-clause-room c =
     let listed = c.in_ok-listed.listed.items in
     room-cut_at c.args.form.now c.requires.form spaces c.requires.partition c.args.s c.space-space.result.now c.space-space.ensures c.args.side
     c.args.class listed
-    (subst (λ (xs : List SpaceClasses). AreGivers c.args.form.now xs c.args.s c.args.side c.args.class listed) c.deref.ensures.value c.in_ok-listed.ensures)
+    (subst (λ (xs : List SpaceClasses). AreGivers c.args.form.now xs c.args.s c.args.side c.args.class listed) c.deref.ensures.value c.in_ok-listed.ensures.givers)
     new
     (subst (λ (xs : List ℕ). IsCutAt spaces (child_of c.space-space.result.now c.args.side) xs new) c.deref-3.ensures.value
     (subst (λ (k : ℕ). IsCutAt spaces k c.deref-3.result.now new) c.child.ensures c.in_ok-cut_at.ensures.cut))
+
+pub cut_at-requires-clause-ready : goal.cut_at-requires-clause-ready
+cut_at-requires-clause-ready c =
+    let ids : c.givers.new.scratch.ids.items ≡ c.args.scratch.now.ids.items = ap (λ v. v.items) c.in_ok-listed.ensures.ids in
+    record {
+      zero = subst (λ (xs : List ℕ). AreZero xs) (sym ids) c.requires.ready.zero;
+      seen = c.in_ok-listed.ensures.seen;
+      found = c.in_ok-listed.ensures.found;
+      long = λ s. let l = c.requires.ready.long s in let e = ap length ids in omega arith;
+    }

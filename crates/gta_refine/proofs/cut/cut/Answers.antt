@@ -6,14 +6,21 @@ use Rattle.gta_refine.proofs.ChosenLemmas.{marked-inside}
 use Rattle.gta_refine.proofs.CutLemmas.{others-same}
 use Rattle.gta_refine.proofs.cut.cut.Goals as goal
 
-pub indicator-requires : goal.indicator-requires
-indicator-requires c = λ q there.
+pub indicate-requires-clause-small : goal.indicate-requires-clause-small
+indicate-requires-clause-small c = λ q there.
     let i = marked-inside c.args.part.now.reached q (c.requires.reached q there) in
-    let e = c.len.ensures in
+    let e = c.requires.long in
     omega arith
 
 pub split_listed-requires-clause-others : goal.split_listed-requires-clause-others
 split_listed-requires-clause-others c = λ q marked outside.
     others-same c.choose_representatives.new.part c.args.listed.now c.deref-4.result.now c.deref-5.result.now
     (subst (HasOthers c.choose_representatives.new.part c.args.listed.now) (sym c.deref-4.ensures.value) c.in_ok-order.ensures)
-    (subst (IsIndicator c.args.listed.now) (sym c.deref-5.ensures.value) c.in_ok-ids.ensures.indicator) q marked outside
+    (subst (IsIndicator c.args.listed.now) (sym c.deref-5.ensures.value) c.indicate.ensures.indicator) q marked outside
+
+pub reset-requires-clause-small : goal.reset-requires-clause-small
+reset-requires-clause-small c = λ q there.
+    let i = marked-inside c.args.part.now.reached q (c.requires.reached q there) in
+    let e = c.requires.long in
+    let m = c.indicate.ensures.many in
+    omega arith

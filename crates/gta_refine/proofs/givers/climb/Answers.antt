@@ -1,12 +1,13 @@
 -- What is above, one after the other.
 use Rattle.std.proofs.Common.{◌≡◌, ◌+◌, ◌<◌, ◌≤◌, ℕ, Bool, false, List, length, map, sym, ◌∙◌, ap, subst, arith}
-use Rattle.std.specs.Prelude.{replicate, slice_index_or}
+use Rattle.std.specs.Prelude.{Contains, slice_index_or}
 use Rattle.std.proofs.lemmas.List.{get_or_default}
 use Rattle.bdd_list.specs.declared.listing.Listed.{Listed}
-use Rattle.bdd_list.specs.declared.listing.Listed.TheVariants.{Leaf}
+use Rattle.bdd_list.specs.declared.listing.Listed.TheVariants.{Leaf, Inner}
 use Rattle.gta_refine.specs.Uses.{above_of}
 use Rattle.gta_refine.specs.Givers.{AddsNodes}
 use Rattle.gta_refine.proofs.ClimbLemmas.{Climbs, Climbs-start, Climbs-step, AreClimbed-all}
+use Rattle.gta_refine.proofs.ScratchLemmas.{IsClear-none}
 use Rattle.gta_refine.proofs.givers.climb.Goals as goal
 
 pub loop-at-init : goal.loop-at-init
@@ -15,15 +16,19 @@ loop-at-init c =
     let states = c.args.states.now in
     let leaves = c.args.parents.now.leaves in
     let above = c.args.parents.now.nodes in
-    subst (λ (list : List Listed). Climbs nodes states leaves above c.in_ok-found.found.items list 0) (sym c.in_ok-list.ensures)
-    (subst (λ (found : List Bool). Climbs nodes states leaves above found (map (λ q. Leaf q) states) 0)
-    (sym (c.in_ok-found.ensures.items_if_clones_equal (λ y h. h))) (Climbs-start nodes states leaves above _))
+    subst (λ (list : List Listed). Climbs nodes states leaves above c.args.found.now.items list 0) (sym c.in_ok-list.ensures)
+    (Climbs-start nodes states leaves above c.args.found.now.items c.requires.clear)
 
-pub returns-then-at-len : goal.returns-then-at-len
-returns-then-at-len c =
+pub returns-then-at-len-clause-climbed : goal.returns-then-at-len-clause-climbed
+returns-then-at-len-clause-climbed c =
     AreClimbed-all c.args.nodes.now c.args.states.now c.args.parents.now.leaves c.args.parents.now.nodes c.requires.ordered c.requires.parents
     c.loop-at.found.items c.loop-at.list.items c.loop-at.at c.loop-at.invariant
     (let t = c.if-at-len.true in let e = c.len.ensures in let o = c.loop-at.list.ok in omega arith) c.requires.states c.requires.nodes
+
+pub returns-then-at-len-clause-clear : goal.returns-then-at-len-clause-clear
+returns-then-at-len-clause-clear c = IsClear-none c.unmark_nodes.new.marks.items (λ i marked.
+    let was = c.unmark_nodes.ensures i marked in
+    was.1 (subst (λ (xs : List Listed). Contains xs (Inner i)) (sym c.deref.ensures.value) (c.loop-at.invariant.marks i was.0)))
 
 pub loop-at-preserved : goal.loop-at-preserved
 loop-at-preserved c =

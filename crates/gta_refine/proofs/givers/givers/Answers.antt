@@ -30,8 +30,8 @@ climb-requires-clause-states c = λ q there.
     let many = (c.requires.uses space c.space-space.ensures).parents_leaves in
     omega arith
 
-pub returns : goal.returns
-returns c =
+pub returns-clause-givers : goal.returns-clause-givers
+returns-clause-givers c =
     let form = c.args.form.now in
     let spaces = c.args.spaces.now in
     let space = c.space-space.result.now in
@@ -45,7 +45,7 @@ returns c =
     subst (λ (part : SpaceClasses). AreMembers part c.args.class states) c.part_of.ensures c.in_ok-states.ensures in
     let climbed : AreClimbed space.listing.nodes states list =
     subst (λ (nodes : List ListedNode). AreClimbed nodes states list) c.as_slice.ensures
-    (subst (λ (xs : List ℕ). AreClimbed c.as_slice.result.now xs list) c.deref.ensures.value c.in_ok-list.ensures) in
+    (subst (λ (xs : List ℕ). AreClimbed c.as_slice.result.now xs list) c.deref.ensures.value c.in_ok-list.ensures.climbed) in
     let roots : c.deref-3.result.now ≡ flat_map (above_of uses.roots.leaves uses.roots.nodes) list =
     c.deref-3.ensures.value ∙ c.in_ok-roots.ensures ∙ ap (flat_map (above_of uses.roots.leaves uses.roots.nodes)) c.deref-2.ensures.value in
     let owners_are : owners ≡ flat_map (list_at (side_of uses side).owners) (flat_map (above_of uses.roots.leaves uses.roots.nodes) list) =
@@ -54,7 +54,7 @@ returns c =
     (c.as_slice-2.ensures ∙ ap (λ (u : SideUses). u.owners) c.side-side_uses.ensures)
     ∙ ap (flat_map (list_at (side_of uses side).owners)) roots in
     let same : (number : ℕ) → Contains once number ↔ Contains owners number = λ number.
-    subst (λ (xs : List ℕ). Contains once number ↔ Contains xs number) c.deref-4.ensures.value (c.in_ok-once.ensures number) in
+    subst (λ (xs : List ℕ). Contains once number ↔ Contains xs number) c.deref-4.ensures.value (c.in_ok-once.ensures.once number) in
     let kinds : c.deref-6.result.now ≡ map (slice_index (kinds_in space side)) once =
     c.deref-6.ensures.value ∙ c.in_ok-owner_kinds.ensures
     ∙ ap (λ (ids : List ℕ). map (slice_index ids) c.deref-5.result.now) c.kinds_of-kinds.ensures

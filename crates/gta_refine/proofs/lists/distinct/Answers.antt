@@ -1,7 +1,9 @@
 -- One number more.
 use Rattle.std.proofs.Common.{◌≡◌, ◌<◌, ℕ, Bool, false, List, length, sym, ◌∙◌, ap, subst, arith}
-use Rattle.std.specs.Prelude.{slice_index, slice_index_or}
+use Rattle.std.specs.Prelude.{Contains, slice_index, slice_index_or}
 use Rattle.gta_refine.proofs.ListsLemmas.{OnceBelow, OnceBelow-same, OnceBelow-seen, OnceBelow-push, Once-all}
+use Rattle.std.proofs.lemmas.Bool.{false≢true}
+use Rattle.gta_refine.proofs.ScratchLemmas.{IsClear-none}
 use Rattle.gta_refine.proofs.lists.distinct.Goals as goal
 use Rattle.gta_refine.proofs.lists.distinct.Goals.{then-not-is_marked+in_ok-push, else-not-is_marked}
 
@@ -25,10 +27,22 @@ loop-number-preserved c =
           ∙ w.if-not-is_marked.false))
     ]
 
-pub returns : goal.returns
-returns c =
+pub loop-number-init : goal.loop-number-init
+loop-number-init c = record {
+  marks = λ number marked. absurd (false≢true (sym (c.requires number) ∙ marked));
+  all = λ k k_in. absurd (omega arith);
+  sound = λ number there. let b = there.1 in let e = ap length c.new-once.ensures.items in absurd (omega arith);
+}
+
+pub returns-clause-once : goal.returns-clause-once
+returns-clause-once c =
     let numbers = c.args.numbers.now in
     let end : c.loop-number.number-index ≡ length numbers =
     (let t = c.loop-number-test.false in let e = c.loop-number.auto.number-index-end in omega arith) in
     Once-all numbers c.loop-number.seen.items c.loop-number.once.items
     (subst (OnceBelow numbers c.loop-number.seen.items c.loop-number.once.items) end c.loop-number.invariant)
+
+pub returns-clause-clear : goal.returns-clause-clear
+returns-clause-clear c = IsClear-none c.unmark_all.new.marks.items (λ i marked.
+    let was = c.unmark_all.ensures i marked in
+    was.1 (subst (λ (xs : List ℕ). Contains xs i) (sym c.deref-2.ensures.value) (c.loop-number.invariant.marks i was.0)))
