@@ -184,6 +184,14 @@ module _ (l : LaidOut) (view : View) (a : Assignment) (first s t : StoreMap) (at
             (c, h c (subst (λ z. IsLive t z) (looks.apart d c p stands also) living) inside, also))),
       )
 
+  abbrev walk_between : Term → Term → Route → Formula
+  walk_between it other along =
+      and_list (suc (suc own)) (value_of_term it (suc (suc own)) own ∷ value_of_term other (suc (suc own)) (suc own)
+      ∷ walk l.types (sight_of l.vars view) along (suc (suc own)) own (suc own) ∷ [])
+
+  abbrev WalksBetween : Term → Term → Route → Position → Position → Type 0
+  WalksBetween it other along p q = TermAt t at e it p × TermAt t at e other q × WalkAt l.types t at DataAndPointers along p q
+
   pub walk-means : (it other : Term) (along : Route) (ty to_ty : TypeId) → TermFits l.types (scope_under l.vars sorts) it (Cell ty) →
       KnowsRoute l.types along → TermFits l.types (scope_under l.vars sorts) other (Cell to_ty) →
       WSat (ex1 own (ex1 (suc own) (and_list (suc (suc own)) (value_of_term it (suc (suc own)) own ∷ value_of_term other (suc (suc own)) (suc own)
@@ -207,15 +215,7 @@ module _ (l : LaidOut) (view : View) (a : Assignment) (first s t : StoreMap) (at
         some.1 (p, (q, ((c, at_p, is), (d, at_q, also_is), (c, d, at_p, at_q, walk_cd))))),
   )
     where
-      abbrev inner : Formula
-      inner =
-          and_list (suc (suc own)) (value_of_term it (suc (suc own)) own ∷ value_of_term other (suc (suc own)) (suc own)
-          ∷ walk l.types sight along (suc (suc own)) own (suc own) ∷ [])
-
-      abbrev Both : Position → Position → Type 0
-      Both p q = TermAt t at e it p × TermAt t at e other q × WalkAt l.types t at DataAndPointers along p q
-
-      each : (p q : Position) → WSat inner (with_position (with_position b own p) (suc own) q) ↔ Both p q
+      each : (p q : Position) → WSat (walk_between it other along) (with_position (with_position b own p) (suc own) q) ↔ WalksBetween it other along p q
       each p q =
           let c = with_position b own p in
           let d = with_position c (suc own) q in
@@ -231,6 +231,6 @@ module _ (l : LaidOut) (view : View) (a : Assignment) (first s t : StoreMap) (at
           (all_walk-means l view a first s t at count wells.shows wells.table wells.well along known d (suc (suc own)) own (suc own) p q
           (agrees-on count own a b d agrees few two) (omega (arith, few)) (omega arith) (omega arith) at_p at_q)
 
-      some : WSat (ex1 own (ex1 (suc own) inner)) b ↔ ((p : Position) × ((q : Position) × Both p q))
-      some = sat-ex1 own (ex1 (suc own) inner) b (λ p. (q : Position) × Both p q)
-          (λ p. sat-ex1 (suc own) inner (with_position b own p) (λ q. Both p q) (each p))
+      some : WSat (ex1 own (ex1 (suc own) (walk_between it other along))) b ↔ ((p : Position) × ((q : Position) × WalksBetween it other along p q))
+      some = sat-ex1 own (ex1 (suc own) (walk_between it other along)) b (λ p. (q : Position) × WalksBetween it other along p q)
+          (λ p. sat-ex1 (suc own) (walk_between it other along) (with_position b own p) (λ q. WalksBetween it other along p q) (each p))

@@ -38,7 +38,7 @@ use Rattle.graph_live.specs.Meaning.{Agrees}
 use Rattle.graph_live.specs.Standing.{Sits}
 use Rattle.graph_live.specs.Fields.{NamesAt}
 use Rattle.graph_live.proofs.AgreeingLemmas.{Agrees-bound, IsOnly-bound, member-agreed, sat-and, sat-not, sat-ex1}
-use Rattle.graph_live.proofs.FieldsLemmas.{names-means, one-cell}
+use Rattle.graph_live.proofs.FieldsLemmas.{names-means}
 use Rattle.graph_live.proofs.SeenLemmas.{seen-sits}
 use Rattle.graph_live.proofs.TellLemmas.{stands-somewhere}
 use Rattle.graph_walks.specs.Wells.{ShowsWell}

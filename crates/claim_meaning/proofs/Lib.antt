@@ -11,3 +11,4 @@ pub mod MeaningLemmas
 pub mod ClaimLemmas
 pub mod PartLemmas
 pub mod EscapeLemmas
+pub mod StateLemmas

@@ -137,6 +137,11 @@ module _ (l : LaidOut) (view : View) (a : Assignment) (first s t : StoreMap) (at
                   both.1 (rest.1 (e, here, lives, is), (named e here lives).1 names_p)),
             )
 
+    -- a cell behind a path stands there, and its field is true
+    abbrev TrueAt : List FieldId → FieldId → Position → Type 0
+    TrueAt fs f q =
+        (c : CellId) × IsAt at c q × IsLive t c × (back t (value.Cell o) fs ≡ value.Cell (Some c)) × (field_value t c f ≡ Some (value.Bool true))
+
     -- a bool field behind a path
     pub true-means : (fs : List FieldId) (f : FieldId) (entry : FieldEntry) → AllByRecursion (IsCellField l.types) fs → field_at l.types f ≡ Some entry →
         entry.kind ≡ field.Bool → WSat (leads_to_true l.types (sight_of l.vars view) u (f ∷ fs) own) b
@@ -153,10 +158,7 @@ module _ (l : LaidOut) (view : View) (a : Assignment) (first s t : StoreMap) (at
           some.1 (q, (c, here, lives, is, held))),
     )
       where
-        abbrev IsSo : Position → Type 0
-        IsSo q = (c : CellId) × IsAt at c q × IsLive t c × (back t (value.Cell o) fs ≡ value.Cell (Some c)) × (field_value t c f ≡ Some (value.Bool true))
-
-        each : (q : Position) → WSat (And (leads_to l.types sight u fs (suc own) own) (is_true l.types sight (suc own) f own)) (with_position b own q) ↔ IsSo q
+        each : (q : Position) → WSat (And (leads_to l.types sight u fs (suc own) own) (is_true l.types sight (suc own) f own)) (with_position b own q) ↔ TrueAt fs f q
         each q =
             let g = with_position b own q in
             let bound = Agrees-bound own b b own q (Agrees-itself own b agrees.finite) (omega arith) in
@@ -170,13 +172,13 @@ module _ (l : LaidOut) (view : View) (a : Assignment) (first s t : StoreMap) (at
                   let k = both.0 h in
                   let (c, here, lives, is) = path.0 k.0 in
                   (c, here, lives, is, (so c here lives).0 k.1)),
-              (λ (h : IsSo q).
+              (λ (h : TrueAt fs f q).
                   let (c, here, lives, is, held) = h in
                   both.1 (path.1 (c, here, lives, is), (so c here lives).1 held)),
             )
 
-        some : WSat (ex1 own (And (leads_to l.types sight u fs (suc own) own) (is_true l.types sight (suc own) f own))) b ↔ ((q : Position) × IsSo q)
-        some = sat-ex1 own (And (leads_to l.types sight u fs (suc own) own) (is_true l.types sight (suc own) f own)) b IsSo each
+        some : WSat (ex1 own (And (leads_to l.types sight u fs (suc own) own) (is_true l.types sight (suc own) f own))) b ↔ ((q : Position) × TrueAt fs f q)
+        some = sat-ex1 own (And (leads_to l.types sight u fs (suc own) own) (is_true l.types sight (suc own) f own)) b (λ q. TrueAt fs f q) each
 
   -- ---- terms
 
@@ -216,53 +218,53 @@ module _ (l : LaidOut) (view : View) (a : Assignment) (first s t : StoreMap) (at
     term-live term.Null c is = none-some c is
     term-live (term.At name fields) c is = (live-cell t (value_along t (terms.base_value t e name) fields) c is).0
 
+    abbrev value_at_name : Base → Value
+    value_at_name name = terms.base_value t e name
+
+    abbrev sym_at_name : Base → Sym
+    sym_at_name name = base_value view.vars own name
+
     pub term-truth-means : (it : Term) → TermFits l.types (scope_under l.vars sorts) it Truth →
         WSat (is_true_term l.types (sight_of l.vars view) view.vars own it) b ↔ IsTrue (truth_at t e it)
     term-truth-means term.Null fits = absurd fits
     term-truth-means (term.At name fields) fits = by (base_sort (scope_under l.vars sorts) name) refl fits
       where
-        abbrev x : Value
-        x = terms.base_value t e name
-
-        abbrev u : Sym
-        u = base_value view.vars own name
-
         -- a name alone
-        alone : NameStands own b at u x Truth → WSat (truth own u) b ↔ IsTrue (truth_in (live_value t x))
+        alone : NameStands own b at (sym_at_name name) (value_at_name name) Truth → WSat (truth own (sym_at_name name)) b ↔ IsTrue (truth_in (live_value t (value_at_name name)))
         alone named =
-            let (k, held) = form-truth x named.form in
-            let means = truth-means own b b own at s u (value.Bool k) (Agrees-itself own b agrees.finite) (omega arith)
-            (subst (λ w. StandsFor b at u w) held named.stands) tt named.below in (
-              (λ h. in-true t x (held ∙ means.0 h)),
-              (λ h. means.1 (sym held ∙ true-in t x h)),
+            let (k, held) = form-truth (value_at_name name) named.form in
+            let means = truth-means own b b own at s (sym_at_name name) (value.Bool k) (Agrees-itself own b agrees.finite) (omega arith)
+            (subst (λ w. StandsFor b at (sym_at_name name) w) held named.stands) tt named.below in (
+              (λ h. in-true t (value_at_name name) (held ∙ means.0 h)),
+              (λ h. means.1 (sym held ∙ true-in t (value_at_name name) h)),
             )
 
-        behind : (start : Sort) → NameStands own b at u x start → EndsInBool l.types start fields →
-            WSat (leads_to_true l.types sight u (reverse fields) own) b ↔ IsTrue (truth_in (live_value t (value_along t x fields)))
+        behind : (start : Sort) → NameStands own b at (sym_at_name name) (value_at_name name) start → EndsInBool l.types start fields →
+            WSat (leads_to_true l.types sight (sym_at_name name) (reverse fields) own) b ↔ IsTrue (truth_in (live_value t (value_along t (value_at_name name) fields)))
         behind start named ends =
-            let (o, held) = form-cell start x ends.cell named.form in
-            let means = true-means own b agrees few u o named.below (subst (λ w. StandsFor b at u w) held named.stands) (reverse ends.before) ends.last ends.entry
+            let (o, held) = form-cell start (value_at_name name) ends.cell named.form in
+            let means = true-means own b agrees few (sym_at_name name) o named.below (subst (λ w. StandsFor b at (sym_at_name name) w) held named.stands) (reverse ends.before) ends.last ends.entry
             (all-reverse (IsCellField l.types) ends.before ends.cells) ends.known ends.is_bool in
             let order : reverse fields ≡ ends.last ∷ reverse ends.before = ap reverse ends.order ∙ reverse-append ends.before (ends.last ∷ []) in
-            let same : field_of_value t (back t (value.Cell o) (reverse ends.before)) ends.last ≡ value_along t x fields =
+            let same : field_of_value t (back t (value.Cell o) (reverse ends.before)) ends.last ≡ value_along t (value_at_name name) fields =
             ap (λ w. field_of_value t w ends.last) (back-reverse t (value.Cell o) ends.before ∙ ap (λ w. value_along t w ends.before) (sym held))
-            ∙ sym (ap (value_along t x) ends.order ∙ along-end t x ends.before ends.last) in (
+            ∙ sym (ap (value_along t (value_at_name name)) ends.order ∙ along-end t (value_at_name name) ends.before ends.last) in (
               (λ h.
-                  in-true t (value_along t x fields)
-                  (sym same ∙ means.0 (subst (λ fs. WSat (leads_to_true l.types sight u fs own) b) order h))),
+                  in-true t (value_along t (value_at_name name) fields)
+                  (sym same ∙ means.0 (subst (λ fs. WSat (leads_to_true l.types sight (sym_at_name name) fs own) b) order h))),
               (λ h.
-                  subst (λ fs. WSat (leads_to_true l.types sight u fs own) b) (sym order)
-                  (means.1 (same ∙ true-in t (value_along t x fields) h))),
+                  subst (λ fs. WSat (leads_to_true l.types sight (sym_at_name name) fs own) b) (sym order)
+                  (means.1 (same ∙ true-in t (value_along t (value_at_name name) fields) h))),
             )
 
         by : (k : Option Sort) → base_sort (scope_under l.vars sorts) name ≡ k → option_and_then (λ start. sort_along l.types start fields) k ≡ Some Truth →
-            WSat (leads_to_true l.types sight u (reverse fields) own) b ↔ IsTrue (truth_in (live_value t (value_along t x fields)))
+            WSat (leads_to_true l.types sight (sym_at_name name) (reverse fields) own) b ↔ IsTrue (truth_in (live_value t (value_along t (value_at_name name) fields)))
         by None is q = none-some Truth q
         by (Some start) is q =
             let named = base-named l view a first s t at count wells.shows own b agrees few sorts e name start bound is in
             elim (truth-along l.types fields start q) as
-            (λ _. WSat (leads_to_true l.types sight u (reverse fields) own) b ↔ IsTrue (truth_in (live_value t (value_along t x fields)))) [
-              | inl end ↦ subst (λ fs. WSat (leads_to_true l.types sight u (reverse fs) own) b ↔ IsTrue (truth_in (live_value t (value_along t x fs)))) (sym end.1)
-                  (alone (subst (λ k. NameStands own b at u x k) end.0 named))
+            (λ _. WSat (leads_to_true l.types sight (sym_at_name name) (reverse fields) own) b ↔ IsTrue (truth_in (live_value t (value_along t (value_at_name name) fields)))) [
+              | inl end ↦ subst (λ fs. WSat (leads_to_true l.types sight (sym_at_name name) (reverse fs) own) b ↔ IsTrue (truth_in (live_value t (value_along t (value_at_name name) fs)))) (sym end.1)
+                  (alone (subst (λ k. NameStands own b at (sym_at_name name) (value_at_name name) k) end.0 named))
               | inr ends ↦ behind start named ends
             ]

@@ -1,5 +1,5 @@
 -- Tracks with the cells of a part: what data fields reach from data variables.
-use Rattle.std.specs.Prelude.{◌≡◌, ◌↔◌, ℕ, ◌<◌, IsTrue, List, Option, Some, Contains, IsSomeAnd}
+use Rattle.std.specs.Prelude.{◌≡◌, ◌↔◌, ◌⊎◌, ℕ, ◌<◌, IsTrue, List, Option, Some, Contains, IsSomeAnd}
 use Rattle.gta_theory.specs.Assignments.{Position, Assignment}
 use Rattle.ws2s_core.specs.declared.track.Track.{Track}
 use Rattle.store_core.specs.declared.ids.CellId.{CellId}
@@ -28,6 +28,17 @@ IsRegionGiven types vars a at s count part region.All = Unit {0}
 IsRegionGiven types vars a at s count part (region.Part roots) = IsSomeAnd part (IsGiven types vars a at s count roots)
 IsRegionGiven types vars a at s count part (region.Rest roots) = IsSomeAnd part (IsGiven types vars a at s count roots)
 
+-- ---- with dead cells
+
+-- one of these variables names the cell, which may be dead
+abbrev pub IsNamedBy : StoreMap → List VarId → CellId → Type 0
+IsNamedBy s roots c = (v : VarId) × Contains roots v × (var_value s v ≡ Some (value.Cell (Some c)))
+
+-- the track has the part, and the dead cells that these variables name
+abbrev pub HasNamedPart : List TypeEntry → List VarEntry → Assignment → Standing → Track → StoreMap → List VarId → Type 0
+HasNamedPart types vars a at x s roots =
+    (p : Position) → IsTrue (a x.0 p) ↔ ((c : CellId) × (IsReachedFrom types vars s roots c ⊎ IsNamedBy s roots c) × IsAt at c p)
+
 -- none of these variables names a dead cell
 abbrev pub NameLive : StoreMap → List VarId → Type 0
-NameLive s roots = (v : VarId) (c : CellId) → Contains roots v → var_value s v ≡ Some (value.Cell (Some c)) → IsLive s c
+NameLive s roots = (c : CellId) → IsNamedBy s roots c → IsLive s c

@@ -1,2 +1,3 @@
 pub mod Bound
 pub mod Given
+pub mod Stating

@@ -2,7 +2,7 @@
 
 ghost use Rattle.std.specs.Prelude.{◌↔◌, ℕ, ◌<◌, ◌≤◌, IsTrue, List, Option, map};
 ghost use Rattle.std.specs.List.{AllByRecursion};
-ghost use Rattle.gta_theory.specs.Assignments.{Assignment};
+ghost use Rattle.gta_theory.specs.Assignments.{Assignment, PositionSet, IsFiniteSet, replace};
 ghost use Rattle.ws2s_core.specs.declared.track.Track.{Track};
 ghost use Rattle.ws2s_core.specs.Satisfaction.{WSat};
 ghost use Rattle.ws2s_forms.specs.Forms.{track};
@@ -17,18 +17,21 @@ ghost use Rattle.store_logic.specs.Fits.{IsKnownDataVar, FitsIn, AssertionFits};
 ghost use Rattle.store_logic.specs.Terms.{Environment, outside, truth_at};
 ghost use Rattle.store_logic.specs.Satisfaction.{SatAll};
 ghost use Rattle.store_exec.specs.declared.triple.Claim.{Claim};
-ghost use Rattle.store_exec.specs.Cuts.{IsMet, Escapes};
+ghost use Rattle.store_exec.specs.Cuts.{IsMet, AreMet, Escapes};
+ghost use Rattle.store_exec.specs.Fits.{ClaimFits};
 ghost use Rattle.tree_encode.specs.Layouts.{LaidOut};
 ghost use Rattle.graph_view.specs.declared.view.View.{View};
 ghost use Rattle.graph_view.specs.Sights.{sight_of};
 ghost use Rattle.graph_view.specs.After.{Standing};
 ghost use Rattle.graph_live.specs.Meaning.{Agrees, MeansHere};
 ghost use Rattle.graph_walks.specs.Wells.{ShowsWell};
-ghost use Rattle.site_view.specs.States.{value_of};
+ghost use Rattle.site_view.specs.States.{State, sight, value_of};
 ghost use Rattle.site_view.specs.Claims.{is_value, is_true_term, assertion, claim};
 ghost use Rattle.site_view.specs.Parts.{is_part, escapes};
+ghost use Rattle.site_view.specs.Cuts.{claims};
 ghost use Rattle.claim_meaning.specs.Bound.{AreBound, TermAt, scope_under};
-ghost use Rattle.claim_meaning.specs.Given.{HasPart, IsGiven, IsRegionGiven, NameLive};
+ghost use Rattle.claim_meaning.specs.Given.{HasPart, IsGiven, IsRegionGiven, HasNamedPart, NameLive};
+ghost use Rattle.claim_meaning.specs.Stating.{view_of};
 
 /// The formula of a term's cell holds exactly where the live cell stands that the term is, and that of a term's truth exactly where
 /// the term is true. Names stand for variables, or for what is on the tracks of quantifiers.
@@ -64,13 +67,21 @@ pub fn claims_are_told()
         WSat (claim l.types (sight_of l.vars view) view.vars part it next) b ↔ IsMet l.types l.vars s it }
 {}
 
-/// The formula of a part holds exactly where the track has what data fields reach from the data variables, none of which names a
-/// dead cell.
+/// The formula of a part holds exactly where the track has what data fields reach from the data variables, and the dead cells that
+/// these name, where they name any. Such a track there always is.
 pub fn parts_are_told()
-    ensures { (l : LaidOut) (view : View) (a b : Assignment) (first s : StoreMap) (at : Standing) (count next x : ℕ) (roots : List VarId) →
-        ShowsWell l view a first s s at count → Agrees count a b → count ≤ next → x < count → AllByRecursion (IsKnownDataVar l.vars) roots →
+    ensures any { (l : LaidOut) (view : View) (a b : Assignment) (first s : StoreMap) (at : Standing) (count next x : ℕ) (roots : List VarId) →
+        ShowsWell l view a first s s at count → Agrees count a b → count ≤ next → x < next → AllByRecursion (IsKnownDataVar l.vars) roots →
+        WSat (is_part l.types (sight_of l.vars view) (map (value_of view.vars) roots) x next) b
+        ↔ HasNamedPart l.types l.vars b at (track x) s roots }
+    ensures live { (l : LaidOut) (view : View) (a b : Assignment) (first s : StoreMap) (at : Standing) (count next x : ℕ) (roots : List VarId) →
+        ShowsWell l view a first s s at count → Agrees count a b → count ≤ next → x < next → AllByRecursion (IsKnownDataVar l.vars) roots →
         NameLive s roots → WSat (is_part l.types (sight_of l.vars view) (map (value_of view.vars) roots) x next) b
-        ↔ HasPart l.types l.vars a at (track x) s roots }
+        ↔ HasPart l.types l.vars b at (track x) s roots }
+    ensures there { (l : LaidOut) (view : View) (a b : Assignment) (first s : StoreMap) (at : Standing) (count next x : ℕ) (roots : List VarId) →
+        ShowsWell l view a first s s at count → Agrees count a b → count ≤ x → x < next → AllByRecursion (IsKnownDataVar l.vars) roots →
+        (set : PositionSet) × IsFiniteSet set
+        × WSat (is_part l.types (sight_of l.vars view) (map (value_of view.vars) roots) x next) (replace b x set) }
 {}
 
 /// Where the track has the part of these data variables, the formula of escapes holds exactly where some pointer variable names a
@@ -79,4 +90,20 @@ pub fn escapes_are_told()
     ensures { (l : LaidOut) (view : View) (a b : Assignment) (first s : StoreMap) (at : Standing) (count next x : ℕ) (roots inside : List VarId) →
         ShowsWell l view a first s s at count → Agrees count a b → count ≤ next → IsGiven l.types l.vars a at s count roots (track x) →
         WSat (escapes l.vars inside view.vars x next) b ↔ Escapes l.types l.vars s roots inside }
+{}
+
+/// What a state of symbolic execution sees: the formula of an assertion, of a list of claims and of a part, read after the state's
+/// events, mean the same of the store.
+pub fn states_are_told()
+    ensures assertions { (l : LaidOut) (st : State) (a b : Assignment) (first s : StoreMap) (at : Standing) (count next : ℕ) (preds : List PredDef)
+        (it : Assertion) → ShowsWell l (view_of l.types l.vars st) a first s s at count → Agrees count a b → count ≤ next →
+        AssertionFits l.types l.vars it → WSat (assertion l.types (sight l.vars st) st.values it next) b ↔ SatAll l.types preds s outside it }
+    ensures claims { (l : LaidOut) (st : State) (a b : Assignment) (first s : StoreMap) (at : Standing) (count next : ℕ) (part : Option Track)
+        (asserts : List Claim) → ShowsWell l (view_of l.types l.vars st) a first s s at count → Agrees count a b → count ≤ next →
+        AllByRecursion (λ (c : Claim). IsRegionGiven l.types l.vars a at s count part c.region) asserts → AllByRecursion (ClaimFits l.types l.vars) asserts →
+        WSat (claims l.types l.vars asserts part st next) b ↔ AreMet l.types l.vars s asserts }
+    ensures parts { (l : LaidOut) (st : State) (a b : Assignment) (first s : StoreMap) (at : Standing) (count next x : ℕ) (roots : List VarId) →
+        ShowsWell l (view_of l.types l.vars st) a first s s at count → Agrees count a b → count ≤ next → x < next →
+        AllByRecursion (IsKnownDataVar l.vars) roots →
+        WSat (is_part l.types (sight l.vars st) (map (value_of st.values) roots) x next) b ↔ HasNamedPart l.types l.vars b at (track x) s roots }
 {}
