@@ -12,3 +12,4 @@ pub mod ClaimLemmas
 pub mod PartLemmas
 pub mod EscapeLemmas
 pub mod StateLemmas
+pub mod StartLemmas

@@ -276,8 +276,7 @@ module _ (l : LaidOut) (view : View) (a : Assignment) (first s : StoreMap) (at :
         λ p. (
           (λ on.
               let (c, here, so) = on-place test at p on in
-              let among = in_number (cells ++ named_by s roots) c so in
-              (
+              let among = in_number (cells ++ named_by s roots) c so in (
                 c,
                 elim (Contains-append_cases cells (named_by s roots) c among) as (λ _. IsReachable c) [
                   | inl inside ↦ inl ((part.members c).0 inside)

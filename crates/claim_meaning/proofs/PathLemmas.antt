@@ -149,23 +149,23 @@ truth-along types (f ∷ fields) start e =
     let cell = starts-cell types start f fields Truth e in
     elim (truth-along types fields (field_sort one.entry.kind) one.rest) as (λ _. ((start ≡ Truth) × (f ∷ fields ≡ [])) ⊎ EndsInBool types start (f ∷ fields)) [
       | inl end ↦ inr (record {
-          before = [];
-          last = f;
-          order = ap (λ fs. f ∷ fs) end.1;
-          cell = cell;
-          cells = tt;
-          entry = one.entry;
-          known = one.known;
-          is_bool = truth-bool one.entry.kind end.0;
-        })
+        before = [];
+        last = f;
+        order = ap (λ fs. f ∷ fs) end.1;
+        cell = cell;
+        cells = tt;
+        entry = one.entry;
+        known = one.known;
+        is_bool = truth-bool one.entry.kind end.0;
+      })
       | inr later ↦ inr (record {
-          before = f ∷ later.before;
-          last = later.last;
-          order = ap (λ fs. f ∷ fs) later.order;
-          cell = cell;
-          cells = (of-some (λ entry. IsFollowed DataAndPointers entry.kind) (field_at types f) one.entry one.known (cell-followed one.entry.kind later.cell), later.cells);
-          entry = later.entry;
-          known = later.known;
-          is_bool = later.is_bool;
-        })
+        before = f ∷ later.before;
+        last = later.last;
+        order = ap (λ fs. f ∷ fs) later.order;
+        cell = cell;
+        cells = (of-some (λ entry. IsFollowed DataAndPointers entry.kind) (field_at types f) one.entry one.known (cell-followed one.entry.kind later.cell), later.cells);
+        entry = later.entry;
+        known = later.known;
+        is_bool = later.is_bool;
+      })
     ]

@@ -55,7 +55,7 @@ module _ (l : LaidOut) (st : State) (a : Assignment) (first s : StoreMap) (at : 
       (part-means l (view_of l.types l.vars st) a first s at count wells roots known b next x agrees few below)
 
   module _ (part : Option Track) where
-    claim-of : Claim → Formula
+    abbrev pub claim-of : Claim → Formula
     claim-of c = claim l.types (sight l.vars st) st.values part c next
 
     one-claim : (c : Claim) → IsRegionGiven l.types l.vars a at s count part c.region → ClaimFits l.types l.vars c →
@@ -64,9 +64,8 @@ module _ (l : LaidOut) (st : State) (a : Assignment) (first s : StoreMap) (at : 
         subst (λ (z : Sight). WSat (claim l.types z st.values part c next) b ↔ IsMet l.types l.vars s c) same-sight
         (region-means l (view_of l.types l.vars st) a first s at count wells b next agrees few c.assertion fits.assertion part c.region given)
 
-    each-claim : (asserts : List Claim) → AllByRecursion (λ c. IsRegionGiven l.types l.vars a at s count part c.region) asserts →
+    pub each-claim : (asserts : List Claim) → AllByRecursion (λ c. IsRegionGiven l.types l.vars a at s count part c.region) asserts →
         AllByRecursion (ClaimFits l.types l.vars) asserts → EachSat b (map claim-of asserts) ↔ AreMet l.types l.vars s asserts
-    unfolding claim-of
     each-claim [] given fits = ((λ h. All-nil (IsMet l.types l.vars s)), (λ h. tt))
     each-claim (c ∷ asserts) given fits =
         let here = one-claim c given.0 fits.0 in
@@ -77,7 +76,6 @@ module _ (l : LaidOut) (st : State) (a : Assignment) (first s : StoreMap) (at : 
 
     pub state-claims : (asserts : List Claim) → AllByRecursion (λ c. IsRegionGiven l.types l.vars a at s count part c.region) asserts →
         AllByRecursion (ClaimFits l.types l.vars) asserts → WSat (claims l.types l.vars asserts part st next) b ↔ AreMet l.types l.vars s asserts
-    unfolding claim-of
     state-claims asserts given fits =
         let all = WSat-and_list b next (map claim-of asserts) in
         let each = each-claim asserts given fits in (

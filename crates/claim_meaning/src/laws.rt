@@ -1,6 +1,6 @@
 //! What the formulas of terms, assertions, claims and parts mean.
 
-ghost use Rattle.std.specs.Prelude.{◌↔◌, ℕ, ◌<◌, ◌≤◌, IsTrue, List, Option, map};
+ghost use Rattle.std.specs.Prelude.{◌↔◌, ℕ, ◌<◌, ◌≤◌, IsTrue, List, Option, IfSome, map};
 ghost use Rattle.std.specs.List.{AllByRecursion};
 ghost use Rattle.gta_theory.specs.Assignments.{Assignment, PositionSet, IsFiniteSet, replace};
 ghost use Rattle.ws2s_core.specs.declared.track.Track.{Track};
@@ -17,9 +17,11 @@ ghost use Rattle.store_logic.specs.Fits.{IsKnownDataVar, FitsIn, AssertionFits};
 ghost use Rattle.store_logic.specs.Terms.{Environment, outside, truth_at};
 ghost use Rattle.store_logic.specs.Satisfaction.{SatAll};
 ghost use Rattle.store_exec.specs.declared.triple.Claim.{Claim};
+ghost use Rattle.store_exec.specs.declared.triple.Start.{Start};
 ghost use Rattle.store_exec.specs.Cuts.{IsMet, AreMet, Escapes};
 ghost use Rattle.store_exec.specs.Fits.{ClaimFits};
 ghost use Rattle.tree_encode.specs.Layouts.{LaidOut};
+ghost use Rattle.tree_encode.specs.Tracks.{track_count};
 ghost use Rattle.graph_view.specs.declared.view.View.{View};
 ghost use Rattle.graph_view.specs.Sights.{sight_of};
 ghost use Rattle.graph_view.specs.After.{Standing};
@@ -29,6 +31,7 @@ ghost use Rattle.site_view.specs.States.{State, sight, value_of};
 ghost use Rattle.site_view.specs.Claims.{is_value, is_true_term, assertion, claim};
 ghost use Rattle.site_view.specs.Parts.{is_part, escapes};
 ghost use Rattle.site_view.specs.Cuts.{claims};
+ghost use Rattle.site_view.specs.Triples.{at_start, returned_part, start_holds};
 ghost use Rattle.claim_meaning.specs.Bound.{AreBound, TermAt, scope_under};
 ghost use Rattle.claim_meaning.specs.Given.{HasPart, IsGiven, IsRegionGiven, HasNamedPart, NameLive};
 ghost use Rattle.claim_meaning.specs.Stating.{view_of};
@@ -106,4 +109,15 @@ pub fn states_are_told()
         ShowsWell l (view_of l.types l.vars st) a first s s at count → Agrees count a b → count ≤ next → x < next →
         AllByRecursion (IsKnownDataVar l.vars) roots →
         WSat (is_part l.types (sight l.vars st) (map (value_of st.values) roots) x next) b ↔ HasNamedPart l.types l.vars b at (track x) s roots }
+{}
+
+/// The formula of a triple's start holds exactly where the claims of the start are met and, after a call, no pointer variable is on
+/// the wrong side of the returned part.
+pub fn starts_are_told()
+    ensures { (l : LaidOut) (a b : Assignment) (first s : StoreMap) (at : Standing) (count next : ℕ) (start : Start) →
+        ShowsWell l (view_of l.types l.vars (at_start l.types l.vars)) a first s s at count → Agrees count a b → count ≤ next →
+        IfSome start.returned (λ roots. IsGiven l.types l.vars a at s count roots (track (track_count l.types l.vars))) →
+        AllByRecursion (λ (c : Claim). IsRegionGiven l.types l.vars a at s count (returned_part l.types l.vars start) c.region) start.asserts →
+        AllByRecursion (ClaimFits l.types l.vars) start.asserts → WSat (start_holds l.types l.vars start next) b
+        ↔ (AreMet l.types l.vars s start.asserts × IfSome start.returned (λ part. Escapes l.types l.vars s part start.inside → ⊥)) }
 {}
