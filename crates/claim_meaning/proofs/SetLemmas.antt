@@ -40,7 +40,7 @@ pub record Covers (at : Standing) (set : PositionSet) (cells : List CellId) : Ty
 module _ (t : StoreMap) (at : Standing) (there : (c : CellId) → IsLive t c → (p : Position) × IsAt at c p)
     (one : (c : CellId) (p q : Position) → IsAt at c p → IsAt at c q → p ≡ q) (apart : (c d : CellId) (p : Position) → IsAt at c p → IsAt at d p → c ≡ d) where
   -- the positions of live cells
-  pub cells-set : (cells : List CellId) → ((c : CellId) → Contains cells c → IsLive t c) → (set : PositionSet) × IsFiniteSet set × Covers at set cells
+  cells-set : (cells : List CellId) → ((c : CellId) → Contains cells c → IsLive t c) → (set : PositionSet) × IsFiniteSet set × Covers at set cells
   cells-set cells live = (
     places_of (λ c. has_number cells c.0) at,
     places-finite (λ c. has_number cells c.0) at,
