@@ -1,5 +1,5 @@
 -- The forms of assertion without parts.
-use Rattle.std.proofs.Common.{◌≡◌, ◌↔◌, ℕ, suc, ◌<◌, ◌≤◌, List, [], ◌∷◌, Option, Some, None, Contains, refl, sym, ap, ◌∙◌, subst, arith}
+use Rattle.std.proofs.Common.{◌≡◌, ◌↔◌, ℕ, suc, ◌≤◌, List, [], ◌∷◌, Option, Some, None, Contains, refl, sym, ap, ◌∙◌, subst, arith}
 use Rattle.std.specs.Prelude.{IsSomeAnd}
 use Rattle.gta_theory.specs.Assignments.{Position, Assignment}
 use Rattle.ws2s_core.specs.declared.formula.Formula.{Formula}
@@ -14,7 +14,7 @@ use Rattle.store_core.specs.declared.kind.Route.{Route}
 use Rattle.store_core.specs.declared.value.Value.{Value}
 use Rattle.store_core.specs.declared.value.Value.TheVariants as value
 use Rattle.store_core.specs.Tables.{KnowsVariant, KnowsRoute}
-use Rattle.store_core.specs.Stores.{StoreMap, IsLive, cell_of}
+use Rattle.store_core.specs.Stores.{StoreMap, IsLive}
 use Rattle.store_core.proofs.FittingLemmas.{IsSomeAnd-at}
 use Rattle.routing_expr.specs.Walks.{DataAndPointers, IsOfVariant, Walk}
 use Rattle.store_logic.specs.declared.term.Base.{Base}
@@ -31,7 +31,7 @@ use Rattle.graph_view.specs.Syms.{is_in}
 use Rattle.graph_view.specs.Sights.{Sight, sight_of}
 use Rattle.graph_view.specs.Live.{lives, is_live}
 use Rattle.graph_view.specs.Routes.{walk}
-use Rattle.graph_view.specs.After.{Standing, IsAt, StandsFor, IsSymBelow}
+use Rattle.graph_view.specs.After.{Standing, IsAt}
 use Rattle.graph_live.specs.Meaning.{Agrees, MeansHere}
 use Rattle.graph_live.specs.Standing.{LiveAt, VariantAt}
 use Rattle.graph_live.proofs.AgreeingLemmas.{Agrees-itself, Agrees-bound, IsOnly-bound, IsOnly-still, member-agreed, sat-ex1, sat-three}
@@ -39,10 +39,9 @@ use Rattle.graph_walks.specs.Walking.{WalkAt}
 use Rattle.graph_walks.specs.Wells.{ShowsWell}
 use Rattle.graph_walks.proofs.GroundLemmas.{IsGround}
 use Rattle.graph_walks.proofs.SeenLemmas.{ground, all_walk-means}
-use Rattle.routing_expr.proofs.LiveLemmas.{IsSome-and}
 use Rattle.site_view.specs.Claims.{base_value, is_value}
-use Rattle.claim_meaning.specs.Bound.{scope_under, HasForm, AreBound, TermAt}
-use Rattle.claim_meaning.proofs.BoundLemmas.{none-some, agrees-on, here-later, NameStands, base-named}
+use Rattle.claim_meaning.specs.Bound.{scope_under, AreBound, TermAt}
+use Rattle.claim_meaning.proofs.BoundLemmas.{agrees-on, here-later, NameStands, base-named}
 use Rattle.claim_meaning.proofs.HereLemmas.{and-here, imp-here, iff-here, some-here, each-here}
 use Rattle.claim_meaning.proofs.TermLemmas.{value-means, term-live}
 

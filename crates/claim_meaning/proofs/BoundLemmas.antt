@@ -22,13 +22,12 @@ use Rattle.tree_encode.specs.Layouts.{LaidOut}
 use Rattle.graph_view.specs.declared.view.Sym.{Sym}
 use Rattle.graph_view.specs.declared.view.Sym.TheVariants.{Null, At}
 use Rattle.graph_view.specs.declared.view.View.{View}
-use Rattle.graph_view.specs.After.{Standing, IsAt, StandsFor, StandsForCells, IsRead, IsSymBelow}
+use Rattle.graph_view.specs.After.{Standing, StandsFor, IsRead, IsSymBelow}
 use Rattle.graph_live.specs.Meaning.{Agrees, MeansHere}
 use Rattle.graph_live.specs.Showing.{Shows}
-use Rattle.graph_cuts.proofs.ValuesLemmas.{IsHeld, var-held}
-use Rattle.site_view.specs.States.{value_of}
+use Rattle.graph_cuts.proofs.ValuesLemmas.{var-held}
 use Rattle.site_view.specs.Claims.{base_value}
-use Rattle.claim_meaning.specs.Bound.{scope_under, HasForm, IsBoundAt, AreBound}
+use Rattle.claim_meaning.specs.Bound.{scope_under, HasForm, AreBound}
 
 -- ---- options
 

@@ -1,7 +1,6 @@
 -- The formula of pointer variables on the wrong side of a part.
-use Rattle.std.proofs.Common.{◌≡◌, ◌↔◌, ◌⊎◌, inl, inr, ℕ, suc, ◌<◌, ◌≤◌, ◌==◌, Bool, true, false, cond, IsTrue, IsSomeAnd, List, [], ◌∷◌, flat_map, length, unwrap_or, Option, Some, None, Contains, refl, sym, ap, ◌∙◌, subst, arith, nat_eq}
+use Rattle.std.proofs.Common.{◌≡◌, ◌↔◌, ◌⊎◌, inl, inr, ℕ, suc, ◌≤◌, Bool, true, false, cond, IsTrue, List, [], ◌∷◌, flat_map, length, unwrap_or, Option, Some, Contains, refl, sym, ap, ◌∙◌, subst, arith, nat_eq}
 use Rattle.std.specs.List.{list_any}
-use Rattle.std.specs.Option.{option_map_or}
 use Rattle.std.proofs.lemmas.Bool.{false≢true, or_left, or_right, or_cases}
 use Rattle.std.proofs.lemmas.Bool.Decides.{nat_tests}
 use Rattle.std.proofs.lemmas.Option.{slice_get_within}
@@ -10,7 +9,7 @@ use Rattle.gta_theory.proofs.ListsLemmas.{Contains-first, Contains-later, Contai
 use Rattle.ws2s_core.specs.declared.formula.Formula.{Formula}
 use Rattle.ws2s_core.specs.declared.formula.Formula.TheVariants.{Sub, And, Not}
 use Rattle.ws2s_core.specs.Satisfaction.{WSat}
-use Rattle.ws2s_forms.specs.Forms.{track, ex1}
+use Rattle.ws2s_forms.specs.Forms.{track}
 use Rattle.ws2s_forms.specs.Places.{with_position}
 use Rattle.ws2s_forms.proofs.LawsLemmas.{law-or_list}
 use Rattle.store_core.specs.declared.ids.CellId.{CellId}
@@ -24,12 +23,11 @@ use Rattle.store_core.specs.Stores.{StoreMap, VarFits, var_value}
 use Rattle.store_core.proofs.FittingLemmas.{IsSomeAnd-at}
 use Rattle.routing_expr.specs.Regions.{IsReachedFrom}
 use Rattle.routing_laws.proofs.DecidedLemmas.{in_none}
-use Rattle.store_exec.specs.Cuts.{IsPointerVar, PointsTo, Escapes}
+use Rattle.store_exec.specs.Cuts.{IsPointerVar, Escapes}
 use Rattle.tree_encode.specs.Layouts.{LaidOut}
 use Rattle.tree_formula.specs.WellEncoded.{var_id, vars_in}
-use Rattle.tree_meaning.proofs.ListsLemmas.{Contains-named, flat_map-inside, Contains-one, cond-inside, listed-inside, Contains-listed}
+use Rattle.tree_meaning.proofs.ListsLemmas.{Contains-named, flat_map-inside, cond-inside, listed-inside, Contains-listed}
 use Rattle.tree_store.proofs.SpotsLemmas.{of-some}
-use Rattle.graph_view.specs.declared.view.Sym.{Sym}
 use Rattle.graph_view.specs.declared.view.Sym.TheVariants.{Null}
 use Rattle.graph_view.specs.declared.view.View.{View}
 use Rattle.graph_view.specs.Syms.{is_in}

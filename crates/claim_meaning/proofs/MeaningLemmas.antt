@@ -1,9 +1,8 @@
 -- All assertions, form by form.
-use Rattle.std.proofs.Common.{◌≡◌, ◌↔◌, ◌⊎◌, ℕ, suc, ◌≤◌, IsTrue, List, [], ◌∷◌, refl, sym, ap, subst, arith}
-use Rattle.gta_theory.specs.Assignments.{Position, Assignment}
+use Rattle.std.proofs.Common.{◌≡◌, ◌↔◌, ℕ, suc, ◌≤◌, List, [], ◌∷◌, sym, subst, arith}
+use Rattle.gta_theory.specs.Assignments.{Assignment}
 use Rattle.ws2s_core.specs.Satisfaction.{WSat}
 use Rattle.ws2s_forms.proofs.ConnectivesLemmas.{WSat-false, WSat-true}
-use Rattle.store_core.specs.declared.ids.CellId.{CellId}
 use Rattle.store_core.specs.declared.ids.TypeId.{TypeId}
 use Rattle.store_core.specs.declared.value.Value.{Value}
 use Rattle.store_core.specs.Stores.{StoreMap}
@@ -18,7 +17,7 @@ use Rattle.store_logic.proofs.AssertionLemmas.{IsHereditary, assertion-induction
 use Rattle.store_logic.proofs.HoldsLemmas.{Holds-True, Holds-False, Holds-Truth, Holds-Is, Holds-Same, Holds-Member, Holds-Subset, Holds-Walk, Holds-Not, Holds-And, Holds-Or, Holds-Imp, Holds-Iff, Holds-Ex, Holds-All, Holds-ExSet, Holds-AllSet}
 use Rattle.tree_encode.specs.Layouts.{LaidOut}
 use Rattle.graph_view.specs.declared.view.View.{View}
-use Rattle.graph_view.specs.Sights.{Sight, sight_of}
+use Rattle.graph_view.specs.Sights.{sight_of}
 use Rattle.graph_view.specs.After.{Standing}
 use Rattle.graph_live.specs.Meaning.{Agrees}
 use Rattle.graph_live.proofs.AgreeingLemmas.{sat-and, sat-not, sat-or}

@@ -1,12 +1,11 @@
 -- The formula of a part: the least set that has the roots and that no data field leaves.
-use Rattle.std.proofs.Common.{◌≡◌, ◌↔◌, ◌⊎◌, inl, inr, ℕ, suc, ◌<◌, ◌≤◌, Bool, IsTrue, IsSomeAnd, List, [], ◌∷◌, ◌++◌, flat_map, map, slice_get, unwrap_or, Option, Some, None, Contains, refl, sym, ap, ◌∙◌, subst, arith}
+use Rattle.std.proofs.Common.{◌≡◌, ◌↔◌, ◌⊎◌, inl, inr, ℕ, suc, ◌<◌, ◌≤◌, IsTrue, IsSomeAnd, List, [], ◌∷◌, ◌++◌, flat_map, map, unwrap_or, Option, Some, None, Contains, refl, sym, ap, ◌∙◌, subst, arith}
 use Rattle.std.proofs.lemmas.Bool.{false≢true}
 use Rattle.std.proofs.lemmas.List.Elements.{Contains-append_left, Contains-append_right, Contains-append_cases}
 use Rattle.std.specs.List.{AllByRecursion}
-use Rattle.gta_theory.specs.Assignments.{Position, PositionSet, Assignment, IsFiniteSet, IsOnly, replace}
+use Rattle.gta_theory.specs.Assignments.{Position, PositionSet, Assignment, IsFiniteSet, replace}
 use Rattle.gta_theory.proofs.AssignmentsLemmas.{replace-same, replace-other}
 use Rattle.gta_theory.proofs.ListsLemmas.{Contains-first, Contains-later, Contains-cases}
-use Rattle.ws2s_core.specs.declared.formula.Formula.{Formula}
 use Rattle.ws2s_core.specs.declared.formula.Formula.TheVariants.{Sub, Not}
 use Rattle.ws2s_core.specs.Satisfaction.{WSat}
 use Rattle.ws2s_core.proofs.SatisfactionLemmas.{WSat-And, WSat-Sub}
@@ -20,10 +19,10 @@ use Rattle.store_core.specs.declared.kind.VarKind.{VarKind}
 use Rattle.store_core.specs.declared.kind.VarKind.TheVariants as var
 use Rattle.store_core.specs.declared.value.Value.{Value}
 use Rattle.store_core.specs.declared.value.Value.TheVariants as value
-use Rattle.store_core.specs.Tables.{VarEntry, var_at}
+use Rattle.store_core.specs.Tables.{var_at}
 use Rattle.store_core.specs.Stores.{StoreMap, IsLive, VarFits, var_value}
 use Rattle.store_core.proofs.FittingLemmas.{IsSomeAnd-at}
-use Rattle.routing_expr.specs.Walks.{IsParent, Chain, stay}
+use Rattle.routing_expr.specs.Walks.{IsParent, stay}
 use Rattle.routing_expr.specs.WellFormed.{IsDataVar}
 use Rattle.routing_expr.specs.Regions.{IsReachedFrom, has_number}
 use Rattle.routing_expr.proofs.LiveLemmas.{IsParent-live}
@@ -37,7 +36,7 @@ use Rattle.tree_meaning.proofs.ListsLemmas.{Contains-one}
 use Rattle.graph_view.specs.declared.view.Sym.{Sym}
 use Rattle.graph_view.specs.declared.view.Sym.TheVariants.{Null, At}
 use Rattle.graph_view.specs.declared.view.View.{View}
-use Rattle.graph_view.specs.Sights.{Sight, sight_of}
+use Rattle.graph_view.specs.Sights.{sight_of}
 use Rattle.graph_view.specs.Routes.{edge, is_left}
 use Rattle.graph_view.specs.Cuts.{has_value, closes}
 use Rattle.graph_view.specs.After.{Standing, IsAt, StandsFor, StandsForCell, IsSymBelow}

@@ -17,7 +17,7 @@ use Rattle.store_core.proofs.Growing.{AllByRecursion-push}
 use Rattle.routing_expr.specs.Walks.{DataAndPointers, IsFollowed}
 use Rattle.store_logic.specs.Sorts.{Sort, Truth, Cell, Set, IsCellSort, field_sort, sort_along}
 use Rattle.store_logic.specs.Terms.{null, field_of_value, value_along, live_value, cell_in, truth_in}
-use Rattle.store_exec.proofs.SortLemmas.{FirstField, first-field}
+use Rattle.store_exec.proofs.SortLemmas.{first-field}
 use Rattle.tree_store.proofs.SpotsLemmas.{of-some}
 use Rattle.claim_meaning.proofs.BoundLemmas.{some-same, none-some}
 

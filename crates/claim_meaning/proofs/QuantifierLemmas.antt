@@ -1,5 +1,5 @@
 -- Quantifiers of assertions, over cells and over sets of cells of a type.
-use Rattle.std.proofs.Common.{◌≡◌, ◌↔◌, ℕ, suc, ◌<◌, ◌≤◌, Bool, IsTrue, List, Option, Some, Contains, refl, sym, ap, ◌∙◌, subst, arith}
+use Rattle.std.proofs.Common.{◌≡◌, ◌↔◌, ℕ, suc, ◌≤◌, IsTrue, List, Some, sym, ◌∙◌, subst, arith}
 use Rattle.gta_theory.specs.Assignments.{Position, PositionSet, Assignment, IsFiniteSet, replace}
 use Rattle.gta_theory.proofs.AssignmentsLemmas.{replace-same, replace-other}
 use Rattle.ws2s_core.specs.declared.formula.Formula.{Formula}
@@ -33,7 +33,6 @@ use Rattle.graph_walks.proofs.GroundLemmas.{IsGround}
 use Rattle.graph_walks.proofs.SeenLemmas.{ground}
 use Rattle.site_view.specs.Claims.{ex_set}
 use Rattle.claim_meaning.specs.Bound.{HasForm}
-use Rattle.claim_meaning.proofs.BoundLemmas.{agrees-on}
 use Rattle.claim_meaning.proofs.SetLemmas.{Covers, set-cells, set-of-cells, covered-typed}
 
 module _ (l : LaidOut) (view : View) (a : Assignment) (first s t : StoreMap) (at : Standing) (count : ℕ) (wells : ShowsWell l view a first s t at count)

@@ -1,5 +1,5 @@
 -- A route that fits knows its types and variants.
-use Rattle.std.proofs.Common.{◌≡◌, ℕ, Bool, IsTrue, List, length, sym, ap, refl, ◌∙◌}
+use Rattle.std.proofs.Common.{◌≡◌, Bool, IsTrue, List, length, sym, ap, refl, ◌∙◌}
 use mathlib.Core.Path.{transport}
 use Rattle.std.proofs.lemmas.Bool.{lt-ltb, and_from}
 use Rattle.store_core.specs.declared.kind.Route.{Route, roll-Route}

@@ -1,5 +1,5 @@
 -- Finite sets of positions of cells, and sets of cells.
-use Rattle.std.proofs.Common.{◌≡◌, ◌↔◌, ◌⊎◌, inl, inr, ℕ, Bool, true, false, IsTrue, List, [], ◌∷◌, Contains, refl, sym, ap, ◌∙◌, subst}
+use Rattle.std.proofs.Common.{◌≡◌, ◌↔◌, inl, inr, Bool, true, false, IsTrue, List, [], ◌∷◌, Contains, refl, sym, ◌∙◌, subst}
 use Rattle.std.proofs.lemmas.Bool.{false≢true}
 use Rattle.std.specs.Prelude.{is_some}
 use Rattle.std.specs.List.{AllByRecursion}
@@ -10,7 +10,6 @@ use Rattle.store_core.specs.declared.ids.TypeId.{TypeId}
 use Rattle.store_core.specs.Stores.{StoreMap, IsLive, cell_of}
 use Rattle.routing_expr.specs.Walks.{IsOfType}
 use Rattle.routing_expr.specs.Regions.{has_number}
-use Rattle.routing_expr.specs.Searches.{Lists}
 use Rattle.routing_expr.proofs.LiveLemmas.{IsSome-and}
 use Rattle.routing_laws.specs.Deciding.{Decided}
 use Rattle.routing_laws.proofs.DecidedWalks.{listed}

@@ -1,11 +1,9 @@
 -- The formulas of paths and of terms.
-use Rattle.std.proofs.Common.{◌≡◌, ◌↔◌, inl, inr, ℕ, suc, ◌<◌, ◌≤◌, Bool, true, IsTrue, List, [], ◌∷◌, ◌++◌, reverse, unwrap_or, Option, Some, None, refl, sym, ap, ◌∙◌, subst, arith}
-use Rattle.std.specs.Prelude.{IsSomeAnd}
+use Rattle.std.proofs.Common.{◌≡◌, ◌↔◌, inl, inr, ℕ, suc, ◌≤◌, true, IsTrue, List, [], ◌∷◌, reverse, unwrap_or, Option, Some, None, refl, sym, ap, ◌∙◌, subst, arith}
 use Rattle.std.specs.List.{AllByRecursion}
 use Rattle.std.specs.Option.{option_and_then}
 use Rattle.std.proofs.lemmas.List.{reverse-append}
-use Rattle.gta_theory.specs.Assignments.{Position, Assignment, IsOnly}
-use Rattle.ws2s_core.specs.declared.formula.Formula.{Formula}
+use Rattle.gta_theory.specs.Assignments.{Position, Assignment}
 use Rattle.ws2s_core.specs.declared.formula.Formula.TheVariants.{And}
 use Rattle.ws2s_core.specs.Satisfaction.{WSat}
 use Rattle.ws2s_core.proofs.SatisfactionLemmas.{WSat-And}
@@ -26,7 +24,7 @@ use Rattle.routing_expr.proofs.LiveLemmas.{IsLive-field_value}
 use Rattle.store_logic.specs.declared.term.Base.{Base}
 use Rattle.store_logic.specs.declared.term.Term.{Term}
 use Rattle.store_logic.specs.declared.term.Term.TheVariants as term
-use Rattle.store_logic.specs.Sorts.{Sort, Truth, Cell, IsCellSort, TermFits, base_sort, sort_along}
+use Rattle.store_logic.specs.Sorts.{Sort, Truth, Cell, TermFits, base_sort, sort_along}
 use Rattle.store_logic.specs.Terms as terms
 use Rattle.store_logic.specs.Terms.{Environment, null, field_of_value, value_along, live_value, cell_in, truth_in, cell_at, truth_at}
 use Rattle.tree_encode.specs.Layouts.{LaidOut}
@@ -48,8 +46,8 @@ use Rattle.graph_walks.specs.Wells.{ShowsWell}
 use Rattle.graph_walks.proofs.GroundLemmas.{IsGround}
 use Rattle.graph_walks.proofs.SeenLemmas.{ground, names-told}
 use Rattle.site_view.specs.Claims.{base_value, leads_to, is_value, leads_to_true, is_true_term}
-use Rattle.claim_meaning.specs.Bound.{scope_under, HasForm, AreBound, TermAt}
-use Rattle.claim_meaning.proofs.BoundLemmas.{some-same, none-some, agrees-on, NameStands, base-named, form-cell, form-truth}
+use Rattle.claim_meaning.specs.Bound.{scope_under, AreBound, TermAt}
+use Rattle.claim_meaning.proofs.BoundLemmas.{none-some, agrees-on, NameStands, base-named, form-cell, form-truth}
 use Rattle.claim_meaning.proofs.PathLemmas.{back, back-reverse, along-end, all-reverse, field-from, null-cell, null-true, live-cell, cell-live, true-in, in-true, IsCellField, cells-along, EndsInBool, truth-along}
 
 -- the value is a live cell that stands there

@@ -1,7 +1,8 @@
 -- Tracks with the cells of a part: what data fields reach from data variables.
-use Rattle.std.specs.Prelude.{◌≡◌, ◌↔◌, ◌⊎◌, ℕ, ◌<◌, IsTrue, List, Option, Some, Contains, IsSomeAnd}
+use Rattle.std.specs.Prelude.{◌≡◌, ◌↔◌, ◌⊎◌, ℕ, ◌<◌, IsTrue, List, Option, Some, Contains, IsSomeAnd, IfSome}
 use Rattle.gta_theory.specs.Assignments.{Position, Assignment}
 use Rattle.ws2s_core.specs.declared.track.Track.{Track}
+use Rattle.ws2s_forms.specs.Forms.{track}
 use Rattle.store_core.specs.declared.ids.CellId.{CellId}
 use Rattle.store_core.specs.declared.ids.VarId.{VarId}
 use Rattle.store_core.specs.declared.value.Value.TheVariants as value
@@ -27,6 +28,16 @@ abbrev pub IsRegionGiven : List TypeEntry → List VarEntry → Assignment → S
 IsRegionGiven types vars a at s count part region.All = Unit {0}
 IsRegionGiven types vars a at s count part (region.Part roots) = IsSomeAnd part (IsGiven types vars a at s count roots)
 IsRegionGiven types vars a at s count part (region.Rest roots) = IsSomeAnd part (IsGiven types vars a at s count roots)
+
+-- the region is all cells, the part of these variables, or its rest
+abbrev pub IsRegionOf : Option (List VarId) → Region → Type 0
+IsRegionOf named region.All = Unit {0}
+IsRegionOf named (region.Part roots) = named ≡ Some roots
+IsRegionOf named (region.Rest roots) = named ≡ Some roots
+
+-- where a part is named, the track with this number is given
+abbrev pub IsPartGiven : List TypeEntry → List VarEntry → Assignment → Standing → StoreMap → ℕ → ℕ → Option (List VarId) → Type 0
+IsPartGiven types vars a at s count x named = IfSome named (λ roots. IsGiven types vars a at s count roots (track x))
 
 -- ---- with dead cells
 

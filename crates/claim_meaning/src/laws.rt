@@ -1,6 +1,6 @@
 //! What the formulas of terms, assertions, claims and parts mean.
 
-ghost use Rattle.std.specs.Prelude.{◌↔◌, ℕ, ◌<◌, ◌≤◌, IsTrue, List, Option, IfSome, map};
+ghost use Rattle.std.specs.Prelude.{◌↔◌, ℕ, ◌<◌, ◌≤◌, IsTrue, List, Option, IfSome, map, option_map};
 ghost use Rattle.std.specs.List.{AllByRecursion};
 ghost use Rattle.gta_theory.specs.Assignments.{Assignment, PositionSet, IsFiniteSet, replace};
 ghost use Rattle.ws2s_core.specs.declared.track.Track.{Track};
@@ -31,9 +31,9 @@ ghost use Rattle.site_view.specs.States.{State, sight, value_of};
 ghost use Rattle.site_view.specs.Claims.{is_value, is_true_term, assertion, claim};
 ghost use Rattle.site_view.specs.Parts.{is_part, escapes};
 ghost use Rattle.site_view.specs.Cuts.{claims};
-ghost use Rattle.site_view.specs.Triples.{at_start, returned_part, start_holds};
+ghost use Rattle.site_view.specs.Triples.{at_start, start_holds};
 ghost use Rattle.claim_meaning.specs.Bound.{AreBound, TermAt, scope_under};
-ghost use Rattle.claim_meaning.specs.Given.{HasPart, IsGiven, IsRegionGiven, HasNamedPart, NameLive};
+ghost use Rattle.claim_meaning.specs.Given.{HasPart, IsGiven, IsRegionGiven, IsRegionOf, IsPartGiven, HasNamedPart, NameLive};
 ghost use Rattle.claim_meaning.specs.Stating.{view_of};
 
 /// The formula of a term's cell holds exactly where the live cell stands that the term is, and that of a term's truth exactly where
@@ -95,16 +95,17 @@ pub fn escapes_are_told()
         WSat (escapes l.vars inside view.vars x next) b ↔ Escapes l.types l.vars s roots inside }
 {}
 
-/// What a state of symbolic execution sees: the formula of an assertion, of a list of claims and of a part, read after the state's
-/// events, mean the same of the store.
+/// What a state of symbolic execution sees: the formulas of an assertion, of claims on all cells or on one part and its rest, and of
+/// a part, read after the state's events, mean the same of the store.
 pub fn states_are_told()
     ensures assertions { (l : LaidOut) (st : State) (a b : Assignment) (first s : StoreMap) (at : Standing) (count next : ℕ) (preds : List PredDef)
         (it : Assertion) → ShowsWell l (view_of l.types l.vars st) a first s s at count → Agrees count a b → count ≤ next →
         AssertionFits l.types l.vars it → WSat (assertion l.types (sight l.vars st) st.values it next) b ↔ SatAll l.types preds s outside it }
-    ensures claims { (l : LaidOut) (st : State) (a b : Assignment) (first s : StoreMap) (at : Standing) (count next : ℕ) (part : Option Track)
-        (asserts : List Claim) → ShowsWell l (view_of l.types l.vars st) a first s s at count → Agrees count a b → count ≤ next →
-        AllByRecursion (λ (c : Claim). IsRegionGiven l.types l.vars a at s count part c.region) asserts → AllByRecursion (ClaimFits l.types l.vars) asserts →
-        WSat (claims l.types l.vars asserts part st next) b ↔ AreMet l.types l.vars s asserts }
+    ensures claims { (l : LaidOut) (st : State) (a b : Assignment) (first s : StoreMap) (at : Standing) (count next x : ℕ)
+        (named : Option (List VarId)) (asserts : List Claim) → ShowsWell l (view_of l.types l.vars st) a first s s at count → Agrees count a b →
+        count ≤ next → IsPartGiven l.types l.vars a at s count x named → AllByRecursion (λ (c : Claim). IsRegionOf named c.region) asserts →
+        AllByRecursion (ClaimFits l.types l.vars) asserts →
+        WSat (claims l.types l.vars asserts (option_map (λ (roots : List VarId). track x) named) st next) b ↔ AreMet l.types l.vars s asserts }
     ensures parts { (l : LaidOut) (st : State) (a b : Assignment) (first s : StoreMap) (at : Standing) (count next x : ℕ) (roots : List VarId) →
         ShowsWell l (view_of l.types l.vars st) a first s s at count → Agrees count a b → count ≤ next → x < next →
         AllByRecursion (IsKnownDataVar l.vars) roots →
@@ -116,8 +117,8 @@ pub fn states_are_told()
 pub fn starts_are_told()
     ensures { (l : LaidOut) (a b : Assignment) (first s : StoreMap) (at : Standing) (count next : ℕ) (start : Start) →
         ShowsWell l (view_of l.types l.vars (at_start l.types l.vars)) a first s s at count → Agrees count a b → count ≤ next →
-        IfSome start.returned (λ roots. IsGiven l.types l.vars a at s count roots (track (track_count l.types l.vars))) →
-        AllByRecursion (λ (c : Claim). IsRegionGiven l.types l.vars a at s count (returned_part l.types l.vars start) c.region) start.asserts →
+        IsPartGiven l.types l.vars a at s count (track_count l.types l.vars) start.returned →
+        AllByRecursion (λ (c : Claim). IsRegionOf start.returned c.region) start.asserts →
         AllByRecursion (ClaimFits l.types l.vars) start.asserts → WSat (start_holds l.types l.vars start next) b
         ↔ (AreMet l.types l.vars s start.asserts × IfSome start.returned (λ part. Escapes l.types l.vars s part start.inside → ⊥)) }
 {}
