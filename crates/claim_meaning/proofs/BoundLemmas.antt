@@ -1,5 +1,8 @@
 -- What stands for the names at a place of an assertion.
 use Rattle.std.proofs.Common.{◌≡◌, ℕ, zero, suc, ◌-◌, ◌<◌, ◌≤◌, Bool, true, false, IsTrue, List, [], ◌∷◌, slice_get, unwrap_or, option_map, Option, Some, None, refl, sym, ap, ◌∙◌, subst, arith}
+use Rattle.std.specs.Prelude.{IfSome}
+use Rattle.std.proofs.lemmas.List.Elements.{All-contains}
+use Rattle.std.proofs.lemmas.Option.{slice_get_within}
 use Rattle.gta_theory.specs.Assignments.{Position, PositionSet, Assignment, IsOnly}
 use Rattle.ws2s_core.specs.declared.formula.Formula.{Formula}
 use Rattle.ws2s_core.specs.declared.track.Track.{Track}
@@ -13,19 +16,23 @@ use Rattle.store_core.specs.declared.value.Value.{Value}
 use Rattle.store_core.specs.declared.value.Value.TheVariants as value
 use Rattle.store_core.specs.Tables.{TypeEntry, VarEntry, var_at}
 use Rattle.store_core.specs.Stores.{StoreMap, VarFits, var_value}
+use Rattle.store_core.proofs.FittingLemmas.{IfSome-at}
+use Rattle.routing_laws.proofs.DecidedLemmas.{in_at}
 use Rattle.store_logic.specs.declared.term.Base.{Base}
 use Rattle.store_logic.specs.declared.term.Base.TheVariants as base
 use Rattle.store_logic.specs.Sorts.{Sort, Truth, Cell, Set, IsCellSort, BaseFits, var_sort}
 use Rattle.store_logic.specs.Terms as terms
 use Rattle.store_logic.specs.Terms.{Environment, null}
+use Rattle.store_exec.proofs.SortLemmas.{held_at}
 use Rattle.tree_encode.specs.Layouts.{LaidOut}
+use Rattle.tree_store.proofs.SpotsLemmas.{present}
 use Rattle.graph_view.specs.declared.view.Sym.{Sym}
 use Rattle.graph_view.specs.declared.view.Sym.TheVariants.{Null, At}
 use Rattle.graph_view.specs.declared.view.View.{View}
 use Rattle.graph_view.specs.After.{Standing, StandsFor, IsRead, IsSymBelow}
 use Rattle.graph_live.specs.Meaning.{Agrees, MeansHere}
 use Rattle.graph_live.specs.Showing.{Shows}
-use Rattle.graph_cuts.proofs.ValuesLemmas.{var-held}
+use Rattle.site_view.specs.States.{value_of}
 use Rattle.site_view.specs.Claims.{base_value}
 use Rattle.claim_meaning.specs.Bound.{scope_under, HasForm, AreBound}
 
@@ -127,6 +134,14 @@ form-of_var s var.LogicBool (value.Bool truth) fits = tt
 form-of_var s var.LogicBool (value.Cell c) fits = absurd fits
 form-of_var s var.LogicBool (value.Cells cells) fits = absurd fits
 
+-- what a variable of the kind holds, and what stands for it
+pub record IsHeld (view : View) (a : Assignment) (s : StoreMap) (at : Standing) (count : ℕ) (v : VarId) (kind : VarKind) : Type 0 where
+  pub held : Value
+  pub holds : var_value s v ≡ Some held
+  pub fits : VarFits s kind held
+  pub stands : StandsFor a at (value_of view.vars v) held
+  pub under : IsSymBelow count (value_of view.vars v)
+
 -- what is read of a store has its variables
 pub read-vars : (types : List TypeEntry) (a : Assignment) (at : Standing) (region : Option (Track × Bool)) (s t : StoreMap) → IsRead types a at region s t →
     t.vars ≡ s.vars
@@ -138,18 +153,33 @@ module _ (l : LaidOut) (view : View) (a : Assignment) (first s t : StoreMap) (at
   pub read-value : (v : VarId) → var_value t v ≡ var_value s v
   read-value v = ap (λ xs. slice_get xs v.0) (read-vars l.types a at view.region s t shows.read)
 
+  pub var-held : (v : VarId) (entry : VarEntry) → var_at l.vars v ≡ Some entry → IsHeld view a s at count v entry.kind
+  var-held v entry there =
+      let it = held_at s l.vars s.vars v.0 entry shows.seen.fits.values there in
+      let inside = slice_get_within s.vars v.0 it.held it.at in
+      let (u, is) = present view.vars v.0 (omega (arith, inside, shows.seen.count)) in
+      let same : u ≡ value_of view.vars v = sym (ap (λ o. unwrap_or o Null) is) in
+      record {
+        held = it.held;
+        holds = it.at;
+        fits = it.fits;
+        stands = subst (λ w. StandsFor a at w it.held) same
+            (IfSome-at (var_value s v) (StandsFor a at u) it.held it.at
+            (IfSome-at (slice_get view.vars v.0) (λ w. IfSome (var_value s v) (StandsFor a at w)) u is (shows.seen.values v)));
+        under = subst (λ w. IsSymBelow count w) same (All-contains (IsSymBelow count) view.vars u shows.free.vars (in_at view.vars v.0 u is));
+      }
+
   module _ (own : ℕ) (b : Assignment) (agrees : Agrees count a b) (few : count ≤ own) where
     pub var-named : (e : Environment) (v : VarId) (entry : VarEntry) → var_at l.vars v ≡ Some entry →
         NameStands own b at (base_value view.vars own (base.Var v)) (terms.base_value t e (base.Var v)) (var_sort entry.kind)
     var-named e v entry there =
-        let held = var-held l view a first s t at count shows v entry there in
-        let value_is : held.held ≡ terms.base_value t e (base.Var v) = sym (ap (λ o. unwrap_or o null) (read-value v ∙ held.holds)) in
-        let sym_is : held.sym_of ≡ base_value view.vars own (base.Var v) = sym (ap (λ o. unwrap_or o Null) held.is) in
-        let stands = stands-later count a b at agrees held.sym_of held.held held.under held.stands in
+        let it = var-held v entry there in
+        let value_is : it.held ≡ terms.base_value t e (base.Var v) = sym (ap (λ o. unwrap_or o null) (read-value v ∙ it.holds)) in
         record {
-          form = subst (λ x. HasForm (var_sort entry.kind) x) value_is (form-of_var s entry.kind held.held held.fits);
-          below = subst (λ u. IsSymBelow own u) sym_is (below-later count own held.sym_of few held.under);
-          stands = subst (λ u. StandsFor b at u (terms.base_value t e (base.Var v))) sym_is (subst (λ x. StandsFor b at held.sym_of x) value_is stands);
+          form = subst (λ x. HasForm (var_sort entry.kind) x) value_is (form-of_var s entry.kind it.held it.fits);
+          below = below-later count own (value_of view.vars v) few it.under;
+          stands = subst (λ x. StandsFor b at (value_of view.vars v) x) value_is
+              (stands-later count a b at agrees (value_of view.vars v) it.held it.under it.stands);
         }
 
     -- each name that fits

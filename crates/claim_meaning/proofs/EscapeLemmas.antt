@@ -1,5 +1,5 @@
 -- The formula of pointer variables on the wrong side of a part.
-use Rattle.std.proofs.Common.{◌≡◌, ◌↔◌, ◌⊎◌, inl, inr, ℕ, suc, ◌≤◌, Bool, true, false, cond, IsTrue, List, [], ◌∷◌, flat_map, length, unwrap_or, Option, Some, Contains, refl, sym, ap, ◌∙◌, subst, arith, nat_eq}
+use Rattle.std.proofs.Common.{◌≡◌, ◌↔◌, ◌⊎◌, inl, inr, ℕ, suc, ◌≤◌, Bool, true, false, cond, IsTrue, List, [], ◌∷◌, flat_map, length, Option, Some, Contains, refl, sym, ap, ◌∙◌, subst, arith, nat_eq}
 use Rattle.std.specs.List.{list_any}
 use Rattle.std.proofs.lemmas.Bool.{false≢true, or_left, or_right, or_cases}
 use Rattle.std.proofs.lemmas.Bool.Decides.{nat_tests}
@@ -28,10 +28,9 @@ use Rattle.tree_encode.specs.Layouts.{LaidOut}
 use Rattle.tree_formula.specs.WellEncoded.{var_id, vars_in}
 use Rattle.tree_meaning.proofs.ListsLemmas.{Contains-named, flat_map-inside, cond-inside, listed-inside, Contains-listed}
 use Rattle.tree_store.proofs.SpotsLemmas.{of-some}
-use Rattle.graph_view.specs.declared.view.Sym.TheVariants.{Null}
 use Rattle.graph_view.specs.declared.view.View.{View}
 use Rattle.graph_view.specs.Syms.{is_in}
-use Rattle.graph_view.specs.After.{Standing, IsAt, StandsFor, StandsForCell, IsSymBelow}
+use Rattle.graph_view.specs.After.{Standing, IsAt, StandsFor, StandsForCell}
 use Rattle.graph_live.specs.Meaning.{Agrees}
 use Rattle.graph_live.specs.Standing.{Sits}
 use Rattle.graph_live.specs.Fields.{NamesAt}
@@ -40,10 +39,10 @@ use Rattle.graph_live.proofs.FieldsLemmas.{names-means}
 use Rattle.graph_live.proofs.SeenLemmas.{seen-sits}
 use Rattle.graph_live.proofs.TellLemmas.{stands-somewhere}
 use Rattle.graph_walks.specs.Wells.{ShowsWell}
-use Rattle.graph_cuts.proofs.ValuesLemmas.{var-held}
 use Rattle.site_view.specs.States.{value_of}
 use Rattle.site_view.specs.Parts.{is_pointer, is_var, is_astray, astray_of, escapes}
 use Rattle.claim_meaning.specs.Given.{IsGiven}
+use Rattle.claim_meaning.proofs.BoundLemmas.{var-held}
 
 -- ---- variables of a list
 
@@ -142,15 +141,13 @@ module _ (l : LaidOut) (view : View) (a : Assignment) (first s : StoreMap) (at :
       WSat (is_astray inside view.vars x next v) b ↔ ((c : CellId) × (var_value s v ≡ Some (value.Cell (Some c))) × IsWrongSide v c)
   unfolding side
   astray-means v entry there pointer =
-      let held = var-held l view a first s s at count wells.shows v entry there in
-      let (o, value_is) = pointer-cell s entry.kind held.held pointer held.fits in
-      let sym_is : held.sym_of ≡ value_of view.vars v = sym (ap (λ z. unwrap_or z Null) held.is) in
-      let stands = subst (λ u. StandsForCell a at u o) sym_is (subst (λ z. StandsFor a at held.sym_of z) value_is held.stands) in
-      let under = subst (λ u. IsSymBelow count u) sym_is held.under in
-      let holds : var_value s v ≡ Some (value.Cell o) = held.holds ∙ ap (λ z. Some z) value_is in
+      let it = var-held l view a first s s at count wells.shows v entry there in
+      let (o, value_is) = pointer-cell s entry.kind it.held pointer it.fits in
+      let stands = subst (λ z. StandsFor a at (value_of view.vars v) z) value_is it.stands in
+      let holds : var_value s v ≡ Some (value.Cell o) = it.holds ∙ ap (λ z. Some z) value_is in
       let named : (p : Position) → WSat (is_in (suc next) next (value_of view.vars v)) (with_position b next p) ↔ NamesAt at (value.Cell o) p = λ p.
       names-means count a (with_position b next p) (suc next) next p at s (value_of view.vars v) o sits (Agrees-bound count a b next p agrees few)
-      (IsOnly-bound b next p) stands under in
+      (IsOnly-bound b next p) stands it.under in
       let some = sat-ex1 next (And (is_in (suc next) next (value_of view.vars v)) (side v next)) b
       (λ p. NamesAt at (value.Cell o) p × WSat (side v next) (with_position b next p)) (λ p.
       sat-and (is_in (suc next) next (value_of view.vars v)) (side v next) (with_position b next p) (NamesAt at (value.Cell o) p)

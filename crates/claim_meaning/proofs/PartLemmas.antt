@@ -1,5 +1,5 @@
 -- The formula of a part: the least set that has the roots and that no data field leaves.
-use Rattle.std.proofs.Common.{◌≡◌, ◌↔◌, ◌⊎◌, inl, inr, ℕ, suc, ◌<◌, ◌≤◌, IsTrue, IsSomeAnd, List, [], ◌∷◌, ◌++◌, flat_map, map, unwrap_or, Option, Some, None, Contains, refl, sym, ap, ◌∙◌, subst, arith}
+use Rattle.std.proofs.Common.{◌≡◌, ◌↔◌, ◌⊎◌, inl, inr, ℕ, suc, ◌<◌, ◌≤◌, IsTrue, IsSomeAnd, List, [], ◌∷◌, ◌++◌, flat_map, map, Option, Some, None, Contains, refl, sym, ap, ◌∙◌, subst, arith}
 use Rattle.std.proofs.lemmas.Bool.{false≢true}
 use Rattle.std.proofs.lemmas.List.Elements.{Contains-append_left, Contains-append_right, Contains-append_cases}
 use Rattle.std.specs.List.{AllByRecursion}
@@ -50,10 +50,10 @@ use Rattle.graph_walks.proofs.ClosingLemmas.{IsClosed, left-means}
 use Rattle.graph_walks.proofs.ChainLemmas.{chain-linked}
 use Rattle.graph_walks.proofs.GroundLemmas.{IsGround, edge-means}
 use Rattle.graph_walks.proofs.SeenLemmas.{ground, by_data}
-use Rattle.graph_cuts.proofs.ValuesLemmas.{var-held}
 use Rattle.site_view.specs.States.{value_of}
 use Rattle.site_view.specs.Parts.{is_part}
 use Rattle.claim_meaning.specs.Given.{HasPart, IsNamedBy, HasNamedPart, NameLive}
+use Rattle.claim_meaning.proofs.BoundLemmas.{var-held}
 use Rattle.claim_meaning.proofs.SetLemmas.{all-in}
 
 -- the set has what is on the value's track
@@ -145,15 +145,14 @@ module _ (l : LaidOut) (view : View) (a : Assignment) (first s : StoreMap) (at :
   root-held v listed =
       let is_data = all-in (IsKnownDataVar l.vars) roots v known listed in
       let (entry, there, data_kind) = IsSomeAnd-at (var_at l.vars v) (λ e. IsDataVar e.kind) is_data in
-      let held = var-held l view a first s s at count wells.shows v entry there in
-      let (o, value_is) = data-cell s entry.kind held.held data_kind held.fits in
-      let sym_is : held.sym_of ≡ value_of view.vars v = sym (ap (λ z. unwrap_or z Null) held.is) in
+      let it = var-held l view a first s s at count wells.shows v entry there in
+      let (o, value_is) = data-cell s entry.kind it.held data_kind it.fits in
       record {
         is_data = is_data;
         cell = o;
-        holds = held.holds ∙ ap (λ z. Some z) value_is;
-        stands = subst (λ u. StandsForCell a at u o) sym_is (subst (λ z. StandsFor a at held.sym_of z) value_is held.stands);
-        under = subst (λ u. IsSymBelow count u) sym_is held.under;
+        holds = it.holds ∙ ap (λ z. Some z) value_is;
+        stands = subst (λ z. StandsFor a at (value_of view.vars v) z) value_is it.stands;
+        under = it.under;
       }
 
   -- the set has the roots
