@@ -1,0 +1,15 @@
+pub mod BoundLemmas
+pub mod HereLemmas
+pub mod PathLemmas
+pub mod TermLemmas
+pub mod AtomLemmas
+pub mod SetLemmas
+pub mod QuantifierLemmas
+pub mod FittingForms
+pub mod RouteForms
+pub mod MeaningLemmas
+pub mod ClaimLemmas
+pub mod PartLemmas
+pub mod EscapeLemmas
+pub mod StateLemmas
+pub mod StartLemmas
