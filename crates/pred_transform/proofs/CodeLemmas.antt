@@ -1,0 +1,144 @@
+-- The walk over a code, part by part.
+use Rattle.std.proofs.Common.{◌≡◌, ℕ, suc, ◌+◌, Bool, true, false, List, [], ◌∷◌, ◌++◌, length, map, drop, slice_get, Option, Some, None}
+use Rattle.std.proofs.Common.{refl, sym, ap, ap₂, ◌∙◌, subst, arith, length-append, if◌then◌else◌}
+use Rattle.std.specs.Option.{option_map_or}
+use Rattle.store_core.specs.Tables.{TypeEntry, VarEntry}
+use Rattle.store_logic.specs.declared.act.Act.{Act}
+use Rattle.store_logic.specs.declared.cond.Cond.{Cond}
+use Rattle.store_exec.specs.declared.code.Item.{Item}
+use Rattle.store_exec.specs.declared.code.Item.TheVariants as item_is
+use Rattle.store_exec.specs.declared.code.Item.TheVariants.{rolls-Do, rolls-If}
+use Rattle.store_exec.specs.declared.code.Item.TheOpen.{Item-F}
+use Rattle.store_exec.specs.declared.code.Item.TheFolds.{fold-roll-Item}
+use Rattle.store_exec.specs.declared.code.Code.{Code, roll-out-Code, out-Code}
+use Rattle.store_exec.specs.declared.code.Tail.{Tail}
+use Rattle.store_exec.specs.declared.code.Tail.TheVariants as tail_is
+use Rattle.store_exec.specs.declared.code.Tail.TheVariants.{rolls-Cut, rolls-Branch}
+use Rattle.store_exec.specs.declared.code.Tail.TheOpen.{Tail-F}
+use Rattle.store_exec.specs.declared.code.Tail.TheFolds.{fold-Tail, fold-roll-Tail, fold-roll-Code}
+use Rattle.store_exec.specs.declared.triple.Cut.{Cut}
+use Rattle.ws2s_core.specs.declared.track.Track.{Track}
+use Rattle.ws2s_core.specs.declared.formula.Formula.{Formula}
+use Rattle.ws2s_core.specs.declared.formula.Formula.TheVariants.{And, Not}
+use Rattle.ws2s_forms.specs.Forms.{track}
+use Rattle.tree_encode.specs.Tracks.{track_count}
+use Rattle.graph_view.specs.declared.view.Sym.{Sym}
+use Rattle.graph_view.specs.declared.view.Event.{Event}
+use Rattle.site_view.specs.States.{Text, State, guard, both, fails, define, next_track, is_truth_of}
+use Rattle.site_view.specs.Conditions.{condition}
+use Rattle.site_view.specs.Acts.{act_rule, made_truth}
+use Rattle.site_view.specs.Cuts.{arrived}
+use Rattle.site_view.specs.Codes as codes
+use Rattle.site_view.specs.Codes.{Going, in_order, with_ways, on_way, merged, with_merged, plain_if, items, branch, item_rule, tail_rule, code_rule, code}
+use Rattle.pred_transform.specs.declared.walker.Walker.{Walker}
+use Rattle.pred_transform.specs.declared.codes.Fork.{Fork}
+use Rattle.pred_transform.specs.Shown.{shown, with_guard, with_values, with_events, Leads}
+use Rattle.pred_transform.specs.Forks.{IsFork}
+
+module _ (types : List TypeEntry) (vars : List VarEntry) where
+  -- ---- two ways
+
+  next-more : (text : Text) (s : State) → next_track types vars (define text s) ≡ suc (next_track types vars s)
+  next-more text s = ap (λ (n : ℕ). track_count types vars + n) (length-append s.defined (text ∷ [])) ∙ one (track_count types vars) (length s.defined)
+    where
+      one : (n k : ℕ) → n + (k + 1) ≡ suc (n + k)
+      one n k = omega arith
+
+  pub ways-made : (next wanted : ℕ) (text : Text) (s : State) (w1 : Walker) (here holds taken other : Formula) →
+      holds ≡ text next → here ≡ guard s next → taken ≡ And here holds → other ≡ And here (Not holds) →
+      ((t : Text) → taken ≡ t next → w1 ≡ shown next wanted ((made_truth types vars (t, s)).1)) →
+      (w2 : Walker) → ((t : Text) (u : State) → other ≡ t next → w1 ≡ shown next wanted u → w2 ≡ shown next wanted ((made_truth types vars (t, u)).1)) →
+      w2 ≡ shown next wanted (with_ways types vars text s)
+  ways-made next wanted text s w1 here holds taken other told at one two first w2 second =
+      let u : State = define (is_truth_of (both (guard s) text) (next_track types vars s)) s in
+      let e1 : w1 ≡ shown next wanted u = first (both (guard s) text) (one ∙ ap₂ And at told) in
+      second (both (guard s) (fails text)) u (two ∙ ap₂ (λ (h f : Formula). And h (Not f)) at told) e1
+      ∙ ap (λ (n : ℕ). shown next wanted (define (is_truth_of (both (guard s) (fails text)) n) u))
+      (next-more (is_truth_of (both (guard s) text) (next_track types vars s)) s)
+
+  -- ---- an `if` without a cut
+
+  -- the rest of an `if` from what is kept of its fork
+  abbrev joined : ℕ → List Sym → Option Track → State → Going → State → State
+  joined h values before b other first =
+      let z : State = other (on_way (suc h) (record first { values = values })) in
+      with_merged (merged types vars h first.values z.values (record z { guard = before }))
+
+  pub if-joined : (next wanted : ℕ) (taken other : Going) (text : Text) (s b : State) (fork : Fork) (w2 w3 w4 w5 : Walker) (first : List Sym) →
+      b ≡ with_ways types vars text s →
+      IsFork fork b (next_track types vars s) →
+      w2 ≡ shown next wanted (taken (on_way fork.way.0 b)) → first ≡ w2.view.vars →
+      w3 ≡ with_guard (Some (track (suc fork.way.0))) (with_values fork.values w2) →
+      ((u : State) → w3 ≡ shown next wanted u → w4 ≡ shown next wanted (other u)) →
+      ((u : State) → w4 ≡ shown next wanted u →
+      w5 ≡ shown next wanted (with_merged (merged types vars fork.way.0 first u.values (record u { guard = fork.guard })))) →
+      w5 ≡ shown next wanted (plain_if types vars taken other (text, s))
+  if-joined next wanted taken other text s b fork w2 w3 w4 w5 first was kept one firsts turned two joins =
+      let a : State = taken (on_way fork.way.0 b) in
+      let z : State = other (on_way (suc fork.way.0) (record a { values = fork.values })) in
+      let e3 : w3 ≡ shown next wanted (on_way (suc fork.way.0) (record a { values = fork.values })) =
+      turned ∙ ap (λ (w : Walker). with_guard (Some (track (suc fork.way.0))) (with_values fork.values w)) one in
+      joins z (two (on_way (suc fork.way.0) (record a { values = fork.values })) e3)
+      ∙ ap (λ (us : List Sym). shown next wanted (with_merged (merged types vars fork.way.0 us z.values (record z { guard = fork.guard }))))
+      (firsts ∙ ap (λ (w : Walker). w.view.vars) one)
+      ∙ ap (λ (t : Track). shown next wanted (joined t.0 fork.values fork.guard b other (taken (on_way t.0 b)))) kept.way
+      ∙ ap (λ (us : List Sym). shown next wanted (joined h us fork.guard b other (taken (on_way h b)))) kept.values
+      ∙ ap (λ (o : Option Track). shown next wanted (joined h b.values o b other (taken (on_way h b)))) kept.guard
+      ∙ ap (λ (c : State). shown next wanted (joined h c.values c.guard c other (taken (on_way h c)))) was
+    where
+      h : ℕ
+      h = next_track types vars s
+
+  -- ---- items
+
+  pub item-Do : (line : ℕ) (a : Act) (i : Item) (s : State) → i ≡ item_is.Do line a → codes.item types vars i s ≡ act_rule types vars line a s
+  item-Do line a i s is = ap (λ (i : Item). codes.item types vars i s) (is ∙ sym (rolls-Do line a))
+      ∙ ap (λ (go : Going). go s) (fold-roll-Item Going (item_rule types vars) (Item-F.Do line a))
+
+  in_order-items : (xs : List Item) (s : State) → in_order (map (codes.item types vars) xs) s ≡ items types vars xs s
+  in_order-items [] s = refl
+  in_order-items (x ∷ xs) s = in_order-items xs (codes.item types vars x s)
+
+  pub item-If : (line : ℕ) (c : Cond) (taken other : List Item) (i : Item) (s : State) → i ≡ item_is.If line c taken other →
+      codes.item types vars i s
+      ≡ plain_if types vars (in_order (map (codes.item types vars) taken)) (in_order (map (codes.item types vars) other))
+      (condition types vars line c (guard s) s)
+  item-If line c taken other i s is = ap (λ (i : Item). codes.item types vars i s) (is ∙ sym (rolls-If line c taken other))
+      ∙ ap (λ (go : Going). go s) (fold-roll-Item Going (item_rule types vars) (Item-F.If line c taken other))
+
+  pub items-in_order : (xs : List Item) (s : State) → items types vars xs s ≡ in_order (map (codes.item types vars) xs) s
+  items-in_order xs s = sym (in_order-items xs s)
+
+  items-last : (xs : List Item) (x : Item) (s : State) → items types vars (xs ++ x ∷ []) s ≡ codes.item types vars x (items types vars xs s)
+  items-last [] x s = refl
+  items-last (y ∷ xs) x s = items-last xs x (codes.item types vars y s)
+
+  -- ---- codes
+
+  module _ (cuts : List Cut) where
+    abbrev tail_goes : Tail → Going
+    tail_goes = fold-Tail Going Going (tail_rule types vars cuts) (code_rule types vars)
+
+    code-goes : (c : Code) (s : State) → code types vars cuts c s ≡ tail_goes c.tail (items types vars c.items s)
+    code-goes c s = ap (λ (d : Code). code types vars cuts d s) (sym (roll-out-Code c))
+        ∙ ap (λ (go : Going). go s) (fold-roll-Code Going Going (tail_rule types vars cuts) (code_rule types vars) (out-Code c))
+
+    pub code-Cut : (c : Code) (place : ℕ) (s : State) → c.tail ≡ tail_is.Cut place →
+        code types vars cuts c s
+        ≡ option_map_or (λ cut. arrived types vars cut (items types vars c.items s)) (slice_get cuts place) (items types vars c.items s)
+    code-Cut c place s is = code-goes c s ∙ ap (λ (t : Tail). tail_goes t (items types vars c.items s)) (is ∙ sym (rolls-Cut place))
+        ∙ ap (λ (go : Going). go (items types vars c.items s))
+        (fold-roll-Tail Going Going (tail_rule types vars cuts) (code_rule types vars) (Tail-F.Cut place))
+
+    pub code-Branch : (c : Code) (line : ℕ) (b : Cond) (taken other : Code) (s : State) → c.tail ≡ tail_is.Branch line b taken other →
+        code types vars cuts c s
+        ≡ branch types vars (code types vars cuts taken) (code types vars cuts other)
+        (condition types vars line b (guard (items types vars c.items s)) (items types vars c.items s))
+    code-Branch c line b taken other s is = code-goes c s
+        ∙ ap (λ (t : Tail). tail_goes t (items types vars c.items s)) (is ∙ sym (rolls-Branch line b taken other))
+        ∙ ap (λ (go : Going). go (items types vars c.items s))
+        (fold-roll-Tail Going Going (tail_rule types vars cuts) (code_rule types vars) (Tail-F.Branch line b taken other))
+
+  -- the other code of a branch, from what is kept of its fork
+  abbrev other_goes : ℕ → List Sym → List Event → Going → State → State
+  other_goes h values events other first = other (on_way (suc h) (record first { values = values; events = events }))
