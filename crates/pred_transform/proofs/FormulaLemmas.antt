@@ -76,15 +76,15 @@ module _ (types : List TypeEntry) (vars : List VarEntry) (start : Start) where
       p2 ≡ p1 ++ a ∷ [] → p3 ≡ p2 ++ b ∷ [] →
       p3 ≡ well_encoded next types vars ∷ (emptied next start.nulls
       ++ bind (track_count types vars) (reverse defined) (start_holds types vars start next) ∷ bind (track_count types vars) (reverse defined) place ∷ [])
-  site-parts defined next place tree holds a b nulls f1 f2 p1 p2 p3 treed nulled one held first as second bs two three =
+  site-parts defined next place tree holds a b nulls f1 f2 p1 p2 p3 treed nulled one held first bound second others two three =
       parts-placed tree a b (emptied next nulls) p1 p2 p3 one two three
       ∙ ap (λ (f : Formula). f ∷ (emptied next nulls ++ a ∷ b ∷ [])) treed
       ∙ ap (λ vs. well_encoded next types vars ∷ (emptied next vs ++ a ∷ b ∷ [])) nulled
       ∙ ap (λ (f : Formula). well_encoded next types vars ∷ (emptied next start.nulls ++ f ∷ b ∷ []))
-      (as ∙ ap (λ (n : ℕ). bind n (reverse defined) holds) first ∙ ap (bind (track_count types vars) (reverse defined)) held)
+      (bound ∙ ap (λ (n : ℕ). bind n (reverse defined) holds) first ∙ ap (bind (track_count types vars) (reverse defined)) held)
       ∙ ap (λ (f : Formula). well_encoded next types vars
       ∷ (emptied next start.nulls ++ bind (track_count types vars) (reverse defined) (start_holds types vars start next) ∷ f ∷ []))
-      (bs ∙ ap (λ (n : ℕ). bind n (reverse defined) place) second)
+      (others ∙ ap (λ (n : ℕ). bind n (reverse defined) place) second)
 
 module _ (types : List TypeEntry) (vars : List VarEntry) (t : Triple) where
   -- the first walk tells where quantifiers begin
