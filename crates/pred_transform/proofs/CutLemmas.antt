@@ -29,14 +29,16 @@ module _ (types : List TypeEntry) (vars : List VarEntry) (next wanted : ℕ) whe
       definition ≡ is_part types (sight_of vars w0.view) values own.0 w0.view.next → w1 ≡ defining definition w0 →
       (own ≡ track (next_track types vars s)) × (w1 ≡ shown next wanted (with_part types vars roots s))
   part-made s w0 w1 roots values definition own is owned valued defines made =
-      let number : own ≡ track (next_track types vars s) = own-shown types vars next wanted s w0 own is owned in
-      (number, made ∙ defining-shown next wanted s w0 (is_part types (sight vars s) (map (value_of s.values) roots) (next_track types vars s)) definition
-      (defines
-      ∙ ap (λ (us : List Sym). is_part types (sight_of vars w0.view) us own.0 w0.view.next) valued
-      ∙ ap (λ (w : Walker). is_part types (sight_of vars w.view) (map (value_of w.view.vars) roots) own.0 w.view.next) is
-      ∙ ap (λ seen. is_part types seen (map (value_of s.values) roots) own.0 next) (sight-shown vars next wanted s)
-      ∙ ap (λ (t : Track). is_part types (sight vars s) (map (value_of s.values) roots) t.0 next) number)
-      is)
+      let number : own ≡ track (next_track types vars s) = own-shown types vars next wanted s w0 own is owned in (
+        number,
+        made ∙ defining-shown next wanted s w0 (is_part types (sight vars s) (map (value_of s.values) roots) (next_track types vars s)) definition
+            (defines
+            ∙ ap (λ (us : List Sym). is_part types (sight_of vars w0.view) us own.0 w0.view.next) valued
+            ∙ ap (λ (w : Walker). is_part types (sight_of vars w.view) (map (value_of w.view.vars) roots) own.0 w.view.next) is
+            ∙ ap (λ seen. is_part types seen (map (value_of s.values) roots) own.0 next) (sight-shown vars next wanted s)
+            ∙ ap (λ (t : Track). is_part types (sight vars s) (map (value_of s.values) roots) t.0 next) number)
+            is,
+      )
 
   module _ (line : ℕ) (reached : Formula) where
     store-checked : (why : Cause) (what : CutCheck) (s : State) (w0 w1 : Walker) → reached ≡ guard s next → w0 ≡ shown next wanted s →

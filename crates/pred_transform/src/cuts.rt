@@ -145,12 +145,7 @@ fn arrive_at_call(
 }
 
 /// Arrives at a cut that isn't at a call.
-fn arrive_alone(
-    alloc: Global,
-    l: &Layout<'_>,
-    w: &mut Walker,
-    cut: &Cut,
-) -> Result<(), AllocError>
+fn arrive_alone(alloc: Global, l: &Layout<'_>, w: &mut Walker, cut: &Cut) -> Result<(), AllocError>
     ensures { OnOk result (Leads w.old w.new
         (λ s. cuts.check_claims l.now.types l.now.vars cut.now None (cuts.check_stores l.now.types l.now.vars cut.now.line s))) }
 {

@@ -57,12 +57,7 @@ fn first_view(alloc: Global, l: &Layout<'_>, next: u32) -> Result<View, AllocErr
 }
 
 /// A walk before all code.
-fn at_start(
-    alloc: Global,
-    l: &Layout<'_>,
-    next: u32,
-    wanted: u32,
-) -> Result<Walker, AllocError>
+fn at_start(alloc: Global, l: &Layout<'_>, next: u32, wanted: u32) -> Result<Walker, AllocError>
     ensures { IfOk result (λ w. w ≡ shown next wanted (triples.at_start l.now.types l.now.vars)) }
 {
     Ok(Walker {
