@@ -92,7 +92,7 @@ module _ (types : List TypeEntry) (vars : List VarEntry) (t : Triple) where
       next ≡ first_bound types vars (walked types vars t)
   first-told site next first is told =
       told ∙ ap (λ (n : ℕ). track_count types vars + n)
-      (ap (λ (w : Walker). length w.defined) is ∙ length-map (λ (text : Text). text 0) (walked types vars t).defined)
+      (ap (λ (w : Walker). length w.defined) is ∙ length-map (walked types vars t).defined (λ (text : Text). text 0))
 
   -- from a place that was found, or not
   placed : (next : ℕ) (s : State) (place : Formula) (o : Option Check) → option_map (place_formula next) o ≡ Some place →

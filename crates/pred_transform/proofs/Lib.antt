@@ -3,6 +3,7 @@ pub mod PlaceLemmas
 pub mod ReadingLemmas
 pub mod ConditionLemmas
 pub mod ActLemmas
+pub mod ClaimLemmas
 pub mod CutLemmas
 pub mod CodeLemmas
 pub mod MergeLemmas

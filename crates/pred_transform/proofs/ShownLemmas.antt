@@ -90,7 +90,7 @@ step-checked vars next wanted line why text s old new reached says reaches is ma
 pub own-shown : (types : List TypeEntry) (vars : List VarEntry) (next wanted : ℕ) (s : State) (w : Walker) (own : Track) → w ≡ shown next wanted s →
     own ≡ track (track_count types vars + length w.defined) → own ≡ track (next_track types vars s)
 own-shown types vars next wanted s w own is owned =
-    owned ∙ ap (λ (n : ℕ). track (track_count types vars + n)) (ap (λ (v : Walker). length v.defined) is ∙ length-map (λ (t : Text). t next) s.defined)
+    owned ∙ ap (λ (n : ℕ). track (track_count types vars + n)) (ap (λ (v : Walker). length v.defined) is ∙ length-map s.defined (λ (t : Text). t next))
 
 pub make-made : (types : List TypeEntry) (vars : List VarEntry) (next wanted : ℕ) (s : State) (old new : Walker) (text : ℕ → Text) (own : Track)
     (definition : Formula) → old ≡ shown next wanted s → own ≡ track (track_count types vars + length old.defined) →
