@@ -59,6 +59,7 @@ module _ (types : List TypeEntry) (vars : List VarEntry) (next wanted : ℕ) whe
       (defines ∙ ap₂ (λ (n k : ℕ). slot n k own.0) (ap (λ (w : Walker). w.view.next) is)
       (counted ∙ ap (λ (w : Walker). var_slots vars + w.news) is))
       made
+
   -- a field is written
   pub field-written : (line : ℕ) (s : State) (w0 w1 w2 : Walker) (u value : Sym) (f : FieldId) → w0 ≡ shown next wanted s →
       w1 ≡ shown next wanted (check_access types vars line (guard s) f u s) → w2 ≡ happening (event.Write w1.guard u f value) w1 →

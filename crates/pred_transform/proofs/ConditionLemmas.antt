@@ -27,10 +27,11 @@ module _ (types : List TypeEntry) (vars : List VarEntry) (line next wanted : ℕ
       formula ≡ is_of_variant types (sight_of vars w1.view) v cell w1.view.next →
       w2 ≡ shown next wanted (check_cell types vars line text cell (got.1)) →
       (formula ≡ ((told_variant types vars line text v got).0) next) × (w2 ≡ shown next wanted ((told_variant types vars line text v got).1))
-  variant-told got w1 w2 v cell formula found is made checks =
-      (made ∙ seen-shown vars next wanted (got.1) w1 (λ seen n. is_of_variant types seen v cell n) is
-      ∙ ap (λ (u : Sym). is_of_variant types (sight vars (got.1)) v u next) found,
-      checks ∙ ap (λ (u : Sym). shown next wanted (check_cell types vars line text u (got.1))) found)
+  variant-told got w1 w2 v cell formula found is made checks = (
+    made ∙ seen-shown vars next wanted (got.1) w1 (λ seen n. is_of_variant types seen v cell n) is
+        ∙ ap (λ (u : Sym). is_of_variant types (sight vars (got.1)) v u next) found,
+    checks ∙ ap (λ (u : Sym). shown next wanted (check_cell types vars line text u (got.1))) found,
+  )
 
   pub same-told : (q : Operand) (got : Got) (w2 : Walker) (left right : Sym) (formula : Formula) → left ≡ got.0 →
       (right ≡ (operand_value types vars line text q (got.1)).0) × (w2 ≡ shown next wanted ((operand_value types vars line text q (got.1)).1)) →

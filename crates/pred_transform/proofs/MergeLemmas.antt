@@ -54,11 +54,13 @@ module _ (types : List TypeEntry) (vars : List VarEntry) (h : ℕ) where
       ∙ ap (λ (v : Sym). behind ((merged_value types vars h u v far.0).0)
       (merged types vars h (drop (suc i) us) (drop (suc i) ws) ((merged_value types vars h u v far.0).1))) (sym other)
       ∙ ap (λ (v : Sym). behind v (merged types vars h (drop (suc i) us) (drop (suc i) ws) g.1)) (sym got.0)
-      ∙ ap (λ (n : ℕ). behind value (merged types vars h (drop n us) (drop n ws) g.1)) (sym (add-one i)) in
-      (g.1, got.1,
-      ap (λ (vs : List Sym). (vs, (merged types vars h (drop (i + 1) us) (drop (i + 1) ws) g.1).1))
-      (append_assoc values (value ∷ []) ((merged types vars h (drop (i + 1) us) (drop (i + 1) ws) g.1).0))
-      ∙ sym (ap (front values) more) ∙ far.2)
+      ∙ ap (λ (n : ℕ). behind value (merged types vars h (drop n us) (drop n ws) g.1)) (sym (add-one i)) in (
+        g.1,
+        got.1,
+        ap (λ (vs : List Sym). (vs, (merged types vars h (drop (i + 1) us) (drop (i + 1) ws) g.1).1))
+            (append_assoc values (value ∷ []) ((merged types vars h (drop (i + 1) us) (drop (i + 1) ws) g.1).0))
+            ∙ sym (ap (front values) more) ∙ far.2,
+      )
 
   merged-none : (us ws : List Sym) (s : State) → min (length us) (length ws) ≡ 0 → merged types vars h us ws s ≡ ([], s)
   merged-none [] ws s e = refl

@@ -57,9 +57,9 @@ before-end (y ∷ xs) x (suc k) not = before-end xs x k (λ e. not (omega arith)
 one-more : {X Y : Type 0} (f : X → Y) (xs : List X) (x : X) (k : ℕ) →
     (if length xs == k then Some (f x) else option_map f (slice_get xs k)) ≡ option_map f (slice_get (xs ++ x ∷ []) k)
 one-more f xs x k = elim (eqb_tells (length xs) k) [
-    | inl w ↦ ap (λ (b : Bool). if b then Some (f x) else option_map f (slice_get xs k)) w.0 ∙ sym (ap (option_map f) (at-end xs x k w.1))
-    | inr w ↦ ap (λ (b : Bool). if b then Some (f x) else option_map f (slice_get xs k)) w.0 ∙ sym (ap (option_map f) (before-end xs x k w.1))
-    ]
+  | inl w ↦ ap (λ (b : Bool). if b then Some (f x) else option_map f (slice_get xs k)) w.0 ∙ sym (ap (option_map f) (at-end xs x k w.1))
+  | inr w ↦ ap (λ (b : Bool). if b then Some (f x) else option_map f (slice_get xs k)) w.0 ∙ sym (ap (option_map f) (before-end xs x k w.1))
+]
 
 pub checked-shown : (next wanted : ℕ) (line : ℕ) (why : Cause) (text condition : Text) (s : State) (w : Walker) (reached fails : Formula) →
     reached ≡ text next → fails ≡ condition next → w ≡ shown next wanted s →

@@ -84,12 +84,7 @@ fn made_cell(
 }
 
 /// What is assigned.
-fn evaluate(
-    alloc: Global,
-    l: &Layout<'_>,
-    w: &mut Walker,
-    value: &Rhs,
-) -> Result<Sym, AllocError>
+fn evaluate(alloc: Global, l: &Layout<'_>, w: &mut Walker, value: &Rhs) -> Result<Sym, AllocError>
     ensures { IfOk result (λ found. (line : ℕ) → Makes w.old w.new found (acts.evaluated l.now.types l.now.vars line value.now)) }
 {
     match value {

@@ -44,12 +44,7 @@ fn fork_ways(
 }
 
 /// A track for the one way of a condition and a track for the other, each where the statement is reached.
-fn ways(
-    alloc: Global,
-    l: &Layout<'_>,
-    w: &mut Walker,
-    cond: &Cond,
-) -> Result<Track, AllocError>
+fn ways(alloc: Global, l: &Layout<'_>, w: &mut Walker, cond: &Cond) -> Result<Track, AllocError>
     ensures { IfOk result (λ way. (line next wanted : ℕ) (s : states.State) → w.old ≡ shown next wanted s →
         (way ≡ track (states.next_track l.now.types l.now.vars (conditions.condition l.now.types l.now.vars line cond.now (states.guard s) s).1))
         × (w.new ≡ shown next wanted (codes.with_ways l.now.types l.now.vars
@@ -208,12 +203,7 @@ fn take_other_code(alloc: Global, w: &mut Walker, fork: &Fork) -> Result<(), All
 
 /// Items one after the other. Takes a level of the stack for each `if` within another one.
 #[cycle(items)]
-fn items(
-    alloc: Global,
-    l: &Layout<'_>,
-    w: &mut Walker,
-    code: &[Item],
-) -> Result<(), AllocError>
+fn items(alloc: Global, l: &Layout<'_>, w: &mut Walker, code: &[Item]) -> Result<(), AllocError>
     ensures { OnOk result (Leads w.old w.new (codes.items l.now.types l.now.vars code.now)) }
 {
     for next in code {
