@@ -1,7 +1,8 @@
 -- The walk over a code, part by part.
-use Rattle.std.proofs.Common.{◌≡◌, ℕ, suc, ◌+◌, Bool, true, false, List, [], ◌∷◌, ◌++◌, length, map, drop, slice_get, Option, Some, None}
+use Rattle.std.proofs.Common.{◌≡◌, ℕ, suc, ◌+◌, Bool, true, false, List, [], ◌∷◌, ◌++◌, ◌<◌, length, map, take, drop, get_or, slice_get, Option, Some, None}
 use Rattle.std.proofs.Common.{refl, sym, ap, ap₂, ◌∙◌, subst, arith, length-append, if◌then◌else◌}
 use Rattle.std.specs.Option.{option_map_or}
+use Rattle.std.proofs.lemmas.List.{take_more}
 use Rattle.store_core.specs.Tables.{TypeEntry, VarEntry}
 use Rattle.store_logic.specs.declared.act.Act.{Act}
 use Rattle.store_logic.specs.declared.cond.Cond.{Cond}
@@ -25,11 +26,12 @@ use Rattle.tree_encode.specs.Tracks.{track_count}
 use Rattle.graph_view.specs.declared.view.Sym.{Sym}
 use Rattle.graph_view.specs.declared.view.Event.{Event}
 use Rattle.site_view.specs.States.{Text, State, guard, both, fails, define, next_track, is_truth_of}
+use Rattle.site_view.specs.Reading.{Told}
 use Rattle.site_view.specs.Conditions.{condition}
 use Rattle.site_view.specs.Acts.{act_rule, made_truth}
 use Rattle.site_view.specs.Cuts.{arrived}
 use Rattle.site_view.specs.Codes as codes
-use Rattle.site_view.specs.Codes.{Going, in_order, with_ways, on_way, merged, with_merged, plain_if, items, branch, item_rule, tail_rule, code_rule, code}
+use Rattle.site_view.specs.Codes.{Going, in_order, with_ways, on_way, merged, with_merged, plain_if, items, other_code, branch, item_rule, tail_rule, code_rule, code}
 use Rattle.pred_transform.specs.declared.walker.Walker.{Walker}
 use Rattle.pred_transform.specs.declared.codes.Fork.{Fork}
 use Rattle.pred_transform.specs.Shown.{shown, with_guard, with_values, with_events, Leads}
@@ -113,6 +115,48 @@ module _ (types : List TypeEntry) (vars : List VarEntry) where
   items-last [] x s = refl
   items-last (y ∷ xs) x s = items-last xs x (codes.item types vars y s)
 
+  -- one item more
+  pub items-step : (xs : List Item) (i : ℕ) (x : Item) (w0 w1 w2 : Walker) → i < length xs → x ≡ get_or xs i x →
+      Leads w0 w1 (items types vars (take i xs)) → Leads w1 w2 (codes.item types vars x) → Leads w0 w2 (items types vars (take (i + 1) xs))
+  items-step xs i x w0 w1 w2 inside is before step next wanted s at =
+      let t : State = items types vars (take i xs) s in
+      step next wanted t (before next wanted s at)
+      ∙ ap (λ (y : Item). shown next wanted (codes.item types vars y t)) is
+      ∙ ap (shown next wanted) (sym (ap (λ ys. items types vars ys s) (take_more xs i x inside) ∙ items-last (take i xs) (get_or xs i x) s))
+
+  -- ---- forks
+
+  -- the walk went onto the first way of an `if` with this condition
+  abbrev pub Forked : ℕ → Cond → Fork → Walker → Walker → Type 0
+  Forked line b fork old new = (next wanted : ℕ) (s : State) → old ≡ shown next wanted s →
+      IsFork fork (with_ways types vars ((condition types vars line b (guard s) s).0) ((condition types vars line b (guard s) s).1))
+      (next_track types vars ((condition types vars line b (guard s) s).1))
+      × (new ≡ shown next wanted (on_way fork.way.0
+      (with_ways types vars ((condition types vars line b (guard s) s).0) ((condition types vars line b (guard s) s).1))))
+
+  -- the walk joined both ways
+  abbrev pub Joined : Fork → List Sym → Walker → Walker → Type 0
+  Joined fork first old new = (next wanted : ℕ) (s : State) → old ≡ shown next wanted s →
+      new ≡ shown next wanted (with_merged (merged types vars fork.way.0 first s.values (record s { guard = fork.guard })))
+
+  pub if-walked : (line : ℕ) (i : Item) (b : Cond) (taken other xs ys : List Item) (fork : Fork) (w0 w1 w2 w3 w4 w5 : Walker) (first : List Sym) →
+      i ≡ item_is.If line b taken other → xs ≡ taken → ys ≡ other → Forked line b fork w0 w1 → Leads w1 w2 (items types vars xs) →
+      (first ≡ w2.view.vars) × (w3 ≡ with_guard (Some (track (suc fork.way.0))) (with_values fork.values w2)) → Leads w3 w4 (items types vars ys) →
+      Joined fork first w4 w5 → Leads w0 w5 (codes.item types vars i)
+  if-walked line i b taken other xs ys fork w0 w1 w2 w3 w4 w5 first is xs_is ys_is forks one turned two joins next wanted s at =
+      let told : Told = condition types vars line b (guard s) s in
+      let before : State = with_ways types vars (told.0) (told.1) in
+      let kept = forks next wanted s at in
+      if-joined next wanted (in_order (map (codes.item types vars) xs)) (in_order (map (codes.item types vars) ys)) (told.0) (told.1) before fork
+      w2 w3 w4 w5 first refl kept.0
+      (one next wanted (on_way fork.way.0 before) kept.1 ∙ ap (shown next wanted) (items-in_order xs (on_way fork.way.0 before)))
+      turned.0 turned.1
+      (λ u there. two next wanted u there ∙ ap (shown next wanted) (items-in_order ys u))
+      (λ u there. joins next wanted u there)
+      ∙ ap₂ (λ (us vs : List Item).
+      shown next wanted (plain_if types vars (in_order (map (codes.item types vars) us)) (in_order (map (codes.item types vars) vs)) told)) xs_is ys_is
+      ∙ ap (shown next wanted) (sym (item-If line b taken other i s is))
+
   -- ---- codes
 
   module _ (cuts : List Cut) where
@@ -139,6 +183,35 @@ module _ (types : List TypeEntry) (vars : List VarEntry) where
         ∙ ap (λ (go : Going). go (items types vars c.items s))
         (fold-roll-Tail Going Going (tail_rule types vars cuts) (code_rule types vars) (Tail-F.Branch line b taken other))
 
-  -- the other code of a branch, from what is kept of its fork
-  abbrev other_goes : ℕ → List Sym → List Event → Going → State → State
-  other_goes h values events other first = other (on_way (suc h) (record first { values = values; events = events }))
+    pub cut-walked : (c : Code) (xs : List Item) (place : ℕ) (w0 w1 w2 : Walker) → xs ≡ c.items → c.tail ≡ tail_is.Cut place →
+        Leads w0 w1 (items types vars xs) → Leads w1 w2 (λ s. option_map_or (λ cut. arrived types vars cut s) (slice_get cuts place) s) →
+        Leads w0 w2 (code types vars cuts c)
+    cut-walked c xs place w0 w1 w2 same is one two next wanted s at =
+        two next wanted (items types vars xs s) (one next wanted s at)
+        ∙ ap (λ (us : List Item).
+        shown next wanted (option_map_or (λ cut. arrived types vars cut (items types vars us s)) (slice_get cuts place) (items types vars us s))) same
+        ∙ ap (shown next wanted) (sym (code-Cut c place s is))
+
+    pub branch-walked : (c : Code) (xs : List Item) (line : ℕ) (b : Cond) (taken other x y : Code) (fork : Fork) (w0 w1 w2 w3 w4 w5 : Walker) →
+        xs ≡ c.items → c.tail ≡ tail_is.Branch line b taken other → x ≡ taken → y ≡ other → Leads w0 w1 (items types vars xs) →
+        Forked line b fork w1 w2 → Leads w2 w3 (code types vars cuts x) →
+        w4 ≡ with_guard (Some (track (suc fork.way.0))) (with_events fork.events (with_values fork.values w3)) →
+        Leads w4 w5 (code types vars cuts y) → Leads w0 w5 (code types vars cuts c)
+    branch-walked c xs line b taken other x y fork w0 w1 w2 w3 w4 w5 same is x_is y_is one forks first turned second next wanted s at =
+        let t : State = items types vars xs s in
+        let told : Told = condition types vars line b (guard t) t in
+        let before : State = with_ways types vars (told.0) (told.1) in
+        let kept = forks next wanted t (one next wanted s at) in
+        let a : State = code types vars cuts x (on_way fork.way.0 before) in
+        let there : w4 ≡ shown next wanted (on_way (suc fork.way.0) (record a { values = before.values; events = before.events })) =
+        turned
+        ∙ ap (λ (w : Walker). with_guard (Some (track (suc fork.way.0))) (with_events fork.events (with_values fork.values w)))
+        (first next wanted (on_way fork.way.0 before) kept.1)
+        ∙ ap₂ (λ (es : List Event) (us : List Sym).
+        with_guard (Some (track (suc fork.way.0))) (with_events es (with_values us (shown next wanted a)))) kept.0.events kept.0.values in
+        second next wanted (on_way (suc fork.way.0) (record a { values = before.values; events = before.events })) there
+        ∙ ap (λ (n : Track). shown next wanted (other_code n.0 (code types vars cuts y) before (code types vars cuts x (on_way n.0 before)))) kept.0.way
+        ∙ ap₂ (λ (p q : Code). shown next wanted (branch types vars (code types vars cuts p) (code types vars cuts q) told)) x_is y_is
+        ∙ ap (λ (us : List Item). shown next wanted (branch types vars (code types vars cuts taken) (code types vars cuts other)
+        (condition types vars line b (guard (items types vars us s)) (items types vars us s)))) same
+        ∙ ap (shown next wanted) (sym (code-Branch c line b taken other s is))

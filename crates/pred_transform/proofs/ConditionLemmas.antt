@@ -5,6 +5,8 @@ use Rattle.store_core.specs.Tables.{TypeEntry, VarEntry}
 use Rattle.store_logic.specs.declared.path.Path.{Path}
 use Rattle.store_logic.specs.declared.path.Operand.{Operand}
 use Rattle.store_logic.specs.declared.cond.Cond.{Cond, roll-Cond}
+use Rattle.store_logic.specs.declared.cond.Cond.TheVariants as cond_is
+use Rattle.store_logic.specs.declared.cond.Cond.TheVariants.{rolls-True, rolls-False, rolls-Bool, rolls-Is, rolls-Same, rolls-Not, rolls-And, rolls-Or}
 use Rattle.store_logic.specs.declared.cond.Cond.TheOpen.{Cond-F}
 use Rattle.store_logic.specs.declared.cond.Cond.TheFolds.{map-Cond, fold-roll-Cond}
 use Rattle.ws2s_core.specs.declared.formula.Formula.{Formula}
@@ -14,7 +16,7 @@ use Rattle.graph_view.specs.declared.view.Sym.{Sym}
 use Rattle.graph_view.specs.Sights.{sight_of}
 use Rattle.graph_view.specs.Syms.{is_same}
 use Rattle.site_view.specs.States.{Text, State, Got, both, fails, sight}
-use Rattle.site_view.specs.Reading.{Told, check_cell, path_value, operand_value, is_of_variant}
+use Rattle.site_view.specs.Reading.{Told, check_cell, path_value, operand_value, path_truth, is_of_variant}
 use Rattle.site_view.specs.Conditions.{Telling, told_variant, then_same, told_not, then_and, then_or, cond_rule, condition}
 use Rattle.pred_transform.specs.declared.walker.Walker.{Walker}
 use Rattle.pred_transform.specs.Shown.{shown, Tells}
@@ -75,3 +77,58 @@ module _ (types : List TypeEntry) (vars : List VarEntry) (line : ℕ) where
   pub as-form : (x : Cond-F Cond) (c d : Cond) (reached formula : Formula) (w0 w1 : Walker) → c ≡ d → roll-Cond x ≡ d →
       Tells reached w0 w1 formula (by_form x) → Tells reached w0 w1 formula (condition types vars line c)
   as-form x c d reached formula w0 w1 is rolls told = subst (Tells reached w0 w1 formula) (sym (condition-is x c d is rolls)) told
+
+-- ---- each form
+
+module _ (types : List TypeEntry) (vars : List VarEntry) where
+  -- at any line the condition is told so
+  abbrev pub Told_as : Formula → Walker → Walker → Formula → Cond → Type 0
+  Told_as reached w0 w1 formula c = (line : ℕ) → Tells reached w0 w1 formula (condition types vars line c)
+
+  pub tells-True : (c : Cond) (reached formula : Formula) (w : Walker) → c ≡ cond_is.True → formula ≡ true_at w.view.next → Told_as reached w w formula c
+  tells-True c reached formula w is made line =
+      as-form types vars line Cond-F.True c cond_is.True reached formula w w is rolls-True
+      (λ next wanted text s reaches at. (made ∙ ap (λ (v : Walker). true_at v.view.next) at, at))
+
+  pub tells-False : (c : Cond) (reached formula : Formula) (w : Walker) → c ≡ cond_is.False → formula ≡ false_at w.view.next → Told_as reached w w formula c
+  tells-False c reached formula w is made line =
+      as-form types vars line Cond-F.False c cond_is.False reached formula w w is rolls-False
+      (λ next wanted text s reaches at. (made ∙ ap (λ (v : Walker). false_at v.view.next) at, at))
+
+  pub tells-Bool : (c : Cond) (p : Path) (reached formula : Formula) (w0 w1 : Walker) → c ≡ cond_is.Bool p →
+      ((line : ℕ) → Tells reached w0 w1 formula (λ text s. path_truth types vars line text p s)) → Told_as reached w0 w1 formula c
+  tells-Bool c p reached formula w0 w1 is told line =
+      as-form types vars line (Cond-F.Bool p) c (cond_is.Bool p) reached formula w0 w1 is (rolls-Bool p) (told line)
+
+  pub tells-Is : (c : Cond) (p : Path) (v : VariantId) (reached formula : Formula) (w0 w1 : Walker) → c ≡ cond_is.Is p v →
+      ((line : ℕ) → Tells reached w0 w1 formula (λ text s. told_variant types vars line text v (path_value types vars line text p s))) →
+      Told_as reached w0 w1 formula c
+  tells-Is c p v reached formula w0 w1 is told line =
+      as-form types vars line (Cond-F.Is p v) c (cond_is.Is p v) reached formula w0 w1 is (rolls-Is p v) (told line)
+
+  pub tells-Same : (c : Cond) (p q : Operand) (reached formula : Formula) (w0 w1 : Walker) → c ≡ cond_is.Same p q →
+      ((line : ℕ) → Tells reached w0 w1 formula (λ text s. then_same types vars line text q (operand_value types vars line text p s))) →
+      Told_as reached w0 w1 formula c
+  tells-Same c p q reached formula w0 w1 is told line =
+      as-form types vars line (Cond-F.Same p q) c (cond_is.Same p q) reached formula w0 w1 is (rolls-Same p q) (told line)
+
+  -- the parts stand in boxes, x and y
+  pub tells-Not : (c part x : Cond) (reached formula inner : Formula) (w0 w1 : Walker) → c ≡ cond_is.Not part → x ≡ part →
+      Told_as reached w0 w1 inner x → formula ≡ Not inner → Told_as reached w0 w1 formula c
+  tells-Not c part x reached formula inner w0 w1 is x_is one made line =
+      as-form types vars line (Cond-F.Not x) c (cond_is.Not x) reached formula w0 w1 (is ∙ ap cond_is.Not (sym x_is)) (rolls-Not x)
+      (not-told reached formula inner w0 w1 (condition types vars line x) (one line) made)
+
+  pub tells-And : (c left right x y : Cond) (reached there first second formula : Formula) (w0 w1 w2 : Walker) → c ≡ cond_is.And left right →
+      x ≡ left → y ≡ right → Told_as reached w0 w1 first x → there ≡ And reached first → Told_as there w1 w2 second y →
+      formula ≡ And first second → Told_as reached w0 w2 formula c
+  tells-And c left right x y reached there first second formula w0 w1 w2 is x_is y_is one joined two made line =
+      as-form types vars line (Cond-F.And x y) c (cond_is.And x y) reached formula w0 w2 (is ∙ ap₂ cond_is.And (sym x_is) (sym y_is)) (rolls-And x y)
+      (and-told reached there first second formula w0 w1 w2 (condition types vars line x) (condition types vars line y) (one line) joined (two line) made)
+
+  pub tells-Or : (c left right x y : Cond) (reached there first second formula : Formula) (w0 w1 w2 : Walker) → c ≡ cond_is.Or left right →
+      x ≡ left → y ≡ right → Told_as reached w0 w1 first x → there ≡ And reached (Not first) → Told_as there w1 w2 second y →
+      formula ≡ or first second → Told_as reached w0 w2 formula c
+  tells-Or c left right x y reached there first second formula w0 w1 w2 is x_is y_is one joined two made line =
+      as-form types vars line (Cond-F.Or x y) c (cond_is.Or x y) reached formula w0 w2 (is ∙ ap₂ cond_is.Or (sym x_is) (sym y_is)) (rolls-Or x y)
+      (or-told reached there first second formula w0 w1 w2 (condition types vars line x) (condition types vars line y) (one line) joined (two line) made)

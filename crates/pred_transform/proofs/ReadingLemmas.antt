@@ -1,18 +1,22 @@
 -- Fields that are read.
-use Rattle.std.proofs.Common.{◌≡◌, ℕ, ◌+◌, ◌<◌, List, [], ◌∷◌, ◌++◌, length, take, get_or, refl, sym, ap, ◌∙◌, subst}
+use Rattle.std.proofs.Common.{◌≡◌, ℕ, ◌+◌, ◌<◌, List, [], ◌∷◌, ◌++◌, length, take, get_or, refl, sym, ap, ap₂, ◌∙◌, subst, arith}
 use Rattle.std.proofs.lemmas.List.{take_more}
 use Rattle.store_core.specs.declared.ids.FieldId.{FieldId}
 use Rattle.store_core.specs.Tables.{TypeEntry, VarEntry}
+use Rattle.store_logic.specs.declared.path.Path.{Path}
+use Rattle.store_logic.specs.declared.path.Operand.{Operand}
+use Rattle.store_logic.specs.declared.path.Operand.TheVariants as operand_is
 use Rattle.ws2s_core.specs.declared.track.Track.{Track}
 use Rattle.ws2s_core.specs.declared.formula.Formula.{Formula}
 use Rattle.ws2s_forms.specs.Forms.{track}
 use Rattle.tree_encode.specs.Tracks.{track_count}
 use Rattle.graph_view.specs.declared.view.Sym.{Sym}
-use Rattle.graph_view.specs.declared.view.Sym.TheVariants.{At}
+use Rattle.graph_view.specs.declared.view.Sym.TheVariants.{Null, At}
+use Rattle.graph_view.specs.Syms as syms
 use Rattle.graph_view.specs.Sights.{sight_of}
 use Rattle.store_core.specs.declared.ids.VarId.{VarId}
 use Rattle.site_view.specs.States.{Text, State, Got, sight, value_of}
-use Rattle.site_view.specs.Reading.{check_access, is_read, read, read_along, is_true_of, truth_along, truth_at, Told}
+use Rattle.site_view.specs.Reading.{check_access, is_read, read, read_along, path_value, operand_value, is_true_of, truth_along, truth_at, Told}
 use Rattle.pred_transform.specs.declared.walker.Walker.{Walker}
 use Rattle.pred_transform.specs.Shown.{shown, defining, Gets}
 use Rattle.pred_transform.proofs.ShownLemmas.{seen-shown, make-made}
@@ -98,3 +102,27 @@ module _ (types : List TypeEntry) (vars : List VarEntry) (line next wanted : ℕ
       ∙ sym (ap (λ (fs : List FieldId). truth_at types vars line text fs (value_of s.values v, s)) last
       ∙ truth-last before f (value_of s.values v, s)) in
       (told.0 ∙ ap (λ (t : Told). (t.0) next) all, told.1 ∙ ap (λ (t : Told). shown next wanted (t.1)) all)
+
+  -- a variable holds a truth value
+  pub variable-told : (s : State) (w : Walker) (v : VarId) (fields : List FieldId) (value : Sym) (formula : Formula) → w ≡ shown next wanted s →
+      value ≡ value_of w.view.vars v → length fields ≡ 0 → formula ≡ syms.truth w.view.next value →
+      (formula ≡ ((truth_at types vars line text fields (value_of s.values v, s)).0) next)
+      × (w ≡ shown next wanted ((truth_at types vars line text fields (value_of s.values v, s)).1))
+  variable-told s w v [] value formula is valued none made =
+      (made ∙ ap₂ syms.truth (ap (λ (x : Walker). x.view.next) is) (valued ∙ ap (λ (x : Walker). value_of x.view.vars v) is), is)
+  variable-told s w v (f ∷ fields) value formula is valued none made = absurd (omega arith)
+
+  -- ---- operands
+
+  pub null-valued : (s : State) (w : Walker) (p : Operand) → p ≡ operand_is.Null → w ≡ shown next wanted s →
+      (Null ≡ (operand_value types vars line text p s).0) × (w ≡ shown next wanted ((operand_value types vars line text p s).1))
+  null-valued s w p form is =
+      subst (λ (q : Operand). (Null ≡ (operand_value types vars line text q s).0) × (w ≡ shown next wanted ((operand_value types vars line text q s).1)))
+      (sym form) (refl, is)
+
+  pub path-valued : (s : State) (w : Walker) (p : Operand) (path : Path) (found : Sym) → p ≡ operand_is.Path path →
+      (found ≡ (path_value types vars line text path s).0) × (w ≡ shown next wanted ((path_value types vars line text path s).1)) →
+      (found ≡ (operand_value types vars line text p s).0) × (w ≡ shown next wanted ((operand_value types vars line text p s).1))
+  path-valued s w p path found form got =
+      subst (λ (q : Operand). (found ≡ (operand_value types vars line text q s).0) × (w ≡ shown next wanted ((operand_value types vars line text q s).1)))
+      (sym form) got
