@@ -70,14 +70,14 @@ module _ (types : List TypeEntry) (vars : List VarEntry) (start : Start) where
   abbrev emptied : ℕ → List VarId → List Formula
   emptied next nulls = map (λ v. empty_at next (track_or_first (var_track types vars v)).0) nulls
 
-  pub site-parts : (defined : List Formula) (next : ℕ) (place tree holds a b : Formula) (nulls : List VarId) (f1 f2 : ℕ) (p1 p2 p3 : List Formula) →
-      tree ≡ well_encoded next types vars → nulls ≡ start.nulls → p1 ≡ (tree ∷ []) ++ emptied next nulls → holds ≡ start_holds types vars start next →
+  pub site-parts : (defined : List Formula) (next : ℕ) (place tree holds a b : Formula) (nulls : List VarId) (f1 f2 : ℕ) (p0 p1 p2 p3 : List Formula) →
+      tree ≡ well_encoded next types vars → p0 ≡ tree ∷ [] → nulls ≡ start.nulls → p1 ≡ p0 ++ emptied next nulls → holds ≡ start_holds types vars start next →
       f1 ≡ track_count types vars → a ≡ bind f1 (reverse defined) holds → f2 ≡ track_count types vars → b ≡ bind f2 (reverse defined) place →
       p2 ≡ p1 ++ a ∷ [] → p3 ≡ p2 ++ b ∷ [] →
       p3 ≡ well_encoded next types vars ∷ (emptied next start.nulls
       ++ bind (track_count types vars) (reverse defined) (start_holds types vars start next) ∷ bind (track_count types vars) (reverse defined) place ∷ [])
-  site-parts defined next place tree holds a b nulls f1 f2 p1 p2 p3 treed nulled one held first bound second others two three =
-      parts-placed tree a b (emptied next nulls) p1 p2 p3 one two three
+  site-parts defined next place tree holds a b nulls f1 f2 p0 p1 p2 p3 treed alone nulled one held first bound second others two three =
+      parts-placed tree a b (emptied next nulls) p1 p2 p3 (one ∙ ap (λ (p : List Formula). p ++ emptied next nulls) alone) two three
       ∙ ap (λ (f : Formula). f ∷ (emptied next nulls ++ a ∷ b ∷ [])) treed
       ∙ ap (λ vs. well_encoded next types vars ∷ (emptied next vs ++ a ∷ b ∷ [])) nulled
       ∙ ap (λ (f : Formula). well_encoded next types vars ∷ (emptied next start.nulls ++ f ∷ b ∷ []))
