@@ -1,8 +1,8 @@
 -- The walk over a code, part by part.
-use Rattle.std.proofs.Common.{◌≡◌, ℕ, suc, ◌+◌, Bool, true, false, List, [], ◌∷◌, ◌++◌, ◌<◌, length, map, take, drop, get_or, slice_get, Option, Some, None}
+use Rattle.std.proofs.Common.{◌≡◌, ℕ, suc, ◌+◌, Bool, true, false, List, [], ◌∷◌, ◌++◌, ◌<◌, ◌≤◌, length, map, take, drop, get_or, slice_get, Option, Some, None}
 use Rattle.std.proofs.Common.{refl, sym, ap, ap₂, ◌∙◌, subst, arith, length-append, if◌then◌else◌}
 use Rattle.std.specs.Option.{option_map_or}
-use Rattle.std.proofs.lemmas.List.{take_more}
+use Rattle.std.proofs.lemmas.List.{take_more, take_all}
 use Rattle.store_core.specs.Tables.{TypeEntry, VarEntry}
 use Rattle.store_logic.specs.declared.act.Act.{Act}
 use Rattle.store_logic.specs.declared.cond.Cond.{Cond}
@@ -123,6 +123,9 @@ module _ (types : List TypeEntry) (vars : List VarEntry) where
       step next wanted t (before next wanted s at)
       ∙ ap (λ (y : Item). shown next wanted (codes.item types vars y t)) is
       ∙ ap (shown next wanted) (sym (ap (λ ys. items types vars ys s) (take_more xs i x inside) ∙ items-last (take i xs) (get_or xs i x) s))
+
+  pub items-end : (xs : List Item) (i : ℕ) (w0 w1 : Walker) → length xs ≤ i → Leads w0 w1 (items types vars (take i xs)) → Leads w0 w1 (items types vars xs)
+  items-end xs i w0 w1 all far = subst (λ (ys : List Item). Leads w0 w1 (items types vars ys)) (take_all i xs all) far
 
   -- ---- forks
 

@@ -1,6 +1,6 @@
 -- Fields that are read.
-use Rattle.std.proofs.Common.{◌≡◌, ℕ, ◌+◌, ◌<◌, List, [], ◌∷◌, ◌++◌, length, take, get_or, refl, sym, ap, ap₂, ◌∙◌, subst, arith}
-use Rattle.std.proofs.lemmas.List.{take_more}
+use Rattle.std.proofs.Common.{◌≡◌, ℕ, ◌+◌, ◌<◌, ◌≤◌, List, [], ◌∷◌, ◌++◌, length, take, get_or, refl, sym, ap, ap₂, ◌∙◌, subst, arith}
+use Rattle.std.proofs.lemmas.List.{take_more, take_all}
 use Rattle.store_core.specs.declared.ids.FieldId.{FieldId}
 use Rattle.store_core.specs.Tables.{TypeEntry, VarEntry}
 use Rattle.store_logic.specs.declared.path.Path.{Path}
@@ -59,6 +59,16 @@ module _ (types : List TypeEntry) (vars : List VarEntry) (line next wanted : ℕ
       ∙ sym (ap (λ fs. read_along types vars line text fs (cell, s)) (take_more fields i d inside)
       ∙ read_along-last (take i fields) (get_or fields i d) (cell, s)) in
       (one.0 ∙ ap (λ (g : Got). g.0) same, one.1 ∙ ap (λ (g : Got). shown next wanted (g.1)) same)
+
+  -- all fields are read
+  pub read-end : (s : State) (w1 : Walker) (fields : List FieldId) (i : ℕ) (cell value : Sym) → length fields ≤ i →
+      (value ≡ (read_along types vars line text (take i fields) (cell, s)).0)
+      × (w1 ≡ shown next wanted ((read_along types vars line text (take i fields) (cell, s)).1)) →
+      (value ≡ (read_along types vars line text fields (cell, s)).0) × (w1 ≡ shown next wanted ((read_along types vars line text fields (cell, s)).1))
+  read-end s w1 fields i cell value all got =
+      subst (λ (fs : List FieldId).
+      (value ≡ (read_along types vars line text fs (cell, s)).0) × (w1 ≡ shown next wanted ((read_along types vars line text fs (cell, s)).1)))
+      (take_all i fields all) got
 
   -- a bool field is read behind cell fields
   pub truth-last : (before : List FieldId) (field : FieldId) (got : Got) →
