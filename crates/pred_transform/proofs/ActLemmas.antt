@@ -1,5 +1,6 @@
 -- Acts, step by step.
-use Rattle.std.proofs.Common.{◌≡◌, ℕ, suc, ◌+◌, List, [], ◌∷◌, ◌++◌, length, slice_set, refl, sym, ap, ap₂, ◌∙◌, subst, add-one}
+use Rattle.std.proofs.Common.{◌≡◌, ℕ, suc, ◌+◌, ◌==◌, Bool, true, List, [], ◌∷◌, ◌++◌, Some, Result, Ok, Err, OnOk, length, slice_set, if◌then◌else◌}
+use Rattle.std.proofs.Common.{refl, sym, ap, ap₂, ◌∙◌, subst, add-one}
 use Rattle.store_core.specs.declared.ids.FieldId.{FieldId}
 use Rattle.store_core.specs.declared.ids.VariantId.{VariantId}
 use Rattle.store_core.specs.declared.ids.VarId.{VarId}
@@ -15,6 +16,7 @@ use Rattle.tree_encode.specs.Tracks.{track_count}
 use Rattle.graph_view.specs.declared.view.Sym.{Sym}
 use Rattle.graph_view.specs.declared.view.Sym.TheVariants.{At}
 use Rattle.graph_view.specs.declared.view.Event.TheVariants as event
+use Rattle.graph_view.specs.declared.view.View.{View}
 use Rattle.graph_view.specs.Sights.{sight_of, var_slots}
 use Rattle.graph_view.specs.Syms as syms
 use Rattle.graph_view.specs.Live.{is_dead}
@@ -26,6 +28,20 @@ use Rattle.pred_transform.specs.declared.walker.Walker.{Walker}
 use Rattle.pred_transform.specs.Shown.{shown, checked, defining, happening, valued}
 use Rattle.pred_transform.proofs.ShownLemmas.{step-checked, make-made, happening-shown, defining-shown}
 use Rattle.pred_transform.proofs.PlaceLemmas.{access-keeps}
+
+-- another fact of what comes out
+pub on_ok_then : {A E P Q : Type 0} (r : Result A E) → (P → Q) → OnOk r P → OnOk r Q
+on_ok_then (Ok x) f h = f h
+on_ok_then (Err e) f h = tt
+
+-- the place that is wanted was passed, and its formula is kept
+pub place-found : (w0 w1 w2 : Walker) (here : Bool) (reached formula : Formula) (says : View → Formula) → here ≡ true →
+    (here ≡ (w0.passed == w0.wanted)) × (w1 ≡ record w0 { passed = w0.passed + 1 }) → formula ≡ says w1.view →
+    w2 ≡ record w1 { found = Some (And reached formula) } → w2 ≡ checked reached (says w0.view) w0
+place-found w0 w1 w2 here reached formula says is passes made found =
+    found ∙ ap (λ (f : Formula). record w1 { found = Some (And reached f) }) made
+    ∙ ap (λ (w : Walker). record w { found = Some (And reached (says w.view)) }) passes.1
+    ∙ ap (λ (b : Bool). record w0 { passed = w0.passed + 1; found = if b then Some (And reached (says w0.view)) else w0.found }) (sym is ∙ passes.0)
 
 module _ (types : List TypeEntry) (vars : List VarEntry) (next wanted : ℕ) where
   -- a truth value on a track
@@ -59,6 +75,13 @@ module _ (types : List TypeEntry) (vars : List VarEntry) (next wanted : ℕ) whe
       (defines ∙ ap₂ (λ (n k : ℕ). slot n k own.0) (ap (λ (w : Walker). w.view.next) is)
       (counted ∙ ap (λ (w : Walker). var_slots vars + w.news) is))
       made
+
+  -- what is assigned, by its form
+  pub evaluated-by : (line : ℕ) (x form : Rhs) (s : State) (w1 : Walker) (found : Sym) → x ≡ form →
+      (found ≡ (evaluated types vars line form s).0) × (w1 ≡ shown next wanted ((evaluated types vars line form s).1)) →
+      (found ≡ (evaluated types vars line x s).0) × (w1 ≡ shown next wanted ((evaluated types vars line x s).1))
+  evaluated-by line x form s w1 found is got =
+      subst (λ (y : Rhs). (found ≡ (evaluated types vars line y s).0) × (w1 ≡ shown next wanted ((evaluated types vars line y s).1))) (sym is) got
 
   -- a field is written
   pub field-written : (line : ℕ) (s : State) (w0 w1 w2 : Walker) (u value : Sym) (f : FieldId) → w0 ≡ shown next wanted s →

@@ -137,6 +137,21 @@ module _ (types : List TypeEntry) (vars : List VarEntry) where
       × (new ≡ shown next wanted (on_way fork.way.0
       (with_ways types vars ((condition types vars line b (guard s) s).0) ((condition types vars line b (guard s) s).1))))
 
+  -- what is kept when the walk goes onto the first way
+  pub fork-taken : (next wanted h : ℕ) (b : State) (w : Walker) (way : Track) (values : List Sym) (events : List Event) → way ≡ track h →
+      w ≡ shown next wanted b → values ≡ w.view.vars → events ≡ w.view.events →
+      IsFork (record { way = way; guard = w.guard; values = values; events = events }) b h
+      × (record w { guard = Some way } ≡ shown next wanted (on_way way.0 b))
+  fork-taken next wanted h b w way values events is at valued happened = (
+    record {
+      way = is;
+      guard = ap (λ (x : Walker). x.guard) at;
+      values = valued ∙ ap (λ (x : Walker). x.view.vars) at;
+      events = happened ∙ ap (λ (x : Walker). x.view.events) at;
+    },
+    ap (λ (x : Walker). record x { guard = Some way }) at,
+  )
+
   -- the walk joined both ways
   abbrev pub Joined : Fork → List Sym → Walker → Walker → Type 0
   Joined fork first old new = (next wanted : ℕ) (s : State) → old ≡ shown next wanted s →
