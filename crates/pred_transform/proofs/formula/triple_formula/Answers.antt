@@ -3,8 +3,8 @@ use Rattle.pred_transform.specs.Starts.{site_of_place}
 use Rattle.pred_transform.proofs.FormulaLemmas.{first-told, site-found, site-not-found}
 use Rattle.pred_transform.proofs.formula.triple_formula.Goals as goal
 
-pub returns-in-Some : goal.returns-in-Some
-returns-in-Some c =
+pub returns-in-Some-clause-value : goal.returns-in-Some-clause-value
+returns-in-Some-clause-value c =
     let types = c.args.l.now.types in
     let vars = c.args.l.now.vars in
     let t = c.args.t.now in
@@ -15,8 +15,8 @@ returns-in-Some c =
     c.in_ok-w.ensures c.in-Some.is
     (c.in_ok-site_formula-in-Some.ensures ∙ ap (λ defined. site_of_place types vars t.start defined next c.in-Some.place) c.as_slice.ensures)
 
-pub returns : goal.returns
-returns c =
+pub returns-clause-value : goal.returns-clause-value
+returns-clause-value c =
     let types = c.args.l.now.types in
     let vars = c.args.l.now.vars in
     let t = c.args.t.now in
