@@ -1,5 +1,5 @@
 -- Acts, step by step.
-use Rattle.std.proofs.Common.{◌≡◌, ℕ, suc, ◌+◌, ◌==◌, Bool, true, List, [], ◌∷◌, ◌++◌, Some, Result, Ok, Err, OnOk, length, slice_set, if◌then◌else◌}
+use Rattle.std.proofs.Common.{◌≡◌, ℕ, suc, ◌+◌, ◌==◌, Bool, true, List, [], ◌∷◌, ◌++◌, Some, Result, Ok, Err, OnOk, length, if◌then◌else◌}
 use Rattle.std.proofs.Common.{refl, sym, ap, ap₂, ◌∙◌, subst, add-one}
 use Rattle.store_core.specs.declared.ids.FieldId.{FieldId}
 use Rattle.store_core.specs.declared.ids.VariantId.{VariantId}
@@ -26,7 +26,7 @@ use Rattle.site_view.specs.Claims.{assertion}
 use Rattle.site_view.specs.Acts.{made_truth, made_cell, evaluated, write_field, write_along, assigned, freed, asserted}
 use Rattle.pred_transform.specs.declared.walker.Walker.{Walker}
 use Rattle.pred_transform.specs.Shown.{shown, checked, defining, happening, valued}
-use Rattle.pred_transform.proofs.ShownLemmas.{step-checked, make-made, happening-shown, defining-shown}
+use Rattle.pred_transform.proofs.ShownLemmas.{step-checked, make-made, happening-shown}
 use Rattle.pred_transform.proofs.PlaceLemmas.{access-keeps}
 
 -- another fact of what comes out

@@ -1,5 +1,5 @@
 -- Tracks that are bound one after the other.
-use Rattle.std.proofs.Common.{◌≡◌, ℕ, ◌+◌, List, [], ◌∷◌, ◌++◌, length, reverse, refl, sym, ap, ◌∙◌}
+use Rattle.std.proofs.Common.{◌≡◌, ℕ, ◌+◌, List, [], ◌∷◌, ◌++◌, length, reverse, sym, ap, ◌∙◌}
 use Rattle.std.proofs.lemmas.List.{reverse-append, length-reverse}
 use Rattle.ws2s_core.specs.declared.formula.Formula.{Formula}
 use Rattle.site_view.specs.Triples.{bind}

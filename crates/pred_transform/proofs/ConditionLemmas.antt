@@ -1,5 +1,5 @@
 -- Conditions, part by part.
-use Rattle.std.proofs.Common.{◌≡◌, ℕ, List, refl, sym, ap, ap₂, ◌∙◌, subst}
+use Rattle.std.proofs.Common.{◌≡◌, ℕ, List, sym, ap, ap₂, ◌∙◌, subst}
 use Rattle.store_core.specs.declared.ids.VariantId.{VariantId}
 use Rattle.store_core.specs.Tables.{TypeEntry, VarEntry}
 use Rattle.store_logic.specs.declared.path.Path.{Path}
@@ -16,7 +16,7 @@ use Rattle.graph_view.specs.declared.view.Sym.{Sym}
 use Rattle.graph_view.specs.Sights.{sight_of}
 use Rattle.graph_view.specs.Syms.{is_same}
 use Rattle.site_view.specs.States.{Text, State, Got, both, fails, sight}
-use Rattle.site_view.specs.Reading.{Told, check_cell, path_value, operand_value, path_truth, is_of_variant}
+use Rattle.site_view.specs.Reading.{check_cell, path_value, operand_value, path_truth, is_of_variant}
 use Rattle.site_view.specs.Conditions.{Telling, told_variant, then_same, told_not, then_and, then_or, cond_rule, condition}
 use Rattle.pred_transform.specs.declared.walker.Walker.{Walker}
 use Rattle.pred_transform.specs.Shown.{shown, Tells}

@@ -1,5 +1,5 @@
 -- Arriving at a cut.
-use Rattle.std.proofs.Common.{◌≡◌, ℕ, ◌+◌, List, length, map, Option, Some, None, refl, sym, ap, ◌∙◌}
+use Rattle.std.proofs.Common.{◌≡◌, ℕ, ◌+◌, List, length, map, Option, Some, None, sym, ap, ◌∙◌}
 use Rattle.std.specs.Option.{option_map_or}
 use Rattle.store_core.specs.declared.ids.VarId.{VarId}
 use Rattle.store_core.specs.Tables.{TypeEntry, VarEntry}
@@ -16,7 +16,7 @@ use Rattle.graph_view.specs.declared.view.CutCheck.{CutCheck}
 use Rattle.graph_view.specs.declared.view.CutCheck.TheVariants as look
 use Rattle.graph_view.specs.Cuts.{cut_formula}
 use Rattle.graph_view.specs.Sights.{sight_of}
-use Rattle.site_view.specs.States.{Text, State, guard, check, sight, value_of, next_track}
+use Rattle.site_view.specs.States.{State, guard, check, sight, value_of, next_track}
 use Rattle.site_view.specs.Parts.{is_part, escapes}
 use Rattle.site_view.specs.Cuts.{check_store, check_stores, check_claims, with_part, arrived_at_call, arrived}
 use Rattle.pred_transform.specs.declared.walker.Walker.{Walker}

@@ -1,6 +1,6 @@
 -- What stands for variables after both ways, one after the other.
-use Rattle.std.proofs.Common.{◌≡◌, ℕ, zero, suc, ◌+◌, ◌<◌, ◌≤◌, Bool, true, false, List, [], ◌∷◌, ◌++◌, length, drop, get_or, min}
-use Rattle.std.proofs.Common.{refl, sym, ap, ◌∙◌, subst, arith, add-one, drop-cons, append_assoc, append-nil, if◌then◌else◌, length-drop}
+use Rattle.std.proofs.Common.{◌≡◌, ℕ, suc, ◌+◌, ◌<◌, Bool, true, false, List, [], ◌∷◌, ◌++◌, length, drop, get_or, min}
+use Rattle.std.proofs.Common.{refl, sym, ap, ◌∙◌, arith, add-one, drop-cons, append_assoc, append-nil, if◌then◌else◌, length-drop}
 use Rattle.store_core.specs.Tables.{TypeEntry, VarEntry}
 use Rattle.ws2s_forms.specs.Forms.{track}
 use Rattle.graph_view.specs.declared.view.Sym.{Sym}

@@ -1,12 +1,11 @@
 -- How the steps of a walk are kept.
-use Rattle.std.proofs.Common.{◌≡◌, ℕ, zero, suc, ◌+◌, ◌==◌, Bool, true, false, List, [], ◌∷◌, ◌++◌, length, map, reverse, slice_get, Option, Some, None}
-use Rattle.std.proofs.Common.{if◌then◌else◌, option_map, refl, sym, ap, ◌∙◌, subst, inl, inr, arith, length-append, add-one}
+use Rattle.std.proofs.Common.{◌≡◌, ℕ, zero, suc, ◌+◌, ◌==◌, Bool, List, [], ◌∷◌, ◌++◌, length, slice_get, Some, None}
+use Rattle.std.proofs.Common.{if◌then◌else◌, option_map, refl, sym, ap, ◌∙◌, inl, inr, arith, length-append}
 use Rattle.std.proofs.lemmas.Bool.Decides.{eqb_tells}
 use Rattle.std.proofs.lemmas.List.{length-map, map-append, reverse-reverse, reverse-append}
 use Rattle.store_core.specs.Tables.{TypeEntry, VarEntry}
 use Rattle.store_exec.specs.declared.cause.Cause.{Cause}
 use Rattle.ws2s_core.specs.declared.formula.Formula.{Formula}
-use Rattle.ws2s_core.specs.declared.formula.Formula.TheVariants.{And}
 use Rattle.graph_view.specs.Sights.{Sight, sight_of, var_slots}
 use Rattle.graph_view.specs.declared.view.Sym.{Sym}
 use Rattle.graph_view.specs.declared.view.Sym.TheVariants.{At}
@@ -17,7 +16,7 @@ use Rattle.graph_view.specs.declared.view.Event.{Event}
 use Rattle.graph_view.specs.Syms as syms
 use Rattle.site_view.specs.States.{Text, Check, State, check, define, sight, make, next_track, happens, guard}
 use Rattle.pred_transform.specs.declared.walker.Walker.{Walker}
-use Rattle.pred_transform.specs.Shown.{place_formula, written, shown, checked, defining, happening}
+use Rattle.pred_transform.specs.Shown.{place_formula, shown, checked, defining, happening}
 
 -- ---- the store there
 

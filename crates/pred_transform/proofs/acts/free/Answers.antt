@@ -1,4 +1,4 @@
-use Rattle.std.proofs.Common.{ap, sym, ◌∙◌}
+use Rattle.std.proofs.Common.{ap, ◌∙◌}
 use Rattle.site_view.specs.States.{value_of}
 use Rattle.site_view.specs.Acts.{freed}
 use Rattle.graph_view.specs.declared.view.Sym.{Sym}

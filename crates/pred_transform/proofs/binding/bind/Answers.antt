@@ -1,4 +1,4 @@
-use Rattle.std.proofs.Common.{◌+◌, ap, ◌∙◌, arith}
+use Rattle.std.proofs.Common.{◌∙◌, arith}
 use Rattle.pred_transform.proofs.BindingLemmas.{bind-last}
 use Rattle.pred_transform.proofs.binding.bind.Goals as goal
 

@@ -1,5 +1,5 @@
 use Rattle.std.proofs.Common.{sym}
-use Rattle.pred_transform.proofs.PlaceLemmas.{access-owned, access-common}
+use Rattle.pred_transform.proofs.PlaceLemmas.{access-owned}
 use Rattle.pred_transform.proofs.places.check_access.Goals as goal
 
 pub returns-in_ok-check_field-in-Some : goal.returns-in_ok-check_field-in-Some

@@ -1,7 +1,5 @@
 use Rattle.std.proofs.Common.{ap, ◌∙◌}
 use Rattle.site_view.specs.States.{value_of}
-use Rattle.graph_view.specs.declared.view.Sym.{Sym}
-use Rattle.pred_transform.specs.declared.walker.Walker.{Walker}
 use Rattle.pred_transform.proofs.ReadingLemmas.{along-path}
 use Rattle.pred_transform.proofs.reading.path_value.Goals as goal
 
