@@ -1,0 +1,8 @@
+use Rattle.std.proofs.Common.{take}
+use Rattle.site_view.specs.Codes.{items}
+use Rattle.pred_transform.specs.Shown.{Leads}
+use Rattle.pred_transform.proofs.codes.+items.Given as goal
+
+-- the items so far are walked over
+abbrev pub invariant-items-loop-next : goal.invariant-items-loop-next
+invariant-items-loop-next l = Leads l.initial.w l.w (items l.l.types l.l.vars (take l.next-index l.code))

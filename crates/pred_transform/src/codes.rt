@@ -1,0 +1,279 @@
+//! The walk over a code.
+
+ghost use Rattle.std.specs.Prelude.{◌≡◌, ℕ, suc, min, Some, slice_get, IfOk, OnOk};
+ghost use Rattle.std.specs.Option.{option_map_or};
+ghost use Rattle.ws2s_forms.specs.Forms.{track};
+ghost use Rattle.site_view.specs.States as states;
+ghost use Rattle.site_view.specs.Conditions as conditions;
+ghost use Rattle.site_view.specs.Codes as codes;
+ghost use Rattle.site_view.specs.Cuts as arriving;
+ghost use Rattle.pred_transform.specs.Shown.{merged_value, shown, with_guard, with_values, with_events, Leads};
+ghost use Rattle.pred_transform.specs.Forks.{IsFork};
+
+use crate::acts::{act, made_truth};
+use crate::conditions::condition;
+use crate::cuts::arrive;
+use crate::seeing::{both, but_not, is_merged};
+use crate::walker::{Walker, define, next_track, reached};
+use graph_view::{EventList, Sym, SymList};
+use plain_data::at;
+use std::alloc::{AllocError, Global};
+use store_exec::{Code, Cut, Item, Tail};
+use store_logic::Cond;
+use tree_encode::Layout;
+use ws2s_core::{Formula, Track};
+use ws2s_forms::later;
+
+/// A track for the way where this holds and a track for the other one, each where the statement is reached. Gives the first.
+fn fork_ways(
+    alloc: Global,
+    l: &Layout<'_>,
+    w: &mut Walker,
+    holds: &Formula,
+) -> Result<Track, AllocError>
+    ensures { IfOk result (λ way. (next wanted : ℕ) (text : states.Text) (s : states.State) → holds.now ≡ text next → w.old ≡ shown next wanted s →
+        (way ≡ track (states.next_track l.now.types l.now.vars s)) × (w.new ≡ shown next wanted (codes.with_ways l.now.types l.now.vars text s))) }
+{
+    let here = reached(alloc, w)?;
+    let way = next_track(l, w)?;
+    let taken = both(alloc, &here, holds)?;
+    let _first = made_truth(alloc, l, w, &taken)?;
+    let other = but_not(alloc, &here, holds)?;
+    let _second = made_truth(alloc, l, w, &other)?;
+    Ok(way)
+}
+
+/// A track for the one way of a condition and a track for the other, each where the statement is reached.
+fn ways(alloc: Global, l: &Layout<'_>, w: &mut Walker, cond: &Cond) -> Result<Track, AllocError>
+    ensures { IfOk result (λ way. (line next wanted : ℕ) (s : states.State) → w.old ≡ shown next wanted s →
+        (way ≡ track (states.next_track l.now.types l.now.vars (conditions.condition l.now.types l.now.vars line cond.now (states.guard s) s).1))
+        × (w.new ≡ shown next wanted (codes.with_ways l.now.types l.now.vars
+        (conditions.condition l.now.types l.now.vars line cond.now (states.guard s) s).0
+        (conditions.condition l.now.types l.now.vars line cond.now (states.guard s) s).1))) }
+{
+    let here = reached(alloc, w)?;
+    let holds = condition(alloc, l, w, &here, cond)?;
+    let way = fork_ways(alloc, l, w, &holds)?;
+    Ok(way)
+}
+
+/// Both are the same.
+fn is_sym(one: Sym, other: Sym) -> bool
+    ensures { result ≡ codes.is_sym one other }
+{
+    match (one, other) {
+        (Sym::Null, Sym::Null) => true,
+        (Sym::At(x), Sym::At(y)) => x.0 == y.0,
+        (Sym::Null, Sym::At(_)) | (Sym::At(_), Sym::Null) => false,
+    }
+}
+
+/// What stands for a variable after both ways: what does on both, or a track that is made for it.
+fn merged_value(
+    alloc: Global,
+    l: &Layout<'_>,
+    w: &mut Walker,
+    way: Track,
+    one: Sym,
+    other: Sym,
+) -> Result<Sym, AllocError>
+    ensures { IfOk result (λ value. (next wanted : ℕ) (s : states.State) → w.old ≡ shown next wanted s →
+        (value ≡ (merged_value l.now.types l.now.vars way.0 one other s).0)
+        × (w.new ≡ shown next wanted ((merged_value l.now.types l.now.vars way.0 one other s).1))) }
+{
+    if is_sym(one, other) {
+        return Ok(one);
+    }
+    let own = next_track(l, w)?;
+    let definition = is_merged(alloc, w.view.next, way, one, other, own)?;
+    define(w, definition)?;
+    Ok(Sym::At(own))
+}
+
+/// The lesser of two lengths.
+fn lesser(one: usize, other: usize) -> usize
+    ensures { result ≡ min one other }
+{
+    if one < other { one } else { other }
+}
+
+/// What stands for the variables after both ways, from what stands for them on each.
+fn merged(
+    alloc: Global,
+    l: &Layout<'_>,
+    w: &mut Walker,
+    way: Track,
+    first: &[Sym],
+    other: &[Sym],
+) -> Result<SymList, AllocError>
+    ensures { IfOk result (λ values. (next wanted : ℕ) (s : states.State) → w.old ≡ shown next wanted s →
+        (values ≡ (codes.merged l.now.types l.now.vars way.0 first.now other.now s).0)
+        × (w.new ≡ shown next wanted ((codes.merged l.now.types l.now.vars way.0 first.now other.now s).1))) }
+{
+    let mut values = SymList::new(alloc);
+    for place in 0..lesser(first.len(), other.len()) {
+        let value = merged_value(alloc, l, w, way, first[place], other[place])?;
+        values.push(value)?;
+    }
+    Ok(values)
+}
+
+/// What is kept while the ways of an `if` are walked over.
+#[derive(Drop)]
+pub(crate) struct Fork {
+    /// The track of the first way; that of the other is the next one.
+    pub way: Track,
+    /// Where the `if` is reached.
+    pub guard: Option<Track>,
+    /// What stood for the variables, and the changes of the heap, before both ways.
+    pub values: SymList,
+    pub events: EventList,
+}
+
+/// Goes onto the first way.
+fn take_first(
+    alloc: Global,
+    l: &Layout<'_>,
+    w: &mut Walker,
+    cond: &Cond,
+) -> Result<Fork, AllocError>
+    ensures { IfOk result (λ fork. (line next wanted : ℕ) (s : states.State) → w.old ≡ shown next wanted s →
+        IsFork fork (codes.with_ways l.now.types l.now.vars
+        (conditions.condition l.now.types l.now.vars line cond.now (states.guard s) s).0
+        (conditions.condition l.now.types l.now.vars line cond.now (states.guard s) s).1)
+        (states.next_track l.now.types l.now.vars (conditions.condition l.now.types l.now.vars line cond.now (states.guard s) s).1)
+        × (w.new ≡ shown next wanted (codes.on_way fork.way.0 (codes.with_ways l.now.types l.now.vars
+        (conditions.condition l.now.types l.now.vars line cond.now (states.guard s) s).0
+        (conditions.condition l.now.types l.now.vars line cond.now (states.guard s) s).1)))) }
+{
+    let way = ways(alloc, l, w, cond)?;
+    let values = SymList::from_slice(alloc, w.view.vars.as_slice())?;
+    let events = EventList::from_slice(alloc, w.view.events.as_slice())?;
+    let guard = w.guard;
+    w.guard = Some(way);
+    Ok(Fork {
+        way,
+        guard,
+        values,
+        events,
+    })
+}
+
+/// Goes onto the other way of an `if` without a cut: the values are those before both ways, and the changes of the heap stay. Gives
+/// what stands for the variables after the first way.
+fn take_other(alloc: Global, w: &mut Walker, fork: &Fork) -> Result<SymList, AllocError>
+    ensures { IfOk result (λ first. (first ≡ w.old.view.vars)
+        × (w.new ≡ with_guard (Some (track (suc fork.now.way.0))) (with_values fork.now.values w.old))) }
+{
+    let first = SymList::from_slice(alloc, w.view.vars.as_slice())?;
+    w.view.vars = SymList::from_slice(alloc, fork.values.as_slice())?;
+    w.guard = Some(Track(later(fork.way.0, 1)?));
+    Ok(first)
+}
+
+/// Joins the two ways.
+fn join(
+    alloc: Global,
+    l: &Layout<'_>,
+    w: &mut Walker,
+    fork: &Fork,
+    first: &[Sym],
+) -> Result<(), AllocError>
+    ensures { OnOk result ((next wanted : ℕ) (s : states.State) → w.old ≡ shown next wanted s →
+        w.new ≡ shown next wanted (codes.with_merged (codes.merged l.now.types l.now.vars fork.now.way.0 first.now s.values
+        (record s { guard = fork.now.guard })))) }
+{
+    w.guard = fork.guard;
+    let other = SymList::from_slice(alloc, w.view.vars.as_slice())?;
+    let values = merged(alloc, l, w, fork.way, first, other.as_slice())?;
+    w.view.vars = values;
+    Ok(())
+}
+
+/// Goes onto the other way of an `if` with a cut inside: the values and the heap are those before both ways.
+fn take_other_code(alloc: Global, w: &mut Walker, fork: &Fork) -> Result<(), AllocError>
+    ensures { OnOk result (w.new
+        ≡ with_guard (Some (track (suc fork.now.way.0))) (with_events fork.now.events (with_values fork.now.values w.old))) }
+{
+    w.view.vars = SymList::from_slice(alloc, fork.values.as_slice())?;
+    w.view.events = EventList::from_slice(alloc, fork.events.as_slice())?;
+    w.guard = Some(Track(later(fork.way.0, 1)?));
+    Ok(())
+}
+
+/// Items one after the other. Takes a level of the stack for each `if` within another one.
+#[cycle(items)]
+fn items(alloc: Global, l: &Layout<'_>, w: &mut Walker, code: &[Item]) -> Result<(), AllocError>
+    ensures { OnOk result (Leads w.old w.new (codes.items l.now.types l.now.vars code.now)) }
+{
+    for next in code {
+        item(alloc, l, w, next)?;
+    }
+    Ok(())
+}
+
+#[cycle(items)]
+fn item(alloc: Global, l: &Layout<'_>, w: &mut Walker, code: &Item) -> Result<(), AllocError>
+    ensures { OnOk result (Leads w.old w.new (codes.item l.now.types l.now.vars code.now)) }
+{
+    match code {
+        Item::Do(_, step) => {
+            act(alloc, l, w, step)?;
+            Ok(())
+        }
+        Item::If(_, cond, taken, other) => {
+            let fork = take_first(alloc, l, w, cond)?;
+            items(alloc, l, w, taken.as_slice())?;
+            let first = take_other(alloc, w, &fork)?;
+            items(alloc, l, w, other.as_slice())?;
+            join(alloc, l, w, &fork, first.as_slice())?;
+            Ok(())
+        }
+    }
+}
+
+/// The cut at the place is arrived at.
+fn arrive_at(
+    alloc: Global,
+    l: &Layout<'_>,
+    w: &mut Walker,
+    cuts: &[Cut],
+    place: u32,
+) -> Result<(), AllocError>
+    ensures { OnOk result (Leads w.old w.new
+        (λ s. option_map_or (λ cut. arriving.arrived l.now.types l.now.vars cut s) (slice_get cuts.now place) s)) }
+{
+    match at(cuts, place as usize) {
+        Some(cut) => {
+            arrive(alloc, l, w, cut)?;
+            Ok(())
+        }
+        None => Ok(()),
+    }
+}
+
+/// A code of a triple with these cuts. Takes a level of the stack for each branch within another one.
+pub(crate) fn code(
+    alloc: Global,
+    l: &Layout<'_>,
+    w: &mut Walker,
+    cuts: &[Cut],
+    whole: &Code,
+) -> Result<(), AllocError>
+    ensures { OnOk result (Leads w.old w.new (codes.code l.now.types l.now.vars cuts.now whole.now)) }
+{
+    items(alloc, l, w, whole.items.as_slice())?;
+    match &whole.tail {
+        Tail::Cut(place) => {
+            arrive_at(alloc, l, w, cuts, *place)?;
+            Ok(())
+        }
+        Tail::Branch(_, cond, taken, other) => {
+            let fork = take_first(alloc, l, w, cond)?;
+            code(alloc, l, w, cuts, taken.get())?;
+            take_other_code(alloc, w, &fork)?;
+            code(alloc, l, w, cuts, other.get())?;
+            Ok(())
+        }
+    }
+}

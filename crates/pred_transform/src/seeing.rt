@@ -1,0 +1,160 @@
+//! What is said of the store after changes of the heap, beside what `graph_type` says of it.
+
+ghost use Rattle.std.specs.Prelude.{◌≡◌, IfOk};
+ghost use Rattle.ws2s_core.specs.declared.formula.Formula.TheVariants.{And, Not, Root};
+ghost use Rattle.ws2s_forms.specs.Forms as forms;
+ghost use Rattle.graph_view.specs.Sights.{sight_of};
+ghost use Rattle.site_view.specs.Reading as reading;
+ghost use Rattle.site_view.specs.Parts as parts;
+ghost use Rattle.site_view.specs.Codes as codes;
+
+use graph_type::{closes, has, is_in, is_live, is_same, is_true, lives, names};
+use graph_view::{Sym, View};
+use std::alloc::{AllocError, Global};
+use store_core::{FieldId, VariantId};
+use tree_encode::Layout;
+use ws2s_core::{Formula, Track};
+use ws2s_forms::{all1, all2, and_list, empty_at, ex1, flag, iff, imp, later, or};
+
+/// A live cell of the value hasn't the field.
+pub(crate) fn lacks(
+    alloc: Global,
+    l: &Layout<'_>,
+    view: &View,
+    next: u32,
+    field: FieldId,
+    value: Sym,
+) -> Result<Formula, AllocError>
+    ensures { IfOk result (λ formula. formula ≡ reading.lacks l.now.types (sight_of l.now.vars view.now) field value next) }
+{
+    let inner = later(next, 1)?;
+    let there = is_in(alloc, inner, next, value)?;
+    let live = is_live(alloc, l, view, inner, next)?;
+    let owned = has(alloc, l, view, inner, field, next)?;
+    let parts = vec![in alloc; there, live, Formula::not(alloc, owned)?]?;
+    ex1(alloc, next, and_list(alloc, inner, parts)?)
+}
+
+/// The value is a cell of the variant.
+pub(crate) fn is_of_variant(
+    alloc: Global,
+    l: &Layout<'_>,
+    view: &View,
+    next: u32,
+    variant: VariantId,
+    value: Sym,
+) -> Result<Formula, AllocError>
+    ensures { IfOk result (λ formula. formula ≡ reading.is_of_variant l.now.types (sight_of l.now.vars view.now) variant value next) }
+{
+    let inner = later(next, 1)?;
+    let there = is_in(alloc, inner, next, value)?;
+    let live = lives(alloc, l, view, inner, variant, next)?;
+    ex1(alloc, next, Formula::and(alloc, there, live)?)
+}
+
+/// The bool field is true at a cell of the value.
+pub(crate) fn is_true_of(
+    alloc: Global,
+    l: &Layout<'_>,
+    view: &View,
+    next: u32,
+    field: FieldId,
+    value: Sym,
+) -> Result<Formula, AllocError>
+    ensures { IfOk result (λ formula. formula ≡ reading.is_true_of l.now.types (sight_of l.now.vars view.now) field value next) }
+{
+    let inner = later(next, 1)?;
+    let there = is_in(alloc, inner, next, value)?;
+    let truth = is_true(alloc, l, view, inner, field, next)?;
+    ex1(alloc, next, Formula::and(alloc, there, truth)?)
+}
+
+/// The track has the cells that the field names at those of the value.
+pub(crate) fn is_read(
+    alloc: Global,
+    l: &Layout<'_>,
+    view: &View,
+    next: u32,
+    field: FieldId,
+    value: Sym,
+    own: Track,
+) -> Result<Formula, AllocError>
+    ensures { IfOk result (λ formula. formula ≡ reading.is_read l.now.types (sight_of l.now.vars view.now) field value own.0 next) }
+{
+    let from = later(next, 1)?;
+    let inner = later(from, 1)?;
+    let there = is_in(alloc, inner, from, value)?;
+    let step = names(alloc, l, view, inner, field, from, next)?;
+    let named = ex1(alloc, from, Formula::and(alloc, there, step)?)?;
+    let both = iff(alloc, Formula::Sub(Track(next), own), named)?;
+    all1(alloc, next, both)
+}
+
+/// The track is the root where this holds, and else it is empty.
+pub(crate) fn is_truth_of(
+    alloc: Global,
+    next: u32,
+    holds: &Formula,
+    own: Track,
+) -> Result<Formula, AllocError>
+    ensures { IfOk result (λ formula. formula
+        ≡ forms.or (And (Root own) holds.now) (And (forms.empty_at next own.0) (Not holds.now))) }
+{
+    let root = Formula::and(alloc, Formula::Root(own), holds.copy(alloc)?)?;
+    let fails = Formula::not(alloc, holds.copy(alloc)?)?;
+    let empty = empty_at(alloc, next, own)?;
+    or(alloc, root, Formula::and(alloc, empty, fails)?)
+}
+
+/// Both hold.
+pub(crate) fn both(alloc: Global, one: &Formula, other: &Formula) -> Result<Formula, AllocError>
+    ensures { IfOk result (λ formula. formula ≡ And one.now other.now) }
+{
+    Formula::and(alloc, one.copy(alloc)?, other.copy(alloc)?)
+}
+
+/// The first holds, and the other doesn't.
+pub(crate) fn but_not(alloc: Global, one: &Formula, other: &Formula) -> Result<Formula, AllocError>
+    ensures { IfOk result (λ formula. formula ≡ And one.now (Not other.now)) }
+{
+    let fails = Formula::not(alloc, other.copy(alloc)?)?;
+    Formula::and(alloc, one.copy(alloc)?, fails)
+}
+
+/// The track has the one value on the first way, whose track is `way`, and else the other.
+pub(crate) fn is_merged(
+    alloc: Global,
+    next: u32,
+    way: Track,
+    one: Sym,
+    other: Sym,
+    own: Track,
+) -> Result<Formula, AllocError>
+    ensures { IfOk result (λ formula. formula ≡ codes.is_merged way.0 one other own.0 next) }
+{
+    let on = flag(alloc, next, way)?;
+    let off = Formula::not(alloc, on.copy(alloc)?)?;
+    let first = is_same(alloc, next, Sym::At(own), one)?;
+    let second = is_same(alloc, next, Sym::At(own), other)?;
+    let left = Formula::and(alloc, on, first)?;
+    or(alloc, left, Formula::and(alloc, off, second)?)
+}
+
+/// The track has what data fields reach from the roots.
+pub(crate) fn is_part(
+    alloc: Global,
+    l: &Layout<'_>,
+    view: &View,
+    next: u32,
+    roots: &[Sym],
+    own: Track,
+) -> Result<Formula, AllocError>
+    ensures { IfOk result (λ formula. formula ≡ parts.is_part l.now.types (sight_of l.now.vars view.now) roots.now own.0 next) }
+{
+    let inner = later(next, 1)?;
+    let holds = closes(alloc, l, view, next, roots, own.0)?;
+    let other = closes(alloc, l, view, inner, roots, next)?;
+    let within = imp(alloc, other, Formula::Sub(own, Track(next)))?;
+    let least = all2(alloc, next, within)?;
+    Formula::and(alloc, holds, least)
+}
