@@ -1,11 +1,11 @@
 -- What gives some states is found from the leaves up.
 use Rattle.std.proofs.Common.{◌≡◌, ℕ, zero, suc, ◌+◌, ◌<◌, ◌≤◌, Bool, true, false, List, [], ◌∷◌, ◌++◌, length, map, ◌⊎◌, inl, inr}
 use Rattle.std.proofs.Common.{if◌then◌else◌, sym, ◌∙◌, ap, refl, subst, arith, length-append, append-nil, append_assoc}
-use Rattle.std.specs.Prelude.{Contains, slice_index, slice_index_or, slice_set, replicate}
-use Rattle.std.proofs.lemmas.List.{get_or_default, get_or_append_left, get_or-replicate}
-use Rattle.std.proofs.lemmas.List.Elements.{Contains-push, Contains-push_cases, Contains-append_left, Contains-append_right, Contains-append_cases}
+use Rattle.std.specs.Prelude.{Contains, slice_index, slice_index_or, slice_set}
+use Rattle.std.proofs.lemmas.List.{get_or_default, get_or_append_left}
+use Rattle.std.proofs.lemmas.List.Elements.{Contains-push, Contains-push_cases, Contains-append_left, Contains-append_cases}
 use Rattle.std.proofs.lemmas.List.Elements.{Contains-get_or}
-use Rattle.std.proofs.lemmas.Bool.{cases_eq, cases_lt, false≢true}
+use Rattle.std.proofs.lemmas.Bool.{cases_eq, false≢true}
 use Rattle.labels.specs.Labels.{Label, with_track}
 use Rattle.labels.proofs.LabelsLemmas.{with_track-same, with_track-later}
 use Rattle.bdd_list.specs.declared.listing.Listed.{Listed}

@@ -1,8 +1,8 @@
 -- Classes are cut in two.
-use Rattle.std.proofs.Common.{◌≡◌, ◌≢◌, ℕ, zero, suc, ◌+◌, ◌<◌, ◌≤◌, ◌^◌, Bool, true, false, List, [], ◌∷◌, ◌++◌, length, take, None, ◌⊎◌, inl, inr}
+use Rattle.std.proofs.Common.{◌≡◌, ◌≢◌, ℕ, ◌+◌, ◌<◌, ◌≤◌, Bool, true, List, [], ◌∷◌, ◌++◌, length, take, None, ◌⊎◌, inl, inr}
 use Rattle.std.proofs.Common.{sym, ◌∙◌, ap, refl, subst, arith}
-use Rattle.std.specs.Prelude.{Contains, slice_get, slice_index, slice_set, replicate, Some}
-use Rattle.std.proofs.lemmas.List.{take_more, take_all, get_or_default, get_or-set_same, get_or-set_other, length-set, length-replicate, get_or-replicate}
+use Rattle.std.specs.Prelude.{Contains, slice_get, slice_index, slice_set, Some}
+use Rattle.std.proofs.lemmas.List.{take_more, take_all, get_or_default, get_or-set_same, get_or-set_other, length-set}
 use Rattle.std.proofs.lemmas.List.Elements.{Contains-push, Contains-push_cases, Contains-append_left, Contains-get_or}
 use Rattle.std.proofs.lemmas.Option.{slice_get_within, slice_get-get_or}
 use Rattle.std.proofs.lemmas.Bool.{cases_eq, cases_lt}
@@ -20,7 +20,7 @@ use Rattle.gta_refine.specs.Splitting.{Made, made_for, IsStep}
 use Rattle.gta_refine.specs.Lists.{list_at, Leads, IsAdded}
 use Rattle.gta_refine.specs.Cuts.{IsIndicator, IsIn, Covers, HasOthers, IsCut, IsCutAt, ClassLists, AllCover}
 use Rattle.gta_refine.specs.Scratch.{AreZero}
-use Rattle.gta_refine.specs.Givers.{Gives, AreGivers}
+use Rattle.gta_refine.specs.Givers.{AreGivers}
 use Rattle.gta_refine.specs.Refined.{part_at, is_reached_in, ArePartition, GiveOthersAt, child_at, child_of, room_in}
 use Rattle.gta_refine.proofs.ChosenLemmas.{marked-inside}
 use Rattle.gta_refine.proofs.ListsLemmas.{cases_contains, Contains-none}

@@ -1,7 +1,7 @@
 -- The child states that give states of a class, from the index of who uses what.
-use Rattle.std.proofs.Common.{◌≡◌, ℕ, suc, ◌+◌, ◌<◌, ◌≤◌, Bool, true, List, [], ◌∷◌, ◌++◌, length, map, Some, ◌⊎◌, inl, inr}
+use Rattle.std.proofs.Common.{◌≡◌, ℕ, ◌<◌, true, List, length, map, Some}
 use Rattle.std.proofs.Common.{sym, ◌∙◌, ap, refl, subst, arith}
-use Rattle.std.specs.Prelude.{Contains, flat_map, slice_get, slice_index, slice_index_or, ◌↔◌}
+use Rattle.std.specs.Prelude.{Contains, flat_map, slice_get, slice_index, ◌↔◌}
 use Rattle.labels.specs.Labels.{Label}
 use Rattle.bdd_list.specs.declared.listing.Listed.{Listed}
 use Rattle.bdd_list.specs.declared.listing.Listed.TheVariants.{Leaf, Inner}
@@ -17,11 +17,10 @@ use Rattle.gta_refine.specs.declared.rows.Side.{Side}
 use Rattle.gta_refine.specs.declared.rows.Side.TheVariants.{Left, Right}
 use Rattle.gta_refine.specs.declared.uses.SpaceUses.{SpaceUses}
 use Rattle.gta_refine.specs.Form.{root_in, guide_of, states_of, automaton_of, IsForm}
-use Rattle.gta_refine.specs.Chosen.{is_marked}
 use Rattle.gta_refine.specs.Rows.{kinds_in, cell_at, HasRootAt}
 use Rattle.gta_refine.specs.Lists.{list_at, Leads}
-use Rattle.gta_refine.specs.Uses.{above_of, HasPlace, IsRoot, side_of, IsOwn, AreSideUses, IsUses}
-use Rattle.gta_refine.specs.Givers.{GivesSome, AreClimbed, AreMembers, Gives, AreGivers}
+use Rattle.gta_refine.specs.Uses.{above_of, HasPlace, side_of, IsOwn, AreSideUses, IsUses}
+use Rattle.gta_refine.specs.Givers.{AreClimbed, AreMembers, Gives, AreGivers}
 use Rattle.gta_refine.specs.Refined.{part_at, is_reached_in, class_at, child_at, opposite, step_by, ArePartition}
 use Rattle.gta_refine.proofs.ChosenLemmas.{marked-inside}
 use Rattle.gta_refine.proofs.ReachLemmas.{step-at}

@@ -1,6 +1,6 @@
 -- Marks are taken away, and numbers put to 0 again.
 use Rattle.std.proofs.Common.{◌≡◌, ◌≢◌, ℕ, zero, suc, ◌+◌, ◌<◌, ◌≤◌, Bool, true, false, List, [], length, ◌⊎◌, inl, inr}
-use Rattle.std.proofs.Common.{sym, ◌∙◌, ap, refl, subst, arith}
+use Rattle.std.proofs.Common.{sym, ◌∙◌, ap, refl, arith}
 use Rattle.std.specs.Prelude.{Contains, slice_index, slice_index_or, slice_set, replicate}
 use Rattle.std.proofs.lemmas.List.{get_or_default, get_or-set_same, get_or-set_other, get_or_past, length-set}
 use Rattle.std.proofs.lemmas.Bool.{cases_eq, cases_lt, cases_Bool, false≢true}

@@ -1,14 +1,13 @@
 -- Who uses what: one number after the other.
-use Rattle.std.proofs.Common.{◌≡◌, ℕ, suc, ◌+◌, ◌<◌, ◌≤◌, Bool, true, false, List, [], ◌∷◌, ◌++◌, length, Some, ◌⊎◌, inl, inr}
+use Rattle.std.proofs.Common.{◌≡◌, ℕ, ◌+◌, ◌<◌, Bool, true, false, List, [], ◌∷◌, ◌++◌, length, Some, ◌⊎◌, inl, inr}
 use Rattle.std.proofs.Common.{sym, ◌∙◌, ap, refl, subst, arith, length-append}
-use Rattle.std.specs.Prelude.{Contains, slice_get, slice_index, slice_index_or}
+use Rattle.std.specs.Prelude.{Contains, slice_get, slice_index}
 use Rattle.std.proofs.lemmas.List.{get_or_default, get_or_append_left, get_or_push, get_or_past}
-use Rattle.std.proofs.lemmas.List.Elements.{Contains-push, Contains-push_cases, Contains-append_left, Contains-get_or}
+use Rattle.std.proofs.lemmas.List.Elements.{Contains-get_or}
 use Rattle.std.proofs.lemmas.Bool.{cases_eq, cases_lt, false≢true}
 use Rattle.bdd_list.specs.declared.listing.Listed.{Listed}
 use Rattle.bdd_list.specs.declared.listing.Listed.TheVariants.{Leaf, Inner}
 use Rattle.gta_theory.proofs.ListedLemmas.{slice_get-push}
-use Rattle.gta_theory.specs.Guides.{IsSpace}
 use Rattle.gta_refine.specs.declared.form.FormSpace.{FormSpace}
 use Rattle.gta_refine.specs.declared.form.Form.{Form}
 use Rattle.gta_refine.specs.declared.rounds.SpaceClasses.{SpaceClasses}
@@ -16,12 +15,12 @@ use Rattle.gta_refine.specs.declared.rows.Side.{Side}
 use Rattle.gta_refine.specs.declared.rows.Side.TheVariants.{Left, Right}
 use Rattle.gta_refine.specs.declared.uses.SideUses.{SideUses}
 use Rattle.gta_refine.specs.declared.uses.SpaceUses.{SpaceUses}
-use Rattle.gta_refine.specs.Form.{guide_of, states_of, IsForm}
+use Rattle.gta_refine.specs.Form.{guide_of, IsForm}
 use Rattle.gta_refine.specs.Chosen.{is_marked, AreChosen}
 use Rattle.gta_refine.specs.Rows.{kinds_in, cell_at}
-use Rattle.gta_refine.specs.Lists.{list_at, Leads, IsAdded}
-use Rattle.gta_refine.specs.Uses.{above_of, HasPlace, IsAddedAbove, AreAbove, HasBeside, AddsOwner, AreOwners, AreLikes, IsOwn, HasRootWith, HasOwner}
-use Rattle.gta_refine.specs.Uses.{AreSideUses, IsUses, AreUses}
+use Rattle.gta_refine.specs.Lists.{Leads, IsAdded}
+use Rattle.gta_refine.specs.Uses.{above_of, HasPlace, IsAddedAbove, AreAbove, HasBeside, AddsOwner, AreOwners, AreLikes, IsOwn}
+use Rattle.gta_refine.specs.Uses.{AreSideUses, IsUses}
 use Rattle.gta_refine.specs.Refined.{part_at, is_reached_in, child_at, opposite, ArePartition}
 use Rattle.gta_refine.proofs.ChosenLemmas.{marked-inside}
 use Rattle.gta_refine.proofs.ReachLemmas.{cell-same}

@@ -1,5 +1,5 @@
 -- The child states whose steps give states of a class.
-use Rattle.std.specs.Prelude.{◌≡◌, ℕ, Bool, true, List, ◌∷◌, ◌++◌, ◌⊎◌, Contains, slice_index}
+use Rattle.std.specs.Prelude.{◌≡◌, ℕ, Bool, true, List, ◌++◌, ◌⊎◌, Contains, slice_index}
 use Rattle.labels.specs.Labels.{Label}
 use Rattle.bdd_list.specs.declared.listing.Listed.{Listed}
 use Rattle.bdd_list.specs.declared.listing.Listed.TheVariants.{Inner}

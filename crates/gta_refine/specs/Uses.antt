@@ -1,5 +1,5 @@
 -- Who uses what in a space.
-use Rattle.std.specs.Prelude.{◌≡◌, ℕ, Bool, true, ◌+◌, ◌<◌, ◌≤◌, List, [], ◌⊎◌, length, Contains, slice_get, slice_index, slice_index_or, Some}
+use Rattle.std.specs.Prelude.{◌≡◌, ℕ, Bool, true, ◌<◌, List, ◌⊎◌, length, Contains, slice_get, slice_index, slice_index_or, Some}
 use Rattle.bdd_list.specs.declared.listing.Listed.{Listed}
 use Rattle.bdd_list.specs.declared.listing.Listed.TheVariants.{Leaf, Inner}
 use Rattle.bdd_list.specs.declared.listing.ListedNode.{ListedNode}

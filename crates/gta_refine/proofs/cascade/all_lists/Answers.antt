@@ -1,11 +1,9 @@
 -- One space more.
-use Rattle.std.proofs.Common.{◌≡◌, ◌+◌, ◌<◌, ℕ, List, [], ◌∷◌, ◌++◌, length, Some, sym, ◌∙◌, ap, subst, arith}
+use Rattle.std.proofs.Common.{◌≡◌, ◌<◌, ℕ, List, [], length, Some, sym, ◌∙◌, subst, arith}
 use Rattle.std.specs.Prelude.{slice_get, slice_index_or}
 use Rattle.std.proofs.lemmas.List.{get_or_default}
-use Rattle.gta_theory.specs.Guides.{IsSpace}
 use Rattle.gta_refine.specs.declared.form.Form.{Form}
 use Rattle.gta_refine.specs.declared.rounds.SpaceClasses.{SpaceClasses}
-use Rattle.gta_refine.specs.Form.{guide_of}
 use Rattle.gta_refine.specs.Classes.{AreClasses}
 use Rattle.gta_refine.specs.Cuts.{Covers, ClassLists}
 use Rattle.gta_refine.specs.Refined.{part_at, ArePartition}

@@ -1,5 +1,5 @@
 -- One number after the other.
-use Rattle.std.proofs.Common.{◌≡◌, ◌+◌, ℕ, Bool, List, length, sym, subst, arith}
+use Rattle.std.proofs.Common.{◌≡◌, ◌+◌, Bool, List, length, sym, subst, arith}
 use Rattle.gta_refine.proofs.ScratchLemmas.{UnmarkedBelow, UnmarkedBelow-none, UnmarkedBelow-next, unmarked-all}
 use Rattle.gta_refine.proofs.chosen.unmark_all.Goals as goal
 

@@ -1,5 +1,5 @@
 -- One node after the other.
-use Rattle.std.proofs.Common.{◌≡◌, ◌+◌, ℕ, Bool, List, length, sym, ◌∙◌, ap, subst, arith}
+use Rattle.std.proofs.Common.{◌≡◌, ◌+◌, Bool, List, length, sym, ◌∙◌, ap, subst, arith}
 use Rattle.gta_refine.proofs.ScratchLemmas.{NodesUnmarkedBelow, NodesUnmarkedBelow-none, NodesUnmarkedBelow-leaf, NodesUnmarkedBelow-node, nodes-unmarked-all}
 use Rattle.gta_refine.proofs.chosen.unmark_nodes.Goals as goal
 use Rattle.gta_refine.proofs.chosen.unmark_nodes.Goals.{in-Leaf, in-Inner}

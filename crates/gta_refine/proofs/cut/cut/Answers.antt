@@ -1,6 +1,5 @@
 -- The listed states have classes, and so have the others.
-use Rattle.std.proofs.Common.{◌≡◌, ◌<◌, ℕ, List, length, sym, ◌∙◌, ap, subst, arith}
-use Rattle.std.specs.Prelude.{Contains, slice_index}
+use Rattle.std.proofs.Common.{sym, subst, arith}
 use Rattle.gta_refine.specs.Cuts.{IsIndicator, HasOthers}
 use Rattle.gta_refine.proofs.ChosenLemmas.{marked-inside}
 use Rattle.gta_refine.proofs.CutLemmas.{others-same}

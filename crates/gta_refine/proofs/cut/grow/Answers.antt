@@ -1,5 +1,5 @@
 -- One empty list more.
-use Rattle.std.proofs.Common.{◌≡◌, ◌+◌, ℕ, List, [], ◌∷◌, ◌++◌, sym, ◌∙◌, ap, subst, arith}
+use Rattle.std.proofs.Common.{ℕ, List, sym, subst, arith}
 use Rattle.gta_refine.specs.Lists.{Leads}
 use Rattle.gta_refine.proofs.ListsLemmas.{Leads-more}
 use Rattle.gta_refine.proofs.cut.grow.Goals as goal

@@ -1,8 +1,7 @@
 -- One state after the other.
-use Rattle.std.proofs.Common.{◌≡◌, ◌+◌, ◌<◌, ℕ, List, length, refl, sym, ◌∙◌, ap, subst, arith}
-use Rattle.std.specs.Prelude.{Contains, slice_index}
+use Rattle.std.proofs.Common.{◌≡◌, ◌+◌, ℕ, List, length, refl, sym, ◌∙◌, ap, subst, arith}
+use Rattle.std.specs.Prelude.{slice_index}
 use Rattle.std.proofs.lemmas.List.{length-set}
-use Rattle.std.proofs.lemmas.List.Elements.{Contains-get_or}
 use Rattle.gta_refine.proofs.CutLemmas.{IsIndicatorBelow, IsIndicatorBelow-start, IsIndicatorBelow-next, IsIndicator-all, small-at}
 use Rattle.gta_refine.proofs.cut.indicate.Goals as goal
 

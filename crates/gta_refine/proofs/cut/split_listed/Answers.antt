@@ -1,9 +1,8 @@
 -- One state after the other.
-use Rattle.std.proofs.Common.{◌≡◌, ◌+◌, ◌<◌, ◌≤◌, ℕ, Bool, List, length, sym, ◌∙◌, ap, subst, arith}
-use Rattle.std.specs.Prelude.{Contains, slice_index, slice_set, true}
+use Rattle.std.proofs.Common.{◌≡◌, ◌+◌, ◌<◌, ℕ, Bool, List, length, sym, ◌∙◌, ap, subst, arith}
+use Rattle.std.specs.Prelude.{Contains, slice_index, true}
 use Rattle.std.proofs.lemmas.List.Elements.{Contains-get_or}
 use Rattle.gta_refine.specs.Chosen.{is_marked}
-use Rattle.gta_refine.specs.Classes.{AreClasses}
 use Rattle.gta_refine.specs.Splitting.{IsStep}
 use Rattle.gta_refine.proofs.ChosenLemmas.{marked-inside}
 use Rattle.gta_refine.proofs.SplitLemmas.{Splits, Splits-same}

@@ -1,5 +1,5 @@
 -- One node more.
-use Rattle.std.proofs.Common.{◌≡◌, ◌<◌, ℕ, Bool, false, List, length, sym, ◌∙◌, ap, subst, arith}
+use Rattle.std.proofs.Common.{◌≡◌, ◌<◌, Bool, false, List, length, sym, ◌∙◌, ap, subst, arith}
 use Rattle.std.specs.Prelude.{slice_index, slice_index_or}
 use Rattle.gta_refine.proofs.ClimbLemmas.{AddsBelow, AddsBelow-same, AddsBelow-found, AddsBelow-push, AddsNodes-all}
 use Rattle.gta_refine.proofs.givers.add_nodes.Goals as goal

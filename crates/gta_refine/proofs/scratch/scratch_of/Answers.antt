@@ -1,7 +1,5 @@
 -- Nothing is set.
-use Rattle.std.proofs.Common.{◌≡◌, ◌≤◌, ℕ, Bool, List, length, sym, ap, subst, arith}
-use Rattle.std.specs.Prelude.{replicate}
-use Rattle.std.proofs.lemmas.List.{length-replicate}
+use Rattle.std.proofs.Common.{ℕ, Bool, List, sym, subst, arith}
 use Rattle.gta_refine.specs.Scratch.{IsClear, AreZero}
 use Rattle.gta_refine.proofs.ScratchLemmas.{IsClear-replicate, AreZero-replicate}
 use Rattle.gta_refine.proofs.scratch.scratch_of.Goals as goal

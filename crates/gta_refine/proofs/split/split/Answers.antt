@@ -4,7 +4,7 @@ use Rattle.std.specs.Prelude.{slice_index}
 use Rattle.std.proofs.lemmas.Bool.{cases_lt}
 use Rattle.gta_refine.specs.Splitting.{IsStep}
 use Rattle.gta_refine.proofs.ChosenLemmas.{marked-inside}
-use Rattle.gta_refine.proofs.SplitLemmas.{Splits, Splits-same, Splits-skip, Splits-step, AreClasses-all, IsSplit-all, representatives-unchanged}
+use Rattle.gta_refine.proofs.SplitLemmas.{Splits-same, Splits-skip, Splits-step, AreClasses-all, IsSplit-all}
 use Rattle.gta_refine.proofs.split.split.Goals as goal
 use Rattle.gta_refine.proofs.split.split.Goals.{then-reached-state+in_ok-class, else-reached-state}
 

@@ -3,7 +3,6 @@ use Rattle.std.proofs.Common.{sym, subst}
 use Rattle.std.specs.Prelude.{IfOk}
 use Rattle.std.proofs.lemmas.Result.{IfOk-weaker}
 use Rattle.bdd_list.specs.declared.listing.Listed.{Listed}
-use Rattle.gta_refine.specs.Lists.{IsAdded}
 use Rattle.gta_refine.specs.Uses.{IsAddedAbove}
 use Rattle.gta_refine.proofs.UsesLemmas.{IsAddedAbove-leaf, IsAddedAbove-node}
 use Rattle.gta_refine.proofs.uses.add_above.Goals as goal

@@ -1,5 +1,5 @@
 -- One state beside after the other.
-use Rattle.std.proofs.Common.{◌≡◌, ◌+◌, ◌<◌, ℕ, List, length, sym, ◌∙◌, ap, subst, arith}
+use Rattle.std.proofs.Common.{◌≡◌, ℕ, length, ◌∙◌, subst, arith}
 use Rattle.std.specs.Prelude.{slice_index}
 use Rattle.gta_refine.specs.Lists.{IsAdded}
 use Rattle.gta_refine.specs.Rows.{cell_at}

@@ -1,5 +1,5 @@
 -- One state after the other.
-use Rattle.std.proofs.Common.{◌≡◌, ◌+◌, ◌<◌, ℕ, List, length, sym, ◌∙◌, ap, subst, arith}
+use Rattle.std.proofs.Common.{◌≡◌, ◌+◌, ℕ, List, length, sym, ap, subst, arith}
 use Rattle.std.specs.Prelude.{slice_index}
 use Rattle.gta_refine.specs.Lists.{IsAdded}
 use Rattle.gta_refine.specs.Uses.{AreLikes}

@@ -1,5 +1,5 @@
 -- One state after the other.
-use Rattle.std.proofs.Common.{◌≡◌, ◌+◌, ◌<◌, ℕ, List, length, sym, ◌∙◌, ap, subst, arith}
+use Rattle.std.proofs.Common.{◌≡◌, length, sym, subst, arith}
 use Rattle.gta_refine.specs.Uses.{AreOwners}
 use Rattle.gta_refine.proofs.UsesLemmas.{OwnersBelow, OwnersBelow-none, OwnersBelow-next, AreOwners-all}
 use Rattle.gta_refine.proofs.uses.owners_of.Goals as goal

@@ -1,12 +1,8 @@
 -- One node after the other.
-use Rattle.std.proofs.Common.{◌≡◌, ◌+◌, ◌<◌, ℕ, List, length, inl, inr, refl, sym, ◌∙◌, ap, subst, arith}
-use Rattle.std.specs.Prelude.{vec_len}
-use Rattle.std.proofs.lemmas.List.{get_or_default}
-use Rattle.bdd_list.specs.declared.listing.Listed.{Listed}
-use Rattle.bdd_list.specs.declared.listing.ListedNode.{ListedNode}
+use Rattle.std.proofs.Common.{◌<◌, ℕ, List, length, inl, inr, refl, sym, subst, arith}
 use Rattle.bdd_list.specs.Listing.{node_at}
 use Rattle.gta_refine.specs.Uses.{IsAddedAbove, AreAbove, HasSide}
-use Rattle.gta_refine.proofs.UsesLemmas.{AboveBelow, AboveBelow-none, AboveBelow-two, AreAbove-all}
+use Rattle.gta_refine.proofs.UsesLemmas.{AboveBelow-none, AboveBelow-two, AreAbove-all}
 use Rattle.gta_refine.proofs.uses.parents_of.Goals as goal
 
 pub loop-index-init : goal.loop-index-init

@@ -1,10 +1,9 @@
 -- One root after the other.
-use Rattle.std.proofs.Common.{◌≡◌, ◌+◌, ◌<◌, ℕ, List, length, refl, sym, ◌∙◌, ap, subst, arith}
-use Rattle.std.specs.Prelude.{vec_len, slice_index_or}
-use Rattle.bdd_list.specs.declared.listing.Listed.{Listed}
+use Rattle.std.proofs.Common.{◌≡◌, ℕ, List, length, refl, sym, subst, arith}
+use Rattle.std.specs.Prelude.{slice_index_or}
 use Rattle.bdd_list.specs.declared.listing.Listed.TheVariants.{Leaf}
 use Rattle.gta_refine.specs.Uses.{IsAddedAbove, AreAbove, IsRoot}
-use Rattle.gta_refine.proofs.UsesLemmas.{AboveBelow, AboveBelow-none, AboveBelow-one, AreAbove-all}
+use Rattle.gta_refine.proofs.UsesLemmas.{AboveBelow-none, AboveBelow-one, AreAbove-all}
 use Rattle.gta_refine.proofs.uses.roots_of.Goals as goal
 
 pub loop-index-init : goal.loop-index-init

@@ -1,4 +1,4 @@
-use Rattle.std.proofs.Common.{◌≡◌, length, vec_len}
+use Rattle.std.proofs.Common.{◌≡◌, vec_len}
 use Rattle.gta_refine.specs.Uses.{IsRoot}
 use Rattle.gta_refine.proofs.UsesLemmas.{AboveBelow}
 use Rattle.gta_refine.proofs.uses.roots_of.Given as goal

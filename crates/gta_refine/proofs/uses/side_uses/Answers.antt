@@ -1,12 +1,12 @@
 -- The child states on a side.
-use Rattle.std.proofs.Common.{◌≡◌, ◌<◌, ◌≤◌, ◌^◌, ℕ, Bool, true, List, Some, length, sym, ◌∙◌, ap, subst, arith}
-use Rattle.std.specs.Prelude.{Contains, slice_get, nat_lt}
+use Rattle.std.proofs.Common.{◌≡◌, ◌<◌, ◌≤◌, ◌^◌, ℕ, Bool, List, Some, length, sym, ◌∙◌, ap, subst, arith}
+use Rattle.std.specs.Prelude.{Contains, nat_lt}
 use Rattle.gta_refine.specs.declared.form.FormSpace.{FormSpace}
 use Rattle.gta_refine.specs.declared.rounds.SpaceClasses.{SpaceClasses}
 use Rattle.gta_refine.specs.declared.rows.Side.{Side}
 use Rattle.gta_refine.specs.declared.uses.SideUses.{SideUses}
 use Rattle.gta_refine.specs.Form.{guide_of}
-use Rattle.gta_refine.specs.Chosen.{AreChosen, is_marked}
+use Rattle.gta_refine.specs.Chosen.{AreChosen}
 use Rattle.gta_refine.specs.Rows.{kinds_in}
 use Rattle.gta_refine.specs.Uses.{AreOwners, AreLikes, AreSideUses}
 use Rattle.gta_refine.specs.Refined.{part_at, child_of, child_at, opposite}

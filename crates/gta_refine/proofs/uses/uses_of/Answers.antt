@@ -1,5 +1,5 @@
 -- One space more.
-use Rattle.std.proofs.Common.{◌≡◌, ◌+◌, ℕ, List, Some, length, subst, arith}
+use Rattle.std.proofs.Common.{◌≡◌, List, Some, subst, arith}
 use Rattle.std.specs.Prelude.{slice_get}
 use Rattle.gta_refine.specs.declared.uses.SpaceUses.{SpaceUses}
 use Rattle.gta_refine.proofs.UsesLemmas.{IsUses-push}
