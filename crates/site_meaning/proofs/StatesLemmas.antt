@@ -53,7 +53,14 @@ module _ (types : List TypeEntry) (vars : List VarEntry) where
       Sees types vars next a first s t at → HasRoom types vars next (with_more made added s) →
       Sees types vars next a first (with_more made added s) t at
   sees-more next a first s t at made added sees room =
-      record { over = sees.over; below = below-more next made added s sees.below room; seen = sees.seen }
+      record {
+        over = sees.over;
+        below = below-more next made added s sees.below room;
+        guarded = sees.guarded;
+        seen = sees.seen;
+        fresh = sees.fresh;
+        spare = sees.spare;
+      }
 
   -- ---- meanings
 

@@ -4,11 +4,14 @@ use Rattle.std.specs.Prelude.{ℕ, ◌+◌, ◌≤◌, List, ◌++◌, length, A
 use Rattle.gta_theory.specs.Assignments.{Assignment, IsFinite}
 use Rattle.ws2s_core.specs.Satisfaction.{WSat}
 use Rattle.store_core.specs.Tables.{TypeEntry, VarEntry, IsTypeTable}
-use Rattle.store_core.specs.Stores.{StoreMap}
+use Rattle.store_core.specs.declared.ids.CellId.{CellId}
+use Rattle.store_core.specs.Stores.{StoreMap, IsFresh}
 use Rattle.routing_expr.specs.WellFormed.{IsWellFormed}
 use Rattle.tree_encode.specs.Tracks.{track_count}
 use Rattle.tree_store.specs.Encoding.{IsAssignmentOf}
-use Rattle.graph_view.specs.After.{Standing, IsSeen, IsSymBelow, IsGuardBelow, AreEventsBelow}
+use Rattle.ws2s_forms.specs.Places.{slot_of}
+use Rattle.graph_view.specs.Sights.{var_slots}
+use Rattle.graph_view.specs.After.{Standing, IsAt, IsSeen, IsGuard, IsSymBelow, IsGuardBelow, AreEventsBelow}
 use Rattle.site_view.specs.States.{Text, Check, State}
 
 -- the assignment is of finite sets, those of the tree of a well-formed store
@@ -33,12 +36,19 @@ pub record IsBelow (types : List TypeEntry) (vars : List VarEntry) (s : State) (
 abbrev pub AreDefined : ℕ → Assignment → State → Type 0
 AreDefined next a s = All (λ (text : Text). WSat (text next) a) s.defined
 
+-- no cell stands in the slots of cells that are still to be made
+abbrev pub AreSpare : List VarEntry → State → Standing → Type 0
+AreSpare vars s at = (k : ℕ) → s.news ≤ k → (c : CellId) → IsAt at c (slot_of (var_slots vars + k)) → ⊥
+
 -- the state sees the store, whose cells stand there, from the tree of the first one; quantifiers bind tracks from `next` on
 pub record Sees (types : List TypeEntry) (vars : List VarEntry) (next : ℕ) (a : Assignment) (first : StoreMap) (s : State) (t : StoreMap)
     (at : Standing) : Type 0 where
   pub over : IsOver types vars a first
   pub below : IsBelow types vars s next
+  pub guarded : IsGuard a s.guard
   pub seen : IsSeen types vars s.values s.events a first t at
+  pub fresh : IsFresh t
+  pub spare : AreSpare vars s at
 
 -- the state with these tracks made and these places passed since
 abbrev pub with_more : List Text → List Check → State → State
