@@ -5,3 +5,7 @@ pub mod AccessLemmas
 pub mod ReadingLemmas
 pub mod TruthsLemmas
 pub mod ConditionsLemmas
+pub mod EventsLemmas
+pub mod EvaluatingLemmas
+pub mod AssigningLemmas
+pub mod FreeingLemmas
