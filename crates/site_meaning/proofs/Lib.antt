@@ -9,3 +9,4 @@ pub mod EventsLemmas
 pub mod EvaluatingLemmas
 pub mod AssigningLemmas
 pub mod FreeingLemmas
+pub mod ActsLemmas

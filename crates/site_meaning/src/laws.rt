@@ -1,28 +1,26 @@
-//! What the walk over reading and over conditions means.
+//! What the walk over reading, over conditions and over acts means.
 
-ghost use Rattle.std.specs.Prelude.{◌≡◌, ◌↔◌, ℕ, List, IfSome, Option, Some};
-ghost use Rattle.gta_theory.specs.Assignments.{Assignment};
-ghost use Rattle.ws2s_core.specs.Satisfaction.{WSat};
-ghost use Rattle.store_core.specs.declared.ids.CellId.{CellId};
-ghost use Rattle.store_core.specs.declared.ids.FieldId.{FieldId};
+ghost use Rattle.std.specs.Prelude.{ℕ, List};
 ghost use Rattle.store_core.specs.declared.ids.TypeId.{TypeId};
-ghost use Rattle.store_core.specs.declared.value.Value.TheVariants as value;
-ghost use Rattle.store_core.specs.Tables.{TypeEntry, FieldEntry, VarEntry, field_at};
-ghost use Rattle.store_core.specs.Stores.{StoreMap, NamesType};
+ghost use Rattle.store_core.specs.declared.ids.VarId.{VarId};
+ghost use Rattle.store_core.specs.Tables.{TypeEntry, VarEntry};
 ghost use Rattle.store_logic.specs.declared.path.Path.{Path};
 ghost use Rattle.store_logic.specs.declared.path.Operand.{Operand};
 ghost use Rattle.store_logic.specs.declared.cond.Cond.{Cond};
+ghost use Rattle.store_logic.specs.declared.act.Rhs.{Rhs};
+ghost use Rattle.store_logic.specs.declared.act.Act.TheVariants as act;
 ghost use Rattle.store_logic.specs.Sorts.{Truth, Cell};
 ghost use Rattle.store_logic.specs.Terms.{truth_in};
-ghost use Rattle.store_logic.specs.FitsCode.{PathFits, OperandFits, CondFits};
+ghost use Rattle.store_logic.specs.FitsCode.{PathFits, OperandFits, CondFits, ActFits};
 ghost use Rattle.store_exec.specs.Steps.{made_of, truth_of};
 ghost use Rattle.store_exec.specs.Steps as exec;
-ghost use Rattle.graph_view.specs.declared.view.Sym.{Sym};
-ghost use Rattle.graph_view.specs.After.{Standing, StandsForCell, IsSymBelow};
+ghost use Rattle.store_exec.specs.Runs.{Does};
 ghost use Rattle.site_view.specs.States.{Text, State};
-ghost use Rattle.site_view.specs.Reading.{check_access, path_value, operand_value, path_truth};
+ghost use Rattle.site_view.specs.Reading.{path_value, operand_value, path_truth};
 ghost use Rattle.site_view.specs.Conditions.{condition};
+ghost use Rattle.site_view.specs.Acts.{act_rule};
 ghost use Rattle.site_meaning.specs.Answering.{Reads, Tells, MeansTruth};
+ghost use Rattle.site_meaning.specs.Doing.{Leads};
 
 /// Reading a path to a cell, or an operand, means the value that stands there: what is read stands for it, or the first cause that
 /// comes is the one that stops execution. Nothing comes where it isn't reached.
@@ -42,4 +40,13 @@ pub fn reads_mean_values()
 pub fn conditions_mean_their_truth()
     ensures { (types : List TypeEntry) (vars : List VarEntry) (line : ℕ) (c : Cond) → CondFits types vars c →
         MeansTruth types vars line (condition types vars line c) (λ t. truth_of t c) }
+{}
+
+/// An assignment means its step: the cells of the place are read, then what is assigned is evaluated, and then the place is written.
+/// `free` means its step.
+pub fn acts_mean_their_steps()
+    ensures assignments { (types : List TypeEntry) (vars : List VarEntry) (line : ℕ) (p : Path) (x : Rhs) (s : State) → ActFits types vars (act.Assign p x) →
+        Leads types vars s (act_rule types vars line (act.Assign p x) s) (λ t end. Does types line t (act.Assign p x) end) }
+    ensures frees { (types : List TypeEntry) (vars : List VarEntry) (line : ℕ) (v : VarId) (s : State) → ActFits types vars (act.Free v) →
+        Leads types vars s (act_rule types vars line (act.Free v) s) (λ t end. Does types line t (act.Free v) end) }
 {}
