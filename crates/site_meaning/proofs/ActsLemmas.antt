@@ -26,6 +26,7 @@ leads-by types vars s after One Other from leads = record {
   added = leads.added;
   checks = leads.checks;
   guard = leads.guard;
+  count = leads.count;
   news = leads.news;
   below = leads.below;
   reached = λ next a first t at end sees room defined taken ends. leads.reached next a first t at end sees room defined taken (from t end ends);

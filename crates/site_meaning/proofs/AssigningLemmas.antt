@@ -1,5 +1,5 @@
 -- Assignments: to a variable, and to a field of what a path leads to.
-use Rattle.std.proofs.Common.{◌≡◌, ◌↔◌, ℕ, suc, ◌+◌, ◌<◌, ◌≤◌, Bool, true, false, cond, IsTrue, IsSome, IsSomeAnd, IfSome, List, [], ◌∷◌, ◌++◌, length, Option, Some, None, is_some, All, Result, Ok, Err, refl, sym, ap, ◌∙◌, subst, arith, append-nil, append_assoc}
+use Rattle.std.proofs.Common.{◌≡◌, ◌↔◌, ℕ, suc, ◌+◌, ◌<◌, ◌≤◌, Bool, true, false, cond, IsTrue, IsSome, IsSomeAnd, IfSome, List, [], ◌∷◌, ◌++◌, length, Option, Some, None, is_some, All, Result, Ok, Err, refl, sym, ap, ◌∙◌, subst, arith, append-nil, append_assoc, length-set}
 use Rattle.std.specs.Option.{ok_or}
 use Rattle.std.proofs.lemmas.List.{length-append}
 use Rattle.std.proofs.lemmas.List.Elements.{All-set}
@@ -128,6 +128,7 @@ module _ (types : List TypeEntry) (vars : List VarEntry) (line : ℕ) (s : State
       added = ev.added;
       checks = ev.checks;
       guard = ev.same_guard;
+      count = length-set (new.1).values v.0 (new.0) ∙ ap length ev.same_values;
       news = ev.news;
       below = variable-below;
       reached = λ next a first t at end sees room defined taken ends.
@@ -147,7 +148,8 @@ module _ (types : List TypeEntry) (vars : List VarEntry) (line : ℕ) (s : State
             },
           )) (ev.reached next a first t at sees room defined taken))
           (λ u e. keeps t u sees.seen.fits sees.fresh e) end ends;
-      idle = ev.idle;
+      idle = λ next a finite room defined below guarded passed.
+          let idle = ev.idle next a finite below guarded passed in record { none = idle.none; sees = idle.sees };
     }
 
   -- ---- a field of what has come
@@ -322,13 +324,14 @@ module _ (types : List TypeEntry) (vars : List VarEntry) (line : ℕ) (s : State
               ∙ append_assoc (s.checks ++ come.reads.means.added) evaluation.added checks_now
               ∙ append_assoc s.checks come.reads.means.added (evaluation.added ++ checks_now);
           guard = guard-now;
+          count = ap length (evaluation.same_values ∙ ap (λ (u : State). u.values) come.reads.means.is);
           news = (let same : (got.1).news ≡ s.news = ap (λ (u : State). u.news) come.reads.means.is in
               let more = evaluation.news in omega (arith, same, more));
           below = below-then;
           reached = λ next a first t at end sees room defined taken ends.
               follows-by types vars next a first after (come.reads.means.added ++ (evaluation.added ++ checks_now)) line (result t)
               (answers-all next a first t at sees room defined taken) (λ u e. keeps t u sees.seen.fits sees.fresh e) end ends;
-          idle = field-idle;
+          idle = λ next a finite room defined below guarded passed. field-idle next a finite below guarded passed;
         })
 
   -- ---- the fields of a place

@@ -1,5 +1,6 @@
 -- Conditions, form by form.
-use Rattle.std.proofs.Common.{◌≡◌, ◌↔◌, ◌⊎◌, inl, inr, ℕ, ◌≤◌, Bool, true, false, not, cond, IsTrue, List, Result, Ok, Err, refl, sym, ap, ◌∙◌, subst, transport, arith}
+use Rattle.std.proofs.Common.{◌≡◌, ◌↔◌, ◌⊎◌, inl, inr, ℕ, ◌≤◌, Bool, true, false, not, cond, IsTrue, List, Result, Ok, Err, refl, sym, ap, ◌∙◌, subst, arith}
+use mathlib.Core.Path.{transport}
 use Rattle.std.proofs.lemmas.Bool.{false≢true}
 use Rattle.gta_theory.specs.Assignments.{Assignment}
 use Rattle.ws2s_core.specs.declared.formula.Formula.{Formula}

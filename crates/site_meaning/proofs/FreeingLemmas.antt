@@ -165,13 +165,14 @@ module _ (types : List TypeEntry) (vars : List VarEntry) (line : ℕ) (s : State
         added = checks;
         checks = refl;
         guard = refl;
+        count = refl;
         news = omega arith;
         below = below-then;
         reached = λ next a first t at end sees room defined taken ends.
             follows-by types vars next a first after checks line (exec.freed t (variable t v)) (answers-freed next a first t at sees room taken)
             (λ w e. Step-keeps types vars t sees.seen.fits sees.fresh (act.Free v) w (of-some (λ (k : VarEntry). HoldsCell k.kind) (var_at vars v) entry there holds) e)
             end ends;
-        idle = λ next a finite below guarded passed. record {
+        idle = λ next a finite room defined below guarded passed. record {
           none = none-cons next a (null_check line (guard s) u) (freed_check ∷ [])
               (λ h. passed ((reached-guard types vars line s next a finite below).0 h.0))
               (none-cons next a freed_check [] (λ h. passed ((reached-guard types vars line s next a finite below).0 h.0)) (none-none next a));

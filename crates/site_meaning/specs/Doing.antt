@@ -1,5 +1,5 @@
 -- What the walk over parts of code means: a step from one store that is seen to the next, or a cause.
-use Rattle.std.specs.Prelude.{◌≡◌, ℕ, ◌≤◌, List, ◌++◌, Result, Ok, Err}
+use Rattle.std.specs.Prelude.{◌≡◌, ℕ, ◌≤◌, List, ◌++◌, length, Result, Ok, Err}
 use Rattle.gta_theory.specs.Assignments.{Assignment, IsFinite}
 use Rattle.store_core.specs.Tables.{TypeEntry, VarEntry}
 use Rattle.store_core.specs.Stores.{StoreMap}
@@ -22,16 +22,18 @@ pub record IsIdle (types : List TypeEntry) (vars : List VarEntry) (next : ℕ) (
   pub sees : (first : StoreMap) (values : List Sym) (t : StoreMap) (at : Standing) → IsSeen types vars values s.events a first t at →
       IsSeen types vars values after.events a first t at
 
--- from one state to the next the walk means that the part ends so. The guard stays, and tracks, places and slots are added alone
+-- from one state to the next the walk means that the part ends so. The guard and the number of values stay, and
+-- tracks, places and slots are added alone
 pub record Leads (types : List TypeEntry) (vars : List VarEntry) (s after : State) (Ends : StoreMap → Ending → Type 0) : Type 0 where
   pub made : List Text
   pub defined : after.defined ≡ s.defined ++ made
   pub added : List Check
   pub checks : after.checks ≡ s.checks ++ added
   pub guard : after.guard ≡ s.guard
+  pub count : length after.values ≡ length s.values
   pub news : s.news ≤ after.news
   pub below : (next : ℕ) → IsBelow types vars s next → HasRoom types vars next after → IsBelow types vars after next
   pub reached : (next : ℕ) (a : Assignment) (first t : StoreMap) (at : Standing) (end : Ending) → Sees types vars next a first s t at →
       HasRoom types vars next after → AreDefined next a after → IsTaken a s.guard → Ends t end → Follows types vars next a first after added end
-  pub idle : (next : ℕ) (a : Assignment) → IsFinite a → IsGuardBelow next s.guard → IsGuard a s.guard → (IsTaken a s.guard → ⊥) →
-      IsIdle types vars next a s after added
+  pub idle : (next : ℕ) (a : Assignment) → IsFinite a → HasRoom types vars next after → AreDefined next a after → IsGuardBelow next s.guard →
+      IsGuard a s.guard → (IsTaken a s.guard → ⊥) → IsIdle types vars next a s after added
