@@ -173,12 +173,12 @@ module _ (types : List TypeEntry) (vars : List VarEntry) (next : ℕ) (a : Assig
       WSat (lacks types (sight vars s) f u next) a ↔ (IsLive t c × (IsSome (field_value t c f) → ⊥))
   lacks-told f entry c there stands = (
     (λ h.
-        let (p, at_p, (d, at_d, live), none) = some.0 h in
+        let (p, (at_p, (d, at_d, live), none)) = some.0 h in
         (subst (λ e. IsLive t e) (sits.apart d c p at_d at_p) live, (λ has_f. none (c, at_p, has_f)))),
     (λ (h : IsLive t c × (IsSome (field_value t c f) → ⊥)).
         let (p, at_p) = sits.there c h.0 in
-        some.1 (p, at_p, (c, at_p, h.0), (λ (k : FieldAt t at f p).
-            h.1 (subst (λ d. IsSome (field_value t d f)) (sits.apart k.0 c p k.1 at_p) k.2)))),
+        some.1 (p, (at_p, (c, at_p, h.0), (λ (k : FieldAt t at f p).
+            h.1 (subst (λ d. IsSome (field_value t d f)) (sits.apart k.0 c p k.1 at_p) k.2))))),
   )
     where
       agrees : (p : Position) → Agrees next a (with_position a next p)

@@ -10,7 +10,7 @@ use Rattle.store_core.specs.declared.ids.FieldId.{FieldId}
 use Rattle.store_core.specs.declared.ids.TypeId.{TypeId}
 use Rattle.store_core.specs.declared.ids.VarId.{VarId}
 use Rattle.store_core.specs.declared.value.Value.{Value}
-use Rattle.store_core.specs.declared.value.Value.TheVariants as value
+use Rattle.store_core.specs.declared.value.Value.TheVariants as one_value
 use Rattle.store_core.specs.Tables.{TypeEntry, FieldEntry, VarEntry, field_at}
 use Rattle.store_core.specs.Stores.{StoreMap, CellEntry, Fits, IsFresh, FieldFits, NamesType, cell_of, field_value, set_field, set_var}
 use Rattle.store_logic.specs.declared.path.Path.{Path}
@@ -85,7 +85,7 @@ stops-written next a checks line t x f y = through (cell_through t x)
         at_field (Some old) stops = stops
 
 -- what is written is a field that the cell has
-written-ok : (t : StoreMap) (o : Option CellId) (f : FieldId) (y : Value) (u : StoreMap) → written t (value.Cell o) f y ≡ Ok u →
+written-ok : (t : StoreMap) (o : Option CellId) (f : FieldId) (y : Value) (u : StoreMap) → written t (one_value.Cell o) f y ≡ Ok u →
     (c : CellId) × (o ≡ Some c) × IsSome (field_value t c f) × (set_field t c f y ≡ u)
 written-ok t None f y u e = err-ok cause.Null e
 written-ok t (Some c) f y u e = by (is_some (cell_of t c)) e
@@ -172,7 +172,7 @@ module _ (types : List TypeEntry) (vars : List VarEntry) (line : ℕ) (s : State
     after-is = ap (λ z. happens (Write (now.1).guard (got.0) f (now.0)) z) (access-is types vars line (guard (now.1)) f (got.0) (now.1))
 
     abbrev result : StoreMap → Result StoreMap Cause
-    result t = and_then (λ y. and_then (λ g. written g.0 y f g.1) (exec.evaluated types t x)) (value t)
+    result t = and_then (λ y. and_then (λ (g : StoreMap × Value). written g.0 y f g.1) (exec.evaluated types t x)) (value t)
 
     -- ---- states between
 
@@ -247,13 +247,13 @@ module _ (types : List TypeEntry) (vars : List VarEntry) (line : ℕ) (s : State
         Answers next a checks_now line (written (g.0) y f (g.1)) (IsSeenThen types vars next a first after)
     field-sees next a first t at sees room taken y y_is stands g g_is (places, sees_now, stands_new, stays) =
         subst (λ w. Answers next a checks_now line (written (g.0) w f (g.1)) (IsSeenThen types vars next a first after)) (sym cell.1)
-        (answers-so next a checks_now line (written (g.0) (value.Cell (cell.0)) f (g.1)) (IsSeenThen types vars next a first after)
-        (stops-written next a checks_now line (g.0) (value.Cell (cell.0)) f (g.1)
+        (answers-so next a checks_now line (written (g.0) (one_value.Cell (cell.0)) f (g.1)) (IsSeenThen types vars next a first after)
+        (stops-written next a checks_now line (g.0) (one_value.Cell (cell.0)) f (g.1)
         (stops-read types vars next a first (now.1) (g.0) places sees_now line (guard (now.1))
         ((reached-guard types vars line (now.1) next a sees.over.finite sees_now.below.guard).1 taken_now) (got.0) under f entry (cell.0) there later.0 later.1))
         (λ u u_is well. (places, seen-then u u_is well)))
       where
-        cell : (o : Option CellId) × (y ≡ value.Cell o) × IfSome o (NamesType t f.ty)
+        cell : (o : Option CellId) × (y ≡ one_value.Cell o) × IfSome o (NamesType t f.ty)
         cell = cell-of_sort t f.ty y (come.of_type t sees.seen.fits y y_is)
 
         later : StandsForCell a places (got.0) (cell.0) × IfSome (cell.0) (NamesType (g.0) f.ty)
@@ -271,7 +271,7 @@ module _ (types : List TypeEntry) (vars : List VarEntry) (line : ℕ) (s : State
             of-some (λ (e : FieldEntry). FieldFits (g.0) e.kind (g.1)) (field_at types f) entry there
             (field-of_sort (g.0) entry.kind (g.1) (subst (λ so. IsOfSort (g.0) so (g.1)) (sym sort_is) good.of_sort))
 
-        seen-then : (u : StoreMap) → written (g.0) (value.Cell (cell.0)) f (g.1) ≡ Ok u → IsWell types vars u → Sees types vars next a first after u places
+        seen-then : (u : StoreMap) → written (g.0) (one_value.Cell (cell.0)) f (g.1) ≡ Ok u → IsWell types vars u → Sees types vars next a first after u places
         seen-then u u_is well =
             let (c, c_is, has_f, set_is) = written-ok (g.0) (cell.0) f (g.1) u u_is in
             let names : StandsForCell a places (got.0) (Some c) = subst (λ o. StandsForCell a places (got.0) o) c_is (later.0) in
@@ -337,12 +337,9 @@ module _ (types : List TypeEntry) (vars : List VarEntry) (line : ℕ) (s : State
   -- ---- the fields of a place
 
   -- what a place gets, once what has come is known
-  abbrev got_by : FieldId → List FieldId → StoreMap → Value → Result StoreMap Cause
-  got_by f fields t y = and_then (λ step. and_then (λ g. written g.0 step.0 step.1 g.1) (exec.evaluated types t x)) (last_step t y f fields)
-
   abbrev place_result : FieldId → List FieldId → (StoreMap → Result Value Cause) → StoreMap → Result StoreMap Cause
   place_result f fields value t =
-      and_then (λ step. and_then (λ g. written g.0 step.0 step.1 g.1) (exec.evaluated types t x)) (and_then (λ y. last_step t y f fields) (value t))
+      and_then (λ (step : Value × FieldId). and_then (λ (g : StoreMap × Value). written g.0 step.0 step.1 g.1) (exec.evaluated types t x)) (and_then (λ y. last_step t y f fields) (value t))
 
   leads-same : (after : State) (one other : StoreMap → Result StoreMap Cause) → ((t : StoreMap) → one t ≡ other t) →
       Leads types vars s after (λ t end. EndsBy line (one t) end) → Leads types vars s after (λ t end. EndsBy line (other t) end)
@@ -350,8 +347,8 @@ module _ (types : List TypeEntry) (vars : List VarEntry) (line : ℕ) (s : State
       subst (λ (r : StoreMap → Result StoreMap Cause). Leads types vars s after (λ t end. EndsBy line (r t) end)) (λ i t. same t i) leads
 
   last-same : (f : FieldId) (t : StoreMap) (r : Result Value Cause) →
-      and_then (λ y. and_then (λ g. written g.0 y f g.1) (exec.evaluated types t x)) r
-      ≡ and_then (λ step. and_then (λ g. written g.0 step.0 step.1 g.1) (exec.evaluated types t x)) (and_then (λ y. Ok (y, f)) r)
+      and_then (λ y. and_then (λ (g : StoreMap × Value). written g.0 y f g.1) (exec.evaluated types t x)) r
+      ≡ and_then (λ (step : Value × FieldId). and_then (λ (g : StoreMap × Value). written g.0 step.0 step.1 g.1) (exec.evaluated types t x)) (and_then (λ y. Ok (y, f)) r)
   last-same f t (Err why) = refl
   last-same f t (Ok y) = refl
 
@@ -362,7 +359,7 @@ module _ (types : List TypeEntry) (vars : List VarEntry) (line : ℕ) (s : State
   place-leads [] f got ty value e come keeps =
       let step = step-of types ty f [] sort e in
       leads-same (write_along types vars line f [] x got)
-      (λ t. and_then (λ y. and_then (λ g. written g.0 y f g.1) (exec.evaluated types t x)) (value t)) (place_result f [] value)
+      (λ t. and_then (λ y. and_then (λ (g : StoreMap × Value). written g.0 y f g.1) (exec.evaluated types t x)) (value t)) (place_result f [] value)
       (λ t. last-same f t (value t))
       (field-leads f step.entry step.there (some-one (field_sort step.entry.kind) sort step.rest) got value
       (subst (λ k. IsCome types vars line (guard s) s got k value) (sym step.typed) come)
@@ -372,7 +369,7 @@ module _ (types : List TypeEntry) (vars : List VarEntry) (line : ℕ) (s : State
       let (target, is_cell) = step-leads types (field_sort step.entry.kind) g fields sort step.rest in
       let further = come-read types vars line (guard s) s f step.entry got ty target value step.there step.typed is_cell come in
       let same = λ (t : StoreMap). ap (λ (r : Result (Value × FieldId) Cause).
-      and_then (λ step. and_then (λ g. written g.0 step.0 step.1 g.1) (exec.evaluated types t x)) r)
+      and_then (λ (step : Value × FieldId). and_then (λ (g : StoreMap × Value). written g.0 step.0 step.1 g.1) (exec.evaluated types t x)) r)
       (then-then (value t) (λ y. exec.read t y f) (λ y. last_step t y g fields)) in
       subst (λ (reached : Text). Leads types vars s (write_along types vars line g fields x (read types vars line reached f got))
       (λ t end. EndsBy line (place_result f (g ∷ fields) value t) end)) (sym (guard-of got value come))

@@ -140,11 +140,11 @@ module _ (types : List TypeEntry) (vars : List VarEntry) (line : ℕ) (s : State
   truth-stands next a at text n b finite less defined told =
       elim ((law-or (And (Root (track n)) (text next)) (And (empty_at next n) (Not (text next))) a finite).0 defined)
       as (λ _. StandsForTruth a (At (track n)) b) [
-        | inl yes ↦ (
-            let both = (WSat-And (Root (track n)) (text next) a).0 yes in
+        | inl holds ↦ (
+            let both = (WSat-And (Root (track n)) (text next) a).0 holds in
             subst (λ k. StandsForTruth a (At (track n)) k) (sym (told.0 both.1)) ((WSat-Root (track n) a).0 both.0))
-        | inr no ↦ (
-            let both = (WSat-And (empty_at next n) (Not (text next)) a).0 no in
+        | inr lacks ↦ (
+            let both = (WSat-And (empty_at next n) (Not (text next)) a).0 lacks in
             by b (λ h. (WSat-Not (text next) a).0 both.1 (told.1 h)) ((law-empty next n a less).0 both.0))
       ]
     where

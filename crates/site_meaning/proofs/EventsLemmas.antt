@@ -87,6 +87,10 @@ put-there [] i one other e = absurd (cc)
 put-there (x ∷ xs) zero one other e = cc
 put-there (x ∷ xs) (suc i) one other e = put-there xs i one other e
 
+-- what stands for a variable, after one was put
+abbrev PutStands : List Sym → StoreMap → Assignment → Standing → VarId → Sym → Value → VarId → Type 0
+PutStands values t a at v u x w = IfSome (slice_get (set values v.0 u) w.0) (λ y. IfSome (slice_get (set t.vars v.0 x) w.0) (StandsFor a at y))
+
 pub seen-assigned : (types : List TypeEntry) (vars : List VarEntry) (values : List Sym) (events : List Event) (a : Assignment) (first t : StoreMap)
     (at : Standing) (v : VarId) (u : Sym) (x : Value) → Fits types vars (set_var t v x) → StandsFor a at u x →
     IsSeen types vars values events a first t at → IsSeen types vars (set values v.0 u) events a first (set_var t v x) at
@@ -102,10 +106,7 @@ seen-assigned types vars values events a first t at v u x fits stands seen = rec
   values = λ w. by w (v.0 == w.0) refl;
 }
   where
-    abbrev here : VarId → Type 0
-    here w = IfSome (slice_get (set values v.0 u) w.0) (λ y. IfSome (slice_get (set t.vars v.0 x) w.0) (StandsFor a at y))
-
-    same : (w : VarId) → w.0 ≡ v.0 → here w
+    same : (w : VarId) → w.0 ≡ v.0 → PutStands values t a at v u x w
     same w number =
         IfSome-from (slice_get (set values v.0 u) w.0) (λ y. IfSome (slice_get (set t.vars v.0 x) w.0) (StandsFor a at y)) (λ y y_is.
         IfSome-from (slice_get (set t.vars v.0 x) w.0) (StandsFor a at y) (λ z z_is.
@@ -116,12 +117,12 @@ seen-assigned types vars values events a first t at v u x fits stands seen = rec
         put : {X : Type 0} (xs : List X) (one other : X) → slice_get (set xs v.0 one) v.0 ≡ Some other → one ≡ other
         put xs one other e = put-there xs v.0 one other e
 
-    apart : (w : VarId) → w.0 ≢ v.0 → here w
+    apart : (w : VarId) → w.0 ≢ v.0 → PutStands values t a at v u x w
     apart w other =
         subst (λ o. IfSome o (λ y. IfSome (slice_get (set t.vars v.0 x) w.0) (StandsFor a at y))) (sym (get-set_elsewhere values v.0 w.0 u other))
         (subst (λ o. IfSome (slice_get values w.0) (λ y. IfSome o (StandsFor a at y))) (sym (get-set_elsewhere t.vars v.0 w.0 x other)) (seen.values w))
 
-    by : (w : VarId) (b : Bool) → (v.0 == w.0) ≡ b → here w
+    by : (w : VarId) (b : Bool) → (v.0 == w.0) ≡ b → PutStands values t a at v u x w
     by w true is = same w (sym (eqb-true v.0 w.0 is))
     by w false is = apart w (λ e. false≢true (sym is ∙ eq-eqb v.0 w.0 (sym e)))
 

@@ -32,12 +32,12 @@ pub way-told : (next : ℕ) (a : Assignment) (text : Text) (n : ℕ) → IsFinit
 way-told next a text n finite less defined =
     elim ((law-or (And (Root (track n)) (text next)) (And (empty_at next n) (Not (text next))) a finite).0 defined)
     as (λ _. (IsTaken a (Some (track n)) ↔ WSat (text next) a) × IsGuard a (Some (track n))) [
-      | inl yes ↦ (
-          let both = (WSat-And (Root (track n)) (text next) a).0 yes in
+      | inl holds ↦ (
+          let both = (WSat-And (Root (track n)) (text next) a).0 holds in
           let root = (WSat-Root (track n) a).0 both.0 in
           (((λ h. both.1), (λ h. (root []).1 refl)), (λ p h. (root p).0 h)))
-      | inr no ↦ (
-          let both = (WSat-And (empty_at next n) (Not (text next)) a).0 no in
+      | inr lacks ↦ (
+          let both = (WSat-And (empty_at next n) (Not (text next)) a).0 lacks in
           let none = (law-empty next n a less).0 both.0 in
           (
             (
@@ -85,9 +85,14 @@ module _ (types : List TypeEntry) (vars : List VarEntry) (h : ℕ) where
   abbrev merged_track : State → ℕ
   merged_track s = next_track types vars s
 
+  -- one value merged, by whether the two are one
+  abbrev step : Sym → List Sym → Sym → List Sym → State → Bool → Merging
+  step u us w ws s b = cond b (behind u (merged types vars h us ws s))
+      (behind (At (track (merged_track s))) (merged types vars h us ws (define (is_merged h u w (merged_track s)) s)))
+
   -- ---- tracks that merging makes
 
-  pub merged-texts : List Sym → List Sym → State → List Text
+  abbrev pub merged-texts : List Sym → List Sym → State → List Text
   merged-texts [] others s = []
   merged-texts (u ∷ us) [] s = []
   merged-texts (u ∷ us) (w ∷ ws) s =
@@ -97,18 +102,18 @@ module _ (types : List TypeEntry) (vars : List VarEntry) (h : ℕ) where
   pub merged-is : (us ws : List Sym) (s : State) → (merged types vars h us ws s).1 ≡ with_more (merged-texts us ws s) [] s
   merged-is [] ws s = more-none s
   merged-is (u ∷ us) [] s = more-none s
-  merged-is (u ∷ us) (w ∷ ws) s = by (is_sym u w)
+  merged-is (u ∷ us) (w ∷ ws) s =
+      by (is_sym u w) (merged-is us ws s) (merged-is us ws (define (is_merged h u w (merged_track s)) s))
     where
-      text : Text
-      text = is_merged h u w (merged_track s)
-
-      by : (b : Bool) → (cond b (behind u (merged types vars h us ws s))
-          (behind (At (track (merged_track s))) (merged types vars h us ws (define (is_merged h u w (merged_track s)) s)))).1
+      by : (b : Bool) → (merged types vars h us ws s).1 ≡ with_more (merged-texts us ws s) [] s →
+          (merged types vars h us ws (define (is_merged h u w (merged_track s)) s)).1
+          ≡ with_more (merged-texts us ws (define (is_merged h u w (merged_track s)) s)) [] (define (is_merged h u w (merged_track s)) s) →
+          (step u us w ws s b).1
           ≡ with_more (cond b (merged-texts us ws s)
           (is_merged h u w (merged_track s) ∷ merged-texts us ws (define (is_merged h u w (merged_track s)) s))) [] s
-      by true = merged-is us ws s
-      by false =
-          merged-is us ws (define (is_merged h u w (merged_track s)) s)
+      by true one other = one
+      by false one other =
+          other
           ∙ (λ i. record s {
             defined = append_assoc s.defined (is_merged h u w (merged_track s) ∷ [])
                 (merged-texts us ws (define (is_merged h u w (merged_track s)) s)) i;
@@ -119,15 +124,14 @@ module _ (types : List TypeEntry) (vars : List VarEntry) (h : ℕ) where
   pub merged-count : (us ws : List Sym) (s : State) → length us ≡ length ws → length ((merged types vars h us ws s).0) ≡ length us
   merged-count [] ws s same = refl
   merged-count (u ∷ us) [] s same = absurd (omega (arith, same))
-  merged-count (u ∷ us) (w ∷ ws) s same = by (is_sym u w)
+  merged-count (u ∷ us) (w ∷ ws) s same =
+      by (is_sym u w) (merged-count us ws s (omega (arith, same)))
+      (merged-count us ws (define (is_merged h u w (merged_track s)) s) (omega (arith, same)))
     where
-      rest : length us ≡ length ws
-      rest = omega (arith, same)
-
-      by : (b : Bool) → length ((cond b (behind u (merged types vars h us ws s))
-          (behind (At (track (merged_track s))) (merged types vars h us ws (define (is_merged h u w (merged_track s)) s)))).0) ≡ suc (length us)
-      by true = ap suc (merged-count us ws s rest)
-      by false = ap suc (merged-count us ws (define (is_merged h u w (merged_track s)) s) rest)
+      by : (b : Bool) → length ((merged types vars h us ws s).0) ≡ length us →
+          length ((merged types vars h us ws (define (is_merged h u w (merged_track s)) s)).0) ≡ length us → length ((step u us w ws s b).0) ≡ suc (length us)
+      by true one other = ap suc one
+      by false one other = ap suc other
 
   -- the track of the first value that is merged has room, where what is made behind it has
   merged-room : (next : ℕ) (u w : Sym) (us ws : List Sym) (s : State) →
@@ -143,20 +147,20 @@ module _ (types : List TypeEntry) (vars : List VarEntry) (h : ℕ) where
       All (IsSymBelow next) us → All (IsSymBelow next) ((merged types vars h us ws s).0)
   merged-below next [] ws s room below = All-nil (IsSymBelow next)
   merged-below next (u ∷ us) [] s room below = All-nil (IsSymBelow next)
-  merged-below next (u ∷ us) (w ∷ ws) s room below = by (is_sym u w) room
+  merged-below next (u ∷ us) (w ∷ ws) s room below =
+      by (is_sym u w) room (λ space. merged-below next us ws s space (All-tail (IsSymBelow next) u us below))
+      (λ space. merged-below next us ws (define (is_merged h u w (merged_track s)) s) space (All-tail (IsSymBelow next) u us below))
     where
-      abbrev whole : Bool → Merging
-      whole b = cond b (behind u (merged types vars h us ws s))
-          (behind (At (track (merged_track s))) (merged types vars h us ws (define (is_merged h u w (merged_track s)) s)))
-
-      by : (b : Bool) → HasRoom types vars next ((whole b).1) → All (IsSymBelow next) ((whole b).0)
-      by true space =
-          All-cons (IsSymBelow next) u ((merged types vars h us ws s).0) (All-head (IsSymBelow next) u us below)
-          (merged-below next us ws s space (All-tail (IsSymBelow next) u us below))
-      by false space =
+      by : (b : Bool) → HasRoom types vars next ((step u us w ws s b).1) →
+          (HasRoom types vars next ((merged types vars h us ws s).1) → All (IsSymBelow next) ((merged types vars h us ws s).0)) →
+          (HasRoom types vars next ((merged types vars h us ws (define (is_merged h u w (merged_track s)) s)).1) →
+          All (IsSymBelow next) ((merged types vars h us ws (define (is_merged h u w (merged_track s)) s)).0)) →
+          All (IsSymBelow next) ((step u us w ws s b).0)
+      by true space one other =
+          All-cons (IsSymBelow next) u ((merged types vars h us ws s).0) (All-head (IsSymBelow next) u us below) (one space)
+      by false space one other =
           All-cons (IsSymBelow next) (At (track (merged_track s))) ((merged types vars h us ws (define (is_merged h u w (merged_track s)) s)).0)
-          (merged-room next u w us ws s space)
-          (merged-below next us ws (define (is_merged h u w (merged_track s)) s) space (All-tail (IsSymBelow next) u us below))
+          (merged-room next u w us ws s space) (other space)
 
   -- ---- what the merged values stand for
 
@@ -169,11 +173,11 @@ module _ (types : List TypeEntry) (vars : List VarEntry) (h : ℕ) where
         elim ((law-or (And (flag next h) (is_same next (At (track m)) u)) (And (Not (flag next h)) (is_same next (At (track m)) w)) a finite).0 defined)
         as (λ _. (IsTaken a (Some (track h)) → WSat (is_same next (At (track m)) u) a)
         × ((IsTaken a (Some (track h)) → ⊥) → WSat (is_same next (At (track m)) w) a)) [
-          | inl yes ↦ (
-              let both = (WSat-And (flag next h) (is_same next (At (track m)) u) a).0 yes in
+          | inl holds ↦ (
+              let both = (WSat-And (flag next h) (is_same next (At (track m)) u) a).0 holds in
               ((λ taken. both.1), (λ passed. absurd (passed (flags.0 both.0)))))
-          | inr no ↦ (
-              let both = (WSat-And (Not (flag next h)) (is_same next (At (track m)) w) a).0 no in
+          | inr lacks ↦ (
+              let both = (WSat-And (Not (flag next h)) (is_same next (At (track m)) w) a).0 lacks in
               ((λ taken. absurd ((WSat-Not (flag next h) a).0 both.0 (flags.1 taken))), (λ passed. both.1)))
         ]
 
@@ -197,23 +201,24 @@ module _ (types : List TypeEntry) (vars : List VarEntry) (h : ℕ) where
           IfSome (slice_get ((merged types vars h us ws s).0) i) So
       merged-first taken [] ws s i same room defined so = so
       merged-first taken (u ∷ us) [] s i same room defined so = absurd (omega (arith, same))
-      merged-first taken (u ∷ us) (w ∷ ws) s i same room defined so = by (is_sym u w) i room defined so
+      merged-first taken (u ∷ us) (w ∷ ws) s i same room defined so =
+          by (is_sym u w) i room defined so (λ k space all is. merged-first taken us ws s k (omega (arith, same)) space all is)
+          (λ k space all is. merged-first taken us ws (define (is_merged h u w (merged_track s)) s) k (omega (arith, same)) space all is)
         where
-          rest : length us ≡ length ws
-          rest = omega (arith, same)
-
-          abbrev whole : Bool → Merging
-          whole b = cond b (behind u (merged types vars h us ws s))
-              (behind (At (track (merged_track s))) (merged types vars h us ws (define (is_merged h u w (merged_track s)) s)))
-
-          by : (b : Bool) (k : ℕ) → HasRoom types vars next ((whole b).1) → AreDefined next a ((whole b).1) → IfSome (slice_get (u ∷ us) k) So →
-              IfSome (slice_get ((whole b).0) k) So
-          by true zero space all is = is
-          by true (suc k) space all is = merged-first taken us ws s k rest space all is
-          by false zero space all is =
+          by : (b : Bool) (k : ℕ) → HasRoom types vars next ((step u us w ws s b).1) → AreDefined next a ((step u us w ws s b).1) →
+              IfSome (slice_get (u ∷ us) k) So →
+              ((j : ℕ) → HasRoom types vars next ((merged types vars h us ws s).1) → AreDefined next a ((merged types vars h us ws s).1) →
+              IfSome (slice_get us j) So → IfSome (slice_get ((merged types vars h us ws s).0) j) So) →
+              ((j : ℕ) → HasRoom types vars next ((merged types vars h us ws (define (is_merged h u w (merged_track s)) s)).1) →
+              AreDefined next a ((merged types vars h us ws (define (is_merged h u w (merged_track s)) s)).1) → IfSome (slice_get us j) So →
+              IfSome (slice_get ((merged types vars h us ws (define (is_merged h u w (merged_track s)) s)).0) j) So) →
+              IfSome (slice_get ((step u us w ws s b).0) k) So
+          by true zero space all is one other = is
+          by true (suc k) space all is one other = one k space all is
+          by false zero space all is one other =
               carries (merged_track s) u (merged-room next u w us ws s space)
               ((chosen u w (merged_track s) (first-defined u w us ws s all)).0 taken) is
-          by false (suc k) space all is = merged-first taken us ws (define (is_merged h u w (merged_track s)) s) k rest space all is
+          by false (suc k) space all is one other = other k space all is
 
       pub merged-other : (IsTaken a (Some (track h)) → ⊥) → (us ws : List Sym) (s : State) (i : ℕ) → length us ≡ length ws →
           HasRoom types vars next ((merged types vars h us ws s).1) → AreDefined next a ((merged types vars h us ws s).1) → IfSome (slice_get ws i) So →
@@ -221,20 +226,21 @@ module _ (types : List TypeEntry) (vars : List VarEntry) (h : ℕ) where
       merged-other passed [] [] s i same room defined so = so
       merged-other passed [] (w ∷ ws) s i same room defined so = absurd (omega (arith, same))
       merged-other passed (u ∷ us) [] s i same room defined so = absurd (omega (arith, same))
-      merged-other passed (u ∷ us) (w ∷ ws) s i same room defined so = by (is_sym u w) refl i room defined so
+      merged-other passed (u ∷ us) (w ∷ ws) s i same room defined so =
+          by (is_sym u w) refl i room defined so (λ k space all is. merged-other passed us ws s k (omega (arith, same)) space all is)
+          (λ k space all is. merged-other passed us ws (define (is_merged h u w (merged_track s)) s) k (omega (arith, same)) space all is)
         where
-          rest : length us ≡ length ws
-          rest = omega (arith, same)
-
-          abbrev whole : Bool → Merging
-          whole b = cond b (behind u (merged types vars h us ws s))
-              (behind (At (track (merged_track s))) (merged types vars h us ws (define (is_merged h u w (merged_track s)) s)))
-
-          by : (b : Bool) → is_sym u w ≡ b → (k : ℕ) → HasRoom types vars next ((whole b).1) → AreDefined next a ((whole b).1) →
-              IfSome (slice_get (w ∷ ws) k) So → IfSome (slice_get ((whole b).0) k) So
-          by true same_sym zero space all is = subst So (sym (sym-same u w same_sym)) is
-          by true same_sym (suc k) space all is = merged-other passed us ws s k rest space all is
-          by false same_sym zero space all is =
+          by : (b : Bool) → is_sym u w ≡ b → (k : ℕ) → HasRoom types vars next ((step u us w ws s b).1) → AreDefined next a ((step u us w ws s b).1) →
+              IfSome (slice_get (w ∷ ws) k) So →
+              ((j : ℕ) → HasRoom types vars next ((merged types vars h us ws s).1) → AreDefined next a ((merged types vars h us ws s).1) →
+              IfSome (slice_get ws j) So → IfSome (slice_get ((merged types vars h us ws s).0) j) So) →
+              ((j : ℕ) → HasRoom types vars next ((merged types vars h us ws (define (is_merged h u w (merged_track s)) s)).1) →
+              AreDefined next a ((merged types vars h us ws (define (is_merged h u w (merged_track s)) s)).1) → IfSome (slice_get ws j) So →
+              IfSome (slice_get ((merged types vars h us ws (define (is_merged h u w (merged_track s)) s)).0) j) So) →
+              IfSome (slice_get ((step u us w ws s b).0) k) So
+          by true same_sym zero space all is one other = subst So (sym (sym-same u w same_sym)) is
+          by true same_sym (suc k) space all is one other = one k space all is
+          by false same_sym zero space all is one other =
               carries (merged_track s) w (merged-room next u w us ws s space)
               ((chosen u w (merged_track s) (first-defined u w us ws s all)).1 passed) is
-          by false same_sym (suc k) space all is = merged-other passed us ws (define (is_merged h u w (merged_track s)) s) k rest space all is
+          by false same_sym (suc k) space all is one other = other k space all is

@@ -3,6 +3,7 @@ use Rattle.std.proofs.Common.{◌≡◌, ◌↔◌, ℕ, suc, ◌+◌, ◌<◌, 
 use Rattle.std.specs.Option.{option_map_or, option_and_then, ok_or}
 use Rattle.std.proofs.lemmas.Bool.{false≢true}
 use Rattle.std.proofs.lemmas.List.{length-append}
+use Rattle.std.proofs.lemmas.Option.{slice_get_within}
 use Rattle.std.proofs.lemmas.List.Elements.{All-head, All-contains}
 use Rattle.gta_theory.specs.Assignments.{Position, Assignment, IsFinite, IsOnly}
 use Rattle.ws2s_core.specs.declared.formula.Formula.{Formula}
@@ -18,11 +19,13 @@ use Rattle.store_core.specs.declared.ids.VarId.{VarId}
 use Rattle.store_core.specs.declared.kind.FieldKind.{FieldKind}
 use Rattle.store_core.specs.declared.kind.FieldKind.TheVariants as field
 use Rattle.store_core.specs.declared.value.Value.{Value}
-use Rattle.store_core.specs.declared.value.Value.TheVariants as value
+use Rattle.store_core.specs.declared.value.Value.TheVariants as one_value
 use Rattle.store_core.specs.Tables.{TypeEntry, FieldEntry, VarEntry, field_at, var_at}
 use Rattle.store_core.specs.Stores.{StoreMap, CellEntry, IsLive, Fits, FieldFits, NamesType, cell_of, field_value, var_value}
 use Rattle.routing_expr.specs.Walks.{DataAndPointers, IsFollowed}
 use Rattle.routing_laws.proofs.DecidedLemmas.{in_at}
+use Rattle.store_core.proofs.FittingLemmas.{IfSome-at}
+use Rattle.tree_store.proofs.SpotsLemmas.{present}
 use Rattle.store_logic.specs.declared.path.Path.{Path}
 use Rattle.store_logic.specs.declared.path.Operand.{Operand}
 use Rattle.store_logic.specs.declared.path.Operand.TheVariants as operand
@@ -33,7 +36,7 @@ use Rattle.store_exec.specs.declared.cause.Cause.{Cause}
 use Rattle.store_exec.specs.declared.cause.Cause.TheVariants as cause
 use Rattle.store_exec.specs.Steps.{and_then, cell_through, field_read, variable}
 use Rattle.store_exec.specs.Steps as exec
-use Rattle.store_exec.proofs.SortLemmas.{IsOfSort, err-ok, ok-one, some-one, none-some, variable-sort, read-sort}
+use Rattle.store_exec.proofs.SortLemmas.{IsOfSort, err-ok, ok-one, some-one, none-some, HeldBy, held_at, variable-sort, read-sort}
 use Rattle.store_exec.proofs.KeepLemmas.{IsPlace, place-of}
 use Rattle.graph_view.specs.declared.view.Sym.{Sym}
 use Rattle.graph_view.specs.declared.view.Sym.TheVariants.{Null, At}
@@ -46,7 +49,6 @@ use Rattle.graph_live.specs.Fields.{FieldNamesAt}
 use Rattle.graph_live.proofs.AgreeingLemmas.{Agrees-bound, IsOnly-bound, IsOnly-still, member-agreed}
 use Rattle.graph_live.proofs.ReadLemmas.{is-some}
 use Rattle.graph_live.proofs.SeenLemmas.{value-fits}
-use Rattle.graph_cuts.proofs.ValuesLemmas.{var-held}
 use Rattle.site_view.specs.States.{Text, Check, State, Got, next_track, define, sight, value_of}
 use Rattle.site_view.specs.Reading.{check_access, is_read, read, read_along, path_value, operand_value}
 use Rattle.site_meaning.specs.Places.{Answers}
@@ -54,26 +56,26 @@ use Rattle.site_meaning.specs.Seeing.{HasRoom, IsBelow, AreDefined, Sees, with_m
 use Rattle.site_meaning.specs.Answering.{Means, Reads}
 use Rattle.site_meaning.proofs.PlacesLemmas.{All-right, none-none, answers-so}
 use Rattle.site_meaning.proofs.StatesLemmas.{more-none, Goes, means-at_once, means-then}
-use Rattle.site_meaning.proofs.LookingLemmas.{layout_of, view_of, shows, sees-sits, here-itself, sees-names, sees-placed, some-cell}
+use Rattle.site_meaning.proofs.LookingLemmas.{sees-sits, here-itself, sees-names, sees-placed, some-cell}
 use Rattle.site_meaning.proofs.AccessLemmas.{access_checks, access-is, access-idle, stops-read}
 
 -- ---- execution
 
 -- what is read of a field is its value at a live cell
 pub read-ok : (t : StoreMap) (x y : Value) (f : FieldId) → exec.read t x f ≡ Ok y →
-    (c : CellId) × (x ≡ value.Cell (Some c)) × IsLive t c × (field_value t c f ≡ Some y)
-read-ok t (value.Bool b) y f e = err-ok cause.Null e
-read-ok t (value.Cells cells) y f e = err-ok cause.Null e
-read-ok t (value.Cell None) y f e = err-ok cause.Null e
-read-ok t (value.Cell (Some c)) y f e = by (cell_of t c) refl e
+    (c : CellId) × (x ≡ one_value.Cell (Some c)) × IsLive t c × (field_value t c f ≡ Some y)
+read-ok t (one_value.Bool b) y f e = err-ok cause.Null e
+read-ok t (one_value.Cells cells) y f e = err-ok cause.Null e
+read-ok t (one_value.Cell None) y f e = err-ok cause.Null e
+read-ok t (one_value.Cell (Some c)) y f e = by (cell_of t c) refl e
   where
     at_field : IsLive t c → (o : Option Value) → field_value t c f ≡ o → ok_or o cause.Variant ≡ Ok y →
-        (d : CellId) × (value.Cell (Some c) ≡ value.Cell (Some d)) × IsLive t d × (field_value t d f ≡ Some y)
+        (d : CellId) × (one_value.Cell (Some c) ≡ one_value.Cell (Some d)) × IsLive t d × (field_value t d f ≡ Some y)
     at_field live None is g = err-ok cause.Variant g
     at_field live (Some z) is g = (c, refl, live, is ∙ ap (λ w. Some w) (ok-one z y g))
 
     by : (o : Option CellEntry) → cell_of t c ≡ o → and_then (field_read t f) (cond (is_some o) (Ok c) (Err cause.Dangling)) ≡ Ok y →
-        (d : CellId) × (value.Cell (Some c) ≡ value.Cell (Some d)) × IsLive t d × (field_value t d f ≡ Some y)
+        (d : CellId) × (one_value.Cell (Some c) ≡ one_value.Cell (Some d)) × IsLive t d × (field_value t d f ≡ Some y)
     by None is g = err-ok cause.Dangling g
     by (Some cell) is g = at_field (is-some (cell_of t c) cell is) (field_value t c f) refl g
 
@@ -93,10 +95,10 @@ then-then (Ok x) one two = refl
 -- ---- sorts
 
 -- a value of a sort of cells is null or a cell
-pub cell-of_sort : (t : StoreMap) (ty : TypeId) (x : Value) → IsOfSort t (Cell ty) x → (o : Option CellId) × (x ≡ value.Cell o) × IfSome o (NamesType t ty)
-cell-of_sort t ty (value.Bool b) h = absurd h
-cell-of_sort t ty (value.Cells cells) h = absurd h
-cell-of_sort t ty (value.Cell o) h = (o, refl, h)
+pub cell-of_sort : (t : StoreMap) (ty : TypeId) (x : Value) → IsOfSort t (Cell ty) x → (o : Option CellId) × (x ≡ one_value.Cell o) × IfSome o (NamesType t ty)
+cell-of_sort t ty (one_value.Bool b) h = absurd h
+cell-of_sort t ty (one_value.Cells cells) h = absurd h
+cell-of_sort t ty (one_value.Cell o) h = (o, refl, h)
 
 -- the first field is one of the type, and the others go on from it
 pub record IsStep (types : List TypeEntry) (ty : TypeId) (f : FieldId) (fields : List FieldId) (end : Sort) : Type 0 where
@@ -142,14 +144,14 @@ reference-kind field.Bool (ty, is) = (let no : ⊥ = cc in absurd no)
 reference-kind (field.Data target) is = tt
 reference-kind (field.Pointer target along) is = tt
 
-cell-value : (t : StoreMap) (kind : FieldKind) (y : Value) → IsFollowed DataAndPointers kind → FieldFits t kind y → (o : Option CellId) × (y ≡ value.Cell o)
+cell-value : (t : StoreMap) (kind : FieldKind) (y : Value) → IsFollowed DataAndPointers kind → FieldFits t kind y → (o : Option CellId) × (y ≡ one_value.Cell o)
 cell-value t field.Bool y follows fits = absurd follows
-cell-value t (field.Data target) (value.Bool b) follows fits = absurd fits
-cell-value t (field.Data target) (value.Cells cells) follows fits = absurd fits
-cell-value t (field.Data target) (value.Cell o) follows fits = (o, refl)
-cell-value t (field.Pointer target along) (value.Bool b) follows fits = absurd fits
-cell-value t (field.Pointer target along) (value.Cells cells) follows fits = absurd fits
-cell-value t (field.Pointer target along) (value.Cell o) follows fits = (o, refl)
+cell-value t (field.Data target) (one_value.Bool b) follows fits = absurd fits
+cell-value t (field.Data target) (one_value.Cells cells) follows fits = absurd fits
+cell-value t (field.Data target) (one_value.Cell o) follows fits = (o, refl)
+cell-value t (field.Pointer target along) (one_value.Bool b) follows fits = absurd fits
+cell-value t (field.Pointer target along) (one_value.Cells cells) follows fits = absurd fits
+cell-value t (field.Pointer target along) (one_value.Cell o) follows fits = (o, refl)
 
 -- ---- what has come so far: a value of a type of cells
 
@@ -208,12 +210,12 @@ module _ (types : List TypeEntry) (vars : List VarEntry) (next : ℕ) (a : Assig
       let (o, y_is) = cell-value t entry.kind y follows (value-fits types vars t c f y entry sees.seen.fits is there) in
       subst (λ w. StandsFor a at (At (track m)) w) (sym y_is) (by o (is ∙ ap (λ w. Some w) y_is))
     where
-      by : (o : Option CellId) → field_value t c f ≡ Some (value.Cell o) → StandsForCell a at (At (track m)) o
-      by None null_is q =
+      by : (o : Option CellId) → field_value t c f ≡ Some (one_value.Cell o) → StandsForCell a at (At (track m)) o
+      by None null_is = λ q.
           same_truth (a m q) false (
             (λ h.
                 let (d, at_q, named) = (on-track q).0 h in
-                let both : Some (value.Cell (Some d)) ≡ Some (value.Cell None) = sym named ∙ null_is in
+                let both : Some (one_value.Cell (Some d)) ≡ Some (one_value.Cell None) = sym named ∙ null_is in
                 let no : ⊥ = cc in absurd no),
             (λ e. absurd (false≢true e)),
           )
@@ -223,7 +225,7 @@ module _ (types : List TypeEntry) (vars : List VarEntry) (next : ℕ) (a : Assig
             (λ p. (
               (λ h.
                   let (e, at_p, named) = (on-track p).0 h in
-                  let both : Some (value.Cell (Some e)) ≡ Some (value.Cell (Some d)) = sym named ∙ cell_is in
+                  let both : Some (one_value.Cell (Some e)) ≡ Some (one_value.Cell (Some d)) = sym named ∙ cell_is in
                   let same : e ≡ d = cc in
                   sits.one d p q (subst (λ g. IsAt at g p) same at_p) at_q),
               (λ is_q. (on-track p).1 (d, subst (λ r. IsAt at d r) (sym is_q) at_q, cell_is)),
@@ -273,7 +275,7 @@ module _ (types : List TypeEntry) (vars : List VarEntry) (line : ℕ) (reached :
           answers-so next a (access_checks types vars line reached f (got.0) (got.1)) line (exec.read t x f)
           (λ y. StandsFor a at ((read types vars line reached f got).0) y)
           (subst (λ w. Answers next a (access_checks types vars line reached f (got.0) (got.1)) line (exec.read t w f) (λ y. Unit {0})) (sym x_is)
-          (answers-so next a (access_checks types vars line reached f (got.0) (got.1)) line (exec.read t (value.Cell o) f) (λ y. Unit {0})
+          (answers-so next a (access_checks types vars line reached f (got.0) (got.1)) line (exec.read t (one_value.Cell o) f) (λ y. Unit {0})
           (stops-read types vars next a first (got.1) t at sees line reached here (got.0) under f entry o there stands_cell typed) (λ y e. tt))).0
           (λ y e.
           let (c, cell_is, live, value_is) = read-ok t x y f e in
@@ -332,9 +334,14 @@ module _ (types : List TypeEntry) (vars : List VarEntry) (line : ℕ) (reached :
     pub variable-stands : (v : VarId) (entry : VarEntry) → var_at vars v ≡ Some entry → (next : ℕ) (a : Assignment) (first t : StoreMap) (at : Standing) →
         Sees types vars next a first s t at → StandsFor a at (value_of s.values v) (variable t v)
     variable-stands v entry there next a first t at sees =
-        let held = var-held (layout_of types vars) (view_of s next) a first t t at next (shows types vars next a first s t at sees) v entry there in
-        subst (λ o. StandsFor a at (unwrap_or o Null) (variable t v)) (sym held.is)
-        (subst (λ o. StandsFor a at held.sym_of (unwrap_or o null)) (sym held.holds) held.stands)
+        let held = held_at t vars t.vars v.0 entry sees.seen.fits.values there in
+        let inside = slice_get_within t.vars v.0 held.held held.at in
+        let count = sees.seen.count in
+        let (u, is) = present s.values v.0 (omega (arith, inside, count)) in
+        subst (λ o. StandsFor a at (unwrap_or o Null) (variable t v)) (sym is)
+        (subst (λ o. StandsFor a at u (unwrap_or o null)) (sym held.at)
+        (IfSome-at (var_value t v) (StandsFor a at u) held.held held.at
+        (IfSome-at (slice_get s.values v.0) (λ w. IfSome (var_value t v) (StandsFor a at w)) u is (sees.seen.values v))))
 
     pub variable-reads : (v : VarId) (entry : VarEntry) → var_at vars v ≡ Some entry →
         Reads types vars line reached s (value_of s.values v, s) (λ t. Ok (variable t v))

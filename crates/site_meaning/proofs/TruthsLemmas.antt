@@ -16,7 +16,7 @@ use Rattle.store_core.specs.declared.ids.VariantId.{VariantId}
 use Rattle.store_core.specs.declared.kind.FieldKind.{FieldKind}
 use Rattle.store_core.specs.declared.kind.FieldKind.TheVariants as field
 use Rattle.store_core.specs.declared.value.Value.{Value}
-use Rattle.store_core.specs.declared.value.Value.TheVariants as value
+use Rattle.store_core.specs.declared.value.Value.TheVariants as one_value
 use Rattle.store_core.specs.Tables.{TypeEntry, FieldEntry, VarEntry, KnowsVariant, field_at, var_at}
 use Rattle.store_core.specs.Stores.{StoreMap, CellEntry, IsLive, Fits, FieldFits, NamesType, cell_of, field_value}
 use Rattle.store_core.proofs.FittingLemmas.{IsSomeAnd-at}
@@ -69,10 +69,10 @@ IsToldAs text next a at b = WSat (text next) a ↔ IsTrue b
 
 -- ---- bool fields
 
-bool-value : (t : StoreMap) (y : Value) → FieldFits t field.Bool y → (b : Bool) × (y ≡ value.Bool b)
-bool-value t (value.Bool b) fits = (b, refl)
-bool-value t (value.Cell c) fits = absurd fits
-bool-value t (value.Cells cells) fits = absurd fits
+bool-value : (t : StoreMap) (y : Value) → FieldFits t field.Bool y → (b : Bool) × (y ≡ one_value.Bool b)
+bool-value t (one_value.Bool b) fits = (b, refl)
+bool-value t (one_value.Cell c) fits = absurd fits
+bool-value t (one_value.Cells cells) fits = absurd fits
 
 truth-kind : (kind : FieldKind) → field_sort kind ≡ Truth → kind ≡ field.Bool
 truth-kind field.Bool is = refl
@@ -86,10 +86,10 @@ module _ (types : List TypeEntry) (vars : List VarEntry) (next : ℕ) (a : Assig
 
   -- the bool field of the cell that the value is
   pub field-told : (f : FieldId) (entry : FieldEntry) → field_at types f ≡ Some entry → entry.kind ≡ field.Bool → IsLive t c →
-      WSat (is_true_of types (sight vars s) f u next) a ↔ (field_value t c f ≡ Some (value.Bool true))
+      WSat (is_true_of types (sight vars s) f u next) a ↔ (field_value t c f ≡ Some (one_value.Bool true))
   field-told f entry there kind live =
       let some = some-cell types vars next a first s t at sees a next u c (is_true types (sight vars s) (suc next) f next)
-      (λ p. field_value t c f ≡ Some (value.Bool true)) (here-itself types vars next a first s t at sees) (omega arith) under stands (λ p here.
+      (λ p. field_value t c f ≡ Some (one_value.Bool true)) (here-itself types vars next a first s t at sees) (omega arith) under stands (λ p here.
       sees-truth types vars next a first s t at sees f entry (with_position a next p) (suc next) next p c there kind
       (Agrees-bound next a a next p (here-itself types vars next a first s t at sees) (omega arith)) (omega arith) (omega arith) (IsOnly-bound a next p) here
       live) in (
@@ -122,15 +122,15 @@ module _ (types : List TypeEntry) (vars : List VarEntry) (next : ℕ) (a : Assig
       by_test (Some cell) found h = of-some (λ (e : CellEntry). e.variant ≡ v) (cell_of t c) cell found (same-variant cell.variant v h)
 
 -- what is read of a bool field
-read-truth : (t : StoreMap) (c : CellId) (f : FieldId) (y : Value) (b : Bool) → field_value t c f ≡ Some y → y ≡ value.Bool b →
-    (field_value t c f ≡ Some (value.Bool true)) ↔ IsTrue (truth_in y)
+read-truth : (t : StoreMap) (c : CellId) (f : FieldId) (y : Value) (b : Bool) → field_value t c f ≡ Some y → y ≡ one_value.Bool b →
+    (field_value t c f ≡ Some (one_value.Bool true)) ↔ IsTrue (truth_in y)
 read-truth t c f y b is y_is = (
   (λ e.
-      let both : Some y ≡ Some (value.Bool true) = sym is ∙ e in
-      let same : y ≡ value.Bool true = cc in ap truth_in same),
+      let both : Some y ≡ Some (one_value.Bool true) = sym is ∙ e in
+      let same : y ≡ one_value.Bool true = cc in ap truth_in same),
   (λ h.
       let b_true : b ≡ true = sym (ap truth_in y_is) ∙ h in
-      is ∙ ap (λ w. Some w) (y_is ∙ ap (λ k. value.Bool k) b_true)),
+      is ∙ ap (λ w. Some w) (y_is ∙ ap (λ k. one_value.Bool k) b_true)),
 )
 
 made-then : {X : Type 0} (r : Result X Cause) (step : X → Result Value Cause) →
@@ -188,10 +188,10 @@ module _ (types : List TypeEntry) (vars : List VarEntry) (line : ℕ) (reached :
             (λ h. means.1 (reads_b.1 (b_is ∙ h))),
           )
         where
-          bool-of : (y : Value) → IsOfSort t Truth y → (k : Bool) × (y ≡ value.Bool k)
-          bool-of (value.Bool k) h = (k, refl)
-          bool-of (value.Cell c) h = absurd h
-          bool-of (value.Cells cells) h = absurd h
+          bool-of : (y : Value) → IsOfSort t Truth y → (k : Bool) × (y ≡ one_value.Bool k)
+          bool-of (one_value.Bool k) h = (k, refl)
+          bool-of (one_value.Cell c) h = absurd h
+          bool-of (one_value.Cells cells) h = absurd h
 
   -- cell fields are read, and last a bool field
   pub tells-along : (f : FieldId) (fields : List FieldId) (got : Got) (ty : TypeId) (value : StoreMap → Result Value Cause) →
@@ -237,13 +237,13 @@ module _ (types : List TypeEntry) (vars : List VarEntry) (line : ℕ) (reached :
       by : (next : ℕ) (a : Assignment) (first t : StoreMap) (at : Standing) → Sees types vars next a first s t at → IsSymBelow next (value_of s.values v) →
           (x : Value) → StandsFor a at (value_of s.values v) x → IsOfSort t Truth x →
           WSat (truth next (value_of s.values v)) a ↔ IsTrue (truth_in x)
-      by next a first t at sees under (value.Cell c) stands of_sort = absurd of_sort
-      by next a first t at sees under (value.Cells cells) stands of_sort = absurd of_sort
-      by next a first t at sees under (value.Bool b) stands of_sort =
-          let means = truth-means next a a next at t (value_of s.values v) (value.Bool b) (here-itself types vars next a first s t at sees) (omega arith) stands
+      by next a first t at sees under (one_value.Cell c) stands of_sort = absurd of_sort
+      by next a first t at sees under (one_value.Cells cells) stands of_sort = absurd of_sort
+      by next a first t at sees under (one_value.Bool b) stands of_sort =
+          let means = truth-means next a a next at t (value_of s.values v) (one_value.Bool b) (here-itself types vars next a first s t at sees) (omega arith) stands
           tt under in (
             (λ h. ap truth_in (means.0 h)),
-            (λ h. means.1 (ap (λ k. value.Bool k) h)),
+            (λ h. means.1 (ap (λ k. one_value.Bool k) h)),
           )
 
   -- what stands at a path to a truth value
@@ -286,7 +286,7 @@ module _ (types : List TypeEntry) (vars : List VarEntry) (line : ℕ) (reached :
     where
       by : (next : ℕ) (a : Assignment) (first t : StoreMap) (at : Standing) → Sees types vars next a first (got.1) t at → WSat (reached next) a →
           IsSymBelow next (got.0) → (o : Option CellId) → StandsForCell a at (got.0) o →
-          Answers next a (cell_checks types vars line reached (got.0) (got.1)) line (made_of (is_of t v) (cell_through t (value.Cell o)))
+          Answers next a (cell_checks types vars line reached (got.0) (got.1)) line (made_of (is_of t v) (cell_through t (one_value.Cell o)))
           (IsToldAs (is_of_variant types (sight vars (got.1)) v (got.0)) next a at)
       by next a first t at sees here under None stands = (stops-null types vars next a first (got.1) t at sees line reached here (got.0) under [] stands, tt)
       by next a first t at sees here under (Some c) stands = at_cell (cell_of t c) refl

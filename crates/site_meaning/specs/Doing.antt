@@ -1,12 +1,18 @@
 -- What the walk over parts of code means: a step from one store that is seen to the next, or a cause.
-use Rattle.std.specs.Prelude.{◌≡◌, ℕ, ◌≤◌, List, ◌++◌, length, Result, Ok, Err}
+use Rattle.std.specs.Prelude.{◌≡◌, ◌↔◌, ℕ, ◌≤◌, List, [], ◌++◌, length, Result, Ok, Err}
 use Rattle.gta_theory.specs.Assignments.{Assignment, IsFinite}
+use Rattle.ws2s_core.specs.Satisfaction.{WSat}
 use Rattle.store_core.specs.Tables.{TypeEntry, VarEntry}
 use Rattle.store_core.specs.Stores.{StoreMap}
+use Rattle.store_logic.specs.declared.assertion.Assertion.{Assertion}
+use Rattle.store_logic.specs.Fits.{AssertionFits}
+use Rattle.store_logic.specs.Terms.{outside}
+use Rattle.store_logic.specs.Satisfaction.{SatAll}
 use Rattle.store_exec.specs.Runs.{Ending}
 use Rattle.graph_view.specs.declared.view.Sym.{Sym}
 use Rattle.graph_view.specs.After.{Standing, IsSeen, IsTaken, IsGuard, IsGuardBelow}
-use Rattle.site_view.specs.States.{Text, Check, State}
+use Rattle.site_view.specs.States.{Text, Check, State, sight}
+use Rattle.site_view.specs.Claims.{assertion}
 use Rattle.site_meaning.specs.Places.{NoneComes, ComesFirst}
 use Rattle.site_meaning.specs.Seeing.{HasRoom, IsBelow, AreDefined, Sees}
 
@@ -37,3 +43,9 @@ pub record Leads (types : List TypeEntry) (vars : List VarEntry) (s after : Stat
       HasRoom types vars next after → AreDefined next a after → IsTaken a s.guard → Ends t end → Follows types vars next a first after added end
   pub idle : (next : ℕ) (a : Assignment) → IsFinite a → HasRoom types vars next after → AreDefined next a after → IsGuardBelow next s.guard →
       IsGuard a s.guard → (IsTaken a s.guard → ⊥) → IsIdle types vars next a s after added
+
+-- an assertion holds, as a formula, exactly where the store that is seen satisfies it
+abbrev pub AreAssertionsMeant : List TypeEntry → List VarEntry → Type 0
+AreAssertionsMeant types vars =
+    (claim : Assertion) (next : ℕ) (a : Assignment) (first : StoreMap) (s : State) (t : StoreMap) (at : Standing) → AssertionFits types vars claim →
+    Sees types vars next a first s t at → WSat (assertion types (sight vars s) s.values claim next) a ↔ SatAll types [] t outside claim
