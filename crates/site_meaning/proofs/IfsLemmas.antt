@@ -11,7 +11,7 @@ use Rattle.ws2s_forms.specs.Forms.{track}
 use Rattle.store_core.specs.declared.ids.VarId.{VarId}
 use Rattle.store_core.specs.declared.value.Value.{Value}
 use Rattle.store_core.specs.Tables.{TypeEntry, VarEntry}
-use Rattle.store_core.specs.Stores.{StoreMap, var_value}
+use Rattle.store_core.specs.Stores.{StoreMap, IsFresh, var_value}
 use Rattle.store_core.proofs.FittingLemmas.{IfSome-from, IfSome-at}
 use Rattle.store_exec.specs.declared.cause.Cause.{Cause}
 use Rattle.store_exec.specs.declared.fault.Fault.{Fault}
@@ -20,12 +20,12 @@ use Rattle.graph_view.specs.declared.view.Sym.{Sym}
 use Rattle.graph_view.specs.declared.view.Sym.TheVariants.{Null, At}
 use Rattle.graph_view.specs.declared.view.Event.{Event}
 use Rattle.graph_view.specs.Syms.{is_same}
-use Rattle.graph_view.specs.After.{Standing, StandsFor, IsSeen, IsTaken, IsGuard, IsSymBelow, IsGuardBelow}
+use Rattle.graph_view.specs.After.{Standing, StandsFor, IsSeen, IsTaken, IsGuard, IsSymBelow, IsGuardBelow, AreEventsBelow}
 use Rattle.site_view.specs.States.{Text, Check, State, next_track, define, is_truth_of, guard, both, fails}
 use Rattle.site_view.specs.Reading.{Told}
 use Rattle.site_view.specs.Codes.{Going, with_ways, on_way, Merging, merged, with_merged, plain_if}
 use Rattle.site_meaning.specs.Places.{NoneComes, ComesFirst, Answers}
-use Rattle.site_meaning.specs.Seeing.{HasRoom, IsBelow, AreDefined, AreSpare, Sees, with_more}
+use Rattle.site_meaning.specs.Seeing.{IsOver, HasRoom, IsBelow, AreDefined, AreSpare, Sees, with_more}
 use Rattle.site_meaning.specs.Answering.{Means, Tells}
 use Rattle.site_meaning.specs.Doing.{Follows, IsIdle, Leads}
 use Rattle.site_meaning.proofs.PlacesLemmas.{All-left, All-right, none-append, first-left}
@@ -101,11 +101,11 @@ module _ (types : List TypeEntry) (vars : List VarEntry) (line : ℕ) (s : State
 
   -- ---- tracks and places
 
-  texts : List Text
-  texts = merged-texts types vars h one_end.values other_end.values joined
-
   join-is : merge.1 ≡ with_more (merged-texts types vars h one_end.values other_end.values joined) [] joined
   join-is = merged-is types vars h one_end.values other_end.values joined
+
+  counts : length one_end.values ≡ length other_end.values
+  counts = one.count ∙ sym two.count
 
   to-start : Longer s.defined means.made start.defined
   to-start = ap (λ (z : State). z.defined) means.is
@@ -249,18 +249,129 @@ module _ (types : List TypeEntry) (vars : List VarEntry) (line : ℕ) (s : State
 
       -- ---- after both ways
 
-      counts : length one_end.values ≡ length other_end.values
-      counts = one.count ∙ sym two.count
-
       carries : (at : Standing) (t : StoreMap) (v : VarId) (m : ℕ) (u : Sym) → m < next → WSat (is_same next (At (track m)) u) a →
           IfSome (var_value t v) (StandsFor a at u) → IfSome (var_value t v) (StandsFor a at (At (track m)))
       carries at t v m u less same so =
           IfSome-from (var_value t v) (StandsFor a at (At (track m))) (λ x x_is.
           same-stands next a at m u x less same (IfSome-at (var_value t v) (StandsFor a at u) x x_is so))
 
-      events-end : end_state.events ≡ other_end.events
-      events-end = ap (λ (z : State). z.events) join-is
+      module _ (first : StoreMap) (over : IsOver types vars a first) (below : IsBelow types vars s next) (guarded : IsGuard a s.guard) where
+        -- the state after both ways, where the values that were merged stand for those of the store
+        sees-end : (u : StoreMap) (at : Standing) (values : List Sym) → length (merge.0) ≡ length values →
+            ((v : VarId) → IfSome (slice_get (merge.0) v.0) (λ w. IfSome (var_value u v) (StandsFor a at w))) →
+            IsSeen types vars values other_end.events a first u at → IsFresh u → AreSpare vars other_end at → Sees types vars next a first end_state u at
+        sees-end u at values same stands seen fresh spare = record {
+          over = over;
+          below = below-end below;
+          guarded = subst (λ (z : State). IsGuard a z.guard) (sym join-is) (subst (λ g. IsGuard a g) (sym guard-start) guarded);
+          seen = subst (λ es. IsSeen types vars (merge.0) es a first u at) (sym (ap (λ (z : State). z.events) join-is))
+              (seen-valued types vars values (merge.0) other_end.events a first u at same stands seen);
+          fresh = fresh;
+          spare = λ k above c here. spare k (let same_news : end_state.news ≡ other_end.news = ap (λ (z : State). z.news) join-is in omega (arith, above, same_news))
+              c here;
+        }
 
-      -- the state after both ways sees what the way that was gone has led to
-      sees-end : (first t : StoreMap) (at : Standing) (values : List Sym) → Sees types vars next a first one_start first at → Unit {0}
-      sees-end first t at values sees = tt
+        after-one : (u : StoreMap) (at : Standing) → (WSat ((told.0) next) a) → IsTaken a s.guard → Sees types vars next a first one_end u at →
+            Sees types vars next a first end_state u at
+        after-one u at holds is_taken sees =
+            sees-end u at one_end.values (merged-count types vars h one_end.values other_end.values joined counts)
+            (λ v. merged-first types vars h next a finite one-less (λ w. IfSome (var_value u v) (StandsFor a at w)) (carries at u v)
+            (one-taken below.guard is_taken holds) one_end.values other_end.values joined v.0 counts room defined (sees.seen.values v))
+            ((other-idle (other-passed below.guard holds)).sees first one_end.values u at sees.seen) sees.fresh
+            (λ k above c here. sees.spare k (let more = two.news in omega (arith, above, more)) c here)
+
+        after-other : (u : StoreMap) (at : Standing) → (WSat ((told.0) next) a → ⊥) → Sees types vars next a first other_end u at →
+            Sees types vars next a first end_state u at
+        after-other u at lacks sees =
+            sees-end u at other_end.values (merged-count types vars h one_end.values other_end.values joined counts ∙ counts)
+            (λ v. merged-other types vars h next a finite one-less (λ w. IfSome (var_value u v) (StandsFor a at w)) (carries at u v)
+            (one-passed below.guard lacks) one_end.values other_end.values joined v.0 counts room defined (sees.seen.values v))
+            sees.seen sees.fresh sees.spare
+
+        -- ---- one way or the other
+
+        module _ (t : StoreMap) (at : Standing) (sees : Sees types vars next a first start t at) (is_taken : IsTaken a s.guard) where
+          sees-one : Sees types vars next a first one_start t at
+          sees-one = record {
+            over = over;
+            below = below-one_start below;
+            guarded = one-way.1;
+            seen = sees.seen;
+            fresh = sees.fresh;
+            spare = sees.spare;
+          }
+
+          goes-one : WSat ((told.0) next) a → (end : Ending) → One t end → Follows types vars next a first end_state (one.added ++ two.added) end
+          goes-one holds end ends =
+              by end (one.reached next a first t at end sees-one room-one defined-one (one-taken below.guard is_taken holds) ends)
+            where
+              by : (e : Ending) → Follows types vars next a first one_end one.added e → Follows types vars next a first end_state (one.added ++ two.added) e
+              by (Ok u) follows = (
+                (follows.0.0, after-one u (follows.0.0) holds is_taken (follows.0.1)),
+                none-append next a one.added two.added follows.1 (other-idle (other-passed below.guard holds)).none,
+              )
+              by (Err fault) follows = first-left next a one.added two.added fault.cause fault.line follows
+
+          sees-other : (WSat ((told.0) next) a → ⊥) → Sees types vars next a first other_start t at
+          sees-other lacks = record {
+            over = over;
+            below = below-other_start below;
+            guarded = other-way.1;
+            seen = (one-idle (one-passed below.guard lacks)).sees first start.values t at sees.seen;
+            fresh = sees.fresh;
+            spare = λ k above c here. sees.spare k (let more = one.news in omega (arith, above, more)) c here;
+          }
+
+          goes-other : (WSat ((told.0) next) a → ⊥) → (end : Ending) → Other t end → Follows types vars next a first end_state (one.added ++ two.added) end
+          goes-other lacks end ends =
+              follows-right types vars next a first end_state one.added two.added end (one-idle (one-passed below.guard lacks)).none
+              (by end (two.reached next a first t at end (sees-other lacks) room-other defined-other (other-taken below.guard is_taken lacks) ends))
+            where
+              by : (e : Ending) → Follows types vars next a first other_end two.added e → Follows types vars next a first end_state two.added e
+              by (Ok u) follows = ((follows.0.0, after-other u (follows.0.0) lacks (follows.0.1)), follows.1)
+              by (Err fault) follows = follows
+
+          by-truth : (r : Result Bool Cause) → Answers next a means.added line r (IsToldAs (told.0) next a at) → (end : Ending) →
+              ByTruth line r (One t) (Other t) end → Follows types vars next a first end_state (means.added ++ (one.added ++ two.added)) end
+          by-truth (Err why) answers end ends =
+              subst (λ e. Follows types vars next a first end_state (means.added ++ (one.added ++ two.added)) e) (sym ends)
+              (first-left next a means.added (one.added ++ two.added) why line answers.0)
+          by-truth (Ok true) answers end ends =
+              follows-right types vars next a first end_state means.added (one.added ++ two.added) end answers.0 (goes-one (answers.1.1 refl) end ends)
+          by-truth (Ok false) answers end ends =
+              follows-right types vars next a first end_state means.added (one.added ++ two.added) end answers.0
+              (goes-other (λ k. false≢true (answers.1.0 k)) end ends)
+
+  -- ---- all together
+
+  to-end-checks : Longer one_end.checks two.added end_state.checks
+  to-end-checks = ap (λ (z : State). z.checks) join-is ∙ append-nil other_end.checks ∙ two.checks
+
+  pub if-leads : Leads types vars s (plain_if types vars taken other told) (λ t end. ByTruth line (truth t) (One t) (Other t) end)
+  if-leads = record {
+    made = means.made ++ ((one_text ∷ other_text ∷ []) ++ (one.made ++ (two.made ++ merged-texts types vars h one_end.values other_end.values joined)));
+    defined = longer-then s.defined start.defined end_state.defined means.made
+        ((one_text ∷ other_text ∷ []) ++ (one.made ++ (two.made ++ merged-texts types vars h one_end.values other_end.values joined))) to-start
+        (longer-then start.defined ways.defined end_state.defined (one_text ∷ other_text ∷ [])
+        (one.made ++ (two.made ++ merged-texts types vars h one_end.values other_end.values joined)) to-ways
+        (longer-then ways.defined one_end.defined end_state.defined one.made (two.made ++ merged-texts types vars h one_end.values other_end.values joined)
+        one.defined
+        (longer-then one_end.defined other_end.defined end_state.defined two.made (merged-texts types vars h one_end.values other_end.values joined) two.defined
+        to-end)));
+    added = means.added ++ (one.added ++ two.added);
+    checks = longer-then s.checks start.checks end_state.checks means.added (one.added ++ two.added) (ap (λ (z : State). z.checks) means.is)
+        (longer-then start.checks one_end.checks end_state.checks one.added two.added one.checks to-end-checks);
+    guard = ap (λ (z : State). z.guard) join-is ∙ ap (λ (z : State). z.guard) means.is;
+    count = merged-count types vars h one_end.values other_end.values joined counts ∙ one.count ∙ ap (λ (z : State). length z.values) means.is;
+    news = (let first : start.news ≡ s.news = ap (λ (z : State). z.news) means.is in
+        let last : end_state.news ≡ other_end.news = ap (λ (z : State). z.news) join-is in
+        let less = one.news in
+        let more = two.news in omega (arith, first, last, less, more));
+    below = λ next below room. below-end next room below;
+    reached = λ next a first t at end sees room defined is_taken ends.
+        by-truth next room a sees.over.finite defined first sees.over sees.below sees.guarded t at
+        (means-sees types vars line s start (IsToldAs (told.0)) truth means next a first t at sees (room-start next room)) is_taken (truth t)
+        (means.told next a first t at sees (room-start next room) (defined-start next room a sees.over.finite defined)
+        ((reached-guard types vars line s next a sees.over.finite sees.below.guard).1 is_taken)) end ends;
+    idle = λ next a finite room defined below guarded passed. if-idle next room a finite defined below passed;
+  }

@@ -14,3 +14,4 @@ pub mod StatesLemmas
 pub mod TruthsLemmas
 pub mod AssertingLemmas
 pub mod IfsLemmas
+pub mod ItemsLemmas

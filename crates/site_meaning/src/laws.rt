@@ -1,4 +1,4 @@
-//! What the walk over reading, over conditions and over acts means.
+//! What the walk over reading, over conditions, over acts and over items means.
 
 ghost use Rattle.std.specs.Prelude.{ℕ, List};
 ghost use Rattle.store_core.specs.declared.ids.TypeId.{TypeId};
@@ -9,18 +9,22 @@ ghost use Rattle.store_logic.specs.declared.path.Operand.{Operand};
 ghost use Rattle.store_logic.specs.declared.cond.Cond.{Cond};
 ghost use Rattle.store_logic.specs.declared.act.Rhs.{Rhs};
 ghost use Rattle.store_logic.specs.declared.act.Act.TheVariants as act;
+ghost use Rattle.store_logic.specs.declared.assertion.Assertion.{Assertion};
 ghost use Rattle.store_logic.specs.Sorts.{Truth, Cell};
 ghost use Rattle.store_logic.specs.Terms.{truth_in};
 ghost use Rattle.store_logic.specs.FitsCode.{PathFits, OperandFits, CondFits, ActFits};
 ghost use Rattle.store_exec.specs.Steps.{made_of, truth_of};
 ghost use Rattle.store_exec.specs.Steps as exec;
-ghost use Rattle.store_exec.specs.Runs.{Does};
+ghost use Rattle.store_exec.specs.declared.code.Item.{Item};
+ghost use Rattle.store_exec.specs.Fits.{ItemsFit};
+ghost use Rattle.store_exec.specs.Runs.{Does, RunsItems};
 ghost use Rattle.site_view.specs.States.{Text, State};
 ghost use Rattle.site_view.specs.Reading.{path_value, operand_value, path_truth};
 ghost use Rattle.site_view.specs.Conditions.{condition};
 ghost use Rattle.site_view.specs.Acts.{act_rule};
+ghost use Rattle.site_view.specs.Codes.{items};
 ghost use Rattle.site_meaning.specs.Answering.{Reads, Tells, MeansTruth};
-ghost use Rattle.site_meaning.specs.Doing.{Leads};
+ghost use Rattle.site_meaning.specs.Doing.{Leads, AreAssertionsMeant};
 
 /// Reading a path to a cell, or an operand, means the value that stands there: what is read stands for it, or the first cause that
 /// comes is the one that stops execution. Nothing comes where it isn't reached.
@@ -43,10 +47,19 @@ pub fn conditions_mean_their_truth()
 {}
 
 /// An assignment means its step: the cells of the place are read, then what is assigned is evaluated, and then the place is written.
-/// `free` means its step.
+/// `free` means its step; so does an assertion, where assertions are formulas that mean them.
 pub fn acts_mean_their_steps()
     ensures assignments { (types : List TypeEntry) (vars : List VarEntry) (line : ℕ) (p : Path) (x : Rhs) (s : State) → ActFits types vars (act.Assign p x) →
         Leads types vars s (act_rule types vars line (act.Assign p x) s) (λ t end. Does types line t (act.Assign p x) end) }
     ensures frees { (types : List TypeEntry) (vars : List VarEntry) (line : ℕ) (v : VarId) (s : State) → ActFits types vars (act.Free v) →
         Leads types vars s (act_rule types vars line (act.Free v) s) (λ t end. Does types line t (act.Free v) end) }
+    ensures assertions { (types : List TypeEntry) (vars : List VarEntry) (line : ℕ) (claim : Assertion) (s : State) → AreAssertionsMeant types vars →
+        ActFits types vars (act.Assert claim) →
+        Leads types vars s (act_rule types vars line (act.Assert claim) s) (λ t end. Does types line t (act.Assert claim) end) }
+{}
+
+/// Items mean their runs: one after the other, and of an `if` the way that its condition tells, with each other way idle.
+pub fn items_mean_their_runs()
+    ensures { (types : List TypeEntry) (vars : List VarEntry) (parts : List Item) (s : State) → AreAssertionsMeant types vars → ItemsFit types vars parts →
+        Leads types vars s (items types vars parts s) (λ t end. RunsItems types parts t end) }
 {}
