@@ -15,3 +15,5 @@ pub mod TruthsLemmas
 pub mod AssertingLemmas
 pub mod IfsLemmas
 pub mod ItemsLemmas
+pub mod BranchesLemmas
+pub mod CodesLemmas

@@ -1,4 +1,4 @@
-//! What the walk over reading, over conditions, over acts and over items means.
+//! What the walk over reading, over conditions, over acts, over items and over codes means.
 
 ghost use Rattle.std.specs.Prelude.{ℕ, List};
 ghost use Rattle.store_core.specs.declared.ids.TypeId.{TypeId};
@@ -16,15 +16,18 @@ ghost use Rattle.store_logic.specs.FitsCode.{PathFits, OperandFits, CondFits, Ac
 ghost use Rattle.store_exec.specs.Steps.{made_of, truth_of};
 ghost use Rattle.store_exec.specs.Steps as exec;
 ghost use Rattle.store_exec.specs.declared.code.Item.{Item};
-ghost use Rattle.store_exec.specs.Fits.{ItemsFit};
-ghost use Rattle.store_exec.specs.Runs.{Does, RunsItems};
+ghost use Rattle.store_exec.specs.declared.code.Code.{Code};
+ghost use Rattle.store_exec.specs.declared.triple.Cut.{Cut};
+ghost use Rattle.store_exec.specs.Fits.{ItemsFit, CodeFits};
+ghost use Rattle.store_exec.specs.Runs.{Does, RunsItems, RunsCode};
 ghost use Rattle.site_view.specs.States.{Text, State};
 ghost use Rattle.site_view.specs.Reading.{path_value, operand_value, path_truth};
 ghost use Rattle.site_view.specs.Conditions.{condition};
 ghost use Rattle.site_view.specs.Acts.{act_rule};
-ghost use Rattle.site_view.specs.Codes.{items};
+ghost use Rattle.site_view.specs.Codes.{items, code};
 ghost use Rattle.site_meaning.specs.Answering.{Reads, Tells, MeansTruth};
 ghost use Rattle.site_meaning.specs.Doing.{Leads, AreAssertionsMeant};
+ghost use Rattle.site_meaning.specs.Ending.{EndsCode, AreCutsMeant};
 
 /// Reading a path to a cell, or an operand, means the value that stands there: what is read stands for it, or the first cause that
 /// comes is the one that stops execution. Nothing comes where it isn't reached.
@@ -62,4 +65,12 @@ pub fn acts_mean_their_steps()
 pub fn items_mean_their_runs()
     ensures { (types : List TypeEntry) (vars : List VarEntry) (parts : List Item) (s : State) → AreAssertionsMeant types vars → ItemsFit types vars parts →
         Leads types vars s (items types vars parts s) (λ t end. RunsItems types parts t end) }
+{}
+
+/// A code means its run, where arriving at its cuts means what is wrong there: the first cause that comes is the one that stops the
+/// code, or the first of those at the cut where it ends.
+pub fn codes_mean_their_runs()
+    ensures { (types : List TypeEntry) (vars : List VarEntry) (cuts : List Cut) (part : Code) (s : State) → AreAssertionsMeant types vars →
+        AreCutsMeant types vars cuts → CodeFits types vars part →
+        EndsCode types vars cuts s (code types vars cuts part s) (λ t out. RunsCode types part t out) }
 {}

@@ -1,0 +1,44 @@
+-- What the walk over codes means: the outcome, and what is wrong with the store at the cut where a code ends.
+use Rattle.std.specs.Prelude.{◌≡◌, ℕ, ◌≤◌, IfSome, List, ◌++◌, slice_get, Option, Some, None}
+use Rattle.gta_theory.specs.Assignments.{Assignment, IsFinite}
+use Rattle.store_core.specs.Tables.{TypeEntry, VarEntry}
+use Rattle.store_core.specs.Stores.{StoreMap}
+use Rattle.store_exec.specs.declared.cause.Cause.{Cause}
+use Rattle.store_exec.specs.declared.outcome.Outcome.{Outcome}
+use Rattle.store_exec.specs.declared.outcome.Outcome.TheVariants as outcome
+use Rattle.store_exec.specs.declared.triple.Cut.{Cut}
+use Rattle.store_exec.specs.Cuts.{AtCut}
+use Rattle.graph_view.specs.After.{Standing, IsTaken, IsGuard, IsGuardBelow}
+use Rattle.site_view.specs.States.{Text, Check, State}
+use Rattle.site_view.specs.Cuts.{arrived}
+use Rattle.site_meaning.specs.Places.{NoneComes, ComesFirst}
+use Rattle.site_meaning.specs.Seeing.{HasRoom, IsBelow, AreDefined, Sees}
+
+-- no cause comes where nothing is wrong, and else the first that comes is what is wrong first, at the line of the cut
+abbrev pub ComesAtCut : ℕ → Assignment → List Check → ℕ → Option Cause → Type 0
+ComesAtCut next a added line None = NoneComes next a added
+ComesAtCut next a added line (Some why) = ComesFirst next a added why line
+
+-- a code that stops tells why by the first cause that comes; one that ends at a cut by what is wrong there
+abbrev pub EndsAs : List TypeEntry → List VarEntry → List Cut → ℕ → Assignment → List Check → Outcome → Type 0
+EndsAs types vars cuts next a added (outcome.Fail why line) = ComesFirst next a added why line
+EndsAs types vars cuts next a added (outcome.End place t) =
+    IfSome (slice_get cuts place) (λ cut. (why : Option Cause) → AtCut types vars cut t why → ComesAtCut next a added cut.line why)
+
+-- from one state to the next the walk means that the code ends so; where it isn't reached no cause comes
+pub record EndsCode (types : List TypeEntry) (vars : List VarEntry) (cuts : List Cut) (s after : State) (Ends : StoreMap → Outcome → Type 0) : Type 0 where
+  pub made : List Text
+  pub defined : after.defined ≡ s.defined ++ made
+  pub added : List Check
+  pub checks : after.checks ≡ s.checks ++ added
+  pub news : s.news ≤ after.news
+  pub reached : (next : ℕ) (a : Assignment) (first t : StoreMap) (at : Standing) (out : Outcome) → Sees types vars next a first s t at →
+      HasRoom types vars next after → AreDefined next a after → IsTaken a s.guard → Ends t out → EndsAs types vars cuts next a added out
+  pub idle : (next : ℕ) (a : Assignment) → IsFinite a → HasRoom types vars next after → AreDefined next a after → IsGuardBelow next s.guard →
+      IsGuard a s.guard → (IsTaken a s.guard → ⊥) → NoneComes next a added
+
+-- arriving at each of the cuts means what is wrong with the store there
+abbrev pub AreCutsMeant : List TypeEntry → List VarEntry → List Cut → Type 0
+AreCutsMeant types vars cuts =
+    (place : ℕ) (cut : Cut) (s : State) → slice_get cuts place ≡ Some cut →
+    EndsCode types vars cuts s (arrived types vars cut s) (λ t out. out ≡ outcome.End place t)
