@@ -17,3 +17,4 @@ pub mod IfsLemmas
 pub mod ItemsLemmas
 pub mod BranchesLemmas
 pub mod CodesLemmas
+pub mod CutsLemmas

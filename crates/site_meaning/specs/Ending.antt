@@ -1,16 +1,21 @@
 -- What the walk over codes means: the outcome, and what is wrong with the store at the cut where a code ends.
-use Rattle.std.specs.Prelude.{◌≡◌, ℕ, ◌≤◌, IfSome, List, ◌++◌, slice_get, Option, Some, None}
+use Rattle.std.specs.Prelude.{◌≡◌, ◌↔◌, ℕ, ◌<◌, ◌≤◌, IfSome, List, ◌++◌, map, slice_get, Option, Some, None}
 use Rattle.gta_theory.specs.Assignments.{Assignment, IsFinite}
+use Rattle.ws2s_core.specs.Satisfaction.{WSat}
+use Rattle.ws2s_forms.specs.Forms.{track}
+use Rattle.store_core.specs.declared.ids.VarId.{VarId}
 use Rattle.store_core.specs.Tables.{TypeEntry, VarEntry}
 use Rattle.store_core.specs.Stores.{StoreMap}
 use Rattle.store_exec.specs.declared.cause.Cause.{Cause}
 use Rattle.store_exec.specs.declared.outcome.Outcome.{Outcome}
 use Rattle.store_exec.specs.declared.outcome.Outcome.TheVariants as outcome
 use Rattle.store_exec.specs.declared.triple.Cut.{Cut}
-use Rattle.store_exec.specs.Cuts.{AtCut}
+use Rattle.routing_expr.specs.CutFaults.{HasDanglingReference}
+use Rattle.store_exec.specs.Cuts.{AreMet, Escapes, AtCut}
 use Rattle.graph_view.specs.After.{Standing, IsTaken, IsGuard, IsGuardBelow}
-use Rattle.site_view.specs.States.{Text, Check, State}
-use Rattle.site_view.specs.Cuts.{arrived}
+use Rattle.site_view.specs.States.{Text, Check, State, sight, value_of}
+use Rattle.site_view.specs.Parts.{is_part, escapes}
+use Rattle.site_view.specs.Cuts.{claims, arrived}
 use Rattle.site_meaning.specs.Places.{NoneComes, ComesFirst}
 use Rattle.site_meaning.specs.Seeing.{HasRoom, IsBelow, AreDefined, Sees}
 
@@ -42,3 +47,14 @@ abbrev pub AreCutsMeant : List TypeEntry → List VarEntry → List Cut → Type
 AreCutsMeant types vars cuts =
     (place : ℕ) (cut : Cut) (s : State) → slice_get cuts place ≡ Some cut →
     EndsCode types vars cuts s (arrived types vars cut s) (λ t out. out ≡ outcome.End place t)
+
+-- the formulas of a cut's claims, and of pointers beside its handed part, mean what they say, where no reference dangles
+pub record AreClaimsMeant (types : List TypeEntry) (vars : List VarEntry) (cut : Cut) : Type 0 where
+  pub alone : cut.handed ≡ None → (next : ℕ) (a : Assignment) (first : StoreMap) (s : State) (t : StoreMap) (at : Standing) →
+      Sees types vars next a first s t at → (HasDanglingReference t → ⊥) →
+      WSat (claims types vars cut.asserts None s next) a ↔ AreMet types vars t cut.asserts
+  pub on_part : (roots : List VarId) → cut.handed ≡ Some roots → (next x : ℕ) (a : Assignment) (first : StoreMap) (s : State) (t : StoreMap)
+      (at : Standing) → Sees types vars next a first s t at → (HasDanglingReference t → ⊥) → x < next →
+      WSat (is_part types (sight vars s) (map (value_of s.values) roots) x next) a →
+      (WSat (escapes vars cut.inside s.values x next) a ↔ Escapes types vars t roots cut.inside)
+      × (WSat (claims types vars cut.asserts (Some (track x)) s next) a ↔ AreMet types vars t cut.asserts)
