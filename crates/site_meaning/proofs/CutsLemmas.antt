@@ -27,19 +27,10 @@ use Rattle.site_view.specs.Parts.{is_part, escapes}
 use Rattle.site_view.specs.Cuts.{claims, check_store, check_stores, check_claims, with_part, arrived_at_call, arrived}
 use Rattle.site_meaning.specs.Places.{Comes, NoneComes, ComesFirst}
 use Rattle.site_meaning.specs.Seeing.{HasRoom, IsBelow, AreDefined, Sees, with_more}
-use Rattle.site_meaning.specs.Ending.{ComesAtCut, EndsAs, EndsCode, AreClaimsMeant}
+use Rattle.site_meaning.specs.Ending.{ComesAtCut, EndsAs, EndsCode, AreConditionsTold, AreConditionsMeant, AreClaimsMeant}
 use Rattle.site_meaning.proofs.PlacesLemmas.{All-right, none-none, none-cons, none-append}
 use Rattle.site_meaning.proofs.StatesLemmas.{more-none, room-before, defined-before, sees-more}
 use Rattle.site_meaning.proofs.EvaluatingLemmas.{reached-guard}
-
--- ---- the four conditions on the store as it is
-
--- the formulas of the conditions hold exactly where they are so
-pub record AreConditionsTold (types : List TypeEntry) (vars : List VarEntry) (next : ℕ) (a : Assignment) (s : State) (t : StoreMap) : Type 0 where
-  pub dangling : WSat (cut_formula types (sight vars s) vars s.values look.DanglingRef next) a ↔ HasDanglingReference t
-  pub shared : WSat (cut_formula types (sight vars s) vars s.values look.Shared next) a ↔ HasShared types vars t
-  pub leaked : WSat (cut_formula types (sight vars s) vars s.values look.Leak next) a ↔ HasLeaked types vars t
-  pub wrong : WSat (cut_formula types (sight vars s) vars s.values look.Field next) a ↔ HasWrongField types t
 
 -- ---- the places of a cut
 
@@ -251,8 +242,7 @@ module _ (types : List TypeEntry) (vars : List VarEntry) (cut : Cut) (next : ℕ
 -- ---- the walk at a cut
 
 module _ (types : List TypeEntry) (vars : List VarEntry) (cuts : List Cut) (place : ℕ) (cut : Cut) (is_cut : slice_get cuts place ≡ Some cut)
-    (meant : AreClaimsMeant types vars cut) (conditions : (next : ℕ) (a : Assignment) (first : StoreMap) (z : State) (t : StoreMap) (at : Standing) →
-    Sees types vars next a first z t at → AreConditionsTold types vars next a z t) (s : State) where
+    (meant : AreClaimsMeant types vars cut) (conditions : AreConditionsMeant types vars) (s : State) where
   abbrev Arrives : StoreMap → Outcome → Type 0
   Arrives t out = out ≡ outcome.End place t
 

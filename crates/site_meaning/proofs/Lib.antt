@@ -18,3 +18,5 @@ pub mod ItemsLemmas
 pub mod BranchesLemmas
 pub mod CodesLemmas
 pub mod CutsLemmas
+pub mod BeginningLemmas
+pub mod TriplesLemmas

@@ -10,8 +10,10 @@ use Rattle.store_exec.specs.declared.cause.Cause.{Cause}
 use Rattle.store_exec.specs.declared.outcome.Outcome.{Outcome}
 use Rattle.store_exec.specs.declared.outcome.Outcome.TheVariants as outcome
 use Rattle.store_exec.specs.declared.triple.Cut.{Cut}
-use Rattle.routing_expr.specs.CutFaults.{HasDanglingReference}
+use Rattle.routing_expr.specs.CutFaults.{HasDanglingReference, HasShared, HasLeaked, HasWrongField}
 use Rattle.store_exec.specs.Cuts.{AreMet, Escapes, AtCut}
+use Rattle.graph_view.specs.declared.view.CutCheck.TheVariants as look
+use Rattle.graph_view.specs.Cuts.{cut_formula}
 use Rattle.graph_view.specs.After.{Standing, IsTaken, IsGuard, IsGuardBelow}
 use Rattle.site_view.specs.States.{Text, Check, State, sight, value_of}
 use Rattle.site_view.specs.Parts.{is_part, escapes}
@@ -47,6 +49,18 @@ abbrev pub AreCutsMeant : List TypeEntry → List VarEntry → List Cut → Type
 AreCutsMeant types vars cuts =
     (place : ℕ) (cut : Cut) (s : State) → slice_get cuts place ≡ Some cut →
     EndsCode types vars cuts s (arrived types vars cut s) (λ t out. out ≡ outcome.End place t)
+
+-- the formulas of the conditions on the store as it is at a cut hold exactly where they are so
+pub record AreConditionsTold (types : List TypeEntry) (vars : List VarEntry) (next : ℕ) (a : Assignment) (s : State) (t : StoreMap) : Type 0 where
+  pub dangling : WSat (cut_formula types (sight vars s) vars s.values look.DanglingRef next) a ↔ HasDanglingReference t
+  pub shared : WSat (cut_formula types (sight vars s) vars s.values look.Shared next) a ↔ HasShared types vars t
+  pub leaked : WSat (cut_formula types (sight vars s) vars s.values look.Leak next) a ↔ HasLeaked types vars t
+  pub wrong : WSat (cut_formula types (sight vars s) vars s.values look.Field next) a ↔ HasWrongField types t
+
+abbrev pub AreConditionsMeant : List TypeEntry → List VarEntry → Type 0
+AreConditionsMeant types vars =
+    (next : ℕ) (a : Assignment) (first : StoreMap) (s : State) (t : StoreMap) (at : Standing) → Sees types vars next a first s t at →
+    AreConditionsTold types vars next a s t
 
 -- the formulas of a cut's claims, and of pointers beside its handed part, mean what they say, where no reference dangles
 pub record AreClaimsMeant (types : List TypeEntry) (vars : List VarEntry) (cut : Cut) : Type 0 where

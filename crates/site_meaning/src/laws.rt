@@ -1,9 +1,11 @@
-//! What the walk over reading, over conditions, over acts, over items and over codes means.
+//! What the walk over reading, conditions, acts, items, codes, cuts and triples means.
 
-ghost use Rattle.std.specs.Prelude.{ℕ, List};
+ghost use Rattle.std.specs.Prelude.{◌≡◌, ℕ, List, slice_get, Some, None};
+ghost use Rattle.gta_theory.specs.Assignments.{Assignment};
 ghost use Rattle.store_core.specs.declared.ids.TypeId.{TypeId};
 ghost use Rattle.store_core.specs.declared.ids.VarId.{VarId};
 ghost use Rattle.store_core.specs.Tables.{TypeEntry, VarEntry};
+ghost use Rattle.store_core.specs.Stores.{StoreMap};
 ghost use Rattle.store_logic.specs.declared.path.Path.{Path};
 ghost use Rattle.store_logic.specs.declared.path.Operand.{Operand};
 ghost use Rattle.store_logic.specs.declared.cond.Cond.{Cond};
@@ -17,7 +19,13 @@ ghost use Rattle.store_exec.specs.Steps.{made_of, truth_of};
 ghost use Rattle.store_exec.specs.Steps as exec;
 ghost use Rattle.store_exec.specs.declared.code.Item.{Item};
 ghost use Rattle.store_exec.specs.declared.code.Code.{Code};
+ghost use Rattle.store_exec.specs.declared.cause.Cause.{Cause};
+ghost use Rattle.store_exec.specs.declared.outcome.Outcome.TheVariants as outcome;
 ghost use Rattle.store_exec.specs.declared.triple.Cut.{Cut};
+ghost use Rattle.store_exec.specs.declared.triple.Start.{Start};
+ghost use Rattle.store_exec.specs.declared.triple.Triple.{Triple};
+ghost use Rattle.store_exec.specs.Cuts.{AtCut};
+ghost use Rattle.store_exec.specs.Failing.{Fails};
 ghost use Rattle.store_exec.specs.Fits.{ItemsFit, CodeFits};
 ghost use Rattle.store_exec.specs.Runs.{Does, RunsItems, RunsCode};
 ghost use Rattle.site_view.specs.States.{Text, State};
@@ -25,9 +33,13 @@ ghost use Rattle.site_view.specs.Reading.{path_value, operand_value, path_truth}
 ghost use Rattle.site_view.specs.Conditions.{condition};
 ghost use Rattle.site_view.specs.Acts.{act_rule};
 ghost use Rattle.site_view.specs.Codes.{items, code};
+ghost use Rattle.site_view.specs.Triples.{started, walked};
+ghost use Rattle.graph_view.specs.After.{Standing};
+ghost use Rattle.site_meaning.specs.Places.{NoneComes, ComesFirst};
+ghost use Rattle.site_meaning.specs.Seeing.{IsOver, HasRoom, AreDefined, Sees};
 ghost use Rattle.site_meaning.specs.Answering.{Reads, Tells, MeansTruth};
 ghost use Rattle.site_meaning.specs.Doing.{Leads, AreAssertionsMeant};
-ghost use Rattle.site_meaning.specs.Ending.{EndsCode, AreCutsMeant};
+ghost use Rattle.site_meaning.specs.Ending.{EndsCode, AreCutsMeant, AreConditionsMeant, AreClaimsMeant};
 
 /// Reading a path to a cell, or an operand, means the value that stands there: what is read stands for it, or the first cause that
 /// comes is the one that stops execution. Nothing comes where it isn't reached.
@@ -73,4 +85,32 @@ pub fn codes_mean_their_runs()
     ensures { (types : List TypeEntry) (vars : List VarEntry) (cuts : List Cut) (part : Code) (s : State) → AreAssertionsMeant types vars →
         AreCutsMeant types vars cuts → CodeFits types vars part →
         EndsCode types vars cuts s (code types vars cuts part s) (λ t out. RunsCode types part t out) }
+{}
+
+/// Arriving at cuts means what is wrong with the store there, in order, where the formulas of the conditions and of the claims mean
+/// them.
+pub fn cuts_mean_what_is_wrong()
+    ensures { (types : List TypeEntry) (vars : List VarEntry) (cuts : List Cut) → AreConditionsMeant types vars →
+        ((place : ℕ) (cut : Cut) → slice_get cuts place ≡ Some cut → AreClaimsMeant types vars cut) → AreCutsMeant types vars cuts }
+{}
+
+/// Before all code the walk sees the store of the tree, also where it has made a track for the returned part of a call.
+pub fn walks_begin_with_the_store_of_the_tree()
+    ensures { (types : List TypeEntry) (vars : List VarEntry) (start : Start) (a : Assignment) (first : StoreMap) (next : ℕ) →
+        IsOver types vars a first → HasRoom types vars next (started types vars start) →
+        (at : Standing) × Sees types vars next a first (started types vars start) first at }
+{}
+
+/// On the tree of a well-formed store, with what defines it on each track that was made, the first cause that comes on the walk over a
+/// triple's code is the one with which the triple fails; and none comes where the code ends at a cut without a cause.
+pub fn walks_mean_failing()
+    ensures fails { (types : List TypeEntry) (vars : List VarEntry) (t : Triple) (a : Assignment) (first : StoreMap) (next : ℕ) (why : Cause) (line : ℕ) →
+        AreAssertionsMeant types vars → AreCutsMeant types vars t.cuts → CodeFits types vars t.code → IsOver types vars a first →
+        HasRoom types vars next (walked types vars t) → AreDefined next a (walked types vars t) → Fails types vars t first why line →
+        ComesFirst next a (walked types vars t).checks why line }
+    ensures passes { (types : List TypeEntry) (vars : List VarEntry) (t : Triple) (a : Assignment) (first : StoreMap) (next : ℕ) (place : ℕ)
+        (last : StoreMap) (cut : Cut) → AreAssertionsMeant types vars → AreCutsMeant types vars t.cuts → CodeFits types vars t.code →
+        IsOver types vars a first → HasRoom types vars next (walked types vars t) → AreDefined next a (walked types vars t) →
+        RunsCode types t.code first (outcome.End place last) → slice_get t.cuts place ≡ Some cut → AtCut types vars cut last None →
+        NoneComes next a (walked types vars t).checks }
 {}
