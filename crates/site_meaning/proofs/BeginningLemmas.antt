@@ -77,7 +77,7 @@ begins types vars a first next over few =
       at,
       record {
         over = over;
-        below = record { made = few; guard = tt; values = shows.shows.free.vars; events = tt };
+        below = record { made = omega (arith, few); guard = tt; values = shows.shows.free.vars; events = tt };
         guarded = tt;
         seen = shows.shows.seen;
         fresh = (IsFresh-well_formed types vars first over.well).1;
