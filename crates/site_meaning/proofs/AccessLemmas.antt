@@ -1,11 +1,11 @@
 -- Reading and writing through a cell: where a cause comes.
-use Rattle.std.proofs.Common.{◌≡◌, ◌↔◌, ℕ, suc, ◌<◌, ◌≤◌, Bool, true, false, cond, IsTrue, IsSome, IsSomeAnd, IfSome, List, [], ◌∷◌, ◌++◌, All, Option, Some, None, is_some, Result, Ok, Err, refl, sym, ap, ◌∙◌, subst, arith, append_assoc, append-nil}
+use Rattle.std.proofs.Common.{◌≡◌, ◌↔◌, ℕ, suc, cond, IsSome, IfSome, List, [], ◌∷◌, ◌++◌, Option, Some, None, is_some, Ok, Err, refl, sym, ap, ◌∙◌, subst, arith, append_assoc, append-nil}
 use Rattle.std.specs.Option.{option_map_or, ok_or}
 use Rattle.std.proofs.lemmas.Bool.{false≢true}
-use Rattle.gta_theory.specs.Assignments.{Position, Assignment, IsOnly}
+use Rattle.gta_theory.specs.Assignments.{Position, Assignment}
 use Rattle.ws2s_core.specs.declared.formula.Formula.TheVariants.{Not}
 use Rattle.ws2s_core.specs.Satisfaction.{WSat}
-use Rattle.ws2s_forms.specs.Forms.{and_list, ex1}
+use Rattle.ws2s_forms.specs.Forms.{and_list}
 use Rattle.ws2s_forms.specs.Places.{with_position}
 use Rattle.ws2s_forms.proofs.ConnectivesLemmas.{WSat-true}
 use Rattle.ws2s_forms.proofs.PositionsLemmas.{IsOnly-inside}
@@ -15,24 +15,22 @@ use Rattle.store_core.specs.declared.ids.FieldId.{FieldId}
 use Rattle.store_core.specs.declared.ids.VariantId.{VariantId}
 use Rattle.store_core.specs.declared.value.Value.{Value}
 use Rattle.store_core.specs.declared.value.Value.TheVariants as value
-use Rattle.store_core.specs.Tables.{TypeEntry, FieldEntry, VarEntry, field_at, is_had}
+use Rattle.store_core.specs.Tables.{TypeEntry, FieldEntry, VarEntry, field_at}
 use Rattle.store_core.specs.Stores.{StoreMap, CellEntry, IsLive, NamesType, cell_of, field_value}
 use Rattle.store_core.proofs.FittingLemmas.{IfSome-at}
 use Rattle.routing_expr.specs.Walks.{IsOfVariant}
-use Rattle.store_exec.specs.declared.cause.Cause.{Cause}
 use Rattle.store_exec.specs.declared.cause.Cause.TheVariants as cause
-use Rattle.store_exec.specs.Steps.{and_then, cell_through, field_read, read}
+use Rattle.store_exec.specs.Steps.{and_then, field_read, read}
 use Rattle.tree_store.proofs.SpotsLemmas.{of-some}
 use Rattle.tree_formula.specs.WellEncoded.{owner, variant_in}
 use Rattle.tree_meaning.proofs.TablesLemmas.{owner-is, common-had}
 use Rattle.graph_view.specs.declared.view.Sym.{Sym}
 use Rattle.graph_view.specs.declared.view.Sym.TheVariants.{Null, At}
 use Rattle.graph_view.specs.Syms.{is_in, is_null}
-use Rattle.graph_view.specs.Sights.{Sight}
 use Rattle.graph_view.specs.Live.{has, is_live, is_dead}
 use Rattle.graph_view.specs.After.{Standing, IsAt, StandsForCell, IsSymBelow}
 use Rattle.graph_live.specs.Meaning.{Agrees}
-use Rattle.graph_live.specs.Standing.{Sits, LiveAt, VariantAt, FieldAt}
+use Rattle.graph_live.specs.Standing.{Sits, LiveAt, FieldAt}
 use Rattle.graph_live.proofs.AgreeingLemmas.{Agrees-bound, IsOnly-bound, sat-not, sat-ex1, sat-three}
 use Rattle.graph_live.proofs.SymsLemmas.{is_in-cell}
 use Rattle.graph_live.proofs.TellLemmas.{stands-somewhere}
@@ -155,7 +153,7 @@ module _ (types : List TypeEntry) (vars : List VarEntry) (next : ℕ) (a : Assig
     comes = (
       here,
       (let (p, at_p) = stands-somewhere a at u c stands in
-      (sees-dead types vars next a first s t at sees u (Some c) under stands).1 (p, (at_p, dead))),
+          (sees-dead types vars next a first s t at sees u (Some c) under stands).1 (p, (at_p, dead))),
     );
     is = refl;
     at_line = refl;
@@ -177,8 +175,15 @@ module _ (types : List TypeEntry) (vars : List VarEntry) (next : ℕ) (a : Assig
         (subst (λ e. IsLive t e) (sits.apart d c p at_d at_p) live, (λ has_f. none (c, at_p, has_f)))),
     (λ (h : IsLive t c × (IsSome (field_value t c f) → ⊥)).
         let (p, at_p) = sits.there c h.0 in
-        some.1 (p, (at_p, (c, at_p, h.0), (λ (k : FieldAt t at f p).
-            h.1 (subst (λ d. IsSome (field_value t d f)) (sits.apart k.0 c p k.1 at_p) k.2))))),
+        some.1 (
+          p,
+          (
+            at_p,
+            (c, at_p, h.0),
+            (λ (k : FieldAt t at f p).
+                h.1 (subst (λ d. IsSome (field_value t d f)) (sits.apart k.0 c p k.1 at_p) k.2)),
+          ),
+        )),
   )
     where
       agrees : (p : Position) → Agrees next a (with_position a next p)

@@ -1,5 +1,5 @@
 -- Acts, by the steps that they mean.
-use Rattle.std.proofs.Common.{◌≡◌, ℕ, List, Result, Ok, Err}
+use Rattle.std.proofs.Common.{ℕ, List, Ok, Err}
 use Rattle.store_core.specs.declared.ids.VarId.{VarId}
 use Rattle.store_core.specs.Tables.{TypeEntry, VarEntry, var_at}
 use Rattle.store_core.specs.Stores.{StoreMap}
@@ -11,8 +11,8 @@ use Rattle.store_logic.specs.FitsCode.{HoldsCell, ActFits}
 use Rattle.store_exec.specs.Runs.{Ending, Does}
 use Rattle.store_exec.specs.Steps.{variable}
 use Rattle.store_exec.specs.Steps as exec
-use Rattle.site_view.specs.States.{State, value_of}
-use Rattle.site_view.specs.Acts.{assigned, freed, act_rule}
+use Rattle.site_view.specs.States.{State}
+use Rattle.site_view.specs.Acts.{act_rule}
 use Rattle.site_meaning.specs.Doing.{Leads}
 use Rattle.site_meaning.proofs.AssigningLemmas.{EndsBy, assign-leads}
 use Rattle.site_meaning.proofs.FreeingLemmas.{free-leads}

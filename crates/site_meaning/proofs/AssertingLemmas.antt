@@ -1,7 +1,6 @@
 -- Assertions in code, where each is a formula that means it.
-use Rattle.std.proofs.Common.{◌≡◌, ◌↔◌, ℕ, ◌≤◌, List, [], ◌∷◌, ◌++◌, Result, Ok, Err, refl, sym, ap, ◌∙◌, subst, arith, append-nil}
-use Rattle.gta_theory.specs.Assignments.{Assignment, IsFinite}
-use Rattle.ws2s_core.specs.Satisfaction.{WSat}
+use Rattle.std.proofs.Common.{◌≡◌, ℕ, List, [], ◌∷◌, ◌++◌, Ok, Err, refl, sym, subst, arith, append-nil}
+use Rattle.gta_theory.specs.Assignments.{Assignment}
 use Rattle.ws2s_core.proofs.SatisfactionLemmas.{WSat-Not}
 use Rattle.store_core.specs.Tables.{TypeEntry, VarEntry}
 use Rattle.store_core.specs.Stores.{StoreMap}
@@ -10,13 +9,12 @@ use Rattle.store_logic.specs.declared.act.Act.TheVariants as act
 use Rattle.store_logic.specs.Fits.{AssertionFits}
 use Rattle.store_exec.specs.declared.cause.Cause.TheVariants as cause
 use Rattle.store_exec.specs.Runs.{Ending, Does}
-use Rattle.graph_view.specs.After.{Standing, IsSeen, IsTaken, IsGuard, IsGuardBelow}
-use Rattle.site_view.specs.States.{Text, Check, State, guard, fails, sight}
+use Rattle.graph_view.specs.After.{Standing, IsTaken}
+use Rattle.site_view.specs.States.{Check, State, guard, fails, sight}
 use Rattle.site_view.specs.Claims.{assertion}
 use Rattle.site_view.specs.Acts.{act_rule}
-use Rattle.site_meaning.specs.Places.{NoneComes, ComesFirst}
-use Rattle.site_meaning.specs.Seeing.{HasRoom, IsBelow, AreDefined, Sees, with_more}
-use Rattle.site_meaning.specs.Doing.{Follows, IsIdle, Leads, AreAssertionsMeant}
+use Rattle.site_meaning.specs.Seeing.{HasRoom, Sees, with_more}
+use Rattle.site_meaning.specs.Doing.{Follows, Leads, AreAssertionsMeant}
 use Rattle.site_meaning.proofs.PlacesLemmas.{none-none, none-cons}
 use Rattle.site_meaning.proofs.StatesLemmas.{below-more, sees-more}
 use Rattle.site_meaning.proofs.EvaluatingLemmas.{reached-guard}
@@ -43,7 +41,7 @@ module _ (types : List TypeEntry) (vars : List VarEntry) (meant : AreAssertionsM
   assert-follows next a first t at (Ok u) sees room taken does = (
     (at, subst (λ w. Sees types vars next a first after w at) (sym does.0) (sees-more types vars next a first s t at [] (assert_check ∷ []) sees room)),
     none-cons next a assert_check [] (λ h.
-    (WSat-Not (assertion types (sight vars s) s.values claim next) a).0 h.1 ((meant claim next a first s t at fits sees).1 does.1)) (none-none next a),
+        (WSat-Not (assertion types (sight vars s) s.values claim next) a).0 h.1 ((meant claim next a first s t at fits sees).1 does.1)) (none-none next a),
   )
   assert-follows next a first t at (Err fault) sees room taken does = record {
     before = [];

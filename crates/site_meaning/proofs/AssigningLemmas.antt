@@ -1,9 +1,9 @@
 -- Assignments: to a variable, and to a field of what a path leads to.
-use Rattle.std.proofs.Common.{◌≡◌, ◌↔◌, ℕ, suc, ◌+◌, ◌<◌, ◌≤◌, Bool, true, false, cond, IsTrue, IsSome, IsSomeAnd, IfSome, List, [], ◌∷◌, ◌++◌, length, Option, Some, None, is_some, All, Result, Ok, Err, refl, sym, ap, ◌∙◌, subst, arith, append-nil, append_assoc, length-set}
+use Rattle.std.proofs.Common.{◌≡◌, ℕ, Bool, true, false, cond, IsSome, IsSomeAnd, IfSome, List, [], ◌∷◌, ◌++◌, length, Option, Some, None, is_some, All, Result, Ok, Err, refl, sym, ap, ◌∙◌, subst, arith, append-nil, append_assoc, length-set}
 use Rattle.std.specs.Option.{ok_or}
 use Rattle.std.proofs.lemmas.List.{length-append}
 use Rattle.std.proofs.lemmas.List.Elements.{All-set}
-use Rattle.gta_theory.specs.Assignments.{Position, Assignment, IsFinite}
+use Rattle.gta_theory.specs.Assignments.{Assignment, IsFinite}
 use Rattle.ws2s_core.specs.Satisfaction.{WSat}
 use Rattle.store_core.specs.declared.ids.CellId.{CellId}
 use Rattle.store_core.specs.declared.ids.FieldId.{FieldId}
@@ -12,12 +12,10 @@ use Rattle.store_core.specs.declared.ids.VarId.{VarId}
 use Rattle.store_core.specs.declared.value.Value.{Value}
 use Rattle.store_core.specs.declared.value.Value.TheVariants as one_value
 use Rattle.store_core.specs.Tables.{TypeEntry, FieldEntry, VarEntry, field_at}
-use Rattle.store_core.specs.Stores.{StoreMap, CellEntry, Fits, IsFresh, FieldFits, NamesType, cell_of, field_value, set_field, set_var}
-use Rattle.store_logic.specs.declared.path.Path.{Path}
+use Rattle.store_core.specs.Stores.{StoreMap, Fits, IsFresh, FieldFits, NamesType, cell_of, field_value, set_field, set_var}
 use Rattle.store_logic.specs.declared.act.Rhs.{Rhs}
-use Rattle.store_logic.specs.declared.act.Act.{Act}
 use Rattle.store_logic.specs.declared.act.Act.TheVariants as act
-use Rattle.store_logic.specs.Sorts.{Sort, Truth, Cell, field_sort, sort_along}
+use Rattle.store_logic.specs.Sorts.{Sort, Cell, field_sort, sort_along}
 use Rattle.store_logic.specs.FitsCode.{PathFits, RhsFits}
 use Rattle.store_exec.specs.declared.cause.Cause.{Cause}
 use Rattle.store_exec.specs.declared.cause.Cause.TheVariants as cause
@@ -25,24 +23,20 @@ use Rattle.store_exec.specs.Runs.{Ending}
 use Rattle.store_exec.specs.Steps.{and_then, made_of, cell_through, field_read, field_written, written, last_step, variable}
 use Rattle.store_exec.specs.Steps as exec
 use Rattle.store_exec.proofs.SortLemmas.{IsOfSort, field-of_sort, err-ok, ok-one, some-one}
-use Rattle.store_exec.proofs.KeepLemmas.{IsWell, Step-keeps, evaluated-good, IsPlace, place-of}
-use Rattle.tree_encode.specs.Tracks.{track_count}
+use Rattle.store_exec.proofs.KeepLemmas.{IsWell, Step-keeps, evaluated-good, place-of}
 use Rattle.tree_store.proofs.SpotsLemmas.{of-some}
-use Rattle.graph_view.specs.declared.view.Sym.{Sym}
 use Rattle.graph_view.specs.declared.view.Event.TheVariants.{Write}
-use Rattle.graph_view.specs.Syms as syms
 use Rattle.graph_view.specs.After.{Standing, StandsForCell, StandsFor, IsSeen, IsTaken, IsGuard, IsSymBelow, IsGuardBelow}
-use Rattle.graph_live.proofs.ReadLemmas.{is-some}
 use Rattle.site_view.specs.States.{Text, Check, State, Got, guard, value_of, with_value, happens}
-use Rattle.site_view.specs.Reading.{read, check_access}
+use Rattle.site_view.specs.Reading.{read}
 use Rattle.site_view.specs.Acts.{evaluated, write_field, write_along, assigned}
-use Rattle.site_meaning.specs.Places.{NoneComes, ComesFirst, StopsAs, Answers}
+use Rattle.site_meaning.specs.Places.{ComesFirst, StopsAs, Answers}
 use Rattle.site_meaning.specs.Seeing.{HasRoom, IsBelow, AreDefined, Sees, with_more}
 use Rattle.site_meaning.specs.Doing.{Follows, IsIdle, Leads}
 use Rattle.site_meaning.proofs.PlacesLemmas.{All-left, none-append, answers-then, answers-made, answers-so}
 use Rattle.site_meaning.proofs.StatesLemmas.{below-after}
 use Rattle.site_meaning.proofs.AccessLemmas.{access_checks, access-is, access-idle, stops-read}
-use Rattle.site_meaning.proofs.ReadingLemmas.{then-then, cell-of_sort, IsStep, step-of, step-leads, IsCome, come-read, come-variable}
+use Rattle.site_meaning.proofs.ReadingLemmas.{then-then, cell-of_sort, step-of, step-leads, IsCome, come-read, come-variable}
 use Rattle.site_meaning.proofs.EventsLemmas.{seen-passed, seen-assigned, seen-written}
 use Rattle.site_meaning.proofs.EvaluatingLemmas.{IsEvaluated, Evaluates, reached-guard, means-idle, means-sees, rhs-evaluates}
 

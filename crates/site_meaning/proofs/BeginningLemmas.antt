@@ -1,8 +1,8 @@
 -- Where the walk over a triple's code begins: the store of the tree.
-use Rattle.std.proofs.Common.{◌≡◌, ℕ, zero, suc, ◌+◌, ◌<◌, ◌≤◌, Bool, true, cond, IsSomeAnd, List, [], ◌∷◌, take, slice_get, unwrap_or, Some, inl, inr, refl, sym, ap, ◌∙◌, subst, arith}
+use Rattle.std.proofs.Common.{◌≡◌, ℕ, zero, suc, ◌+◌, ◌<◌, ◌≤◌, Bool, true, cond, List, [], ◌∷◌, take, slice_get, unwrap_or, Some, inl, inr, refl, sym, ap, ◌∙◌, arith}
 use Rattle.std.specs.Prelude.{count_by}
 use Rattle.std.proofs.lemmas.List.Sums.{sum_by-cons}
-use Rattle.gta_theory.specs.Assignments.{Position, Assignment}
+use Rattle.gta_theory.specs.Assignments.{Assignment}
 use Rattle.ws2s_forms.specs.Places.{slot_of}
 use Rattle.store_core.specs.declared.ids.CellId.{CellId}
 use Rattle.store_core.specs.declared.ids.TypeId.{TypeId}

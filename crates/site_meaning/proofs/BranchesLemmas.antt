@@ -1,5 +1,5 @@
 -- Branches: two codes with a guard each, each from the store before both.
-use Rattle.std.proofs.Common.{◌≡◌, ◌↔◌, ◌⊎◌, inl, inr, ℕ, suc, ◌+◌, ◌<◌, ◌≤◌, Bool, true, false, IsTrue, IfSome, List, [], ◌∷◌, ◌++◌, length, slice_get, Option, Some, None, Result, Ok, Err, refl, sym, ap, ◌∙◌, subst, arith, append-nil, append_assoc}
+use Rattle.std.proofs.Common.{◌≡◌, ◌↔◌, inl, inr, ℕ, suc, ◌<◌, Bool, true, false, List, [], ◌∷◌, ◌++◌, length, slice_get, Option, Some, None, Result, Ok, Err, refl, sym, ap, subst, arith, append_assoc}
 use Rattle.std.proofs.lemmas.Bool.{false≢true}
 use Rattle.std.proofs.lemmas.List.{length-append}
 use Rattle.std.proofs.lemmas.List.Elements.{All-head}
@@ -11,7 +11,6 @@ use Rattle.store_core.specs.Tables.{TypeEntry, VarEntry}
 use Rattle.store_core.specs.Stores.{StoreMap}
 use Rattle.store_core.proofs.FittingLemmas.{IfSome-from, IfSome-at}
 use Rattle.store_exec.specs.declared.cause.Cause.{Cause}
-use Rattle.store_exec.specs.declared.fault.Fault.{Fault}
 use Rattle.store_exec.specs.declared.outcome.Outcome.{Outcome}
 use Rattle.store_exec.specs.declared.outcome.Outcome.TheVariants as outcome
 use Rattle.store_exec.specs.declared.triple.Cut.{Cut}
@@ -22,13 +21,12 @@ use Rattle.graph_view.specs.After.{Standing, IsTaken, IsGuard, IsGuardBelow}
 use Rattle.site_view.specs.States.{Text, Check, State, next_track, is_truth_of, guard, both, fails}
 use Rattle.site_view.specs.Reading.{Told}
 use Rattle.site_view.specs.Codes.{Going, with_ways, on_way, branch}
-use Rattle.site_meaning.specs.Places.{NoneComes, ComesFirst, Answers}
-use Rattle.site_meaning.specs.Seeing.{IsOver, HasRoom, IsBelow, AreDefined, Sees}
-use Rattle.site_meaning.specs.Answering.{Means, Tells}
-use Rattle.site_meaning.specs.Doing.{Follows, Leads}
+use Rattle.site_meaning.specs.Places.{NoneComes, Answers}
+use Rattle.site_meaning.specs.Seeing.{HasRoom, AreDefined, Sees}
+use Rattle.site_meaning.specs.Answering.{Tells}
+use Rattle.site_meaning.specs.Doing.{Leads}
 use Rattle.site_meaning.specs.Ending.{ComesAtCut, EndsAs, EndsCode}
 use Rattle.site_meaning.proofs.PlacesLemmas.{All-left, All-right, none-append, first-left, first-right}
-use Rattle.site_meaning.proofs.StatesLemmas.{below-after}
 use Rattle.site_meaning.proofs.TruthsLemmas.{IsToldAs}
 use Rattle.site_meaning.proofs.EvaluatingLemmas.{reached-guard, means-sees}
 use Rattle.site_meaning.proofs.GrowingLemmas.{Longer, longer-then, room-longer, defined-longer}

@@ -1,9 +1,8 @@
 -- Conditions, form by form.
-use Rattle.std.proofs.Common.{◌≡◌, ◌↔◌, ◌⊎◌, inl, inr, ℕ, ◌≤◌, Bool, true, false, not, cond, IsTrue, List, Result, Ok, Err, refl, sym, ap, ◌∙◌, subst, arith}
+use Rattle.std.proofs.Common.{◌≡◌, ◌↔◌, inl, inr, ℕ, Bool, true, false, not, cond, IsTrue, List, Result, Ok, refl, sym, ap, ◌∙◌, subst}
 use mathlib.Core.Path.{transport}
 use Rattle.std.proofs.lemmas.Bool.{false≢true}
 use Rattle.gta_theory.specs.Assignments.{Assignment}
-use Rattle.ws2s_core.specs.declared.formula.Formula.{Formula}
 use Rattle.ws2s_core.specs.Satisfaction.{WSat}
 use Rattle.ws2s_core.proofs.SatisfactionLemmas.{WSat-And, WSat-Not}
 use Rattle.ws2s_forms.specs.Forms.{true_at, false_at, or}
@@ -13,7 +12,6 @@ use Rattle.store_core.specs.Tables.{TypeEntry, VarEntry}
 use Rattle.store_core.specs.declared.ids.TypeId.{TypeId}
 use Rattle.store_core.specs.declared.value.Value.{Value}
 use Rattle.store_core.specs.Stores.{StoreMap}
-use Rattle.store_logic.specs.declared.path.Operand.{Operand}
 use Rattle.store_logic.specs.declared.cond.Cond.{Cond, roll-Cond}
 use Rattle.store_logic.specs.declared.cond.Cond.TheOpen.{Cond-F}
 use Rattle.store_logic.specs.declared.cond.Cond.TheFolds.{ind-Cond, map-Cond, fold-roll-Cond, rec-roll-Cond}
@@ -23,13 +21,13 @@ use Rattle.store_exec.specs.declared.cause.Cause.{Cause}
 use Rattle.store_exec.specs.Steps.{and_then, made_of, truth_node, truth_of}
 use Rattle.store_exec.specs.Steps as exec
 use Rattle.graph_view.specs.Syms.{is_same}
-use Rattle.graph_view.specs.After.{Standing, StandsFor, StandsForCell, IsSymBelow}
-use Rattle.site_view.specs.States.{Text, Check, State, Got, both, fails}
+use Rattle.graph_view.specs.After.{Standing, StandsFor}
+use Rattle.site_view.specs.States.{Text, State, Got, both, fails}
 use Rattle.site_view.specs.Reading.{Told, operand_value, path_value}
-use Rattle.site_view.specs.Conditions.{Telling, then_same, told_not, then_and, then_or, cond_rule, condition}
+use Rattle.site_view.specs.Conditions.{Telling, told_not, cond_rule, condition}
 use Rattle.site_meaning.specs.Places.{Answers}
 use Rattle.site_meaning.specs.Seeing.{HasRoom, AreDefined, Sees}
-use Rattle.site_meaning.specs.Answering.{Means, Tells, MeansTruth}
+use Rattle.site_meaning.specs.Answering.{Tells, MeansTruth}
 use Rattle.site_meaning.proofs.PlacesLemmas.{answers-made, answers-weaker}
 use Rattle.site_meaning.proofs.StatesLemmas.{Goes, means-at_once, means-then, means-made, below-after}
 use Rattle.site_meaning.proofs.LookingLemmas.{sees-sits}

@@ -1,9 +1,9 @@
 -- Arriving at a cut: the places, and which cause comes first at them.
-use Rattle.std.proofs.Common.{◌≡◌, ◌↔◌, ◌⊎◌, inl, inr, ℕ, ◌+◌, ◌<◌, ◌≤◌, List, [], ◌∷◌, ◌++◌, map, length, slice_get, IfSome, IsSomeAnd, Option, Some, None, All, refl, sym, ap, ◌∙◌, subst, arith, append-nil, append_assoc}
+use Rattle.std.proofs.Common.{◌≡◌, ◌↔◌, ℕ, ◌<◌, List, [], ◌∷◌, ◌++◌, map, slice_get, IfSome, IsSomeAnd, Option, Some, None, refl, sym, ap, ◌∙◌, subst, arith, append-nil, append_assoc}
 use Rattle.std.specs.Option.{option_map_or}
 use Rattle.std.proofs.lemmas.List.{length-append}
 use Rattle.std.proofs.lemmas.List.Elements.{All-head}
-use Rattle.gta_theory.specs.Assignments.{Assignment, IsFinite}
+use Rattle.gta_theory.specs.Assignments.{Assignment}
 use Rattle.ws2s_core.specs.Satisfaction.{WSat}
 use Rattle.ws2s_core.proofs.SatisfactionLemmas.{WSat-Not}
 use Rattle.ws2s_forms.specs.Forms.{track}
@@ -11,7 +11,7 @@ use Rattle.ws2s_core.specs.declared.track.Track.{Track}
 use Rattle.store_core.specs.declared.ids.VarId.{VarId}
 use Rattle.store_core.specs.Tables.{TypeEntry, VarEntry}
 use Rattle.store_core.specs.Stores.{StoreMap}
-use Rattle.routing_expr.specs.CutFaults.{HasDanglingReference, HasShared, HasLeaked, HasWrongField}
+use Rattle.routing_expr.specs.CutFaults.{HasDanglingReference}
 use Rattle.store_exec.specs.declared.cause.Cause.{Cause}
 use Rattle.store_exec.specs.declared.cause.Cause.TheVariants as cause
 use Rattle.store_exec.specs.declared.outcome.Outcome.{Outcome}
@@ -21,12 +21,11 @@ use Rattle.store_exec.specs.Cuts.{AreMet, Escapes, IsWrong, AtCut}
 use Rattle.graph_view.specs.declared.view.CutCheck.{CutCheck}
 use Rattle.graph_view.specs.declared.view.CutCheck.TheVariants as look
 use Rattle.graph_view.specs.Cuts.{cut_formula}
-use Rattle.graph_view.specs.After.{Standing, IsTaken, IsGuard, IsGuardBelow}
-use Rattle.site_view.specs.States.{Text, Check, State, next_track, define, check, guard, fails, sight, value_of}
+use Rattle.site_view.specs.States.{Text, Check, State, next_track, check, guard, fails, sight, value_of}
 use Rattle.site_view.specs.Parts.{is_part, escapes}
 use Rattle.site_view.specs.Cuts.{claims, check_store, check_stores, check_claims, with_part, arrived_at_call, arrived}
 use Rattle.site_meaning.specs.Places.{Comes, NoneComes, ComesFirst}
-use Rattle.site_meaning.specs.Seeing.{HasRoom, IsBelow, AreDefined, Sees, with_more}
+use Rattle.site_meaning.specs.Seeing.{HasRoom, Sees, with_more}
 use Rattle.site_meaning.specs.Ending.{ComesAtCut, EndsAs, EndsCode, AreConditionsTold, AreConditionsMeant, AreClaimsMeant}
 use Rattle.site_meaning.proofs.PlacesLemmas.{All-right, none-none, none-cons, none-append}
 use Rattle.site_meaning.proofs.StatesLemmas.{more-none, room-before, defined-before, sees-more}

@@ -1,6 +1,5 @@
 -- What is assigned: a cell that is read, a truth value on a track that is made, or a new cell.
-use Rattle.std.proofs.Common.{◌≡◌, ◌≢◌, ◌↔◌, ◌⊎◌, inl, inr, ℕ, suc, ◌+◌, ◌<◌, ◌≤◌, Bool, true, false, IsTrue, IsSome, IfSome, List, [], ◌∷◌, ◌++◌, length, Option, Some, None, All, Result, Ok, Err, refl, sym, ap, ◌∙◌, subst, arith, append-nil, append_assoc}
-use Rattle.std.proofs.lemmas.Bool.{false≢true}
+use Rattle.std.proofs.Common.{◌≡◌, ◌↔◌, inl, inr, ℕ, ◌+◌, ◌<◌, ◌≤◌, Bool, true, false, IsTrue, IfSome, List, [], ◌∷◌, ◌++◌, Option, Some, None, Result, Ok, Err, refl, sym, ap, subst, arith, append-nil}
 use Rattle.std.proofs.lemmas.List.{length-append}
 use Rattle.std.proofs.lemmas.List.Elements.{All-head}
 use Rattle.gta_theory.specs.Assignments.{Position, Assignment, IsFinite, IsOnly}
@@ -17,41 +16,39 @@ use Rattle.store_core.specs.declared.ids.VariantId.{VariantId}
 use Rattle.store_core.specs.declared.value.Value.{Value}
 use Rattle.store_core.specs.declared.value.Value.TheVariants as value
 use Rattle.store_core.specs.Tables.{TypeEntry, VarEntry, KnowsVariant}
-use Rattle.store_core.specs.Stores.{StoreMap, CellEntry, Fits, NamesType, cell_of, put_cell}
+use Rattle.store_core.specs.Stores.{StoreMap, CellEntry, NamesType, put_cell}
 use Rattle.store_laws.proofs.ChangeLemmas.{IsPut-put_cell}
 use Rattle.store_laws.proofs.FitsLemmas.{Fits-put_cell}
 use Rattle.store_laws.proofs.FreshLemmas.{IsFresh-put_cell}
 use Rattle.store_logic.specs.declared.act.Rhs.{Rhs}
 use Rattle.store_logic.specs.declared.act.Rhs.TheVariants as rhs
-use Rattle.store_logic.specs.Sorts.{Sort, Truth, Cell, Set, IsCellSort}
+use Rattle.store_logic.specs.Sorts.{Sort, Truth, Cell, Set}
 use Rattle.store_logic.specs.FitsCode.{RhsFits}
 use Rattle.store_exec.specs.declared.cause.Cause.{Cause}
 use Rattle.store_exec.specs.Steps.{and_then, made_of, truth_of}
 use Rattle.store_exec.specs.Steps as exec
-use Rattle.tree_encode.specs.Tracks.{track_count}
 use Rattle.tree_meaning.proofs.WordsLemmas.{slots-apart}
 use Rattle.graph_view.specs.declared.view.Sym.{Sym}
 use Rattle.graph_view.specs.declared.view.Sym.TheVariants.{Null, At}
 use Rattle.graph_view.specs.declared.view.Event.TheVariants.{New}
 use Rattle.graph_view.specs.Sights.{var_slots}
-use Rattle.graph_view.specs.Syms as syms
-use Rattle.graph_view.specs.After.{Standing, IsAt, StandsForCell, StandsForTruth, StandsFor, IsSeen, IsTaken, IsGuard, new_cell, IsSymBelow, IsGuardBelow}
+use Rattle.graph_view.specs.After.{Standing, StandsForCell, StandsForTruth, StandsFor, IsSeen, IsTaken, IsGuard, new_cell, IsSymBelow, IsGuardBelow}
 use Rattle.graph_live.specs.Standing.{Sits}
 use Rattle.graph_live.proofs.AgreeingLemmas.{Agrees-itself}
 use Rattle.graph_live.proofs.SymsLemmas.{guard-means}
 use Rattle.graph_live.proofs.StandingLemmas.{new-or-old, new-here, old-here, old-not_new}
-use Rattle.site_view.specs.States.{Text, Check, State, Got, next_track, define, is_truth_of, guard, happens}
+use Rattle.site_view.specs.States.{Text, Check, State, Got, next_track, is_truth_of, guard}
 use Rattle.site_view.specs.Reading.{Told, operand_value}
 use Rattle.site_view.specs.Conditions.{condition}
 use Rattle.site_view.specs.Acts.{made_truth, made_cell, evaluated}
-use Rattle.site_meaning.specs.Places.{NoneComes, Answers}
-use Rattle.site_meaning.specs.Seeing.{HasRoom, IsBelow, AreDefined, AreSpare, Sees, with_more}
+use Rattle.site_meaning.specs.Places.{Answers}
+use Rattle.site_meaning.specs.Seeing.{HasRoom, IsBelow, AreDefined, AreSpare, Sees}
 use Rattle.site_meaning.specs.Answering.{Means, Reads, Tells}
 use Rattle.site_meaning.specs.Doing.{IsIdle}
-use Rattle.site_meaning.proofs.PlacesLemmas.{All-right, none-none, answers-made, answers-weaker}
+use Rattle.site_meaning.proofs.PlacesLemmas.{All-right, none-none, answers-made}
 use Rattle.site_meaning.proofs.StatesLemmas.{sees-more, below-after, Goes, means-then}
 use Rattle.site_meaning.proofs.LookingLemmas.{sees-sits}
-use Rattle.site_meaning.proofs.ReadingLemmas.{IsCome, come-operand}
+use Rattle.site_meaning.proofs.ReadingLemmas.{come-operand}
 use Rattle.site_meaning.proofs.TruthsLemmas.{IsToldAs}
 use Rattle.site_meaning.proofs.ConditionsLemmas.{condition-means}
 use Rattle.site_meaning.proofs.EventsLemmas.{seen-passed, seen-made}
@@ -166,8 +163,8 @@ module _ (types : List TypeEntry) (vars : List VarEntry) (line : ℕ) (s : State
     told = λ next a first t at b is says sees room defined here. (
       none-none next a,
       truth-stands next a at (told.0) (next_track types vars (told.1)) b sees.over.finite (track-made next room)
-      (All-head (λ (text : Text). WSat (text next) a) (truth_text told) []
-      (All-right (λ (text : Text). WSat (text next) a) (told.1).defined (truth_text told ∷ []) defined)) says,
+          (All-head (λ (text : Text). WSat (text next) a) (truth_text told) []
+          (All-right (λ (text : Text). WSat (text next) a) (told.1).defined (truth_text told ∷ []) defined)) says,
     );
   }
     where

@@ -1,10 +1,10 @@
 -- Stores that are seen after one event or one assignment more.
-use Rattle.std.proofs.Common.{◌≡◌, ◌≢◌, ◌↔◌, ◌⊎◌, inl, inr, ℕ, zero, suc, ◌+◌, ◌<◌, ◌≤◌, Bool, true, false, IsTrue, IsSome, IsSomeAnd, IfSome, List, [], ◌∷◌, length, slice_get, set, Contains, Option, Some, None, refl, sym, ap, ap₂, ◌∙◌, subst, arith, length-set, ◌==◌, eqb-true, eq-eqb}
+use Rattle.std.proofs.Common.{◌≡◌, ◌≢◌, inl, inr, ℕ, zero, suc, ◌+◌, Bool, true, false, IsSome, IsSomeAnd, IfSome, List, [], ◌∷◌, slice_get, set, Contains, Option, Some, None, refl, sym, ap, ap₂, ◌∙◌, subst, arith, length-set, ◌==◌, eqb-true, eq-eqb}
 use Rattle.std.proofs.lemmas.Bool.{false≢true}
 use Rattle.std.specs.Ordering.{nat_cmp}
 use Rattle.std.specs.Option.{option_map_or, option_and_then}
 use Rattle.std.specs.FinMap.{FinMap, get, insert, remove}
-use Rattle.gta_theory.specs.Assignments.{Position, Assignment, IsOnly}
+use Rattle.gta_theory.specs.Assignments.{Position, Assignment}
 use Rattle.ws2s_forms.specs.Places.{slot_of}
 use Rattle.store_core.specs.declared.ids.CellId.{CellId}
 use Rattle.store_core.specs.declared.ids.FieldId.{FieldId}
@@ -18,7 +18,7 @@ use Rattle.store_core.specs.declared.value.Value.TheVariants as value
 use Rattle.store_core.specs.Tables.{TypeEntry, FieldEntry, VarEntry, KnowsVariant, field_at}
 use Rattle.store_core.specs.Stores.{StoreMap, CellEntry, IsLive, Fits, FieldFits, NamesType, cell_of, field_of, field_value, var_value, blank_cell, with_field, put_cell, set_field, set_var, remove_cell}
 use Rattle.store_core.proofs.FittingLemmas.{IfSome-from, IfSome-at, IsSomeAnd-at}
-use Rattle.store_laws.proofs.CellLemmas.{get-set_here, get-set_elsewhere}
+use Rattle.store_laws.proofs.CellLemmas.{get-set_elsewhere}
 use Rattle.ws2s_core.specs.declared.track.Track.{Track}
 use Rattle.tree_store.proofs.SpotsLemmas.{of-some}
 use Rattle.graph_view.specs.declared.view.Sym.{Sym}
@@ -26,9 +26,9 @@ use Rattle.graph_view.specs.declared.view.Sym.TheVariants.{Null, At}
 use Rattle.graph_view.specs.declared.view.Event.{Event}
 use Rattle.graph_view.specs.declared.view.Event.TheVariants.{New, Write, Free}
 use Rattle.graph_view.specs.Sights.{var_slots}
-use Rattle.graph_view.specs.After.{Standing, IsAt, StandsForCell, StandsForTruth, StandsForCells, StandsFor, IsTaken, IsGuard, guard_of, Stood, new_cell, Happens, LeadTo, IsSeen}
+use Rattle.graph_view.specs.After.{Standing, IsAt, StandsForCell, StandsFor, IsTaken, IsGuard, guard_of, new_cell, IsSeen}
 use Rattle.graph_live.specs.Standing.{Sits}
-use Rattle.graph_live.proofs.StandingLemmas.{NewOrOld, new-or-old, new-here, old-here}
+use Rattle.graph_live.proofs.StandingLemmas.{NewOrOld, new-or-old, old-here}
 
 -- ---- an event that isn't taken
 
@@ -145,11 +145,15 @@ module _ (types : List TypeEntry) (vars : List VarEntry) (values : List Sym) (ev
         start = seen.start;
         stand = seen.stand;
         ends = put_cell ends types v;
-        lead = (record { store = ends; at = at }, seen.lead, record {
-          guard = guard;
-          taken = λ is_taken. record { known = known; empty = empty; store = refl; at = refl };
-          passed = λ no. absurd (no taken);
-        });
+        lead = (
+          record { store = ends; at = at },
+          seen.lead,
+          record {
+            guard = guard;
+            taken = λ is_taken. record { known = known; empty = empty; store = refl; at = refl };
+            passed = λ no. absurd (no taken);
+          },
+        );
         cells = ap₂ (λ (cells : FinMap nat_cmp CellEntry) (n : ℕ). insert cells n (blank_cell types v)) seen.cells seen.next;
         next = ap (λ n. n + 1) seen.next;
         fits = fits;
@@ -178,20 +182,24 @@ module _ (types : List TypeEntry) (vars : List VarEntry) (values : List Sym) (ev
     start = seen.start;
     stand = seen.stand;
     ends = set_field ends c f x;
-    lead = (record { store = ends; at = at }, seen.lead, record {
-      guard = guard;
-      taken = λ is_taken. record {
-        cell = c;
-        names = names;
-        has = subst (λ o. IsSome (option_and_then (λ (e : CellEntry). field_of e f) o)) (same-cell c) has_f;
-        value = x;
-        fits = field-fits;
-        stands = stands;
-        store = refl;
-        at = refl;
-      };
-      passed = λ no. absurd (no taken);
-    });
+    lead = (
+      record { store = ends; at = at },
+      seen.lead,
+      record {
+        guard = guard;
+        taken = λ is_taken. record {
+          cell = c;
+          names = names;
+          has = subst (λ o. IsSome (option_and_then (λ (e : CellEntry). field_of e f) o)) (same-cell c) has_f;
+          value = x;
+          fits = field-fits;
+          stands = stands;
+          store = refl;
+          at = refl;
+        };
+        passed = λ no. absurd (no taken);
+      },
+    );
     cells = ap (λ (cells : FinMap nat_cmp CellEntry). option_map_or (λ (e : CellEntry). insert cells c.0 (with_field e f x)) (get cells c.0) cells) seen.cells;
     next = seen.next;
     fits = fits;
@@ -231,11 +239,15 @@ module _ (types : List TypeEntry) (vars : List VarEntry) (values : List Sym) (ev
     start = seen.start;
     stand = seen.stand;
     ends = remove_cell ends c;
-    lead = (record { store = ends; at = at }, seen.lead, record {
-      guard = guard;
-      taken = λ is_taken. record { cell = c; names = names; live = subst IsSome (same-cell c) live; store = refl; at = refl };
-      passed = λ no. absurd (no taken);
-    });
+    lead = (
+      record { store = ends; at = at },
+      seen.lead,
+      record {
+        guard = guard;
+        taken = λ is_taken. record { cell = c; names = names; live = subst IsSome (same-cell c) live; store = refl; at = refl };
+        passed = λ no. absurd (no taken);
+      },
+    );
     cells = ap (λ (cells : FinMap nat_cmp CellEntry). remove cells c.0) seen.cells;
     next = seen.next;
     fits = fits;

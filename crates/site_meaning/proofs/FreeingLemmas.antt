@@ -1,40 +1,35 @@
 -- Freeing of cells.
-use Rattle.std.proofs.Common.{◌≡◌, ◌↔◌, ℕ, ◌≤◌, Bool, true, false, cond, IsSome, IsSomeAnd, IfSome, List, [], ◌∷◌, ◌++◌, Option, Some, None, is_some, Result, Ok, Err, refl, sym, ap, ◌∙◌, subst, arith, append-nil, append_assoc}
-use Rattle.gta_theory.specs.Assignments.{Position, Assignment, IsFinite}
+use Rattle.std.proofs.Common.{◌≡◌, ℕ, cond, List, [], ◌∷◌, Option, Some, None, is_some, Ok, Err, refl, sym, subst, arith, append-nil, append_assoc}
+use Rattle.gta_theory.specs.Assignments.{Assignment}
 use Rattle.ws2s_core.specs.Satisfaction.{WSat}
 use Rattle.store_core.specs.declared.ids.CellId.{CellId}
 use Rattle.store_core.specs.declared.ids.TypeId.{TypeId}
 use Rattle.store_core.specs.declared.ids.VarId.{VarId}
 use Rattle.store_core.specs.declared.kind.VarKind.{VarKind}
 use Rattle.store_core.specs.declared.kind.VarKind.TheVariants as var
-use Rattle.store_core.specs.declared.value.Value.{Value}
 use Rattle.store_core.specs.declared.value.Value.TheVariants as value
 use Rattle.store_core.specs.Tables.{TypeEntry, VarEntry, var_at}
-use Rattle.store_core.specs.Stores.{StoreMap, CellEntry, IsLive, NamesType, cell_of, remove_cell}
-use Rattle.store_core.proofs.FittingLemmas.{IsSomeAnd-at}
+use Rattle.store_core.specs.Stores.{StoreMap, CellEntry, IsLive, cell_of, remove_cell}
 use Rattle.store_logic.specs.declared.act.Act.TheVariants as act
 use Rattle.store_logic.specs.Sorts.{Cell}
 use Rattle.store_logic.specs.FitsCode.{code_sort, HoldsCell}
-use Rattle.store_exec.specs.declared.cause.Cause.{Cause}
 use Rattle.store_exec.specs.declared.cause.Cause.TheVariants as cause
 use Rattle.store_exec.specs.Steps.{variable}
 use Rattle.store_exec.specs.Steps as exec
-use Rattle.store_exec.proofs.SortLemmas.{err-ok, ok-one}
-use Rattle.store_exec.proofs.KeepLemmas.{IsWell, Step-keeps}
+use Rattle.store_exec.proofs.KeepLemmas.{Step-keeps}
 use Rattle.tree_store.proofs.SpotsLemmas.{of-some}
 use Rattle.graph_view.specs.declared.view.Sym.{Sym}
 use Rattle.graph_view.specs.declared.view.Event.TheVariants.{Free}
-use Rattle.graph_view.specs.Syms.{is_null}
 use Rattle.graph_view.specs.Live.{is_dead}
-use Rattle.graph_view.specs.After.{Standing, IsAt, StandsForCell, StandsFor, IsSeen, IsTaken, IsGuard, IsSymBelow}
+use Rattle.graph_view.specs.After.{Standing, StandsForCell, StandsFor, IsTaken, IsSymBelow}
 use Rattle.graph_live.proofs.TellLemmas.{stands-somewhere}
 use Rattle.graph_live.proofs.ReadLemmas.{is-some, is-none}
-use Rattle.site_view.specs.States.{Text, Check, State, Got, guard, sight, value_of, happens}
+use Rattle.site_view.specs.States.{Check, State, guard, sight, value_of, happens}
 use Rattle.site_view.specs.Acts.{freed}
-use Rattle.site_meaning.specs.Places.{Comes, NoneComes, ComesFirst, StopsAs, Answers}
-use Rattle.site_meaning.specs.Seeing.{HasRoom, IsBelow, AreDefined, Sees, with_more}
-use Rattle.site_meaning.specs.Doing.{Follows, IsIdle, Leads}
-use Rattle.site_meaning.proofs.PlacesLemmas.{none-none, none-cons, answers-so}
+use Rattle.site_meaning.specs.Places.{Comes, NoneComes, ComesFirst, Answers}
+use Rattle.site_meaning.specs.Seeing.{HasRoom, IsBelow, Sees, with_more}
+use Rattle.site_meaning.specs.Doing.{Leads}
+use Rattle.site_meaning.proofs.PlacesLemmas.{none-none, none-cons}
 use Rattle.site_meaning.proofs.LookingLemmas.{sees-dead}
 use Rattle.site_meaning.proofs.AccessLemmas.{null_check, null-told, cell-not_null}
 use Rattle.site_meaning.proofs.ReadingLemmas.{cell-of_sort, IsCome, come-variable, variable-stands}

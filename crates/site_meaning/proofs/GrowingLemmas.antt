@@ -1,16 +1,16 @@
 -- Parts of code one after the other: tracks and places that are added, and what each part leads to.
-use Rattle.std.proofs.Common.{◌≡◌, ◌⊎◌, inl, inr, ℕ, ◌+◌, ◌<◌, ◌≤◌, List, [], ◌∷◌, ◌++◌, length, All, Result, Ok, Err, refl, sym, ap, ◌∙◌, subst, arith, append-nil, append_assoc}
+use Rattle.std.proofs.Common.{◌≡◌, ◌⊎◌, inl, inr, ℕ, List, [], ◌++◌, length, All, Ok, Err, refl, sym, ap, ◌∙◌, subst, arith, append-nil, append_assoc}
 use Rattle.std.proofs.lemmas.List.{length-append}
-use Rattle.gta_theory.specs.Assignments.{Assignment, IsFinite}
+use Rattle.gta_theory.specs.Assignments.{Assignment}
 use Rattle.ws2s_core.specs.Satisfaction.{WSat}
 use Rattle.store_core.specs.Tables.{TypeEntry, VarEntry}
 use Rattle.store_core.specs.Stores.{StoreMap}
 use Rattle.store_exec.specs.declared.fault.Fault.{Fault}
 use Rattle.store_exec.specs.Runs.{Ending}
-use Rattle.graph_view.specs.After.{Standing, IsSeen, IsTaken, IsGuard, IsGuardBelow}
+use Rattle.graph_view.specs.After.{Standing, IsTaken, IsGuard, IsGuardBelow}
 use Rattle.site_view.specs.States.{Text, Check, State}
-use Rattle.site_meaning.specs.Places.{NoneComes, ComesFirst}
-use Rattle.site_meaning.specs.Seeing.{HasRoom, IsBelow, AreDefined, Sees}
+use Rattle.site_meaning.specs.Places.{NoneComes}
+use Rattle.site_meaning.specs.Seeing.{HasRoom, AreDefined, Sees}
 use Rattle.site_meaning.specs.Doing.{Follows, IsIdle, Leads}
 use Rattle.site_meaning.proofs.PlacesLemmas.{All-left, none-none, none-append, first-left, first-right}
 

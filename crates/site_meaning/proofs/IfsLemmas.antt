@@ -1,32 +1,29 @@
 -- Plain ifs: two ways with a guard each, and the values after both.
-use Rattle.std.proofs.Common.{◌≡◌, ◌↔◌, ◌⊎◌, inl, inr, ℕ, suc, ◌+◌, ◌<◌, ◌≤◌, Bool, true, false, IsTrue, IfSome, List, [], ◌∷◌, ◌++◌, length, slice_get, Option, Some, None, All, Result, Ok, Err, refl, sym, ap, ◌∙◌, subst, arith, append-nil, append_assoc}
+use Rattle.std.proofs.Common.{◌≡◌, ◌↔◌, ℕ, suc, ◌<◌, Bool, true, false, IfSome, List, [], ◌∷◌, ◌++◌, length, slice_get, Some, Result, Ok, Err, refl, sym, ap, ◌∙◌, subst, arith, append-nil, append_assoc}
 use Rattle.std.proofs.lemmas.Bool.{false≢true}
 use Rattle.std.proofs.lemmas.List.{length-append}
 use Rattle.std.proofs.lemmas.List.Elements.{All-head}
-use Rattle.gta_theory.specs.Assignments.{Position, Assignment, IsFinite}
-use Rattle.ws2s_core.specs.declared.track.Track.{Track}
+use Rattle.gta_theory.specs.Assignments.{Assignment, IsFinite}
 use Rattle.ws2s_core.specs.Satisfaction.{WSat}
 use Rattle.ws2s_core.proofs.SatisfactionLemmas.{WSat-And, WSat-Not}
 use Rattle.ws2s_forms.specs.Forms.{track}
 use Rattle.store_core.specs.declared.ids.VarId.{VarId}
-use Rattle.store_core.specs.declared.value.Value.{Value}
 use Rattle.store_core.specs.Tables.{TypeEntry, VarEntry}
 use Rattle.store_core.specs.Stores.{StoreMap, IsFresh, var_value}
 use Rattle.store_core.proofs.FittingLemmas.{IfSome-from, IfSome-at}
 use Rattle.store_exec.specs.declared.cause.Cause.{Cause}
-use Rattle.store_exec.specs.declared.fault.Fault.{Fault}
 use Rattle.store_exec.specs.Runs.{Ending, ByTruth}
 use Rattle.graph_view.specs.declared.view.Sym.{Sym}
-use Rattle.graph_view.specs.declared.view.Sym.TheVariants.{Null, At}
+use Rattle.graph_view.specs.declared.view.Sym.TheVariants.{At}
 use Rattle.graph_view.specs.declared.view.Event.{Event}
 use Rattle.graph_view.specs.Syms.{is_same}
-use Rattle.graph_view.specs.After.{Standing, StandsFor, IsSeen, IsTaken, IsGuard, IsSymBelow, IsGuardBelow, AreEventsBelow}
-use Rattle.site_view.specs.States.{Text, Check, State, next_track, define, is_truth_of, guard, both, fails}
+use Rattle.graph_view.specs.After.{Standing, StandsFor, IsSeen, IsTaken, IsGuard, IsGuardBelow, AreEventsBelow}
+use Rattle.site_view.specs.States.{Text, State, next_track, is_truth_of, guard, both, fails}
 use Rattle.site_view.specs.Reading.{Told}
-use Rattle.site_view.specs.Codes.{Going, with_ways, on_way, Merging, merged, with_merged, plain_if}
-use Rattle.site_meaning.specs.Places.{NoneComes, ComesFirst, Answers}
+use Rattle.site_view.specs.Codes.{Going, with_ways, on_way, Merging, merged, plain_if}
+use Rattle.site_meaning.specs.Places.{Answers}
 use Rattle.site_meaning.specs.Seeing.{IsOver, HasRoom, IsBelow, AreDefined, AreSpare, Sees, with_more}
-use Rattle.site_meaning.specs.Answering.{Means, Tells}
+use Rattle.site_meaning.specs.Answering.{Tells}
 use Rattle.site_meaning.specs.Doing.{Follows, IsIdle, Leads}
 use Rattle.site_meaning.proofs.PlacesLemmas.{All-left, All-right, none-append, first-left}
 use Rattle.site_meaning.proofs.StatesLemmas.{below-after}

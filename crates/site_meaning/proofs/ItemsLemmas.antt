@@ -1,20 +1,18 @@
 -- Items one after the other.
-use Rattle.std.proofs.Common.{◌≡◌, ◌↔◌, ℕ, List, [], ◌∷◌, map, Result, Ok, Err, refl, sym, ap, ◌∙◌, subst}
-use Rattle.std.specs.List.{AllByRecursion}
+use Rattle.std.proofs.Common.{◌≡◌, ℕ, List, [], ◌∷◌, map, refl, sym, ap, ◌∙◌, subst}
 use Rattle.store_core.specs.Tables.{TypeEntry, VarEntry}
-use Rattle.store_core.specs.Stores.{StoreMap}
 use Rattle.store_logic.specs.declared.act.Act.{Act}
 use Rattle.store_logic.specs.declared.act.Act.TheVariants as act
 use Rattle.store_logic.specs.declared.cond.Cond.{Cond}
-use Rattle.store_logic.specs.FitsCode.{CondFits, ActFits}
+use Rattle.store_logic.specs.FitsCode.{ActFits}
 use Rattle.store_exec.specs.declared.code.Item.{Item}
 use Rattle.store_exec.specs.declared.code.Item.TheVariants as item
 use Rattle.store_exec.specs.declared.code.Item.TheVariants.{rolls-Do, rolls-If}
 use Rattle.store_exec.specs.declared.code.Item.TheOpen.{Item-F}
 use Rattle.store_exec.specs.declared.code.Item.TheFolds.{fold-roll-Item}
-use Rattle.store_exec.specs.Fits.{ItemFits, ItemsFit}
+use Rattle.store_exec.specs.Fits.{ItemsFit}
 use Rattle.store_exec.specs.Steps.{truth_of}
-use Rattle.store_exec.specs.Runs.{Ending, Does, ByTruth, RunsItem, RunsItems}
+use Rattle.store_exec.specs.Runs.{Does, ByTruth, RunsItem, RunsItems}
 use Rattle.store_exec.proofs.InductionLemmas.{items-induction}
 use Rattle.store_exec.proofs.RunLemmas.{RunsItem-Do, RunsItem-If}
 use Rattle.store_exec.proofs.GoingLemmas.{ItemFits-Do, ItemFits-If}
@@ -28,7 +26,7 @@ use Rattle.site_meaning.specs.Doing.{Leads, AreAssertionsMeant}
 use Rattle.site_meaning.proofs.ConditionsLemmas.{condition-means}
 use Rattle.site_meaning.proofs.ActsLemmas.{leads-by, assignment-leads, freeing-leads}
 use Rattle.site_meaning.proofs.AssertingLemmas.{assert-leads}
-use Rattle.site_meaning.proofs.GrowingLemmas.{leads-none, Onwards, leads-then}
+use Rattle.site_meaning.proofs.GrowingLemmas.{leads-none, leads-then}
 use Rattle.site_meaning.proofs.IfsLemmas.{if-leads}
 
 module _ (types : List TypeEntry) (vars : List VarEntry) (meant : AreAssertionsMeant types vars) where

@@ -1,5 +1,5 @@
 -- What the formulas of live cells and of fields say of the store that a state sees.
-use Rattle.std.proofs.Common.{◌≡◌, ◌↔◌, ℕ, suc, ◌<◌, ◌≤◌, true, IsTrue, IsSomeAnd, List, [], ◌∷◌, ◌++◌, All, Option, Some, None, refl, sym, ap, ◌∙◌, subst, arith}
+use Rattle.std.proofs.Common.{◌≡◌, ◌↔◌, ℕ, suc, ◌<◌, ◌≤◌, true, IsSomeAnd, List, [], ◌∷◌, All, Option, Some, None, refl, sym, subst, arith}
 use Rattle.std.specs.Prelude.{reverse}
 use Rattle.std.proofs.lemmas.List.{reverse-append, reverse-reverse}
 use Rattle.std.proofs.lemmas.List.Elements.{All-nil, All-cons, All-append}
@@ -25,7 +25,7 @@ use Rattle.graph_view.specs.declared.view.Sym.{Sym}
 use Rattle.graph_view.specs.declared.view.Event.{Event}
 use Rattle.graph_view.specs.declared.view.View.{View}
 use Rattle.graph_view.specs.Syms.{is_in}
-use Rattle.graph_view.specs.Sights.{Sight, var_slots, sight_of}
+use Rattle.graph_view.specs.Sights.{var_slots, sight_of}
 use Rattle.graph_view.specs.Live.{lives, has, is_live, is_dead}
 use Rattle.graph_view.specs.Fields.{is_true}
 use Rattle.graph_view.specs.Routes.{names}

@@ -1,17 +1,15 @@
 -- Guards of two ways, and what stands for variables after both.
-use Rattle.std.proofs.Common.{◌≡◌, ◌↔◌, ◌⊎◌, inl, inr, ℕ, zero, suc, ◌+◌, ◌<◌, ◌≤◌, Bool, true, false, cond, ◌==◌, eqb-true, IsTrue, IfSome, List, [], ◌∷◌, ◌++◌, length, slice_get, Option, Some, None, All, refl, sym, ap, ◌∙◌, subst, arith, append-nil, append_assoc}
+use Rattle.std.proofs.Common.{◌≡◌, ◌↔◌, inl, inr, ℕ, zero, suc, ◌<◌, Bool, true, false, cond, eqb-true, IsTrue, IfSome, List, [], ◌∷◌, ◌++◌, length, slice_get, Some, None, All, refl, sym, ap, ◌∙◌, subst, arith, append_assoc}
 use Rattle.std.proofs.lemmas.Bool.{false≢true}
 use Rattle.std.proofs.lemmas.List.{length-append}
 use Rattle.std.proofs.lemmas.List.Elements.{All-nil, All-cons, All-head, All-tail}
-use Rattle.gta_theory.specs.Assignments.{Position, PositionSet, Assignment, IsFinite, IsOnly}
-use Rattle.ws2s_core.specs.declared.track.Track.{Track}
+use Rattle.gta_theory.specs.Assignments.{PositionSet, Assignment, IsFinite, IsOnly}
 use Rattle.ws2s_core.specs.declared.formula.Formula.TheVariants.{And, Not, Root}
 use Rattle.ws2s_core.specs.Satisfaction.{WSat}
 use Rattle.ws2s_core.proofs.SatisfactionLemmas.{WSat-And, WSat-Not, WSat-Root}
 use Rattle.ws2s_forms.specs.Forms.{track, empty_at, flag}
 use Rattle.ws2s_forms.proofs.GoingLemmas.{WSat-flag}
 use Rattle.ws2s_forms.proofs.LawsLemmas.{law-empty, law-equal, law-or}
-use Rattle.store_core.specs.declared.ids.CellId.{CellId}
 use Rattle.store_core.specs.declared.value.Value.{Value}
 use Rattle.store_core.specs.declared.value.Value.TheVariants as value
 use Rattle.store_core.specs.Tables.{TypeEntry, VarEntry}
@@ -38,8 +36,7 @@ way-told next a text n finite less defined =
           (((λ h. both.1), (λ h. (root []).1 refl)), (λ p h. (root p).0 h)))
       | inr lacks ↦ (
           let both = (WSat-And (empty_at next n) (Not (text next)) a).0 lacks in
-          let none = (law-empty next n a less).0 both.0 in
-          (
+          let none = (law-empty next n a less).0 both.0 in (
             (
               (λ h. absurd (false≢true (sym (none []) ∙ h))),
               (λ h. absurd ((WSat-Not (text next) a).0 both.1 h)),

@@ -1,15 +1,15 @@
 -- Reading of cell fields, of paths to cells and of operands.
-use Rattle.std.proofs.Common.{◌≡◌, ◌↔◌, ℕ, suc, ◌+◌, ◌<◌, ◌≤◌, Bool, true, false, cond, ◌==◌, eqb-true, IsTrue, IsSome, IfSome, List, [], ◌∷◌, ◌++◌, length, slice_get, All, Option, Some, None, is_some, unwrap_or, Result, Ok, Err, refl, sym, ap, ◌∙◌, subst, arith, append_assoc}
-use Rattle.std.specs.Option.{option_map_or, option_and_then, ok_or}
+use Rattle.std.proofs.Common.{◌≡◌, ◌↔◌, ℕ, suc, ◌<◌, Bool, true, false, cond, ◌==◌, eqb-true, IsTrue, IfSome, List, [], ◌∷◌, ◌++◌, slice_get, All, Option, Some, None, is_some, unwrap_or, Result, Ok, Err, refl, sym, ap, ◌∙◌, subst, arith, append_assoc}
+use Rattle.std.specs.Option.{option_and_then, ok_or}
 use Rattle.std.proofs.lemmas.Bool.{false≢true}
 use Rattle.std.proofs.lemmas.List.{length-append}
 use Rattle.std.proofs.lemmas.Option.{slice_get_within}
 use Rattle.std.proofs.lemmas.List.Elements.{All-head, All-contains}
-use Rattle.gta_theory.specs.Assignments.{Position, Assignment, IsFinite, IsOnly}
+use Rattle.gta_theory.specs.Assignments.{Position, Assignment, IsFinite}
 use Rattle.ws2s_core.specs.declared.formula.Formula.{Formula}
 use Rattle.ws2s_core.specs.declared.formula.Formula.TheVariants.{Sub, And}
 use Rattle.ws2s_core.specs.Satisfaction.{WSat}
-use Rattle.ws2s_forms.specs.Forms.{track, iff, ex1, all1}
+use Rattle.ws2s_forms.specs.Forms.{track, iff, ex1}
 use Rattle.ws2s_forms.specs.Places.{with_position}
 use Rattle.ws2s_forms.proofs.LawsLemmas.{law-all1, law-iff, same_truth, IsFinite-position}
 use Rattle.store_core.specs.declared.ids.CellId.{CellId}
@@ -36,26 +36,25 @@ use Rattle.store_exec.specs.declared.cause.Cause.{Cause}
 use Rattle.store_exec.specs.declared.cause.Cause.TheVariants as cause
 use Rattle.store_exec.specs.Steps.{and_then, cell_through, field_read, variable}
 use Rattle.store_exec.specs.Steps as exec
-use Rattle.store_exec.proofs.SortLemmas.{IsOfSort, err-ok, ok-one, some-one, none-some, HeldBy, held_at, variable-sort, read-sort}
-use Rattle.store_exec.proofs.KeepLemmas.{IsPlace, place-of}
+use Rattle.store_exec.proofs.SortLemmas.{IsOfSort, err-ok, ok-one, none-some, held_at, variable-sort, read-sort}
+use Rattle.store_exec.proofs.KeepLemmas.{place-of}
 use Rattle.graph_view.specs.declared.view.Sym.{Sym}
 use Rattle.graph_view.specs.declared.view.Sym.TheVariants.{Null, At}
 use Rattle.graph_view.specs.Syms.{is_in}
 use Rattle.graph_view.specs.Routes.{names}
 use Rattle.graph_view.specs.After.{Standing, IsAt, StandsForCell, StandsFor, IsSymBelow}
-use Rattle.graph_live.specs.Meaning.{Agrees}
 use Rattle.graph_live.specs.Standing.{Sits}
 use Rattle.graph_live.specs.Fields.{FieldNamesAt}
 use Rattle.graph_live.proofs.AgreeingLemmas.{Agrees-bound, IsOnly-bound, IsOnly-still, member-agreed}
 use Rattle.graph_live.proofs.ReadLemmas.{is-some}
 use Rattle.graph_live.proofs.SeenLemmas.{value-fits}
-use Rattle.site_view.specs.States.{Text, Check, State, Got, next_track, define, sight, value_of}
+use Rattle.site_view.specs.States.{Text, State, Got, next_track, define, sight, value_of}
 use Rattle.site_view.specs.Reading.{check_access, is_read, read, read_along, path_value, operand_value}
 use Rattle.site_meaning.specs.Places.{Answers}
-use Rattle.site_meaning.specs.Seeing.{HasRoom, IsBelow, AreDefined, Sees, with_more}
-use Rattle.site_meaning.specs.Answering.{Means, Reads}
-use Rattle.site_meaning.proofs.PlacesLemmas.{All-right, none-none, answers-so}
-use Rattle.site_meaning.proofs.StatesLemmas.{more-none, Goes, means-at_once, means-then}
+use Rattle.site_meaning.specs.Seeing.{HasRoom, AreDefined, Sees, with_more}
+use Rattle.site_meaning.specs.Answering.{Reads}
+use Rattle.site_meaning.proofs.PlacesLemmas.{All-right, answers-so}
+use Rattle.site_meaning.proofs.StatesLemmas.{Goes, means-at_once, means-then}
 use Rattle.site_meaning.proofs.LookingLemmas.{sees-sits, here-itself, sees-names, sees-placed, some-cell}
 use Rattle.site_meaning.proofs.AccessLemmas.{access_checks, access-is, access-idle, stops-read}
 

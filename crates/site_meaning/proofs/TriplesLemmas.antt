@@ -1,5 +1,5 @@
 -- The walk over a triple's code: the first cause that comes is the one with which the triple fails.
-use Rattle.std.proofs.Common.{◌≡◌, ⊎_elim, ◌⊎◌, inl, inr, ℕ, ◌≤◌, List, [], ◌∷◌, ◌++◌, map, slice_get, Option, Some, None, refl, sym, ap, ◌∙◌, subst, append-nil, arith}
+use Rattle.std.proofs.Common.{◌≡◌, inl, inr, ℕ, ◌≤◌, List, [], ◌∷◌, ◌++◌, map, slice_get, Option, Some, None, refl, sym, ap, ◌∙◌, subst, arith}
 use Rattle.std.specs.Option.{option_map_or}
 use Rattle.gta_theory.specs.Assignments.{Assignment}
 use Rattle.store_core.specs.declared.ids.VarId.{VarId}
@@ -13,21 +13,20 @@ use Rattle.store_exec.specs.declared.triple.Cut.{Cut}
 use Rattle.store_exec.specs.declared.triple.Start.{Start}
 use Rattle.store_exec.specs.declared.triple.Triple.{Triple}
 use Rattle.store_exec.specs.Cuts.{AtCut}
-use Rattle.store_exec.specs.Failing.{FailsAtCut, Fails}
+use Rattle.store_exec.specs.Failing.{Fails}
 use Rattle.store_exec.specs.Fits.{CodeFits}
 use Rattle.store_exec.specs.Runs.{RunsCode}
 use Rattle.tree_encode.specs.Tracks.{track_count}
 use Rattle.graph_view.specs.After.{Standing, IsTaken}
-use Rattle.site_view.specs.States.{Text, Check, State, next_track, sight, value_of}
+use Rattle.site_view.specs.States.{Text, State, next_track, sight, value_of}
 use Rattle.site_view.specs.Parts.{is_part}
 use Rattle.site_view.specs.Cuts.{with_part}
-use Rattle.site_view.specs.Codes.{code}
 use Rattle.site_view.specs.Triples.{at_start, started, walked}
 use Rattle.site_meaning.specs.Places.{NoneComes, ComesFirst}
-use Rattle.site_meaning.specs.Seeing.{IsOver, HasRoom, AreDefined, Sees, with_more}
+use Rattle.site_meaning.specs.Seeing.{IsOver, HasRoom, AreDefined, Sees}
 use Rattle.site_meaning.specs.Doing.{AreAssertionsMeant}
 use Rattle.site_meaning.specs.Ending.{ComesAtCut, EndsAs, EndsCode, AreCutsMeant}
-use Rattle.site_meaning.proofs.StatesLemmas.{room-before, sees-more}
+use Rattle.site_meaning.proofs.StatesLemmas.{sees-more}
 use Rattle.site_meaning.proofs.GrowingLemmas.{room-longer}
 use Rattle.site_meaning.proofs.CodesLemmas.{code-meant}
 use Rattle.site_meaning.proofs.BeginningLemmas.{begins}

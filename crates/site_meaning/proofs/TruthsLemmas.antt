@@ -1,5 +1,5 @@
 -- Reading of bool fields and bool variables, tests of variants, and whether two values are the same.
-use Rattle.std.proofs.Common.{◌≡◌, ◌↔◌, ℕ, suc, ◌<◌, ◌≤◌, Bool, true, false, cond, ◌==◌, eqb-true, eq-eqb, IsTrue, IsSome, IsSomeAnd, IfSome, List, [], ◌∷◌, ◌++◌, length, slice_get, Option, Some, None, is_some, Result, Ok, Err, refl, sym, ap, ◌∙◌, subst, arith}
+use Rattle.std.proofs.Common.{◌≡◌, ◌↔◌, ℕ, suc, ◌<◌, Bool, true, false, cond, eqb-true, eq-eqb, IsTrue, List, [], ◌∷◌, Option, Some, None, is_some, Result, Ok, Err, refl, sym, ap, ◌∙◌, subst, arith}
 use Rattle.std.specs.Option.{option_map_or, option_and_then}
 use Rattle.std.proofs.lemmas.Bool.{false≢true}
 use Rattle.gta_theory.specs.Assignments.{Position, Assignment, IsOnly}
@@ -18,19 +18,18 @@ use Rattle.store_core.specs.declared.kind.FieldKind.TheVariants as field
 use Rattle.store_core.specs.declared.value.Value.{Value}
 use Rattle.store_core.specs.declared.value.Value.TheVariants as one_value
 use Rattle.store_core.specs.Tables.{TypeEntry, FieldEntry, VarEntry, KnowsVariant, field_at, var_at}
-use Rattle.store_core.specs.Stores.{StoreMap, CellEntry, IsLive, Fits, FieldFits, NamesType, cell_of, field_value}
+use Rattle.store_core.specs.Stores.{StoreMap, CellEntry, IsLive, FieldFits, cell_of, field_value}
 use Rattle.store_core.proofs.FittingLemmas.{IsSomeAnd-at}
 use Rattle.routing_expr.specs.Walks.{IsOfVariant}
 use Rattle.store_logic.specs.declared.path.Path.{Path}
-use Rattle.store_logic.specs.declared.path.Operand.{Operand}
-use Rattle.store_logic.specs.Sorts.{Sort, Truth, Cell, Set, field_sort, sort_along}
-use Rattle.store_logic.specs.FitsCode.{code_sort, PathFits, OperandFits}
-use Rattle.store_logic.specs.Terms.{null, cell_in, truth_in}
+use Rattle.store_logic.specs.Sorts.{Truth, Cell, field_sort, sort_along}
+use Rattle.store_logic.specs.FitsCode.{code_sort, PathFits}
+use Rattle.store_logic.specs.Terms.{truth_in}
 use Rattle.store_exec.specs.declared.cause.Cause.{Cause}
 use Rattle.store_exec.specs.declared.cause.Cause.TheVariants as cause
 use Rattle.store_exec.specs.Steps.{and_then, made_of, cell_through, is_variant, is_of, variable}
 use Rattle.store_exec.specs.Steps as exec
-use Rattle.store_exec.proofs.SortLemmas.{IsOfSort, err-ok, ok-one, some-one, none-some, variable-sort, read-sort}
+use Rattle.store_exec.proofs.SortLemmas.{IsOfSort, err-ok, ok-one, some-one, variable-sort, read-sort}
 use Rattle.store_exec.proofs.KeepLemmas.{IsPlace, place-of}
 use Rattle.tree_store.proofs.SpotsLemmas.{of-some}
 use Rattle.graph_view.specs.declared.view.Sym.{Sym}
@@ -38,23 +37,23 @@ use Rattle.graph_view.specs.declared.view.Sym.TheVariants.{Null, At}
 use Rattle.graph_view.specs.Syms.{is_same, truth}
 use Rattle.graph_view.specs.Live.{lives}
 use Rattle.graph_view.specs.Fields.{is_true}
-use Rattle.graph_view.specs.After.{Standing, IsAt, StandsForCell, StandsForTruth, StandsFor, IsSymBelow}
+use Rattle.graph_view.specs.After.{Standing, IsAt, StandsForCell, StandsFor, IsSymBelow}
 use Rattle.graph_live.specs.Standing.{Sits, VariantAt}
 use Rattle.graph_live.proofs.AgreeingLemmas.{Agrees-bound, IsOnly-bound}
 use Rattle.graph_live.proofs.LiveLemmas.{same-variant, variant-same}
 use Rattle.graph_live.proofs.ReadLemmas.{is-some, is-none}
 use Rattle.graph_live.proofs.FieldsLemmas.{truth-means}
-use Rattle.site_view.specs.States.{Text, Check, State, Got, check, sight, value_of}
-use Rattle.site_view.specs.Reading.{Told, check_cell, check_access, is_true_of, is_of_variant, read, path_value, truth_along, truth_at, path_truth}
+use Rattle.site_view.specs.States.{Text, Check, State, Got, sight, value_of}
+use Rattle.site_view.specs.Reading.{Told, check_cell, check_access, is_true_of, is_of_variant, read, truth_along, truth_at, path_truth}
 use Rattle.site_view.specs.Conditions.{told_variant}
 use Rattle.site_meaning.specs.Places.{StopsAs, Answers}
-use Rattle.site_meaning.specs.Seeing.{HasRoom, IsBelow, AreDefined, Sees, with_more}
-use Rattle.site_meaning.specs.Answering.{Means, Reads, Tells}
+use Rattle.site_meaning.specs.Seeing.{Sees}
+use Rattle.site_meaning.specs.Answering.{Tells}
 use Rattle.site_meaning.proofs.PlacesLemmas.{answers-so}
 use Rattle.site_meaning.proofs.StatesLemmas.{Goes, means-at_once, means-then}
 use Rattle.site_meaning.proofs.LookingLemmas.{sees-sits, here-itself, sees-truth, sees-variant, some-cell}
 use Rattle.site_meaning.proofs.AccessLemmas.{cell_checks, access_checks, cell-is, access-is, cell-idle, access-idle, stops-null, stops-dead, passes-live, stops-read}
-use Rattle.site_meaning.proofs.ReadingLemmas.{read-ok, then-then, cell-of_sort, IsStep, step-of, step-leads, IsCome, come-read, come-variable, variable-reads, variable-stands}
+use Rattle.site_meaning.proofs.ReadingLemmas.{read-ok, then-then, cell-of_sort, step-of, step-leads, IsCome, come-read, come-variable, variable-reads, variable-stands}
 
 -- the meaning of a telling, of the same truth
 pub tells-same : (types : List TypeEntry) (vars : List VarEntry) (line : ℕ) (reached : Text) (s : State) (told : Told)

@@ -19,7 +19,7 @@ use Rattle.site_view.specs.States.{Text, Check, State, sight, value_of}
 use Rattle.site_view.specs.Parts.{is_part, escapes}
 use Rattle.site_view.specs.Cuts.{claims, arrived}
 use Rattle.site_meaning.specs.Places.{NoneComes, ComesFirst}
-use Rattle.site_meaning.specs.Seeing.{HasRoom, IsBelow, AreDefined, Sees}
+use Rattle.site_meaning.specs.Seeing.{HasRoom, AreDefined, Sees}
 
 -- no cause comes where nothing is wrong, and else the first that comes is what is wrong first, at the line of the cut
 abbrev pub ComesAtCut : ℕ → Assignment → List Check → ℕ → Option Cause → Type 0
