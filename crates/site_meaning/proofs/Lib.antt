@@ -20,3 +20,4 @@ pub mod CodesLemmas
 pub mod CutsLemmas
 pub mod BeginningLemmas
 pub mod TriplesLemmas
+pub mod FirstsLemmas

@@ -1,7 +1,7 @@
 //! What the walk over reading, conditions, acts, items, codes, cuts and triples means.
 
-ghost use Rattle.std.specs.Prelude.{◌≡◌, ℕ, List, slice_get, Some, None};
-ghost use Rattle.gta_theory.specs.Assignments.{Assignment};
+ghost use Rattle.std.specs.Prelude.{◌≡◌, ◌⊎◌, ℕ, List, slice_get, Some, None};
+ghost use Rattle.gta_theory.specs.Assignments.{Assignment, IsFinite};
 ghost use Rattle.store_core.specs.declared.ids.TypeId.{TypeId};
 ghost use Rattle.store_core.specs.declared.ids.VarId.{VarId};
 ghost use Rattle.store_core.specs.Tables.{TypeEntry, VarEntry};
@@ -28,7 +28,7 @@ ghost use Rattle.store_exec.specs.Cuts.{AtCut};
 ghost use Rattle.store_exec.specs.Failing.{Fails};
 ghost use Rattle.store_exec.specs.Fits.{ItemsFit, CodeFits};
 ghost use Rattle.store_exec.specs.Runs.{Does, RunsItems, RunsCode};
-ghost use Rattle.site_view.specs.States.{Text, State};
+ghost use Rattle.site_view.specs.States.{Text, Check, State};
 ghost use Rattle.site_view.specs.Reading.{path_value, operand_value, path_truth};
 ghost use Rattle.site_view.specs.Conditions.{condition};
 ghost use Rattle.site_view.specs.Acts.{act_rule};
@@ -113,4 +113,14 @@ pub fn walks_mean_failing()
         IsOver types vars a first → HasRoom types vars next (walked types vars t) → AreDefined next a (walked types vars t) →
         RunsCode types t.code first (outcome.End place last) → slice_get t.cuts place ≡ Some cut → AtCut types vars cut last None →
         NoneComes next a (walked types vars t).checks }
+{}
+
+/// Of places at most one cause at one line comes first, and not where none comes; and one does or none comes.
+pub fn one_cause_comes_first()
+    ensures one { (next : ℕ) (a : Assignment) (checks : List Check) (why other : Cause) (line at : ℕ) → ComesFirst next a checks why line →
+        ComesFirst next a checks other at → (why ≡ other) × (line ≡ at) }
+    ensures none { (next : ℕ) (a : Assignment) (checks : List Check) (why : Cause) (line : ℕ) → ComesFirst next a checks why line →
+        NoneComes next a checks → ⊥ }
+    ensures some { (next : ℕ) (a : Assignment) (checks : List Check) → IsFinite a →
+        NoneComes next a checks ⊎ ((why : Cause) × (line : ℕ) × ComesFirst next a checks why line) }
 {}
