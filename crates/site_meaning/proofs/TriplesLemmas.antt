@@ -5,14 +5,14 @@ use Rattle.gta_theory.specs.Assignments.{Assignment}
 use Rattle.store_core.specs.declared.ids.VarId.{VarId}
 use Rattle.store_core.specs.Tables.{TypeEntry, VarEntry}
 use Rattle.store_core.specs.Stores.{StoreMap}
-use Rattle.store_core.proofs.FittingLemmas.{IfSome-at}
+use Rattle.store_core.proofs.FittingLemmas.{IfSome-at, IsSomeAnd-at}
 use Rattle.store_exec.specs.declared.cause.Cause.{Cause}
 use Rattle.store_exec.specs.declared.outcome.Outcome.{Outcome}
 use Rattle.store_exec.specs.declared.outcome.Outcome.TheVariants as outcome
 use Rattle.store_exec.specs.declared.triple.Cut.{Cut}
 use Rattle.store_exec.specs.declared.triple.Start.{Start}
 use Rattle.store_exec.specs.declared.triple.Triple.{Triple}
-use Rattle.store_exec.specs.Cuts.{AtCut}
+use Rattle.store_exec.specs.Cuts.{AtCut, IsFirstCause}
 use Rattle.store_exec.specs.Failing.{Fails}
 use Rattle.store_exec.specs.Fits.{CodeFits}
 use Rattle.store_exec.specs.Runs.{RunsCode}
@@ -25,8 +25,9 @@ use Rattle.site_view.specs.Triples.{at_start, started, walked}
 use Rattle.site_meaning.specs.Places.{NoneComes, ComesFirst}
 use Rattle.site_meaning.specs.Seeing.{IsOver, HasRoom, AreDefined, Sees}
 use Rattle.site_meaning.specs.Doing.{AreAssertionsMeant}
-use Rattle.site_meaning.specs.Ending.{ComesAtCut, EndsAs, EndsCode, AreCutsMeant}
+use Rattle.site_meaning.specs.Ending.{ComesAtCut, EndsAs, EndsCode, AreCutsMeant, IsSettledAt, IsSettled}
 use Rattle.site_meaning.proofs.StatesLemmas.{sees-more}
+use Rattle.site_meaning.proofs.FirstsLemmas.{one-first, first-some}
 use Rattle.site_meaning.proofs.GrowingLemmas.{room-longer}
 use Rattle.site_meaning.proofs.CodesLemmas.{code-meant}
 use Rattle.site_meaning.proofs.BeginningLemmas.{begins}
@@ -102,3 +103,34 @@ module _ (types : List TypeEntry) (vars : List VarEntry) where
         AtCut types vars cut u None → NoneComes next a ((walked types vars t).checks)
     passes-all place u cut runs there right =
         IfSome-at (slice_get t.cuts place) (IsSaid u) cut there (ends-so (outcome.End place u) runs) None right
+
+    -- the other way: what comes first is what the triple fails with, where its run is settled
+    pub first-fails : (why : Cause) (line : ℕ) → IsSettled types vars t first → ComesFirst next a (walked types vars t).checks why line →
+        Fails types vars t first why line
+    first-fails why line (out, runs, settled) comes = by out runs settled (ends-so out runs)
+      where
+        at-cut : (place : ℕ) (u : StoreMap) (cut : Cut) → slice_get t.cuts place ≡ Some cut → RunsCode types t.code first (outcome.End place u) →
+            (other : Option Cause) → AtCut types vars cut u other → ComesAtCut next a (walked types vars t).checks cut.line other →
+            Fails types vars t first why line
+        at-cut place u cut there goes None right none = absurd (first-some next a (walked types vars t).checks why line comes none)
+        at-cut place u cut there goes (Some other) wrong also =
+            let same = one-first next a (walked types vars t).checks other why cut.line line also comes in
+            inr (record {
+              place = place;
+              cut = cut;
+              store = u;
+              ends = goes;
+              there = there;
+              first = subst (λ w. IsFirstCause types vars cut u w) same.0 wrong;
+              at_line = same.1;
+            })
+
+        by : (o : Outcome) → RunsCode types t.code first o → IsSettledAt types vars t.cuts o →
+            EndsAs types vars t.cuts next a (walked types vars t).checks o → Fails types vars t first why line
+        by (outcome.Fail other at) goes is ends =
+            let same = one-first next a (walked types vars t).checks other why at line ends comes in
+            inl (subst (λ w. RunsCode types t.code first (outcome.Fail w line)) same.0
+            (subst (λ n. RunsCode types t.code first (outcome.Fail other n)) same.1 goes))
+        by (outcome.End place u) goes is ends =
+            let (cut, there, answer) = IsSomeAnd-at (slice_get t.cuts place) (λ (c : Cut). (w : Option Cause) × AtCut types vars c u w) is in
+            at-cut place u cut there goes (answer.0) (answer.1) (IfSome-at (slice_get t.cuts place) (IsSaid u) cut there ends (answer.0) (answer.1))

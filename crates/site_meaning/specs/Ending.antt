@@ -1,5 +1,5 @@
 -- What the walk over codes means: the outcome, and what is wrong with the store at the cut where a code ends.
-use Rattle.std.specs.Prelude.{◌≡◌, ◌↔◌, ℕ, ◌<◌, ◌≤◌, IfSome, List, ◌++◌, map, slice_get, Option, Some, None}
+use Rattle.std.specs.Prelude.{◌≡◌, ◌↔◌, ℕ, ◌<◌, ◌≤◌, IfSome, IsSomeAnd, List, ◌++◌, map, slice_get, Option, Some, None}
 use Rattle.gta_theory.specs.Assignments.{Assignment, IsFinite}
 use Rattle.ws2s_core.specs.Satisfaction.{WSat}
 use Rattle.ws2s_forms.specs.Forms.{track}
@@ -10,6 +10,8 @@ use Rattle.store_exec.specs.declared.cause.Cause.{Cause}
 use Rattle.store_exec.specs.declared.outcome.Outcome.{Outcome}
 use Rattle.store_exec.specs.declared.outcome.Outcome.TheVariants as outcome
 use Rattle.store_exec.specs.declared.triple.Cut.{Cut}
+use Rattle.store_exec.specs.declared.triple.Triple.{Triple}
+use Rattle.store_exec.specs.Runs.{RunsCode}
 use Rattle.routing_expr.specs.CutFaults.{HasDanglingReference, HasShared, HasLeaked, HasWrongField}
 use Rattle.store_exec.specs.Cuts.{AreMet, Escapes, AtCut}
 use Rattle.graph_view.specs.declared.view.CutCheck.TheVariants as look
@@ -72,3 +74,12 @@ pub record AreClaimsMeant (types : List TypeEntry) (vars : List VarEntry) (cut :
       WSat (is_part types (sight vars s) (map (value_of s.values) roots) x next) a →
       (WSat (escapes vars cut.inside s.values x next) a ↔ Escapes types vars t roots cut.inside)
       × (WSat (claims types vars cut.asserts (Some (track x)) s next) a ↔ AreMet types vars t cut.asserts)
+
+-- where the outcome is a cut of the triple, it is settled what is wrong first with the store there
+abbrev pub IsSettledAt : List TypeEntry → List VarEntry → List Cut → Outcome → Type 0
+IsSettledAt types vars cuts (outcome.Fail why line) = Unit {0}
+IsSettledAt types vars cuts (outcome.End place t) = IsSomeAnd (slice_get cuts place) (λ cut. (why : Option Cause) × AtCut types vars cut t why)
+
+-- the triple's code leads somewhere from the store, and it is settled what is wrong there
+abbrev pub IsSettled : List TypeEntry → List VarEntry → Triple → StoreMap → Type 0
+IsSettled types vars t s = (out : Outcome) × RunsCode types t.code s out × IsSettledAt types vars t.cuts out

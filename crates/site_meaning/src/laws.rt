@@ -39,7 +39,7 @@ ghost use Rattle.site_meaning.specs.Places.{NoneComes, ComesFirst};
 ghost use Rattle.site_meaning.specs.Seeing.{IsOver, HasRoom, AreDefined, Sees};
 ghost use Rattle.site_meaning.specs.Answering.{Reads, Tells, MeansTruth};
 ghost use Rattle.site_meaning.specs.Doing.{Leads, AreAssertionsMeant};
-ghost use Rattle.site_meaning.specs.Ending.{EndsCode, AreCutsMeant, AreConditionsMeant, AreClaimsMeant};
+ghost use Rattle.site_meaning.specs.Ending.{EndsCode, AreCutsMeant, AreConditionsMeant, AreClaimsMeant, IsSettled};
 
 /// Reading a path to a cell, or an operand, means the value that stands there: what is read stands for it, or the first cause that
 /// comes is the one that stops execution. Nothing comes where it isn't reached.
@@ -102,7 +102,8 @@ pub fn walks_begin_with_the_store_of_the_tree()
 {}
 
 /// On the tree of a well-formed store, with what defines it on each track that was made, the first cause that comes on the walk over a
-/// triple's code is the one with which the triple fails; and none comes where the code ends at a cut without a cause.
+/// triple's code is the one with which the triple fails; none comes where the code ends at a cut without a cause; and what comes first
+/// is what the triple fails with, where it is settled how its code ends.
 pub fn walks_mean_failing()
     ensures fails { (types : List TypeEntry) (vars : List VarEntry) (t : Triple) (a : Assignment) (first : StoreMap) (next : ℕ) (why : Cause) (line : ℕ) →
         AreAssertionsMeant types vars → AreCutsMeant types vars t.cuts → CodeFits types vars t.code → IsOver types vars a first →
@@ -113,6 +114,10 @@ pub fn walks_mean_failing()
         IsOver types vars a first → HasRoom types vars next (walked types vars t) → AreDefined next a (walked types vars t) →
         RunsCode types t.code first (outcome.End place last) → slice_get t.cuts place ≡ Some cut → AtCut types vars cut last None →
         NoneComes next a (walked types vars t).checks }
+    ensures comes { (types : List TypeEntry) (vars : List VarEntry) (t : Triple) (a : Assignment) (first : StoreMap) (next : ℕ) (why : Cause) (line : ℕ) →
+        AreAssertionsMeant types vars → AreCutsMeant types vars t.cuts → CodeFits types vars t.code → IsOver types vars a first →
+        HasRoom types vars next (walked types vars t) → AreDefined next a (walked types vars t) → IsSettled types vars t first →
+        ComesFirst next a (walked types vars t).checks why line → Fails types vars t first why line }
 {}
 
 /// Of places at most one cause at one line comes first, and not where none comes; and one does or none comes.
