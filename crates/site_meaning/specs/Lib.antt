@@ -1,0 +1,5 @@
+pub mod Places
+pub mod Seeing
+pub mod Answering
+pub mod Doing
+pub mod Ending
