@@ -1,0 +1,4 @@
+mod OneEachLemmas
+mod WeighedLemmas
+mod ForksLemmas
+mod LightestLemmas
