@@ -5,6 +5,7 @@ use Rattle.std.specs.Option.{option_map}
 use Rattle.std.specs.Str.{bytes_eq}
 use Rattle.std.proofs.lemmas.Cmp.{nat_list_eq_equiv}
 use Rattle.std.proofs.lemmas.List.{take_all}
+use Rattle.std.proofs.lemmas.Option.{slice_get_within}
 use Rattle.store_core.specs.declared.kind.VarKind.{VarKind}
 use Rattle.store_core.specs.declared.kind.VarKind.TheVariants as var
 use Rattle.store_core.specs.Tables.{TypeEntry, VarEntry, IsTypeTable, KnowsVarKind, place_of, AreDistinct, type_names, var_names, var_named, add_var}
@@ -43,6 +44,14 @@ type_vars-all types i vars enough is = is ∙ ap (vars_from 0) (take_all i types
 pub length-vars_from : (n : ℕ) (ts : List TypeEntry) → length (vars_from n ts) ≡ length ts
 length-vars_from n [] = refl
 length-vars_from n (t ∷ ts) = ap suc (length-vars_from (suc n) ts)
+
+pub has-room : (types : List TypeEntry) (i : ℕ) (t : TypeEntry) (vars : List VarEntry) → IsTypeTable types → slice_get types i ≡ Some t →
+    vars ≡ vars_from 0 (take i types) → length vars < 4294967295
+has-room types i t vars table at is =
+    let long : length vars ≡ i = ap (λ (vs : List VarEntry). length vs) is ∙ length-vars_from 0 (take i types) ∙ length-front types i t at in
+    let inside = slice_get_within types i t at in
+    let few = table.few in
+    omega (arith, long, inside, few)
 
 -- ---- names
 

@@ -1,5 +1,5 @@
 -- The tracks of all variants, each once.
-use Rattle.std.proofs.Common.{◌≡◌, ◌≢◌, ◌⊎◌, inl, inr, ◌↔◌, ◌<◌, ◌≤◌, ◌+◌, ℕ, Bool, true, false, cond, nat_lt, List, [], ◌∷◌, ◌++◌, length, Option, Some, None, AllPairs, Contains}
+use Rattle.std.proofs.Common.{◌≡◌, ◌≢◌, ◌⊎◌, inl, inr, ◌↔◌, ◌<◌, ◌≤◌, ◌+◌, ℕ, Bool, true, false, ◌||◌, cond, nat_lt, List, [], ◌∷◌, ◌++◌, length, Option, Some, None, AllPairs, Contains}
 use Rattle.std.proofs.Common.{refl, sym, ap, ◌∙◌, subst, arith, eq-eqb, nat_eq}
 use Rattle.std.specs.Option.{option_map_or}
 use Rattle.std.proofs.lemmas.Bool.{cases_eq, false≢true, ltb-true}
@@ -35,7 +35,7 @@ there-among : (tracks : List Track) (t : ℕ) → is_among tracks t ≡ true →
 there-among [] t e = absurd (false≢true e)
 there-among (u ∷ tracks) t e = by (nat_eq u.0 t) refl (there-among tracks t) e
   where
-    by : (b : Bool) → nat_eq u.0 t ≡ b → (is_among tracks t ≡ true → Contains tracks (track_at t)) → cond b true (is_among tracks t) ≡ true →
+    by : (b : Bool) → nat_eq u.0 t ≡ b → (is_among tracks t ≡ true → Contains tracks (track_at t)) → (b || is_among tracks t) ≡ true →
         Contains (u ∷ tracks) (track_at t)
     by true is rest h = subst (λ x. Contains (u ∷ tracks) x) (track-eta u t (same-number u.0 t is)) (Contains-here u tracks)
     by false is rest h = Contains-there u tracks (track_at t) (rest h)

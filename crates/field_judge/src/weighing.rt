@@ -16,7 +16,8 @@ fn push_track(tracks: &mut TrackList, track: Option<Track>) -> Result<(), AllocE
     let Some(track) = track else {
         return Ok(());
     };
-    tracks.push(track)
+    tracks.push(track)?;
+    Ok(())
 }
 
 /// Adds the tracks of the variants of a type.

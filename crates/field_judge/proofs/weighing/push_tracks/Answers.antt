@@ -1,4 +1,5 @@
-use Rattle.std.proofs.Common.{◌≡◌, ◌∙◌, Some, sym, ap, subst, arith}
+use Rattle.std.proofs.Common.{◌≡◌, List, Some, ap, subst, arith}
+use Rattle.store_core.specs.Tables.{TypeEntry, variant_count}
 use Rattle.routing_expr.specs.Gathering.{Gathers}
 use Rattle.routing_expr.proofs.GatheringLemmas.{Gathers-start, Gathers-next, Gathers-alike}
 use Rattle.field_judge.proofs.WeighedLemmas.{TrackAt, tracks-of_type}
@@ -19,4 +20,4 @@ returns c =
     let types = c.args.l.now.types in
     Gathers-alike c.args.tracks.now c.loop-index.tracks _ _ c.loop-index.invariant
     (tracks-of_type types c.args.ty c.loop-index.index
-    (omega (arith, c.loop-index-test.false, c.variants-index-end.ensures)))
+    (omega (arith, c.loop-index-test.false, c.variants-index-end.ensures, ap (λ (ts : List TypeEntry). variant_count ts c.args.ty) c.types.ensures.value)))

@@ -1,4 +1,5 @@
-use Rattle.std.proofs.Common.{[], sym, ap, subst, arith}
+use Rattle.std.proofs.Common.{List, [], length, sym, ap, subst, arith}
+use Rattle.store_core.specs.Tables.{TypeEntry}
 use Rattle.routing_expr.specs.Gathering.{Gathers, Before}
 use Rattle.routing_expr.proofs.GatheringLemmas.{Gathers-start, Gathers-next, HasAll-gathered, HasAll-alike}
 use Rattle.field_judge.specs.Weighed.{IsVariantTrack}
@@ -20,4 +21,4 @@ returns c =
     let In = TrackIn types in
     let n = c.loop-index.index in
     HasAll-alike c.loop-index.tracks (Before In n) (IsVariantTrack types) (HasAll-gathered c.loop-index.tracks (Before In n) c.loop-index.invariant)
-    (tracks-of_all types n (omega (arith, c.loop-index-test.false, c.types-index-end.ensures.value)))
+    (tracks-of_all types n (omega (arith, c.loop-index-test.false, c.types-index-end.ensures.value, ap (λ (ts : List TypeEntry). length ts) c.types.ensures.value)))
