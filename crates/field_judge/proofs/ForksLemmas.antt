@@ -1,5 +1,5 @@
 -- Cells with two destinations, told by lists of destinations, and the first of them.
-use Rattle.std.proofs.Common.{◌≡◌, ◌≢◌, ◌⊎◌, inl, inr, ◌↔◌, ◌<◌, ◌≤◌, ◌+◌, ℕ, Bool, true, false, IsTrue, List, [], ◌∷◌, length, slice_get, Option, Some, None, IsSome, IsSomeAnd, Contains}
+use Rattle.std.proofs.Common.{◌≡◌, inl, inr, ◌↔◌, ◌<◌, ◌≤◌, ◌+◌, ℕ, Bool, true, false, IsTrue, List, [], ◌∷◌, length, slice_get, Option, Some, None, IsSome, IsSomeAnd}
 use Rattle.std.proofs.Common.{refl, sym, ap, ◌∙◌, subst, arith}
 use Rattle.std.specs.Prelude.{option_map}
 use Rattle.std.specs.Bool.{OnTrue, OnFalse}
@@ -13,7 +13,7 @@ use Rattle.store_core.specs.declared.kind.FieldKind.{FieldKind}
 use Rattle.store_core.specs.declared.kind.FieldKind.TheVariants as field
 use Rattle.store_core.specs.declared.kind.Route.{Route}
 use Rattle.store_core.specs.Tables.{TypeEntry, FieldEntry, field_at}
-use Rattle.store_core.specs.Stores.{StoreMap, IsLive, field_value}
+use Rattle.store_core.specs.Stores.{StoreMap, field_value}
 use Rattle.routing_expr.specs.Destinations.{EndsWalk, EndsKind, Dest}
 use Rattle.routing_expr.specs.WellFormed.{IsFirstCell}
 use Rattle.routing_expr.specs.Searches.{Lists}

@@ -1,8 +1,8 @@
 -- The backbone that a lightest tree lays out is one of the fewest cells with a fork.
-use Rattle.std.proofs.Common.{◌≡◌, ◌≤◌, ℕ, List, [], length, Option, Some, None, IsSome, IsSomeAnd, IfSome, sym, ap, ◌∙◌, subst, arith}
+use Rattle.std.proofs.Common.{◌≡◌, ◌≤◌, ℕ, List, length, Option, Some, None, IsSome, IsSomeAnd, refl, sym, ap, ◌∙◌, subst, arith}
 use Rattle.std.specs.FinMap.{keys}
 use Rattle.std.proofs.lemmas.Bool.{false≢true}
-use Rattle.gta_theory.specs.Assignments.{Assignment, IsFinite, Covers}
+use Rattle.gta_theory.specs.Assignments.{Assignment, IsFinite}
 use Rattle.gta_theory.specs.Weights.{weight}
 use Rattle.gta_theory.proofs.AssignmentsLemmas.{Covers-finite}
 use Rattle.gta_witness.specs.Lightest.{each_once}
@@ -14,23 +14,19 @@ use Rattle.ws2s_core.specs.Satisfaction.{WSat}
 use Rattle.ws2s_core.proofs.LabelTreesLemmas.{Covers-tree}
 use Rattle.ws2s_core.proofs.SatisfactionLemmas.{WSat-And}
 use Rattle.ws2s_decide.specs.Deciding.{IsUnsatisfiable, IsLightestModel}
-use Rattle.ws2s_theory.specs.Peaks.{HasPeak}
 use Rattle.store_core.specs.declared.ids.FieldId.{FieldId}
 use Rattle.store_core.specs.declared.ids.CellId.{CellId}
-use Rattle.store_core.specs.declared.ids.VariantId.{VariantId}
 use Rattle.store_core.specs.declared.kind.FieldKind.{FieldKind}
 use Rattle.store_core.specs.declared.kind.FieldKind.TheVariants as field
 use Rattle.store_core.specs.declared.value.Value.{Value}
 use Rattle.store_core.specs.declared.value.Value.TheVariants as value
 use Rattle.store_core.specs.Tables.{TypeEntry, VarEntry, FieldEntry, IsTypeTable, field_at}
 use Rattle.store_core.specs.Stores.{StoreMap, Fits, field_value}
-use Rattle.store_core.proofs.FittingLemmas.{IfSome-from, IfSome-at, IsSomeAnd-at}
+use Rattle.store_core.proofs.FittingLemmas.{IfSome-from, IsSomeAnd-at}
 use Rattle.routing_expr.specs.Destinations.{IsPointer}
 use Rattle.routing_expr.specs.Gathering.{HasAll}
 use Rattle.routing_expr.specs.WellFormed.{IsBackbone, IsFunctional, IsFirstCell}
 use Rattle.routing_laws.specs.Refuting.{Refutes}
-use Rattle.store_pointers.specs.Pointers.{IsPointerField}
-use Rattle.tree_encode.specs.Spaces.{guide_of}
 use Rattle.tree_encode.specs.Tracks.{track_count}
 use Rattle.tree_store.proofs.WeighingLemmas.{weight-cells}
 use Rattle.tree_formula.specs.WellEncoded.{well_encoded}
@@ -50,7 +46,7 @@ use Rattle.graph_fields.proofs.AloneLemmas.{light-tree}
 use Rattle.witness_store.specs.Results.{IsReadOff}
 use Rattle.field_judge.specs.OneEach.{type_vars}
 use Rattle.field_judge.specs.Weighed.{IsVariantTrack}
-use Rattle.field_judge.specs.Judging.{formula_of, HasFieldPeak, IsLightestFork, ArePointersNull, IsLeastFork}
+use Rattle.field_judge.specs.Judging.{formula_of, IsLightestFork, ArePointersNull, IsLeastFork}
 use Rattle.field_judge.proofs.OneEachLemmas.{one_each}
 use Rattle.field_judge.proofs.WeighedLemmas.{are-variant_tracks}
 
@@ -134,16 +130,9 @@ functional-from types f formula table is none =
     (functional-means types (type_vars types) f table (one_each types)).1 (λ n a covers satisfied. none n a covers (subst (λ g. WSat g a) (sym is) satisfied))
 
 -- the formula over a table of variables is that over one data variable a type, where these are the variables
-pub formula-is : (types : List TypeEntry) (vars : List VarEntry) (f : FieldId) (formula : Formula) → vars ≡ type_vars types →
-    formula ≡ field_formula types vars f → formula ≡ formula_of types f
-formula-is types vars f formula are is = is ∙ ap (λ vs. field_formula types vs f) are
-
-pub peak-from : (types : List TypeEntry) (vars : List VarEntry) (spares : List VariantId) (f : FieldId) (guide : List (ℕ × ℕ)) (formula : Formula) (p : ℕ) →
-    vars ≡ type_vars types → spares ≡ [] → guide ≡ guide_of types vars spares → formula ≡ field_formula types vars f → HasFieldPeak types f p →
-    HasPeak guide formula p
-peak-from types vars spares f guide formula p are none guided is peak =
-    subst (λ g. HasPeak g formula p) (sym (guided ∙ (λ i. guide_of types (are i) (none i))))
-    (subst (λ h. HasPeak (guide_of types (type_vars types) []) h p) (sym (formula-is types vars f formula are is)) peak)
+pub formula-is : (types : List TypeEntry) (others : List VarEntry) (f : FieldId) (formula : Formula) → others ≡ type_vars types →
+    formula ≡ field_formula types others f → formula ≡ formula_of types f
+formula-is types others f formula are is = is ∙ ap (λ vs. field_formula types vs f) are
 
 -- ---- what the answers exclude
 

@@ -1,8 +1,8 @@
 -- The tracks of all variants, each once.
-use Rattle.std.proofs.Common.{◌≡◌, ◌≢◌, ◌⊎◌, inl, inr, ◌↔◌, ◌<◌, ◌≤◌, ◌+◌, ℕ, Bool, true, false, ◌||◌, cond, nat_lt, List, [], ◌∷◌, ◌++◌, length, Option, Some, None, AllPairs, Contains}
+use Rattle.std.proofs.Common.{◌≡◌, ◌≢◌, ◌⊎◌, inl, inr, ◌↔◌, ◌<◌, ◌≤◌, ℕ, Bool, true, false, ◌||◌, cond, nat_lt, List, [], ◌∷◌, ◌++◌, length, Option, Some, None, AllPairs, Contains}
 use Rattle.std.proofs.Common.{refl, sym, ap, ◌∙◌, subst, arith, eq-eqb, nat_eq}
 use Rattle.std.specs.Option.{option_map_or}
-use Rattle.std.proofs.lemmas.Bool.{cases_eq, false≢true, ltb-true}
+use Rattle.std.proofs.lemmas.Bool.{false≢true, ltb-true}
 use Rattle.std.proofs.lemmas.Bool.Decides.{nat_tests}
 use Rattle.std.proofs.lemmas.Option.{slice_get_within, same_Some}
 use Rattle.std.proofs.lemmas.List.Folds.{list_any_at}
@@ -14,7 +14,7 @@ use Rattle.store_core.specs.declared.ids.TypeId.{TypeId}
 use Rattle.store_core.specs.declared.ids.VariantId.{VariantId}
 use Rattle.store_core.specs.Tables.{TypeEntry, type_at, count_of_variants, variant_count}
 use Rattle.routing_expr.specs.Gathering.{Gathers, HasAll, Before}
-use Rattle.routing_expr.proofs.GatheringLemmas.{Contains-none, Contains-here, Contains-there, Contains-cases, Gathers-none, Gathers-push, Gathers-alike, HasAll-gathered, HasAll-alike}
+use Rattle.routing_expr.proofs.GatheringLemmas.{Contains-none, Contains-here, Contains-there, Contains-cases, Gathers-none, Gathers-push, Gathers-alike}
 use Rattle.tree_encode.specs.Tracks.{track_at, variant_track}
 use Rattle.tree_encode.proofs.TracksLemmas.{cond-some}
 use Rattle.tree_store.specs.Weighing.{AreVariantTracks}
