@@ -1,74 +1,92 @@
-//! Types with what is said of their pointer fields, worked out by hand.
+//! Pointer fields with what is said of them, worked out by hand.
 
-use crate::telling::is_told;
+use crate::made::{FIRST, made_types};
+use crate::routes::Way;
+use crate::telling::said;
+use std::alloc::{AllocError, Global};
 use std::test::Fail;
 
-/// Texts of types, and for each of their pointer fields `functional`, or the first cell with two destinations and the least
-/// backbone, which is the only one of its count of cells.
-static FIELDS: &[(&[u8], &str)] = &[
+/// The data fields of the type with the numbers of their targets, the target and the way of its pointer, and `functional`, or the
+/// first cell with two destinations and the least backbone, which is the only one of its count of cells.
+type Case = (&'static [(&'static str, u32)], u32, Way, &'static str);
+
+static CASES: [Case; 6] = [
     // The cell before in a list is one at most, for a cell is named once.
-    (
-        b"type Node = { data next: Node; pointer prev: Node [^next]; }",
-        "functional\n",
-    ),
+    (&[("next", 0)], 0, Way::Before, "functional\n"),
     // So is the last cell of a list.
-    (
-        b"type Node = { data next: Node; pointer last: Node [next*.$]; }",
-        "functional\n",
-    ),
+    (&[("next", 0)], 0, Way::Last, "functional\n"),
     // A cell with both children has two destinations.
     (
-        b"type Tree = { data left: Tree; data right: Tree; pointer p: Tree [left+right]; }",
-        "ambiguous at 1\n\
-         store\n\
-         var Tree 1\n\
-         cell 1 Tree left=2 right=3 p=null\n\
-         cell 2 Tree left=null right=null p=null\n\
-         cell 3 Tree left=null right=null p=null\n\
-         end\n",
-    ),
-    // A cell and the next one; of the three fields of this type the first and the last are functional.
-    (
-        b"type Node = { data next: Node; pointer one: Node [next]; pointer p: Node [next*]; pointer root: Node [^*.root]; }",
-        "functional\n\
-         ambiguous at 1\n\
-         store\n\
-         var Node 1\n\
-         cell 1 Node next=2 one=null p=null root=null\n\
-         cell 2 Node next=null one=null p=null root=null\n\
-         end\n\
-         functional\n",
-    ),
-    // The cells above a cell and itself: the first cell has one destination, the second two.
-    (
-        b"type Node = { data next: Node; pointer p: Node [^*]; }",
-        "ambiguous at 2\n\
-         store\n\
-         var Node 1\n\
-         cell 1 Node next=2 p=null\n\
-         cell 2 Node next=null p=null\n\
-         end\n",
-    ),
-    // Destinations are of the target type alone: `a` leads to none itself, and its `b` is the second.
-    (
-        b"type A = { data b: B; data a: A; pointer p: B [b+a+a.b]; } type B = { }",
+        &[("left", 0), ("right", 0)],
+        0,
+        Way::Child,
         "ambiguous at 1\n\
          store\n\
          var A 1\n\
          var B null\n\
-         cell 1 A b=2 a=3 p=null\n\
+         cell 1 A left=2 right=3 p=null\n\
+         cell 2 A left=null right=null p=null\n\
+         cell 3 A left=null right=null p=null\n\
+         end\n",
+    ),
+    // A cell and the next one.
+    (
+        &[("next", 0)],
+        0,
+        Way::Ahead,
+        "ambiguous at 1\n\
+         store\n\
+         var A 1\n\
+         var B null\n\
+         cell 1 A next=2 p=null\n\
+         cell 2 A next=null p=null\n\
+         end\n",
+    ),
+    // A cell and those above it: the first cell has one destination, the second two.
+    (
+        &[("next", 0)],
+        0,
+        Way::Above,
+        "ambiguous at 2\n\
+         store\n\
+         var A 1\n\
+         var B null\n\
+         cell 1 A next=2 p=null\n\
+         cell 2 A next=null p=null\n\
+         end\n",
+    ),
+    // Cells of the other type, of which each cell of this one has one.
+    (
+        &[("next", 1), ("left", 0)],
+        1,
+        Way::NextOrBehindLeft,
+        "ambiguous at 1\n\
+         store\n\
+         var A 1\n\
+         var B null\n\
+         cell 1 A next=2 left=3 p=null\n\
          cell 2 B\n\
-         cell 3 A b=4 a=null p=null\n\
+         cell 3 A next=4 left=null p=null\n\
          cell 4 B\n\
          end\n",
     ),
 ];
 
+/// Whether this is said of the field.
+fn is_said(alloc: Global, case: &Case) -> Result<bool, AllocError> {
+    let (fields, target, way, want) = case;
+    let types = made_types(alloc, fields, *target, *way)?;
+    let Some(field) = types.find_field(FIRST, b"p") else {
+        return Ok(false);
+    };
+    let out = said(alloc, &types, field)?;
+    Ok(out.as_slice() == want.as_bytes())
+}
+
 #[test]
 fn fields_are_judged(rt: HostRuntime) -> Result<(), Fail> {
-    let alloc = rt.alloc();
-    for (text, want) in FIELDS {
-        assert!(rt; is_told(alloc, text, want)?, "{want}");
+    for case in &CASES {
+        assert!(rt; is_said(rt.alloc(), case)?, "{}", case.3);
     }
     Ok(())
 }
