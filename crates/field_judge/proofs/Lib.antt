@@ -1,4 +1,4 @@
-mod OneEachLemmas
-mod WeighedLemmas
-mod ForksLemmas
-mod LightestLemmas
+pub mod OneEachLemmas
+pub mod WeighedLemmas
+pub mod ForksLemmas
+pub mod LightestLemmas

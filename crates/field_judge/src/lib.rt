@@ -12,3 +12,4 @@ mod weighing;
 
 pub use judging::{FieldJudged, judge_field};
 pub use variables::one_each;
+pub use weighing::weighed;

@@ -31,7 +31,11 @@ fn push_tracks(tracks: &mut TrackList, l: &Layout<'_>, ty: TypeId) -> Result<(),
 }
 
 /// The tracks of all variants: the weight of a tree on them is the number of the cells of its store.
-pub(crate) fn weighed(alloc: Global, l: &Layout<'_>) -> Result<TrackList, AllocError>
+///
+/// # Errors
+///
+/// Want of memory.
+pub fn weighed(alloc: Global, l: &Layout<'_>) -> Result<TrackList, AllocError>
     ensures { IfOk result (λ tracks. HasAll tracks (IsVariantTrack l.now.types)) }
 {
     let mut tracks = TrackList::new(alloc);
