@@ -5,7 +5,6 @@ use Rattle.store_core.specs.declared.kind.Route.TheVariants.{Leaf, Then, Star, r
 use Rattle.store_core.specs.declared.kind.Route.TheOpen.{Route-F}
 use Rattle.store_core.specs.declared.kind.Route.TheFolds.{fold-Route, fold-roll-Route, map-Route}
 use Rattle.store_core.specs.Tables.{TypeEntry, KnowsRoute, knows_node}
-use Rattle.field_judge_tests.specs.Plain.{IsPlain}
 
 both : (a b : Bool) → a ≡ true → b ≡ true → (a && b) ≡ true
 both true b one other = other
