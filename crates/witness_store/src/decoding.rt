@@ -16,8 +16,13 @@ use store_pointers::set_pointers;
 use tree_encode::Layout;
 use ws2s_core::LabelTree;
 
-/// The store whose backbone the tree lays out, with null in every pointer field.
-fn backbone_of(alloc: Global, l: &Layout<'_>, tree: &LabelTree) -> Result<Store, AllocError>
+/// The store whose backbone the tree lays out on the tracks of the layout, with null in every pointer field. Its cells are
+/// numbered from 1 in preorder. (Klarlund and Schwartzbach 1993.)
+///
+/// # Errors
+///
+/// Want of memory.
+pub fn backbone_of(alloc: Global, l: &Layout<'_>, tree: &LabelTree) -> Result<Store, AllocError>
     requires { LaysOut l.now.types l.now.vars (assignment_of tree.now) }
     ensures { IfOk result (IsReadOff l.now.types l.now.vars (assignment_of tree.now)) }
 {

@@ -12,4 +12,4 @@ mod nodes;
 mod preorder;
 mod variables;
 
-pub use decoding::decode;
+pub use decoding::{backbone_of, decode};

@@ -1,0 +1,4 @@
+pub mod OneEachLemmas
+pub mod WeighedLemmas
+pub mod ForksLemmas
+pub mod LightestLemmas

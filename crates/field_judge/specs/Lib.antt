@@ -1,0 +1,3 @@
+pub mod OneEach
+pub mod Weighed
+pub mod Judging

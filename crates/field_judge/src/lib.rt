@@ -1,0 +1,14 @@
+//! Judging a pointer field: it is functional, or a least backbone has a cell with two destinations for it.
+//!
+//! `specs/Judging.antt` says when each answer stands, and `specs/OneEach.antt` over which variables that backbone is.
+#![tactic(auto)]
+
+mod forks;
+mod judging;
+pub mod laws;
+mod variables;
+mod weighing;
+
+pub use judging::{FieldJudged, judge_field};
+pub use variables::one_each;
+pub use weighing::weighed;
