@@ -1,6 +1,7 @@
 -- What the state sees, in the words of the laws on assertions, claims and cuts.
-use Rattle.std.proofs.Common.{◌≡◌, ◌↔◌, ℕ, ◌<◌, ◌≤◌, List, [], map, Option, Some, None, inl, inr, refl, sym, ◌∙◌, subst, arith}
+use Rattle.std.proofs.Common.{◌≡◌, ◌↔◌, ℕ, ◌<◌, ◌≤◌, List, [], map, Option, Some, None, inl, inr, refl, sym, ◌∙◌, ap, subst, arith}
 use Rattle.std.specs.Prelude.{IfSome, IsSomeAnd, slice_get}
+use Rattle.std.proofs.lemmas.List.{reverse-reverse}
 use Rattle.std.specs.Option.{IsSome}
 use Rattle.std.specs.List.{AllByRecursion}
 use Rattle.gta_theory.specs.Assignments.{Assignment}
@@ -24,7 +25,8 @@ use Rattle.store_exec.specs.Cuts.{AreMet, Escapes}
 use Rattle.store_exec.specs.Fits.{CutFits, TripleFits}
 use Rattle.graph_view.specs.declared.view.CutCheck.{CutCheck}
 use Rattle.graph_view.specs.declared.view.CutCheck.TheVariants as look
-use Rattle.graph_view.specs.Sights.{Sight, sight_of}
+use Rattle.graph_view.specs.declared.view.Event.{Event}
+use Rattle.graph_view.specs.Sights.{Sight, var_slots, sight_of}
 use Rattle.graph_view.specs.Cuts.{cut_formula}
 use Rattle.graph_view.specs.After.{Standing}
 use Rattle.graph_live.specs.Meaning.{Agrees}
@@ -33,7 +35,7 @@ use Rattle.graph_cuts.proofs.DanglingLemmas.{dangles-means}
 use Rattle.graph_cuts.proofs.SharedLemmas.{shares-means}
 use Rattle.graph_cuts.proofs.LeakLemmas.{leaks-means}
 use Rattle.graph_cuts.proofs.WrongLemmas.{wrong-means}
-use Rattle.site_view.specs.States.{State, sight, value_of}
+use Rattle.site_view.specs.States.{State, sight, value_of, next_track}
 use Rattle.site_view.specs.Parts.{is_part, escapes}
 use Rattle.site_view.specs.Cuts.{claims}
 use Rattle.claim_meaning.specs.Given.{HasPart, IsGiven, IsRegionOf, IsNamedBy, NameLive}
@@ -84,13 +86,17 @@ module _ (types : List TypeEntry) (vars : List VarEntry) (next : ℕ) (a : Assig
   same : Agrees next a a
   same = here-itself types vars next a first s t at sees
 
+  -- the view looks where the state does
+  same-sight : (n : ℕ) → sight_of vars (looking.view_of s n) ≡ sight vars s
+  same-sight n = ap (λ (events : List Event). record { slots = var_slots vars; events = events; region = None }) (reverse-reverse s.events)
+
   abbrev Told : CutCheck → Type 0 → Type 0
   Told what So = WSat (cut_formula types (sight vars s) vars s.values what next) a ↔ So
 
   by-sight : (what : CutCheck) (So : Type 0) →
       WSat (cut_formula types (sight_of vars (looking.view_of s next)) vars s.values what next) a ↔ So → Told what So
   by-sight what So told =
-      subst (λ (k : Sight). WSat (cut_formula types k vars s.values what next) a ↔ So) (looking.sight-is types vars next a first s t at sees) told
+      subst (λ (k : Sight). WSat (cut_formula types k vars s.values what next) a ↔ So) (same-sight next) told
 
   pub conditions-told : AreConditionsTold types vars next a s t
   conditions-told =
@@ -126,9 +132,9 @@ module _ (types : List TypeEntry) (vars : List VarEntry) (cut : Cut) (fits : Cut
       let itself = same types vars next a first s t at sees in
       let listed : AllByRecursion (IsKnownDataVar vars) roots =
       subst (λ (o : Option (List VarId)). IfSome o (AllByRecursion (IsKnownDataVar vars))) is fits.handed in
-      let sight_is = looking.sight-is types vars next a first s t at sees in
       let there : WSat (is_part types (sight_of vars view) (map (value_of s.values) roots) x next) a =
-      subst (λ (k : Sight). WSat (is_part types k (map (value_of s.values) roots) x next) a) (sym sight_is) part in
+      subst (λ (k : Sight). WSat (is_part types k (map (value_of s.values) roots) x next) a)
+      (sym (same-sight types vars next a first s t at sees (next_track types vars s))) part in
       let has = (live-part-means l view a first t at next known roots listed a next x itself (omega arith) below (names-live t roots none)).0 there in
       let given : IsGiven types vars a at t next roots (track x) = record { below = below; has = has } in
       let on : AllByRecursion (λ (c : Claim). IsRegionOf (Some roots) c.region) cut.asserts =
@@ -148,6 +154,6 @@ module _ (types : List TypeEntry) (vars : List VarEntry) (cut : Cut) (fits : Cut
 
 pub cuts-meant : (types : List TypeEntry) (vars : List VarEntry) (t : Triple) → TripleFits types vars t → AreParted t → AreCutsMeant types vars t.cuts
 cuts-meant types vars t fits parted place cut s there =
-    arrived-ends types vars t.cuts place cut there (conditions-meant types vars)
+    arrived-ends types vars t.cuts place cut there
     (claims-meant types vars cut (AllByRecursion-at (CutFits types vars) t.cuts place cut fits.cuts there)
-    (AllByRecursion-at IsParted t.cuts place cut parted there)) s
+    (AllByRecursion-at IsParted t.cuts place cut parted there)) (conditions-meant types vars) s
