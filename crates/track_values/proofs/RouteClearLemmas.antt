@@ -189,4 +189,4 @@ module _ (types : List TypeEntry) (vars : List VarEntry) (t : ℕ) (few : track_
     pub names-clear : (next : ℕ) (f : FieldId) (a b : ℕ) → t < next → a ≢ t → b ≢ t → IsClear t (names types sight next f a b)
     names-clear next f a b less no_a no_b =
         clear-option t (λ (entry : FieldEntry). names_in types sight next f a b entry.kind) (false_at next) (field_at types f)
-        (λ entry there. names_in-clear next f a b entry.kind less no_a no_b) (clear-false t next less)
+        (λ entry. names_in-clear next f a b entry.kind less no_a no_b) (clear-false t next less)

@@ -34,10 +34,10 @@ clear-cond t true f g one other = one
 clear-cond t false f g one other = other
 
 -- the formula of what is there, or another
-pub clear-option : {X : Type 0} (t : ℕ) (f : X → Formula) (other : Formula) (o : Option X) → ((x : X) → o ≡ Some x → IsClear t (f x)) → IsClear t other →
+pub clear-option : {X : Type 0} (t : ℕ) (f : X → Formula) (other : Formula) (o : Option X) → ((x : X) → IsClear t (f x)) → IsClear t other →
     IsClear t (option_map_or f o other)
 clear-option t f other None each none = none
-clear-option t f other (Some x) each none = each x refl
+clear-option t f other (Some x) each none = each x
 
 -- ---- values and guards
 
@@ -119,14 +119,14 @@ module _ (types : List TypeEntry) (vars : List VarEntry) (t : ℕ) (few : track_
   pub clear-lives_in : (sight : Sight) (next : ℕ) (ty : TypeId) (a : ℕ) → IsSightBelow t sight → t < next → a ≢ t →
       IsClear t (lives_in types sight next ty a)
   clear-lives_in sight next ty a is less no_a =
-      clear-option t (λ v. lives types sight next v a) (or_list next (map (λ v. lives types sight next v a) (variants_of types ty))) (unnamed_of types ty) (λ v here. clear-lives sight next v a is less no_a)
+      clear-option t (λ v. lives types sight next v a) (or_list next (map (λ v. lives types sight next v a) (variants_of types ty))) (unnamed_of types ty) (λ v. clear-lives sight next v a is less no_a)
       (clear-or_list t next (map (λ v. lives types sight next v a) (variants_of types ty)) less
       (clear-map t (λ v. lives types sight next v a) (λ v. clear-lives sight next v a is less no_a) (variants_of types ty)))
 
   pub clear-has : (sight : Sight) (next : ℕ) (f : FieldId) (a : ℕ) → IsSightBelow t sight → t < next → a ≢ t → IsClear t (has types sight next f a)
   clear-has sight next f a is less no_a =
       clear-option t (λ v. lives types sight next v a) (lives_in types sight next f.ty a) (owner types f)
-      (λ v here. clear-lives sight next v a is less no_a) (clear-lives_in sight next f.ty a is less no_a)
+      (λ v. clear-lives sight next v a is less no_a) (clear-lives_in sight next f.ty a is less no_a)
 
   pub clear-is_live : (sight : Sight) (next a : ℕ) → IsSightBelow t sight → t < next → a ≢ t → IsClear t (is_live types sight next a)
   clear-is_live sight next a is less no_a =
@@ -177,7 +177,7 @@ module _ (types : List TypeEntry) (vars : List VarEntry) (t : ℕ) (few : track_
       IsClear t (names_by_data types sight next f a b)
   clear-by_data sight next f a b is less no_a no_b =
       clear-option t (λ (entry : FieldEntry). data_names_in types sight next f a b entry.kind) (false_at next) (field_at types f)
-      (λ entry there. clear-data_names_in sight next f a b entry.kind is less no_a no_b) (clear-false t next less)
+      (λ entry. clear-data_names_in sight next f a b entry.kind is less no_a no_b) (clear-false t next less)
 
   pub clear-edge : (sight : Sight) (next a b : ℕ) → IsSightBelow t sight → t < next → a ≢ t → b ≢ t → IsClear t (edge types sight next a b)
   clear-edge sight next a b is less no_a no_b =
