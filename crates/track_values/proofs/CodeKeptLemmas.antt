@@ -34,7 +34,7 @@ use Rattle.site_view.specs.States.{Text, State, next_track, define, is_truth_of,
 use Rattle.site_view.specs.Reading.{Told}
 use Rattle.site_view.specs.Conditions.{condition}
 use Rattle.site_view.specs.Parts.{is_part}
-use Rattle.site_view.specs.Cuts.{with_part, arrived_at_call, arrived}
+use Rattle.site_view.specs.Cuts.{check_stores, check_claims, with_part, arrived_at_call, arrived}
 use Rattle.site_view.specs.Acts.{act_rule}
 use Rattle.site_view.specs.Codes.{Going, in_order, with_ways, on_way, is_sym, is_merged, Merging, behind, merged, with_merged, after_ways, other_way, both_ways, plain_if, item_rule, items, other_code, both_codes, branch, tail_rule, code_rule, code}
 use Rattle.site_view.specs.Codes as codes
@@ -96,12 +96,6 @@ module _ (types : List TypeEntry) (vars : List VarEntry) where
       record { keeps = keeps-itself types vars s kept; values = All-nil (IsSymBelow (next_track types vars s)) }
   merged-kept h (u ∷ us) (w ∷ ws) s kept less one other = by (is_sym u w)
     where
-      n : ℕ
-      n = next_track types vars s
-
-      text : Text
-      text = is_merged h u w (next_track types vars s)
-
       first-u : IsSymBelow (next_track types vars s) u
       first-u = All-head (IsSymBelow (next_track types vars s)) u us one
 
@@ -244,7 +238,7 @@ module _ (types : List TypeEntry) (vars : List VarEntry) where
     where
       by : (o : Option (List VarId)) →
           Keeps types vars s (option_map_or (λ roots. arrived_at_call types vars cut (next_track types vars s) (with_part types vars roots s)) o
-          (codes_alone s))
+          (check_claims types vars cut None (check_stores types vars cut.line s)))
       by None = record {
         kept = record { made = kept.made; guard = kept.guard; values = kept.values; events = kept.events };
         longer = (keeps-itself types vars s kept).longer;

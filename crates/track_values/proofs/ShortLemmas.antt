@@ -37,7 +37,7 @@ use Rattle.track_values.proofs.SightMeaningLemmas.{OrWhere, whole, InSym, LivesA
 
 -- ---- lengths
 
-less-or : (n m : ℕ) → (n < m) ⊎ (m ≤ n)
+pub less-or : (n m : ℕ) → (n < m) ⊎ (m ≤ n)
 less-or n m = by (ltb n m) refl
   where
     by : (t : Bool) → ltb n m ≡ t → (n < m) ⊎ (m ≤ n)
