@@ -22,11 +22,10 @@ use Rattle.track_values.proofs.ShortLemmas.{less-or}
 -- ---- the first track that was made is bound outermost
 
 -- one track is bound where it is free
-bound_one : ℕ → Formula → Formula → Formula
+abbrev bound_one : ℕ → Formula → Formula → Formula
 bound_one n d f = cond (is_free n f) (Ex2 (track n) (And d f)) f
 
 bind-one : (first : ℕ) (d f : Formula) → bind first (d ∷ []) f ≡ bound_one first d f
-unfolding bound_one
 bind-one first d f = (let same : first + length {A = Formula} [] ≡ first = omega arith in
     ap (λ n. cond (is_free n f) (Ex2 (track n) (And d f)) f) same)
 
@@ -184,10 +183,6 @@ module _ (next : ℕ) where
       let is = bind-first first (formulas_of texts) (text next) f in
       let means = outermost text texts first are.0 (omega (arith, room)) f g
       (λ c c_finite. bound-means texts (suc first) are.1 (omega (arith, room)) f c c_finite) a finite (is_free first g) refl in (
-        (λ h. means.0 (subst (λ e. WSat e a) (is ∙ shown g) h)),
-        (λ h. subst (λ e. WSat e a) (sym (is ∙ shown g)) (means.1 h)),
+        (λ h. means.0 (subst (λ e. WSat e a) is h)),
+        (λ h. subst (λ e. WSat e a) (sym is) (means.1 h)),
       )
-    where
-      shown : (g : Formula) → bound_one first (text next) g ≡ cond (is_free first g) (Ex2 (track first) (And (text next) g)) g
-      unfolding bound_one
-      shown g = refl

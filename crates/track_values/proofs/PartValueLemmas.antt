@@ -145,10 +145,10 @@ module _ (types : List TypeEntry) (vars : List VarEntry) (slots n : ℕ) (few : 
         let follows = λ (set : PositionSet) (bounded : IsFiniteSet set).
         law-imp wide (Sub (track n) (track next)) (replace (with_position b n p) next set) (IsFinite-replace (with_position b n p) next set p_finite bounded) in (
           (λ h set is. (on-p set).0 ((follows set is.bounded).0 (all.0 h set is.bounded)
-          ((wide-means (with_position b n p) set agrees-p is.bounded).1 (is.rooted, is.closed)))),
+              ((wide-means (with_position b n p) set agrees-p is.bounded).1 (is.rooted, is.closed)))),
           (λ h. all.1 (λ set bounded. (follows set bounded).1 (λ k.
-          let both = (wide-means (with_position b n p) set agrees-p bounded).0 k in
-          (on-p set).1 (h set (record { bounded = bounded; rooted = both.0; closed = both.1 }))))),
+              let both = (wide-means (with_position b n p) set agrees-p bounded).0 k in
+              (on-p set).1 (h set (record { bounded = bounded; rooted = both.0; closed = both.1 }))))),
         )
 
   -- ---- the least set
@@ -178,9 +178,12 @@ module _ (types : List TypeEntry) (vars : List VarEntry) (slots n : ℕ) (few : 
   }
 
   least-finite : IsFiniteSet least
-  least-finite = (depth, λ p deep. false-where (least p) (λ on.
-      let so = (on-shorter depth p).0 ((on-least p).0 on (shorter depth) shorter-wide) in
-      let k : ⊥ = omega (arith, so, deep) in k))
+  least-finite = (
+    depth,
+    λ p deep. false-where (least p) (λ on.
+        let so = (on-shorter depth p).0 ((on-least p).0 on (shorter depth) shorter-wide) in
+        let k : ⊥ = omega (arith, so, deep) in k),
+  )
 
   least-rooted : (us : List Sym) → ((set : PositionSet) → IsWide set → HasAllIn b set us) → HasAllIn b least us
   least-rooted [] each = tt
@@ -211,11 +214,11 @@ module _ (types : List TypeEntry) (vars : List VarEntry) (slots n : ℕ) (few : 
           (law-all2 next (imp wide (Sub (track n) (track next))) c agrees.finite).1 (λ set bounded.
               let d = replace c next set in
               (law-imp wide (Sub (track n) (track next)) d (IsFinite-replace c next set agrees.finite bounded)).1 (λ k.
-                  let both = (wide-means c set agrees bounded).0 k in
-                  let is : IsWide set = record { bounded = bounded; rooted = both.0; closed = both.1 } in
-                  (WSat-Sub (track n) (track next) d).1 (λ p on.
-                      let still = replace-other c next n set (λ e. let j : ⊥ = omega (arith, e, less) in j) in
-                      (on-bound c set p).1 ((on-least p).0 ((own p).0 (subst (λ (s : PositionSet). IsTrue (s p)) still on)) set is)))),
+              let both = (wide-means c set agrees bounded).0 k in
+              let is : IsWide set = record { bounded = bounded; rooted = both.0; closed = both.1 } in
+              (WSat-Sub (track n) (track next) d).1 (λ p on.
+              let still = replace-other c next n set (λ e. let j : ⊥ = omega (arith, e, less) in j) in
+              (on-bound c set p).1 ((on-least p).0 ((own p).0 (subst (λ (s : PositionSet). IsTrue (s p)) still on)) set is)))),
         ),
       )
 

@@ -91,20 +91,22 @@ module _ (types : List TypeEntry) (vars : List VarEntry) (slots n : ℕ) (few : 
 
     named-finite : IsFiniteSet named_set
     named-finite =
-        let (depth, short, made) = some-depth n slots b events finite in
-        (depth, λ p deep. false-where (named_set p) (λ on.
-            let (w, holds) = (law-ex1 (suc next)
-            (And (is_in (suc (suc next)) (suc next) u) (names types (whole slots events) (suc (suc next)) f (suc next) next)) (with_position b next p)).0
-            ((on-named p).0 on) in
-            let c = with_position (with_position b next p) (suc next) w in
-            let first = Agrees-bound n b b next p (Agrees-itself n b finite) (omega (arith, less)) in
-            let agrees = Agrees-bound n b (with_position b next p) (suc next) w first (omega (arith, less)) in
-            let named = (WSat-And (is_in (suc (suc next)) (suc next) u) (names types (whole slots events) (suc (suc next)) f (suc next) next) c).0 holds in
-            let only = IsOnly-still (with_position b next p) (suc next) next w p (omega arith) (IsOnly-bound b next p) in
-            let so : length p < depth =
-            names-short types vars slots n few some b depth short c agrees (suc (suc next)) next p (omega (arith, less)) (omega arith) only f (suc next) events past
-            named.1 in
-            let k : ⊥ = omega (arith, so, deep) in k))
+        let (depth, short, made) = some-depth n slots b events finite in (
+          depth,
+          λ p deep. false-where (named_set p) (λ on.
+              let (w, holds) = (law-ex1 (suc next)
+              (And (is_in (suc (suc next)) (suc next) u) (names types (whole slots events) (suc (suc next)) f (suc next) next)) (with_position b next p)).0
+              ((on-named p).0 on) in
+              let c = with_position (with_position b next p) (suc next) w in
+              let first = Agrees-bound n b b next p (Agrees-itself n b finite) (omega (arith, less)) in
+              let agrees = Agrees-bound n b (with_position b next p) (suc next) w first (omega (arith, less)) in
+              let named = (WSat-And (is_in (suc (suc next)) (suc next) u) (names types (whole slots events) (suc (suc next)) f (suc next) next) c).0 holds in
+              let only = IsOnly-still (with_position b next p) (suc next) next w p (omega arith) (IsOnly-bound b next p) in
+              let so : length p < depth =
+              names-short types vars slots n few some b depth short c agrees (suc (suc next)) next p (omega (arith, less)) (omega arith) only f (suc next) events past
+              named.1 in
+              let k : ⊥ = omega (arith, so, deep) in k),
+        )
 
     -- the formula doesn't look at the track itself
     named-same : (p : Position) → WSat (is_named next) (with_position b next p) ↔ WSat (is_named next) (with_position (replace b n named_set) next p)

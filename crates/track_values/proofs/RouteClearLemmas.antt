@@ -47,8 +47,11 @@ module _ (types : List TypeEntry) (vars : List VarEntry) (t : ℕ) (few : track_
             live-clear next a less no_a,
             (
               live-clear next b less no_b,
-              (clear-or_list t next fields less
-              (clear-map t (λ f. naming next f a b) (λ f. named next f a b less no_a no_b) (fields_named types name followed)), tt),
+              (
+                clear-or_list t next fields less
+                    (clear-map t (λ f. naming next f a b) (λ f. named next f a b less no_a no_b) (fields_named types name followed)),
+                tt,
+              ),
             ),
           )
 
@@ -100,9 +103,9 @@ module _ (types : List TypeEntry) (vars : List VarEntry) (t : ℕ) (few : track_
               live-clear next b less no_b,
               (
                 clear-all2 t next each (clear-imp t within (Sub (track b) (track next))
-                (clear-And t (Sub (track a) (track next)) (Not (is_left joins (suc next) next)) (clear-Sub t (track a) (track next) no_a bound)
-                (clear-Not t (is_left joins (suc next) next) (clear-is_left t joins clear (suc next) next (later t next less) bound)))
-                (clear-Sub t (track b) (track next) no_b bound)),
+                    (clear-And t (Sub (track a) (track next)) (Not (is_left joins (suc next) next)) (clear-Sub t (track a) (track next) no_a bound)
+                    (clear-Not t (is_left joins (suc next) next) (clear-is_left t joins clear (suc next) next (later t next less) bound)))
+                    (clear-Sub t (track b) (track next) no_b bound)),
                 tt,
               ),
             ),
@@ -174,7 +177,7 @@ module _ (types : List TypeEntry) (vars : List VarEntry) (t : ℕ) (few : track_
           clear-has types vars t few some first next f a begun less no_a,
           (
             walk-clear first begun (names_by_data types first) is_data
-            (λ n g c d more no_c no_d. clear-by_data types vars t few some first n g c d begun more no_c no_d) along next a b less no_a no_b,
+                (λ n g c d more no_c no_d. clear-by_data types vars t few some first n g c d begun more no_c no_d) along next a b less no_a no_b,
             (clear-lives_in types vars t few some first next target b begun less no_b, tt),
           ),
         )

@@ -75,7 +75,7 @@ tracks-short n b finite =
       λ x p under on. elim (less-or (length p) depth) as (λ _. length p < depth) [
         | inl less ↦ less
         | inr deep ↦ absurd (
-          false≢true (sym (covers x p deep) ∙ ap (λ t. t && b x p) (lt-ltb x n under) ∙ on))
+            false≢true (sym (covers x p deep) ∙ ap (λ t. t && b x p) (lt-ltb x n under) ∙ on))
       ],
     )
 
@@ -153,8 +153,8 @@ module _ (types : List TypeEntry) (vars : List VarEntry) (slots n : ℕ) (few : 
             elim ((law-or (and_list next (guard next g ∷ is_in next a u ∷ is_in next x z ∷ []))
             (And (Not (is_changed next a g u)) (after next f a (is_in next x) first earlier)) c agrees.finite).0 k) as (λ _. length q < depth) [
               | inl new ↦ (
-                let each = (WSat-and_list c next (guard next g ∷ is_in next a u ∷ is_in next x z ∷ [])).0 new in
-                sym-short z q under.0.2 ((in-means types slots b vars n few some z under.0.2 c next x q agrees room less only).0 each.1.1.0))
+                  let each = (WSat-and_list c next (guard next g ∷ is_in next a u ∷ is_in next x z ∷ [])).0 new in
+                  sym-short z q under.0.2 ((in-means types slots b vars n few some z under.0.2 c next x q agrees room less only).0 each.1.1.0))
               | inr stays ↦ after-short f a first earlier under.1 so
                   ((WSat-And (Not (is_changed next a g u)) (after next f a (is_in next x) first earlier) c).0 stays).1
             ]

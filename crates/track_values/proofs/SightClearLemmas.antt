@@ -186,8 +186,11 @@ module _ (types : List TypeEntry) (vars : List VarEntry) (t : ℕ) (few : track_
         clear-is_live sight next a is less no_a,
         (
           clear-is_live sight next b is less no_b,
-          (clear-or_list t next fields less (clear-map t (λ f. names_by_data types sight next f a b)
-          (λ f. clear-by_data sight next f a b is less no_a no_b) (fields_of_kind types is_data)), tt),
+          (
+            clear-or_list t next fields less (clear-map t (λ f. names_by_data types sight next f a b)
+                (λ f. clear-by_data sight next f a b is less no_a no_b) (fields_of_kind types is_data)),
+            tt,
+          ),
         ),
       )
 

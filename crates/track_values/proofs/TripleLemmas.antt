@@ -34,14 +34,11 @@ module _ (types : List TypeEntry) (vars : List VarEntry) where
   begun-kept = record {
     made = tt;
     guard = tt;
-    values = All-map (IsSymBelow n) (λ v. At (track_or_first (var_track types vars v))) (vars_in vars)
-        (All-from_contains (λ v. IsSymBelow n (At (track_or_first (var_track types vars v)))) (vars_in vars) (λ v listed.
-        own-below n (omega arith) v (named-inside var_id (length vars) v listed)));
+    values = All-map (IsSymBelow (next_track types vars (at_start types vars))) (λ v. At (track_or_first (var_track types vars v))) (vars_in vars)
+        (All-from_contains (λ v. IsSymBelow (next_track types vars (at_start types vars)) (At (track_or_first (var_track types vars v)))) (vars_in vars) (λ v listed.
+        own-below (next_track types vars (at_start types vars)) (omega arith) v (named-inside var_id (length vars) v listed)));
     events = tt;
   }
-    where
-      abbrev n : ℕ
-      n = next_track types vars (at_start types vars)
 
   started-kept : (start : Start) → IsKept types vars (started types vars start)
   started-kept start = by start.returned

@@ -64,18 +64,18 @@ truth-value n text steady next b less finite = elim (decided (text next) b finit
         IsFiniteSet-just [],
         (law-or yes no (replace b n (just [])) (IsFinite-replace b n (just []) finite (IsFiniteSet-just []))).1
             (inl ((WSat-And (Root (track n)) (text next) (replace b n (just []))).1 (
-          (WSat-Root (track n) (replace b n (just []))).1 (IsOnly-bound b n []),
-          (WSat-unbound (text next) n b (just []) unfree).0 holds,
-        ))),
+              (WSat-Root (track n) (replace b n (just []))).1 (IsOnly-bound b n []),
+              (WSat-unbound (text next) n b (just []) unfree).0 holds,
+            ))),
       )
       | inr lacks ↦ (
         no_positions,
         none-finite,
         (law-or yes no (replace b n no_positions) (IsFinite-replace b n no_positions finite none-finite)).1
             (inr ((WSat-And (empty_at next n) (Not (text next)) (replace b n no_positions)).1 (
-          (law-empty next n (replace b n no_positions) less).1 (λ p. ap (λ (set : PositionSet). set p) (replace-same b n no_positions)),
-          (WSat-Not (text next) (replace b n no_positions)).1 (λ h. lacks ((WSat-unbound (text next) n b no_positions unfree).1 h)),
-        ))),
+              (law-empty next n (replace b n no_positions) less).1 (λ p. ap (λ (set : PositionSet). set p) (replace-same b n no_positions)),
+              (WSat-Not (text next) (replace b n no_positions)).1 (λ h. lacks ((WSat-unbound (text next) n b no_positions unfree).1 h)),
+            ))),
       )
     ]
   where
@@ -129,18 +129,18 @@ module _ (h m : ℕ) (u w : Sym) (before : h < m) (one : IsSymBelow m u) (other 
           set-finite b u finite,
           (law-or yes no (replace b m (set_of b u)) (IsFinite-replace b m (set_of b u) finite (set-finite b u finite))).1
               (inl ((WSat-And (flag next h) (is_same next (At (track m)) u) (replace b m (set_of b u))).1 (
-            (WSat-unbound (flag next h) m b (set_of b u) unfree).0 holds,
-            set-same m next b u less one,
-          ))),
+                (WSat-unbound (flag next h) m b (set_of b u) unfree).0 holds,
+                set-same m next b u less one,
+              ))),
         )
         | inr lacks ↦ (
           set_of b w,
           set-finite b w finite,
           (law-or yes no (replace b m (set_of b w)) (IsFinite-replace b m (set_of b w) finite (set-finite b w finite))).1
               (inr ((WSat-And (Not (flag next h)) (is_same next (At (track m)) w) (replace b m (set_of b w))).1 (
-            (WSat-Not (flag next h) (replace b m (set_of b w))).1 (λ k. lacks ((WSat-unbound (flag next h) m b (set_of b w) unfree).1 k)),
-            set-same m next b w less other,
-          ))),
+                (WSat-Not (flag next h) (replace b m (set_of b w))).1 (λ k. lacks ((WSat-unbound (flag next h) m b (set_of b w) unfree).1 k)),
+                set-same m next b w less other,
+              ))),
         )
       ]
     where
