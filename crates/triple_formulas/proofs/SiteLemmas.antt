@@ -1,5 +1,5 @@
 -- The formula of a site: the tree, the start, and the place.
-use Rattle.std.proofs.Common.{◌≡◌, ◌↔◌, ℕ, ◌+◌, ◌<◌, ◌≤◌, List, [], ◌∷◌, ◌++◌, length, map, slice_get, All, Option, Some, None, IfSome, refl, sym, ap, ◌∙◌, subst, arith}
+use Rattle.std.proofs.Common.{◌≡◌, ◌↔◌, ℕ, ◌+◌, ◌<◌, ◌≤◌, List, [], ◌∷◌, ◌++◌, length, map, slice_get, All, Option, Some, None, IfSome, IsSomeAnd, refl, sym, ap, ◌∙◌, subst, arith}
 use Rattle.std.specs.Prelude.{option_map}
 use Rattle.gta_theory.specs.Assignments.{Assignment, IsFinite}
 use Rattle.ws2s_core.specs.declared.formula.Formula.{Formula}
@@ -10,15 +10,18 @@ use Rattle.ws2s_forms.specs.Forms.{and_list, empty_at}
 use Rattle.ws2s_forms.proofs.ConnectivesLemmas.{EachSat, WSat-and_list, EachSat-append}
 use Rattle.store_core.specs.declared.ids.VarId.{VarId}
 use Rattle.store_core.specs.Tables.{TypeEntry, VarEntry}
-use Rattle.store_core.specs.Stores.{StoreMap}
+use Rattle.store_core.specs.Stores.{StoreMap, var_value}
 use Rattle.store_exec.specs.declared.triple.Triple.{Triple}
 use Rattle.store_exec.specs.Cuts.{AreMet, Escapes}
-use Rattle.store_exec.specs.Failing.{StartHolds}
+use Rattle.store_exec.specs.Failing.{IsBlank, StartHolds}
 use Rattle.tree_encode.specs.Tracks.{track_count, var_track}
 use Rattle.tree_formula.specs.WellEncoded.{track_or_first, well_encoded}
 use Rattle.tree_meaning.proofs.TablesLemmas.{owners-there}
 use Rattle.witness_store.specs.Alike.{IsOfWellFormed}
-use Rattle.witness_store.proofs.FunctionalLemmas.{IsOfWellFormed-means}
+use Rattle.tree_meaning.proofs.FormulaLemmas.{well_encoded-means}
+use Rattle.tree_meaning.proofs.HoldersLemmas.{backbone-lays}
+use Rattle.tree_backbone.proofs.ExistenceLemmas.{store_of_finite}
+use Rattle.witness_store.proofs.FunctionalLemmas.{IsOfWellFormed-store}
 use Rattle.graph_view.specs.After.{Standing}
 use Rattle.site_view.specs.States.{Check, State}
 use Rattle.site_view.specs.Triples.{at_start, walked, bind, definitions, start_holds, site_formula_at, first_bound, site_formula}
@@ -57,7 +60,7 @@ module _ (types : List TypeEntry) (vars : List VarEntry) (t : Triple) (posed : I
     pub start : WSat start_part a
     pub place : WSat (place_part c) a
 
-  parts-hold : (c : Check) → WSat (site_formula_at types vars t (walked types vars t) from c) a ↔ HoldsAt c
+  pub parts-hold : (c : Check) → WSat (site_formula_at types vars t (walked types vars t) from c) a ↔ HoldsAt c
   parts-hold c =
       let whole = WSat-and_list a from (well_encoded from types vars ∷ null_parts ++ start_part ∷ place_part c ∷ []) in
       let parts = EachSat-append a null_parts (start_part ∷ place_part c ∷ []) in (
@@ -93,8 +96,16 @@ module _ (types : List TypeEntry) (vars : List VarEntry) (t : Triple) (posed : I
 
   module _ (finite : IsFinite a) where
     trees-mean : WSat (well_encoded (first_bound types vars (walked types vars t)) types vars) a ↔ IsOfWellFormed types vars a
-    trees-mean = IsOfWellFormed-means types vars (first_bound types vars (walked types vars t)) a (owners-there types posed.table) posed.functional finite
-        (omega arith)
+    trees-mean =
+        let next : ℕ = first_bound types vars (walked types vars t) in
+        let few : track_count types vars ≤ next = omega arith in
+        let lays = well_encoded-means types vars (owners-there types posed.table) a next few finite in (
+          (λ satisfied.
+              let (s, of) = store_of_finite types vars a (lays.0 satisfied) finite in
+              IsOfWellFormed-store types vars s a posed.functional of),
+          (λ of_one.
+              lays.1 (backbone-lays types vars of_one.store a of_one.well_formed.fits of_one.well_formed.backbone of_one.well_formed.sets of_one.assignment)),
+        )
 
     pub satisfied-over : (site : ℕ) → IsSatisfiedAt types vars t a site → (s : StoreMap) × IsOver types vars a s
     satisfied-over site h =
@@ -141,17 +152,21 @@ module _ (types : List TypeEntry) (vars : List VarEntry) (t : Triple) (posed : I
           (λ met.
               let (b, others, defined) =
               values-there from (walked types vars t).defined (track_count types vars) (walked-kept types vars t posed.fits).made room a over.finite in
-              bound.1 (b, others, defined,
-              (start-told types vars t posed b s (over-others types vars a b s (length (walked types vars t).defined) over others) from room defined).1 met)),
+              bound.1 (
+                b,
+                others,
+                defined,
+                (start-told types vars t posed b s (over-others types vars a b s (length (walked types vars t).defined) over others) from room defined).1 met,
+              )),
         )
 
-    nulls-told : EachSat a null_parts ↔ All (λ (v : VarId). IsNullIn s v) t.start.nulls
+    nulls-told : EachSat a null_parts ↔ All (λ (v : VarId). IsSomeAnd (var_value s v) IsBlank) t.start.nulls
     nulls-told =
         let (at, sees) = begins types vars a s from over (omega (arith, room)) in
         nulls-mean types vars a s at from (wells types vars from a s (at_start types vars) s at sees) t.start.nulls posed.fits.start.nulls
 
-    start-holds : EachSat a null_parts → WSat start_part a → StartHolds types vars t.start s
-    start-holds nulls start =
+    start-met : EachSat a null_parts → WSat start_part a → StartHolds types vars t.start s
+    start-met nulls start =
         let met = start-means.0 start in
         record { nulls = nulls-told.0 nulls; pointers = met.1; claims = met.0 }
 
@@ -160,7 +175,7 @@ module _ (types : List TypeEntry) (vars : List VarEntry) (t : Triple) (posed : I
         IsSatisfiedAt types vars t a site ↔ (StartHolds types vars t.start s × ComesWithMade c)
     site-told site c there =
         let parts = satisfied-parts site c there in (
-          (λ h. let each = parts.0 h in (start-holds each.nulls each.start, (place-means c).0 each.place)),
+          (λ h. let each = parts.0 h in (start-met each.nulls each.start, (place-means c).0 each.place)),
           (λ (h : StartHolds types vars t.start s × ComesWithMade c).
               let (holds, comes) = h in
               parts.1 (record {
