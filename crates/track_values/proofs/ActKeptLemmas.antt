@@ -1,19 +1,18 @@
 -- Acts keep the made tracks defined one after the other.
-use Rattle.std.proofs.Common.{◌≡◌, ℕ, suc, ◌+◌, ◌<◌, ◌≤◌, List, [], ◌∷◌, length, Option, Some, None, refl, sym, ap, ◌∙◌, subst, arith}
+use Rattle.std.proofs.Common.{◌≡◌, ℕ, suc, ◌+◌, ◌<◌, ◌≤◌, List, [], ◌∷◌, ◌∙◌}
 use Rattle.ws2s_forms.specs.Forms.{slot}
 use Rattle.store_core.specs.declared.ids.VarId.{VarId}
 use Rattle.store_core.specs.declared.ids.VariantId.{VariantId}
 use Rattle.store_core.specs.declared.ids.FieldId.{FieldId}
 use Rattle.store_core.specs.Tables.{TypeEntry, VarEntry}
 use Rattle.store_exec.specs.declared.cause.Cause.TheVariants as cause
-use Rattle.store_logic.specs.declared.path.Path.{Path}
 use Rattle.store_logic.specs.declared.act.Rhs.{Rhs}
 use Rattle.store_logic.specs.declared.act.Rhs.TheVariants as rhs
 use Rattle.store_logic.specs.declared.act.Act.{Act}
 use Rattle.store_logic.specs.declared.act.Act.TheVariants as act
 use Rattle.store_logic.specs.declared.assertion.Assertion.{Assertion}
 use Rattle.store_logic.specs.Sorts.{Sort}
-use Rattle.store_logic.specs.FitsCode.{CondFits, RhsFits, ActFits}
+use Rattle.store_logic.specs.FitsCode.{RhsFits, ActFits}
 use Rattle.tree_encode.specs.Tracks.{track_count}
 use Rattle.graph_view.specs.declared.view.Sym.{Sym}
 use Rattle.graph_view.specs.declared.view.Event.TheVariants as event
@@ -21,8 +20,8 @@ use Rattle.graph_view.specs.Sights.{var_slots}
 use Rattle.graph_view.specs.Syms.{is_null}
 use Rattle.graph_view.specs.Live.{is_dead}
 use Rattle.graph_view.specs.After.{IsSymBelow}
-use Rattle.site_view.specs.States.{Text, State, Got, next_track, make, is_truth_of, check, guard, fails, sight, value_of, with_value, happens}
-use Rattle.site_view.specs.Reading.{Told, lacks, check_cell, check_access, read}
+use Rattle.site_view.specs.States.{State, Got, next_track, is_truth_of, check, guard, fails, sight, value_of, happens}
+use Rattle.site_view.specs.Reading.{Told, lacks, check_cell, read}
 use Rattle.site_view.specs.Conditions.{condition}
 use Rattle.site_view.specs.Claims.{assertion}
 use Rattle.site_view.specs.Acts.{made_truth, made_cell, evaluated, write_field, write_along, assigned, freed, asserted, act_rule}
@@ -44,9 +43,9 @@ module _ (types : List TypeEntry) (vars : List VarEntry) (line : ℕ) where
   cell-kept : (v : VariantId) (s : State) → IsKept types vars s → KeepsGot types vars s (made_cell types vars v s)
   cell-kept v s kept =
       let with_new : State = record (happens (event.New s.guard s.news v) s) { news = suc s.news } in
-      let kept_event = kept-event types vars (event.New s.guard s.news v) s kept kept.guard in
+      let kept_event = kept-event types vars (event.New s.guard s.news v) s kept kept.guarded in
       let kept_new : IsKept types vars with_new =
-      record { made = kept_event.made; guard = kept_event.guard; values = kept_event.values; events = kept_event.events } in
+      record { made = kept_event.made; guarded = kept_event.guarded; values = kept_event.values; events = kept_event.events } in
       let made = keeps-made types vars with_new (λ t next. slot next (var_slots vars + s.news) t) kept_new
       (slot-defining (next_track types vars s) (var_slots vars + s.news)) in
       record { keeps = record { kept = made.keeps.kept; longer = made.keeps.longer }; value = made.value }
@@ -71,8 +70,8 @@ module _ (types : List TypeEntry) (vars : List VarEntry) (line : ℕ) where
       let own : State = check line (guard z) cause.Variant (lacks types (sight vars z) f u) cell in
       let kept_own = kept-check types vars line (guard z) cause.Variant (lacks types (sight vars z) f u) cell kept_cell in
       by-access types vars (λ y. Keeps types vars s (happens (event.Write z.guard u f (got.0)) y)) line (guard z) f u z
-      (record { kept = kept-event types vars (event.Write z.guard u f (got.0)) cell kept_cell (one.keeps.kept.guard, u_below, one.value); longer = one.keeps.longer })
-      (record { kept = kept-event types vars (event.Write z.guard u f (got.0)) own kept_own (one.keeps.kept.guard, u_below, one.value); longer = one.keeps.longer })
+      (record { kept = kept-event types vars (event.Write z.guard u f (got.0)) cell kept_cell (one.keeps.kept.guarded, u_below, one.value); longer = one.keeps.longer })
+      (record { kept = kept-event types vars (event.Write z.guard u f (got.0)) own kept_own (one.keeps.kept.guarded, u_below, one.value); longer = one.keeps.longer })
 
   along-kept : (positive : 0 < track_count types vars) (fields : List FieldId) (f : FieldId) (x : Rhs) (sort : Sort) (got : Got) → RhsFits types vars x sort →
       IsKept types vars (got.1) → IsSymBelow (next_track types vars (got.1)) (got.0) →
@@ -103,7 +102,7 @@ module _ (types : List TypeEntry) (vars : List VarEntry) (line : ℕ) where
       let other = kept-check types vars line (guard s) cause.DoubleFree (λ next. is_dead types (sight vars s) next u) first one in
       record {
         kept = kept-event types vars (event.Free s.guard u) (check line (guard s) cause.DoubleFree (λ next. is_dead types (sight vars s) next u) first) other
-            (kept.guard, under);
+            (kept.guarded, under);
         longer = (keeps-itself types vars s kept).longer;
       }
 

@@ -1,18 +1,20 @@
 -- What is below a number is below each later one; and tables with a type or a variable have a track.
-use Rattle.std.proofs.Common.{◌≡◌, ℕ, zero, suc, ◌+◌, ◌<◌, ◌≤◌, Bool, true, false, cond, ◌==◌, List, [], ◌∷◌, length, All, Option, Some, None, refl, sym, ap, ◌∙◌, subst, arith}
+use Rattle.std.proofs.Common.{◌≡◌, ℕ, ◌+◌, ◌<◌, ◌≤◌, Bool, true, false, cond, ◌==◌, List, [], ◌∷◌, inl, inr, length, All, Option, Some, None, refl, ◌∙◌, arith}
+use Rattle.std.proofs.lemmas.Bool.{eqb-false}
 use Rattle.std.proofs.lemmas.List.Elements.{All-weaker}
 use Rattle.std.proofs.lemmas.List.Sums.{sum_by-cons}
 use Rattle.std.proofs.lemmas.Option.{slice_get_within}
 use Rattle.ws2s_core.specs.declared.track.Track.{Track}
 use Rattle.store_core.specs.declared.ids.VarId.{VarId}
 use Rattle.store_core.specs.Tables.{TypeEntry, VarEntry, var_at, count_of_variants}
-use Rattle.tree_encode.specs.Counting.{variants_in, bools_in}
+use Rattle.tree_encode.specs.Counting.{variants_in}
 use Rattle.tree_encode.specs.Tracks.{track_count}
 use Rattle.graph_view.specs.declared.view.Sym.{Sym}
 use Rattle.graph_view.specs.declared.view.Sym.TheVariants.{Null, At}
 use Rattle.graph_view.specs.declared.view.Event.{Event}
 use Rattle.graph_view.specs.declared.view.Event.TheVariants.{New, Write, Free}
 use Rattle.graph_view.specs.After.{IsSymBelow, IsGuardBelow, IsEventBelow, AreEventsBelow}
+use Rattle.track_values.proofs.ShortLemmas.{less-or}
 
 -- ---- later numbers
 
@@ -39,11 +41,14 @@ syms-later n m values less under = All-weaker (IsSymBelow n) (IsSymBelow m) (λ 
 -- ---- tables with a track
 
 variants-there : (t : TypeEntry) → 0 < count_of_variants t
-variants-there t = by (length t.variants) refl
+variants-there t = by (length t.variants == 0) refl
   where
-    by : (n : ℕ) → length t.variants ≡ n → 0 < cond (length t.variants == 0) 1 (length t.variants)
-    by zero is = (let counted : ◌≡◌ {A = ℕ} (cond (length t.variants == 0) 1 (length t.variants)) 1 = ap (λ m. cond (m == 0) 1 m) is in omega (arith, counted))
-    by (suc n) is = (let counted : ◌≡◌ {A = ℕ} (cond (length t.variants == 0) 1 (length t.variants)) (suc n) = ap (λ m. cond (m == 0) 1 m) is in omega (arith, counted))
+    by : (b : Bool) → (length t.variants == 0) ≡ b → 0 < cond b 1 (length t.variants)
+    by true is = omega arith
+    by false is = elim (less-or 0 (length t.variants)) as (λ _. 0 < length t.variants) [
+      | inl less ↦ less
+      | inr few ↦ absurd (eqb-false (length t.variants) 0 is (omega (arith, few)))
+    ]
 
 pub type-track : (t : TypeEntry) (types : List TypeEntry) (vars : List VarEntry) → 0 < track_count (t ∷ types) vars
 type-track t types vars =

@@ -1,12 +1,12 @@
 -- Formulas in which a track isn't free, form by form.
-use Rattle.std.proofs.Common.{◌≡◌, ◌≢◌, ℕ, zero, suc, ◌<◌, Bool, true, false, cond, eqb, ◌||◌, List, [], ◌∷◌, ◌++◌, map, fold, flat_map, refl, sym, ap, ◌∙◌, arith, ne_eqb}
+use Rattle.std.proofs.Common.{◌≡◌, ◌≢◌, ℕ, zero, suc, ◌<◌, Bool, true, false, cond, eqb, ◌||◌, List, [], ◌∷◌, ◌++◌, map, fold, refl, sym, ap, ◌∙◌, arith, ne_eqb}
 use Rattle.std.proofs.lemmas.Bool.{false≢true}
 use Rattle.ws2s_core.specs.declared.track.Track.{Track}
 use Rattle.ws2s_core.specs.declared.formula.Formula.{Formula}
 use Rattle.ws2s_core.specs.declared.formula.Formula.TheVariants.{Sub, Single, Succ0, Succ1, Root, And, Not, Ex2}
 use Rattle.ws2s_core.specs.Tracks.{is_free, is_free_in_node, IsFree}
 use Rattle.ws2s_core.proofs.FormulaLemmas.{fold-Sub, fold-Single, fold-Succ0, fold-Succ1, fold-Root, fold-And, fold-Not, fold-Ex2}
-use Rattle.ws2s_forms.specs.Forms.{track, false_at, true_at, and_list, or_list, or, imp, iff, ex1, all1, all2, empty_at, equal, flag, go, child, slot}
+use Rattle.ws2s_forms.specs.Forms.{track, false_at, true_at, and_list, or_list, or, imp, iff, ex1, all1, all2, empty_at, equal, flag, go, slot}
 
 -- another number
 pub above : (t n : ℕ) → t < n → n ≢ t

@@ -1,8 +1,7 @@
 -- Items, codes and arriving at cuts keep the made tracks defined one after the other.
-use Rattle.std.proofs.Common.{◌≡◌, ℕ, zero, suc, ◌+◌, ◌<◌, ◌≤◌, Bool, true, false, cond, List, [], ◌∷◌, length, map, slice_get, All, Option, Some, None, refl, sym, ap, ◌∙◌, subst, arith}
+use Rattle.std.proofs.Common.{◌≡◌, ℕ, suc, ◌+◌, ◌<◌, ◌≤◌, Bool, true, false, cond, List, [], ◌∷◌, length, map, slice_get, All, Option, Some, None, refl, sym, ap, ◌∙◌, subst, arith}
 use Rattle.std.specs.Option.{option_map_or}
 use Rattle.std.proofs.lemmas.List.Elements.{All-nil, All-cons, All-head, All-tail}
-use Rattle.ws2s_core.specs.declared.track.Track.{Track}
 use Rattle.ws2s_forms.specs.Forms.{track}
 use Rattle.store_core.specs.declared.ids.VarId.{VarId}
 use Rattle.store_core.specs.Tables.{TypeEntry, VarEntry}
@@ -25,7 +24,6 @@ use Rattle.store_exec.specs.Fits.{ItemsFit, CodeFits}
 use Rattle.store_exec.proofs.InductionLemmas.{items-induction, codes-induction}
 use Rattle.store_exec.proofs.GoingLemmas.{ItemFits-Do, ItemFits-If}
 use Rattle.store_exec.proofs.CanRunLemmas.{TailFits, code-fits, branch-fits}
-use Rattle.tree_encode.specs.Tracks.{track_count}
 use Rattle.graph_view.specs.declared.view.Sym.{Sym}
 use Rattle.graph_view.specs.declared.view.Sym.TheVariants.{At}
 use Rattle.graph_view.specs.Sights.{var_slots}
@@ -36,7 +34,7 @@ use Rattle.site_view.specs.Conditions.{condition}
 use Rattle.site_view.specs.Parts.{is_part}
 use Rattle.site_view.specs.Cuts.{check_stores, check_claims, with_part, arrived_at_call, arrived}
 use Rattle.site_view.specs.Acts.{act_rule}
-use Rattle.site_view.specs.Codes.{Going, in_order, with_ways, on_way, is_sym, is_merged, Merging, behind, merged, with_merged, after_ways, other_way, both_ways, plain_if, item_rule, items, other_code, both_codes, branch, tail_rule, code_rule, code}
+use Rattle.site_view.specs.Codes.{Going, in_order, with_ways, on_way, is_sym, is_merged, Merging, behind, merged, plain_if, item_rule, items, branch, tail_rule, code_rule, code}
 use Rattle.site_view.specs.Codes as codes
 use Rattle.track_values.specs.Defining.{IsDefining}
 use Rattle.track_values.proofs.BelowLemmas.{sym-later, guard-later, syms-later, events-later}
@@ -62,17 +60,17 @@ module _ (types : List TypeEntry) (vars : List VarEntry) where
   ways-kept text s kept steady =
       let n : ℕ = next_track types vars s in
       let guarded = guard-steady types vars s kept in
-      let yes : Text = is_truth_of (both (guard s) text) n in
-      let no : Text = is_truth_of (both (guard s) (fails text)) (suc n) in
-      let first = kept-define types vars s yes kept (truth-defining n (both (guard s) text) (both-steady n (guard s) text guarded steady)) in
-      let grown = next-define types vars s yes in
+      let first_text : Text = is_truth_of (both (guard s) text) n in
+      let other_text : Text = is_truth_of (both (guard s) (fails text)) (suc n) in
+      let first = kept-define types vars s first_text kept (truth-defining n (both (guard s) text) (both-steady n (guard s) text guarded steady)) in
+      let grown = next-define types vars s first_text in
       let said = steady-more n (suc n) (both (guard s) (fails text)) (omega arith)
       (both-steady n (guard s) (fails text) guarded (fails-steady n text steady)) in
-      let one : IsDefining (next_track types vars (define yes s)) no =
-      subst (λ m. IsDefining m no) (sym grown) (truth-defining (suc n) (both (guard s) (fails text)) said) in
-      let second = kept-define types vars (define yes s) no first.kept one in
-      let grown_again = next-define types vars (define yes s) no in
-      record { keeps = keeps-then types vars s (define yes s) (define no (define yes s)) first second; other = omega (arith, grown, grown_again) }
+      let one : IsDefining (next_track types vars (define first_text s)) other_text =
+      subst (λ m. IsDefining m other_text) (sym grown) (truth-defining (suc n) (both (guard s) (fails text)) said) in
+      let second = kept-define types vars (define first_text s) other_text first.kept one in
+      let grown_again = next-define types vars (define first_text s) other_text in
+      record { keeps = keeps-then types vars s (define first_text s) (define other_text (define first_text s)) first second; other = omega (arith, grown, grown_again) }
 
   -- ---- what stands for variables after both ways
 
@@ -146,13 +144,16 @@ module _ (types : List TypeEntry) (vars : List VarEntry) where
         let last_more : next_track types vars first ≤ next_track types vars last = next-later types vars turned last two.longer in
         let left : State = record last { guard = before.guard } in
         let kept_left = kept-guard types vars before.guard last two.kept
-        (guard-later n (next_track types vars last) before.guard (omega (arith, first_more, last_more)) kept.guard) in
+        (guard-later n (next_track types vars last) before.guard (omega (arith, first_more, last_more)) kept.guarded) in
         let result = merged-kept h first.values last.values left kept_left (omega (arith, ways.other, first_more, last_more))
         (syms-later (next_track types vars first) (next_track types vars last) first.values last_more one.kept.values) two.kept.values in
         let m : Merging = merged types vars h first.values last.values left in
+        let first_longer : length before.defined ≤ length first.defined = one.longer in
+        let last_longer : length first.defined ≤ length last.defined = two.longer in
+        let merged_longer : length last.defined ≤ length (m.1).defined = result.keeps.longer in
         record {
           kept = kept-values types vars (m.0) (m.1) result.keeps.kept result.values;
-          longer = omega (arith, is.keeps.longer, ways.keeps.longer, one.longer, two.longer, result.keeps.longer);
+          longer = omega (arith, is.keeps.longer, ways.keeps.longer, first_longer, last_longer, merged_longer);
         }
 
     branch-kept : (told : Told) (s : State) → KeepsTold types vars s told → Keeps types vars s (branch types vars taken other told)
@@ -169,14 +170,16 @@ module _ (types : List TypeEntry) (vars : List VarEntry) where
         let back : State = record first { values = before.values; events = before.events } in
         let kept_back : IsKept types vars back = record {
           made = one.kept.made;
-          guard = one.kept.guard;
+          guarded = one.kept.guarded;
           values = syms-later n (next_track types vars first) before.values first_more kept.values;
           events = events-later n (next_track types vars first) before.events first_more kept.events;
         } in
         let turned : State = on_way (suc h) back in
         let last : State = other turned in
         let two = other_keeps turned (kept-guard types vars (Some (track (suc h))) back kept_back (omega (arith, ways.other, first_more))) in
-        record { kept = two.kept; longer = omega (arith, is.keeps.longer, ways.keeps.longer, one.longer, two.longer) }
+        let first_longer : length before.defined ≤ length first.defined = one.longer in
+        let last_longer : length first.defined ≤ length last.defined = two.longer in
+        record { kept = two.kept; longer = omega (arith, is.keeps.longer, ways.keeps.longer, first_longer, last_longer) }
 
   -- ---- items
 
@@ -240,13 +243,13 @@ module _ (types : List TypeEntry) (vars : List VarEntry) where
           Keeps types vars s (option_map_or (λ roots. arrived_at_call types vars cut (next_track types vars s) (with_part types vars roots s)) o
           (check_claims types vars cut None (check_stores types vars cut.line s)))
       by None = record {
-        kept = record { made = kept.made; guard = kept.guard; values = kept.values; events = kept.events };
+        kept = record { made = kept.made; guarded = kept.guarded; values = kept.values; events = kept.events };
         longer = (keeps-itself types vars s kept).longer;
       }
       by (Some roots) =
           let part = part-kept roots s kept in
           record {
-            kept = record { made = part.kept.made; guard = part.kept.guard; values = part.kept.values; events = part.kept.events };
+            kept = record { made = part.kept.made; guarded = part.kept.guarded; values = part.kept.values; events = part.kept.events };
             longer = part.longer;
           }
 

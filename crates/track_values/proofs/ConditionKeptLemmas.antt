@@ -1,5 +1,5 @@
 -- Conditions keep the made tracks defined one after the other, and look at tracks that are there.
-use Rattle.std.proofs.Common.{◌≡◌, ℕ, suc, ◌<◌, ◌≤◌, List, length, refl, sym, ap, ◌∙◌, subst, arith}
+use Rattle.std.proofs.Common.{◌≡◌, ℕ, ◌<◌, ◌≤◌, List, refl, sym, ◌∙◌, subst, arith}
 use mathlib.Core.Path.{transport}
 use Rattle.ws2s_forms.specs.Forms.{true_at, false_at, or}
 use Rattle.store_core.specs.Tables.{TypeEntry, VarEntry}
@@ -8,16 +8,15 @@ use Rattle.store_logic.specs.declared.cond.Cond.TheOpen.{Cond-F}
 use Rattle.store_logic.specs.declared.cond.Cond.TheFolds.{ind-Cond, map-Cond, fold-roll-Cond, rec-roll-Cond}
 use Rattle.store_logic.specs.Sorts.{Truth, Cell}
 use Rattle.store_logic.specs.FitsCode.{CondFitsNode, CondFits}
-use Rattle.tree_encode.specs.Tracks.{track_count}
 use Rattle.graph_view.specs.Syms.{is_same}
 use Rattle.site_view.specs.States.{Text, State, Got, next_track, both, fails}
-use Rattle.site_view.specs.Reading.{Told, check_cell, path_value, operand_value}
-use Rattle.site_view.specs.Conditions.{Telling, told_variant, then_same, told_not, then_and, then_or, cond_rule, condition}
+use Rattle.site_view.specs.Reading.{Told, path_value, operand_value}
+use Rattle.site_view.specs.Conditions.{Telling, cond_rule, condition}
 use Rattle.track_values.proofs.ClearLemmas.{clear-true, clear-false, clear-or}
 use Rattle.track_values.proofs.SightClearLemmas.{clear-is_same}
 use Rattle.track_values.proofs.BelowLemmas.{sym-later}
 use Rattle.track_values.proofs.ValuesLemmas.{IsSteady, steady-more}
-use Rattle.track_values.proofs.KeptLemmas.{IsKept, Keeps, KeepsGot, KeepsTold, keeps-itself, keeps-then, next-later, kept-check_cell, both-steady, fails-steady}
+use Rattle.track_values.proofs.KeptLemmas.{IsKept, KeepsGot, KeepsTold, keeps-itself, keeps-then, next-later, kept-check_cell, both-steady, fails-steady}
 use Rattle.track_values.proofs.ReadKeptLemmas.{path-track, path-kept, path_truth-kept, variant-steady, operand-kept}
 
 module _ (types : List TypeEntry) (vars : List VarEntry) (line : ℕ) where

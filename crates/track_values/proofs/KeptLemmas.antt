@@ -1,10 +1,9 @@
 -- States of the walk whose made tracks are defined one after the other, and whose guard, values and events use tracks that are there.
-use Rattle.std.proofs.Common.{◌≡◌, ℕ, zero, suc, ◌+◌, ◌<◌, ◌≤◌, List, [], ◌∷◌, ◌++◌, length, set, slice_get, get_or, map, All, Option, Some, None, unwrap_or, refl, sym, ap, ◌∙◌, subst, arith, length-append}
+use Rattle.std.proofs.Common.{◌≡◌, ℕ, suc, ◌+◌, ◌<◌, ◌≤◌, List, [], ◌∷◌, ◌++◌, length, slice_get, get_or, map, All, Option, Some, None, unwrap_or, refl, ◌∙◌, subst, arith, length-append}
 use Rattle.std.specs.Option.{option_map_or}
 use Rattle.std.proofs.lemmas.List.Elements.{All-set, All-map}
 use Rattle.std.proofs.lemmas.Option.{slice_get_within, get_or_from_slice_get}
 use Rattle.ws2s_core.specs.declared.track.Track.{Track}
-use Rattle.ws2s_forms.specs.Forms.{track}
 use Rattle.store_core.specs.declared.ids.VarId.{VarId}
 use Rattle.store_core.specs.declared.ids.VariantId.{VariantId}
 use Rattle.store_core.specs.declared.ids.FieldId.{FieldId}
@@ -14,7 +13,7 @@ use Rattle.store_exec.specs.declared.cause.Cause.TheVariants as cause
 use Rattle.tree_encode.specs.Tracks.{track_count}
 use Rattle.tree_formula.specs.WellEncoded.{owner}
 use Rattle.graph_view.specs.declared.view.Sym.{Sym}
-use Rattle.graph_view.specs.declared.view.Sym.TheVariants.{Null, At}
+use Rattle.graph_view.specs.declared.view.Sym.TheVariants.{Null}
 use Rattle.graph_view.specs.declared.view.Event.{Event}
 use Rattle.graph_view.specs.After.{IsSymBelow, IsGuardBelow, IsEventBelow, AreEventsBelow}
 use Rattle.site_view.specs.States.{Text, State, Got, next_track, define, make, check, guard, both, fails, sight, value_of, with_value, happens}
@@ -22,8 +21,8 @@ use Rattle.site_view.specs.Reading.{Told, lacks, check_cell, check_access}
 use Rattle.track_values.specs.Defining.{IsDefining, AreDefining}
 use Rattle.track_values.proofs.ClearLemmas.{clear-And, clear-Not}
 use Rattle.track_values.proofs.SightClearLemmas.{clear-guard}
-use Rattle.track_values.proofs.BelowLemmas.{sym-later, guard-later, syms-later, events-later}
-use Rattle.track_values.proofs.ValuesLemmas.{IsSteady, steady-more}
+use Rattle.track_values.proofs.BelowLemmas.{guard-later, syms-later, events-later}
+use Rattle.track_values.proofs.ValuesLemmas.{IsSteady}
 
 -- ---- one track more
 
@@ -55,7 +54,7 @@ module _ (types : List TypeEntry) (vars : List VarEntry) where
   -- made tracks are defined one after the other, and all that is used is below the next one
   pub record IsKept (s : State) : Type 0 where
     pub made : AreDefining (track_count types vars) s.defined
-    pub guard : IsGuardBelow (next_track types vars s) s.guard
+    pub guarded : IsGuardBelow (next_track types vars s) s.guard
     pub values : All (IsSymBelow (next_track types vars s)) s.values
     pub events : AreEventsBelow (next_track types vars s) s.events
 
@@ -96,7 +95,7 @@ module _ (types : List TypeEntry) (vars : List VarEntry) where
       record {
         kept = record {
           made = defining-more (track_count types vars) s.defined text kept.made one;
-          guard = guard-later (next_track types vars s) (next_track types vars (define text s)) s.guard more kept.guard;
+          guarded = guard-later (next_track types vars s) (next_track types vars (define text s)) s.guard more kept.guarded;
           values = syms-later (next_track types vars s) (next_track types vars (define text s)) s.values more kept.values;
           events = events-later (next_track types vars s) (next_track types vars (define text s)) s.events more kept.events;
         };
@@ -113,10 +112,10 @@ module _ (types : List TypeEntry) (vars : List VarEntry) where
   -- ---- what makes no track
 
   pub kept-check : (line : ℕ) (reached : Text) (why : Cause) (condition : Text) (s : State) → IsKept s → IsKept (check line reached why condition s)
-  kept-check line reached why condition s kept = record { made = kept.made; guard = kept.guard; values = kept.values; events = kept.events }
+  kept-check line reached why condition s kept = record { made = kept.made; guarded = kept.guarded; values = kept.values; events = kept.events }
 
   pub kept-check_cell : (line : ℕ) (reached : Text) (u : Sym) (s : State) → IsKept s → IsKept (check_cell types vars line reached u s)
-  kept-check_cell line reached u s kept = record { made = kept.made; guard = kept.guard; values = kept.values; events = kept.events }
+  kept-check_cell line reached u s kept = record { made = kept.made; guarded = kept.guarded; values = kept.values; events = kept.events }
 
   -- what holds after both forms of access holds after the access
   pub by-access : (P : State → Type 0) (line : ℕ) (reached : Text) (f : FieldId) (u : Sym) (s : State) → P (check_cell types vars line reached u s) →
@@ -131,26 +130,26 @@ module _ (types : List TypeEntry) (vars : List VarEntry) where
       by (Some v) = own
 
   pub kept-event : (e : Event) (s : State) → IsKept s → IsEventBelow (next_track types vars s) e → IsKept (happens e s)
-  kept-event e s kept under = record { made = kept.made; guard = kept.guard; values = kept.values; events = (under, kept.events) }
+  kept-event e s kept under = record { made = kept.made; guarded = kept.guarded; values = kept.values; events = (under, kept.events) }
 
   pub kept-value : (v : VarId) (got : Got) → IsKept (got.1) → IsSymBelow (next_track types vars (got.1)) (got.0) → IsKept (with_value v got)
   kept-value v got kept under = record {
     made = kept.made;
-    guard = kept.guard;
+    guarded = kept.guarded;
     values = All-set (IsSymBelow (next_track types vars (got.1))) (got.1).values v.0 (got.0) under kept.values;
     events = kept.events;
   }
 
   pub kept-guard : (g : Option Track) (s : State) → IsKept s → IsGuardBelow (next_track types vars s) g → IsKept (record s { guard = g })
-  kept-guard g s kept under = record { made = kept.made; guard = under; values = kept.values; events = kept.events }
+  kept-guard g s kept under = record { made = kept.made; guarded = under; values = kept.values; events = kept.events }
 
   pub kept-values : (values : List Sym) (s : State) → IsKept s → All (IsSymBelow (next_track types vars s)) values → IsKept (record s { values = values })
-  kept-values values s kept under = record { made = kept.made; guard = kept.guard; values = under; events = kept.events }
+  kept-values values s kept under = record { made = kept.made; guarded = kept.guarded; values = under; events = kept.events }
 
   -- ---- guards of statements
 
   pub guard-steady : (s : State) → IsKept s → IsSteady (next_track types vars s) (guard s)
-  guard-steady s kept next t from less = clear-guard t next s.guard less (guard-later (next_track types vars s) t s.guard from kept.guard)
+  guard-steady s kept next t from less = clear-guard t next s.guard less (guard-later (next_track types vars s) t s.guard from kept.guarded)
 
 -- ---- texts by their parts
 

@@ -1,16 +1,15 @@
 -- The value of a track that is made for a part: what stands in each closed set with the roots.
-use Rattle.std.proofs.Common.{◌≡◌, ◌≢◌, ◌↔◌, ◌⊎◌, inl, inr, ℕ, suc, ◌<◌, ◌≤◌, Bool, true, false, ltb, IsTrue, List, [], ◌∷◌, ◌++◌, flat_map, length, map, All, Contains, refl, sym, ap, ◌∙◌, subst, arith, lt-ltb, ltb-true, le-ltb}
-use Rattle.std.proofs.lemmas.Bool.{false≢true}
+use Rattle.std.proofs.Common.{◌≡◌, ◌≢◌, ◌↔◌, ◌⊎◌, ℕ, suc, ◌<◌, ◌≤◌, ltb, IsTrue, List, [], ◌∷◌, ◌++◌, flat_map, length, All, refl, sym, ◌∙◌, subst, arith, lt-ltb, ltb-true, le-ltb}
 use Rattle.std.proofs.lemmas.List.Elements.{All-head, All-tail}
 use Rattle.gta_theory.specs.Assignments.{Position, PositionSet, Assignment, IsFinite, IsFiniteSet, IsOnly, replace}
 use Rattle.gta_theory.proofs.AssignmentsLemmas.{replace-same, replace-other}
-use Rattle.gta_theory.proofs.ListsLemmas.{Contains-first, Contains-later, Contains-cases, Contains-none}
+use Rattle.gta_theory.proofs.ListsLemmas.{Contains-none}
 use Rattle.ws2s_core.specs.declared.formula.Formula.{Formula}
-use Rattle.ws2s_core.specs.declared.formula.Formula.TheVariants.{Sub, And, Not}
+use Rattle.ws2s_core.specs.declared.formula.Formula.TheVariants.{Sub, Not}
 use Rattle.ws2s_core.specs.Satisfaction.{WSat}
 use Rattle.ws2s_core.proofs.SatisfactionLemmas.{WSat-And, WSat-Sub}
 use Rattle.ws2s_theory.proofs.ContextsLemmas.{IsFinite-replace}
-use Rattle.ws2s_forms.specs.Forms.{track, imp, all2, or_list, and_list}
+use Rattle.ws2s_forms.specs.Forms.{track, imp, all2, or_list}
 use Rattle.ws2s_forms.specs.Places.{with_position}
 use Rattle.ws2s_forms.proofs.ConnectivesLemmas.{EachSat, WSat-and_list, EachSat-append}
 use Rattle.ws2s_forms.proofs.LawsLemmas.{decided, law-all2, law-imp, law-member, law-or_list, IsFinite-position}
@@ -19,7 +18,6 @@ use Rattle.tree_encode.specs.Tracks.{track_count}
 use Rattle.graph_view.specs.declared.view.Sym.{Sym}
 use Rattle.graph_view.specs.declared.view.Sym.TheVariants.{Null, At}
 use Rattle.graph_view.specs.declared.view.Event.{Event}
-use Rattle.graph_view.specs.Sights.{Sight}
 use Rattle.graph_view.specs.Routes.{edge, is_left}
 use Rattle.graph_view.specs.Cuts.{has_value, closes}
 use Rattle.graph_view.specs.After.{IsSymBelow, AreEventsBelow}

@@ -1,9 +1,7 @@
 -- Reading keeps the made tracks defined one after the other, and its values are there.
-use Rattle.std.proofs.Common.{◌≡◌, ℕ, suc, ◌<◌, ◌≤◌, List, [], ◌∷◌, length, All, Option, Some, None, refl, sym, ap, ◌∙◌, subst, arith}
+use Rattle.std.proofs.Common.{◌≡◌, ℕ, suc, ◌<◌, ◌≤◌, List, [], ◌∷◌, length, refl, ap, ◌∙◌, arith}
 use Rattle.std.specs.Option.{option_and_then}
 use Rattle.ws2s_core.specs.declared.formula.Formula.TheVariants.{And}
-use Rattle.ws2s_forms.specs.Forms.{ex1}
-use Rattle.store_core.specs.declared.ids.VarId.{VarId}
 use Rattle.store_core.specs.declared.ids.FieldId.{FieldId}
 use Rattle.store_core.specs.declared.ids.VariantId.{VariantId}
 use Rattle.store_core.specs.Tables.{TypeEntry, VarEntry, var_at}
@@ -17,18 +15,18 @@ use Rattle.tree_encode.specs.Tracks.{track_count}
 use Rattle.tree_encode.proofs.TracksLemmas.{and_then-some}
 use Rattle.graph_view.specs.declared.view.Sym.{Sym}
 use Rattle.graph_view.specs.Sights.{var_slots}
-use Rattle.graph_view.specs.Syms.{is_in, truth}
+use Rattle.graph_view.specs.Syms.{is_in}
 use Rattle.graph_view.specs.Live.{lives}
 use Rattle.graph_view.specs.Fields.{is_true}
 use Rattle.graph_view.specs.After.{IsSymBelow}
 use Rattle.site_view.specs.States.{Text, State, Got, next_track, make, check, sight, value_of}
-use Rattle.site_view.specs.Reading.{Told, lacks, check_cell, check_access, is_read, read, read_along, path_value, operand_value, is_true_of, truth_along, truth_at, path_truth, is_of_variant}
+use Rattle.site_view.specs.Reading.{lacks, check_cell, check_access, is_read, read, read_along, path_value, operand_value, is_true_of, truth_along, truth_at, path_truth, is_of_variant}
 use Rattle.track_values.proofs.ClearLemmas.{above, later, clear-And, clear-ex1}
 use Rattle.track_values.proofs.SightClearLemmas.{clear-is_in, clear-truth, IsSightBelow, clear-lives, clear-is_true}
 use Rattle.track_values.proofs.BelowLemmas.{sym-later, events-later, var-track}
 use Rattle.track_values.proofs.ValuesLemmas.{IsSteady}
 use Rattle.track_values.proofs.ReadValueLemmas.{read-defining}
-use Rattle.track_values.proofs.KeptLemmas.{value-below, IsKept, Keeps, KeepsGot, KeepsTold, keeps-itself, keeps-then, next-later, keeps-made, kept-check, kept-check_cell, by-access}
+use Rattle.track_values.proofs.KeptLemmas.{value-below, IsKept, KeepsGot, KeepsTold, keeps-itself, keeps-then, keeps-made, kept-check, kept-check_cell, by-access}
 
 -- a path that fits begins at a variable that is there, which has a track
 pub path-track : (types : List TypeEntry) (vars : List VarEntry) (p : Path) (sort : Sort) → PathFits types vars p sort → 0 < track_count types vars

@@ -1,7 +1,7 @@
 -- The value of a track that is made for what is read: the cells that the field names at those of a value.
-use Rattle.std.proofs.Common.{◌≡◌, ◌≢◌, ◌↔◌, ◌⊎◌, inl, inr, ℕ, suc, ◌<◌, ◌≤◌, Bool, true, false, cond, eqb, IsTrue, List, length, refl, sym, ap, ◌∙◌, subst, arith}
+use Rattle.std.proofs.Common.{◌≡◌, ◌≢◌, ◌↔◌, ◌⊎◌, inl, inr, ℕ, suc, ◌<◌, ◌≤◌, Bool, true, false, cond, eqb, IsTrue, List, length, refl, sym, ◌∙◌, subst, arith}
 use Rattle.std.proofs.lemmas.Bool.{false≢true}
-use Rattle.gta_theory.specs.Assignments.{Position, PositionSet, Assignment, IsFinite, IsFiniteSet, IsOnly, replace}
+use Rattle.gta_theory.specs.Assignments.{Position, PositionSet, Assignment, IsFinite, IsFiniteSet, replace}
 use Rattle.gta_theory.proofs.AssignmentsLemmas.{replace-same, replace-other}
 use Rattle.ws2s_core.specs.declared.formula.Formula.{Formula}
 use Rattle.ws2s_core.specs.declared.formula.Formula.TheVariants.{Sub, And}
@@ -10,7 +10,7 @@ use Rattle.ws2s_core.specs.Tracks.{IsFree}
 use Rattle.ws2s_core.proofs.SatisfactionLemmas.{WSat-And}
 use Rattle.ws2s_core.proofs.TracksLemmas.{WSat-free}
 use Rattle.ws2s_theory.proofs.ContextsLemmas.{IsFinite-replace}
-use Rattle.ws2s_forms.specs.Forms.{track, iff, ex1, all1}
+use Rattle.ws2s_forms.specs.Forms.{track, iff, ex1}
 use Rattle.ws2s_forms.specs.Places.{just, with_position}
 use Rattle.ws2s_forms.proofs.LawsLemmas.{decided, law-ex1, law-all1, law-iff, law-member, IsFinite-position}
 use Rattle.store_core.specs.declared.ids.FieldId.{FieldId}
@@ -21,7 +21,6 @@ use Rattle.graph_view.specs.declared.view.Event.{Event}
 use Rattle.graph_view.specs.Syms.{is_in}
 use Rattle.graph_view.specs.Routes.{names}
 use Rattle.graph_view.specs.After.{IsSymBelow, AreEventsBelow}
-use Rattle.graph_live.specs.Meaning.{Agrees}
 use Rattle.graph_live.proofs.AgreeingLemmas.{Agrees-itself, Agrees-bound, IsOnly-bound, IsOnly-still}
 use Rattle.site_view.specs.Reading.{is_read}
 use Rattle.track_values.specs.Defining.{IsDefining}
@@ -30,7 +29,7 @@ use Rattle.track_values.proofs.SightClearLemmas.{clear-is_in, IsSightBelow}
 use Rattle.track_values.proofs.RouteClearLemmas.{names-clear}
 use Rattle.track_values.proofs.SightMeaningLemmas.{whole}
 use Rattle.track_values.proofs.ShortLemmas.{some-depth, names-short}
-use Rattle.track_values.proofs.ValuesLemmas.{IsSteady, HasValue, defining}
+use Rattle.track_values.proofs.ValuesLemmas.{IsSteady, defining}
 use Rattle.track_values.proofs.BelowLemmas.{sym-later, events-later}
 
 -- ---- sets by a test

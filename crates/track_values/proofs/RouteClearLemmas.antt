@@ -1,9 +1,9 @@
 -- A track behind those of the layout, of values and of events isn't free in walks of routes, in what fields name, and in closed sets.
-use Rattle.std.proofs.Common.{◌≡◌, ◌≢◌, ℕ, suc, ◌<◌, ◌≤◌, Bool, true, false, List, [], ◌∷◌, ◌++◌, map, flat_map, All, refl, sym, ap, ◌∙◌, subst}
+use Rattle.std.proofs.Common.{◌≡◌, ◌≢◌, ℕ, suc, ◌<◌, ◌≤◌, Bool, true, false, List, [], ◌∷◌, ◌++◌, map, flat_map, All, sym, ap, ◌∙◌, subst}
 use Rattle.std.proofs.lemmas.List.Elements.{All-head, All-tail}
 use Rattle.ws2s_core.specs.declared.formula.Formula.{Formula}
 use Rattle.ws2s_core.specs.declared.formula.Formula.TheVariants.{Sub, And, Not}
-use Rattle.ws2s_forms.specs.Forms.{track, false_at, or, or_list, and_list, imp, ex1, all2, equal}
+use Rattle.ws2s_forms.specs.Forms.{track, false_at, or_list, imp, ex1, all2, equal}
 use Rattle.store_core.specs.declared.ids.TypeId.{TypeId}
 use Rattle.store_core.specs.declared.ids.FieldId.{FieldId}
 use Rattle.store_core.specs.declared.kind.FieldKind.{FieldKind}

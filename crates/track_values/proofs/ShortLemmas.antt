@@ -1,17 +1,16 @@
 -- Live cells, and what fields name, stand at positions shorter than some length.
-use Rattle.std.proofs.Common.{◌≡◌, ◌⊎◌, inl, inr, ℕ, zero, suc, ◌+◌, ◌<◌, ◌≤◌, max, Bool, true, false, cond, ltb, ◌&&◌, IsTrue, List, [], ◌∷◌, length, map, Contains, Option, Some, None, refl, sym, ap, ◌∙◌, subst, arith, ltb-true, ltb-false, lt-ltb}
+use Rattle.std.proofs.Common.{◌≡◌, ◌⊎◌, inl, inr, ℕ, zero, suc, ◌+◌, ◌<◌, ◌≤◌, max, Bool, true, false, cond, ltb, ◌&&◌, IsTrue, List, [], ◌∷◌, length, Contains, Option, Some, None, refl, sym, ap, ◌∙◌, arith, ltb-true, ltb-false, lt-ltb}
 use Rattle.std.specs.Option.{option_map_or}
 use Rattle.std.specs.Prelude.{unwrap_or}
 use Rattle.std.proofs.lemmas.Bool.{false≢true}
-use Rattle.gta_theory.specs.Assignments.{Position, Assignment, IsFinite, IsWithin, IsOnly, Covers, only_below}
-use Rattle.ws2s_core.specs.declared.track.Track.{Track}
+use Rattle.gta_theory.specs.Assignments.{Position, Assignment, IsFinite, IsOnly}
 use Rattle.ws2s_core.specs.declared.formula.Formula.{Formula}
 use Rattle.ws2s_core.specs.declared.formula.Formula.TheVariants.{And, Not}
 use Rattle.ws2s_core.specs.Satisfaction.{WSat}
 use Rattle.ws2s_core.proofs.SatisfactionLemmas.{WSat-And}
 use Rattle.ws2s_core.proofs.TracksLemmas.{Covers-only_below}
 use Rattle.ws2s_forms.specs.Forms.{or, and_list, child, false_at}
-use Rattle.ws2s_forms.specs.Places.{ones, slot_of}
+use Rattle.ws2s_forms.specs.Places.{slot_of}
 use Rattle.ws2s_forms.proofs.ConnectivesLemmas.{WSat-false, WSat-and_list}
 use Rattle.ws2s_forms.proofs.LawsLemmas.{law-or}
 use Rattle.store_core.specs.declared.ids.TypeId.{TypeId}
@@ -26,7 +25,7 @@ use Rattle.graph_view.specs.declared.view.Sym.{Sym}
 use Rattle.graph_view.specs.declared.view.Sym.TheVariants.{Null, At}
 use Rattle.graph_view.specs.declared.view.Event.{Event}
 use Rattle.graph_view.specs.declared.view.Event.TheVariants.{New, Write, Free}
-use Rattle.graph_view.specs.Sights.{Sight, at_first}
+use Rattle.graph_view.specs.Sights.{at_first}
 use Rattle.graph_view.specs.Syms.{is_in, guard, is_changed}
 use Rattle.graph_view.specs.Live.{is_variant, lives_in, has}
 use Rattle.graph_view.specs.Fields.{is_field, after, first_child, data_names}

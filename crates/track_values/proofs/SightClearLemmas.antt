@@ -1,5 +1,5 @@
 -- A track behind those of the layout, of values and of events isn't free in what is said of a store that is seen.
-use Rattle.std.proofs.Common.{◌≡◌, ◌≢◌, ℕ, zero, suc, ◌+◌, ◌<◌, ◌≤◌, Bool, true, false, cond, List, [], ◌∷◌, map, Option, Some, None, refl, sym, ap, ◌∙◌, subst, arith}
+use Rattle.std.proofs.Common.{◌≡◌, ◌≢◌, ℕ, suc, ◌+◌, ◌<◌, ◌≤◌, Bool, true, false, cond, List, [], ◌∷◌, map, Option, Some, None, refl, sym, ◌∙◌, subst, arith}
 use Rattle.std.specs.Option.{option_map_or}
 use Rattle.std.specs.Prelude.{unwrap_or}
 use Rattle.ws2s_core.specs.declared.track.Track.{Track}
@@ -21,12 +21,12 @@ use Rattle.graph_view.specs.declared.view.Event.{Event}
 use Rattle.graph_view.specs.declared.view.Event.TheVariants.{New, Write, Free}
 use Rattle.graph_view.specs.Sights.{Sight, at_first}
 use Rattle.graph_view.specs.Syms.{is_in, is_same, truth, guard, is_changed}
-use Rattle.graph_view.specs.Live.{is_variant, is_made, live_after, live_of, lives, lives_in, has, is_live}
-use Rattle.graph_view.specs.Fields.{is_field, is_data, written, after, is_true, first_child, data_names, fields_of_kind}
+use Rattle.graph_view.specs.Live.{is_variant, is_made, live_of, lives, lives_in, has, is_live}
+use Rattle.graph_view.specs.Fields.{is_field, is_data, after, is_true, first_child, data_names, fields_of_kind}
 use Rattle.graph_view.specs.Routes.{names_by_data, data_names_in, edge, is_left}
 use Rattle.graph_view.specs.Cuts.{has_value}
-use Rattle.graph_view.specs.After.{IsSymBelow, IsGuardBelow, IsEventBelow, AreEventsBelow}
-use Rattle.track_values.proofs.ClearLemmas.{above, below, later, IsClear, AreClear, clear-Sub, clear-And, clear-Not, clear-false, clear-true, clear-and_list, clear-or_list, clear-or, clear-map, clear-append, clear-ex1, clear-empty, clear-equal, clear-flag, clear-go, clear-slot}
+use Rattle.graph_view.specs.After.{IsSymBelow, IsGuardBelow, AreEventsBelow}
+use Rattle.track_values.proofs.ClearLemmas.{above, below, later, IsClear, AreClear, clear-Sub, clear-And, clear-Not, clear-false, clear-true, clear-and_list, clear-or_list, clear-or, clear-map, clear-ex1, clear-empty, clear-equal, clear-flag, clear-go, clear-slot}
 
 -- a choice between two formulas
 pub clear-cond : (t : ℕ) (b : Bool) (f g : Formula) → IsClear t f → IsClear t g → IsClear t (cond b f g)

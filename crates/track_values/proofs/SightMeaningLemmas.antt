@@ -1,5 +1,5 @@
 -- What is said of live cells and of data fields, by the sets on the tracks in use, whichever these are: no store has to be seen.
-use Rattle.std.proofs.Common.{◌≡◌, ◌≢◌, ◌↔◌, ◌⊎◌, inl, inr, ℕ, suc, ◌+◌, ◌<◌, ◌≤◌, Bool, true, false, cond, IsTrue, List, [], ◌∷◌, map, Contains, Option, Some, None, refl, sym, ap, ◌∙◌, subst, arith}
+use Rattle.std.proofs.Common.{◌≡◌, ◌≢◌, ◌↔◌, ◌⊎◌, ℕ, ◌+◌, ◌<◌, ◌≤◌, Bool, true, false, cond, IsTrue, List, [], ◌∷◌, map, Contains, Option, Some, None, refl, ◌∙◌, subst, arith}
 use Rattle.std.specs.Option.{option_map_or}
 use Rattle.std.specs.Prelude.{unwrap_or}
 use Rattle.gta_theory.specs.Assignments.{Position, Assignment, IsOnly}
@@ -28,10 +28,10 @@ use Rattle.graph_view.specs.declared.view.Event.TheVariants.{New, Write, Free}
 use Rattle.graph_view.specs.Sights.{Sight, at_first}
 use Rattle.graph_view.specs.Syms.{is_in, guard, is_changed}
 use Rattle.graph_view.specs.Live.{is_variant, is_made, live_of, lives, lives_in, has, is_live}
-use Rattle.graph_view.specs.Fields.{is_field, is_data, after, first_child, data_names, fields_of_kind}
+use Rattle.graph_view.specs.Fields.{is_field, is_data, after, first_child, fields_of_kind}
 use Rattle.graph_view.specs.Routes.{data_names_in, names_by_data, edge}
 use Rattle.graph_view.specs.After.{IsTaken, IsSymBelow, IsGuardBelow, AreEventsBelow}
-use Rattle.graph_live.specs.Meaning.{Agrees, MeansHere, MeansPairs}
+use Rattle.graph_live.specs.Meaning.{MeansHere, MeansPairs}
 use Rattle.graph_live.proofs.AgreeingLemmas.{member-agreed, sat-and, sat-not, sat-or, sat-three, sat-or_list}
 use Rattle.graph_live.proofs.SymsLemmas.{guard-means}
 

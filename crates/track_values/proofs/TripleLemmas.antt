@@ -1,5 +1,5 @@
 -- The walk over a triple that fits.
-use Rattle.std.proofs.Common.{◌≡◌, ℕ, ◌+◌, ◌<◌, ◌≤◌, cond, List, [], length, map, get_or, All, Option, Some, None, refl, sym, ap, subst, arith, lt-ltb}
+use Rattle.std.proofs.Common.{◌≡◌, ℕ, ◌+◌, ◌<◌, ◌≤◌, cond, List, [], length, Option, Some, None, sym, ap, subst, arith, lt-ltb}
 use Rattle.std.specs.Option.{option_map_or}
 use Rattle.std.proofs.lemmas.List.Elements.{All-map}
 use Rattle.gta_theory.proofs.ListsLemmas.{All-from_contains}
@@ -33,7 +33,7 @@ module _ (types : List TypeEntry) (vars : List VarEntry) where
   begun-kept : IsKept types vars (at_start types vars)
   begun-kept = record {
     made = tt;
-    guard = tt;
+    guarded = tt;
     values = All-map (IsSymBelow (next_track types vars (at_start types vars))) (λ v. At (track_or_first (var_track types vars v))) (vars_in vars)
         (All-from_contains (λ v. IsSymBelow (next_track types vars (at_start types vars)) (At (track_or_first (var_track types vars v)))) (vars_in vars) (λ v listed.
         own-below (next_track types vars (at_start types vars)) (omega arith) v (named-inside var_id (length vars) v listed)));

@@ -1,7 +1,6 @@
 -- Values of tracks that are made for truths, for what stands for variables after both ways, and for new cells.
-use Rattle.std.proofs.Common.{◌≡◌, ◌≢◌, ◌↔◌, ◌⊎◌, inl, inr, ℕ, suc, ◌+◌, ◌<◌, ◌≤◌, Bool, true, false, IsTrue, [], refl, sym, ap, ◌∙◌, subst, arith}
-use Rattle.std.proofs.lemmas.Bool.{false≢true}
-use Rattle.gta_theory.specs.Assignments.{Position, PositionSet, Assignment, IsFinite, IsFiniteSet, IsOnly, replace, no_positions}
+use Rattle.std.proofs.Common.{◌≡◌, ◌≢◌, ◌↔◌, ◌⊎◌, inl, inr, ℕ, suc, ◌+◌, ◌<◌, ◌≤◌, [], refl, sym, ap, ◌∙◌, arith}
+use Rattle.gta_theory.specs.Assignments.{PositionSet, Assignment, IsFinite, IsFiniteSet, replace, no_positions}
 use Rattle.gta_theory.proofs.AssignmentsLemmas.{replace-same, replace-other}
 use Rattle.ws2s_core.specs.declared.formula.Formula.{Formula}
 use Rattle.ws2s_core.specs.declared.formula.Formula.TheVariants.{And, Not, Root}
@@ -9,7 +8,7 @@ use Rattle.ws2s_core.specs.Satisfaction.{WSat}
 use Rattle.ws2s_core.specs.Tracks.{IsFree}
 use Rattle.ws2s_core.proofs.SatisfactionLemmas.{WSat-And, WSat-Not, WSat-Root}
 use Rattle.ws2s_theory.proofs.ContextsLemmas.{IsFinite-replace, WSat-unbound}
-use Rattle.ws2s_forms.specs.Forms.{track, or, flag, empty_at, slot}
+use Rattle.ws2s_forms.specs.Forms.{track, flag, empty_at, slot}
 use Rattle.ws2s_forms.specs.Places.{just, slot_of}
 use Rattle.ws2s_forms.proofs.PositionsLemmas.{IsFiniteSet-just}
 use Rattle.ws2s_forms.proofs.GoingLemmas.{WSat-slot}
@@ -22,7 +21,7 @@ use Rattle.graph_live.proofs.AgreeingLemmas.{IsOnly-bound}
 use Rattle.site_view.specs.States.{Text, is_truth_of}
 use Rattle.site_view.specs.Codes.{is_merged}
 use Rattle.track_values.specs.Defining.{IsDefining}
-use Rattle.track_values.proofs.ClearLemmas.{above, below, IsClear, clear-unfree, clear-Root, clear-And, clear-Not, clear-or, clear-empty, clear-equal, clear-flag, clear-slot}
+use Rattle.track_values.proofs.ClearLemmas.{below, IsClear, clear-unfree, clear-Root, clear-And, clear-Not, clear-or, clear-empty, clear-flag, clear-slot}
 use Rattle.track_values.proofs.SightClearLemmas.{clear-is_same}
 use Rattle.track_values.proofs.BelowLemmas.{sym-later}
 
@@ -62,7 +61,7 @@ truth-value n text steady next b less finite = elim (decided (text next) b finit
       | inl holds ↦ (
         just [],
         IsFiniteSet-just [],
-        (law-or yes no (replace b n (just [])) (IsFinite-replace b n (just []) finite (IsFiniteSet-just []))).1
+        (law-or when_so when_not (replace b n (just [])) (IsFinite-replace b n (just []) finite (IsFiniteSet-just []))).1
             (inl ((WSat-And (Root (track n)) (text next) (replace b n (just []))).1 (
               (WSat-Root (track n) (replace b n (just []))).1 (IsOnly-bound b n []),
               (WSat-unbound (text next) n b (just []) unfree).0 holds,
@@ -71,7 +70,7 @@ truth-value n text steady next b less finite = elim (decided (text next) b finit
       | inr lacks ↦ (
         no_positions,
         none-finite,
-        (law-or yes no (replace b n no_positions) (IsFinite-replace b n no_positions finite none-finite)).1
+        (law-or when_so when_not (replace b n no_positions) (IsFinite-replace b n no_positions finite none-finite)).1
             (inr ((WSat-And (empty_at next n) (Not (text next)) (replace b n no_positions)).1 (
               (law-empty next n (replace b n no_positions) less).1 (λ p. ap (λ (set : PositionSet). set p) (replace-same b n no_positions)),
               (WSat-Not (text next) (replace b n no_positions)).1 (λ h. lacks ((WSat-unbound (text next) n b no_positions unfree).1 h)),
@@ -79,11 +78,11 @@ truth-value n text steady next b less finite = elim (decided (text next) b finit
       )
     ]
   where
-    yes : Formula
-    yes = And (Root (track n)) (text next)
+    when_so : Formula
+    when_so = And (Root (track n)) (text next)
 
-    no : Formula
-    no = And (empty_at next n) (Not (text next))
+    when_not : Formula
+    when_not = And (empty_at next n) (Not (text next))
 
     unfree : IsFree n (text next) → ⊥
     unfree = clear-unfree n (text next) (steady next n (omega arith) less)
@@ -127,7 +126,7 @@ module _ (h m : ℕ) (u w : Sym) (before : h < m) (one : IsSymBelow m u) (other 
         | inl holds ↦ (
           set_of b u,
           set-finite b u finite,
-          (law-or yes no (replace b m (set_of b u)) (IsFinite-replace b m (set_of b u) finite (set-finite b u finite))).1
+          (law-or when_so when_not (replace b m (set_of b u)) (IsFinite-replace b m (set_of b u) finite (set-finite b u finite))).1
               (inl ((WSat-And (flag next h) (is_same next (At (track m)) u) (replace b m (set_of b u))).1 (
                 (WSat-unbound (flag next h) m b (set_of b u) unfree).0 holds,
                 set-same m next b u less one,
@@ -136,7 +135,7 @@ module _ (h m : ℕ) (u w : Sym) (before : h < m) (one : IsSymBelow m u) (other 
         | inr lacks ↦ (
           set_of b w,
           set-finite b w finite,
-          (law-or yes no (replace b m (set_of b w)) (IsFinite-replace b m (set_of b w) finite (set-finite b w finite))).1
+          (law-or when_so when_not (replace b m (set_of b w)) (IsFinite-replace b m (set_of b w) finite (set-finite b w finite))).1
               (inr ((WSat-And (Not (flag next h)) (is_same next (At (track m)) w) (replace b m (set_of b w))).1 (
                 (WSat-Not (flag next h) (replace b m (set_of b w))).1 (λ k. lacks ((WSat-unbound (flag next h) m b (set_of b w) unfree).1 k)),
                 set-same m next b w less other,
@@ -144,11 +143,11 @@ module _ (h m : ℕ) (u w : Sym) (before : h < m) (one : IsSymBelow m u) (other 
         )
       ]
     where
-      yes : Formula
-      yes = And (flag next h) (is_same next (At (track m)) u)
+      when_so : Formula
+      when_so = And (flag next h) (is_same next (At (track m)) u)
 
-      no : Formula
-      no = And (Not (flag next h)) (is_same next (At (track m)) w)
+      when_not : Formula
+      when_not = And (Not (flag next h)) (is_same next (At (track m)) w)
 
       unfree : IsFree m (flag next h) → ⊥
       unfree = clear-unfree m (flag next h) (clear-flag m next h less (below m h before))

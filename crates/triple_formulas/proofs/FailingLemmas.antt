@@ -107,6 +107,11 @@ module _ (types : List TypeEntry) (vars : List VarEntry) (t : Triple) (posed : I
             | inr lacks ↦ inr (λ h. lacks (formula.1 (parts.0 h)))
           ]
 
+  -- what comes first is at the place behind those before it
+  first-place : (b : Assignment) (why : Cause) (line : ℕ) (first : ComesFirst next b checks why line) →
+      slice_get (walked types vars t).checks (length first.before) ≡ Some first.check
+  first-place b why line first = ap (λ cs. slice_get cs (length first.before)) first.order ∙ at-middle first.before first.after first.check
+
   -- ---- other values of made tracks
 
   module _ (b : Assignment) (others : IsWithMade types vars (walked types vars t) a b)
@@ -136,15 +141,7 @@ module _ (types : List TypeEntry) (vars : List VarEntry) (t : Triple) (posed : I
     -- the place that comes first is a satisfied site
     first-site : (why : Cause) (line : ℕ) → StartHolds types vars t.start s → (first : ComesFirst next b checks why line) → IsSite (length first.before)
     first-site why line start first =
-        (site-told types vars t posed a s over (length first.before) first.check (place-of why line first)).1 (start, (b, others, defined, first.comes))
-      where
-        place-of : (w : Cause) (n : ℕ) (f : ComesFirst (first_bound types vars (walked types vars t)) b (walked types vars t).checks w n) →
-            slice_get (walked types vars t).checks (length f.before) ≡ Some f.check
-        place-of w n f = ap (λ cs. slice_get cs (length f.before)) f.order ∙ at-middle f.before f.after f.check
-
-  first-place : (b : Assignment) (why : Cause) (line : ℕ) (first : ComesFirst next b checks why line) →
-      slice_get (walked types vars t).checks (length first.before) ≡ Some first.check
-  first-place b why line first = ap (λ cs. slice_get cs (length first.before)) first.order ∙ at-middle first.before first.after first.check
+        (site-told types vars t posed a s over (length first.before) first.check (first-place b why line first)).1 (start, (b, others, defined, first.comes))
 
   -- ---- failing, to the first site
 

@@ -1,10 +1,9 @@
 -- Assignments with other values of made tracks, and what the first state sees on them.
-use Rattle.std.proofs.Common.{◌≡◌, ◌↔◌, ℕ, ◌≤◌, IsTrue, List, refl, sym, subst, arith}
+use Rattle.std.proofs.Common.{◌≡◌, ◌↔◌, ℕ, ◌≤◌, IsTrue, List, sym, subst}
 use Rattle.gta_theory.specs.Assignments.{PositionSet, Assignment}
 use Rattle.store_core.specs.Tables.{TypeEntry, VarEntry}
 use Rattle.store_core.specs.Stores.{StoreMap}
 use Rattle.tree_encode.specs.Tracks.{track_count}
-use Rattle.tree_store.specs.Encoding.{IsAssignmentOf}
 use Rattle.tree_meaning.proofs.TablesLemmas.{track-few}
 use Rattle.graph_view.specs.After.{Standing}
 use Rattle.graph_walks.specs.Wells.{ShowsWell}

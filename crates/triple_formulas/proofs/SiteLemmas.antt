@@ -6,7 +6,7 @@ use Rattle.ws2s_core.specs.declared.formula.Formula.{Formula}
 use Rattle.ws2s_core.specs.declared.formula.Formula.TheVariants.{And}
 use Rattle.ws2s_core.specs.Satisfaction.{WSat}
 use Rattle.ws2s_core.proofs.SatisfactionLemmas.{WSat-And}
-use Rattle.ws2s_forms.specs.Forms.{and_list, empty_at}
+use Rattle.ws2s_forms.specs.Forms.{empty_at}
 use Rattle.ws2s_forms.proofs.ConnectivesLemmas.{EachSat, WSat-and_list, EachSat-append}
 use Rattle.store_core.specs.declared.ids.VarId.{VarId}
 use Rattle.store_core.specs.Tables.{TypeEntry, VarEntry}
@@ -22,8 +22,7 @@ use Rattle.tree_meaning.proofs.FormulaLemmas.{well_encoded-means}
 use Rattle.tree_meaning.proofs.HoldersLemmas.{backbone-lays}
 use Rattle.tree_backbone.proofs.ExistenceLemmas.{store_of_finite}
 use Rattle.witness_store.proofs.FunctionalLemmas.{IsOfWellFormed-store}
-use Rattle.graph_view.specs.After.{Standing}
-use Rattle.site_view.specs.States.{Check, State}
+use Rattle.site_view.specs.States.{Check}
 use Rattle.site_view.specs.Triples.{at_start, walked, bind, definitions, start_holds, site_formula_at, first_bound, site_formula}
 use Rattle.site_meaning.specs.Places.{Comes}
 use Rattle.site_meaning.specs.Seeing.{IsOver, HasRoom, AreDefined}

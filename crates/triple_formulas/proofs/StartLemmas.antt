@@ -1,5 +1,5 @@
 -- The start of a triple, on assignments that have what defines the made tracks.
-use Rattle.std.proofs.Common.{◌≡◌, ◌↔◌, ◌⊎◌, ℕ, suc, ◌+◌, ◌<◌, ◌≤◌, List, [], ◌∷◌, ◌++◌, length, map, All, Option, Some, None, IfSome, IsSomeAnd, refl, sym, ap, ◌∙◌, subst, arith, length-append}
+use Rattle.std.proofs.Common.{◌≡◌, ◌↔◌, ◌⊎◌, ℕ, ◌+◌, ◌<◌, ◌≤◌, List, [], ◌∷◌, ◌++◌, length, map, All, Option, Some, None, IfSome, sym, ap, ◌∙◌, subst, arith, length-append}
 use Rattle.std.specs.List.{AllByRecursion}
 use Rattle.std.specs.Option.{option_map_or}
 use Rattle.std.proofs.lemmas.List.{reverse-reverse}
@@ -18,7 +18,6 @@ use Rattle.store_core.proofs.FittingLemmas.{IfSome-at, IfSome-from, IsSomeAnd-at
 use Rattle.routing_expr.specs.WellFormed.{IsDataVar, VarHoldsLive, IsWellFormed}
 use Rattle.routing_expr.proofs.LiveLemmas.{IsSome-and}
 use Rattle.store_logic.specs.Fits.{IsKnownDataVar}
-use Rattle.store_exec.specs.declared.triple.Claim.{Claim}
 use Rattle.store_exec.specs.declared.triple.Triple.{Triple}
 use Rattle.store_exec.specs.Cuts.{AreMet, Escapes}
 use Rattle.tree_encode.specs.Tracks.{track_count}
@@ -26,7 +25,7 @@ use Rattle.graph_view.specs.declared.view.Event.{Event}
 use Rattle.graph_view.specs.Sights.{Sight, var_slots, sight_of}
 use Rattle.graph_view.specs.After.{Standing}
 use Rattle.graph_live.proofs.AgreeingLemmas.{Agrees-itself}
-use Rattle.site_view.specs.States.{Text, State, sight, value_of, next_track}
+use Rattle.site_view.specs.States.{Text, sight, value_of, next_track}
 use Rattle.site_view.specs.Parts.{is_part}
 use Rattle.site_view.specs.Cuts.{with_part}
 use Rattle.site_view.specs.Triples.{at_start, started, walked, start_holds}
@@ -35,7 +34,7 @@ use Rattle.site_meaning.proofs.PlacesLemmas.{All-left}
 use Rattle.site_meaning.proofs.LookingLemmas.{layout_of}
 use Rattle.site_meaning.proofs.BeginningLemmas.{begins}
 use Rattle.site_meaning.proofs.CodesLemmas.{code-meant}
-use Rattle.claim_meaning.specs.Given.{IsRegionOf, IsPartGiven, IsGiven, HasPart, IsNamedBy, NameLive}
+use Rattle.claim_meaning.specs.Given.{IsPartGiven, IsGiven, NameLive}
 use Rattle.claim_meaning.specs.Stating.{view_of}
 use Rattle.claim_meaning.proofs.SetLemmas.{all-in}
 use Rattle.claim_meaning.proofs.PartLemmas.{live-part-means}
