@@ -1,5 +1,5 @@
 -- Binding the tracks that were made means that they have values, and they have some.
-use Rattle.std.proofs.Common.{◌≡◌, ◌≢◌, ◌↔◌, ◌⊎◌, inl, inr, ℕ, suc, ◌+◌, ◌<◌, ◌≤◌, Bool, true, false, cond, List, [], ◌∷◌, ◌++◌, length, map, reverse, All, refl, sym, ap, ◌∙◌, subst, arith, length-append}
+use Rattle.std.proofs.Common.{◌≡◌, ◌≢◌, ◌↔◌, inl, inr, ℕ, suc, ◌+◌, ◌<◌, ◌≤◌, Bool, true, false, cond, List, [], ◌∷◌, ◌++◌, length, map, reverse, All, refl, sym, ap, ◌∙◌, subst, arith, length-append}
 use Rattle.std.proofs.lemmas.Bool.{cases_eq, false≢true}
 use Rattle.std.proofs.lemmas.List.{reverse-append}
 use Rattle.std.proofs.lemmas.List.Elements.{All-nil, All-cons, All-head, All-tail}
@@ -26,7 +26,7 @@ abbrev bound_one : ℕ → Formula → Formula → Formula
 bound_one n d f = cond (is_free n f) (Ex2 (track n) (And d f)) f
 
 bind-one : (first : ℕ) (d f : Formula) → bind first (d ∷ []) f ≡ bound_one first d f
-bind-one first d f = (let same : first + length {A = Formula} [] ≡ first = omega arith in
+bind-one first d f = (let same : first + 0 ≡ first = omega arith in
     ap (λ n. cond (is_free n f) (Ex2 (track n) (And d f)) f) same)
 
 bind-last : (ds : List Formula) (first : ℕ) (d0 f : Formula) → bind first (ds ++ d0 ∷ []) f ≡ bind first (d0 ∷ []) (bind (suc first) ds f)

@@ -1,5 +1,5 @@
 -- Conditions keep the made tracks defined one after the other, and look at tracks that are there.
-use Rattle.std.proofs.Common.{◌≡◌, ℕ, ◌<◌, ◌≤◌, List, refl, sym, ◌∙◌, subst, arith}
+use Rattle.std.proofs.Common.{◌≡◌, ℕ, List, refl, sym, subst, arith}
 use mathlib.Core.Path.{transport}
 use Rattle.ws2s_forms.specs.Forms.{true_at, false_at, or}
 use Rattle.store_core.specs.Tables.{TypeEntry, VarEntry}

@@ -1,5 +1,5 @@
 -- States of the walk whose made tracks are defined one after the other, and whose guard, values and events use tracks that are there.
-use Rattle.std.proofs.Common.{◌≡◌, ℕ, suc, ◌+◌, ◌<◌, ◌≤◌, List, [], ◌∷◌, ◌++◌, length, slice_get, get_or, map, All, Option, Some, None, unwrap_or, refl, ◌∙◌, subst, arith, length-append}
+use Rattle.std.proofs.Common.{◌≡◌, ℕ, suc, ◌+◌, ◌≤◌, List, [], ◌∷◌, ◌++◌, length, slice_get, get_or, map, All, Option, Some, None, unwrap_or, refl, subst, arith, length-append}
 use Rattle.std.specs.Option.{option_map_or}
 use Rattle.std.proofs.lemmas.List.Elements.{All-set, All-map}
 use Rattle.std.proofs.lemmas.Option.{slice_get_within, get_or_from_slice_get}
@@ -28,7 +28,7 @@ use Rattle.track_values.proofs.ValuesLemmas.{IsSteady}
 
 pub defining-more : (first : ℕ) (texts : List Text) (text : Text) → AreDefining first texts → IsDefining (first + length texts) text →
     AreDefining first (texts ++ text ∷ [])
-defining-more first [] text all one = (let same : first + length {A = Text} [] ≡ first = omega arith in subst (λ n. IsDefining n text) same one, tt)
+defining-more first [] text all one = (let same : first + 0 ≡ first = omega arith in subst (λ n. IsDefining n text) same one, tt)
 defining-more first (x ∷ texts) text all one =
     let same : first + length (x ∷ texts) ≡ suc first + length texts = omega arith in
     (all.0, defining-more (suc first) texts text all.1 (subst (λ n. IsDefining n text) same one))

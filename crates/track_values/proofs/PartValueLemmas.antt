@@ -1,5 +1,5 @@
 -- The value of a track that is made for a part: what stands in each closed set with the roots.
-use Rattle.std.proofs.Common.{◌≡◌, ◌≢◌, ◌↔◌, ◌⊎◌, ℕ, suc, ◌<◌, ◌≤◌, ltb, IsTrue, List, [], ◌∷◌, ◌++◌, flat_map, length, All, refl, sym, ◌∙◌, subst, arith, lt-ltb, ltb-true, le-ltb}
+use Rattle.std.proofs.Common.{◌↔◌, ℕ, suc, ◌<◌, ◌≤◌, ltb, IsTrue, List, [], ◌∷◌, ◌++◌, flat_map, length, All, refl, sym, subst, arith, lt-ltb, ltb-true, le-ltb}
 use Rattle.std.proofs.lemmas.List.Elements.{All-head, All-tail}
 use Rattle.gta_theory.specs.Assignments.{Position, PositionSet, Assignment, IsFinite, IsFiniteSet, IsOnly, replace}
 use Rattle.gta_theory.proofs.AssignmentsLemmas.{replace-same, replace-other}

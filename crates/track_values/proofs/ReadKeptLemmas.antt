@@ -1,5 +1,5 @@
 -- Reading keeps the made tracks defined one after the other, and its values are there.
-use Rattle.std.proofs.Common.{◌≡◌, ℕ, suc, ◌<◌, ◌≤◌, List, [], ◌∷◌, length, refl, ap, ◌∙◌, arith}
+use Rattle.std.proofs.Common.{◌≡◌, ℕ, suc, ◌<◌, ◌≤◌, List, [], ◌∷◌, length, refl, ap, arith}
 use Rattle.std.specs.Option.{option_and_then}
 use Rattle.ws2s_core.specs.declared.formula.Formula.TheVariants.{And}
 use Rattle.store_core.specs.declared.ids.FieldId.{FieldId}

@@ -1,5 +1,5 @@
 -- Values of tracks that are made for truths, for what stands for variables after both ways, and for new cells.
-use Rattle.std.proofs.Common.{◌≡◌, ◌≢◌, ◌↔◌, ◌⊎◌, inl, inr, ℕ, suc, ◌+◌, ◌<◌, ◌≤◌, [], refl, sym, ap, ◌∙◌, arith}
+use Rattle.std.proofs.Common.{inl, inr, ℕ, suc, ◌<◌, ◌≤◌, [], refl, sym, ap, ◌∙◌, arith}
 use Rattle.gta_theory.specs.Assignments.{PositionSet, Assignment, IsFinite, IsFiniteSet, replace, no_positions}
 use Rattle.gta_theory.proofs.AssignmentsLemmas.{replace-same, replace-other}
 use Rattle.ws2s_core.specs.declared.formula.Formula.{Formula}

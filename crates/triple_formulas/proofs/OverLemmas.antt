@@ -1,5 +1,5 @@
 -- Assignments with other values of made tracks, and what the first state sees on them.
-use Rattle.std.proofs.Common.{◌≡◌, ◌↔◌, ℕ, ◌≤◌, IsTrue, List, sym, subst}
+use Rattle.std.proofs.Common.{◌≡◌, ℕ, IsTrue, List, sym, subst}
 use Rattle.gta_theory.specs.Assignments.{PositionSet, Assignment}
 use Rattle.store_core.specs.Tables.{TypeEntry, VarEntry}
 use Rattle.store_core.specs.Stores.{StoreMap}
