@@ -1,14 +1,17 @@
 -- Which of a triple's sites an assignment satisfies, by their formulas, and for which triples these mean something.
-use Rattle.std.specs.Prelude.{◌≡◌, ℕ, ◌<◌, List, slice_get, Some}
+use Rattle.std.specs.Prelude.{◌≡◌, ℕ, ◌<◌, List, length, slice_get, Some}
 use Rattle.std.specs.List.{AllByRecursion}
 use Rattle.gta_theory.specs.Assignments.{Assignment}
 use Rattle.ws2s_core.specs.declared.formula.Formula.{Formula}
 use Rattle.ws2s_core.specs.Satisfaction.{WSat}
 use Rattle.store_core.specs.Tables.{TypeEntry, VarEntry, IsTypeTable}
 use Rattle.store_exec.specs.declared.cause.Cause.{Cause}
+use Rattle.store_core.specs.Stores.{StoreMap}
+use Rattle.store_exec.specs.declared.outcome.Outcome.TheVariants as outcome
 use Rattle.store_exec.specs.declared.triple.Claim.{Claim}
 use Rattle.store_exec.specs.declared.triple.Triple.{Triple}
 use Rattle.store_exec.specs.Fits.{TripleFits}
+use Rattle.store_exec.specs.Runs.{RunsCode}
 use Rattle.witness_store.specs.Alike.{AreFunctional}
 use Rattle.claim_meaning.specs.Given.{IsRegionOf}
 use Rattle.site_view.specs.Triples.{passed, site_formula}
@@ -34,3 +37,7 @@ pub record IsFirstSatisfied (types : List TypeEntry) (vars : List VarEntry) (t :
   pub satisfied : IsSatisfiedAt types vars t a site
   pub before : (k : ℕ) → k < site → IsSatisfiedAt types vars t a k → ⊥
   pub is : slice_get (passed types vars t) site ≡ Some (record { cause = why; line = line })
+
+-- wherever the triple's code ends at a cut, it is one of the triple's own
+abbrev pub EndsAtOwnCuts : List TypeEntry → Triple → Type 0
+EndsAtOwnCuts types t = (s last : StoreMap) (place : ℕ) → RunsCode types t.code s (outcome.End place last) → place < length t.cuts

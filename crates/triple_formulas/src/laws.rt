@@ -17,7 +17,7 @@ ghost use Rattle.site_meaning.specs.Places.{Comes};
 ghost use Rattle.site_meaning.specs.Seeing.{IsOver, AreDefined};
 ghost use Rattle.site_meaning.specs.Ending.{IsSettled};
 ghost use Rattle.track_values.specs.Defining.{IsWithMade};
-ghost use Rattle.triple_formulas.specs.Satisfying.{IsPosed, IsSatisfiedAt, IsFirstSatisfied};
+ghost use Rattle.triple_formulas.specs.Satisfying.{IsPosed, IsSatisfiedAt, IsFirstSatisfied, EndsAtOwnCuts};
 
 /// An assignment of finite sets that satisfies the formula of a site is the tree of some well-formed store. (Klarlund and Schwartzbach
 /// 1993.)
@@ -37,8 +37,9 @@ pub fn sites_are_told()
 {}
 
 /// On the tree of a well-formed store, where the store meets the triple and fails, the first site whose formula is satisfied has the
-/// cause and the line. Where some site's formula is satisfied the store meets the triple; its code ends at no cut with nothing wrong
-/// there; and where it is settled how it ends, the store fails, and as the first site says that is satisfied. (Møller and Schwartzbach,
+/// cause and the line. Where some site's formula is satisfied the store meets the triple, its code ends at no cut with nothing wrong
+/// there, and it can't be that the store doesn't fail; where it is settled how its code ends the store fails, and as the first site says
+/// that is satisfied. (Møller and Schwartzbach,
 /// PLDI 2001.)
 pub fn sites_mean_failing()
     ensures fails { (types : List TypeEntry) (vars : List VarEntry) (t : Triple) (a : Assignment) (s : StoreMap) (why : Cause) (line : ℕ) →
@@ -49,6 +50,9 @@ pub fn sites_mean_failing()
     ensures refutes { (types : List TypeEntry) (vars : List VarEntry) (t : Triple) (a : Assignment) (s : StoreMap) (site place : ℕ) (last : StoreMap)
         (cut : Cut) → IsPosed types vars t → IsOver types vars a s → IsSatisfiedAt types vars t a site →
         RunsCode types t.code s (outcome.End place last) → slice_get t.cuts place ≡ Some cut → AtCut types vars cut last None → ⊥ }
+    ensures refuted { (types : List TypeEntry) (vars : List VarEntry) (t : Triple) (a : Assignment) (s : StoreMap) (site : ℕ) → IsPosed types vars t →
+        EndsAtOwnCuts types t → IsOver types vars a s → IsSatisfiedAt types vars t a site →
+        ((why : Cause) (line : ℕ) → Fails types vars t s why line → ⊥) → ⊥ }
     ensures settled { (types : List TypeEntry) (vars : List VarEntry) (t : Triple) (a : Assignment) (s : StoreMap) (site : ℕ) → IsPosed types vars t →
         IsOver types vars a s → IsSatisfiedAt types vars t a site → IsSettled types vars t s →
         (why : Cause) × (line : ℕ) × Fails types vars t s why line }
