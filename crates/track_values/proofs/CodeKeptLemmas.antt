@@ -86,41 +86,32 @@ module _ (types : List TypeEntry) (vars : List VarEntry) where
         (sym-later (next_track types vars z) (next_track types vars (m.1)) u (next-later types vars z (m.1) rest.keeps.longer) under) rest.values;
   }
 
+  chosen-kept : (t : Bool) (s : State) (one other : Merging) → IsMergedKept s one → IsMergedKept s other → IsMergedKept s (cond t one other)
+  chosen-kept true s one other first second = first
+  chosen-kept false s one other first second = second
+
   merged-kept : (h : ℕ) (us ws : List Sym) (s : State) → IsKept types vars s → h < next_track types vars s →
       All (IsSymBelow (next_track types vars s)) us → All (IsSymBelow (next_track types vars s)) ws → IsMergedKept s (merged types vars h us ws s)
   merged-kept h [] ws s kept less one other =
       record { keeps = keeps-itself types vars s kept; values = All-nil (IsSymBelow (next_track types vars s)) }
   merged-kept h (u ∷ us) [] s kept less one other =
       record { keeps = keeps-itself types vars s kept; values = All-nil (IsSymBelow (next_track types vars s)) }
-  merged-kept h (u ∷ us) (w ∷ ws) s kept less one other = by (is_sym u w)
-    where
-      first-u : IsSymBelow (next_track types vars s) u
-      first-u = All-head (IsSymBelow (next_track types vars s)) u us one
-
-      first-w : IsSymBelow (next_track types vars s) w
-      first-w = All-head (IsSymBelow (next_track types vars s)) w ws other
-
-      rest-us : All (IsSymBelow (next_track types vars s)) us
-      rest-us = All-tail (IsSymBelow (next_track types vars s)) u us one
-
-      rest-ws : All (IsSymBelow (next_track types vars s)) ws
-      rest-ws = All-tail (IsSymBelow (next_track types vars s)) w ws other
-
-      by : (t : Bool) →
-          IsMergedKept s (cond t (behind u (merged types vars h us ws s))
-          (behind (At (track (next_track types vars s)))
-          (merged types vars h us ws (define (is_merged h u w (next_track types vars s)) s))))
-      by true = behind-kept u s s (merged types vars h us ws s) (keeps-itself types vars s kept) (merged-kept h us ws s kept less rest-us rest-ws) first-u
-      by false =
-          let m : ℕ = next_track types vars s in
-          let it : Text = is_merged h u w (next_track types vars s) in
-          let z : State = define it s in
-          let step = kept-define types vars s it kept (merged-defining h m u w less first-u first-w) in
-          let grown = next-define types vars s it in
-          let more : m ≤ next_track types vars z = omega (arith, grown) in
-          behind-kept (At (track m)) s z (merged types vars h us ws z) step
-          (merged-kept h us ws z step.kept (omega (arith, less, more)) (syms-later m (next_track types vars z) us more rest-us)
-          (syms-later m (next_track types vars z) ws more rest-ws)) (omega (arith, grown))
+  merged-kept h (u ∷ us) (w ∷ ws) s kept less one other =
+      let m : ℕ = next_track types vars s in
+      let first_u = All-head (IsSymBelow m) u us one in
+      let first_w = All-head (IsSymBelow m) w ws other in
+      let rest_us = All-tail (IsSymBelow m) u us one in
+      let rest_ws = All-tail (IsSymBelow m) w ws other in
+      let it : Text = is_merged h u w m in
+      let z : State = define it s in
+      let step = kept-define types vars s it kept (merged-defining h m u w less first_u first_w) in
+      let grown = next-define types vars s it in
+      let more : m ≤ next_track types vars z = omega (arith, grown) in
+      chosen-kept (is_sym u w) s (behind u (merged types vars h us ws s)) (behind (At (track m)) (merged types vars h us ws z))
+      (behind-kept u s s (merged types vars h us ws s) (keeps-itself types vars s kept) (merged-kept h us ws s kept less rest_us rest_ws) first_u)
+      (behind-kept (At (track m)) s z (merged types vars h us ws z) step
+      (merged-kept h us ws z step.kept (omega (arith, less, more)) (syms-later m (next_track types vars z) us more rest_us)
+      (syms-later m (next_track types vars z) ws more rest_ws)) (omega (arith, grown)))
 
   -- ---- plain ifs
 

@@ -95,6 +95,16 @@ some-depth n slots b events finite =
     let both : ℕ = max d e in
     (both, short-more n b d both (omega arith) short, slots-more slots e both events (omega arith) made)
 
+-- what follows from each of two follows from what is chosen of them
+or_where-so : (t : Bool) (P Q R : Type 0) → (P → R) → (Q → R) → OrWhere t P Q → R
+or_where-so true P Q R one other (inl h) = one h
+or_where-so true P Q R one other (inr h) = other h
+or_where-so false P Q R one other h = one h
+
+cond-so : (t : Bool) (f g : Formula) (c : Assignment) (R : Type 0) → (WSat f c → R) → (WSat g c → R) → WSat (cond t f g) c → R
+cond-so true f g c R one other h = one h
+cond-so false f g c R one other h = other h
+
 module _ (types : List TypeEntry) (vars : List VarEntry) (slots n : ℕ) (few : track_count types vars ≤ n) (some : 0 < n) (b : Assignment) (depth : ℕ)
     (short : AreShort n b depth) where
   -- ---- live cells
@@ -105,12 +115,9 @@ module _ (types : List TypeEntry) (vars : List VarEntry) (slots n : ℕ) (few : 
 
   lives-short : (v : VariantId) (events : List Event) (p : Position) → AreSlotsShort slots depth events → LivesAt types slots b v events p → length p < depth
   lives-short v [] p made h = short (track_or_first (variant_track types v)).0 p (first-few types slots b vars n few some v) h
-  lives-short v (New g k w ∷ earlier) p made h = by (is_variant v w) h
-    where
-      by : (t : Bool) → OrWhere t (LivesAt types slots b v earlier p) (IsTaken b g × (p ≡ slot_of (slots + k))) → length p < depth
-      by true (inl old) = lives-short v earlier p made.1 old
-      by true (inr new) = (let long = ap (λ q. length q) new.1 ∙ length-slot (slots + k) in omega (arith, long, made.0))
-      by false old = lives-short v earlier p made.1 old
+  lives-short v (New g k w ∷ earlier) p made h =
+      or_where-so (is_variant v w) (LivesAt types slots b v earlier p) (IsTaken b g × (p ≡ slot_of (slots + k))) (length p < depth)
+      (lives-short v earlier p made.1) (λ new. (let long = ap (λ q. length q) new.1 ∙ length-slot (slots + k) in omega (arith, long, made.0))) h
   lives-short v (Write g u f x ∷ earlier) p made h = lives-short v earlier p made h
   lives-short v (Free g u ∷ earlier) p made h = lives-short v earlier p made h.0
 
@@ -142,22 +149,17 @@ module _ (types : List TypeEntry) (vars : List VarEntry) (slots n : ℕ) (few : 
     after-short f a first [] under so h = so h
     after-short f a first (New g k v ∷ earlier) under so h = after-short f a first earlier under.1 so h
     after-short f a first (Free g u ∷ earlier) under so h = after-short f a first earlier under.1 so h
-    after-short f a first (Write g u e z ∷ earlier) under so h = by (is_field f e) h
-      where
-        by : (t : Bool) →
-            WSat (cond t (or (and_list next (guard next g ∷ is_in next a u ∷ is_in next x z ∷ []))
-            (And (Not (is_changed next a g u)) (after next f a (is_in next x) first earlier))) (after next f a (is_in next x) first earlier)) c →
-            length q < depth
-        by true k =
-            elim ((law-or (and_list next (guard next g ∷ is_in next a u ∷ is_in next x z ∷ []))
-            (And (Not (is_changed next a g u)) (after next f a (is_in next x) first earlier)) c agrees.finite).0 k) as (λ _. length q < depth) [
-              | inl new ↦ (
-                  let each = (WSat-and_list c next (guard next g ∷ is_in next a u ∷ is_in next x z ∷ [])).0 new in
-                  sym-short z q under.0.2 ((in-means types slots b vars n few some z under.0.2 c next x q agrees room less only).0 each.1.1.0))
-              | inr stays ↦ after-short f a first earlier under.1 so
-                  ((WSat-And (Not (is_changed next a g u)) (after next f a (is_in next x) first earlier) c).0 stays).1
-            ]
-        by false k = after-short f a first earlier under.1 so k
+    after-short f a first (Write g u e z ∷ earlier) under so h =
+        let old : Formula = after next f a (is_in next x) first earlier in
+        let now : List Formula = guard next g ∷ is_in next a u ∷ is_in next x z ∷ [] in
+        let kept : Formula = And (Not (is_changed next a g u)) old in
+        cond-so (is_field f e) (or (and_list next now) kept) old c (length q < depth) (λ k.
+        elim ((law-or (and_list next now) kept c agrees.finite).0 k) as (λ _. length q < depth) [
+          | inl new ↦ (
+              let each = (WSat-and_list c next now).0 new in
+              sym-short z q under.0.2 ((in-means types slots b vars n few some z under.0.2 c next x q agrees room less only).0 each.1.1.0))
+          | inr stays ↦ after-short f a first earlier under.1 so ((WSat-And (Not (is_changed next a g u)) old c).0 stays).1
+        ]) (after-short f a first earlier under.1 so) h
 
     data-short : (f : FieldId) (target : TypeId) (a : ℕ) (events : List Event) → AreEventsBelow n events →
         SaysShort (data_names types (whole slots events) next f target a x)
