@@ -48,9 +48,6 @@ values-below n values roots under =
     All-map (IsSymBelow n) (value_of values) roots (λ k d less. value-below n values (get_or roots k d) under)
 
 module _ (types : List TypeEntry) (vars : List VarEntry) where
-  abbrev pub next_of : State → ℕ
-  next_of s = next_track types vars s
-
   -- made tracks are defined one after the other, and all that is used is below the next one
   pub record IsKept (s : State) : Type 0 where
     pub made : AreDefining (track_count types vars) s.defined

@@ -47,7 +47,7 @@ blank-stands a at s x kind (value.Bool false) program fits stands = ((λ none. r
 blank-stands a at s x kind (value.Cell None) program fits stands = ((λ none. refl), (λ e. stands))
 blank-stands a at s x kind (value.Cell (Some c)) program fits stands = (
   (λ none. absurd (false≢true (sym (none stands.0) ∙ IsOnly-inside (a x.0) stands.0 stands.1))),
-  (λ e. cc),
+  (λ e p. let k : ⊥ = cc in absurd k),
 )
 blank-stands a at s x var.Bool (value.Cells cells) program fits stands = absurd fits
 blank-stands a at s x (var.Data ty) (value.Cells cells) program fits stands = absurd fits
