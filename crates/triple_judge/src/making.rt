@@ -1,9 +1,8 @@
 //! The cells that code makes.
 
 ghost use Rattle.std.specs.Prelude.{◌≡◌, ◌++◌, IfOk, OnOk};
-ghost use Rattle.store_exec.specs.Acting.{acts_of, acts_of_item, acts_of_items};
 ghost use Rattle.triple_judge.specs.Spares as cells;
-ghost use Rattle.triple_judge.specs.Spares.{made_by, made_in, made_in_all};
+ghost use Rattle.triple_judge.specs.Spares.{made_by, made_in, made_in_item, made_in_items, made_in_code};
 
 use std::alloc::{AllocError, Global};
 use store_exec::{Code, Item, Tail, Triple};
@@ -38,7 +37,7 @@ fn push_act(spares: &mut VariantList, act: &Act) -> Result<(), AllocError>
 /// The items one after the other. Takes a level of the stack for each `if` within another one.
 #[cycle(items)]
 fn push_items(spares: &mut VariantList, items: &[Item]) -> Result<(), AllocError>
-    ensures { OnOk result (spares.new ≡ spares.old ++ made_in_all (acts_of_items items.now)) }
+    ensures { OnOk result (spares.new ≡ spares.old ++ made_in_items items.now) }
 {
     for item in items {
         push_item(spares, item)?;
@@ -48,7 +47,7 @@ fn push_items(spares: &mut VariantList, items: &[Item]) -> Result<(), AllocError
 
 #[cycle(items)]
 fn push_item(spares: &mut VariantList, item: &Item) -> Result<(), AllocError>
-    ensures { OnOk result (spares.new ≡ spares.old ++ made_in_all (acts_of_item item.now)) }
+    ensures { OnOk result (spares.new ≡ spares.old ++ made_in_item item.now) }
 {
     match item {
         Item::Do(_, act) => {
@@ -64,8 +63,9 @@ fn push_item(spares: &mut VariantList, item: &Item) -> Result<(), AllocError>
 }
 
 /// A code in all its parts. Takes a level of the stack for each branch within another one.
+#[tactic(auto, using(crate::proofs::SparesLemmas::cut_made, crate::proofs::SparesLemmas::branch_made))]
 fn push_code(spares: &mut VariantList, code: &Code) -> Result<(), AllocError>
-    ensures { OnOk result (spares.new ≡ spares.old ++ made_in_all (acts_of code.now)) }
+    ensures { OnOk result (spares.new ≡ spares.old ++ made_in_code code.now) }
 {
     push_items(spares, code.items.as_slice())?;
     match &code.tail {

@@ -1,0 +1,4 @@
+pub mod SparesLemmas
+pub mod SearchingLemmas
+pub mod FailingLemmas
+pub mod PremiseLemmas
