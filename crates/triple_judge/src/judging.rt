@@ -19,7 +19,7 @@ use crate::searching::{Found, Searched, decide_sites};
 use bdd_nodes::Shelf;
 use field_judge::weighed;
 use plain_data::at;
-use pred_transform::sites;
+use site_list::sites;
 use site_view::Site;
 use std::alloc::{AllocError, Global};
 use store_core::{Store, TypeTable, VarTable};

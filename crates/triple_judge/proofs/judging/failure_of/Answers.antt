@@ -1,4 +1,4 @@
-use Rattle.std.proofs.Common.{◌≡◌, ◌∙◌, List, None, Some, length, slice_get, sym, ap}
+use Rattle.std.proofs.Common.{◌≡◌, ◌∙◌, List, None, Some, slice_get, sym, ap}
 use Rattle.std.specs.Option.{option_copied}
 use Rattle.witness_store.proofs.ListsLemmas.{present}
 use Rattle.site_view.specs.declared.site.Site.{Site}
@@ -15,7 +15,8 @@ unreachable-requires c =
     let (place, there) = present (sites_of c.args.l.now.types c.args.t.now) site (c.requires.lightest).lightest.inside in
     let none : slice_get (sites_of c.args.l.now.types c.args.t.now) site ≡ None =
     ap (λ (places : List Site). slice_get places site) (sym (c.as_slice.ensures ∙ c.in_ok-places.ensures)) ∙ sym c.at.ensures ∙ ap option_copied c.in_default.is in
-    absurd (let both : Some place ≡ None = sym there ∙ none in cc)
+    let both : Some place ≡ None = sym there ∙ none in
+    absurd (cc)
 
 pub returns : goal.returns
 returns c = λ functional mean.

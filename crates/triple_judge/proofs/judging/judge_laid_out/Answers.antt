@@ -29,8 +29,8 @@ failure_of-requires-clause-lightest c =
       lightest = subst (λ (n : ℕ). IsSearched formulas c.in_ok-tracks.tracks n (searched.Lightest c.in-Lightest.found)) c.in_ok-count.ensures known;
     }
 
-pub returns-in-Lightest-clause-value : goal.returns-in-Lightest-clause-value
-returns-in-Lightest-clause-value c = λ functional mean. c.failure_of.ensures functional mean
+pub returns-in_ok-store-in-Lightest-clause-value : goal.returns-in_ok-store-in-Lightest-clause-value
+returns-in_ok-store-in-Lightest-clause-value c = λ functional mean. c.in_ok-store-in-Lightest.ensures functional mean
 
 pub returns-in-Limit-clause-limit : goal.returns-in-Limit-clause-limit
 returns-in-Limit-clause-limit c = λ is p peak.

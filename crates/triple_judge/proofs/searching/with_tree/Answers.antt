@@ -11,3 +11,6 @@ pub returns-in-Lightest-clause-value : goal.returns-in-Lightest-clause-value
 returns-in-Lightest-clause-value c = λ formulas tracks before own.
     lighter-stays formulas tracks c.in-Lightest.best c.args.found c.lighter.result
     (subst (IsSearched formulas tracks c.args.found.site) c.in-Lightest.is before) own c.lighter.ensures.later c.lighter.ensures.earlier
+
+pub returns-in-Limit-clause-limit : goal.returns-in-Limit-clause-limit
+returns-in-Limit-clause-limit c = λ is. c.in-Limit.is
