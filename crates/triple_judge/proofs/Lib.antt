@@ -1,4 +1,5 @@
 pub mod SparesLemmas
 pub mod SearchingLemmas
 pub mod FailingLemmas
+pub mod PeakLemmas
 pub mod PremiseLemmas
