@@ -89,7 +89,7 @@ lays-out-found types vars t found table failure =
 
 -- ---- stores that meet the triple and fail
 
-abbrev place_of : Cause → ℕ → Site
+abbrev pub place_of : Cause → ℕ → Site
 place_of why line = record { cause = why; line = line }
 
 module _ (types : List TypeEntry) (vars : List VarEntry) (t : Triple) (mean : SitesMeanFailing types vars t) where
