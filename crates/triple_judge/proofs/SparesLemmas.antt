@@ -1,7 +1,8 @@
 -- The cells that code makes, part by part, are of variants of the table.
-use Rattle.std.proofs.Common.{◌≡◌, ℕ, List, [], ◌∷◌, ◌++◌, refl, sym, ap, ap₂, ◌∙◌, subst, append_assoc, append-nil}
+use Rattle.std.proofs.Common.{◌≡◌, ℕ, ◌+◌, ◌<◌, List, [], ◌∷◌, ◌++◌, length, take, get_or, refl, sym, ap, ap₂, ◌∙◌, subst, append_assoc, append-nil}
 use Rattle.std.specs.List.{AllByRecursion}
-use Rattle.std.proofs.lemmas.List.Concat.{flat_map-append, flat_map-cons}
+use Rattle.std.proofs.lemmas.List.{take_more}
+use Rattle.std.proofs.lemmas.List.Concat.{flat_map-append}
 use Rattle.store_core.specs.declared.ids.VariantId.{VariantId}
 use Rattle.store_core.specs.Tables.{TypeEntry, VarEntry, KnowsVariant}
 use Rattle.store_logic.specs.declared.cond.Cond.{Cond}
@@ -59,6 +60,17 @@ made-Branch c line b taken other is =
 
 pub do_made : (i : Item) (line : ℕ) (a : Act) (s0 s1 : List VariantId) → i ≡ item.Do line a → s1 ≡ s0 ++ made_in a → s1 ≡ s0 ++ made_in_item i
 do_made i line a s0 s1 is one = one ∙ ap (λ (s : List VariantId). s0 ++ s) (sym (ap made_in_item is ∙ made-Do line a))
+
+-- one item more
+pub items_next : (items : List Item) (i : ℕ) (x : Item) (s0 s1 s2 : List VariantId) → i < length items → x ≡ get_or items i x →
+    s1 ≡ s0 ++ made_in_items (take i items) → s2 ≡ s1 ++ made_in_item x → s2 ≡ s0 ++ made_in_items (take (i + 1) items)
+items_next items i x s0 s1 s2 inside is one two =
+    two ∙ ap (λ (s : List VariantId). s ++ made_in_item x) one
+    ∙ append_assoc s0 (made_in_items (take i items)) (made_in_item x)
+    ∙ ap (λ (s : List VariantId). s0 ++ (made_in_items (take i items) ++ s)) (sym (append-nil (made_in_item x)))
+    ∙ ap (λ (s : List VariantId). s0 ++ s) (sym (flat_map-append made_in_item (take i items) (x ∷ [])))
+    ∙ ap (λ (y : Item). s0 ++ made_in_items (take i items ++ y ∷ [])) is
+    ∙ ap (λ (xs : List Item). s0 ++ made_in_items xs) (sym (take_more items i x inside))
 
 pub if_made : (i : Item) (line : ℕ) (c : Cond) (taken other xs ys : List Item) (s0 s1 s2 : List VariantId) → i ≡ item.If line c taken other →
     xs ≡ taken → ys ≡ other → s1 ≡ s0 ++ made_in_items xs → s2 ≡ s1 ++ made_in_items ys → s2 ≡ s0 ++ made_in_item i
