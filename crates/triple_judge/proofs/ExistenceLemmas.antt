@@ -1,6 +1,5 @@
 -- Every triple is judged somehow: it is valid, or a least store shows that it isn't.
-use Rattle.std.proofs.Common.{◌≡◌, ◌≢◌, ◌⊎◌, inl, inr, ◌↔◌, ◌<◌, ◌≤◌, ℕ, zero, suc, List, [], ◌∷◌, length, slice_get, Option, Some, None, IsSomeAnd, Contains, AllPairs, refl, sym, ap, ◌∙◌, subst, arith}
-use Rattle.std.specs.FinMap.{keys}
+use Rattle.std.proofs.Common.{◌≡◌, ◌≢◌, ◌⊎◌, inl, inr, ◌<◌, ◌≤◌, ℕ, zero, suc, List, [], ◌∷◌, length, slice_get, Option, Some, None, IsSomeAnd, Contains, AllPairs, refl, sym, ap, ◌∙◌, subst, arith}
 use Rattle.std.proofs.lemmas.Bool.{cases_lt}
 use Rattle.std.proofs.lemmas.List.Kept.{AllPairs-cons}
 use Rattle.std.proofs.lemmas.Option.{same_Some, slice_get_within}
@@ -17,7 +16,6 @@ use Rattle.store_core.specs.Stores.{StoreMap}
 use Rattle.store_core.proofs.FittingLemmas.{IsSomeAnd-at}
 use Rattle.store_exec.specs.declared.cause.Cause.{Cause}
 use Rattle.store_exec.specs.declared.triple.Triple.{Triple}
-use Rattle.store_exec.specs.Failing.{Meets, Fails}
 use Rattle.store_pointers.proofs.ExistenceLemmas.{set_store}
 use Rattle.routing_expr.proofs.GatheringLemmas.{Contains-none, Contains-here, Contains-there, Contains-cases}
 use Rattle.tree_encode.specs.Tracks.{track_at, variants_from}

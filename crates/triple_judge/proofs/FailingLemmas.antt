@@ -1,6 +1,6 @@
 -- The store that the lightest tree lays out is one of the fewest cells that meets the triple and fails, and where no tree satisfies the
 -- formula of a site the triple is valid.
-use Rattle.std.proofs.Common.{◌≡◌, inl, inr, ◌+◌, ◌<◌, ◌≤◌, ℕ, List, length, slice_get, Option, Some, None, IsSomeAnd, refl, sym, ap, ◌∙◌, subst, arith}
+use Rattle.std.proofs.Common.{◌≡◌, inl, inr, ◌+◌, ◌<◌, ◌≤◌, ℕ, List, length, slice_get, Option, Some, None, IsSomeAnd, sym, ap, ◌∙◌, subst, arith}
 use Rattle.std.specs.Prelude.{option_map, map, ◌++◌, ◌∷◌, []}
 use Rattle.std.specs.FinMap.{keys}
 use Rattle.std.proofs.lemmas.Bool.{cases_lt}
@@ -9,7 +9,6 @@ use Rattle.gta_theory.specs.Assignments.{Assignment, IsFinite}
 use Rattle.gta_theory.specs.Weights.{weight}
 use Rattle.gta_theory.proofs.AssignmentsLemmas.{Covers-finite}
 use Rattle.gta_witness.specs.Lightest.{each_once}
-use Rattle.ws2s_core.specs.declared.track.Track.{Track}
 use Rattle.ws2s_core.specs.declared.formula.Formula.{Formula}
 use Rattle.ws2s_core.specs.declared.formula.Formula.TheVariants.{And}
 use Rattle.ws2s_core.specs.LabelTrees.{assignment_of}
@@ -24,7 +23,6 @@ use Rattle.store_exec.specs.declared.cause.Cause.{Cause}
 use Rattle.store_exec.specs.declared.triple.Triple.{Triple}
 use Rattle.store_exec.specs.Failing.{Meets, Fails}
 use Rattle.store_pointers.specs.Pointers.{ArePointersSet}
-use Rattle.routing_expr.specs.Gathering.{HasAll}
 use Rattle.routing_expr.specs.WellFormed.{IsWellFormed}
 use Rattle.tree_encode.specs.Tracks.{track_count, var_track}
 use Rattle.tree_shapes.specs.Shapes.{LaysOut}
@@ -36,7 +34,6 @@ use Rattle.tree_backbone.specs.Stores.{IsStoreOf}
 use Rattle.graph_fields.proofs.AssignmentLemmas.{assignment}
 use Rattle.witness_store.specs.Alike.{AreFunctional}
 use Rattle.witness_store.proofs.FunctionalLemmas.{IsWellFormed-set}
-use Rattle.field_judge.specs.Weighed.{IsVariantTrack}
 use Rattle.field_judge.proofs.WeighedLemmas.{are-variant_tracks}
 use Rattle.site_view.specs.declared.site.Site.{Site}
 use Rattle.site_view.specs.States.{Check}
