@@ -11,7 +11,7 @@ ghost use Rattle.tree_encode.specs.Spaces as spaces;
 ghost use Rattle.site_view.specs.Triples.{site_formula};
 ghost use Rattle.triple_judge.specs.declared.searching.Searched.{Searched};
 ghost use Rattle.triple_judge.specs.Judging.{ArePeaksWithin};
-ghost use Rattle.triple_judge.specs.Searching as searching;
+ghost use Rattle.triple_judge.specs.Searching as known;
 ghost use Rattle.triple_judge.specs.Searching.{IsLightestOf, IsVerdictAt, IsSearched};
 
 use crate::verdicts::verdict_at;
@@ -83,7 +83,7 @@ fn with_verdict(searched: Searched, site: u32, verdict: Verdict) -> Searched
 
 /// No later site changes what is known: no tree is lighter than one without weight.
 fn is_settled(searched: &Searched) -> bool
-    ensures { result ≡ searching.is_settled searched.now }
+    ensures { result ≡ known.is_settled searched.now }
 {
     match searched {
         Searched::Nothing => false,
