@@ -1,11 +1,11 @@
 -- What is met leads to generated states alone.
-use Rattle.std.proofs.Common.{◌≡◌, ℕ, ◌<◌, Bool, true, false, List, [], ◌∷◌, ◌++◌, length, Some, inl, inr}
+use Rattle.std.proofs.Common.{◌≡◌, ℕ, ◌<◌, Bool, true, false, List, [], ◌∷◌, ◌++◌, length, Some, None, inl, inr}
 use Rattle.std.proofs.Common.{sym, ◌∙◌, ap, refl, subst, arith}
 use Rattle.std.specs.Prelude.{All, slice_get, slice_index_or, slice_set}
 use Rattle.std.proofs.lemmas.List.{get_or-set_same, get_or-set_other, length-set}
 use Rattle.std.proofs.lemmas.List.Elements.{All-nil, All-cons}
 use Rattle.std.proofs.lemmas.Bool.{cases_eq, ltb-true}
-use Rattle.std.proofs.lemmas.Option.{slice_get_within, slice_get-get_or, slice_get_read}
+use Rattle.std.proofs.lemmas.Option.{slice_get_within, slice_get-get_or, slice_get_read, slice_get_past}
 use Rattle.labels.specs.Labels.{Label, with_track}
 use Rattle.bdd_list.specs.declared.listing.Listed.{Listed}
 use Rattle.bdd_list.specs.declared.listing.Listed.TheVariants.{Leaf, Inner}
@@ -236,6 +236,11 @@ AllKeepNone-push kept more new before s one there = elim (slice_get-push kept mo
 ]
 
 -- ---- marks
+
+pub AreClear-none : (marks : List (List Bool)) → marks ≡ [] → AreClear marks
+AreClear-none marks is s one there =
+    let past : slice_get marks s ≡ None = slice_get_past marks s (let e = ap length is in omega arith) in
+    absurd (let e : None ≡ Some one = sym past ∙ there in cc)
 
 pub AreClear-push : (marks : List (List Bool)) (more : List Bool) → IsClear more → AreClear marks → AreClear (marks ++ more ∷ [])
 AreClear-push marks more new before s one there = elim (slice_get-push marks more one s there) [

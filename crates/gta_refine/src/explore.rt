@@ -9,7 +9,6 @@ ghost use Rattle.gta_refine.specs.declared.rows.Side.TheVariants.{Left, Right};
 ghost use Rattle.gta_refine.specs.Form.{IsForm};
 ghost use Rattle.gta_refine.specs.Reached.{AreGenerated};
 ghost use Rattle.gta_refine.specs.Refined.{opposite};
-ghost use Rattle.gta_refine.specs.Rows.{kinds_in};
 ghost use Rattle.gta_refine.specs.Exploring.{with_mark, AreClear, IsGeneratedIn, IsGeneratedAt, GivesGenerated, IsWaiting, AreMet, KeepsNone, AllKeepNone, AreKept};
 
 use crate::form::{Form, FormSpace, NumberList};
@@ -126,13 +125,12 @@ fn meet_each(
     Ok(())
 }
 
-/// The class of a child state.
+/// The number at a place; 0 past the last one.
 #[inline]
-fn kind_of(space: &FormSpace, side: Side, state: u32) -> u32
-    ensures { result ≡ slice_index (kinds_in space.now side) state }
+fn number_at(numbers: &[u32], place: u32) -> u32
+    ensures { result ≡ slice_index numbers.now place }
 {
-    let kinds = kinds_of(space, side);
-    kinds.get(state as usize).copied().unwrap_or(0)
+    numbers.get(place as usize).copied().unwrap_or(0)
 }
 
 /// A child state of a new class is kept, and what it has with those that are kept of the other child is met. A state of a
@@ -155,7 +153,7 @@ fn pair(
     ensures own { IfOk result (λ done. All (IsGeneratedAt form.now parent side) own.new.states) }
     ensures met { IfOk result (λ done. AreMet form.now met.new) }
 {
-    let kind = kind_of(form.space(parent), side, state);
+    let kind = number_at(kinds_of(form.space(parent), side), state);
     if !mark_new(&mut own.kinds, kind) {
         return Ok(());
     }
@@ -277,7 +275,6 @@ fn unmarked_nodes(alloc: Global, form: &Form) -> Result<Vec<Items<bool>>, AllocE
 
 /// The initial states wait.
 fn initial_waiting(alloc: Global, form: &Form) -> Result<Stack<Waiting>, AllocError>
-    requires { IsForm form.now }
     ensures { IfOk result (All (IsWaiting form.now)) }
 {
     let mut waiting = Stack::new(alloc);
@@ -311,8 +308,7 @@ fn keep_none_each(alloc: Global, form: &Form, side: Side) -> Result<Vec<Kept>, A
     Ok(kept)
 }
 
-/// Adds what steps of the states give, and what steps of that give, until nothing new is found. The initial states are
-/// among the given ones.
+/// Adds what comes by steps, one after the other, from the initial states, which are marked already.
 pub(crate) fn explore(
     alloc: Global,
     form: &Form,

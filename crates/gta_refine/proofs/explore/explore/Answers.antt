@@ -21,16 +21,17 @@ loop-init c =
 
 pub look-requires-clause-next : goal.look-requires-clause-next
 look-requires-clause-next c =
-    let P = IsWaiting c.args.form.now in
-    All-head P c.in-Some.next c.pop.new.self (subst (λ (waiting : List Waiting). All P waiting) c.in-Some.ensures c.loop.invariant.met.waiting)
+    let form = c.args.form.now in
+    All-head (IsWaiting form) c.in-Some.next c.pop.new.self
+    (subst (λ (waiting : List Waiting). All (IsWaiting form) waiting) c.in-Some.ensures c.loop.invariant.met.waiting)
 
 pub look-requires-clause-met : goal.look-requires-clause-met
 look-requires-clause-met c =
-    let P = IsWaiting c.args.form.now in
+    let form = c.args.form.now in
     record {
       states = c.loop.invariant.met.states;
-      waiting = All-tail P c.in-Some.next c.pop.new.self
-          (subst (λ (waiting : List Waiting). All P waiting) c.in-Some.ensures c.loop.invariant.met.waiting);
+      waiting = All-tail (IsWaiting form) c.in-Some.next c.pop.new.self
+          (subst (λ (waiting : List Waiting). All (IsWaiting form) waiting) c.in-Some.ensures c.loop.invariant.met.waiting);
     }
 
 pub returns-in_default : goal.returns-in_default

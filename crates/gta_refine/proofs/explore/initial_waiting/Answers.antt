@@ -16,5 +16,5 @@ loop-s-preserved c =
     let form = c.args.form.now in
     let s = c.loop-s.s in
     let space = c.space.result.now in
-    waiting-push form s (Leaf space.initial) _ c.loop-s.waiting c.push.new.self refl refl c.in_ok-push.ensures.ok
+    waiting-push form s (Leaf space.initial) (record { s = s; listed = Leaf space.initial }) c.loop-s.waiting c.push.new.self refl refl c.in_ok-push.ensures.ok
     (GivesGenerated-initial form s space c.space.ensures) c.loop-s.invariant

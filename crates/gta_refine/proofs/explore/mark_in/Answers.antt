@@ -1,8 +1,15 @@
 -- The marks of one space.
-use Rattle.std.proofs.Common.{◌≡◌, ◌<◌, List, [], Bool, true, length, ◌∙◌, ap, arith}
+use Rattle.std.proofs.Common.{◌≡◌, ◌<◌, List, [], Bool, true, length, sym, ◌∙◌, ap, arith}
 use Rattle.std.specs.Prelude.{slice_index_or, slice_set}
-use Rattle.std.proofs.lemmas.List.{get_or_read}
+use Rattle.std.proofs.lemmas.List.{get_or_read, set_past}
 use Rattle.gta_refine.proofs.explore.mark_in.Goals as goal
+
+pub returns-then-s-len : goal.returns-then-s-len
+returns-then-s-len c =
+    let marks = c.args.marks.now.items in
+    let s = c.args.s in
+    sym (set_past marks s (slice_set (slice_index_or marks s []) c.args.number true)
+    (let t = c.if-s-len.true in let e = c.len.ensures in let o = c.args.marks.now.ok in omega arith))
 
 pub returns : goal.returns
 returns c =

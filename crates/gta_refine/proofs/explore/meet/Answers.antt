@@ -8,6 +8,6 @@ returns c = λ form met gives.
     let marked = c.mark_listed.ensures form met gives in
     record {
       states = marked.states;
-      waiting = waiting-push form c.args.s c.args.listed _ c.mark_listed.new.met.waiting c.push.new.self refl refl c.in_ok-push.ensures.ok gives
-          marked.waiting;
+      waiting = waiting-push form c.args.s c.args.listed (record { s = c.args.s; listed = c.args.listed }) c.mark_listed.new.met.waiting c.push.new.self
+          refl refl c.in_ok-push.ensures.ok gives marked.waiting;
     }

@@ -3,8 +3,11 @@ use Rattle.std.proofs.Common.{List, Bool, sym, subst}
 use Rattle.gta_refine.specs.Scratch.{IsClear}
 use Rattle.gta_refine.specs.Exploring.{AreClear}
 use Rattle.gta_refine.proofs.ScratchLemmas.{IsClear-replicate}
-use Rattle.gta_refine.proofs.ExploreLemmas.{AreClear-push}
+use Rattle.gta_refine.proofs.ExploreLemmas.{AreClear-none, AreClear-push}
 use Rattle.gta_refine.proofs.explore.unmarked_nodes.Goals as goal
+
+pub loop-space-init : goal.loop-space-init
+loop-space-init c = AreClear-none c.new-nodes.result.items c.new-nodes.ensures.items
 
 pub loop-space-preserved : goal.loop-space-preserved
 loop-space-preserved c =
