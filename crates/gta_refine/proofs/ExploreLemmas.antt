@@ -1,7 +1,7 @@
 -- What is met leads to generated states alone.
 use Rattle.std.proofs.Common.{◌≡◌, ℕ, ◌<◌, Bool, true, false, List, [], ◌∷◌, ◌++◌, length, Some, None, inl, inr}
 use Rattle.std.proofs.Common.{sym, ◌∙◌, ap, refl, subst, arith}
-use Rattle.std.specs.Prelude.{All, slice_get, slice_index_or, slice_set}
+use Rattle.std.specs.Prelude.{All, slice_get, slice_index_or, slice_set, nat_lt}
 use Rattle.std.proofs.lemmas.List.{get_or-set_same, get_or-set_other, length-set}
 use Rattle.std.proofs.lemmas.List.Elements.{All-nil, All-cons}
 use Rattle.std.proofs.lemmas.Bool.{cases_eq, ltb-true}
@@ -38,9 +38,10 @@ use Rattle.gta_refine.proofs.ClimbLemmas.{gives-low, gives-high}
 -- a generated state is a state of its space
 pub generated-below : (form : Form) → IsForm form → (s q : ℕ) → IsSpace (guide_of form) s → IsGeneratedIn form s q → q < states_of form s
 generated-below form is_form s q there generated =
-    ltb-true q (states_of form s)
-    (IsValue-closed (guide_of form) is_form.guide (automaton_of form) (Below (states_of form)) is_form.closed s q there
-    (IsValue-generated (guide_of form) is_form.guide (automaton_of form) is_form.stable s q generated))
+    let below : nat_lt q (states_of form s) ≡ true =
+    IsValue-closed (guide_of form) is_form.guide (automaton_of form) (Below (states_of form)) is_form.closed s q there
+    (IsValue-generated (guide_of form) is_form.guide (automaton_of form) is_form.stable s q generated) in
+    ltb-true q (states_of form s) below
 
 -- one more generated state is marked
 pub AreGenerated-mark : (form : Form) (marks : List (List Bool)) → AreGenerated form marks → (s q : ℕ) → s < length form.spaces →
