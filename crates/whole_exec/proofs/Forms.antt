@@ -1,22 +1,16 @@
 -- Steps by the form of the next statement.
-use Rattle.std.proofs.Common.{◌≡◌, ◌+◌, ◌<◌, ◌≤◌, inl, inr, ℕ, Bool, true, false, List, [], ◌∷◌, ◌++◌, if◌then◌else◌, Some, None, Result, Ok, Err}
-use Rattle.std.proofs.Common.{Option, refl, sym, ap, ◌∙◌, subst, arith}
+use Rattle.std.proofs.Common.{◌≡◌, inl, inr, ℕ, zero, suc, Bool, List, [], ◌∷◌, Result, Ok, Err, sym, ap, ◌∙◌, subst}
 use Rattle.std.specs.List.{AllByRecursion}
-use Rattle.std.proofs.lemmas.List.{append-assoc}
 use Rattle.store_core.specs.Tables.{TypeEntry, VarEntry}
 use Rattle.store_core.specs.Stores.{StoreMap}
-use Rattle.store_logic.specs.declared.cond.Cond.{Cond}
 use Rattle.store_logic.specs.declared.assertion.Assertion.{Assertion}
 use Rattle.store_logic.specs.Fits.{AssertionFits}
 use Rattle.store_exec.specs.declared.cause.Cause.{Cause}
 use Rattle.store_exec.specs.declared.fault.Fault.{Fault}
 use Rattle.store_exec.specs.declared.triple.Cut.{Cut}
-use Rattle.store_exec.specs.Steps.{truth_of}
-use Rattle.store_exec.specs.Cuts.{AtCut}
 use Rattle.store_exec.specs.Fits.{CutFits}
-use Rattle.store_exec.specs.Restricted.{restricted}
 use Rattle.pale_types.specs.declared.typed.ProcEntry.{ProcEntry}
-use Rattle.pale_types.specs.declared.typed.Stmt.{Stmt, roll-Stmt, out-Stmt, out-roll-Stmt, roll-out-Stmt}
+use Rattle.pale_types.specs.declared.typed.Stmt.{Stmt, roll-Stmt, out-Stmt, out-roll-Stmt}
 use Rattle.pale_types.specs.declared.typed.Stmt.TheVariants as stmt
 use Rattle.pale_types.specs.declared.typed.Stmt.TheOpen.{Stmt-F}
 use Rattle.pale_types.specs.TypedPrograms.{TypedProgram}
@@ -25,7 +19,7 @@ use Rattle.hoare_split.specs.Cuts.{plain_cut}
 use Rattle.whole_run.specs.States.{Waiting, State, Turn, goes, fails}
 use Rattle.whole_run.specs.Turns.{from_truth, Arrives, TakesForm, Takes, Exits}
 use Rattle.whole_safety.proofs.Blocks.{form_fits}
-use Rattle.whole_exec.specs.Turning.{Skips, none, skip, FormFits, ArrivesAs, IsToldOf}
+use Rattle.whole_exec.specs.Turning.{after_skips, Skips, FormFits, ArrivesAs}
 
 -- ---- skips
 
@@ -38,10 +32,13 @@ module _ (program : TypedProgram) (entry : ProcEntry) (waiting : List Waiting) (
       let is : out-Stmt stmt.Skip ≡ Stmt-F.Skip = ap out-Stmt (sym stmt.rolls-Skip) ∙ out-roll-Stmt Stmt-F.Skip in
       subst (λ (y : Stmt-F Stmt). TakesForm program entry waiting s left (T left) y turn) (sym is) k
 
+  past : (n : ℕ) (left : List Stmt) (turn : Turn) → T left turn → T (after_skips n left) turn
+  past zero left turn k = k
+  past (suc n) left turn k = skipped (after_skips n left) turn (past n left turn k)
+
   -- a `skip` takes no step
   pub takes_past : (xs ys : List Stmt) (turn : Turn) → Skips xs ys → T ys turn → T xs turn
-  takes_past xs ys turn (none left) k = k
-  takes_past xs ys turn (skip left rest skips) k = skipped left turn (takes_past left rest turn skips k)
+  takes_past xs ys turn skips k = subst (λ (l : List Stmt). T l turn) (sym skips.1) (past skips.0 ys turn k)
 
   -- a form that is no `skip` needs nothing of what comes later
   later_on : (y : Stmt-F Stmt) (left : List Stmt) (Later : Turn → Type 0) (turn : Turn) → TakesForm program entry waiting s left (λ other. ⊥) y turn →
@@ -64,9 +61,12 @@ module _ (program : TypedProgram) (entry : ProcEntry) (waiting : List Waiting) (
   takes_exit xs left turn skips is k = takes_past xs left turn skips (subst (λ (l : List Stmt). T l turn) (sym is) k)
 
 -- what is left behind skips fits
+all_past : (P : Stmt → Type 0) (n : ℕ) (left : List Stmt) → AllByRecursion P (after_skips n left) → AllByRecursion P left
+all_past P zero left all = all
+all_past P (suc n) left all = all_past P n left all.1
+
 pub fits_past : (P : Stmt → Type 0) (xs ys : List Stmt) → Skips xs ys → AllByRecursion P xs → AllByRecursion P ys
-fits_past P xs ys (none left) all = all
-fits_past P xs ys (skip left rest skips) all = fits_past P left rest skips all.1
+fits_past P xs ys skips all = all_past P skips.0 ys (subst (AllByRecursion P) skips.1 all)
 
 -- and so does the form that was found
 pub form_found : (program : TypedProgram) (vars : List VarEntry) (y : Stmt-F Stmt) (xs left : List Stmt) → Skips xs (roll-Stmt y ∷ left) →

@@ -33,10 +33,14 @@ use Rattle.whole_exec.specs.Standings.{stmts_of, left_of, entry_of, state_of}
 
 -- ---- the next statement
 
+-- so many `skip` before the others
+abbrev pub after_skips : ℕ → List Stmt → List Stmt
+after_skips zero left = left
+after_skips (suc n) left = stmt.Skip ∷ after_skips n left
+
 -- the second are the first without some of the `skip` that stand before
-pub data Skips : List Stmt → List Stmt → Type 0 where
-  none : (left : List Stmt) → Skips left left
-  skip : (left rest : List Stmt) → Skips left rest → Skips (stmt.Skip ∷ left) rest
+abbrev pub Skips : List Stmt → List Stmt → Type 0
+Skips xs ys = (n : ℕ) × (xs ≡ after_skips n ys)
 
 -- how much is to be looked at
 abbrev pub weight_of : List Piece → ℕ

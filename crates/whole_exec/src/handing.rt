@@ -14,18 +14,16 @@ use plain_data::Items;
 use std::alloc::{AllocError, Global};
 use store_core::{CellId, CellList, Store, Value, VarId, VarKind, VarTable, copy_values};
 
-/// The cells among these, whose numbers rise, that are among others, whose numbers rise too.
-fn cells_on(alloc: Global, cells: &[CellId], others: &CellList) -> Result<CellList, AllocError>
-    requires { AreRising cells.now }
+/// The cells among others that are among these. The numbers of both rise.
+fn cells_on(alloc: Global, cells: &[CellId], others: &[CellId]) -> Result<CellList, AllocError>
+    requires own { AreRising cells.now }
+    requires others { AreRising others.now }
     ensures { IfOk result (λ on. on ≡ filter (λ c. has_number cells.now c.0) others.now) }
 {
     let mut on = CellList::new(alloc);
-    for place in 0..others.len() {
-        let Some(cell) = others.get(place) else {
-            unreachable!()
-        };
+    for cell in others {
         if is_member(cells, cell.0) {
-            on.push(cell)?;
+            on.push(*cell)?;
         }
     }
     Ok(on)
@@ -52,7 +50,7 @@ fn value_on(alloc: Global, cells: &[CellId], value: &Value) -> Result<Value, All
         Value::Bool(truth) => Ok(Value::Bool(*truth)),
         Value::Cell(None) => Ok(Value::Cell(None)),
         Value::Cell(Some(cell)) => Ok(Value::Cell(cell_on(cells, *cell))),
-        Value::Cells(others) => Ok(Value::Cells(cells_on(alloc, cells, others)?)),
+        Value::Cells(others) => Ok(Value::Cells(cells_on(alloc, cells, others.as_slice())?)),
     }
 }
 

@@ -1,23 +1,22 @@
 //! Logic sets restricted to the live cells.
 
 ghost use Rattle.std.specs.Prelude.{◌≡◌, IfOk, filter, is_some, length};
+ghost use Rattle.store_core.specs.CellLists.{AreRising};
 ghost use Rattle.store_core.specs.Stores.{cell_of};
 ghost use Rattle.store_exec.specs.Restricted as sets;
 
 use std::alloc::{AllocError, Global};
-use store_core::{CellList, Store, Value, VarId, VarTable};
+use store_core::{CellId, CellList, Store, Value, VarId, VarTable};
 
 /// The cells among these, whose numbers rise, that are live.
-fn live_of(alloc: Global, store: &Store, cells: &CellList) -> Result<CellList, AllocError>
+fn live_of(alloc: Global, store: &Store, cells: &[CellId]) -> Result<CellList, AllocError>
+    requires { AreRising cells.now }
     ensures { IfOk result (λ live. live ≡ filter (λ c. is_some (cell_of store.now c)) cells.now) }
 {
     let mut live = CellList::new(alloc);
-    for place in 0..cells.len() {
-        let Some(cell) = cells.get(place) else {
-            unreachable!()
-        };
-        if store.type_of(cell).is_some() {
-            live.push(cell)?;
+    for cell in cells {
+        if store.type_of(*cell).is_some() {
+            live.push(*cell)?;
         }
     }
     Ok(live)
@@ -30,7 +29,7 @@ fn live_part(alloc: Global, store: &Store, value: &Value) -> Result<Value, Alloc
     match value {
         Value::Bool(truth) => Ok(Value::Bool(*truth)),
         Value::Cell(cell) => Ok(Value::Cell(*cell)),
-        Value::Cells(cells) => Ok(Value::Cells(live_of(alloc, store, cells)?)),
+        Value::Cells(cells) => Ok(Value::Cells(live_of(alloc, store, cells.as_slice())?)),
     }
 }
 
