@@ -119,13 +119,20 @@ vars_length s [] (x ∷ xs) fit = absurd fit
 vars_length s (v ∷ vars) [] fit = absurd fit
 vars_length s (v ∷ vars) (x ∷ xs) fit = let rest = vars_length s vars xs fit.1 in omega (arith, rest)
 
+-- what lives of a value is told by the cells alone
+part_alike : (s : StoreMap) (l : List Value) (x : Value) → live_part (record s { vars = l }) x ≡ live_part s x
+part_alike s l (value.Bool truth) = refl
+part_alike s l (value.Cell c) = refl
+part_alike s l (value.Cells cells) = refl
+
 -- one variable more
 pub restricted_more : (s now after : StoreMap) (i : ℕ) (x y : Value) → now ≡ half_restricted s i → slice_get now.vars i ≡ Some x → y ≡ live_part now x →
     after ≡ record now { vars = slice_set now.vars i y } → after ≡ half_restricted s (i + 1)
-restricted_more s now after i x y is there part set =
+restricted_more s now after i x y is there part changed =
     let own : slice_get s.vars i ≡ Some x = sym (half_at (live_part s) s.vars i) ∙ ap (λ (z : StoreMap). slice_get z.vars i) (sym is) ∙ there in
-    set ∙ ap (λ (w : Value). record now { vars = slice_set now.vars i w }) part
-    ∙ ap (λ (z : StoreMap). record z { vars = slice_set z.vars i (live_part z x) }) is
+    let lives : y ≡ live_part s x = part ∙ ap (λ (z : StoreMap). live_part z x) is ∙ part_alike s (half (live_part s) i s.vars) x in
+    changed ∙ ap (λ (w : Value). record now { vars = slice_set now.vars i w }) lives
+    ∙ ap (λ (z : StoreMap). record z { vars = slice_set z.vars i (live_part s x) }) is
     ∙ ap (λ (l : List Value). record s { vars = l }) (half_more (live_part s) s.vars i x own)
 
 -- all of them
