@@ -30,4 +30,4 @@ pub use laws::triples_of_programs_that_fit_fit;
 pub use picking::{Pick, is_argument};
 pub use points::TripleList;
 pub use settings::set_picked;
-pub use splitting::split;
+pub use splitting::{caller_at, split};

@@ -40,6 +40,12 @@ ending_code items place = roll-Code (record { items = items; tail = tail.Cut pla
 abbrev pub choosing_code : ℕ → Cond → Code
 choosing_code line c = roll-Code (record { items = []; tail = tail.Branch line c (ending_code [] 0) (ending_code [] 1) })
 
+-- the code of a condition, by its parts
+pub choosing_is : (items : List Item) (line : ℕ) (b c : Cond) (yes no : Code) → items ≡ [] → b ≡ c → yes ≡ ending_code [] 0 → no ≡ ending_code [] 1 →
+    roll-Code (record { items = items; tail = tail.Branch line b yes no }) ≡ choosing_code line c
+choosing_is items line b c yes no none same one other =
+    λ i. roll-Code (record { items = none i; tail = tail.Branch line (same i) (one i) (other i) })
+
 module _ (types : List TypeEntry) (vars : List VarEntry) where
   natural-tail : (T C : Type 0) (v : T → Tail) (w : C → Code) (k : Tail → Type 0) (l : Code → Type 0) (x : Tail-F T C) →
       TailFitsNode types vars T C v w (λ p. k (v p)) (λ p. l (w p)) x ≡ TailFitsNode types vars Tail Code (λ y. y) (λ y. y) k l (map-Tail T C Tail Code v w x)

@@ -7,7 +7,7 @@ use Rattle.std.specs.Ordering.{nat_cmp, eq_by_cmp}
 use Rattle.std.specs.FinMap.Entries.{below_all}
 use Rattle.std.specs.FinMap.{entries, entries_sorted, from_sorted, from_entries, find, is_sorted, get-from_sorted, get-from_entries, get-entries}
 use Rattle.std.specs.FinMap.{same_map, nat_cmp-IsAntisymmetric}
-use Rattle.std.proofs.lemmas.Bool.{cases_eq, false≢true}
+use Rattle.std.proofs.lemmas.Bool.{cases_lt, false≢true}
 use Rattle.std.proofs.lemmas.Cmp.{nat_cmp_total}
 use Rattle.std.proofs.lemmas.List.{take_more, take_all, take-append-drop, map_push}
 use Rattle.std.proofs.lemmas.Option.{slice_get_within, get_or_from_slice_get, slice_get-map}
@@ -35,10 +35,6 @@ one e q = cond (eq_by_cmp nat_cmp q e.0) (Some e.1) None
 -- found among the first, or else among the others
 abbrev either : Option CellEntry → Option CellEntry → Option CellEntry
 either a b = cond (is_some a) a b
-
-either-none : (a : Option CellEntry) → either a None ≡ a
-either-none None = refl
-either-none (Some x) = refl
 
 either-same : (a b c : Option CellEntry) → either (either a b) c ≡ either a (either b c)
 either-same None b c = refl
@@ -204,11 +200,14 @@ module _ (s t : StoreMap) (apart : AreApart s t) where
           entry_later es (entries_sorted s.cells) i e f next.here (subst (λ (n : ℕ). slice_get es n ≡ Some f) plus is)
 
       below_other : (f : Entry) → slice_get fs j ≡ Some f → b.number < f.0
-      below_other f is = elim (cases_eq b.number f.0) [
-        | inl same ↦ absurd (apart (record { 0 = b.number }) live_here
+      below_other f is = elim (cases_lt b.number f.0) [
+        | inl less ↦ less
+        | inr more ↦
+            let low = next.before f is in
+            let same : b.number ≡ f.0 = omega (arith, low, more) in
+            absurd (apart (record { 0 = b.number }) live_here
             (subst (λ (n : ℕ). IsLive t (record { 0 = n })) (sym same)
             (live_found t f.0 (ap is_some (entry_found fs (entries_sorted t.cells) j f is)))))
-        | inr differ ↦ let low = next.before f is in omega (arith, low, differ)
       ]
 
   -- at both ends all are made

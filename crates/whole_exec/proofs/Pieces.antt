@@ -1,9 +1,9 @@
 -- The statements that are left, piece by piece.
-use Rattle.std.proofs.Common.{◌≡◌, ◌+◌, ◌<◌, ℕ, zero, suc, List, [], ◌∷◌, ◌++◌, length, sum_by, Option, Some, None, refl, sym, ap, ◌∙◌, subst, arith}
+use Rattle.std.proofs.Common.{◌≡◌, ◌+◌, ◌<◌, ℕ, zero, suc, List, [], ◌∷◌, ◌++◌, length, Option, Some, None, Bor, refl, sym, ap, ◌∙◌, arith}
+use Rattle.std.specs.Prelude.{MatchOption}
 use Rattle.std.proofs.lemmas.List.Sums.{sum_by-cons}
 use Rattle.pale_types.specs.declared.typed.Stmt.{Stmt, roll-Stmt}
 use Rattle.pale_types.specs.declared.typed.Stmt.TheVariants as stmt
-use Rattle.whole_exec.specs.declared.pieces.Loop.{Loop}
 use Rattle.whole_exec.specs.declared.pieces.Piece.{Piece}
 use Rattle.whole_exec.specs.declared.pieces.Piece.TheVariants as piece
 use Rattle.whole_exec.specs.declared.pieces.Next.{Next}
@@ -37,9 +37,36 @@ skip_one s xs ys is skips = (suc skips.0, ap (λ (t : Stmt). t ∷ xs) is ∙ ap
 pub weight_more : (p : Piece) (pieces : List Piece) → weight_of (p ∷ pieces) ≡ (length (stmts_of p) + 1) + weight_of pieces
 weight_more p pieces = sum_by-cons (λ (q : Piece). length (stmts_of q) + 1) p pieces
 
--- ---- the loops of the functions
+-- ---- what is found
 
--- a piece was taken off, nothing was found in it, and the rest was put back
-pub on_past : (start now after : List Piece) (p : Piece) → Skips (left_of start) (left_of (p ∷ now)) →
-    Skips (stmts_of p ++ left_of now) (left_of after) → Skips (left_of start) (left_of after)
-on_past start now after p before past = more_skips (left_of start) (left_of (p ∷ now)) (left_of after) before past
+-- the first of a block: it is a `skip`, or it was found
+pub first_same : (block : List Stmt) (s : Stmt) (more : Bor (List Stmt)) (old new : List Piece) (r : Option Next) → block ≡ s ∷ more.now →
+    new ≡ piece.Block more ∷ old → MatchOption r (s ≡ stmt.Skip) (λ found. s ≡ roll-Stmt (form_of found)) →
+    Skips (block ++ left_of old) (front r (left_of new))
+first_same block s more old new None parts put is =
+    (1, ap (λ (b : List Stmt). b ++ left_of old) parts ∙ ap (λ (t : Stmt). t ∷ (more.now ++ left_of old)) is
+    ∙ ap (λ (ps : List Piece). stmt.Skip ∷ left_of ps) (sym put))
+first_same block s more old new (Some found) parts put is =
+    (0, ap (λ (b : List Stmt). b ++ left_of old) parts ∙ ap (λ (t : Stmt). t ∷ (more.now ++ left_of old)) is
+    ∙ ap (λ (ps : List Piece). roll-Stmt (form_of found) ∷ left_of ps) (sym put))
+
+pub first_less : (block : List Stmt) (s : Stmt) (more : Bor (List Stmt)) (old new : List Piece) → block ≡ s ∷ more.now → new ≡ piece.Block more ∷ old →
+    weight_of new < weight_of old + (length block + 1)
+first_less block s more old new parts put =
+    let whole = ap weight_of put ∙ weight_more (piece.Block more) old in
+    let longer : length block ≡ suc (length more.now) = ap length parts in
+    omega (arith, whole, longer)
+
+-- a block with nothing in it
+pub none_same : (block : List Stmt) (old : List Piece) → block ≡ [] → Skips (block ++ left_of old) (left_of old)
+none_same block old none = (0, ap (λ (b : List Stmt). b ++ left_of old) none)
+
+-- a piece that was taken off
+pub taken_off : (start now : List Piece) (p : Piece) (pieces : List Piece) → now ≡ p ∷ pieces → Skips (left_of start) (left_of now) →
+    Skips (left_of start) (stmts_of p ++ left_of pieces)
+taken_off start now p pieces is so_far = more_skips (left_of start) (left_of now) (stmts_of p ++ left_of pieces) so_far (same_skips (left_of now)
+    (stmts_of p ++ left_of pieces) (ap left_of is))
+
+pub taken_less : (now : List Piece) (p : Piece) (pieces after : List Piece) → now ≡ p ∷ pieces →
+    weight_of after < weight_of pieces + (length (stmts_of p) + 1) → weight_of after < weight_of now
+taken_less now p pieces after is less = let whole = ap weight_of is ∙ weight_more p pieces in omega (arith, whole, less)

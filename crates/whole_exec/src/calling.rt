@@ -13,7 +13,7 @@ use crate::activation::{Activation, At, Suspended};
 use crate::arriving::set_and_arrive;
 use crate::handing::{handed_store, rest_store};
 use crate::pieces::Piece;
-use hoare_split::{Caller, Pick, call_cut, handed};
+use hoare_split::{Caller, Pick, call_cut, caller_at, handed};
 use pale_text::Pos;
 use pale_types::{CallParts, Typed, claims_with_actuals_put_in_fit};
 use plain_data::Stack;
@@ -31,15 +31,15 @@ pub(crate) fn entered<'a>(
     requires { IsSome (slice_get program.now.procs number) }
     ensures { IfOk result (λ made. IsEntered program.now number made) }
 {
-    let (Some(vars), Some(proc)) = (program.vars(number), program.proc(number)) else {
+    let Some(caller) = caller_at(program, number) else {
         unreachable!()
     };
     let mut left = Stack::new(alloc);
-    left.push(Piece::Block(proc.body.as_slice()))?;
+    left.push(Piece::Block(caller.proc.body.as_slice()))?;
     Ok(Activation {
         number,
-        vars,
-        proc,
+        vars: caller.vars,
+        proc: caller.proc,
         left,
     })
 }

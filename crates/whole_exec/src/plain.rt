@@ -29,7 +29,7 @@ pub(crate) fn run_items(
         tail: Tail::Cut(0),
     };
     match run(alloc, types, &code, store)? {
-        Outcome::End(_, after) => Ok(Ok(after)),
+        Outcome::End(_place, after) => Ok(Ok(after)),
         Outcome::Fail(cause, line) => Ok(Err(Fault { cause, line })),
     }
 }
@@ -54,13 +54,12 @@ pub(crate) fn run_act(
 fn code_to(alloc: Global, place: u32) -> Result<Boxed<Code>, AllocError>
     ensures { IfOk result (λ code. code ≡ roll-Code (record { items = []; tail = tail.Cut place })) }
 {
-    Boxed::new(
-        alloc,
-        Code {
-            items: ItemList::new(alloc),
-            tail: Tail::Cut(place),
-        },
-    )
+    let items = ItemList::new(alloc);
+    let code = Code {
+        items,
+        tail: Tail::Cut(place),
+    };
+    Boxed::new(alloc, code)
 }
 
 /// The truth of a condition, with the store, which is the same; or the fault where it can't be read. It is the code that ends at the
@@ -77,9 +76,11 @@ pub(crate) fn truth_at(
 {
     let yes = code_to(alloc, 0)?;
     let no = code_to(alloc, 1)?;
+    let items = ItemList::new(alloc);
+    let read = cond.copy(alloc)?;
     let code = Code {
-        items: ItemList::new(alloc),
-        tail: Tail::Branch(line, cond.copy(alloc)?, yes, no),
+        items,
+        tail: Tail::Branch(line, read, yes, no),
     };
     match run(alloc, types, &code, store)? {
         Outcome::End(place, after) => Ok(Ok((place == 0, after))),
