@@ -22,6 +22,7 @@ use Rattle.store_core.proofs.FreshLemmas.{AllByRecursion-from}
 use Rattle.routing_expr.proofs.KeyLemmas.{both_first, both_second, is_less}
 use Rattle.routing_expr.proofs.RegionLemmas.{live_more}
 use Rattle.whole_exec.specs.Beside.{AreApart, IsNextOf, AreAll}
+use Rattle.whole_exec.proofs.Restricting.{past_end}
 
 abbrev Entry : Type 0
 Entry = ℕ × CellEntry
@@ -81,12 +82,6 @@ entry_later [] sorted i e f is also = absurd cc
 entry_later (x ∷ es) sorted zero e f is also =
     let same : x ≡ e = cc in subst (λ (y : Entry). y.0 < f.0) same (all_above x.0 es (both_first _ _ sorted) 0 f also)
 entry_later (x ∷ es) sorted (suc i) e f is also = entry_later es (both_second _ _ sorted) i e f is also
-
--- past the end nothing is left
-past_end : (es : List Entry) (i : ℕ) → slice_get es i ≡ None → length es ≤ i
-past_end [] i is = omega arith
-past_end (x ∷ es) zero is = absurd cc
-past_end (x ∷ es) (suc i) is = let rest = past_end es i is in omega (arith, rest)
 
 some_left : (a b : Option CellEntry) → IsSome a → IsSome (either a b)
 some_left None b some = absurd (false≢true some)

@@ -19,6 +19,12 @@ use Rattle.store_exec.specs.Restricted.{live_part, restricted}
 pub item_at : {X : Type 0} (xs : List X) (i : ℕ) (x : X) → i < length xs → x ≡ get_or xs i x → slice_get xs i ≡ Some x
 item_at {X} xs i x low is = slice_get-get_or xs i x low ∙ ap (λ (y : X). Some y) (sym is)
 
+-- past the end nothing is left
+pub past_end : {X : Type 0} (xs : List X) (i : ℕ) → slice_get xs i ≡ None → length xs ≤ i
+past_end [] i is = omega arith
+past_end (x ∷ xs) zero is = absurd cc
+past_end (x ∷ xs) (suc i) is = let rest = past_end xs i is in omega (arith, rest)
+
 -- ---- cells of which some are kept
 
 module _ (p : CellId → Bool) where

@@ -25,8 +25,8 @@ returns-in-Ok c =
     (subst (RunsItems (caller.program.now).types _ c.args.store) c.in-Ok.is c.in_ok-after.ensures)
 
 -- they never fail
-pub unreachable-in-Err : goal.unreachable-in-Err
-unreachable-in-Err c =
+pub unreachable-requires : goal.unreachable-requires
+unreachable-requires c =
     let caller = c.args.caller in
     let own = settings caller.vars.now (test_of c.args.pick) c.args.line in
     let same = c.in_ok-set_picked.ensures ∙ ap (λ (l : List Item). l ++ own) c.new-items.ensures in

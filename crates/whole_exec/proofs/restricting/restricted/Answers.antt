@@ -1,12 +1,16 @@
-use Rattle.std.proofs.Common.{◌≡◌, ◌∙◌, ◌<◌, Some, None, length, slice_get, IsSomeAnd, sym, ap, subst, arith}
-use Rattle.store_core.specs.declared.value.Value.{Value}
+use Rattle.std.proofs.Common.{◌≡◌, ◌∙◌, length, IsSomeAnd, sym, ap, subst, arith}
 use Rattle.store_core.specs.Stores.{StoreMap, class_of}
-use Rattle.whole_exec.proofs.Restricting.{half_length, same_class, restricted_more, restricted_all}
+use Rattle.store_exec.specs.Restricted.{live_part}
+use Rattle.whole_exec.proofs.Restricting.{past_end, half_length, same_class, restricted_more, restricted_all}
 use Rattle.whole_exec.proofs.restricting.restricted.Goals as goal
 
 -- each variable of the table has a value
-pub unreachable-in_default : goal.unreachable-in_default
-unreachable-in_default c = ?
+pub unreachable-requires : goal.unreachable-requires
+unreachable-requires c =
+    let low = past_end (c.loop-index.after).vars c.loop-index.index (sym c.in_default.ensures) in
+    let own : length (c.loop-index.after).vars ≡ length (c.args.store).vars = ap (λ (s : StoreMap). length s.vars) c.loop-index.invariant
+    ∙ half_length (live_part c.args.store) (c.args.store).vars c.loop-index.index in
+    omega (arith, low, own, c.loop-index-test.true, c.vars-index-end.ensures.value, c.requires)
 
 pub set_var-requires : goal.set_var-requires
 set_var-requires c =
