@@ -21,7 +21,9 @@ use Rattle.store_core.proofs.Growing.{AllByRecursion-push}
 use Rattle.store_core.proofs.FreshLemmas.{AllByRecursion-from}
 use Rattle.routing_expr.proofs.KeyLemmas.{both_first, both_second, is_less}
 use Rattle.routing_expr.proofs.RegionLemmas.{live_more}
-use Rattle.whole_exec.specs.Beside.{AreApart, IsNextOf, AreAll}
+use Rattle.whole_exec.specs.declared.beside.Which.{Which}
+use Rattle.whole_exec.specs.declared.beside.Which.TheVariants as which
+use Rattle.whole_exec.specs.Beside.{AreApart, IsSmaller, IsNextOf, IsNext, AreAll}
 use Rattle.whole_exec.proofs.Restricting.{past_end}
 
 abbrev Entry : Type 0
@@ -109,6 +111,36 @@ order_push (d ∷ made) b rising below =
 all_lower : (n m : ℕ) → n < m → (made : List CellBody) → AllByRecursion (λ (d : CellBody). d.number < n) made → AllByRecursion (λ (d : CellBody). d.number < m) made
 all_lower n m less [] all = tt
 all_lower n m less (d ∷ made) all = let low = all.0 in (omega (arith, low, less), all_lower n m less made all.1)
+
+-- ---- the next cell
+
+module _ (s t : StoreMap) (i j : ℕ) where
+  -- at the end of the other store
+  pub next_alone : (b : CellBody) → Some (cell_entry b) ≡ slice_get (entries s.cells) i → b.is_live ≡ true → None ≡ slice_get (entries t.cells) j →
+      IsNextOf s t i j b
+  next_alone b there live none = record { here = sym there; live = live; before = λ e is. none_some e (none ∙ is) }
+    where
+      none_some : (e : Entry) → None ≡ Some e → b.number ≤ e.0
+      none_some e is = absurd cc
+
+  next_before : (b d : CellBody) → Some (cell_entry b) ≡ slice_get (entries s.cells) i → b.is_live ≡ true →
+      Some (cell_entry d) ≡ slice_get (entries t.cells) j → b.number ≤ d.number → IsNextOf s t i j b
+  next_before b d there live other less = record {
+    here = sym there;
+    live = live;
+    before = λ e is. subst (λ (x : Entry). b.number ≤ x.0) (same (cell_entry d) e (other ∙ is)) less;
+  }
+    where
+      same : (x y : Entry) → Some x ≡ Some y → x ≡ y
+      same x y e = cc
+
+-- the one with the smaller number of two
+pub next_smaller : (s t : StoreMap) (i j : ℕ) (b d : CellBody) (w : Which) → Some (cell_entry b) ≡ slice_get (entries s.cells) i → b.is_live ≡ true →
+    Some (cell_entry d) ≡ slice_get (entries t.cells) j → d.is_live ≡ true → IsSmaller b d w → IsNext s t i j (Some w)
+next_smaller s t i j b d (which.First x) there live other other_live is =
+    subst (IsNextOf s t i j) (sym is.0) (next_before s t i j b d there live other (let less = is.1 in omega (arith, less)))
+next_smaller s t i j b d (which.Second x) there live other other_live is =
+    subst (IsNextOf t s j i) (sym is.0) (next_before t s j i d b other other_live there is.1)
 
 -- ---- the loop
 

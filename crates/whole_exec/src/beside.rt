@@ -30,11 +30,15 @@ fn smaller<'a>(first: &'a CellBody, second: &'a CellBody) -> Which<'a>
 fn next_cell<'a>(one: &'a Store, other: &'a Store, i: usize, j: usize) -> Option<Which<'a>>
     ensures { IsNext one.now other.now i j result }
 {
-    match (one.body_at(i), other.body_at(j)) {
-        (Some(first), Some(second)) => Some(smaller(first, second)),
-        (Some(first), None) => Some(Which::First(first)),
-        (None, Some(second)) => Some(Which::Second(second)),
-        (None, None) => None,
+    match one.body_at(i) {
+        Some(first) => match other.body_at(j) {
+            Some(second) => Some(smaller(first, second)),
+            None => Some(Which::First(first)),
+        },
+        None => match other.body_at(j) {
+            Some(last) => Some(Which::Second(last)),
+            None => None,
+        },
     }
 }
 

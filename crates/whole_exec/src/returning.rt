@@ -76,7 +76,6 @@ fn value_after(
 }
 
 /// The variables of the caller after the return, in their order.
-#[tactic(auto, using(std::proofs::lemmas::List::FromFn::map_range_with_len_more))]
 fn values_after(
     alloc: Global,
     vars: &VarTable,
