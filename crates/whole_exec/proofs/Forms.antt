@@ -1,13 +1,15 @@
 -- Steps by the form of the next statement.
-use Rattle.std.proofs.Common.{◌≡◌, inl, inr, ℕ, zero, suc, Bool, List, [], ◌∷◌, Result, Ok, Err, sym, ap, ◌∙◌, subst}
+use Rattle.std.proofs.Common.{◌≡◌, inl, inr, ℕ, zero, suc, Bool, List, [], ◌∷◌, ◌++◌, Result, Ok, Err, sym, ap, ap₂, ◌∙◌, subst}
 use Rattle.std.specs.List.{AllByRecursion}
 use Rattle.store_core.specs.Tables.{TypeEntry, VarEntry}
 use Rattle.store_core.specs.Stores.{StoreMap}
 use Rattle.store_logic.specs.declared.assertion.Assertion.{Assertion}
+use Rattle.store_logic.specs.declared.cond.Cond.{Cond}
 use Rattle.store_logic.specs.Fits.{AssertionFits}
 use Rattle.store_exec.specs.declared.cause.Cause.{Cause}
 use Rattle.store_exec.specs.declared.fault.Fault.{Fault}
 use Rattle.store_exec.specs.declared.triple.Cut.{Cut}
+use Rattle.store_exec.specs.Steps.{truth_of}
 use Rattle.store_exec.specs.Fits.{CutFits}
 use Rattle.pale_types.specs.declared.typed.ProcEntry.{ProcEntry}
 use Rattle.pale_types.specs.declared.typed.Stmt.{Stmt, roll-Stmt, out-Stmt, out-roll-Stmt}
@@ -17,7 +19,7 @@ use Rattle.pale_types.specs.TypedPrograms.{TypedProgram}
 use Rattle.pale_types.specs.Fitting.{StatementFits}
 use Rattle.hoare_split.specs.Cuts.{plain_cut}
 use Rattle.whole_run.specs.States.{Waiting, State, Turn, goes, fails}
-use Rattle.whole_run.specs.Turns.{from_truth, Arrives, TakesForm, Takes, Exits}
+use Rattle.whole_run.specs.Turns.{from_truth, on_with, Arrives, TakesForm, Takes, Exits}
 use Rattle.whole_safety.proofs.Blocks.{form_fits}
 use Rattle.whole_exec.specs.Turning.{after_skips, Skips, FormFits, ArrivesAs}
 
@@ -84,6 +86,14 @@ told_turn line next r truth is = ap (from_truth line next) (sym is)
 pub untold_turn : (line : ℕ) (next : Bool → State) (r : Result Bool Cause) (fault : Fault) → r ≡ Err fault.cause → fault.line ≡ line →
     fails fault.cause fault.line ≡ from_truth line next r
 untold_turn line next r fault is at_line = ap (λ (n : ℕ). fails fault.cause n) at_line ∙ ap (from_truth line next) (sym is)
+
+-- on with the statements that the truth of a condition chooses
+pub chosen_turn : (entry : ProcEntry) (waiting : List Waiting) (line : ℕ) (s after : StoreMap) (c : Cond) (truth : Bool) (stmts : Bool → List Stmt)
+    (left new : List Stmt) → truth_of s c ≡ Ok truth → after ≡ s → new ≡ stmts truth ++ left →
+    goes (on_with entry waiting new after) ≡ from_truth line (λ t. on_with entry waiting (stmts t ++ left) s) (truth_of s c)
+chosen_turn entry waiting line s after c truth stmts left new told same put =
+    ap₂ (λ (l : List Stmt) (z : StoreMap). goes (on_with entry waiting l z)) put same
+    ∙ told_turn line (λ t. on_with entry waiting (stmts t ++ left) s) (truth_of s c) truth told
 
 -- ---- cuts
 
