@@ -1,5 +1,5 @@
 -- Steps by the form of the next statement.
-use Rattle.std.proofs.Common.{◌≡◌, inl, inr, ℕ, zero, suc, Bool, List, [], ◌∷◌, ◌++◌, Result, Ok, Err, sym, ap, ap₂, ◌∙◌, subst}
+use Rattle.std.proofs.Common.{◌≡◌, inl, inr, ℕ, zero, suc, Bool, List, [], ◌∷◌, ◌++◌, Result, Ok, Err, IfOk, sym, ap, ap₂, ◌∙◌, subst}
 use Rattle.std.specs.List.{AllByRecursion}
 use Rattle.store_core.specs.Tables.{TypeEntry, VarEntry}
 use Rattle.store_core.specs.Stores.{StoreMap}
@@ -21,7 +21,11 @@ use Rattle.hoare_split.specs.Cuts.{plain_cut}
 use Rattle.whole_run.specs.States.{Waiting, State, Turn, goes, fails}
 use Rattle.whole_run.specs.Turns.{from_truth, on_with, Arrives, TakesForm, Takes, Exits}
 use Rattle.whole_safety.proofs.Blocks.{form_fits}
-use Rattle.whole_exec.specs.Turning.{after_skips, Skips, FormFits, ArrivesAs}
+use Rattle.whole_exec.specs.declared.activation.Activation.{Activation}
+use Rattle.whole_exec.specs.declared.activation.At.{At}
+use Rattle.whole_exec.specs.declared.pieces.Next.{Next}
+use Rattle.whole_exec.specs.Standings.{form_of}
+use Rattle.whole_exec.specs.Turning.{after_skips, Skips, FormFits, ArrivesAs, GoesAs, turn_of}
 
 -- ---- skips
 
@@ -109,3 +113,17 @@ module _ (types : List TypeEntry) (vars : List VarEntry) (s : StoreMap) (cut : C
   -- or a cause ends the run
   pub arrived_fault : (fault : Fault) → ArrivesAs types vars cut s (Err fault) → Arrives types vars s cut Next (fails fault.cause fault.line)
   arrived_fault fault at_cut = inr (fault.cause, at_cut.0, ap (λ (n : ℕ). fails fault.cause n) at_cut.1)
+
+-- ---- what was found
+
+-- what is said of each thing that comes out
+pub on_ok : {X E : Type 0} {P Q : X → Type 0} → ((x : X) → P x → Q x) → (r : Result X E) → IfOk r P → IfOk r Q
+on_ok each (Ok x) h = each x h
+on_ok each (Err e) h = tt
+
+-- a form that leads so whatever calls wait
+pub by_form : {E : Type 0} (program : TypedProgram) (a : Activation) (s : StoreMap) (found n : Next) (waiting : List Waiting) (r : Result (Result At Fault) E) →
+    found ≡ n → IfOk r (λ end. (w : List Waiting) → GoesAs program a s (form_of n) w (turn_of w end)) →
+    IfOk r (λ end. GoesAs program a s (form_of found) waiting (turn_of waiting end))
+by_form program a s found n waiting r is h = subst (λ (x : Next). IfOk r (λ end. GoesAs program a s (form_of x) waiting (turn_of waiting end))) (sym is)
+    (on_ok (λ end each. each waiting) r h)

@@ -34,6 +34,22 @@ ends_on program n (runs f waiting) turn answer leads ends = (turn, leads, ends)
 ends_on program n (exited t []) turn answer leads ends = absurd leads
 ends_on program n (exited t (w ∷ waiting)) turn answer leads ends = (turn, leads, ends)
 
+-- where the run stands in the loop, with so many steps done
+abbrev pub Stage : TypedProgram → ℕ → StoreMap → ℕ → State → ℕ → Type 0
+Stage program number s steps now did = (left : ℕ) × (left + did ≡ steps) × IsGoing program number s steps now left
+
+-- while steps are to be done one is left
+pub one_left : {P : Type 0} (program : TypedProgram) (number : ℕ) (s : StoreMap) (steps : ℕ) (now : State) (did : ℕ) → Stage program number s steps now did →
+    did < steps → ((left : ℕ) → left + (did + 1) ≡ steps → IsGoing program number s steps now (suc left) → P) → P
+one_left program number s steps now did (zero, is, going) less k = absurd (omega (arith, is, less))
+one_left program number s steps now did (suc left, is, going) less k = k left (omega (arith, is)) going
+
+-- and then none is
+pub done : (program : TypedProgram) (number : ℕ) (s : StoreMap) (steps : ℕ) (now : State) (did : ℕ) → Stage program number s steps now did → steps ≤ did →
+    (answer : Answer) → Ends program 0 now answer → WholeRun program number s steps answer
+done program number s steps now did (zero, is, going) all answer ends = going.answers answer ends
+done program number s steps now did (suc left, is, going) all answer ends = absurd (omega (arith, is, all))
+
 module _ (law : Laws) (program : TypedProgram) (fits : ProgramFits program) where
   pub turns_on : (now : State) (turn : Turn) → Holds program now → LeadsTo program now turn → OnTurn program (next_of now + 1) turn
   turns_on (runs f waiting) turn holds leads = takes_on law program fits f.entry waiting f.left f.store turn holds leads

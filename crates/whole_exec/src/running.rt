@@ -16,7 +16,6 @@ use pale_types::{Typed, claims_with_actuals_put_in_fit};
 use plain_data::Stack;
 use std::alloc::{AllocError, Global};
 use store_core::Store;
-use store_exec::cuts_leave_well_formed_stores;
 use whole_frames::{handed_stores_meet_the_entry, returned_stores_are_well_formed};
 
 /// The answer of a run that has no step left.
@@ -51,7 +50,6 @@ pub fn run_procedure(
     ensures { IfOk result (λ answer. WholeRun program.now number store steps (answer_of answer)) }
 {
     claims_with_actuals_put_in_fit();
-    cuts_leave_well_formed_stores();
     handed_stores_meet_the_entry();
     returned_stores_are_well_formed();
     let mut at = At::Running(entered(alloc, program, number)?, store);
