@@ -1,9 +1,9 @@
 -- Items, acts and conditions as codes.
-use Rattle.std.proofs.Common.{◌≡◌, ◌+◌, ◌<◌, ◌==◌, inl, inr, ℕ, zero, suc, Bool, true, false, List, [], ◌∷◌, Result, Ok, Err, refl, sym, ap, ◌∙◌, subst, arith}
+use Rattle.std.proofs.Common.{◌≡◌, ◌+◌, ◌==◌, inl, inr, ℕ, Bool, true, false, List, [], ◌∷◌, Result, Ok, Err, refl, sym, ap, ◌∙◌, subst, arith}
 use mathlib.Core.Path.{transport}
 use Rattle.std.proofs.lemmas.List.Sums.{sum_by-cons}
 use Rattle.store_core.specs.Tables.{TypeEntry, VarEntry}
-use Rattle.store_core.specs.Stores.{StoreMap, Fits, IsFresh}
+use Rattle.store_core.specs.Stores.{StoreMap}
 use Rattle.store_logic.specs.declared.act.Act.{Act}
 use Rattle.store_logic.specs.declared.cond.Cond.{Cond}
 use Rattle.store_logic.specs.FitsCode.{ActFits, CondFits}
@@ -13,14 +13,14 @@ use Rattle.store_exec.specs.declared.outcome.Outcome.{Outcome}
 use Rattle.store_exec.specs.declared.outcome.Outcome.TheVariants as outcome
 use Rattle.store_exec.specs.declared.code.Item.{Item}
 use Rattle.store_exec.specs.declared.code.Item.TheVariants as item
-use Rattle.store_exec.specs.declared.code.Code.{Code, roll-Code, out-Code, out-roll-Code}
+use Rattle.store_exec.specs.declared.code.Code.{Code, roll-Code, out-roll-Code}
 use Rattle.store_exec.specs.declared.code.Tail.{Tail}
 use Rattle.store_exec.specs.declared.code.Tail.TheVariants as tail
 use Rattle.store_exec.specs.declared.code.Tail.TheOpen.{Tail-F, Code-F}
 use Rattle.store_exec.specs.declared.code.Tail.TheFolds.{rec-roll-Tail, rec-roll-Code, fold-roll-Tail, fold-roll-Code, map-Tail, map-Code}
 use Rattle.store_exec.specs.Steps.{truth_of}
 use Rattle.store_exec.specs.Runs.{Ending, Does, RunsItems, Follows, Branches, RunsCode}
-use Rattle.store_exec.specs.Fits.{ItemsFit, TailFitsNode, CodeFitsNode, CodeFits, news_of_act, news_of_item, news_of, news_of_tail, news_of_code, CanRunCode}
+use Rattle.store_exec.specs.Fits.{ItemsFit, TailFitsNode, CodeFitsNode, CodeFits, news_of_item, news_of, news_of_tail, news_of_code, CanRunCode}
 use Rattle.store_exec.specs.Going.{CanRun}
 use Rattle.store_exec.proofs.CanRunLemmas.{TailFits, news_behind}
 use Rattle.store_exec.proofs.CodeLemmas.{code-cut, code-branch}
@@ -29,7 +29,7 @@ use Rattle.store_exec.proofs.GoingLemmas.{news-Do}
 use Rattle.hoare_split.proofs.FittingCodeLemmas.{Do-fits}
 use Rattle.pale_types.specs.declared.typed.ProcEntry.{ProcEntry}
 use Rattle.pale_types.specs.TypedPrograms.{TypedProgram}
-use Rattle.whole_exec.specs.Turning.{IsReady, CanRead, IsToldOf}
+use Rattle.whole_exec.specs.Turning.{IsReady, CanRead}
 use Rattle.whole_exec.proofs.Steps.{one_new}
 
 -- ---- codes that fit

@@ -1,5 +1,5 @@
 -- Whole runs, step by step.
-use Rattle.std.proofs.Common.{◌≡◌, ◌+◌, ◌<◌, ◌≤◌, ℕ, zero, suc, List, [], ◌∷◌, Some, slice_get, refl, sym, ap, ◌∙◌, subst, arith}
+use Rattle.std.proofs.Common.{◌≡◌, ◌+◌, ◌<◌, ◌≤◌, ℕ, zero, suc, List, [], ◌∷◌, Some, sym, ◌∙◌, subst, arith}
 use Rattle.std.specs.List.{AllByRecursion}
 use Rattle.store_core.specs.Stores.{StoreMap, Fits}
 use Rattle.pale_types.specs.declared.typed.ProcEntry.{ProcEntry}
@@ -7,14 +7,14 @@ use Rattle.pale_types.specs.declared.typed.Stmt.{Stmt}
 use Rattle.pale_types.specs.TypedPrograms.{TypedProgram}
 use Rattle.pale_types.specs.Fitting.{ProcFits, StatementFits, ProgramFits}
 use Rattle.hoare_split.proofs.FittingVariableLemmas.{all-at}
-use Rattle.whole_run.specs.States.{Waiting, State, runs, exited, Turn, goes, fails, Answer}
+use Rattle.whole_run.specs.States.{State, runs, exited, Turn, goes, Answer}
 use Rattle.whole_run.specs.Runs.{EndsBy, Ends, WholeRun}
 use Rattle.whole_exec.specs.declared.activation.Activation.{Activation}
 use Rattle.whole_exec.specs.Starting.{CanStart}
-use Rattle.whole_exec.specs.Standings.{left_of, entry_of, frame_of}
+use Rattle.whole_exec.specs.Standings.{entry_of, frame_of}
 use Rattle.whole_exec.specs.Turning.{IsEntered, LeadsTo}
 use Rattle.whole_exec.proofs.Laws.{Laws}
-use Rattle.whole_exec.proofs.Standing.{IsRunning, Holds, next_of, OnTurn}
+use Rattle.whole_exec.proofs.Standing.{Holds, next_of, OnTurn}
 use Rattle.whole_exec.proofs.Steps.{takes_on}
 use Rattle.whole_exec.proofs.Returning.{returns_on}
 

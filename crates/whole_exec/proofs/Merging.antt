@@ -1,5 +1,5 @@
 -- The live cells of two stores, by rising number.
-use Rattle.std.proofs.Common.{◌≡◌, ◌⊎◌, ◌+◌, ◌<◌, ◌≤◌, inl, inr, ℕ, zero, suc, Bool, true, false, cond, T, List, [], ◌∷◌, ◌++◌, length, take, drop}
+use Rattle.std.proofs.Common.{◌≡◌, ◌⊎◌, ◌+◌, ◌<◌, ◌≤◌, inl, inr, ℕ, zero, suc, Bool, true, false, cond, T, List, [], ◌∷◌, ◌++◌, take, drop}
 use Rattle.std.proofs.Common.{slice_get, Option, Some, None, IsSome, is_some, refl, sym, ap, ap₂, ◌∙◌, subst, arith}
 use Rattle.std.specs.List.{AllByRecursion}
 use Rattle.std.specs.Prelude.{option_map}
@@ -11,7 +11,6 @@ use Rattle.std.proofs.lemmas.Bool.{cases_lt, false≢true}
 use Rattle.std.proofs.lemmas.Cmp.{nat_cmp_total}
 use Rattle.std.proofs.lemmas.List.{take_more, take_all, take-append-drop, map_push}
 use Rattle.std.proofs.lemmas.Option.{slice_get_within, get_or_from_slice_get, slice_get-map}
-use Rattle.store_core.specs.declared.ids.CellId.{CellId}
 use Rattle.store_core.specs.declared.store.CellBody.{CellBody}
 use Rattle.store_core.specs.Stores.{StoreMap, CellEntry, IsLive, IsAbove}
 use Rattle.store_core.specs.StoreBodies.{cell_entry, cells_of, AreInOrder, AreLive, IsKept}

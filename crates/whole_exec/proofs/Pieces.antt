@@ -43,12 +43,16 @@ weight_more p pieces = sum_by-cons (λ (q : Piece). length (stmts_of q) + 1) p p
 pub first_same : (block : List Stmt) (s : Stmt) (more : Bor (List Stmt)) (old new : List Piece) (r : Option Next) → block ≡ s ∷ more.now →
     new ≡ piece.Block more ∷ old → MatchOption r (s ≡ stmt.Skip) (λ found. s ≡ roll-Stmt (form_of found)) →
     Skips (block ++ left_of old) (front r (left_of new))
-first_same block s more old new None parts put is =
-    (1, ap (λ (b : List Stmt). b ++ left_of old) parts ∙ ap (λ (t : Stmt). t ∷ (more.now ++ left_of old)) is
-    ∙ ap (λ (ps : List Piece). stmt.Skip ∷ left_of ps) (sym put))
-first_same block s more old new (Some found) parts put is =
-    (0, ap (λ (b : List Stmt). b ++ left_of old) parts ∙ ap (λ (t : Stmt). t ∷ (more.now ++ left_of old)) is
-    ∙ ap (λ (ps : List Piece). roll-Stmt (form_of found) ∷ left_of ps) (sym put))
+first_same block s more old new None parts put is = (
+  1,
+  ap (λ (b : List Stmt). b ++ left_of old) parts ∙ ap (λ (t : Stmt). t ∷ (more.now ++ left_of old)) is
+      ∙ ap (λ (ps : List Piece). stmt.Skip ∷ left_of ps) (sym put),
+)
+first_same block s more old new (Some found) parts put is = (
+  0,
+  ap (λ (b : List Stmt). b ++ left_of old) parts ∙ ap (λ (t : Stmt). t ∷ (more.now ++ left_of old)) is
+      ∙ ap (λ (ps : List Piece). roll-Stmt (form_of found) ∷ left_of ps) (sym put),
+)
 
 pub first_less : (block : List Stmt) (s : Stmt) (more : Bor (List Stmt)) (old new : List Piece) → block ≡ s ∷ more.now → new ≡ piece.Block more ∷ old →
     weight_of new < weight_of old + (length block + 1)

@@ -1,5 +1,5 @@
 -- Where a whole run may stand: the procedures that run or wait fit, and so do their stores, which came of the calls that wait.
-use Rattle.std.proofs.Common.{◌≡◌, ◌+◌, ◌≤◌, ℕ, List, [], ◌∷◌, Some, None, slice_get}
+use Rattle.std.proofs.Common.{◌≡◌, ◌≤◌, ℕ, List, [], ◌∷◌, Some, None, slice_get}
 use Rattle.std.specs.List.{AllByRecursion}
 use Rattle.store_core.specs.declared.ids.CellId.{CellId}
 use Rattle.store_core.specs.Tables.{TypeEntry}

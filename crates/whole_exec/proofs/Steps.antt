@@ -1,5 +1,5 @@
 -- Each step of a whole run keeps it standing.
-use Rattle.std.proofs.Common.{◌≡◌, ◌+◌, ◌≤◌, inl, inr, ℕ, Bool, true, false, List, [], ◌∷◌, ◌++◌, map, Some, None, Result, Ok, Err, slice_get}
+use Rattle.std.proofs.Common.{◌≡◌, ◌+◌, ◌≤◌, inl, inr, ℕ, Bool, true, false, List, [], ◌∷◌, ◌++◌, map, None, Result, Ok, Err}
 use Rattle.std.proofs.Common.{Option, IsSome, IsSomeAnd, is_some, if◌then◌else◌, refl, sym, ap, ◌∙◌, subst, arith}
 use Rattle.std.specs.Ordering.{nat_cmp}
 use Rattle.std.specs.FinMap.{FinMap, get}
@@ -47,8 +47,8 @@ use Rattle.hoare_split.specs.Settings.{setting, settings}
 use Rattle.hoare_split.specs.Cuts.{plain_cut, call_cut}
 use Rattle.hoare_split.specs.Starts.{entry_start}
 use Rattle.hoare_split.proofs.FittingVariableLemmas.{all-at, left-program, settings-fit}
-use Rattle.hoare_split.proofs.FittingClaimLemmas.{PutsFit, call-settings}
-use Rattle.whole_run.specs.States.{Waiting, State, runs, exited, Turn, goes, fails}
+use Rattle.hoare_split.proofs.FittingClaimLemmas.{call-settings}
+use Rattle.whole_run.specs.States.{Waiting, exited, Turn, goes, fails}
 use Rattle.whole_run.specs.Handing.{handed_store, rest_store}
 use Rattle.whole_run.specs.Turns.{from_ending, from_truth, on_with, Arrives, AfterSettings, Begins, TakesForm, Exits, Takes, behind_cut}
 use Rattle.whole_frames.specs.Leaving.{CameOf}
@@ -57,7 +57,7 @@ use Rattle.whole_safety.proofs.Settings.{AreSet, set_all}
 use Rattle.whole_safety.proofs.Blocks.{form_fits, behind_fits}
 use Rattle.whole_exec.proofs.Laws.{Laws}
 use Rattle.whole_exec.proofs.Settings.{news_none}
-use Rattle.whole_exec.proofs.Standing.{IsFitting, IsCalled, Stands, stands_move, IsRunning, IsDone, Holds, next_of, OnTurn}
+use Rattle.whole_exec.proofs.Standing.{IsCalled, Stands, stands_move, IsRunning, OnTurn}
 
 -- an act makes one cell at most
 few_news : (x : Rhs) → news_of_rhs x ≤ 1

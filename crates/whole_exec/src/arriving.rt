@@ -37,15 +37,15 @@ pub(crate) fn arrive(
 }
 
 /// The picked variables are set to null or false, which never fails.
-fn set(
+fn set_blank(
     alloc: Global,
     caller: Caller<'_>,
     pick: Pick<'_>,
     line: u32,
     store: Store,
 ) -> Result<Store, AllocError>
-    requires { CanSet caller.program.now caller.vars.now (settings caller.vars.now (test_of pick.entry) line) store }
-    ensures { IfOk result (λ after. RunsItems caller.program.now.types (settings caller.vars.now (test_of pick.entry) line) store (Ok after)) }
+    requires { CanSet caller.program.now caller.vars.now (settings caller.vars.now (test_of pick) line) store }
+    ensures { IfOk result (λ after. RunsItems caller.entry.program.now.types (settings caller.entry.vars.now (test_of pick.entry) line) store (Ok after)) }
 {
     let mut items = ItemList::new(alloc);
     set_picked(alloc, caller.vars, pick, line, &mut items)?;
@@ -63,10 +63,10 @@ pub(crate) fn set_and_arrive(
     cut: &Cut,
     store: Store,
 ) -> Result<Result<Store, Fault>, AllocError>
-    requires set { CanSet caller.program.now caller.vars.now (settings caller.vars.now (test_of pick.entry) cut.now.line) store }
+    requires set { CanSet caller.program.now caller.vars.now (settings caller.vars.now (test_of pick) cut.now.line) store }
     requires cut { CutFits caller.program.now.types caller.vars.now cut.now }
-    ensures { IfOk result (SetsAs caller.program.now.types caller.vars.now (settings caller.vars.now (test_of pick.entry) cut.now.line) cut.now store) }
+    ensures { IfOk result (SetsAs caller.entry.program.now.types caller.entry.vars.now (settings caller.entry.vars.now (test_of pick.entry) cut.now.line) cut.now store) }
 {
-    let after = set(alloc, caller, pick, cut.line, store)?;
+    let after = set_blank(alloc, caller, pick, cut.line, store)?;
     arrive(alloc, caller.program.types(), caller.vars, cut, after)
 }

@@ -56,7 +56,7 @@ fn begin_on<'a>(
 ) -> Result<At<'a>, AllocError>
     requires callee { IsSome (slice_get program.now.procs call.now.callee) }
     requires part { IsPart program.now.types activation.vars.now store (handed_by activation.vars.now call.now.args) cells.now }
-    ensures { IfOk result (λ after. Begins program.now call.now (frame_of activation store) (all_waiting waiting.old)
+    ensures { IfOk result (λ after. Begins program.now call.now (frame_of activation.entry store) (all_waiting waiting.old)
         (turn_of (all_waiting waiting.new) (Ok after))) }
 {
     let callee = entered(alloc, program, call.callee)?;
@@ -80,7 +80,7 @@ fn begin<'a>(
     waiting: &mut Stack<Suspended<'a>>,
 ) -> Result<At<'a>, AllocError>
     requires callee { IsSome (slice_get program.now.procs call.now.callee) }
-    ensures { IfOk result (λ after. Begins program.now call.now (frame_of activation store) (all_waiting waiting.old)
+    ensures { IfOk result (λ after. Begins program.now call.now (frame_of activation.entry store) (all_waiting waiting.old)
         (turn_of (all_waiting waiting.new) (Ok after))) }
 {
     let roots = handed(alloc, activation.vars, call.args.as_slice())?;
@@ -115,7 +115,7 @@ pub(crate) fn take_call<'a>(
     requires program { ProgramFits program.now }
     requires ready { IsReady program.now (entry_of activation) store }
     requires call { CallFits program.now.types program.now.procs activation.vars.now call.now }
-    ensures { IfOk result (λ end. GoesAs program.now activation store (Stmt-F.Call place call.now) (all_waiting waiting.old)
+    ensures { IfOk result (λ end. GoesAs program.now activation.entry store (Stmt-F.Call place call.now) (all_waiting waiting.old)
         (turn_of (all_waiting waiting.new) end)) }
 {
     claims_with_actuals_put_in_fit();
@@ -128,9 +128,7 @@ pub(crate) fn take_call<'a>(
     let cut = call_cut(alloc, &caller, place.line, call)?;
     let arrived = set_and_arrive(alloc, caller, Pick::Awaited(call), &cut, store)?;
     match arrived {
-        Ok(after) => Ok(Ok(begin(
-            alloc, program, activation, after, call, waiting,
-        )?)),
+        Ok(after) => Ok(Ok(begin(alloc, program, activation, after, call, waiting)?)),
         Err(fault) => Ok(Err(fault)),
     }
 }

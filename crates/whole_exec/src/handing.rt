@@ -3,8 +3,8 @@
 ghost use Rattle.std.specs.Prelude.{◌≡◌, ◌++◌, IfOk, OnOk, map, filter};
 ghost use Rattle.store_core.specs.CellLists.{AreRising};
 ghost use Rattle.routing_expr.specs.Regions.{has_number};
-ghost use Rattle.routing_laws.specs.Pieces as pieces;
-ghost use Rattle.whole_run.specs.Handing as handing;
+ghost use Rattle.routing_laws.specs.Pieces as regions;
+ghost use Rattle.whole_run.specs.Handing as calls;
 ghost use Rattle.store_exec.specs.Steps as steps;
 
 use crate::cells::{is_member, store_of};
@@ -32,7 +32,7 @@ fn cells_on(alloc: Global, cells: &[CellId], others: &[CellId]) -> Result<CellLi
 /// The cell where it is among these.
 fn cell_on(cells: &[CellId], cell: CellId) -> Option<CellId>
     requires { AreRising cells.now }
-    ensures { result ≡ pieces.cell_on cells.now cell }
+    ensures { result ≡ regions.cell_on cells.now cell }
 {
     if is_member(cells, cell.0) {
         Some(cell)
@@ -44,7 +44,7 @@ fn cell_on(cells: &[CellId], cell: CellId) -> Option<CellId>
 /// The value with null for a cell outside these, and a logic set without its cells outside.
 fn value_on(alloc: Global, cells: &[CellId], value: &Value) -> Result<Value, AllocError>
     requires { AreRising cells.now }
-    ensures { IfOk result (λ on. on ≡ pieces.value_on cells.now value.now) }
+    ensures { IfOk result (λ on. on ≡ regions.value_on cells.now value.now) }
 {
     match value {
         Value::Bool(truth) => Ok(Value::Bool(*truth)),
@@ -62,7 +62,7 @@ fn variable_on(
     var: VarId,
 ) -> Result<Value, AllocError>
     requires { AreRising cells.now }
-    ensures { IfOk result (λ value. value ≡ pieces.value_on cells.now (steps.variable store.now var)) }
+    ensures { IfOk result (λ value. value ≡ regions.value_on cells.now (steps.variable store.now var)) }
 {
     match store.var(var) {
         Some(value) => value_on(alloc, cells, value),
@@ -78,7 +78,7 @@ fn handed_value(
     actual: Actual,
 ) -> Result<Value, AllocError>
     requires { AreRising cells.now }
-    ensures { IfOk result (λ value. value ≡ handing.handed_value store.now cells.now actual) }
+    ensures { IfOk result (λ value. value ≡ calls.handed_value store.now cells.now actual) }
 {
     match actual {
         Actual::Var(var) => variable_on(alloc, store, cells, var),
@@ -96,7 +96,7 @@ fn push_handed(
     values: &mut Items<Value>,
 ) -> Result<(), AllocError>
     requires { AreRising cells.now }
-    ensures { OnOk result (values.new ≡ values.old ++ map (handing.handed_value store.now cells.now) actuals.now) }
+    ensures { OnOk result (values.new ≡ values.old ++ map (calls.handed_value store.now cells.now) actuals.now) }
 {
     for actual in actuals {
         values.push(handed_value(alloc, store, cells, *actual)?)?;
@@ -106,7 +106,7 @@ fn push_handed(
 
 /// Null, false or the empty set, as what the variable holds; an unknown one is null.
 fn blank_at(alloc: Global, vars: &VarTable, var: VarId) -> Value
-    ensures { result ≡ handing.blank_at vars.now var }
+    ensures { result ≡ calls.blank_at vars.now var }
 {
     match vars.kind(var) {
         Some(VarKind::Bool | VarKind::LogicBool) => Value::Bool(false),
@@ -122,7 +122,7 @@ fn push_blank(
     listed: &[VarId],
     values: &mut Items<Value>,
 ) -> Result<(), AllocError>
-    ensures { OnOk result (values.new ≡ values.old ++ map (handing.blank_at vars.now) listed.now) }
+    ensures { OnOk result (values.new ≡ values.old ++ map (calls.blank_at vars.now) listed.now) }
 {
     for var in listed {
         values.push(blank_at(alloc, vars, *var))?;
@@ -140,7 +140,7 @@ fn handed_vars(
     cells: &[CellId],
 ) -> Result<Items<Value>, AllocError>
     requires { AreRising cells.now }
-    ensures { IfOk result (λ values. values ≡ handing.handed_vars (record { vars = vars.now; proc = callee.now }) call.now store.now cells.now) }
+    ensures { IfOk result (λ values. values ≡ calls.handed_vars (record { vars = vars.now; proc = callee.now }) call.now store.now cells.now) }
 {
     let mut values = Items::new(alloc);
     push_handed(alloc, store, cells, call.args.as_slice(), &mut values)?;
@@ -160,7 +160,7 @@ pub(crate) fn handed_store(
     cells: &[CellId],
 ) -> Result<Store, AllocError>
     requires { AreRising cells.now }
-    ensures { IfOk result (λ made. made ≡ handing.handed_store (record { vars = vars.now; proc = callee.now }) call.now store.now cells.now) }
+    ensures { IfOk result (λ made. made ≡ calls.handed_store (record { vars = vars.now; proc = callee.now }) call.now store.now cells.now) }
 {
     let values = handed_vars(alloc, vars, callee, call, store, cells)?;
     store_of(alloc, store, cells, true, values)
@@ -173,7 +173,7 @@ pub(crate) fn rest_store(
     cells: &[CellId],
 ) -> Result<Store, AllocError>
     requires { AreRising cells.now }
-    ensures { IfOk result (λ rest. rest ≡ handing.rest_store store.now cells.now) }
+    ensures { IfOk result (λ rest. rest ≡ calls.rest_store store.now cells.now) }
 {
     let values = copy_values(alloc, store.values())?;
     store_of(alloc, store, cells, false, values)

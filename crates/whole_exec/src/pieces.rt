@@ -88,8 +88,8 @@ fn next_of<'a>(
     piece: Piece<'a>,
     left: &mut Stack<Piece<'a>>,
 ) -> Result<Option<Next<'a>>, AllocError>
-    ensures same { IfOk result (λ found. Skips (stmts_of piece ++ left_of left.old) (front found (left_of left.new))) }
-    ensures less { IfOk result (λ found. weight_of left.new < weight_of left.old + (length (stmts_of piece) + 1)) }
+    ensures same { IfOk result (λ found. Skips (stmts_of piece.entry ++ left_of left.old) (front found (left_of left.new))) }
+    ensures less { IfOk result (λ found. weight_of left.new < weight_of left.old + (length (stmts_of piece.entry) + 1)) }
 {
     match piece {
         Piece::Block(block) => first_of(block, left),

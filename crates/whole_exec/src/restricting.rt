@@ -34,11 +34,7 @@ fn live_part(alloc: Global, store: &Store, value: &Value) -> Result<Value, Alloc
 }
 
 /// The store with its logic sets restricted to the live cells. It has a value for each variable of the table.
-pub(crate) fn restricted(
-    alloc: Global,
-    vars: &VarTable,
-    store: Store,
-) -> Result<Store, AllocError>
+pub(crate) fn restricted(alloc: Global, vars: &VarTable, store: Store) -> Result<Store, AllocError>
     requires { length store.vars ≡ length vars.now }
     ensures { IfOk result (λ after. after ≡ sets.restricted store) }
 {

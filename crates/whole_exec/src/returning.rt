@@ -1,10 +1,10 @@
 //! A return: the callee's cells stand beside the rest, and the caller goes on.
 
-ghost use Rattle.std.specs.Prelude.{◌≡◌, ◌==◌, ◌≤◌, length, map, option_map, IfOk};
+ghost use Rattle.std.specs.Prelude.{◌≡◌, ◌==◌, ◌≤◌, List, option_map, IfOk};
 ghost use Rattle.std.specs.List.{find, zip};
 ghost use Rattle.hoare_split.specs.Picking.{class_at, is_spent};
 ghost use Rattle.store_exec.specs.Steps as steps;
-ghost use Rattle.whole_run.specs.Handing as handing;
+ghost use Rattle.whole_run.specs.Handing as calls;
 ghost use Rattle.whole_run.specs.States.{Waiting, goes};
 ghost use Rattle.whole_run.specs.Turns.{Returns};
 ghost use Rattle.whole_exec.specs.Beside.{AreApart};
@@ -61,7 +61,7 @@ fn value_after(
     exited: &Store,
     var: VarId,
 ) -> Result<Value, AllocError>
-    ensures { IfOk result (λ value. value ≡ handing.value_after vars.now call.now results.now rest.now exited.now var) }
+    ensures { IfOk result (λ value. value ≡ calls.value_after vars.now call.now results.now rest.now exited.now var) }
 {
     match result_for(call.results.as_slice(), results, var) {
         Some(theirs) => copied(alloc, exited, theirs),
@@ -84,19 +84,11 @@ fn values_after(
     rest: &Store,
     exited: &Store,
 ) -> Result<Items<Value>, AllocError>
-    ensures { IfOk result (λ values. values ≡ (handing.beside_rest vars.now call.now results.now rest.now exited.now).vars) }
+    ensures { IfOk result (λ values. values ≡ (calls.beside_rest vars.now call.now results.now rest.now exited.now).vars) }
 {
     let mut values = Items::new(alloc);
     for index in 0..vars.vars() {
-        values.push(value_after(
-            alloc,
-            vars,
-            call,
-            results,
-            rest,
-            exited,
-            VarId(index),
-        )?)?;
+        values.push(value_after(alloc, vars, call, results, rest, exited, VarId(index))?)?;
     }
     Ok(values)
 }
@@ -112,7 +104,7 @@ fn returned_store(
 ) -> Result<Store, AllocError>
     requires apart { AreApart exited.now rest.now }
     requires later { rest.now.next ≤ exited.now.next }
-    ensures { IfOk result (λ after. after ≡ handing.returned_store vars.now call.now results.now rest.now exited.now) }
+    ensures { IfOk result (λ after. after ≡ calls.returned_store vars.now call.now results.now rest.now exited.now) }
 {
     let values = values_after(alloc, vars, call, results, rest, exited)?;
     let both = beside(alloc, exited, rest, values)?;
@@ -128,7 +120,7 @@ pub(crate) fn give_back<'a>(
 ) -> Result<At<'a>, AllocError>
     requires { CanReturn program.now exited (waiting_of suspended) }
     ensures { IfOk result (λ after. (waiting : List Waiting) →
-        Returns program.now exited (waiting_of suspended) waiting (goes (state_of after waiting))) }
+        Returns program.now exited (waiting_of suspended.entry) waiting (goes (state_of after waiting))) }
 {
     let Suspended { call, caller, rest } = suspended;
     let Some(callee) = program.proc(call.callee) else {

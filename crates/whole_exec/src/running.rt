@@ -20,7 +20,7 @@ use whole_frames::{handed_stores_meet_the_entry, returned_stores_are_well_formed
 
 /// The answer of a run that has no step left.
 fn answer_at(at: At<'_>, waiting: Stack<Suspended<'_>>) -> Answer
-    ensures { (program : TypedProgram) → Ends program 0 (state_of at (all_waiting waiting)) (answer_of result) }
+    ensures { (program : TypedProgram) → Ends program 0 (state_of at.entry (all_waiting waiting.entry)) (answer_of result) }
 {
     let mut waiting = waiting;
     match at {

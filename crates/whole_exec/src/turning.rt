@@ -48,7 +48,7 @@ fn take_act<'a>(
     requires ready { IsReady program.now (entry_of activation) store }
     requires act { ActFits program.now.types activation.vars.now act.now }
     ensures { IfOk result (λ end. (waiting : List Waiting) →
-        GoesAs program.now activation store (Stmt-F.Do line act.now) waiting (turn_of waiting end)) }
+        GoesAs program.now activation.entry store (Stmt-F.Do line act.now) waiting (turn_of waiting end)) }
 {
     match run_act(alloc, program.types(), line, act, store)? {
         Ok(after) => Ok(Ok(At::Running(activation, after))),
@@ -78,7 +78,7 @@ fn push_body<'a>(
     behind: Loop<'a>,
     left: &mut Stack<Piece<'a>>,
 ) -> Result<(), AllocError>
-    ensures { OnOk result (left_of left.new ≡ (if truth then behind.body.now ++ loop_of behind ∷ [] else []) ++ left_of left.old) }
+    ensures { OnOk result (left_of left.new ≡ (if truth then behind.entry.body.now ++ loop_of behind.entry ∷ [] else []) ++ left_of left.old) }
 {
     if !truth {
         return Ok(());
@@ -101,7 +101,7 @@ fn take_if<'a>(
     requires ready { IsReady program.now (entry_of activation) store }
     requires cond { CondFits program.now.types activation.vars.now cond.now }
     ensures { IfOk result (λ end. (waiting : List Waiting) →
-        GoesAs program.now activation store (Stmt-F.If line cond.now yes.now no.now) waiting (turn_of waiting end)) }
+        GoesAs program.now activation.entry store (Stmt-F.If line cond.now yes.now no.now) waiting (turn_of waiting end)) }
 {
     let mut activation = activation;
     match truth_at(alloc, program.types(), line, cond, store)? {
@@ -124,7 +124,7 @@ fn take_behind<'a>(
     requires ready { IsReady program.now (entry_of activation) store }
     requires cond { CondFits program.now.types activation.vars.now behind.cond.now }
     ensures { IfOk result (λ end. (waiting : List Waiting) →
-        GoesAs program.now activation store (form_of (next.Behind behind)) waiting (turn_of waiting end)) }
+        GoesAs program.now activation.entry store (form_of (next.Behind behind.entry)) waiting (turn_of waiting end)) }
 {
     let mut activation = activation;
     match truth_at(
@@ -153,7 +153,7 @@ fn take_while<'a>(
     requires ready { IsReady program.now (entry_of activation) store }
     requires invariant { AssertionFits program.now.types activation.vars.now met.invariant.now }
     ensures { IfOk result (λ end. (waiting : List Waiting) →
-        GoesAs program.now activation store (form_of (next.While met)) waiting (turn_of waiting end)) }
+        GoesAs program.now activation.entry store (form_of (next.While met.entry)) waiting (turn_of waiting end)) }
 {
     let mut activation = activation;
     let cut = plain_cut(alloc, met.place.line, met.invariant)?;
@@ -178,7 +178,7 @@ fn take_split<'a>(
     requires ready { IsReady program.now (entry_of activation) store }
     requires assertion { AssertionFits program.now.types activation.vars.now assertion.now }
     ensures { IfOk result (λ end. (waiting : List Waiting) →
-        GoesAs program.now activation store (Stmt-F.Split place assertion.now) waiting (turn_of waiting end)) }
+        GoesAs program.now activation.entry store (Stmt-F.Split place assertion.now) waiting (turn_of waiting end)) }
 {
     let cut = plain_cut(alloc, place.line, assertion)?;
     match arrive(alloc, program.types(), activation.vars, &cut, store)? {
@@ -196,7 +196,7 @@ fn take_exit<'a>(
 ) -> Result<Result<At<'a>, Fault>, AllocError>
     requires { IsReady program.now (entry_of activation) store }
     ensures { IfOk result (λ end. (waiting : List Waiting) →
-        Exits program.now (entry_of activation) waiting store (turn_of waiting end)) }
+        Exits program.now (entry_of activation.entry) waiting store (turn_of waiting end)) }
 {
     let caller = Caller {
         program,
@@ -206,13 +206,7 @@ fn take_exit<'a>(
     };
     let last = activation.proc.last;
     let cut = plain_cut(alloc, last, &activation.proc.post)?;
-    match set_and_arrive(
-        alloc,
-        caller,
-        Pick::Left(activation.proc),
-        &cut,
-        store,
-    )? {
+    match set_and_arrive(alloc, caller, Pick::Left(activation.proc), &cut, store)? {
         Ok(after) => Ok(Ok(At::Exited(after))),
         Err(fault) => Ok(Err(fault)),
     }
@@ -230,7 +224,7 @@ fn take_next<'a>(
     requires program { ProgramFits program.now }
     requires ready { IsReady program.now (entry_of activation) store }
     requires fits { FormFits program.now activation.vars.now (form_of found) }
-    ensures { IfOk result (λ end. GoesAs program.now activation store (form_of found) (all_waiting waiting.old) (turn_of (all_waiting waiting.new) end)) }
+    ensures { IfOk result (λ end. GoesAs program.now activation.entry store (form_of found.entry) (all_waiting waiting.old) (turn_of (all_waiting waiting.new) end)) }
 {
     match found {
         Next::Do(line, act) => take_act(alloc, program, activation, store, line, act),
@@ -258,7 +252,7 @@ fn take<'a>(
 ) -> Result<Result<At<'a>, Fault>, AllocError>
     requires program { ProgramFits program.now }
     requires can { CanTake program.now (entry_of activation) store (left_of activation.left) }
-    ensures { IfOk result (λ end. Takes program.now (entry_of activation) (all_waiting waiting.old) store (left_of activation.left)
+    ensures { IfOk result (λ end. Takes program.now (entry_of activation.entry) (all_waiting waiting.old) store (left_of activation.entry.left)
         (turn_of (all_waiting waiting.new) end)) }
 {
     let mut activation = activation;
@@ -277,7 +271,7 @@ pub(crate) fn turn<'a>(
 ) -> Result<Turned<'a>, AllocError>
     requires program { ProgramFits program.now }
     requires can { CanTurn program.now (state_of at (all_waiting waiting.old)) }
-    ensures { IfOk result (TurnsAs program.now (state_of at (all_waiting waiting.old)) (all_waiting waiting.new)) }
+    ensures { IfOk result (TurnsAs program.now (state_of at.entry (all_waiting waiting.old)) (all_waiting waiting.new)) }
 {
     match at {
         At::Running(activation, store) => {

@@ -1,4 +1,4 @@
-use Rattle.std.proofs.Common.{◌≡◌, ◌∙◌, ◌++◌, Some, None, IsSome, List, Option, option_map, is_some, sym, ap, subst}
+use Rattle.std.proofs.Common.{◌∙◌, ◌++◌, List, option_map, is_some, sym, ap}
 use Rattle.std.proofs.lemmas.Bool.{false≢true}
 use Rattle.std.proofs.lemmas.List.{append-nil}
 use Rattle.pale_types.specs.declared.typed.Stmt.{Stmt}

@@ -1,4 +1,4 @@
-use Rattle.std.proofs.Common.{◌∙◌, ◌++◌, List, map, ap, ap₂}
+use Rattle.std.proofs.Common.{◌∙◌, ◌++◌, List, map, ap₂}
 use Rattle.store_core.specs.declared.ids.VarId.{VarId}
 use Rattle.store_core.specs.declared.value.Value.{Value}
 use Rattle.pale_calls.specs.declared.actual.Actual.{Actual}

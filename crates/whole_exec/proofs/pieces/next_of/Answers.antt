@@ -1,10 +1,8 @@
-use Rattle.std.proofs.Common.{List, ◌++◌, ◌∷◌, [], ap, sym, ◌∙◌, subst}
+use Rattle.std.proofs.Common.{◌++◌, ◌∷◌, [], ap, sym, ◌∙◌, subst}
 use Rattle.pale_types.specs.declared.typed.Stmt.{Stmt}
 use Rattle.pale_types.specs.declared.typed.Stmt.TheVariants as stmt
-use Rattle.whole_run.specs.Turns.{behind_cut}
 use Rattle.whole_exec.specs.declared.pieces.Piece.{Piece}
-use Rattle.whole_exec.specs.Standings.{stmts_of, left_of, front, loop_of}
-use Rattle.whole_exec.specs.Turning.{Skips}
+use Rattle.whole_exec.specs.Standings.{stmts_of, left_of, loop_of}
 use Rattle.whole_exec.proofs.pieces.next_of.Goals as goal
 
 pub returns-in-Block-clause-same : goal.returns-in-Block-clause-same

@@ -1,8 +1,8 @@
-use Rattle.std.proofs.Common.{◌≡◌, ◌∙◌, [], ◌∷◌, ◌++◌, List, Result, Ok, Err, IfOk, sym, ap, subst}
+use Rattle.std.proofs.Common.{◌∙◌, [], ◌∷◌, ◌++◌, List, Result, Ok, Err, IfOk, sym, ap, subst}
 use Rattle.store_logic.specs.declared.act.Act.{Act}
 use Rattle.store_exec.specs.declared.code.Item.{Item}
 use Rattle.store_exec.specs.declared.code.Item.TheVariants as item
-use Rattle.store_exec.specs.Runs.{Ending, Does, RunsItems}
+use Rattle.store_exec.specs.Runs.{Ending, RunsItems}
 use Rattle.store_exec.specs.Going.{CanRun}
 use Rattle.whole_exec.proofs.Codes.{does_of}
 use Rattle.whole_exec.proofs.plain.run_act.Goals as goal

@@ -1,4 +1,4 @@
-use Rattle.std.proofs.Common.{sym, subst}
+use Rattle.std.proofs.Common.{subst}
 use Rattle.store_exec.specs.Runs.{RunsCode}
 use Rattle.whole_exec.proofs.Codes.{ending_code, items_can, ran_to, ran_into}
 use Rattle.whole_exec.proofs.plain.run_items.Goals as goal

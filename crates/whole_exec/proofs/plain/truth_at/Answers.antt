@@ -1,9 +1,8 @@
-use Rattle.std.proofs.Common.{sym, subst, ◌∙◌}
+use Rattle.std.proofs.Common.{sym, subst}
 use Rattle.store_exec.specs.declared.code.Code.{Code}
-use Rattle.store_exec.specs.declared.outcome.Outcome.{Outcome}
 use Rattle.store_exec.specs.Runs.{RunsCode}
 use Rattle.store_exec.specs.Fits.{CanRunCode}
-use Rattle.whole_exec.proofs.Codes.{choosing_code, choosing_is, cond_can, told_at, untold_at}
+use Rattle.whole_exec.proofs.Codes.{choosing_is, cond_can, told_at, untold_at}
 use Rattle.whole_exec.proofs.plain.truth_at.Goals as goal
 
 pub run-requires : goal.run-requires

@@ -1,4 +1,4 @@
-use Rattle.std.proofs.Common.{ℕ, ◌∙◌, ◌++◌, ◌∷◌, [], List, map, ap, arith}
+use Rattle.std.proofs.Common.{ℕ, ◌∙◌, ◌++◌, ◌∷◌, [], map, ap, arith}
 use Rattle.std.specs.List.{range_with_len}
 use Rattle.store_core.specs.declared.value.Value.{Value}
 use Rattle.hoare_split.specs.Picking.{numbered}

@@ -1,11 +1,11 @@
-use Rattle.std.proofs.Common.{◌≡◌, ◌∙◌, ◌++◌, List, Ok, Err, Result, ap, sym, subst}
+use Rattle.std.proofs.Common.{◌∙◌, ◌++◌, List, Ok, Err, ap, sym, subst}
 use Rattle.store_exec.specs.declared.code.Item.{Item}
-use Rattle.store_exec.specs.Runs.{Ending, RunsItems}
+use Rattle.store_exec.specs.Runs.{RunsItems}
 use Rattle.store_exec.specs.Going.{CanRun}
 use Rattle.hoare_split.specs.Picking.{those, test_of}
 use Rattle.hoare_split.specs.Settings.{settings}
 use Rattle.whole_exec.proofs.Settings.{settings_none, can_run, all_end}
-use Rattle.whole_exec.proofs.arriving.set.Goals as goal
+use Rattle.whole_exec.proofs.arriving.set_blank.Goals as goal
 
 -- the items are the settings alone
 pub run_items-requires : goal.run_items-requires
