@@ -44,6 +44,10 @@ pub one_left : {P : Type 0} (program : TypedProgram) (number : ℕ) (s : StoreMa
 one_left program number s steps now did (zero, is, going) less k = absurd (omega (arith, is, less))
 one_left program number s steps now did (suc left, is, going) less k = k left (omega (arith, is)) going
 
+-- so there is room for a new cell
+pub one_room : (n left did steps : ℕ) → left + did ≡ steps → did < steps → n + left < 4294967295 → n + 1 < 4294967295
+one_room n left did steps is less room = omega (arith, is, less, room)
+
 -- and then none is
 pub done : (program : TypedProgram) (number : ℕ) (s : StoreMap) (steps : ℕ) (now : State) (did : ℕ) → Stage program number s steps now did → steps ≤ did →
     (answer : Answer) → Ends program 0 now answer → WholeRun program number s steps answer

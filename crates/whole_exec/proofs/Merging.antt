@@ -5,11 +5,11 @@ use Rattle.std.specs.List.{AllByRecursion}
 use Rattle.std.specs.Prelude.{option_map}
 use Rattle.std.specs.Ordering.{nat_cmp, eq_by_cmp}
 use Rattle.std.specs.FinMap.Entries.{below_all}
-use Rattle.std.specs.FinMap.{entries, entries_sorted, from_sorted, from_entries, find, is_sorted, get-from_sorted, get-from_entries, get-entries}
+use Rattle.std.specs.FinMap.{entries, keys, entries_sorted, from_sorted, from_entries, find, is_sorted, get-from_sorted, get-from_entries, get-entries}
 use Rattle.std.specs.FinMap.{same_map, nat_cmp-IsAntisymmetric}
 use Rattle.std.proofs.lemmas.Bool.{cases_lt, false≢true}
 use Rattle.std.proofs.lemmas.Cmp.{nat_cmp_total}
-use Rattle.std.proofs.lemmas.List.{take_more, take_all, take-append-drop, map_push}
+use Rattle.std.proofs.lemmas.List.{length-map, take_more, take_all, take-append-drop, map_push}
 use Rattle.std.proofs.lemmas.Option.{slice_get_within, get_or_from_slice_get, slice_get-map}
 use Rattle.store_core.specs.declared.store.CellBody.{CellBody}
 use Rattle.store_core.specs.Stores.{StoreMap, CellEntry, IsLive, IsAbove}
@@ -113,11 +113,17 @@ all_lower n m less (d ∷ made) all = let low = all.0 in (omega (arith, low, les
 
 -- ---- the next cell
 
+place_within : (s : StoreMap) (i : ℕ) (b : CellBody) → Some (cell_entry b) ≡ slice_get (entries s.cells) i → i < length (keys s.cells)
+place_within s i b there =
+    let low = slice_get_within (entries s.cells) i (cell_entry b) (sym there) in
+    let same : length (keys s.cells) ≡ length (entries s.cells) = length-map (λ (e : Entry). e.0) (entries s.cells) in
+    subst (λ (n : ℕ). i < n) (sym same) low
+
 module _ (s t : StoreMap) (i j : ℕ) where
   -- at the end of the other store
   pub next_alone : (b : CellBody) → Some (cell_entry b) ≡ slice_get (entries s.cells) i → b.is_live ≡ true → None ≡ slice_get (entries t.cells) j →
       IsNextOf s t i j b
-  next_alone b there live none = record { here = sym there; live = live; before = λ e is. none_some e (none ∙ is) }
+  next_alone b there live none = record { here = sym there; live = live; within = place_within s i b there; before = λ e is. none_some e (none ∙ is) }
     where
       none_some : (e : Entry) → None ≡ Some e → b.number ≤ e.0
       none_some e is = absurd cc
@@ -127,6 +133,7 @@ module _ (s t : StoreMap) (i j : ℕ) where
   next_before b d there live other less = record {
     here = sym there;
     live = live;
+    within = place_within s i b there;
     before = λ e is. subst (λ (x : Entry). b.number ≤ x.0) (same (cell_entry d) e (other ∙ is)) less;
   }
     where

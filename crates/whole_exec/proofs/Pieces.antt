@@ -62,8 +62,9 @@ first_less block s more old new parts put =
     omega (arith, whole, longer)
 
 -- a block with nothing in it
-pub none_same : (block : List Stmt) (old : List Piece) → block ≡ [] → Skips (block ++ left_of old) (left_of old)
-none_same block old none = (0, ap (λ (b : List Stmt). b ++ left_of old) none)
+pub none_same : (block : List Stmt) (old : List Piece) → length block ≡ 0 → Skips (block ++ left_of old) (left_of old)
+none_same [] old none = (0, refl)
+none_same (s ∷ block) old none = absurd (omega (arith, none))
 
 -- a piece that was taken off
 pub taken_off : (start now : List Piece) (p : Piece) (pieces : List Piece) → now ≡ p ∷ pieces → Skips (left_of start) (left_of now) →

@@ -77,8 +77,10 @@ module _ (law : Laws) (program : TypedProgram) (fits : ProgramFits program) wher
     }
 
     pub returned : (turn : Turn) → Returns program t w waiting turn → OnTurn program (t.next + 1) turn
-    returned turn (other, there, is) = subst (OnTurn program (t.next + 1)) (sym (is ∙ same))
-        (goes_on, (let same_next : t.next ≡ x.next = ap (λ (z : StoreMap). z.next) done.is in omega (arith, same_next)))
+    returned turn (other, there, is) = subst (OnTurn program (t.next + 1)) (sym (is ∙ same)) (
+      goes_on,
+      (let same_next : t.next ≡ x.next = ap (λ (z : StoreMap). z.next) done.is in let most : x.next ≤ t.next + 1 = omega (arith, same_next) in most),
+    )
       where
         one : other ≡ callee
         one = some_same other callee (sym there ∙ called.there)

@@ -70,6 +70,9 @@ one_new (act.Assign p x) = few_news x
 one_new (act.Free v) = omega arith
 one_new (act.Assert a) = omega arith
 
+one_more : (n : ℕ) → n ≤ n + 1
+one_more n = omega arith
+
 -- what is handed over has come of itself
 handed_came : (r h : StoreMap) (cells : List CellId) → h.cells ≡ (store_on r cells).cells → h.next ≡ r.next → CameOf r cells h
 handed_came r h cells same next = record {
@@ -144,7 +147,7 @@ module _ (law : Laws) (program : TypedProgram) (fits : ProgramFits program) wher
     act_on line a left s next (Ok t) did turn is = subst (OnTurn program (s.next + 1)) (sym is) (
       running left s t next.proc next.others (Step-keeps types vars s (next.well).fits (next.well).fresh a t next.own did)
           (act_moves types vars s t a (next.well).fresh next.own did) next.stands,
-      (let bound = Step-next types s a t did in let few = one_new a in omega (arith, bound, few)),
+      (let bound = Step-next types s a t did in let few = one_new a in let most : t.next ≤ s.next + 1 = omega (arith, bound, few) in most),
     )
     act_on line a left s next (Err fault) did turn is = fails_on (s.next + 1) fault.cause fault.line turn is
 
@@ -153,7 +156,7 @@ module _ (law : Laws) (program : TypedProgram) (fits : ProgramFits program) wher
         Stands program entry s waiting → OnTurn program (s.next + 1) (goes (on_with entry waiting (xs ++ left) s))
     into xs left s proc one others well stands = (
       record { fitting = record { proc = proc; statements = all-append Fit xs left one others }; well = well; stands = stands },
-      omega arith,
+      one_more s.next,
     )
 
     if_on : (line : ℕ) (c : Cond) (first other left : List Stmt) (s : StoreMap) → IsNext (Stmt-F.If line c first other) left s → (turn : Turn) →
@@ -172,7 +175,7 @@ module _ (law : Laws) (program : TypedProgram) (fits : ProgramFits program) wher
         Stands program entry s waiting → AtCut types vars cut s None → (turn : Turn) → turn ≡ goes (on_with entry waiting left (restricted s)) →
         OnTurn program (s.next + 1) turn
     on_behind cut left s proc all well stands none turn is = subst (OnTurn program (s.next + 1)) (sym is)
-        (running left s (restricted s) proc all (well_from vars cut s well none) (restricted_moves vars s) stands, omega arith)
+        (running left s (restricted s) proc all (well_from vars cut s well none) (restricted_moves vars s) stands, one_more s.next)
 
     while_on : (place : Pos) (c : Cond) (invariant : Assertion) (body left : List Stmt) (s : StoreMap) →
         IsNext (Stmt-F.While place c invariant body) left s → (turn : Turn) →
@@ -226,7 +229,7 @@ module _ (law : Laws) (program : TypedProgram) (fits : ProgramFits program) wher
             well = well_of callee.vars h handed.0;
             stands = (u, cells, called, stands_move program entry waiting u (restricted u) (restricted_moves vars u) set.kept);
           },
-          omega (arith, low),
+          (let most : u.next ≤ s.next + 1 = omega (arith, low) in most),
         )
           where
             h : StoreMap
@@ -270,7 +273,7 @@ module _ (law : Laws) (program : TypedProgram) (fits : ProgramFits program) wher
               stands = set.kept;
             },
           ),
-          omega (arith, low),
+          (let most : u.next ≤ s.next + 1 = omega (arith, low) in most),
         )) k
       where
         fit : ItemsFit types vars (settings vars (is_left entry.proc) entry.proc.last)

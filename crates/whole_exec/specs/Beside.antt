@@ -1,7 +1,7 @@
 -- The cells of two stores beside each other.
-use Rattle.std.specs.Prelude.{◌≡◌, ◌<◌, ◌≤◌, ℕ, true, List, ◌++◌, Option, Some, None, slice_get}
+use Rattle.std.specs.Prelude.{◌≡◌, ◌<◌, ◌≤◌, ℕ, true, List, ◌++◌, Option, Some, None, slice_get, length}
 use Rattle.std.specs.Ordering.{nat_cmp}
-use Rattle.std.specs.FinMap.{entries, find}
+use Rattle.std.specs.FinMap.{entries, keys, find}
 use Rattle.store_core.specs.declared.ids.CellId.{CellId}
 use Rattle.store_core.specs.declared.store.CellBody.{CellBody}
 use Rattle.store_core.specs.Stores.{StoreMap, CellEntry, IsLive}
@@ -22,6 +22,7 @@ IsSmaller b d (which.Second x) = (x.now ≡ d) × (d.number ≤ b.number)
 pub record IsNextOf (s t : StoreMap) (i j : ℕ) (b : CellBody) : Type 0 where
   pub here : slice_get (entries s.cells) i ≡ Some (cell_entry b)
   pub live : b.is_live ≡ true
+  pub within : i < length (keys s.cells)
   pub before : (e : ℕ × CellEntry) → slice_get (entries t.cells) j ≡ Some e → b.number ≤ e.0
 
 -- of the cells from these places on the one with the smallest number; there is none only at both ends

@@ -1,7 +1,6 @@
 use Rattle.whole_exec.proofs.Pieces.{first_same, first_less, none_same}
 use Rattle.whole_exec.proofs.pieces.first_of.Goals as goal
 
--- the block is empty: the name of this fact of `split_first` is a guess
 pub returns-in-None-clause-same : goal.returns-in-None-clause-same
 returns-in-None-clause-same c = none_same c.args.block.now c.args.left.now c.in-None.ensures.cases
 

@@ -4,8 +4,9 @@ use Rattle.whole_exec.specs.Answers.{answer_of}
 use Rattle.whole_exec.specs.Standings.{all_waiting, state_of}
 use Rattle.whole_exec.specs.Turning.{TurnsAs}
 use Rattle.whole_exec.proofs.Laws.{Laws}
+use Rattle.whole_exec.proofs.Standing.{next_of}
 use Rattle.whole_exec.proofs.Returning.{can_turn}
-use Rattle.whole_exec.proofs.Going.{IsGoing, starts, goes_on, one_left, done}
+use Rattle.whole_exec.proofs.Going.{IsGoing, starts, goes_on, one_left, one_room, done}
 use Rattle.whole_exec.proofs.running.run_procedure.Goals as goal
 
 pub entered-requires : goal.entered-requires
@@ -36,9 +37,8 @@ turn-requires-clause-can c =
     } in
     let going = c.loop-step.invariant in
     let now = state_of c.loop-step.at (all_waiting c.loop-step.waiting) in
-    let is = going.1 in
-    let room = (going.2).room in
-    can_turn law c.args.program.now c.requires.program now (going.2).holds (omega (arith, is, room, c.loop-step-test.true))
+    can_turn law c.args.program.now c.requires.program now (going.2).holds
+    (one_room (next_of now) going.0 c.loop-step._step c.args.steps going.1 c.loop-step-test.true (going.2).room)
 
 pub loop-step-preserved : goal.loop-step-preserved
 loop-step-preserved c =
