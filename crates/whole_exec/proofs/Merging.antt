@@ -1,5 +1,5 @@
 -- The live cells of two stores, by rising number.
-use Rattle.std.proofs.Common.{◌≡◌, ◌⊎◌, ◌+◌, ◌<◌, ◌≤◌, inl, inr, ℕ, zero, suc, Bool, true, false, cond, T, List, [], ◌∷◌, ◌++◌, take, drop}
+use Rattle.std.proofs.Common.{◌≡◌, ◌⊎◌, ◌+◌, ◌<◌, ◌≤◌, inl, inr, ℕ, zero, suc, Bool, true, false, cond, T, List, [], ◌∷◌, ◌++◌, length, take, drop}
 use Rattle.std.proofs.Common.{slice_get, Option, Some, None, IsSome, is_some, refl, sym, ap, ap₂, ◌∙◌, subst, arith}
 use Rattle.std.specs.List.{AllByRecursion}
 use Rattle.std.specs.Prelude.{option_map}
@@ -205,7 +205,7 @@ module _ (s t : StoreMap) (apart : AreApart s t) where
         ∙ find_both q (cells_of made) (e ∷ [])
         ∙ ap (λ (o : Option CellEntry). either o (one e q)) (merged.found q)
         ∙ either-same (find nat_cmp q (take i es)) (find nat_cmp q (take j fs)) (one e q)
-        ∙ ap (either (find nat_cmp q (take i es))) (swap (find nat_cmp q (take j fs)) (one e q) (λ theirs own. both q theirs own))
+        ∙ ap (λ (o : Option CellEntry). either (find nat_cmp q (take i es)) o) (swap (find nat_cmp q (take j fs)) (one e q) (λ theirs own. both q theirs own))
         ∙ sym (either-same (find nat_cmp q (take i es)) (one e q) (find nat_cmp q (take j fs)))
         ∙ ap (λ (o : Option CellEntry). either o (find nat_cmp q (take j fs))) (sym (found_more q i es e next.here));
     first = λ f is.

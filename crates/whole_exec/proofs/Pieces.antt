@@ -57,7 +57,7 @@ first_same block s more old new (Some found) parts put is = (
 pub first_less : (block : List Stmt) (s : Stmt) (more : Bor (List Stmt)) (old new : List Piece) → block ≡ s ∷ more.now → new ≡ piece.Block more ∷ old →
     weight_of new < weight_of old + (length block + 1)
 first_less block s more old new parts put =
-    let whole = ap weight_of put ∙ weight_more (piece.Block more) old in
+    let whole : weight_of new ≡ (length more.now + 1) + weight_of old = ap weight_of put ∙ weight_more (piece.Block more) old in
     let longer : length block ≡ suc (length more.now) = ap length parts in
     omega (arith, whole, longer)
 

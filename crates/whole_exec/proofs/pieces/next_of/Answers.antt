@@ -1,12 +1,20 @@
-use Rattle.std.proofs.Common.{◌++◌, ◌∷◌, [], ap, sym, ◌∙◌, subst}
+use Rattle.std.proofs.Common.{IfOk, length, ◌+◌, ◌<◌, ◌++◌, ◌∷◌, [], ap, sym, ◌∙◌, subst}
 use Rattle.pale_types.specs.declared.typed.Stmt.{Stmt}
 use Rattle.pale_types.specs.declared.typed.Stmt.TheVariants as stmt
 use Rattle.whole_exec.specs.declared.pieces.Piece.{Piece}
-use Rattle.whole_exec.specs.Standings.{stmts_of, left_of, loop_of}
+use Rattle.whole_exec.specs.Standings.{stmts_of, left_of, front, loop_of}
+use Rattle.whole_exec.specs.Turning.{Skips, weight_of}
 use Rattle.whole_exec.proofs.pieces.next_of.Goals as goal
 
 pub returns-in-Block-clause-same : goal.returns-in-Block-clause-same
-returns-in-Block-clause-same c = subst (λ (p : Piece). _) (sym c.in-Block.is) c.first_of.ensures.same
+returns-in-Block-clause-same c =
+    subst (λ (p : Piece). IfOk c.first_of.result (λ found. Skips (stmts_of p ++ left_of c.args.left.now) (front found (left_of c.first_of.new.left))))
+    (sym c.in-Block.is) c.first_of.ensures.same
+
+pub returns-in-Block-clause-less : goal.returns-in-Block-clause-less
+returns-in-Block-clause-less c =
+    subst (λ (p : Piece). IfOk c.first_of.result (λ found. weight_of c.first_of.new.left < weight_of c.args.left.now + (length (stmts_of p) + 1)))
+    (sym c.in-Block.is) c.first_of.ensures.less
 
 pub returns-in-Again-clause-same : goal.returns-in-Again-clause-same
 returns-in-Again-clause-same c =
