@@ -127,7 +127,7 @@ act_can program entry s line a ready fits = record {
   items_fit = (Do-fits program.types entry.vars line a fits, tt);
   room =
       let all = ready.room in
-      let whole = sum_by-cons news_of_item (item.Do line a) [] in
+      let whole : news_of (item.Do line a ∷ []) ≡ news_of_item (item.Do line a) + 0 = sum_by-cons news_of_item (item.Do line a) [] in
       let own = news-Do line a in
       let few = one_new a in
       omega (arith, all, whole, own, few);

@@ -1,8 +1,9 @@
 -- Settings to null or false make no cell and never fail.
-use Rattle.std.proofs.Common.{◌≡◌, inl, inr, ℕ, Bool, true, false, List, [], ◌∷◌, map, if◌then◌else◌, Result, Ok, Err}
+use Rattle.std.proofs.Common.{◌≡◌, ◌+◌, inl, inr, ℕ, Bool, true, false, List, [], ◌∷◌, map, if◌then◌else◌, Result, Ok, Err}
 use Rattle.std.proofs.Common.{refl, sym, ap, ◌∙◌, arith}
 use Rattle.std.proofs.lemmas.List.Sums.{sum_by-cons}
 use Rattle.store_core.specs.declared.ids.VarId.{VarId}
+use Rattle.store_core.specs.declared.value.Value.{Value}
 use Rattle.store_core.specs.declared.value.Value.TheVariants as value
 use Rattle.store_core.specs.Tables.{TypeEntry, VarEntry}
 use Rattle.store_core.specs.Stores.{StoreMap, set_var}
@@ -39,8 +40,9 @@ pub news_none : (vars : List VarEntry) (line : ℕ) (vs : List VarId) → news_o
 news_none vars line [] = refl
 news_none vars line (v ∷ vs) =
     let a : Act = act.Assign (record { var = v; fields = [] }) (blank (class_at vars v)) in
-    let whole = sum_by-cons news_of_item (setting vars line v) (map (setting vars line) vs) in
-    let first = news-Do line a in
+    let whole : news_of (map (setting vars line) (v ∷ vs)) ≡ news_of_item (setting vars line v) + news_of (map (setting vars line) vs)
+    = sum_by-cons news_of_item (setting vars line v) (map (setting vars line) vs) in
+    let first : news_of_item (setting vars line v) ≡ news_of_act a = news-Do line a in
     let own : news_of_act a ≡ 0 = no_new (holds_cell (class_at vars v)) in
     let more = news_none vars line vs in
     omega (arith, whole, first, own, more)
@@ -69,8 +71,8 @@ module _ (types : List TypeEntry) (vars : List VarEntry) (line : ℕ) where
       assigned types s v [] (if b then rhs.Cell operand.Null else rhs.Truth condition.False) ≡ Err why → ⊥
   blank_ends s v why true e = absurd cc
   blank_ends s v why false e =
-      let made : made_of {Y = StoreMap} (λ got. set_var got.0 v got.1) (made_of (λ truth. (s, value.Bool truth)) (Ok false)) ≡ Err why =
-      ap (λ (r : Result Bool Cause). made_of {Y = StoreMap} (λ got. set_var got.0 v got.1) (made_of (λ truth. (s, value.Bool truth)) r)) (sym (false_is s))
+      let made : made_of {Y = StoreMap} (λ (got : StoreMap × Value). set_var got.0 v got.1) (made_of (λ truth. (s, value.Bool truth)) (Ok false)) ≡ Err why =
+      ap (λ (r : Result Bool Cause). made_of {Y = StoreMap} (λ (got : StoreMap × Value). set_var got.0 v got.1) (made_of (λ truth. (s, value.Bool truth)) r)) (sym (false_is s))
       ∙ e in
       absurd cc
 

@@ -60,15 +60,21 @@ use Rattle.whole_exec.proofs.Settings.{news_none}
 use Rattle.whole_exec.proofs.Standing.{IsCalled, Stands, stands_move, IsRunning, OnTurn}
 
 -- an act makes one cell at most
+none_few : 0 ≤ 1
+none_few = omega arith
+
+one_few : 1 ≤ 1
+one_few = omega arith
+
 few_news : (x : Rhs) → news_of_rhs x ≤ 1
-few_news (rhs.Cell p) = omega arith
-few_news (rhs.New v) = omega arith
-few_news (rhs.Truth c) = omega arith
+few_news (rhs.Cell p) = none_few
+few_news (rhs.New v) = one_few
+few_news (rhs.Truth c) = none_few
 
 pub one_new : (a : Act) → news_of_act a ≤ 1
 one_new (act.Assign p x) = few_news x
-one_new (act.Free v) = omega arith
-one_new (act.Assert a) = omega arith
+one_new (act.Free v) = none_few
+one_new (act.Assert a) = none_few
 
 one_more : (n : ℕ) → n ≤ n + 1
 one_more n = omega arith

@@ -20,7 +20,7 @@ use Rattle.pale_types.specs.declared.typed.TypedProc.{TypedProc}
 use Rattle.pale_types.specs.TypedPrograms.{TypedProgram}
 use Rattle.hoare_split.specs.Picking.{class_at, is_spent, numbered}
 use Rattle.hoare_split.specs.Calls.{handed_by}
-use Rattle.whole_run.specs.States.{Frame, Waiting, runs, goes}
+use Rattle.whole_run.specs.States.{Waiting, runs, goes}
 use Rattle.whole_run.specs.Handing.{handed_store, rest_store, value_after, returned_store}
 use Rattle.whole_run.specs.Turns.{Begins, Returns}
 use Rattle.whole_exec.specs.declared.activation.Activation.{Activation}
@@ -55,26 +55,29 @@ value_is vars call results rest t v awaited r same is =
 
 -- ---- a call begins
 
+-- a call that waits with the rest
+abbrev pub waits : CallParts → Activation → StoreMap → List CellId → Waiting
+waits call a s cells = record { call = call; caller = record { entry = entry_of a; store = rest_store s cells; left = left_of a.left } }
+
+pub waits_is : (lent : Bor CallParts) (a : Activation) (s : StoreMap) (cells : List CellId) (rest : StoreMap) → rest ≡ rest_store s cells →
+    waiting_of (record { call = lent; caller = a; rest = rest }) ≡ waits lent.now a s cells
+waits_is lent a s cells rest is = λ i. record { call = lent.now; caller = record { entry = entry_of a; store = is i; left = left_of a.left } }
+
 -- the callee runs on the handed part, and the call waits with the rest
 pub begun : (program : TypedProgram) (call : CallParts) (a : Activation) (s : StoreMap) (cells : List CellId) (old new : List Suspended) (callee : Activation)
-    (handed rest : StoreMap) (lent : Bor CallParts) → IsEntered program call.callee callee →
+    (handed : StoreMap) (w : Suspended) → IsEntered program call.callee callee →
     IsPart program.types (entry_of a).vars s (handed_by (entry_of a).vars call.args) cells → handed ≡ handed_store (entry_of callee) call s cells →
-    rest ≡ rest_store s cells → new ≡ (let w : Suspended = record { call = lent; caller = a; rest = rest } in w) ∷ old → lent.now ≡ call →
+    new ≡ w ∷ old → waiting_of w ≡ waits call a s cells →
     Begins program call (frame_of a s) (all_waiting old) (goes (runs (frame_of callee handed) (all_waiting new)))
-begun program call a s cells old new callee handed rest lent entered part is_handed is_rest put same = (
+begun program call a s cells old new callee handed w entered part is_handed put is_waiting = (
   entry_of callee,
   cells,
   entered.there,
   part,
   ap (λ (ws : List Suspended). goes (runs (frame_of callee handed) (all_waiting ws))) put
-      ∙ ap (λ (r : StoreMap). goes (runs (frame_of callee handed)
-      ((let w : Waiting = record { call = lent.now; caller = record { entry = entry_of a; store = r; left = left_of a.left } } in w) ∷ all_waiting old))) is_rest
-      ∙ ap (λ (p : CallParts). goes (runs (frame_of callee handed)
-      ((let w : Waiting = record { call = p; caller = record { entry = entry_of a; store = rest_store s cells; left = left_of a.left } } in w)
-      ∷ all_waiting old))) same
-      ∙ ap₂ (λ (h : StoreMap) (left : List Stmt). goes (runs (let f : Frame = record { entry = entry_of callee; store = h; left = left } in f)
-      ((let w : Waiting = record { call = call; caller = record { entry = entry_of a; store = rest_store s cells; left = left_of a.left } } in w)
-      ∷ all_waiting old))) is_handed entered.body,
+      ∙ ap (λ (x : Waiting). goes (runs (frame_of callee handed) (x ∷ all_waiting old))) is_waiting
+      ∙ ap₂ (λ (h : StoreMap) (left : List Stmt).
+      goes (runs (record { entry = entry_of callee; store = h; left = left }) (waits call a s cells ∷ all_waiting old))) is_handed entered.body,
 )
 
 -- ---- a return

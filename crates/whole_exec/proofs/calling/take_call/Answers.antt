@@ -36,8 +36,8 @@ set_and_arrive-requires-clause-cut c =
     c.args.place).0
 
 -- there is a callee
-pub begin-requires : goal.begin-requires
-begin-requires c = ap is_some c.requires.call.there
+pub begin-requires-clause-callee : goal.begin-requires-clause-callee
+begin-requires-clause-callee c = ap is_some c.requires.call.there
 
 pub returns-in-Ok : goal.returns-in-Ok
 returns-in-Ok c =
