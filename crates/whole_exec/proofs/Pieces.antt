@@ -1,13 +1,15 @@
 -- The statements that are left, piece by piece.
-use Rattle.std.proofs.Common.{◌≡◌, ◌+◌, ◌<◌, ℕ, zero, suc, List, [], ◌∷◌, ◌++◌, length, Option, Some, None, Bor, refl, sym, ap, ◌∙◌, arith}
+use Rattle.std.proofs.Common.{◌≡◌, Bool, true, false, if◌then◌else◌, ◌+◌, ◌<◌, ℕ, zero, suc, List, [], ◌∷◌, ◌++◌, length, Option, Some, None, Bor, refl, sym, ap, ◌∙◌, arith}
 use Rattle.std.specs.Prelude.{MatchOption}
+use Rattle.std.proofs.lemmas.List.{append_assoc}
 use Rattle.std.proofs.lemmas.List.Sums.{sum_by-cons}
 use Rattle.pale_types.specs.declared.typed.Stmt.{Stmt, roll-Stmt}
 use Rattle.pale_types.specs.declared.typed.Stmt.TheVariants as stmt
+use Rattle.whole_exec.specs.declared.pieces.Loop.{Loop}
 use Rattle.whole_exec.specs.declared.pieces.Piece.{Piece}
 use Rattle.whole_exec.specs.declared.pieces.Piece.TheVariants as piece
 use Rattle.whole_exec.specs.declared.pieces.Next.{Next}
-use Rattle.whole_exec.specs.Standings.{stmts_of, left_of, form_of, front}
+use Rattle.whole_exec.specs.Standings.{loop_of, stmts_of, left_of, form_of, front}
 use Rattle.whole_exec.specs.Turning.{after_skips, Skips, weight_of}
 
 -- ---- skips
@@ -75,3 +77,20 @@ taken_off start now p pieces is so_far = more_skips (left_of start) (left_of now
 pub taken_less : (now : List Piece) (p : Piece) (pieces after : List Piece) → now ≡ p ∷ pieces →
     weight_of after < weight_of pieces + (length (stmts_of p) + 1) → weight_of after < weight_of now
 taken_less now p pieces after is less = let whole = ap weight_of is ∙ weight_more p pieces in omega (arith, whole, less)
+
+-- ---- what a condition chooses
+
+pub block_first : (truth : Bool) (yes no chosen : Bor (List Stmt)) (old new : List Piece) → new ≡ piece.Block chosen ∷ old →
+    chosen.now ≡ (if truth then yes.now else no.now) → left_of new ≡ (if truth then yes.now else no.now) ++ left_of old
+block_first truth yes no chosen old new put is = ap left_of put ∙ ap (λ (b : List Stmt). b ++ left_of old) is
+
+-- the body of a loop, and then the loop again
+pub body_first : (l : Loop) (truth : Bool) (old mid new : List Piece) → truth ≡ true → mid ≡ piece.Again l ∷ old → new ≡ piece.Block l.body ∷ mid →
+    left_of new ≡ (if truth then l.body.now ++ loop_of l ∷ [] else []) ++ left_of old
+body_first l truth old mid new is again block =
+    ap left_of block ∙ ap (λ (ps : List Piece). l.body.now ++ left_of ps) again ∙ sym (append_assoc l.body.now (loop_of l ∷ []) (left_of old))
+    ∙ ap (λ (b : Bool). (if b then l.body.now ++ loop_of l ∷ [] else []) ++ left_of old) (sym is)
+
+-- and nothing else where it is false
+pub body_last : (l : Loop) (truth : Bool) (old : List Piece) → truth ≡ false → left_of old ≡ (if truth then l.body.now ++ loop_of l ∷ [] else []) ++ left_of old
+body_last l truth old is = ap (λ (b : Bool). (if b then l.body.now ++ loop_of l ∷ [] else []) ++ left_of old) (sym is)

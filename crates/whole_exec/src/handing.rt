@@ -2,6 +2,7 @@
 
 ghost use Rattle.std.specs.Prelude.{◌≡◌, ◌++◌, IfOk, OnOk, map, filter};
 ghost use Rattle.store_core.specs.CellLists.{AreRising};
+ghost use Rattle.store_core.specs.Stores.{blank, var_class};
 ghost use Rattle.routing_expr.specs.Regions.{has_number};
 ghost use Rattle.routing_laws.specs.Pieces as regions;
 ghost use Rattle.whole_run.specs.Handing as calls;
@@ -104,14 +105,24 @@ fn push_handed(
     Ok(())
 }
 
-/// Null, false or the empty set, as what the variable holds; an unknown one is null.
+/// Null, false or the empty set, as what a variable of this kind holds.
+fn blank_of(alloc: Global, kind: VarKind) -> Value
+    ensures { result ≡ blank (var_class kind) }
+{
+    match kind {
+        VarKind::Bool | VarKind::LogicBool => Value::Bool(false),
+        VarKind::Data(_) | VarKind::Pointer(_) => Value::Cell(None),
+        VarKind::LogicSet(_) => Value::Cells(CellList::new(alloc)),
+    }
+}
+
+/// The same of a variable; an unknown one is null.
 fn blank_at(alloc: Global, vars: &VarTable, var: VarId) -> Value
     ensures { result ≡ calls.blank_at vars.now var }
 {
     match vars.kind(var) {
-        Some(VarKind::Bool | VarKind::LogicBool) => Value::Bool(false),
-        Some(VarKind::LogicSet(_)) => Value::Cells(CellList::new(alloc)),
-        Some(VarKind::Data(_) | VarKind::Pointer(_)) | None => Value::Cell(None),
+        Some(kind) => blank_of(alloc, *kind),
+        None => Value::Cell(None),
     }
 }
 
