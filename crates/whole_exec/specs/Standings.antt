@@ -20,12 +20,12 @@ use Rattle.whole_exec.specs.declared.activation.At.TheVariants as at
 -- ---- the statements that are left
 
 abbrev pub loop_of : Loop → Stmt
-loop_of l = stmt.While l.place l.cond.now l.invariant.now l.body.now
+loop_of l = stmt.While l.place l.test.now l.invariant.now l.body.now
 
 abbrev pub stmts_of : Piece → List Stmt
 stmts_of (piece.Block stmts) = stmts.now
 stmts_of (piece.Again l) = loop_of l ∷ []
-stmts_of (piece.Behind l) = behind_cut l.place l.cond.now l.invariant.now l.body.now ∷ []
+stmts_of (piece.Behind l) = behind_cut l.place l.test.now l.invariant.now l.body.now ∷ []
 
 -- of all pieces, the first one on top
 abbrev pub left_of : List Piece → List Stmt
@@ -35,8 +35,8 @@ left_of pieces = flat_map stmts_of pieces
 abbrev pub form_of : Next → Stmt-F Stmt
 form_of (next.Do line a) = Stmt-F.Do line a.now
 form_of (next.If line c first other) = Stmt-F.If line c.now first.now other.now
-form_of (next.While l) = Stmt-F.While l.place l.cond.now l.invariant.now l.body.now
-form_of (next.Behind l) = Stmt-F.If l.place.line l.cond.now (l.body.now ++ loop_of l ∷ []) []
+form_of (next.While l) = Stmt-F.While l.place l.test.now l.invariant.now l.body.now
+form_of (next.Behind l) = Stmt-F.If l.place.line l.test.now (l.body.now ++ loop_of l ∷ []) []
 form_of (next.Split place a) = Stmt-F.Split place a.now
 form_of (next.Call place call) = Stmt-F.Call place call.now
 

@@ -16,7 +16,7 @@ use store_logic::{Act, Assertion, Cond};
 #[derive(Clone, Copy)]
 pub(crate) struct Loop<'a> {
     pub place: Pos,
-    pub cond: &'a Cond,
+    pub test: &'a Cond,
     pub invariant: &'a Assertion,
     pub body: &'a [Stmt],
 }
@@ -56,7 +56,7 @@ fn parts_of<'a>(stmt: &'a Stmt) -> Option<Next<'a>>
         }
         Stmt::While(place, cond, invariant, body) => Some(Next::While(Loop {
             place: *place,
-            cond,
+            test: cond,
             invariant,
             body: body.as_slice(),
         })),

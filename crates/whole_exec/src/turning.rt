@@ -122,7 +122,7 @@ fn take_behind<'a>(
     behind: Loop<'a>,
 ) -> Result<Result<At<'a>, Fault>, AllocError>
     requires ready { IsReady program.now (entry_of activation) store }
-    requires cond { CondFits program.now.types activation.vars.now behind.cond.now }
+    requires cond { CondFits program.now.types activation.vars.now behind.test.now }
     ensures { IfOk result (λ end. (waiting : List Waiting) →
         GoesAs program.now activation.entry store (form_of (next.Behind behind.entry)) waiting (turn_of waiting end)) }
 {
@@ -131,7 +131,7 @@ fn take_behind<'a>(
         alloc,
         program.types(),
         behind.place.line,
-        behind.cond,
+        behind.test,
         store,
     )? {
         Ok((truth, after)) => {

@@ -21,7 +21,7 @@ returns-in-Again-clause-same c =
     let l = c.in-Again.again in (
       0,
       ap (λ (p : Piece). stmts_of p ++ left_of c.args.left.now) c.in-Again.is
-          ∙ ap (λ (s : Stmt). s ∷ left_of c.args.left.now) (sym (stmt.rolls-While l.place l.cond.now l.invariant.now l.body.now)),
+          ∙ ap (λ (s : Stmt). s ∷ left_of c.args.left.now) (sym (stmt.rolls-While l.place l.test.now l.invariant.now l.body.now)),
     )
 
 pub returns-in-Behind-clause-same : goal.returns-in-Behind-clause-same
@@ -29,5 +29,5 @@ returns-in-Behind-clause-same c =
     let l = c.in-Behind.behind in (
       0,
       ap (λ (p : Piece). stmts_of p ++ left_of c.args.left.now) c.in-Behind.is
-          ∙ ap (λ (s : Stmt). s ∷ left_of c.args.left.now) (sym (stmt.rolls-If l.place.line l.cond.now (l.body.now ++ loop_of l ∷ []) [])),
+          ∙ ap (λ (s : Stmt). s ∷ left_of c.args.left.now) (sym (stmt.rolls-If l.place.line l.test.now (l.body.now ++ loop_of l ∷ []) [])),
     )
