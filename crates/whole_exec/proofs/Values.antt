@@ -30,12 +30,15 @@ use Rattle.whole_exec.specs.Turning.{IsEntered}
 
 -- ---- variables in order of the table
 
+abbrev var_of : ℕ → VarId
+var_of n = record { 0 = n }
+
 -- one variable more
 pub numbered_more : (f : VarId → Value) (i : ℕ) (now after : List Value) → now ≡ map f (numbered (range_with_len 0 i)) →
     after ≡ now ++ f (record { 0 = i }) ∷ [] → after ≡ map f (numbered (range_with_len 0 (i + 1)))
 numbered_more f i now after so_far put =
     put ∙ ap (λ (l : List Value). l ++ f (record { 0 = i }) ∷ []) so_far
-    ∙ sym (ap (map f) (map-range_with_len_more (λ (n : ℕ). record { 0 = n }) 0 i i (omega arith)) ∙ map_push f (numbered (range_with_len 0 i)) (record { 0 = i }))
+    ∙ sym (ap (map f) (map-range_with_len_more var_of 0 i i (omega arith)) ∙ map_push f (numbered (range_with_len 0 i)) (var_of i))
 
 -- ---- a variable after a return
 
