@@ -36,8 +36,8 @@ fn answer_at(at: At<'_>, waiting: Stack<Suspended<'_>>) -> Answer
 /// them, it fails, or the procedure exits. The program fits; the store fits the procedure's variables and is fresh, and its next
 /// number and the count of the steps are together below 4,294,967,295, so that each step finds a number for a new cell.
 ///
-/// There is an answer whatever the program and the store are, and a run has one answer alone. (Møller and Schwartzbach, PLDI 2001:
-/// procedures, loops and calls.)
+/// But for want of memory there is an answer, whatever the program does, and a run has one answer alone. (Møller and Schwartzbach,
+/// PLDI 2001: procedures, loops and calls.)
 pub fn run_procedure(
     alloc: Global,
     program: &Typed,
