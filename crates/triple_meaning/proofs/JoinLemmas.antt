@@ -1,18 +1,16 @@
 -- What the state sees, in the words of the laws on assertions, claims and cuts.
-use Rattle.std.proofs.Common.{◌≡◌, ◌↔◌, ℕ, ◌<◌, ◌≤◌, List, [], map, Option, Some, None, inl, inr, refl, sym, ◌∙◌, ap, subst, arith}
-use Rattle.std.specs.Prelude.{IfSome, IsSomeAnd, slice_get}
+use Rattle.std.proofs.Common.{◌≡◌, ◌↔◌, ℕ, ◌<◌, List, [], map, Option, Some, None, refl, sym, ap, subst, arith}
+use Rattle.std.specs.Prelude.{IfSome, IsSomeAnd}
 use Rattle.std.proofs.lemmas.List.{reverse-reverse}
 use Rattle.std.specs.Option.{IsSome}
 use Rattle.std.specs.List.{AllByRecursion}
 use Rattle.gta_theory.specs.Assignments.{Assignment}
 use Rattle.ws2s_core.specs.Satisfaction.{WSat}
 use Rattle.ws2s_forms.specs.Forms.{track}
-use Rattle.store_core.specs.declared.ids.CellId.{CellId}
 use Rattle.store_core.specs.declared.ids.VarId.{VarId}
 use Rattle.store_core.specs.declared.value.Value.{Value}
-use Rattle.store_core.specs.declared.value.Value.TheVariants as value
 use Rattle.store_core.specs.Tables.{TypeEntry, VarEntry}
-use Rattle.store_core.specs.Stores.{StoreMap, CellEntry, cell_of, var_value, IsLive}
+use Rattle.store_core.specs.Stores.{StoreMap, CellEntry, cell_of, IsLive}
 use Rattle.store_core.proofs.Bodies.{AllByRecursion-at}
 use Rattle.routing_expr.specs.declared.fault.Place.TheVariants as place
 use Rattle.routing_expr.specs.WellFormed.{NamesDead}
@@ -38,7 +36,7 @@ use Rattle.graph_cuts.proofs.WrongLemmas.{wrong-means}
 use Rattle.site_view.specs.States.{State, sight, value_of, next_track}
 use Rattle.site_view.specs.Parts.{is_part, escapes}
 use Rattle.site_view.specs.Cuts.{claims}
-use Rattle.claim_meaning.specs.Given.{HasPart, IsGiven, IsRegionOf, IsNamedBy, NameLive}
+use Rattle.claim_meaning.specs.Given.{IsGiven, IsRegionOf, NameLive}
 use Rattle.claim_meaning.specs.Stating.{view_of}
 use Rattle.claim_meaning.proofs.EscapeLemmas.{escapes-means}
 use Rattle.claim_meaning.proofs.PartLemmas.{live-part-means}
