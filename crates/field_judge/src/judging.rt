@@ -10,6 +10,7 @@ ghost use Rattle.field_judge.specs.Judging.{HasFieldPeak, IsLightestFork, IsLeas
 
 use crate::forks::first_fork;
 use crate::variables::one_each;
+use crate::verdicts::verdict_on;
 use crate::weighing::weighed;
 use bdd_nodes::Shelf;
 use graph_type::field_formula;
@@ -18,7 +19,8 @@ use store_core::{CellId, FieldId, Store, TypeTable};
 use tree_encode::{Layout, VariantList};
 use witness_store::backbone_of;
 use ws2s_core::LabelTree;
-use ws2s_decide::{Verdict, decide};
+use ws2s_decide::Verdict;
+use ws2s_pass::PassList;
 
 /// What is said of a pointer field.
 #[derive(Drop)]
@@ -55,6 +57,7 @@ fn judge_laid_out(
     alloc: Global,
     l: &Layout<'_>,
     f: FieldId,
+    passes: &PassList,
     shelf: &mut Shelf,
 ) -> Result<FieldJudged, AllocError>
     requires table { IsTypeTable l.now.types }
@@ -72,7 +75,7 @@ fn judge_laid_out(
     let guide = l.guide(alloc)?;
     let tracks = weighed(alloc, l)?;
     let formula = field_formula(alloc, l, f)?;
-    match decide(alloc, &formula, &guide, &tracks, shelf)? {
+    match verdict_on(alloc, &formula, passes, &guide, &tracks, shelf)? {
         Verdict::None => Ok(FieldJudged::Functional),
         Verdict::Witness(tree, _) => {
             let (store, cell) = fork_of(alloc, l, f, &tree)?;
@@ -84,10 +87,10 @@ fn judge_laid_out(
 
 /// Judges a pointer field of the table of types: [`FieldJudged::Functional`] exactly where on every backbone, over whatever
 /// variables, each cell has at most one destination for it; otherwise a backbone of the fewest cells on which a cell has two, with
-/// the first such cell; or [`FieldJudged::Limit`], only where the Peak of the field's formula exceeds the shelf's limit. The
-/// backbone has one data variable of each type, as [`one_each`](crate::one_each) makes them, and null in each pointer field. The
-/// shelf has no table at the call, and none afterwards. A cell has no destination for a field that is no pointer field, so such a
-/// field is functional. (Klarlund and Schwartzbach 1993.)
+/// the first such cell; or [`FieldJudged::Limit`], only where the Peak of the field's formula exceeds the shelf's limit, whatever
+/// the passes are. The backbone has one data variable of each type, as [`one_each`](crate::one_each) makes them, and null in each
+/// pointer field. The shelf has no table at the call, and none afterwards. A cell has no destination for a field that is no
+/// pointer field, so such a field is functional. (Klarlund and Schwartzbach 1993.)
 ///
 /// # Errors
 ///
@@ -97,6 +100,7 @@ pub fn judge_field(
     alloc: Global,
     types: &TypeTable,
     f: FieldId,
+    passes: &PassList,
     shelf: &mut Shelf,
 ) -> Result<FieldJudged, AllocError>
     requires { HasNoTables shelf.old }
@@ -115,5 +119,5 @@ pub fn judge_field(
     let _ = types.types();
     let vars = one_each(alloc, types)?;
     let l = Layout::new(alloc, types, &vars, &VariantList::new(alloc))?;
-    judge_laid_out(alloc, &l, f, shelf)
+    judge_laid_out(alloc, &l, f, passes, shelf)
 }

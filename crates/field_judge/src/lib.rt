@@ -7,6 +7,7 @@ mod forks;
 mod judging;
 pub mod laws;
 mod variables;
+mod verdicts;
 mod weighing;
 
 pub use judging::{FieldJudged, judge_field};

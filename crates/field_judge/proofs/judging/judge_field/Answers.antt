@@ -7,11 +7,11 @@ use Rattle.field_judge.proofs.OneEachLemmas.{types-known}
 use Rattle.field_judge.proofs.judging.judge_field.Goals as goal
 
 pub new-requires-2-clause-vars : goal.new-requires-2-clause-vars
-new-requires-2-clause-vars c =
+new-requires-2-clause-vars g c =
     let types = c.args.types.now in
     subst (AllByRecursion (λ (entry : VarEntry). KnowsVarKind types entry.kind)) (sym c.in_ok-vars.ensures) (types-known types)
 
 pub returns-clause-limit : goal.returns-clause-limit
-returns-clause-limit c = λ is p peak.
+returns-clause-limit g c = λ is p peak.
     c.judge_laid_out.ensures.limit is p
     (subst (λ (ts : List TypeEntry). HasFieldPeak ts c.args.f p) (sym (ap (λ (l : LaidOut). l.types) c.in_ok-l.ensures)) peak)
