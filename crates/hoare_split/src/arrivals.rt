@@ -12,7 +12,7 @@ use store_exec::Cut;
 use store_logic::{Assertion, VarList};
 
 /// At a `while`, a `split` or the exit: the assertion on all cells.
-pub(crate) fn plain_cut(alloc: Global, line: u32, assertion: &Assertion) -> Result<Cut, AllocError>
+pub fn plain_cut(alloc: Global, line: u32, assertion: &Assertion) -> Result<Cut, AllocError>
     ensures { IfOk result (λ cut. cut ≡ cuts.plain_cut line assertion.now) }
 {
     Ok(Cut {
@@ -24,7 +24,7 @@ pub(crate) fn plain_cut(alloc: Global, line: u32, assertion: &Assertion) -> Resu
 }
 
 /// At a call: the callee's `pre` on what is handed over, and `keep` on the rest.
-pub(crate) fn call_cut(
+pub fn call_cut(
     alloc: Global,
     caller: &Caller<'_>,
     line: u32,

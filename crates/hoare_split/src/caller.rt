@@ -18,7 +18,7 @@ pub struct Caller<'a> {
 }
 
 /// The class of a variable; one that isn't there counts as a truth value.
-pub(crate) fn class_at(vars: &VarTable, var: VarId) -> VarClass
+pub fn class_at(vars: &VarTable, var: VarId) -> VarClass
     ensures { result ≡ class_at vars.now var }
 {
     match vars.kind(var) {
@@ -28,7 +28,7 @@ pub(crate) fn class_at(vars: &VarTable, var: VarId) -> VarClass
 }
 
 /// Whether the variable is one of these.
-pub(crate) fn is_listed(vars: &[VarId], var: VarId) -> bool
+pub fn is_listed(vars: &[VarId], var: VarId) -> bool
     ensures { result ≡ is_listed vars.now var }
 {
     vars.iter().any(|listed| listed.0 == var.0)

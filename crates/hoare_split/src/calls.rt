@@ -21,7 +21,7 @@ fn is_data(vars: &VarTable, var: VarId) -> bool
 }
 
 /// The data variables among the arguments, in their order.
-pub(crate) fn handed(alloc: Global, vars: &VarTable, args: &[Actual]) -> Result<VarList, AllocError>
+pub fn handed(alloc: Global, vars: &VarTable, args: &[Actual]) -> Result<VarList, AllocError>
     ensures { IfOk result (λ found. found ≡ calls.handed_by vars.now args.now) }
 {
     let mut found = VarList::new(alloc);

@@ -23,6 +23,11 @@ mod settings;
 mod splitting;
 mod starts;
 
+pub use arrivals::{call_cut, plain_cut};
+pub use caller::{Caller, class_at, is_listed};
+pub use calls::handed;
 pub use laws::triples_of_programs_that_fit_fit;
+pub use picking::{Pick, is_argument};
 pub use points::TripleList;
-pub use splitting::split;
+pub use settings::set_picked;
+pub use splitting::{caller_at, split};

@@ -38,7 +38,7 @@ fn is_handed(var: VarId, arg: Actual) -> bool
 }
 
 /// Whether the variable is among these arguments.
-fn is_argument(args: &[Actual], var: VarId) -> bool
+pub fn is_argument(args: &[Actual], var: VarId) -> bool
     ensures { result ≡ is_argument args.now var }
 {
     args.iter().any(|arg| is_handed(var, *arg))

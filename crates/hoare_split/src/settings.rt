@@ -28,7 +28,7 @@ fn setting(alloc: Global, vars: &VarTable, line: u32, var: VarId) -> Item
 }
 
 /// Puts a setting for each picked variable at the end of the items, in order of the table, with the line of the cut that follows.
-pub(crate) fn set_picked(
+pub fn set_picked(
     alloc: Global,
     vars: &VarTable,
     pick: Pick<'_>,

@@ -16,7 +16,7 @@ use pale_types::Typed;
 use std::alloc::Global;
 
 /// A procedure of the program, with its variables; `None` exactly for an unknown one.
-fn caller_at(program: &Typed, number: u32) -> Option<Caller<'_>>
+pub fn caller_at(program: &Typed, number: u32) -> Option<Caller<'_>>
     ensures entry { option_map entry_of result ≡ slice_get program.now.procs number }
     ensures procs { IfSome result (λ caller. procs_of caller ≡ program.now.procs) }
     ensures number { IfSome result (λ caller. caller.number ≡ number) }
