@@ -22,7 +22,7 @@ use Rattle.gta_refine.proofs.ListsLemmas.{FromMap-map, Contains-map, Contains-no
 
 -- a node gives what its sides give
 module _ (nodes : List ListedNode) (ordered : AreOrdered nodes) (i : ℕ) (inside : i < length nodes) where
-  gives-low : (label : Label) →
+  pub gives-low : (label : Label) →
       function_in nodes (Inner i) (with_track label (node_at nodes i).track false) ≡ function_in nodes (node_at nodes i).low label
   gives-low label =
       let n = node_at nodes i in
@@ -32,7 +32,7 @@ module _ (nodes : List ListedNode) (ordered : AreOrdered nodes) (i : ℕ) (insid
       ∙ function_in-unasked nodes ordered n.low (suc n.track) there label (let b = (ordered.low i inside).before in omega arith) (ordered.low i inside).later
       (λ u above. with_track-later label n.track u false above)
 
-  gives-high : (label : Label) →
+  pub gives-high : (label : Label) →
       function_in nodes (Inner i) (with_track label (node_at nodes i).track true) ≡ function_in nodes (node_at nodes i).high label
   gives-high label =
       let n = node_at nodes i in

@@ -13,3 +13,4 @@ pub mod UsesLemmas
 pub mod CutLemmas
 pub mod GiversLemmas
 pub mod ScratchLemmas
+pub mod ExploreLemmas

@@ -12,3 +12,4 @@ pub mod Uses
 pub mod Givers
 pub mod Cuts
 pub mod Scratch
+pub mod Exploring

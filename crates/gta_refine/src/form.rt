@@ -2,7 +2,7 @@
 
 ghost use Rattle.std.specs.Prelude.{◌≡◌, ◌<◌, length};
 
-use bdd_list::{Listed, Listing};
+use bdd_list::{Listed, ListedNode, Listing};
 use plain_data::Items;
 
 /// Numbers in order.
@@ -55,6 +55,7 @@ impl Form {
 }
 
 impl FormSpace {
+    ghost use Rattle.bdd_list.specs.Listing.{node_at};
     ghost use Rattle.gta_refine.specs.Form.{cell_in, root_in};
     ghost use Rattle.gta_refine.specs.Reached.{HasRoot};
 
@@ -77,5 +78,14 @@ impl FormSpace {
         ensures { result ≡ root_in self.now (cell_in self.now left right) }
     {
         self.listing.roots.as_slice()[self.cell(left, right)]
+    }
+
+    /// A node of the listing.
+    #[inline]
+    pub(crate) fn node(&self, index: u32) -> ListedNode
+        requires { index < length self.now.listing.nodes }
+        ensures { result ≡ node_at self.now.listing.nodes index }
+    {
+        self.listing.nodes.as_slice()[index as usize]
     }
 }

@@ -8,6 +8,7 @@
 mod cascade;
 mod chosen;
 mod cut;
+mod explore;
 mod form;
 mod givers;
 mod lists;

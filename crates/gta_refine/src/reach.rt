@@ -5,6 +5,7 @@ ghost use Rattle.gta_refine.specs.Form.{IsForm};
 ghost use Rattle.gta_refine.specs.Reached.{AreGenerated, AreReached, IsClosedIn};
 
 use crate::chosen::{choose, mark};
+use crate::explore::explore;
 use crate::form::Form;
 use crate::sweep::sweep;
 use plain_data::Items;
@@ -95,7 +96,7 @@ pub(crate) fn reach(alloc: Global, form: &Form) -> Result<Vec<Items<bool>>, Allo
     requires { IsForm form.now }
     ensures { IfOk result (λ reached. AreReached form.now reached.items) }
 {
-    let mut reached = initial_states(alloc, form)?;
+    let mut reached = explore(alloc, form, initial_states(alloc, form)?)?;
     for _ in 0..u64::MAX {
         if !reach_more(alloc, form, &mut reached)? {
             return Ok(reached);

@@ -2,12 +2,14 @@
 
 ghost use Rattle.std.specs.Prelude.{◌≡◌, ◌<◌, ℕ, List, Some, length, slice_index, slice_set, IfOk};
 ghost use Rattle.bdd_nodes.specs.declared.node_ref.NodeRef.{NodeRef};
+ghost use Rattle.gta_refine.specs.Form.{root_in};
 ghost use Rattle.gta_refine.specs.Chosen.{IsAmong};
 ghost use Rattle.gta_refine.specs.Rows.{kinds_in, cell_at, HasRootAt, row_of, AreIds};
 ghost use Rattle.gta_refine.specs.Numbered.{number_at};
 ghost use Rattle.gta_refine.specs.Firsts.{first_of, AreFirsts, KeepsFirsts};
 
 use crate::form::FormSpace;
+use bdd_list::Listed;
 use bdd_nodes::NodeRef;
 use std::alloc::{AllocError, Global};
 use std::collections::HashMap;
@@ -40,6 +42,18 @@ pub(crate) fn cell_of(space: &FormSpace, side: Side, own: u32, beside: u32) -> u
     match side {
         Side::Left => space.cell(own, beside),
         Side::Right => space.cell(beside, own),
+    }
+}
+
+/// What is listed for a state of a child with one of the other child.
+#[inline]
+pub(crate) fn listed_of(space: &FormSpace, side: Side, own: u32, beside: u32) -> Listed
+    requires { HasRootAt space.now side own beside }
+    ensures { result ≡ root_in space.now (cell_at space.now side own beside) }
+{
+    match side {
+        Side::Left => space.listed(own, beside),
+        Side::Right => space.listed(beside, own),
     }
 }
 

@@ -28,7 +28,7 @@ fn touch(nodes: &mut Vec<bool>, states: &mut Items<bool>, is_more: &mut bool, li
 
 /// A state is found.
 #[inline]
-fn touch_state(states: &mut Items<bool>, is_more: &mut bool, state: u32)
+pub(crate) fn touch_state(states: &mut Items<bool>, is_more: &mut bool, state: u32)
     ensures states { states.new ≡ slice_set states.old state true }
     ensures unchanged { is_more.new ≡ false → (is_more.old ≡ false) × (states.new ≡ states.old) }
 {

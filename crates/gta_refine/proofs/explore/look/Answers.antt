@@ -1,0 +1,12 @@
+-- A leaf gives its state.
+use Rattle.std.proofs.Common.{subst}
+use Rattle.gta_refine.specs.Exploring.{GivesGenerated}
+use Rattle.gta_refine.proofs.ExploreLemmas.{generated-leaf}
+use Rattle.gta_refine.proofs.explore.look.Goals as goal
+
+pub pair_all-requires-clause-state : goal.pair_all-requires-clause-state
+pair_all-requires-clause-state c =
+    generated-leaf c.args.form.now c.args.next.s c.in-Leaf.state (subst (GivesGenerated c.args.form.now c.args.next.s) c.in-Leaf.is c.requires.next)
+
+pub meet_sides-requires-clause-node : goal.meet_sides-requires-clause-node
+meet_sides-requires-clause-node c = subst (GivesGenerated c.args.form.now c.args.next.s) c.in-Inner.is c.requires.next
