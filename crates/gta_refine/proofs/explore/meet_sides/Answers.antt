@@ -9,8 +9,8 @@ use Rattle.gta_refine.proofs.explore.meet_sides.Goals as goal
 pub space-requires : goal.space-requires
 space-requires c = space-inside c.args.form.now c.args.s (Inner c.args.index) c.requires.node
 
-pub node-requires : goal.node-requires
-node-requires c = node-inside c.args.form.now c.args.s c.space.result.now c.space.ensures c.requires.form c.args.index c.requires.node
+pub node-node-requires : goal.node-node-requires
+node-node-requires c = node-inside c.args.form.now c.args.s c.space.result.now c.space.ensures c.requires.form c.args.index c.requires.node
 
 pub returns : goal.returns
 returns c =
