@@ -27,8 +27,9 @@ use Rattle.gta_refine.specs.Chosen.{is_marked}
 use Rattle.gta_refine.specs.Rows.{cell_at, HasRootAt}
 use Rattle.gta_refine.specs.Reached.{HasRoot, is_reached, AreGenerated}
 use Rattle.gta_refine.specs.Refined.{child_of, child_at, opposite}
+use Rattle.gta_refine.specs.Lists.{list_at, IsAdded}
 use Rattle.gta_refine.specs.Scratch.{IsClear}
-use Rattle.gta_refine.specs.Exploring.{with_mark, AreClear, IsGeneratedIn, IsGeneratedAt, GivesGenerated, IsWaiting, KeepsNone, AllKeepNone, AreKept}
+use Rattle.gta_refine.specs.Exploring.{with_mark, AreClear, IsGeneratedIn, IsGeneratedAt, GivesGenerated, IsWaiting, KeepsNone, AllKeepNone, AreKept, AreSpaces}
 use Rattle.gta_refine.proofs.ChosenLemmas.{marked-set, marked-set_cases}
 use Rattle.gta_refine.proofs.ReachLemmas.{left-at, right-at, initial-at, step-at, many_spaces, initial-form, at-other, at-same}
 use Rattle.gta_refine.proofs.ClimbLemmas.{gives-low, gives-high}
@@ -234,6 +235,16 @@ pub AllKeepNone-push : (kept : List Kept) (more : Kept) → KeepsNone more → A
 AllKeepNone-push kept more new before s one there = elim (slice_get-push kept more one s there) [
   | inl earlier ↦ before s one earlier
   | inr last ↦ subst (λ (x : Kept). KeepsNone x) last.1 new
+]
+
+-- ---- spaces
+
+-- one more of them is listed
+pub AreSpaces-add : (form : Form) (old new : List (List ℕ)) (place number : ℕ) → IsAdded old place number new → number < length form.spaces →
+    ((s : ℕ) → AreSpaces form (list_at old s)) → (s : ℕ) → AreSpaces form (list_at new s)
+AreSpaces-add form old new place number added inside before s parent there = elim (added.sound s parent there) [
+  | inl was ↦ before s parent was
+  | inr last ↦ (let e = last.1 in omega arith)
 ]
 
 -- ---- marks

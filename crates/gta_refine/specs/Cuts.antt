@@ -16,6 +16,10 @@ IsIn part class q = (is_marked part.reached q ≡ true) × (slice_index part.cla
 abbrev pub Covers : SpaceClasses → List (List ℕ) → Type 0
 Covers part lists = (q : ℕ) → is_marked part.reached q ≡ true → Contains (list_at lists (slice_index part.classes q)) q
 
+-- each member of the class that the list had is in one of two lists
+abbrev pub IsDivided : SpaceClasses → ℕ → List ℕ → List ℕ → List ℕ → Type 0
+IsDivided part class old members moved = (q : ℕ) → IsIn part class q → Contains old q → Contains members q ⊎ Contains moved q
+
 -- 1 at each listed state, and 0 at each other one
 abbrev pub IsIndicator : List ℕ → List ℕ → Type 0
 IsIndicator listed ids = (q : ℕ) →

@@ -1,5 +1,5 @@
 -- What is met on the way from the initial states leads to generated states alone.
-use Rattle.std.specs.Prelude.{◌≡◌, ℕ, Bool, true, List, [], All, length, Some, slice_get, slice_index_or, slice_set}
+use Rattle.std.specs.Prelude.{◌≡◌, ℕ, ◌<◌, Bool, true, List, [], All, Contains, length, Some, slice_get, slice_index_or, slice_set}
 use Rattle.labels.specs.Labels.{Label}
 use Rattle.bdd_list.specs.declared.listing.Listed.{Listed}
 use Rattle.bdd_list.specs.Listing.{function_of, IsIn}
@@ -59,3 +59,7 @@ AllKeepNone kept = (s : ℕ) (one : Kept) → slice_get kept s ≡ Some one → 
 pub record AreKept (form : Form) (side : Side) (kept : List Kept) : Type 0 where
   pub many : length kept ≡ length form.spaces
   pub each : (s : ℕ) (one : Kept) → slice_get kept s ≡ Some one → All (IsGeneratedAt form s side) one.states
+
+-- they are spaces
+abbrev pub AreSpaces : Form → List ℕ → Type 0
+AreSpaces form numbers = (s : ℕ) → Contains numbers s → s < length form.spaces

@@ -4,7 +4,7 @@ ghost use Rattle.std.specs.Prelude.{◌≡◌, ◌<◌, ◌≤◌, ℕ, ◌⊎�
 ghost use Rattle.gta_refine.specs.Chosen.{is_marked};
 ghost use Rattle.gta_refine.specs.Classes.{AreClasses, IsSplit};
 ghost use Rattle.gta_refine.specs.Lists.{Leads};
-ghost use Rattle.gta_refine.specs.Cuts.{IsIndicator, IsIn, IsCut, HasOthers, Covers};
+ghost use Rattle.gta_refine.specs.Cuts.{IsIndicator, IsIn, IsCut, IsDivided, HasOthers, Covers};
 ghost use Rattle.gta_refine.specs.Scratch.{AreZero};
 
 use crate::form::NumberList;
@@ -81,50 +81,111 @@ fn represent(part: &mut SpaceClasses, class: u32, state: u32)
     }
 }
 
-/// A state of a class that isn't listed.
-fn unlisted(part: &SpaceClasses, members: &[u32], ids: &[u32], class: u32) -> Option<u32>
+/// Moves members of a class from the end of its list to another one, down to one that isn't listed, which is the result.
+/// Those that left the class are dropped.
+fn move_members(
+    part: &SpaceClasses,
+    class: u32,
+    ids: &[u32],
+    members: &mut NumberList,
+    moved: &mut NumberList,
+) -> Result<Option<u32>, AllocError>
     requires { length part.now.classes ≡ length part.now.reached }
+    ensures { IfOk result (λ found. IsDivided part.now class members.old members.new moved.new) }
 {
-    for state in members {
-        if is_in(part, *state, class) && ids.get(*state as usize).copied() == Some(0) {
-            return Some(*state);
+    for _ in 0..members.len() {
+        let Some(state) = members.pop() else {
+            return Ok(None);
+        };
+        if is_in(part, state, class) {
+            moved.push(state)?;
+            if ids.get(state as usize).copied() == Some(0) {
+                return Ok(Some(state));
+            }
         }
     }
-    None
+    Ok(None)
+}
+
+/// A state of a class that isn't listed. Members that left the class and are met on the way leave its list, so that none is
+/// gone over for long.
+fn unlisted(
+    alloc: Global,
+    part: &SpaceClasses,
+    class: u32,
+    ids: &[u32],
+    members: &mut NumberList,
+) -> Result<Option<u32>, AllocError>
+    requires { length part.now.classes ≡ length part.now.reached }
+    ensures { IfOk result (λ found. (q : ℕ) → IsIn part.now class q → Contains members.old q → Contains members.new q) }
+{
+    let mut moved = Items::new(alloc);
+    let found = move_members(part, class, ids, members, &mut moved)?;
+    members.append(moved)?;
+    Ok(found)
+}
+
+/// Has a class represented by a state that isn't listed, if it has one.
+fn represent_unlisted(
+    alloc: Global,
+    class: u32,
+    ids: &[u32],
+    lists: &mut Vec<NumberList>,
+    part: &mut SpaceClasses,
+) -> Result<(), AllocError>
+    requires classes { AreClasses part.old.reached part.old.classes part.old.representatives }
+    requires covers { Covers part.old lists.old.items }
+    ensures classes { IfOk result (λ done. AreClasses part.new.reached part.new.classes part.new.representatives) }
+    ensures reached { IfOk result (λ done. part.new.reached ≡ part.old.reached) }
+    ensures kept { IfOk result (λ done. part.new.classes ≡ part.old.classes) }
+    ensures many { IfOk result (λ done. length part.new.representatives ≡ length part.old.representatives) }
+    ensures covers { IfOk result (λ done. Covers part.old lists.new.items) }
+{
+    if class as usize >= lists.len() {
+        return Ok(());
+    }
+    let Some(other) = unlisted(alloc, part, class, ids, &mut lists[class as usize])? else {
+        return Ok(());
+    };
+    represent(part, class, other);
+    Ok(())
 }
 
 /// Has a listed state's class represented by a state of its larger part: the listed states of the class, or its others.
 fn choose_larger(
+    alloc: Global,
     state: u32,
     ids: &[u32],
     counts: &HashMap<u32, u32>,
-    lists: &[NumberList],
+    lists: &mut Vec<NumberList>,
     part: &mut SpaceClasses,
-)
-    requires { AreClasses part.old.reached part.old.classes part.old.representatives }
-    ensures classes { AreClasses part.new.reached part.new.classes part.new.representatives }
-    ensures reached { part.new.reached ≡ part.old.reached }
-    ensures kept { part.new.classes ≡ part.old.classes }
-    ensures many { length part.new.representatives ≡ length part.old.representatives }
+) -> Result<(), AllocError>
+    requires classes { AreClasses part.old.reached part.old.classes part.old.representatives }
+    requires covers { Covers part.old lists.old.items }
+    ensures classes { IfOk result (λ done. AreClasses part.new.reached part.new.classes part.new.representatives) }
+    ensures reached { IfOk result (λ done. part.new.reached ≡ part.old.reached) }
+    ensures kept { IfOk result (λ done. part.new.classes ≡ part.old.classes) }
+    ensures many { IfOk result (λ done. length part.new.representatives ≡ length part.old.representatives) }
+    ensures covers { IfOk result (λ done. Covers part.old lists.new.items) }
 {
     let Some(class) = part.classes.get(state as usize).copied() else {
-        return;
+        return Ok(());
     };
     let Some(first) = part.representatives.get(class as usize).copied() else {
-        return;
+        return Ok(());
     };
-    let members = numbers_at(lists, class);
     let is_first_listed = ids.get(first as usize).copied() == Some(1);
     let count = counts.get(&class).copied().unwrap_or(0) as usize;
-    let is_more = count > members.len() / 2;
-    if !is_first_listed && is_more {
+    let is_more = count > numbers_at(lists, class).len() / 2;
+    if is_more && !is_first_listed {
         represent(part, class, state);
+        return Ok(());
     }
-    if is_first_listed && !is_more && first == state {
-        if let Some(other) = unlisted(part, members, ids, class) {
-            represent(part, class, other);
-        }
+    if is_more || first != state {
+        return Ok(());
     }
+    represent_unlisted(alloc, class, ids, lists, part)?;
+    Ok(())
 }
 
 /// Has each class represented by a state of its larger part.
@@ -132,18 +193,20 @@ fn choose_representatives(
     alloc: Global,
     listed: &[u32],
     ids: &[u32],
-    lists: &[NumberList],
+    lists: &mut Vec<NumberList>,
     part: &mut SpaceClasses,
 ) -> Result<(), AllocError>
-    requires { AreClasses part.old.reached part.old.classes part.old.representatives }
+    requires classes { AreClasses part.old.reached part.old.classes part.old.representatives }
+    requires covers { Covers part.old lists.old.items }
     ensures classes { IfOk result (λ done. AreClasses part.new.reached part.new.classes part.new.representatives) }
     ensures reached { IfOk result (λ done. part.new.reached ≡ part.old.reached) }
     ensures kept { IfOk result (λ done. part.new.classes ≡ part.old.classes) }
     ensures many { IfOk result (λ done. length part.new.representatives ≡ length part.old.representatives) }
+    ensures covers { IfOk result (λ done. Covers part.new lists.new.items) }
 {
     let counts = counts(alloc, listed, part)?;
     for state in listed {
-        choose_larger(*state, ids, &counts, lists, part);
+        choose_larger(alloc, *state, ids, &counts, lists, part)?;
     }
     Ok(())
 }

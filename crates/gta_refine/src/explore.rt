@@ -2,16 +2,18 @@
 //! them: what is new waits on a stack, each node is gone down once, and each pair of classes of child states is looked at
 //! once. What is found here is generated. That nothing is missing is for the rounds to say.
 
-ghost use Rattle.std.specs.Prelude.{◌≡◌, ◌<◌, All, IfOk, Some, false, true, length, replicate, slice_get, slice_index, slice_set, vec_len};
+ghost use Rattle.std.specs.Prelude.{◌≡◌, ◌<◌, ℕ, All, IfOk, Some, false, true, length, replicate, slice_get, slice_index, slice_set, vec_len};
 ghost use Rattle.bdd_list.specs.declared.listing.Listed.TheVariants.{Inner};
 ghost use Rattle.gta_refine.specs.declared.form.Form.{Form};
 ghost use Rattle.gta_refine.specs.declared.rows.Side.TheVariants.{Left, Right};
 ghost use Rattle.gta_refine.specs.Form.{IsForm};
 ghost use Rattle.gta_refine.specs.Reached.{AreGenerated};
 ghost use Rattle.gta_refine.specs.Refined.{opposite};
-ghost use Rattle.gta_refine.specs.Exploring.{with_mark, AreClear, IsGeneratedIn, IsGeneratedAt, GivesGenerated, IsWaiting, AreMet, KeepsNone, AllKeepNone, AreKept};
+ghost use Rattle.gta_refine.specs.Lists.{list_at};
+ghost use Rattle.gta_refine.specs.Exploring.{with_mark, AreClear, IsGeneratedIn, IsGeneratedAt, GivesGenerated, IsWaiting, AreMet, KeepsNone, AllKeepNone, AreKept, AreSpaces};
 
 use crate::form::{Form, FormSpace, NumberList};
+use crate::lists::{add_at, empty_lists, list_of, number_of};
 use crate::rounds::child;
 use crate::rows::{Side, above, kinds_of, listed_of};
 use crate::sweep::touch_state;
@@ -199,9 +201,10 @@ fn pair_at(
     Ok(())
 }
 
-/// A state of a space was found: it is paired wherever it is a child state.
+/// A state of a space was found: it is paired in the spaces that have the space as a child.
 fn pair_all(
     form: &Form,
+    parents: &[u32],
     s: usize,
     state: u32,
     lefts: &mut Vec<Kept>,
@@ -209,6 +212,7 @@ fn pair_all(
     met: &mut Met,
 ) -> Result<(), AllocError>
     requires form { IsForm form.now }
+    requires parents { AreSpaces form.now parents.now }
     requires state { IsGeneratedIn form.now s state }
     requires lefts { AreKept form.now Left lefts.old.items }
     requires rights { AreKept form.now Right rights.old.items }
@@ -217,7 +221,8 @@ fn pair_all(
     ensures rights { IfOk result (λ done. AreKept form.now Right rights.new.items) }
     ensures met { IfOk result (λ done. AreMet form.now met.new) }
 {
-    for parent in 0..form.spaces.len() {
+    for parent in parents {
+        let parent = *parent as usize;
         pair_at(form, parent, Side::Left, s, state, lefts, rights, met)?;
         pair_at(form, parent, Side::Right, s, state, rights, lefts, met)?;
     }
@@ -227,12 +232,14 @@ fn pair_all(
 /// What waited is looked at: a state is paired, and of a node the sides are met.
 fn look(
     form: &Form,
+    parents: &[NumberList],
     next: Waiting,
     lefts: &mut Vec<Kept>,
     rights: &mut Vec<Kept>,
     met: &mut Met,
 ) -> Result<(), AllocError>
     requires form { IsForm form.now }
+    requires parents { (s : ℕ) → AreSpaces form.now (list_at parents.now s) }
     requires next { IsWaiting form.now next }
     requires lefts { AreKept form.now Left lefts.old.items }
     requires rights { AreKept form.now Right rights.old.items }
@@ -243,7 +250,8 @@ fn look(
 {
     match next.listed {
         Listed::Leaf(state) => {
-            pair_all(form, next.s, state, lefts, rights, met)?;
+            let parents = list_of(parents, next.s);
+            pair_all(form, parents, next.s, state, lefts, rights, met)?;
             Ok(())
         }
         Listed::Inner(index) => {
@@ -271,6 +279,20 @@ fn unmarked_nodes(alloc: Global, form: &Form) -> Result<Vec<Items<bool>>, AllocE
         nodes.push(unmarked(alloc, space.listing.nodes.len())?)?;
     }
     Ok(nodes)
+}
+
+/// For each space the spaces that have it as a child.
+fn parent_spaces(alloc: Global, form: &Form) -> Result<Vec<NumberList>, AllocError>
+    ensures { IfOk result (λ parents. (s : ℕ) → AreSpaces form.now (list_at parents.items s)) }
+{
+    let mut parents = empty_lists(alloc, form.spaces.len())?;
+    for s in 0..form.spaces.len() {
+        let parent = number_of(s)?;
+        let (left, right) = form.space(s).children;
+        add_at(&mut parents, left, parent)?;
+        add_at(&mut parents, right, parent)?;
+    }
+    Ok(parents)
 }
 
 /// The initial states wait.
@@ -318,6 +340,7 @@ pub(crate) fn explore(
     requires states { AreGenerated form.now states.items }
     ensures { IfOk result (λ found. AreGenerated form.now found.items) }
 {
+    let parents = parent_spaces(alloc, form)?;
     let nodes = unmarked_nodes(alloc, form)?;
     let waiting = initial_waiting(alloc, form)?;
     let mut met = Met {
@@ -331,7 +354,7 @@ pub(crate) fn explore(
         let Some(next) = met.waiting.pop() else {
             return Ok(met.states);
         };
-        look(form, next, &mut lefts, &mut rights, &mut met)?;
+        look(form, &parents, next, &mut lefts, &mut rights, &mut met)?;
     }
     Err(AllocError)
 }

@@ -50,13 +50,21 @@ pub(crate) fn add_at(lists: &mut Vec<NumberList>, place: u32, number: u32) -> Re
 
 /// The list at a place; past the last place none.
 #[inline]
-pub(crate) fn numbers_at(lists: &[NumberList], place: u32) -> &[u32]
+pub(crate) fn list_of(lists: &[NumberList], place: usize) -> &[u32]
     ensures { result.now ≡ list_at lists.now place }
 {
-    match lists.get(place as usize) {
+    match lists.get(place) {
         Some(list) => list.as_slice(),
         None => &[],
     }
+}
+
+/// The list at a number; past the last place none.
+#[inline]
+pub(crate) fn numbers_at(lists: &[NumberList], place: u32) -> &[u32]
+    ensures { result.now ≡ list_at lists.now place }
+{
+    list_of(lists, place as usize)
 }
 
 /// The lists at some places, one after the other.

@@ -1,5 +1,6 @@
 use Rattle.std.proofs.Common.{◌≡◌, length}
 use Rattle.gta_refine.specs.Classes.{AreClasses}
+use Rattle.gta_refine.specs.Cuts.{Covers}
 use Rattle.gta_refine.proofs.cut.choose_representatives.Given as goal
 
 abbrev pub invariant-loop-state : goal.invariant-loop-state
@@ -8,4 +9,5 @@ invariant-loop-state l = record {
   reached : l.part.reached ≡ l.fn.part.reached;
   kept : l.part.classes ≡ l.fn.part.classes;
   many : length l.part.representatives ≡ length l.fn.part.representatives;
+  covers : Covers l.part l.lists.items;
 }

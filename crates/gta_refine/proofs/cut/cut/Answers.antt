@@ -13,9 +13,9 @@ indicate-requires-clause-small c = λ q there.
 
 pub split_listed-requires-clause-others : goal.split_listed-requires-clause-others
 split_listed-requires-clause-others c = λ q marked outside.
-    others-same c.choose_representatives.new.part c.args.listed.now c.deref-4.result.now c.deref-5.result.now
-    (subst (HasOthers c.choose_representatives.new.part c.args.listed.now) (sym c.deref-4.ensures.value) c.in_ok-order.ensures)
-    (subst (IsIndicator c.args.listed.now) (sym c.deref-5.ensures.value) c.indicate.ensures.indicator) q marked outside
+    others-same c.choose_representatives.new.part c.args.listed.now c.deref-3.result.now c.deref-4.result.now
+    (subst (HasOthers c.choose_representatives.new.part c.args.listed.now) (sym c.deref-3.ensures.value) c.in_ok-order.ensures)
+    (subst (IsIndicator c.args.listed.now) (sym c.deref-4.ensures.value) c.indicate.ensures.indicator) q marked outside
 
 pub reset-requires-clause-small : goal.reset-requires-clause-small
 reset-requires-clause-small c = λ q there.

@@ -1,9 +1,10 @@
 -- What waits first is looked at.
-use Rattle.std.proofs.Common.{◌≡◌, List, length, subst, arith}
-use Rattle.std.specs.Prelude.{All}
+use Rattle.std.proofs.Common.{◌≡◌, ℕ, List, length, subst, arith}
+use Rattle.std.specs.Prelude.{All, Contains}
 use Rattle.std.proofs.lemmas.List.Elements.{All-head, All-tail}
 use Rattle.gta_refine.specs.declared.rows.Side.TheVariants.{Left, Right}
 use Rattle.gta_refine.specs.declared.explore.Waiting.{Waiting}
+use Rattle.gta_refine.specs.Lists.{list_at}
 use Rattle.gta_refine.specs.Exploring.{IsWaiting}
 use Rattle.gta_refine.proofs.ExploreLemmas.{AreKept-none}
 use Rattle.gta_refine.proofs.explore.explore.Goals as goal
@@ -18,6 +19,10 @@ loop-init c =
           (let m = c.in_ok-rights.ensures.many in let o = c.in_ok-rights.rights.ok in omega arith) c.in_ok-rights.ensures.none;
       met = record { states = c.requires.states; waiting = c.in_ok-waiting.ensures };
     }
+
+pub look-requires-clause-parents : goal.look-requires-clause-parents
+look-requires-clause-parents c = λ s parent there.
+    c.in_ok-parents.ensures s parent (subst (λ (lists : List (List ℕ)). Contains (list_at lists s) parent) c.deref.ensures.value there)
 
 pub look-requires-clause-next : goal.look-requires-clause-next
 look-requires-clause-next c =

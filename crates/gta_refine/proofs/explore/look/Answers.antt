@@ -1,8 +1,13 @@
 -- A leaf gives its state.
-use Rattle.std.proofs.Common.{subst}
+use Rattle.std.proofs.Common.{ℕ, List, subst}
+use Rattle.std.specs.Prelude.{Contains}
 use Rattle.gta_refine.specs.Exploring.{GivesGenerated}
 use Rattle.gta_refine.proofs.ExploreLemmas.{generated-leaf}
 use Rattle.gta_refine.proofs.explore.look.Goals as goal
+
+pub pair_all-requires-clause-parents : goal.pair_all-requires-clause-parents
+pair_all-requires-clause-parents c = λ parent there.
+    c.requires.parents c.args.next.s parent (subst (λ (xs : List ℕ). Contains xs parent) c.list_of-parents.ensures there)
 
 pub pair_all-requires-clause-state : goal.pair_all-requires-clause-state
 pair_all-requires-clause-state c =
