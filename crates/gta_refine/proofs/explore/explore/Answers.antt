@@ -1,5 +1,5 @@
 -- What waits first is looked at.
-use Rattle.std.proofs.Common.{◌≡◌, ℕ, List, length, subst, arith}
+use Rattle.std.proofs.Common.{ℕ, List, subst, arith}
 use Rattle.std.specs.Prelude.{All, Contains}
 use Rattle.std.proofs.lemmas.List.Elements.{All-head, All-tail}
 use Rattle.gta_refine.specs.declared.rows.Side.TheVariants.{Left, Right}

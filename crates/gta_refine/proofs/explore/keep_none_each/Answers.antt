@@ -1,5 +1,5 @@
 -- One space more.
-use Rattle.std.proofs.Common.{◌≡◌, ◌+◌, List, sym, subst, arith}
+use Rattle.std.proofs.Common.{List, sym, subst, arith}
 use Rattle.gta_refine.specs.declared.explore.Kept.{Kept}
 use Rattle.gta_refine.specs.Exploring.{AllKeepNone}
 use Rattle.gta_refine.proofs.ExploreLemmas.{AllKeepNone-push}
