@@ -18,7 +18,7 @@ use Rattle.gta_refine.specs.Chosen.{is_marked}
 use Rattle.gta_refine.specs.Classes.{AreClasses, IsSplit}
 use Rattle.gta_refine.specs.Splitting.{Made, made_for, IsStep}
 use Rattle.gta_refine.specs.Lists.{list_at, Leads, IsAdded}
-use Rattle.gta_refine.specs.Cuts.{IsIndicator, IsIn, IsDivided, Covers, HasOthers, IsCut, IsCutAt, ClassLists, AllCover}
+use Rattle.gta_refine.specs.Cuts.{IsIndicator, IsIn, Covers, HasOthers, IsCut, IsCutAt, ClassLists, AllCover}
 use Rattle.gta_refine.specs.Scratch.{AreZero}
 use Rattle.gta_refine.specs.Givers.{AreGivers}
 use Rattle.gta_refine.specs.Refined.{part_at, is_reached_in, ArePartition, GiveOthersAt, child_at, child_of, room_in}
@@ -97,44 +97,6 @@ AreClasses-represent reached classes representatives class state are inside mark
         | inr other ↦ ap (slice_index classes) (get_or-set_other representatives class x state 0 other) ∙ are.has x (omega arith)
       ];
     }
-
--- the last one of a list
-module _ (part : SpaceClasses) (class : ℕ) (old members moved : List ℕ) (last : ℕ) (before : IsDivided part class old (members ++ last ∷ []) moved) where
-  pub IsDivided-move : IsDivided part class old members (moved ++ last ∷ [])
-  IsDivided-move q is there = elim (before q is there) [
-    | inl in_members ↦ elim (Contains-push_cases members last q in_members) [
-      | inl still ↦ inl still
-      | inr same ↦ inr (subst (Contains (moved ++ last ∷ [])) same (Contains-push moved last))
-    ]
-    | inr in_moved ↦ inr (Contains-append_left moved (last ∷ []) q in_moved)
-  ]
-
-  pub IsDivided-drop : (IsIn part class last → ⊥) → IsDivided part class old members moved
-  IsDivided-drop other q is there = elim (before q is there) [
-    | inl in_members ↦ elim (Contains-push_cases members last q in_members) [
-      | inl still ↦ inl still
-      | inr same ↦ absurd (other (subst (IsIn part class) (sym same) is))
-    ]
-    | inr in_moved ↦ inr in_moved
-  ]
-
--- another list of a class with all its states
-pub Covers-members : (part : SpaceClasses) (lists : List (List ℕ)) (class : ℕ) (new : List ℕ) → class < length lists →
-    ((q : ℕ) → IsIn part class q → Contains (list_at lists class) q → Contains new q) → Covers part lists → Covers part (slice_set lists class new)
-Covers-members part lists class new inside kept covers q marked = elim (cases_eq (slice_index part.classes q) class) [
-  | inl same ↦ subst (λ (xs : List ℕ). Contains xs q)
-      (sym (ap (list_at (slice_set lists class new)) same ∙ get_or-set_same lists class new [] inside))
-      (kept q (marked, same) (subst (λ (k : ℕ). Leads lists k q) same (covers q marked)))
-  | inr other ↦ subst (λ (xs : List ℕ). Contains xs q)
-      (sym (get_or-set_other lists class (slice_index part.classes q) new [] other)) (covers q marked)
-]
-
--- other representatives
-pub Covers-same : (old new : SpaceClasses) (lists : List (List ℕ)) → new.reached ≡ old.reached → new.classes ≡ old.classes →
-    Covers old lists → Covers new lists
-Covers-same old new lists same_reached same_classes covers q marked =
-    subst (λ (xs : List ℕ). Leads lists (slice_index xs q) q) (sym same_classes)
-    (covers q (sym (ap (λ (xs : List Bool). is_marked xs q) same_reached) ∙ marked))
 
 -- the states of a class so far
 pub record AddsMembers (members : List ℕ) (part : SpaceClasses) (class : ℕ) (old now : List ℕ) (below : ℕ) : Type 0 where

@@ -11,6 +11,7 @@ pub mod ListsLemmas
 pub mod ClimbLemmas
 pub mod UsesLemmas
 pub mod CutLemmas
+pub mod MembersLemmas
 pub mod GiversLemmas
 pub mod ScratchLemmas
 pub mod ExploreLemmas

@@ -1,6 +1,6 @@
 -- One state after the other.
 use Rattle.std.proofs.Common.{◌∙◌}
-use Rattle.gta_refine.proofs.CutLemmas.{Covers-same}
+use Rattle.gta_refine.proofs.MembersLemmas.{Covers-same}
 use Rattle.gta_refine.proofs.cut.choose_representatives.Goals as goal
 
 pub loop-state-preserved : goal.loop-state-preserved

@@ -2,7 +2,7 @@
 use Rattle.std.proofs.Common.{List, ℕ, ◌∷◌, ◌++◌, [], sym, ◌∙◌, subst}
 use Rattle.std.proofs.lemmas.Bool.{false≢true}
 use Rattle.gta_refine.specs.Cuts.{IsDivided}
-use Rattle.gta_refine.proofs.CutLemmas.{IsDivided-move, IsDivided-drop}
+use Rattle.gta_refine.proofs.MembersLemmas.{IsDivided-move, IsDivided-drop}
 use Rattle.gta_refine.proofs.cut.move_members.Goals as goal
 use Rattle.gta_refine.proofs.cut.move_members.Goals.{then-is_in+in_ok-push+else-eq, else-is_in}
 

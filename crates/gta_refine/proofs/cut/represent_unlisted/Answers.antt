@@ -3,7 +3,7 @@ use Rattle.std.proofs.Common.{◌≡◌, ◌<◌, ℕ, List, [], length, sym, �
 use Rattle.std.specs.Prelude.{Contains}
 use Rattle.std.proofs.lemmas.List.{get_or_default}
 use Rattle.gta_refine.specs.Lists.{list_at}
-use Rattle.gta_refine.proofs.CutLemmas.{Covers-members}
+use Rattle.gta_refine.proofs.MembersLemmas.{Covers-members}
 use Rattle.gta_refine.proofs.cut.represent_unlisted.Goals as goal
 
 pub returns-clause-covers : goal.returns-clause-covers
