@@ -32,7 +32,7 @@ use Rattle.graph_view.specs.Fields.{is_field, after, first_child, data_names}
 use Rattle.graph_view.specs.Routes.{data_walk, destination, names_in, names}
 use Rattle.graph_view.specs.After.{IsTaken, IsSymBelow, AreEventsBelow}
 use Rattle.graph_live.specs.Meaning.{Agrees}
-use Rattle.track_values.proofs.SightMeaningLemmas.{OrWhere, whole, InSym, LivesAt, OfTypeAt, AliveAt, first-few, in-means, of_type-means}
+use Rattle.track_values.proofs.SightMeaningLemmas.{OrWhere, ThereOr, whole, InSym, LivesAt, OfTypeAt, AliveAt, first-few, in-means, of_type-means}
 
 -- ---- lengths
 
@@ -125,7 +125,7 @@ module _ (types : List TypeEntry) (vars : List VarEntry) (slots n : ℕ) (few : 
   of_type-short ty events p made h = by (unnamed_of types ty) h
     where
       by : (o : Option VariantId) →
-          option_map_or (λ v. LivesAt types slots b v events p) o ((v : VariantId) × Contains (variants_of types ty) v × LivesAt types slots b v events p) →
+          ThereOr (λ v. LivesAt types slots b v events p) o ((v : VariantId) × Contains (variants_of types ty) v × LivesAt types slots b v events p) →
           length p < depth
       by None k = lives-short k.0 events p made k.2
       by (Some v) k = lives-short v events p made k

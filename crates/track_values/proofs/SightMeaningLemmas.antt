@@ -59,8 +59,13 @@ sat-chosen false f g c P Q one other = other
 sat-false : (next : ℕ) (c : Assignment) → WSat (false_at next) c ↔ ⊥
 sat-false next c = ((λ h. WSat-false next c h), (λ h. absurd h))
 
+-- this of what is there, or else the other
+abbrev pub ThereOr : {X : Type 0} → (X → Type 0) → Option X → Type 0 → Type 0
+ThereOr P None Q = Q
+ThereOr P (Some x) Q = P x
+
 sat-option : {X : Type 0} (f : X → Formula) (other : Formula) (o : Option X) (c : Assignment) (P : X → Type 0) (Q : Type 0) →
-    ((x : X) → WSat (f x) c ↔ P x) → WSat other c ↔ Q → WSat (option_map_or f o other) c ↔ option_map_or P o Q
+    ((x : X) → WSat (f x) c ↔ P x) → WSat other c ↔ Q → WSat (option_map_or f o other) c ↔ ThereOr P o Q
 sat-option f other None c P Q each none = none
 sat-option f other (Some x) c P Q each none = each x
 
@@ -89,10 +94,10 @@ module _ (types : List TypeEntry) (slots : ℕ) (b : Assignment) where
 
   abbrev pub OfTypeAt : TypeId → List Event → Position → Type 0
   OfTypeAt ty events p =
-      option_map_or (λ v. LivesAt v events p) (unnamed_of types ty) ((v : VariantId) × Contains (variants_of types ty) v × LivesAt v events p)
+      ThereOr (λ v. LivesAt v events p) (unnamed_of types ty) ((v : VariantId) × Contains (variants_of types ty) v × LivesAt v events p)
 
   abbrev pub HasAt : FieldId → List Event → Position → Type 0
-  HasAt f events p = option_map_or (λ v. LivesAt v events p) (owner types f) (OfTypeAt f.ty events p)
+  HasAt f events p = ThereOr (λ v. LivesAt v events p) (owner types f) (OfTypeAt f.ty events p)
 
   abbrev pub AliveAt : List Event → Position → Type 0
   AliveAt events p = (ty : TypeId) × Contains (types_in types) ty × OfTypeAt ty events p
@@ -114,7 +119,7 @@ module _ (types : List TypeEntry) (slots : ℕ) (b : Assignment) where
   ByKindAt f events p q (field.Pointer target along) = ⊥
 
   abbrev pub ByDataAt : FieldId → List Event → Position → Position → Type 0
-  ByDataAt f events p q = option_map_or (λ (entry : FieldEntry). ByKindAt f events p q entry.kind) (field_at types f) ⊥
+  ByDataAt f events p q = ThereOr (λ (entry : FieldEntry). ByKindAt f events p q entry.kind) (field_at types f) ⊥
 
   abbrev pub EdgeAt : List Event → Position → Position → Type 0
   EdgeAt events p q =
