@@ -3,4 +3,4 @@ pub mod NullLemmas
 pub mod StartLemmas
 pub mod SiteLemmas
 pub mod FailingLemmas
-pub mod RunsLemmas
+pub mod SettledLemmas
