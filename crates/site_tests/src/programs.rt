@@ -1,9 +1,10 @@
 //! Programs with the places where their triples can fail, and with how large the formula of each place is.
 //!
 //! The places were worked out by hand. The sizes were counted by a program that was written from the rules of the formulas
-//! alone and shares nothing with this repository. Another such program counted the same, but for twelve sizes of the last
-//! module: there it wrote once that a cell lies in the part of the store that a call returns, where the rules have it for
-//! each variant; and it didn't count the program with each statement.
+//! alone and shares nothing with this repository. Another such program counted the same, but for twelve sizes of the module
+//! that stands last: there it wrote once that a cell lies in the part of the store that a call returns, where the rules have
+//! it for each variant. It didn't count the program with each statement. The first program also writes the formulas, and once
+//! all of them were compared in full: they were the same.
 
 use crate::telling::{are_sites_told, are_sizes_told};
 use std::test::Fail;
@@ -29,7 +30,7 @@ post [b <=> ~v]
         sites: " 7: dangling-ref shared leak field post;",
         sizes: " 77 177 120 77 121;",
     },
-    // The same asks for more at the exit.
+    // The same with a claim that fails.
     Program {
         text: b"proc neg(bool a) returns (bool b)
 logic bool v
@@ -72,7 +73,7 @@ proc dpush(data x: Dbl) returns (data y: Dbl) {
         sites: " 4: null dangling 5: null dangling 6: dangling-ref shared leak field post;",
         sizes: " 130 155 157 182 416 435 252 537 120;",
     },
-    // A pointer field is in no statement.
+    // The pointer field of a cell isn't set.
     Program {
         text: b"type Dbl = { data next: Dbl; pointer prev: Dbl [^next]; }
 proc dpush(data x: Dbl) returns (data y: Dbl) {

@@ -82,6 +82,7 @@ fn push_formulas(
     Ok(())
 }
 
+/// No slots are spared for cells that the code makes: no formula depends on that.
 fn push_triple(
     alloc: Global,
     out: &mut String,
@@ -94,7 +95,8 @@ fn push_triple(
     let Some(vars) = typed.vars(t.proc) else {
         return Ok(());
     };
-    let l = Layout::new(alloc, typed.types(), vars, &VariantList::new(alloc))?;
+    let spares = VariantList::new(alloc);
+    let l = Layout::new(alloc, typed.types(), vars, &spares)?;
     match told {
         Told::Place => push_places(out, &sites(alloc, &l, t)?)?,
         Told::Size | Told::Formula => push_formulas(alloc, out, told, &l, t)?,
