@@ -1,0 +1,153 @@
+//! What is told of the sites of a text's triples.
+
+ghost use Rattle.std.specs.Prelude.{◌<◌, length};
+ghost use Rattle.pale_types.specs.Fitting.{ProgramFits};
+
+use crate::spelled::push_formula;
+use hoare_split::split;
+use pale_parse::parse;
+use pale_text::{TextStop, lex};
+use pale_types::{Typed, check_types};
+use pred_transform::triple_formula;
+use site_list::sites;
+use site_view::SiteList;
+use std::alloc::{AllocError, Global};
+use std::fmt::Write;
+use store_exec::{Cause, Triple};
+use tree_encode::{Layout, VariantList};
+use ws2s_core::Formula;
+
+/// What is told of each site.
+#[derive(Clone, Copy)]
+enum Told {
+    /// The cause, and the line where it isn't that of the site before.
+    Place,
+    /// How many nodes its formula has.
+    Size,
+    /// Its formula.
+    Formula,
+}
+
+fn word(cause: Cause) -> &'static str {
+    match cause {
+        Cause::Null => "null",
+        Cause::Dangling => "dangling",
+        Cause::DoubleFree => "double-free",
+        Cause::DanglingRef => "dangling-ref",
+        Cause::Shared => "shared",
+        Cause::Leak => "leak",
+        Cause::Field => "field",
+        Cause::Escape => "escape",
+        Cause::Post => "post",
+        Cause::Assert => "assert",
+        Cause::Variant => "variant",
+    }
+}
+
+fn push_places(out: &mut String, sites: &SiteList) -> Result<(), AllocError> {
+    let mut line = 0;
+    for site in sites.as_slice() {
+        if site.line != line {
+            line = site.line;
+            write!(out, " {line}:")?;
+        }
+        out.push_str(" ")?;
+        out.push_str(word(site.cause))?;
+    }
+    Ok(())
+}
+
+fn push_told(out: &mut String, told: Told, formula: &Formula) -> Result<(), AllocError> {
+    out.push_str(" ")?;
+    match told {
+        Told::Size => write!(out, "{}", formula.size()),
+        Told::Place | Told::Formula => push_formula(out, formula),
+    }
+}
+
+/// The formulas of all sites, up to the first number that no site has.
+fn push_formulas(
+    alloc: Global,
+    out: &mut String,
+    told: Told,
+    l: &Layout<'_>,
+    t: &Triple,
+) -> Result<(), AllocError> {
+    for site in 0..u32::MAX {
+        let Some(formula) = triple_formula(alloc, l, t, site)? else {
+            return Ok(());
+        };
+        push_told(out, told, &formula)?;
+    }
+    Ok(())
+}
+
+/// No slots are spared for cells that the code makes: no formula depends on that.
+fn push_triple(
+    alloc: Global,
+    out: &mut String,
+    told: Told,
+    typed: &Typed,
+    t: &Triple,
+) -> Result<(), AllocError>
+    requires { ProgramFits typed.now }
+{
+    let Some(vars) = typed.vars(t.proc) else {
+        return Ok(());
+    };
+    let spares = VariantList::new(alloc);
+    let l = Layout::new(alloc, typed.types(), vars, &spares)?;
+    match told {
+        Told::Place => push_places(out, &sites(alloc, &l, t)?)?,
+        Told::Size | Told::Formula => push_formulas(alloc, out, told, &l, t)?,
+    }
+    out.push_str(";")
+}
+
+/// What is told of the sites of each triple of a text.
+fn told_of(alloc: Global, text: &[u8], told: Told) -> Result<String, TextStop>
+    requires { length text.now < u32.MAX }
+{
+    let list = lex(alloc, text)?;
+    let program = parse(alloc, &list)?;
+    let typed = check_types(alloc, &program)?;
+    let triples = split(alloc, &typed)?;
+    let mut out = String::new(alloc);
+    for t in triples.as_slice() {
+        push_triple(alloc, &mut out, told, &typed, t)?;
+    }
+    Ok(out)
+}
+
+fn is_told(alloc: Global, text: &[u8], told: Told, want: &str) -> Result<bool, TextStop> {
+    if text.len() >= u32::MAX as usize {
+        return Ok(false);
+    }
+    let out = told_of(alloc, text, told)?;
+    Ok(out.as_str() == want)
+}
+
+/// Whether the text's triples have these sites.
+pub(crate) fn are_sites_told(alloc: Global, text: &[u8], want: &str) -> Result<bool, TextStop> {
+    is_told(alloc, text, Told::Place, want)
+}
+
+/// Whether the formulas of the sites have these sizes.
+pub(crate) fn are_sizes_told(alloc: Global, text: &[u8], want: &str) -> Result<bool, TextStop> {
+    is_told(alloc, text, Told::Size, want)
+}
+
+/// Whether the formulas of the sites of a text's only triple are each `start` and then one of `rests`.
+pub(crate) fn are_formulas_told(
+    alloc: Global,
+    text: &[u8],
+    start: &str,
+    rests: &[&str],
+) -> Result<bool, TextStop> {
+    let mut want = String::new(alloc);
+    for rest in rests {
+        write!(want, " & {start} {rest}")?;
+    }
+    want.push_str(";")?;
+    is_told(alloc, text, Told::Formula, want.as_str())
+}
