@@ -13,7 +13,6 @@ use Rattle.ws2s_least.specs.Lightest.{HasNoModel, IsLightestFor}
 use Rattle.ws2s_least.proofs.LightestLemmas.{lightest-exists}
 use Rattle.store_core.specs.Tables.{TypeEntry, VarEntry, IsTypeTable}
 use Rattle.store_core.specs.Stores.{StoreMap}
-use Rattle.store_core.proofs.FittingLemmas.{IsSomeAnd-at}
 use Rattle.store_exec.specs.declared.cause.Cause.{Cause}
 use Rattle.store_exec.specs.declared.triple.Triple.{Triple}
 use Rattle.store_pointers.proofs.ExistenceLemmas.{set_store}
@@ -22,7 +21,6 @@ use Rattle.tree_encode.specs.Tracks.{track_at, variants_from}
 use Rattle.tree_store.specs.Weighing.{AreVariantTracks}
 use Rattle.tree_store.proofs.WeighingLemmas.{weight-cells}
 use Rattle.tree_backbone.proofs.ExistenceLemmas.{variant-listed, store_of_finite}
-use Rattle.graph_fields.proofs.AssignmentLemmas.{assignment}
 use Rattle.witness_store.specs.Alike.{AreFunctional}
 use Rattle.witness_store.proofs.ListsLemmas.{present}
 use Rattle.witness_store.proofs.VariantsLemmas.{listed-track}
@@ -32,8 +30,9 @@ use Rattle.site_view.specs.Sites.{sites_of}
 use Rattle.site_view.specs.Triples.{site_formula}
 use Rattle.triple_judge.specs.Searching.{IsNowhere}
 use Rattle.triple_judge.specs.Judging.{IsValid, IsLeastFailing}
-use Rattle.triple_judge.specs.Premise.{HoldsAt, SitesMeanFailing}
-use Rattle.triple_judge.proofs.FailingLemmas.{place_of, lays-out, valid-from}
+use Rattle.triple_judge.specs.Standing.{CanBeJudged}
+use Rattle.triple_judge.proofs.MeaningLemmas.{satisfied-fails}
+use Rattle.triple_judge.proofs.FailingLemmas.{lays-out, over, told, valid-from}
 
 -- ---- the tracks of the variants
 
@@ -178,7 +177,7 @@ module _ (formulas : ℕ → Option Formula) (tracks : List ℕ) where
 -- ---- judgements
 
 module _ (types : List TypeEntry) (vars : List VarEntry) (t : Triple) (table : IsTypeTable types) (functional : AreFunctional types)
-    (mean : SitesMeanFailing types vars t) where
+    (standing : CanBeJudged types vars t) where
   abbrev formulas : ℕ → Option Formula
   formulas = site_formula types vars t
 
@@ -196,9 +195,9 @@ module _ (types : List TypeEntry) (vars : List VarEntry) (t : Triple) (table : I
       let (s, is) = set_store types first of_first.fits.cells in
       let of = IsStoreOf-alike types vars best.sets first s of_first is.same (is.fits vars of_first.fits) (is.fresh of_first.fresh) in
       let well = IsWellFormed-set types vars s best.sets functional of is.pointers in
-      let holds : HoldsAt types vars t best.sets best.site =
-      subst (λ (o : Option Formula). IsSomeAnd o (λ f. WSat f best.sets)) (sym best.there) best.satisfies in
-      let (meets, why, line, fails) = mean.some s best.sets best.site finite well of.assignment holds in
+      let holds = record { formula = best.formula; there = best.there; holds = best.satisfies } in
+      let (meets, why, line, fails) = satisfied-fails types vars t table functional standing best.sets s best.site
+      (over types vars t table functional standing s best.sets finite well of.assignment) holds in
       let cells = weight-cells types vars s best.sets all-tracks best.depth of.fits of.backbone of.assignment (variant-tracks types) best.covers in (
         s,
         why,
@@ -208,19 +207,17 @@ module _ (types : List TypeEntry) (vars : List VarEntry) (t : Triple) (table : I
           fails = fails;
           numbers = of.numbers;
           fewest = λ u cause at meets_u fails_u.
-              let (depth, b, covers, means) = assignment types vars u meets_u.well_formed.backbone in
-              let first_u = mean.first u b cause at (Covers-finite depth b covers) means meets_u fails_u in
-              let (f, there, sat) = IsSomeAnd-at (formulas first_u.site) (λ (g : Formula). WSat g b) first_u.holds in
-              let inside = slice_get_within (sites_of types t) first_u.site (place_of cause at) first_u.place in
-              let no_less = best.least first_u.site f depth b inside there covers sat in
-              let others = weight-cells types vars u b all-tracks depth meets_u.well_formed.fits meets_u.well_formed.backbone means
-              (variant-tracks types) covers in
+              let is_told = told types vars t table functional standing u cause at meets_u fails_u in
+              let other = (is_told.first).satisfied in
+              let no_less = best.least (is_told.first).site other.formula is_told.depth is_told.sets is_told.inside other.there is_told.covers other.holds in
+              let others = weight-cells types vars u is_told.sets all-tracks is_told.depth (meets_u.well_formed).fits (meets_u.well_formed).backbone
+              is_told.tree (variant-tracks types) is_told.covers in
               omega (arith, no_less, others, cells);
         },
       )
 
   pub judged-somehow : IsValid types vars t ⊎ HasLeast
   judged-somehow = elim (best-before formulas all-tracks (length (sites_of types t))) as (λ _. IsValid types vars t ⊎ HasLeast) [
-    | inl none ↦ inl (valid-from types vars t mean none)
+    | inl none ↦ inl (valid-from types vars t table functional standing none)
     | inr best ↦ inr (from-best best)
   ]

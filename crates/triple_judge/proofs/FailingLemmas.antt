@@ -5,7 +5,7 @@ use Rattle.std.specs.Prelude.{option_map, map, ◌++◌, ◌∷◌, []}
 use Rattle.std.specs.FinMap.{keys}
 use Rattle.std.proofs.lemmas.Bool.{cases_lt}
 use Rattle.std.proofs.lemmas.Option.{same_Some, slice_get_within}
-use Rattle.gta_theory.specs.Assignments.{Assignment, IsFinite}
+use Rattle.gta_theory.specs.Assignments.{Assignment, IsFinite, Covers}
 use Rattle.gta_theory.specs.Weights.{weight}
 use Rattle.gta_theory.proofs.AssignmentsLemmas.{Covers-finite}
 use Rattle.gta_witness.specs.Lightest.{each_once}
@@ -18,7 +18,6 @@ use Rattle.ws2s_forms.specs.Forms.{and_list, empty_at}
 use Rattle.ws2s_forms.proofs.ConnectivesLemmas.{WSat-and_list}
 use Rattle.store_core.specs.Tables.{TypeEntry, VarEntry, IsTypeTable}
 use Rattle.store_core.specs.Stores.{StoreMap}
-use Rattle.store_core.proofs.FittingLemmas.{IsSomeAnd-at}
 use Rattle.store_exec.specs.declared.cause.Cause.{Cause}
 use Rattle.store_exec.specs.declared.triple.Triple.{Triple}
 use Rattle.store_exec.specs.Failing.{Meets, Fails}
@@ -26,6 +25,7 @@ use Rattle.store_pointers.specs.Pointers.{ArePointersSet}
 use Rattle.routing_expr.specs.WellFormed.{IsWellFormed}
 use Rattle.tree_encode.specs.Tracks.{track_count, var_track}
 use Rattle.tree_shapes.specs.Shapes.{LaysOut}
+use Rattle.tree_store.specs.Encoding.{IsAssignmentOf}
 use Rattle.tree_store.proofs.WeighingLemmas.{weight-cells}
 use Rattle.tree_formula.specs.WellEncoded.{track_or_first, well_encoded}
 use Rattle.tree_meaning.proofs.FormulaLemmas.{well_encoded-means}
@@ -36,6 +36,7 @@ use Rattle.witness_store.specs.Alike.{AreFunctional}
 use Rattle.witness_store.proofs.FunctionalLemmas.{IsWellFormed-set}
 use Rattle.field_judge.proofs.WeighedLemmas.{are-variant_tracks}
 use Rattle.site_view.specs.declared.site.Site.{Site}
+use Rattle.site_meaning.specs.Seeing.{IsOver}
 use Rattle.site_view.specs.States.{Check}
 use Rattle.site_view.specs.Sites.{sites_of}
 use Rattle.site_view.specs.Triples.{walked, bind, definitions, start_holds, site_formula_at, first_bound, site_formula}
@@ -43,7 +44,9 @@ use Rattle.triple_judge.specs.declared.searching.Found.{Found}
 use Rattle.triple_judge.specs.Searching.{IsNowhere, IsLightest}
 use Rattle.triple_judge.specs.Lightest.{IsLightestFailure}
 use Rattle.triple_judge.specs.Judging.{IsValid, IsLeastFailing}
-use Rattle.triple_judge.specs.Premise.{HoldsAt, HoldsFirst, SitesMeanFailing}
+use Rattle.triple_judge.specs.Standing.{CanBeJudged}
+use Rattle.triple_judge.specs.Premise.{IsSatisfiedAt, IsFirstSatisfied}
+use Rattle.triple_judge.proofs.MeaningLemmas.{place_of, first-satisfied, satisfied-fails, first-place}
 
 -- ---- what satisfies the formula of a site is a tree
 
@@ -86,23 +89,45 @@ lays-out-found types vars t found table failure =
 
 -- ---- stores that meet the triple and fail
 
-abbrev pub place_of : Cause → ℕ → Site
-place_of why line = record { cause = why; line = line }
-
-module _ (types : List TypeEntry) (vars : List VarEntry) (t : Triple) (mean : SitesMeanFailing types vars t) where
+module _ (types : List TypeEntry) (vars : List VarEntry) (t : Triple) (table : IsTypeTable types) (functional : AreFunctional types)
+    (standing : CanBeJudged types vars t) where
   abbrev formulas : ℕ → Option Formula
   formulas = site_formula types vars t
+
+  pub over : (s : StoreMap) (a : Assignment) → IsFinite a → IsWellFormed types vars s → IsAssignmentOf types vars s a → IsOver types vars a s
+  over s a finite well means = record { finite = finite; table = table; well = well; tree = means }
+
+  -- the sets of a store that meets the triple and fails satisfy the formula of a site of the list
+  pub record IsTold (s : StoreMap) (why : Cause) (line : ℕ) : Type 0 where
+    pub depth : ℕ
+    pub sets : Assignment
+    pub covers : Covers depth sets
+    pub tree : IsAssignmentOf types vars s sets
+    pub first : IsFirstSatisfied types vars t sets why line
+    pub inside : first.site < length (sites_of types t)
+
+  pub told : (s : StoreMap) (why : Cause) (line : ℕ) → Meets types vars t s → Fails types vars t s why line → IsTold s why line
+  told s why line meets fails =
+      let (depth, a, covers, means) = assignment types vars s (meets.well_formed).backbone in
+      let first = first-satisfied types vars t table functional standing a s why line (over s a (Covers-finite depth a covers) meets.well_formed means)
+      meets fails in
+      record {
+        depth = depth;
+        sets = a;
+        covers = covers;
+        tree = means;
+        first = first;
+        inside = slice_get_within (sites_of types t) first.site (place_of why line) (first-place types vars t table functional standing a why line first);
+      }
 
   -- where no tree satisfies the formula of a site
   pub valid-from : ((site : ℕ) → site < length (sites_of types t) → IsNowhere (site_formula types vars t) site) → IsValid types vars t
   valid-from none s why line meets fails =
-      let (depth, a, covers, means) = assignment types vars s meets.well_formed.backbone in
-      let first = mean.first s a why line (Covers-finite depth a covers) means meets fails in
-      let (f, there, sat) = IsSomeAnd-at (formulas first.site) (λ (g : Formula). WSat g a) first.holds in
-      let inside = slice_get_within (sites_of types t) first.site (place_of why line) first.place in
-      none first.site inside f there depth a covers sat
+      let is = told s why line meets fails in
+      let site = (is.first).satisfied in
+      none (is.first).site is.inside site.formula site.there is.depth is.sets is.covers site.holds
 
-  module _ (functional : AreFunctional types) (found : Found) (failure : IsLightestFailure types vars t found) (s : StoreMap)
+  module _ (found : Found) (failure : IsLightestFailure types vars t found) (s : StoreMap)
       (of : IsStoreOf types vars (assignment_of found.tree) s) (set : ArePointersSet types s) (place : Site)
       (there : slice_get (sites_of types t) found.site ≡ Some place) where
     abbrev a : Assignment
@@ -125,22 +150,21 @@ module _ (types : List TypeEntry) (vars : List VarEntry) (t : Triple) (mean : Si
     cells = weight-cells types vars s a (each_once failure.tracks) (length found.tree) of.fits of.backbone of.assignment (are-variant_tracks types failure.tracks failure.all)
         (Covers-tree found.tree)
 
-    holds : HoldsAt types vars t a found.site
-    holds = subst (λ (o : Option Formula). IsSomeAnd o (λ f. WSat f a)) (sym lightest.own.there) lightest.own.model.satisfies
+    holds : IsSatisfiedAt types vars t a found.site
+    holds = record { formula = (lightest.own).formula; there = (lightest.own).there; holds = ((lightest.own).model).satisfies }
 
     fails-so : Meets types vars t s × ((why : Cause) × (line : ℕ) × Fails types vars t s why line)
-    fails-so = mean.some s a found.site finite well of.assignment holds
+    fails-so = satisfied-fails types vars t table functional standing a s found.site (over s a finite well of.assignment) holds
 
     -- no earlier site holds on the store, since it would have been found with the same weight
-    none-earlier : (site : ℕ) → site < found.site → HoldsAt types vars t a site → ⊥
+    none-earlier : (site : ℕ) → site < found.site → IsSatisfiedAt types vars t a site → ⊥
     none-earlier site earlier at_site =
-        let (f, is, sat) = IsSomeAnd-at (formulas site) (λ (g : Formula). WSat g a) at_site in
-        let heavier = lightest.first site f (length found.tree) a earlier is (Covers-tree found.tree) sat in
+        let heavier = lightest.first site at_site.formula (length found.tree) a earlier at_site.there (Covers-tree found.tree) at_site.holds in
         absurd (omega (arith, heavier, weighs))
 
-    first-site : (why : Cause) (line : ℕ) → (first : HoldsFirst types vars t a why line) → first.site ≡ found.site
+    first-site : (why : Cause) (line : ℕ) → (first : IsFirstSatisfied types vars t a why line) → first.site ≡ found.site
     first-site why line first = elim (cases_lt first.site found.site) as (λ _. first.site ≡ found.site) [
-      | inl earlier ↦ absurd (none-earlier first.site earlier first.holds)
+      | inl earlier ↦ absurd (none-earlier first.site earlier first.satisfied)
       | inr later ↦ elim (cases_lt found.site first.site) as (λ _. first.site ≡ found.site) [
         | inl before ↦ absurd (first.before found.site before holds)
         | inr same ↦ omega (arith, later, same)
@@ -151,22 +175,21 @@ module _ (types : List TypeEntry) (vars : List VarEntry) (t : Triple) (mean : Si
     fails-there : Fails types vars t s place.cause place.line
     fails-there =
         let (meets, why, line, fails) = fails-so in
-        let first = mean.first s a why line finite of.assignment meets fails in
+        let first = first-satisfied types vars t table functional standing a s why line (over s a finite well of.assignment) meets fails in
         let at_found : slice_get (sites_of types t) found.site ≡ Some (place_of why line) =
-        subst (λ (k : ℕ). slice_get (sites_of types t) k ≡ Some (place_of why line)) (first-site why line first) first.place in
+        subst (λ (k : ℕ). slice_get (sites_of types t) k ≡ Some (place_of why line)) (first-site why line first)
+        (first-place types vars t table functional standing a why line first) in
         let is : place_of why line ≡ place = same_Some (place_of why line) place (sym at_found ∙ there) in
         subst (λ (x : Site). Fails types vars t s x.cause x.line) is fails
 
     fewest : (u : StoreMap) (cause : Cause) (at : ℕ) → Meets types vars t u → Fails types vars t u cause at →
         length (keys s.cells) ≤ length (keys u.cells)
     fewest u cause at meets fails =
-        let (depth, b, covers, means) = assignment types vars u meets.well_formed.backbone in
-        let first = mean.first u b cause at (Covers-finite depth b covers) means meets fails in
-        let (f, is, sat) = IsSomeAnd-at (formulas first.site) (λ (g : Formula). WSat g b) first.holds in
-        let inside = slice_get_within (sites_of types t) first.site (place_of cause at) first.place in
-        let no_less = lightest.least first.site f depth b inside is covers sat in
-        let others = weight-cells types vars u b (each_once failure.tracks) depth meets.well_formed.fits meets.well_formed.backbone means
-        (are-variant_tracks types failure.tracks failure.all) covers in
+        let is = told u cause at meets fails in
+        let site = (is.first).satisfied in
+        let no_less = lightest.least (is.first).site site.formula is.depth is.sets is.inside site.there is.covers site.holds in
+        let others = weight-cells types vars u is.sets (each_once failure.tracks) is.depth (meets.well_formed).fits (meets.well_formed).backbone is.tree
+        (are-variant_tracks types failure.tracks failure.all) is.covers in
         omega (arith, no_less, others, cells, weighs)
 
     pub least-failing : IsLeastFailing types vars t s place.cause place.line

@@ -1,24 +1,14 @@
 -- When a triple can be judged over two tables. (Hoare 1969; loop-free triples with calls: Møller and Schwartzbach, PLDI 2001.)
-use Rattle.std.specs.Prelude.{ℕ, ◌<◌, List, [], ◌∷◌, ◌++◌, length, Option}
+use Rattle.std.specs.Prelude.{◌<◌, List, length, Option}
 use Rattle.std.specs.List.{AllByRecursion}
 use Rattle.store_core.specs.declared.ids.VarId.{VarId}
 use Rattle.store_core.specs.Tables.{TypeEntry, VarEntry}
-use Rattle.store_exec.specs.declared.code.Tail.TheOpen.{Tail-F}
-use Rattle.store_exec.specs.declared.code.Tail.TheFolds.{fold-Code}
-use Rattle.store_exec.specs.declared.code.Code.{Code}
 use Rattle.store_exec.specs.declared.triple.Claim.{Claim}
 use Rattle.store_exec.specs.declared.triple.Cut.{Cut}
 use Rattle.store_exec.specs.declared.triple.Triple.{Triple}
 use Rattle.store_exec.specs.Fits.{TripleFits}
+use Rattle.store_ends.specs.Places.{places_of}
 use Rattle.claim_meaning.specs.Given.{IsRegionOf}
-
--- the places of the cuts that the tails of a code name, from the left
-abbrev pub places_at : Tail-F (List ℕ) (List ℕ) → List ℕ
-places_at (Tail-F.Cut place) = place ∷ []
-places_at (Tail-F.Branch line c taken other) = taken ++ other
-
-abbrev pub places_of : Code → List ℕ
-places_of = fold-Code (List ℕ) (List ℕ) places_at (λ x. x.tail)
 
 -- each of the claims is on all cells, on the part of these variables, or on its rest
 abbrev pub AreOn : Option (List VarId) → List Claim → Type 0

@@ -11,7 +11,6 @@ ghost use Rattle.triple_judge.specs.declared.judging.Judged.{Judged};
 ghost use Rattle.triple_judge.specs.Spares as cells;
 ghost use Rattle.triple_judge.specs.Standing.{CanBeJudged};
 ghost use Rattle.triple_judge.specs.Judging.{HasTriplePeak, IsLeastFailing, IsJudged};
-ghost use Rattle.triple_judge.specs.Premise.{SitesMeanFailing};
 ghost use Rattle.triple_judge.specs.Lightest.{IsLightestFailure};
 
 use crate::making::spares_of;
@@ -58,8 +57,9 @@ fn failure_of(
     found: &Found,
 ) -> Result<(Store, Site), AllocError>
     requires table { IsTypeTable l.now.types }
+    requires triple { CanBeJudged l.now.types l.now.vars t.now }
     requires lightest { IsLightestFailure l.now.types l.now.vars t.now found.now }
-    ensures { AreFunctional l.now.types → SitesMeanFailing l.now.types l.now.vars t.now →
+    ensures { AreFunctional l.now.types →
         IfOk result (λ failure. IsLeastFailing l.now.types l.now.vars t.now failure.0 failure.1.cause failure.1.line) }
 {
     let store = decode(alloc, l, &found.tree)?;
@@ -79,9 +79,10 @@ fn judge_laid_out(
     shelf: &mut Shelf,
 ) -> Result<Judged, AllocError>
     requires table { IsTypeTable l.now.types }
+    requires triple { CanBeJudged l.now.types l.now.vars t.now }
     requires spares { l.now.spares ≡ cells.spares_of t.now }
     requires tables { HasNoTables shelf.old }
-    ensures value { AreFunctional l.now.types → SitesMeanFailing l.now.types l.now.vars t.now → IfOk result (IsJudged l.now.types l.now.vars t.now) }
+    ensures value { AreFunctional l.now.types → IfOk result (IsJudged l.now.types l.now.vars t.now) }
     ensures limit { result ≡ Ok Judged.Limit → (p : ℕ) → HasTriplePeak l.now.types l.now.vars t.now p → limit_of shelf.old < p }
     ensures tables { HasNoTables shelf.new }
     ensures same_limit { limit_of shelf.new ≡ limit_of shelf.old }

@@ -19,10 +19,10 @@ unreachable-requires c =
     absurd (cc)
 
 pub returns : goal.returns
-returns c = λ functional mean.
+returns c = λ functional.
     let types = c.args.l.now.types in
     let site = c.args.found.now.site in
     let there : slice_get (sites_of types c.args.t.now) site ≡ Some c.in-Some.place.now =
     ap (λ (places : List Site). slice_get places site) (sym (c.as_slice.ensures ∙ c.in_ok-places.ensures)) ∙ sym c.at.ensures ∙ ap option_copied c.in-Some.is in
-    least-failing types c.args.l.now.vars c.args.t.now mean functional c.args.found.now c.requires.lightest c.in_ok-store.store
+    least-failing types c.args.l.now.vars c.args.t.now c.requires.table functional c.requires.triple c.args.found.now c.requires.lightest c.in_ok-store.store
     c.in_ok-store.ensures.store c.in_ok-store.ensures.pointers c.in-Some.place.now there

@@ -11,15 +11,15 @@ use Rattle.triple_judge.proofs.judging.judge_laid_out.Goals as goal
 
 -- what is known of all sites
 pub returns-in-Nothing-clause-value : goal.returns-in-Nothing-clause-value
-returns-in-Nothing-clause-value c = λ functional mean.
+returns-in-Nothing-clause-value g c = λ functional.
     let types = c.args.l.now.types in
     let formulas = site_formula types c.args.l.now.vars c.args.t.now in
     let known = subst (IsSearched formulas c.in_ok-tracks.tracks c.in_ok-count.count) c.in-Nothing.is c.in_ok-decide_sites.ensures.value in
-    valid-from types c.args.l.now.vars c.args.t.now mean
+    valid-from types c.args.l.now.vars c.args.t.now c.requires.table functional c.requires.triple
     (subst (λ (n : ℕ). IsSearched formulas c.in_ok-tracks.tracks n searched.Nothing) c.in_ok-count.ensures known)
 
 pub failure_of-requires-clause-lightest : goal.failure_of-requires-clause-lightest
-failure_of-requires-clause-lightest c =
+failure_of-requires-clause-lightest g c =
     let types = c.args.l.now.types in
     let formulas = site_formula types c.args.l.now.vars c.args.t.now in
     let known = subst (IsSearched formulas c.in_ok-tracks.tracks c.in_ok-count.count) c.in-Lightest.is c.in_ok-decide_sites.ensures.value in
@@ -30,10 +30,10 @@ failure_of-requires-clause-lightest c =
     }
 
 pub returns-in_ok-store-in-Lightest-clause-value : goal.returns-in_ok-store-in-Lightest-clause-value
-returns-in_ok-store-in-Lightest-clause-value c = λ functional mean. c.in_ok-store-in-Lightest.ensures functional mean
+returns-in_ok-store-in-Lightest-clause-value g c = λ functional. c.in_ok-store-in-Lightest.ensures functional
 
 pub returns-in-Limit-clause-limit : goal.returns-in-Limit-clause-limit
-returns-in-Limit-clause-limit c = λ is p peak.
+returns-in-Limit-clause-limit g c = λ is p peak.
     let types = c.args.l.now.types in
     let vars = c.args.l.now.vars in
     c.in_ok-decide_sites.ensures.limit (ap (λ (x : Searched). Ok x) c.in-Limit.is) p
