@@ -3,7 +3,6 @@
 use Rattle.std.proofs.Common.{◌≡◌, inl, inr, ◌+◌, ◌<◌, ◌≤◌, ℕ, List, length, slice_get, Option, Some, None, IsSomeAnd, sym, ap, ◌∙◌, subst, arith}
 use Rattle.std.specs.Prelude.{option_map, map, ◌++◌, ◌∷◌, []}
 use Rattle.std.specs.FinMap.{keys}
-use Rattle.std.proofs.lemmas.Bool.{cases_lt}
 use Rattle.std.proofs.lemmas.Option.{same_Some, slice_get_within}
 use Rattle.gta_theory.specs.Assignments.{Assignment, IsFinite, Covers}
 use Rattle.gta_theory.specs.Weights.{weight}
@@ -46,7 +45,7 @@ use Rattle.triple_judge.specs.Lightest.{IsLightestFailure}
 use Rattle.triple_judge.specs.Judging.{IsValid, IsLeastFailing}
 use Rattle.triple_judge.specs.Standing.{CanBeJudged}
 use Rattle.triple_judge.specs.Premise.{IsSatisfiedAt, IsFirstSatisfied}
-use Rattle.triple_judge.proofs.MeaningLemmas.{place_of, first-satisfied, satisfied-fails, first-place}
+use Rattle.triple_judge.proofs.MeaningLemmas.{place_of, first-satisfied, satisfied-meets, first-fails, passed-place, first-place}
 
 -- ---- what satisfies the formula of a site is a tree
 
@@ -153,34 +152,20 @@ module _ (types : List TypeEntry) (vars : List VarEntry) (t : Triple) (table : I
     holds : IsSatisfiedAt types vars t a found.site
     holds = record { formula = (lightest.own).formula; there = (lightest.own).there; holds = ((lightest.own).model).satisfies }
 
-    fails-so : Meets types vars t s × ((why : Cause) × (line : ℕ) × Fails types vars t s why line)
-    fails-so = satisfied-fails types vars t table functional standing a s found.site (over s a finite well of.assignment) holds
-
     -- no earlier site holds on the store, since it would have been found with the same weight
     none-earlier : (site : ℕ) → site < found.site → IsSatisfiedAt types vars t a site → ⊥
     none-earlier site earlier at_site =
         let heavier = lightest.first site at_site.formula (length found.tree) a earlier at_site.there (Covers-tree found.tree) at_site.holds in
         absurd (omega (arith, heavier, weighs))
 
-    first-site : (why : Cause) (line : ℕ) → (first : IsFirstSatisfied types vars t a why line) → first.site ≡ found.site
-    first-site why line first = elim (cases_lt first.site found.site) as (λ _. first.site ≡ found.site) [
-      | inl earlier ↦ absurd (none-earlier first.site earlier first.satisfied)
-      | inr later ↦ elim (cases_lt found.site first.site) as (λ _. first.site ≡ found.site) [
-        | inl before ↦ absurd (first.before found.site before holds)
-        | inr same ↦ omega (arith, later, same)
-      ]
-    ]
-
-    -- so the store fails with the cause and at the line of that site
+    -- so it is the first site that holds, and the store fails with its cause at its line
     fails-there : Fails types vars t s place.cause place.line
-    fails-there =
-        let (meets, why, line, fails) = fails-so in
-        let first = first-satisfied types vars t table functional standing a s why line (over s a finite well of.assignment) meets fails in
-        let at_found : slice_get (sites_of types t) found.site ≡ Some (place_of why line) =
-        subst (λ (k : ℕ). slice_get (sites_of types t) k ≡ Some (place_of why line)) (first-site why line first)
-        (first-place types vars t table functional standing a why line first) in
-        let is : place_of why line ≡ place = same_Some (place_of why line) place (sym at_found ∙ there) in
-        subst (λ (x : Site). Fails types vars t s x.cause x.line) is fails
+    fails-there = first-fails types vars t table functional standing a s place.cause place.line (over s a finite well of.assignment) (record {
+      site = found.site;
+      satisfied = holds;
+      before = none-earlier;
+      is = passed-place types vars t table functional standing found.site place there;
+    })
 
     fewest : (u : StoreMap) (cause : Cause) (at : ℕ) → Meets types vars t u → Fails types vars t u cause at →
         length (keys s.cells) ≤ length (keys u.cells)
@@ -193,7 +178,7 @@ module _ (types : List TypeEntry) (vars : List VarEntry) (t : Triple) (table : I
         omega (arith, no_less, others, cells, weighs)
 
     pub least-failing : IsLeastFailing types vars t s place.cause place.line
-    least-failing = record { meets = fails-so.0; fails = fails-there; numbers = of.numbers; fewest = fewest }
+    least-failing = record { meets = satisfied-meets types vars t table functional standing a s found.site (over s a finite well of.assignment) holds; fails = fails-there; numbers = of.numbers; fewest = fewest }
 
 -- ---- what the answers exclude
 

@@ -22,6 +22,7 @@ use Rattle.witness_store.specs.Alike.{AreFunctional}
 use Rattle.witness_store.proofs.ListsLemmas.{present}
 use Rattle.site_view.specs.declared.site.Site.{Site}
 use Rattle.site_view.specs.Sites.{sites_of}
+use Rattle.site_view.specs.Triples.{passed}
 use Rattle.site_list.proofs.WalkLemmas.{walk-passes}
 use Rattle.site_meaning.specs.Ending.{IsSettledAt, IsSettled}
 use Rattle.site_meaning.specs.Seeing.{IsOver}
@@ -56,13 +57,25 @@ module _ (types : List TypeEntry) (vars : List VarEntry) (t : Triple) (table : I
       Fails types vars t s why line → IsFirstSatisfied types vars t a why line
   first-satisfied a s why line over meets fails = ?
 
-  -- and where some site holds it meets the triple and fails
+  -- where some site holds it meets the triple, and fails
+  pub satisfied-meets : (a : Assignment) (s : StoreMap) (site : ℕ) → IsOver types vars a s → IsSatisfiedAt types vars t a site → Meets types vars t s
+  satisfied-meets a s site over satisfied = ?
+
   pub satisfied-fails : (a : Assignment) (s : StoreMap) (site : ℕ) → IsOver types vars a s → IsSatisfiedAt types vars t a site →
-      Meets types vars t s × ((why : Cause) × (line : ℕ) × Fails types vars t s why line)
+      (why : Cause) × (line : ℕ) × Fails types vars t s why line
   satisfied-fails a s site over satisfied = ?
 
-  -- the first site that holds is one of the list
+  -- with the cause and at the line of the first that holds
+  pub first-fails : (a : Assignment) (s : StoreMap) (why : Cause) (line : ℕ) → IsOver types vars a s → IsFirstSatisfied types vars t a why line →
+      Fails types vars t s why line
+  first-fails a s why line over first = ?
+
+  -- ---- the places of sites
+
   pub first-place : (a : Assignment) (why : Cause) (line : ℕ) → (first : IsFirstSatisfied types vars t a why line) →
       slice_get (sites_of types t) first.site ≡ Some (place_of why line)
   first-place a why line first =
       subst (λ (places : List Site). slice_get places first.site ≡ Some (place_of why line)) (walk-passes types vars t) first.is
+
+  pub passed-place : (site : ℕ) (place : Site) → slice_get (sites_of types t) site ≡ Some place → slice_get (passed types vars t) site ≡ Some place
+  passed-place site place there = subst (λ (places : List Site). slice_get places site ≡ Some place) (sym (walk-passes types vars t)) there

@@ -23,7 +23,8 @@ use Rattle.pale_types.specs.TypedPrograms.{TypedProgram}
 use Rattle.pale_types.specs.Fitting.{ProgramFits, ProcFits}
 use Rattle.hoare_split.specs.Fitting as fitting
 use Rattle.hoare_split.specs.Fitting.{FitsProgram, AreReadAt, regions_at}
-use Rattle.triple_judge.specs.Standing.{places_at, places_of, AreOn, CanBeJudged}
+use Rattle.store_ends.specs.Places.{places_at, places_of}
+use Rattle.triple_judge.specs.Standing.{AreOn, CanBeJudged}
 
 -- ---- lists
 
