@@ -69,7 +69,7 @@ module _ (types : List TypeEntry) (s : StoreMap) where
       some_cell : Decided ((c : CellId) × IsOfType s ty c × Is c)
       some_cell = decided_as (λ h. (h.0, (h.1).0, (h.1).1)) (λ h. (h.0, (h.1, h.2)))
           (decided_cell s (λ c. IsOfType s ty c × Is c) (λ c. decided_both (decided_of_type types s ty c) (each c))
-          (λ c h. IsOfType-live s ty c h.0))
+          (λ c h. IsOfType-live types s ty c h.0))
 
     each_cell : (Is : CellId → Type 0) → ((c : CellId) → Decided (Is c)) → Decided ((c : CellId) → IsOfType s ty c → Is c)
     each_cell Is each = decided_as

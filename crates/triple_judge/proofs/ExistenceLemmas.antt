@@ -31,6 +31,7 @@ use Rattle.site_view.specs.Triples.{site_formula}
 use Rattle.triple_judge.specs.Searching.{IsNowhere}
 use Rattle.triple_judge.specs.Judging.{IsValid, IsLeastFailing}
 use Rattle.triple_judge.specs.Standing.{CanBeJudged}
+use Rattle.triple_judge.specs.Premise.{IsSatisfiedAt}
 use Rattle.triple_judge.proofs.MeaningLemmas.{satisfied-meets, satisfied-fails}
 use Rattle.triple_judge.proofs.FailingLemmas.{lays-out, over, told, valid-from}
 
@@ -195,7 +196,7 @@ module _ (types : List TypeEntry) (vars : List VarEntry) (t : Triple) (table : I
       let (s, is) = set_store types first of_first.fits.cells in
       let of = IsStoreOf-alike types vars best.sets first s of_first is.same (is.fits vars of_first.fits) (is.fresh of_first.fresh) in
       let well = IsWellFormed-set types vars s best.sets functional of is.pointers in
-      let holds = record { formula = best.formula; there = best.there; holds = best.satisfies } in
+      let holds : IsSatisfiedAt types vars t best.sets best.site = record { formula = best.formula; there = best.there; holds = best.satisfies } in
       let is_over = over types vars t table functional standing s best.sets finite well of.assignment in
       let (why, line, fails) = satisfied-fails types vars t table functional standing best.sets s best.site is_over holds in
       let cells = weight-cells types vars s best.sets all-tracks best.depth of.fits of.backbone of.assignment (variant-tracks types) best.covers in (
