@@ -49,7 +49,7 @@ module _ (types : List TypeEntry) (vars : List VarEntry) (s : StoreMap) where
 
   -- ---- pointers
 
-  module _ (v : VarId) (Is : CellId → Type 0) (each : (c : CellId) → Decided (Is c)) where
+  module _ (v : VarId) (Is : CellId → Type 0) where
     -- the variable is a pointer variable and names such a cell
     abbrev Hits : Type 0
     Hits = (c : CellId) × (PointsTo vars s v c × Is c)
@@ -57,18 +57,19 @@ module _ (types : List TypeEntry) (vars : List VarEntry) (s : StoreMap) where
     no-hit : ((c : CellId) → var_value s v ≡ Some (value.Cell (Some c)) → ⊥) → Decided Hits
     no-hit never = inr (λ h. never h.0 ((h.1).0).names)
 
-    hit : (o : Option Value) → var_value s v ≡ o → Decided Hits
-    hit None at = no-hit (λ c e. let both : None ≡ Some (value.Cell (Some c)) = sym at ∙ e in cc)
-    hit (Some (value.Bool truth)) at = no-hit (λ c e. let both : Some (value.Bool truth) ≡ Some (value.Cell (Some c)) = sym at ∙ e in cc)
-    hit (Some (value.Cell None)) at = no-hit (λ c e. let both : Some (value.Cell None) ≡ Some (value.Cell (Some c)) = sym at ∙ e in cc)
-    hit (Some (value.Cells cells)) at = no-hit (λ c e. let both : Some (value.Cells cells) ≡ Some (value.Cell (Some c)) = sym at ∙ e in cc)
-    hit (Some (value.Cell (Some c))) at = decided_as
-        (λ h. (c, (record { pointer = h.0; names = at }, h.1)))
-        (λ h. (((h.1).0).pointer, subst Is (same h.0 ((h.1).0).names) (h.1).1))
-        (decided_both (decided_some (var_at vars v) _ (λ entry. decided_pointer entry.kind)) (each c))
-      where
-        same : (d : CellId) → var_value s v ≡ Some (value.Cell (Some d)) → d ≡ c
-        same d e = let both : Some (value.Cell (Some d)) ≡ Some (value.Cell (Some c)) = sym e ∙ at in cc
+    module _ (each : (c : CellId) → Decided (Is c)) where
+      hit : (o : Option Value) → var_value s v ≡ o → Decided Hits
+      hit None at = no-hit (λ c e. let both : None ≡ Some (value.Cell (Some c)) = sym at ∙ e in cc)
+      hit (Some (value.Bool truth)) at = no-hit (λ c e. let both : Some (value.Bool truth) ≡ Some (value.Cell (Some c)) = sym at ∙ e in cc)
+      hit (Some (value.Cell None)) at = no-hit (λ c e. let both : Some (value.Cell None) ≡ Some (value.Cell (Some c)) = sym at ∙ e in cc)
+      hit (Some (value.Cells cells)) at = no-hit (λ c e. let both : Some (value.Cells cells) ≡ Some (value.Cell (Some c)) = sym at ∙ e in cc)
+      hit (Some (value.Cell (Some c))) at = decided_as
+          (λ h. (c, (record { pointer = h.0; names = at }, h.1)))
+          (λ h. (((h.1).0).pointer, subst Is (same h.0 ((h.1).0).names) (h.1).1))
+          (decided_both (decided_some (var_at vars v) _ (λ entry. decided_pointer entry.kind)) (each c))
+        where
+          same : (d : CellId) → var_value s v ≡ Some (value.Cell (Some d)) → d ≡ c
+          same d e = let both : Some (value.Cell (Some d)) ≡ Some (value.Cell (Some c)) = sym e ∙ at in cc
 
   abbrev IsWrongSide : List VarId → List VarId → VarId → CellId → Type 0
   IsWrongSide part inside v c = (Contains inside v × (IsReachedFrom types vars s part c → ⊥)) ⊎ ((Contains inside v → ⊥) × IsReachedFrom types vars s part c)
