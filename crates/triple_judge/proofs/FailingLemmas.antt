@@ -39,12 +39,12 @@ use Rattle.site_meaning.specs.Seeing.{IsOver}
 use Rattle.site_view.specs.States.{Check}
 use Rattle.site_view.specs.Sites.{sites_of}
 use Rattle.site_view.specs.Triples.{walked, bind, definitions, start_holds, site_formula_at, first_bound, site_formula}
+use Rattle.triple_formulas.specs.Satisfying.{IsSatisfiedAt, IsFirstSatisfied}
 use Rattle.triple_judge.specs.declared.searching.Found.{Found}
 use Rattle.triple_judge.specs.Searching.{IsNowhere, IsLightest}
 use Rattle.triple_judge.specs.Lightest.{IsLightestFailure}
 use Rattle.triple_judge.specs.Judging.{IsValid, IsLeastFailing}
 use Rattle.triple_judge.specs.Standing.{CanBeJudged}
-use Rattle.triple_judge.specs.Premise.{IsSatisfiedAt, IsFirstSatisfied}
 use Rattle.triple_judge.proofs.MeaningLemmas.{place_of, first-satisfied, satisfied-meets, first-fails, passed-place, first-place}
 
 -- ---- what satisfies the formula of a site is a tree

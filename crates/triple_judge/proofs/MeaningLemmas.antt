@@ -26,8 +26,9 @@ use Rattle.site_view.specs.Triples.{passed}
 use Rattle.site_list.proofs.WalkLemmas.{walk-passes}
 use Rattle.site_meaning.specs.Ending.{IsSettledAt, IsSettled}
 use Rattle.site_meaning.specs.Seeing.{IsOver}
+use Rattle.triple_formulas.specs.Satisfying.{IsPosed, IsSatisfiedAt, IsFirstSatisfied}
+use Rattle.triple_formulas.proofs.FailingLemmas.{failing-first, site-meets, site-fails, first-fails_so}
 use Rattle.triple_judge.specs.Standing.{CanBeJudged}
-use Rattle.triple_judge.specs.Premise.{IsSatisfiedAt, IsFirstSatisfied}
 
 abbrev pub place_of : Cause → ℕ → Site
 place_of why line = record { cause = why; line = line }
@@ -52,23 +53,26 @@ module _ (types : List TypeEntry) (vars : List VarEntry) (t : Triple) (table : I
 
   -- ---- sites
 
+  posed : IsPosed types vars t
+  posed = record { table = table; functional = functional; fits = standing.fits; cuts = standing.cuts; start = standing.start }
+
   -- where the store of the tree meets the triple and fails, the first site that holds has the cause and the line
   pub first-satisfied : (a : Assignment) (s : StoreMap) (why : Cause) (line : ℕ) → IsOver types vars a s → Meets types vars t s →
       Fails types vars t s why line → IsFirstSatisfied types vars t a why line
-  first-satisfied a s why line over meets fails = ?
+  first-satisfied a s why line over meets fails = failing-first types vars t posed a s over meets.start why line fails
 
   -- where some site holds it meets the triple, and fails
   pub satisfied-meets : (a : Assignment) (s : StoreMap) (site : ℕ) → IsOver types vars a s → IsSatisfiedAt types vars t a site → Meets types vars t s
-  satisfied-meets a s site over satisfied = ?
+  satisfied-meets a s site over satisfied = site-meets types vars t posed a s over site satisfied
 
   pub satisfied-fails : (a : Assignment) (s : StoreMap) (site : ℕ) → IsOver types vars a s → IsSatisfiedAt types vars t a site →
       (why : Cause) × (line : ℕ) × Fails types vars t s why line
-  satisfied-fails a s site over satisfied = ?
+  satisfied-fails a s site over satisfied = site-fails types vars t posed a s over site satisfied (settled s over.well)
 
   -- with the cause and at the line of the first that holds
   pub first-fails : (a : Assignment) (s : StoreMap) (why : Cause) (line : ℕ) → IsOver types vars a s → IsFirstSatisfied types vars t a why line →
       Fails types vars t s why line
-  first-fails a s why line over first = ?
+  first-fails a s why line over first = first-fails_so types vars t posed a s over why line first (settled s over.well)
 
   -- ---- the places of sites
 

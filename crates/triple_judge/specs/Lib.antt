@@ -3,4 +3,3 @@ pub mod Standing
 pub mod Judging
 pub mod Searching
 pub mod Lightest
-pub mod Premise

@@ -1,0 +1,16 @@
+pub mod ClearLemmas
+pub mod SightClearLemmas
+pub mod RouteClearLemmas
+pub mod SightMeaningLemmas
+pub mod ShortLemmas
+pub mod BelowLemmas
+pub mod ValuesLemmas
+pub mod ReadValueLemmas
+pub mod PartValueLemmas
+pub mod KeptLemmas
+pub mod ReadKeptLemmas
+pub mod ConditionKeptLemmas
+pub mod ActKeptLemmas
+pub mod CodeKeptLemmas
+pub mod TripleLemmas
+pub mod BindingLemmas
