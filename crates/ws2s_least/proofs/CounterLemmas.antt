@@ -2,14 +2,15 @@
 use Rattle.std.proofs.Common.{◌≡◌, ◌⊎◌, inl, inr, ◌+◌, ◌<◌, ◌≤◌, ℕ, zero, suc, min, max, nat_lt, Bool, true, false, cond, List, [], ◌∷◌, refl, sym, ap, ap₂, ◌∙◌, arith}
 use Rattle.std.proofs.lemmas.Bool.{cases_lt, lt-ltb, ltb-true, false≢true}
 use Rattle.labels.specs.Labels.{Label, empty_label}
-use Rattle.gta_theory.specs.Assignments.{Assignment, Covers, half, root_label}
+use Rattle.gta_theory.specs.Assignments.{Assignment, Covers, half, root_label, empty_assignment}
 use Rattle.gta_theory.specs.Guides.{Spaces, IsGuide, left, right}
 use Rattle.gta_theory.specs.Automata.{Automaton, value, IsStable, Accepts}
 use Rattle.gta_theory.specs.Constructions.{IsReached, IsClosed}
 use Rattle.gta_theory.specs.Numbered.{Below}
 use Rattle.gta_theory.specs.Sizes.{AreSameBelow, LooksBelow}
 use Rattle.gta_theory.specs.Weights.{label_weight, weight}
-use Rattle.gta_witness.proofs.WeighingLemmas.{label_weight-none}
+use Rattle.gta_theory.proofs.AssignmentsLemmas.{Covers-empty}
+use Rattle.gta_theory.proofs.WeightsLemmas.{weight-deeper}
 
 -- ---- tracks below a bound
 
@@ -51,7 +52,8 @@ module _ (tracks : List ℕ) (w : ℕ) where
   pub stable-counter : (g : Spaces) → IsStable g counter
   stable-counter g = record {
     at = λ s there.
-        let none : label_weight tracks empty_label ≡ 0 = label_weight-none tracks empty_label (λ t. refl) in
+        let none : label_weight tracks empty_label + (0 + 0) ≡ 0 =
+        weight-deeper tracks zero (suc zero) empty_assignment Covers-empty (omega arith) in
         let still : min w (0 + 0 + label_weight tracks empty_label) ≡ 0 = omega (arith, none) in
         still;
   }
