@@ -63,7 +63,7 @@ fn push_item(spares: &mut VariantList, item: &Item) -> Result<(), AllocError>
 }
 
 /// A code in all its parts. Takes a level of the stack for each branch within another one.
-#[tactic(auto, using(crate::proofs::SparesLemmas::cut_made, crate::proofs::SparesLemmas::branch_made))]
+#[tactic(auto, using(crate::proofs::SparesLemmas::cut_made))]
 fn push_code(spares: &mut VariantList, code: &Code) -> Result<(), AllocError>
     ensures { OnOk result (spares.new ≡ spares.old ++ made_in_code code.now) }
 {

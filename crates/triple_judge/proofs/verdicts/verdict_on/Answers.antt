@@ -17,13 +17,13 @@ returns-in-Witness-clause-value g c =
     c.in_ok-easier.ensures.kept.same (subst (IsVerdict c.args.tracks.now c.in_ok-easier.easier) c.in-Witness.is c.in_ok-decide.ensures.value)
 
 -- the second way is under the guide and the limit of the first
-pub returns-in-Limit-clause-limit : goal.returns-in-Limit-clause-limit
-returns-in-Limit-clause-limit g c = λ at_limit p peak.
+pub returns-clause-limit : goal.returns-clause-limit
+returns-clause-limit g c = λ at_limit p peak.
     subst (λ (n : ℕ). n < p) c.decide.ensures.same_limit
     (c.decide-in-Limit.ensures.limit at_limit p (subst (λ (g : Spaces). HasPeak g c.args.formula.now p) (sym c.decide.ensures.guide) peak))
 
-pub returns-in-Limit-clause-guide : goal.returns-in-Limit-clause-guide
-returns-in-Limit-clause-guide g c = c.decide-in-Limit.ensures.guide ∙ c.decide.ensures.guide
+pub returns-clause-guide : goal.returns-clause-guide
+returns-clause-guide g c = c.decide-in-Limit.ensures.guide ∙ c.decide.ensures.guide
 
-pub returns-in-Limit-clause-same_limit : goal.returns-in-Limit-clause-same_limit
-returns-in-Limit-clause-same_limit g c = c.decide-in-Limit.ensures.same_limit ∙ c.decide.ensures.same_limit
+pub returns-clause-same_limit : goal.returns-clause-same_limit
+returns-clause-same_limit g c = c.decide-in-Limit.ensures.same_limit ∙ c.decide.ensures.same_limit
