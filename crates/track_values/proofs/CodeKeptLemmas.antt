@@ -18,7 +18,6 @@ use Rattle.store_exec.specs.declared.code.Tail.TheVariants as tail
 use Rattle.store_exec.specs.declared.code.Tail.TheVariants.{rolls-Cut, rolls-Branch}
 use Rattle.store_exec.specs.declared.code.Tail.TheOpen.{Tail-F}
 use Rattle.store_exec.specs.declared.code.Tail.TheFolds.{fold-Tail, fold-roll-Tail, fold-roll-Code}
-use Rattle.store_exec.specs.declared.cause.Cause.TheVariants as cause
 use Rattle.store_exec.specs.declared.triple.Cut.{Cut}
 use Rattle.store_exec.specs.Fits.{ItemsFit, CodeFits}
 use Rattle.store_exec.proofs.InductionLemmas.{items-induction, codes-induction}

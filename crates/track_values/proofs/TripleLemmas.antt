@@ -1,5 +1,5 @@
 -- The walk over a triple that fits.
-use Rattle.std.proofs.Common.{◌≡◌, ℕ, ◌<◌, ◌≤◌, cond, List, [], length, Option, Some, None, sym, ap, subst, arith, lt-ltb}
+use Rattle.std.proofs.Common.{◌≡◌, ℕ, ◌<◌, ◌≤◌, cond, List, length, Option, Some, None, sym, ap, subst, arith, lt-ltb}
 use Rattle.std.specs.Option.{option_map_or}
 use Rattle.std.proofs.lemmas.List.Elements.{All-map}
 use Rattle.gta_theory.proofs.ListsLemmas.{All-from_contains}
