@@ -1,0 +1,5 @@
+pub mod Spares
+pub mod Standing
+pub mod Judging
+pub mod Searching
+pub mod Lightest
