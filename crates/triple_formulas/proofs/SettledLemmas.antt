@@ -1,5 +1,5 @@
 -- It is settled for every well-formed store how the code of a triple ends, so satisfied sites mean failing.
-use Rattle.std.proofs.Common.{◌≡◌, ℕ, List, length, slice_get, Option, Some, IsSomeAnd, sym, subst}
+use Rattle.std.proofs.Common.{ℕ, List, length, Option, IsSomeAnd, sym, subst}
 use Rattle.gta_theory.specs.Assignments.{Assignment}
 use Rattle.store_core.specs.Tables.{TypeEntry, VarEntry}
 use Rattle.store_core.specs.Stores.{StoreMap, Fits, IsFresh}
