@@ -1,5 +1,5 @@
 -- A cut has a first cause, or none.
-use Rattle.std.proofs.Common.{◌≡◌, ◌⊎◌, inl, inr, ◌<◌, ℕ, List, [], ◌∷◌, All, length, Option, Some, None, refl, sym, ap, ◌∙◌, subst, Contains}
+use Rattle.std.proofs.Common.{◌≡◌, ◌⊎◌, inl, inr, ℕ, List, [], ◌∷◌, length, Option, Some, None, refl, sym, ap, ◌∙◌, subst, Contains}
 use Rattle.std.proofs.lemmas.List.Elements.{All-nil, All-cons, All-head, All-tail}
 use Rattle.store_core.specs.declared.ids.VarId.{VarId}
 use Rattle.store_core.specs.declared.ids.CellId.{CellId}
@@ -22,7 +22,7 @@ use Rattle.store_exec.specs.declared.cause.Cause.{Cause}
 use Rattle.store_exec.specs.declared.cause.Cause.TheVariants as cause
 use Rattle.store_exec.specs.declared.triple.Claim.{Claim}
 use Rattle.store_exec.specs.declared.triple.Cut.{Cut}
-use Rattle.store_exec.specs.Cuts.{IsMet, AreMet, IsPointerVar, PointsTo, Escapes, EscapesAt, AtCut}
+use Rattle.store_exec.specs.Cuts.{IsMet, AreMet, IsPointerVar, PointsTo, Escapes, AtCut}
 use Rattle.store_exec.specs.Telling.{cause_of_fault}
 use Rattle.store_exec.proofs.CutLemmas.{at-fault, at-escape, at-post, at-none}
 use Rattle.store_ends.proofs.DecidedAssertions.{decided_sat}

@@ -1,5 +1,5 @@
 -- Whether a store satisfies an assertion is decided.
-use Rattle.std.proofs.Common.{◌≡◌, ◌↔◌, ◌⊎◌, inl, inr, ℕ, true, List, [], ◌∷◌, ◌++◌, reverse, Option, Some, None, refl, ap, Contains}
+use Rattle.std.proofs.Common.{◌≡◌, ◌↔◌, inl, inr, ℕ, true, List, [], ◌∷◌, ◌++◌, reverse, Option, Some, None, refl, ap, Contains}
 use Rattle.std.specs.FinMap.{keys}
 use Rattle.store_core.specs.declared.ids.TypeId.{TypeId}
 use Rattle.store_core.specs.declared.ids.VariantId.{VariantId}
@@ -22,7 +22,7 @@ use Rattle.routing_laws.proofs.DecidedStores.{decided_reached, part_of}
 use Rattle.store_logic.specs.declared.assertion.Assertion.{Assertion}
 use Rattle.store_logic.specs.declared.region.Region.{Region}
 use Rattle.store_logic.specs.declared.region.Region.TheVariants as region
-use Rattle.store_logic.specs.Terms.{Environment, under, cell_at, truth_at, set_at, arg_value}
+use Rattle.store_logic.specs.Terms.{Environment, under, cell_at, truth_at, set_at}
 use Rattle.store_logic.specs.Regions.{IsRegion}
 use Rattle.store_logic.specs.Satisfaction.{Holds, Says, SatAll, Sat}
 use Rattle.store_logic.proofs.AssertionLemmas.{IsHereditary, assertion-induction}
