@@ -2,7 +2,7 @@
 use Rattle.std.proofs.Common.{◌⊎◌, inl, inr, ◌+◌, ◌<◌, ℕ, zero, suc, List, arith}
 use Rattle.std.proofs.lemmas.Bool.{cases_lt}
 use Rattle.gta_theory.specs.Assignments.{Assignment, Covers}
-use Rattle.gta_theory.specs.Automata.{Automaton, Accepts}
+use Rattle.gta_theory.specs.Automata.{Automaton}
 use Rattle.gta_theory.specs.Constructions.{IsClosed}
 use Rattle.gta_theory.specs.Numbered.{Below}
 use Rattle.gta_theory.specs.Sizes.{LooksBelow}

@@ -29,11 +29,11 @@ failure_of-requires-clause-lightest g c =
       lightest = subst (λ (n : ℕ). IsSearched formulas c.in_ok-tracks.tracks n (searched.Lightest c.in-Lightest.found)) c.in_ok-count.ensures known;
     }
 
-pub returns-in_ok-store-in-Lightest-clause-value : goal.returns-in_ok-store-in-Lightest-clause-value
-returns-in_ok-store-in-Lightest-clause-value g c = λ functional. c.in_ok-store-in-Lightest.ensures functional
+pub returns-in-Lightest-clause-value : goal.returns-in-Lightest-clause-value
+returns-in-Lightest-clause-value g c = λ functional. c.in_ok-store-in-Lightest.ensures functional
 
-pub returns-in-Limit-clause-limit : goal.returns-in-Limit-clause-limit
-returns-in-Limit-clause-limit g c = λ is p peak.
+pub returns-clause-limit : goal.returns-clause-limit
+returns-clause-limit g c = λ is p peak.
     let types = c.args.l.now.types in
     let vars = c.args.l.now.vars in
     c.in_ok-decide_sites.ensures.limit (ap (λ (x : Searched). Ok x) c.in-Limit.is) p
