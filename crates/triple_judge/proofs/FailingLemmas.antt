@@ -1,6 +1,6 @@
 -- The store that the lightest tree lays out is one of the fewest cells that meets the triple and fails, and where no tree satisfies the
 -- formula of a site the triple is valid.
-use Rattle.std.proofs.Common.{◌≡◌, inl, inr, ◌+◌, ◌<◌, ◌≤◌, ℕ, List, length, slice_get, Option, Some, None, IsSomeAnd, sym, ap, ◌∙◌, subst, arith}
+use Rattle.std.proofs.Common.{◌≡◌, ◌+◌, ◌<◌, ◌≤◌, ℕ, List, length, slice_get, Option, Some, None, sym, subst, arith}
 use Rattle.std.specs.Prelude.{option_map, map, ◌++◌, ◌∷◌, []}
 use Rattle.std.specs.FinMap.{keys}
 use Rattle.std.proofs.lemmas.Option.{same_Some, slice_get_within}
