@@ -1,0 +1,13 @@
+pub mod Laws
+pub mod Standing
+pub mod Settings
+pub mod Steps
+pub mod Returning
+pub mod Codes
+pub mod Pieces
+pub mod Forms
+pub mod Restricting
+pub mod Cells
+pub mod Merging
+pub mod Values
+pub mod Going

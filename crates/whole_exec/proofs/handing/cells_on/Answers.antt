@@ -1,0 +1,34 @@
+use Rattle.std.proofs.Common.{◌<◌, ◌∙◌, filter, sym, ap, subst, arith}
+use Rattle.std.specs.List.{AllByRecursion}
+use Rattle.std.proofs.lemmas.List.{take_all}
+use Rattle.store_core.specs.declared.ids.CellId.{CellId}
+use Rattle.routing_expr.specs.Regions.{has_number}
+use Rattle.whole_exec.proofs.Restricting.{item_at, kept_low, kept_more, kept_same}
+use Rattle.whole_exec.proofs.handing.cells_on.Goals as goal
+use Rattle.whole_exec.proofs.handing.cells_on.Goals.{then-is_member+in_ok-push, else-is_member}
+
+pub push-requires : goal.push-requires
+push-requires c =
+    let others = c.args.others.now in
+    let test = λ (d : CellId). has_number c.args.cells.now d.0 in
+    subst (AllByRecursion (λ (d : CellId). d.0 < c.cell-item.result.0)) (sym c.loop-cell.invariant)
+    (kept_low test others c.loop-cell.cell-index c.cell-item.result c.requires.others
+    (item_at others c.loop-cell.cell-index c.cell-item.result c.loop-cell-test.true c.cell-item.is))
+
+pub loop-cell-preserved : goal.loop-cell-preserved
+loop-cell-preserved c =
+    let others = c.args.others.now in
+    let index = c.loop-cell.cell-index in
+    let cell = c.cell-item.result in
+    let test = λ (d : CellId). has_number c.args.cells.now d.0 in
+    let here = item_at others index cell c.loop-cell-test.true c.cell-item.is in
+    elim c.if-is_member.branch [
+      | then-is_member+in_ok-push w ↦ w.on-is ∙ w.in_ok-push.ensures.ok
+          ∙ kept_more test others c.loop-cell.on index cell here (sym c.is_member.ensures ∙ w.if-is_member.true) c.loop-cell.invariant
+      | else-is_member w ↦ w.on-is
+          ∙ kept_same test others c.loop-cell.on index cell here (sym c.is_member.ensures ∙ w.if-is_member.false) c.loop-cell.invariant
+    ]
+
+pub returns : goal.returns
+returns c = c.loop-cell.invariant
+    ∙ ap (filter (λ (d : CellId). has_number c.args.cells.now d.0)) (take_all c.loop-cell.cell-index c.args.others.now (omega (arith, c.loop-cell-test.false)))

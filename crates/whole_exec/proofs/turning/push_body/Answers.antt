@@ -1,0 +1,14 @@
+use Rattle.std.proofs.Common.{Result, Ok, Err, OnOk}
+use Rattle.whole_exec.proofs.Pieces.{body_first, body_last}
+use Rattle.whole_exec.proofs.turning.push_body.Goals as goal
+
+on_ok : {A E P Q : Type 0} (r : Result A E) → (P → Q) → OnOk r P → OnOk r Q
+on_ok (Ok x) f h = f h
+on_ok (Err e) f h = tt
+
+pub returns-then-not-truth : goal.returns-then-not-truth
+returns-then-not-truth c = body_last c.args.behind c.args.truth c.args.left.now c.if-not-truth.true
+
+pub returns : goal.returns
+returns c = on_ok c.push-2.result (λ put. body_first c.args.behind c.args.truth c.args.left.now c.push.new.self c.push-2.new.self c.if-not-truth.false
+    c.in_ok-push.ensures.ok put) c.push-2.ensures.ok

@@ -1,0 +1,6 @@
+pub mod Answers
+pub mod Starting
+pub mod Standings
+pub mod Turning
+pub mod Handed
+pub mod Beside
