@@ -2,7 +2,7 @@
 
 ghost use Rattle.std.specs.Prelude.{◌≡◌, ◌+◌, ◌<◌, ◌++◌, [], None, length, IfOk, MatchOption};
 ghost use Rattle.pale_types.specs.declared.typed.Stmt.{roll-Stmt};
-ghost use Rattle.pale_types.specs.declared.typed.Stmt.TheVariants as stmt;
+ghost use Rattle.pale_types.specs.declared.typed.Stmt.TheVariants as statement;
 ghost use Rattle.whole_exec.specs.Standings.{stmts_of, left_of, form_of, front};
 ghost use Rattle.whole_exec.specs.Turning.{Skips, weight_of};
 
@@ -46,7 +46,7 @@ pub(crate) enum Next<'a> {
 
 /// The parts of a statement; a `skip` has none.
 fn parts_of<'a>(stmt: &'a Stmt) -> Option<Next<'a>>
-    ensures { MatchOption result (stmt.now ≡ stmt.Skip) (λ found. stmt.now ≡ roll-Stmt (form_of found)) }
+    ensures { MatchOption result (stmt.now ≡ statement.Skip) (λ found. stmt.now ≡ roll-Stmt (form_of found)) }
 {
     match stmt {
         Stmt::Skip => None,
