@@ -16,7 +16,7 @@ use Rattle.whole_exec.specs.Turning.{IsEntered, LeadsTo}
 use Rattle.whole_exec.proofs.Laws.{Laws}
 use Rattle.whole_exec.proofs.Standing.{Holds, next_of, OnTurn}
 use Rattle.whole_exec.proofs.Steps.{takes_on}
-use Rattle.whole_exec.proofs.Returning.{returns_on}
+use Rattle.whole_exec.proofs.ReturnLemmas.{returns_on}
 
 some_same : {X : Type 0} (x y : X) → Some x ≡ Some y → x ≡ y
 some_same x y e = cc

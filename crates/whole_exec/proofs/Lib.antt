@@ -2,12 +2,12 @@ pub mod Laws
 pub mod Standing
 pub mod Settings
 pub mod Steps
-pub mod Returning
+pub mod ReturnLemmas
 pub mod Codes
-pub mod Pieces
+pub mod PieceLemmas
 pub mod Forms
-pub mod Restricting
-pub mod Cells
+pub mod RestrictingLemmas
+pub mod CellLemmas
 pub mod Merging
 pub mod Values
 pub mod Going

@@ -23,7 +23,7 @@ use Rattle.routing_expr.proofs.RegionLemmas.{live_more}
 use Rattle.whole_exec.specs.declared.beside.Which.{Which}
 use Rattle.whole_exec.specs.declared.beside.Which.TheVariants as which
 use Rattle.whole_exec.specs.Beside.{AreApart, IsSmaller, IsNextOf, IsNext, AreAll}
-use Rattle.whole_exec.proofs.Restricting.{past_end}
+use Rattle.whole_exec.proofs.RestrictingLemmas.{past_end}
 
 abbrev Entry : Type 0
 Entry = ℕ × CellEntry
@@ -116,7 +116,7 @@ all_lower n m less (d ∷ made) all = let low = all.0 in (omega (arith, low, les
 place_within : (s : StoreMap) (i : ℕ) (b : CellBody) → Some (cell_entry b) ≡ slice_get (entries s.cells) i → i < length (keys s.cells)
 place_within s i b there =
     let low = slice_get_within (entries s.cells) i (cell_entry b) (sym there) in
-    let same : length (keys s.cells) ≡ length (entries s.cells) = length-map (λ (e : Entry). e.0) (entries s.cells) in
+    let same : length (keys s.cells) ≡ length (entries s.cells) = length-map (entries s.cells) (λ (e : Entry). e.0) in
     subst (λ (n : ℕ). i < n) (sym same) low
 
 module _ (s t : StoreMap) (i j : ℕ) where

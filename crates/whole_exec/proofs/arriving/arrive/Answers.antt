@@ -1,7 +1,7 @@
 use Rattle.std.proofs.Common.{Option, refl, subst}
 use Rattle.store_exec.specs.declared.cause.Cause.{Cause}
 use Rattle.store_exec.specs.Cuts.{AtCut}
-use Rattle.whole_exec.proofs.Restricting.{vars_length}
+use Rattle.whole_exec.proofs.RestrictingLemmas.{vars_length}
 use Rattle.whole_exec.proofs.arriving.arrive.Goals as goal
 
 pub returns-in-Some : goal.returns-in-Some

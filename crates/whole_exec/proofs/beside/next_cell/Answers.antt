@@ -5,10 +5,10 @@ pub returns-in-Some-body_at : goal.returns-in-Some-body_at
 returns-in-Some-body_at c = next_smaller c.args.one.now c.args.other.now c.args.i c.args.j c.in-Some.first.now c.in-Some-body_at.second.now c.smaller.result
     c.in-Some.ensures.cell c.in-Some.ensures.live c.in-Some-body_at.ensures.cell c.in-Some-body_at.ensures.live c.smaller.ensures
 
-pub returns-in-None : goal.returns-in-None
-returns-in-None c = next_alone c.args.one.now c.args.other.now c.args.i c.args.j c.in-Some.first.now c.in-Some.ensures.cell c.in-Some.ensures.live
-    c.in-None.ensures.cell
+pub returns-in-None-body_at : goal.returns-in-None-body_at
+returns-in-None-body_at c = next_alone c.args.one.now c.args.other.now c.args.i c.args.j c.in-Some.first.now c.in-Some.ensures.cell c.in-Some.ensures.live
+    c.in-None-body_at.ensures.cell
 
-pub returns-in-Some-2 : goal.returns-in-Some-2
-returns-in-Some-2 c = next_alone c.args.other.now c.args.one.now c.args.j c.args.i c.in-Some-2.last.now c.in-Some-2.ensures.cell c.in-Some-2.ensures.live
-    c.in-None-2.ensures.cell
+pub returns-in-Some-body_at-2 : goal.returns-in-Some-body_at-2
+returns-in-Some-body_at-2 c = next_alone c.args.other.now c.args.one.now c.args.j c.args.i c.in-Some-body_at-2.last.now c.in-Some-body_at-2.ensures.cell
+    c.in-Some-body_at-2.ensures.live c.in-None.ensures.cell

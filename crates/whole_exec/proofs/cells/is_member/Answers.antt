@@ -1,4 +1,4 @@
-use Rattle.whole_exec.proofs.Cells.{member_is}
+use Rattle.whole_exec.proofs.CellLemmas.{member_is}
 use Rattle.whole_exec.proofs.cells.is_member.Goals as goal
 
 pub returns : goal.returns

@@ -2,7 +2,7 @@ use Rattle.std.proofs.Common.{◌∙◌, sym, subst}
 use Rattle.store_core.specs.StoreBodies.{IsKept}
 use Rattle.routing_expr.proofs.RegionLemmas.{IsKept-on}
 use Rattle.whole_exec.specs.Handed.{is_on}
-use Rattle.whole_exec.proofs.Cells.{retained}
+use Rattle.whole_exec.proofs.CellLemmas.{retained}
 use Rattle.whole_exec.proofs.cells.store_of.Goals as goal
 
 pub of-requires-clause-kept : goal.of-requires-clause-kept

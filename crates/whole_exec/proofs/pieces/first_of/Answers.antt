@@ -1,4 +1,4 @@
-use Rattle.whole_exec.proofs.Pieces.{first_same, first_less, none_same}
+use Rattle.whole_exec.proofs.PieceLemmas.{first_same, first_less, none_same}
 use Rattle.whole_exec.proofs.pieces.first_of.Goals as goal
 
 pub returns-in-None-clause-same : goal.returns-in-None-clause-same

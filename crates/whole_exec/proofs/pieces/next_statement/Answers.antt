@@ -2,7 +2,7 @@ use Rattle.std.proofs.Common.{Option, ap, sym, ◌∙◌, ◌++◌, subst}
 use Rattle.whole_exec.specs.declared.pieces.Next.{Next}
 use Rattle.whole_exec.specs.Standings.{stmts_of, left_of, front}
 use Rattle.whole_exec.specs.Turning.{Skips}
-use Rattle.whole_exec.proofs.Pieces.{no_skip, more_skips, same_skips, taken_off, taken_less}
+use Rattle.whole_exec.proofs.PieceLemmas.{no_skip, more_skips, same_skips, taken_off, taken_less}
 use Rattle.whole_exec.proofs.pieces.next_statement.Goals as goal
 
 pub loop-piece-init : goal.loop-piece-init
@@ -18,8 +18,8 @@ loop-piece-preserved c =
     (taken_off start c.loop-piece.left piece c.pop.new.self c.in-Some.ensures c.loop-piece.invariant)
     (subst (λ (o : Option Next). Skips (stmts_of piece ++ left_of c.pop.new.self) (front o (left_of after))) c.in_default-next.is c.in_ok-next.ensures.same)
 
-pub loop-piece-decreases : goal.loop-piece-decreases
-loop-piece-decreases c = taken_less c.loop-piece.left c.in-Some.piece c.pop.new.self c.next_of.new.left c.in-Some.ensures c.in_ok-next.ensures.less
+pub loop-piece-smaller : goal.loop-piece-smaller
+loop-piece-smaller c = taken_less c.loop-piece.left c.in-Some.piece c.pop.new.self c.next_of.new.left c.in-Some.ensures c.in_ok-next.ensures.less
 
 -- something was found in it
 pub returns-in-Some-next-clause-same : goal.returns-in-Some-next-clause-same

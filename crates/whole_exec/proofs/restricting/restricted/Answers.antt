@@ -1,7 +1,7 @@
 use Rattle.std.proofs.Common.{◌≡◌, ◌∙◌, length, IsSomeAnd, sym, ap, subst, arith}
 use Rattle.store_core.specs.Stores.{StoreMap, class_of}
 use Rattle.store_exec.specs.Restricted.{live_part}
-use Rattle.whole_exec.proofs.Restricting.{past_end, half_length, same_class, restricted_more, restricted_all}
+use Rattle.whole_exec.proofs.RestrictingLemmas.{past_end, half_length, same_class, restricted_more, restricted_all}
 use Rattle.whole_exec.proofs.restricting.restricted.Goals as goal
 
 -- each variable of the table has a value

@@ -1,5 +1,5 @@
 use Rattle.std.proofs.Common.{◌≡◌}
-use Rattle.whole_exec.proofs.Restricting.{half_restricted}
+use Rattle.whole_exec.proofs.RestrictingLemmas.{half_restricted}
 use Rattle.whole_exec.proofs.restricting.restricted.Given as goal
 
 -- the variables below the index are restricted

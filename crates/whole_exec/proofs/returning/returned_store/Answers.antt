@@ -16,7 +16,7 @@ restricted-requires c =
     let n = length c.args.vars.now in
     let f = value_after c.args.vars.now c.args.call.now c.args.results.now c.args.rest.now c.args.exited.now in
     ap (λ (s : StoreMap). length s.vars) c.in_ok-both.ensures ∙ ap length c.in_ok-values.ensures
-    ∙ length-map f (numbered (range_with_len 0 n)) ∙ length-map (λ k. record { 0 = k }) (range_with_len 0 n) ∙ length-range_with_len 0 n
+    ∙ length-map (numbered (range_with_len 0 n)) f ∙ length-map (range_with_len 0 n) (λ k. record { 0 = k }) ∙ length-range_with_len 0 n
 
 pub returns : goal.returns
 returns c =

@@ -5,7 +5,7 @@ use Rattle.whole_exec.specs.Standings.{all_waiting, state_of}
 use Rattle.whole_exec.specs.Turning.{TurnsAs}
 use Rattle.whole_exec.proofs.Laws.{Laws}
 use Rattle.whole_exec.proofs.Standing.{next_of}
-use Rattle.whole_exec.proofs.Returning.{can_turn}
+use Rattle.whole_exec.proofs.ReturnLemmas.{can_turn}
 use Rattle.whole_exec.proofs.Going.{IsGoing, starts, goes_on, one_left, one_room, done}
 use Rattle.whole_exec.proofs.running.run_procedure.Goals as goal
 

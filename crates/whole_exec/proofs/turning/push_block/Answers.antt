@@ -1,5 +1,5 @@
 use Rattle.std.proofs.Common.{Bool, Result, Ok, Err, OnOk, if◌then◌else◌, sym, ap}
-use Rattle.whole_exec.proofs.Pieces.{block_first}
+use Rattle.whole_exec.proofs.PieceLemmas.{block_first}
 use Rattle.whole_exec.proofs.turning.push_block.Goals as goal
 
 on_ok : {A E P Q : Type 0} (r : Result A E) → (P → Q) → OnOk r P → OnOk r Q

@@ -1,5 +1,5 @@
 use Rattle.std.proofs.Common.{Result, Ok, Err, OnOk}
-use Rattle.whole_exec.proofs.Pieces.{body_first, body_last}
+use Rattle.whole_exec.proofs.PieceLemmas.{body_first, body_last}
 use Rattle.whole_exec.proofs.turning.push_body.Goals as goal
 
 on_ok : {A E P Q : Type 0} (r : Result A E) → (P → Q) → OnOk r P → OnOk r Q

@@ -1,10 +1,10 @@
 -- Lists of cells of which some are kept, and lists of which the first elements were changed.
 use Rattle.std.proofs.Common.{◌≡◌, ◌+◌, ◌<◌, ◌≤◌, ℕ, zero, suc, Bool, true, false, cond, List, [], ◌∷◌, ◌++◌, length, map, take, filter}
-use Rattle.std.proofs.Common.{slice_get, slice_set, get_or, Option, Some, None, is_some, refl, sym, ap, ◌∙◌, arith}
+use Rattle.std.proofs.Common.{slice_get, slice_set, Option, Some, None, is_some, refl, sym, ap, ◌∙◌, arith}
 use Rattle.std.specs.Prelude.{option_map}
 use Rattle.std.specs.List.{AllByRecursion}
 use Rattle.std.proofs.lemmas.List.{take_more}
-use Rattle.std.proofs.lemmas.Option.{slice_get_within, slice_get-get_or, get_or_from_slice_get}
+use Rattle.std.proofs.lemmas.Option.{slice_get_within, get_or_from_slice_get}
 use Rattle.store_core.specs.declared.ids.CellId.{CellId}
 use Rattle.store_core.specs.declared.value.Value.{Value}
 use Rattle.store_core.specs.declared.value.Value.TheVariants as value
@@ -16,9 +16,6 @@ use Rattle.store_exec.specs.Restricted.{live_part, restricted}
 
 -- ---- elements at places
 
-pub item_at : {X : Type 0} (xs : List X) (i : ℕ) (x : X) → i < length xs → x ≡ get_or xs i x → slice_get xs i ≡ Some x
-item_at {X} xs i x low is = slice_get-get_or xs i x low ∙ ap (λ (y : X). Some y) (sym is)
-
 -- past the end nothing is left
 pub past_end : {X : Type 0} (xs : List X) (i : ℕ) → slice_get xs i ≡ None → length xs ≤ i
 past_end [] i is = omega arith
@@ -26,6 +23,10 @@ past_end (x ∷ xs) zero is = absurd cc
 past_end (x ∷ xs) (suc i) is = let rest = past_end xs i is in omega (arith, rest)
 
 -- ---- cells of which some are kept
+
+-- what stands past the end of a list of cells
+abbrev pub no_cell : CellId
+no_cell = record { 0 = 0 }
 
 module _ (p : CellId → Bool) where
   -- those kept so far are below the next
