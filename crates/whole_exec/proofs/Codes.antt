@@ -22,7 +22,7 @@ use Rattle.store_exec.specs.Steps.{truth_of}
 use Rattle.store_exec.specs.Runs.{Ending, Does, RunsItems, Follows, Branches, RunsCode}
 use Rattle.store_exec.specs.Fits.{ItemsFit, TailFitsNode, CodeFitsNode, CodeFits, news_of_item, news_of, news_of_tail, news_of_code, CanRunCode}
 use Rattle.store_exec.specs.Going.{CanRun}
-use Rattle.store_exec.proofs.CanRunLemmas.{TailFits, news_behind}
+use Rattle.store_exec.proofs.CanRunLemmas.{TailFits, news_behind, news-branch}
 use Rattle.store_exec.proofs.CodeLemmas.{code-cut, code-branch}
 use Rattle.store_exec.proofs.RunLemmas.{RunsItem-Do}
 use Rattle.store_exec.proofs.GoingLemmas.{news-Do}
@@ -91,9 +91,7 @@ news-ending items place =
 news-choosing : (line : ℕ) (c : Cond) → news_of_code (choosing_code line c) ≡ 0
 news-choosing line c =
     let whole = count-roll [] (tail.Branch line c (ending_code [] 0) (ending_code [] 1)) in
-    let own : news_behind (tail.Branch line c (ending_code [] 0) (ending_code [] 1)) ≡ news_of_code (ending_code [] 0) + news_of_code (ending_code [] 1)
-    = ap news_behind (sym (tail.rolls-Branch line c (ending_code [] 0) (ending_code [] 1)))
-    ∙ fold-roll-Tail ℕ ℕ news_of_tail (λ x. news_of x.items + x.tail) (Tail-F.Branch line c (ending_code [] 0) (ending_code [] 1)) in
+    let own = news-branch line c (ending_code [] 0) (ending_code [] 1) in
     let one = news-ending [] 0 in let two = news-ending [] 1 in
     omega (arith, whole, own, one, two)
 
