@@ -41,10 +41,10 @@ abbrev pub choosing_code : ℕ → Cond → Code
 choosing_code line c = roll-Code (record { items = []; tail = tail.Branch line c (ending_code [] 0) (ending_code [] 1) })
 
 -- the code of a condition, by its parts
-pub choosing_is : (items : List Item) (line : ℕ) (b c : Cond) (yes no : Code) → items ≡ [] → b ≡ c → yes ≡ ending_code [] 0 → no ≡ ending_code [] 1 →
-    roll-Code (record { items = items; tail = tail.Branch line b yes no }) ≡ choosing_code line c
-choosing_is items line b c yes no none same one other =
-    λ i. roll-Code (record { items = none i; tail = tail.Branch line (same i) (one i) (other i) })
+pub choosing_is : (items : List Item) (line : ℕ) (b c : Cond) (first other : Code) → items ≡ [] → b ≡ c → first ≡ ending_code [] 0 →
+    other ≡ ending_code [] 1 → roll-Code (record { items = items; tail = tail.Branch line b first other }) ≡ choosing_code line c
+choosing_is items line b c first other none same one two =
+    λ i. roll-Code (record { items = none i; tail = tail.Branch line (same i) (one i) (two i) })
 
 module _ (types : List TypeEntry) (vars : List VarEntry) where
   natural-tail : (T C : Type 0) (v : T → Tail) (w : C → Code) (k : Tail → Type 0) (l : Code → Type 0) (x : Tail-F T C) →

@@ -1,15 +1,13 @@
 -- The statements that are left, piece by piece.
-use Rattle.std.proofs.Common.{◌≡◌, Bool, true, false, if◌then◌else◌, ◌+◌, ◌<◌, ℕ, zero, suc, List, [], ◌∷◌, ◌++◌, length, Option, Some, None, Bor, refl, sym, ap, ◌∙◌, arith}
-use Rattle.std.specs.Prelude.{MatchOption}
+use Rattle.std.proofs.Common.{◌≡◌, Bool, true, false, if◌then◌else◌, ◌+◌, ◌<◌, ℕ, zero, suc, List, [], ◌∷◌, ◌++◌, length, Bor, refl, sym, ap, ◌∙◌, arith}
 use Rattle.std.proofs.lemmas.List.{append_assoc}
 use Rattle.std.proofs.lemmas.List.Sums.{sum_by-cons}
-use Rattle.pale_types.specs.declared.typed.Stmt.{Stmt, roll-Stmt}
+use Rattle.pale_types.specs.declared.typed.Stmt.{Stmt}
 use Rattle.pale_types.specs.declared.typed.Stmt.TheVariants as stmt
 use Rattle.whole_exec.specs.declared.pieces.Loop.{Loop}
 use Rattle.whole_exec.specs.declared.pieces.Piece.{Piece}
 use Rattle.whole_exec.specs.declared.pieces.Piece.TheVariants as piece
-use Rattle.whole_exec.specs.declared.pieces.Next.{Next}
-use Rattle.whole_exec.specs.Standings.{loop_of, stmts_of, left_of, form_of, front}
+use Rattle.whole_exec.specs.Standings.{loop_of, stmts_of, left_of}
 use Rattle.whole_exec.specs.Turning.{after_skips, Skips, weight_of}
 
 -- ---- skips
@@ -30,38 +28,12 @@ more_skips xs ys zs first then_more =
     let whole = one_more first.0 then_more.0 zs in
     (whole.0, first.1 ∙ ap (after_skips first.0) then_more.1 ∙ whole.1)
 
--- a `skip` before others
-pub skip_one : (s : Stmt) (xs ys : List Stmt) → s ≡ stmt.Skip → Skips xs ys → Skips (s ∷ xs) ys
-skip_one s xs ys is skips = (suc skips.0, ap (λ (t : Stmt). t ∷ xs) is ∙ ap (λ (l : List Stmt). stmt.Skip ∷ l) skips.1)
-
 -- ---- how much is left
 
 pub weight_more : (p : Piece) (pieces : List Piece) → weight_of (p ∷ pieces) ≡ (length (stmts_of p) + 1) + weight_of pieces
 weight_more p pieces = sum_by-cons (λ (q : Piece). length (stmts_of q) + 1) p pieces
 
 -- ---- what is found
-
--- the first of a block: it is a `skip`, or it was found
-pub first_same : (block : List Stmt) (s : Stmt) (more : Bor (List Stmt)) (old new : List Piece) (r : Option Next) → block ≡ s ∷ more.now →
-    new ≡ piece.Block more ∷ old → MatchOption r (s ≡ stmt.Skip) (λ found. s ≡ roll-Stmt (form_of found)) →
-    Skips (block ++ left_of old) (front r (left_of new))
-first_same block s more old new None parts put is = (
-  1,
-  ap (λ (b : List Stmt). b ++ left_of old) parts ∙ ap (λ (t : Stmt). t ∷ (more.now ++ left_of old)) is
-      ∙ ap (λ (ps : List Piece). stmt.Skip ∷ left_of ps) (sym put),
-)
-first_same block s more old new (Some found) parts put is = (
-  0,
-  ap (λ (b : List Stmt). b ++ left_of old) parts ∙ ap (λ (t : Stmt). t ∷ (more.now ++ left_of old)) is
-      ∙ ap (λ (ps : List Piece). roll-Stmt (form_of found) ∷ left_of ps) (sym put),
-)
-
-pub first_less : (block : List Stmt) (s : Stmt) (more : Bor (List Stmt)) (old new : List Piece) → block ≡ s ∷ more.now → new ≡ piece.Block more ∷ old →
-    weight_of new < weight_of old + (length block + 1)
-first_less block s more old new parts put =
-    let whole : weight_of new ≡ (length more.now + 1) + weight_of old = ap weight_of put ∙ weight_more (piece.Block more) old in
-    let longer : length block ≡ suc (length more.now) = ap length parts in
-    omega (arith, whole, longer)
 
 -- a block with nothing in it
 pub none_same : (block : List Stmt) (old : List Piece) → length block ≡ 0 → Skips (block ++ left_of old) (left_of old)
@@ -80,9 +52,9 @@ taken_less now p pieces after is less = let whole = ap weight_of is ∙ weight_m
 
 -- ---- what a condition chooses
 
-pub block_first : (truth : Bool) (yes no chosen : Bor (List Stmt)) (old new : List Piece) → new ≡ piece.Block chosen ∷ old →
-    chosen.now ≡ (if truth then yes.now else no.now) → left_of new ≡ (if truth then yes.now else no.now) ++ left_of old
-block_first truth yes no chosen old new put is = ap left_of put ∙ ap (λ (b : List Stmt). b ++ left_of old) is
+pub block_first : (truth : Bool) (first other chosen : Bor (List Stmt)) (old new : List Piece) → new ≡ piece.Block chosen ∷ old →
+    chosen.now ≡ (if truth then first.now else other.now) → left_of new ≡ (if truth then first.now else other.now) ++ left_of old
+block_first truth first other chosen old new put is = ap left_of put ∙ ap (λ (b : List Stmt). b ++ left_of old) is
 
 -- the body of a loop, and then the loop again
 pub body_first : (l : Loop) (truth : Bool) (old mid new : List Piece) → truth ≡ true → mid ≡ piece.Again l ∷ old → new ≡ piece.Block l.body ∷ mid →

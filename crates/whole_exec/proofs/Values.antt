@@ -1,5 +1,5 @@
 -- Calls and returns, as the code makes them.
-use Rattle.std.proofs.Common.{◌≡◌, ◌+◌, ℕ, List, [], ◌∷◌, ◌++◌, map, ◌==◌, if◌then◌else◌, Option, Some, None, Bor, slice_get, sym, ap, ap₂, ◌∙◌, arith}
+use Rattle.std.proofs.Common.{◌≡◌, ◌+◌, ℕ, List, [], ◌∷◌, ◌++◌, length, map, ◌==◌, if◌then◌else◌, Option, Some, None, Bor, slice_get, refl, sym, ap, ap₂, ◌∙◌, arith}
 use Rattle.std.specs.Prelude.{option_map}
 use Rattle.std.specs.Option.{option_map_or}
 use Rattle.std.specs.List.{find, zip, range_with_len}
@@ -41,6 +41,16 @@ numbered_more f i now after so_far put =
     ∙ sym (ap (map f) (map-range_with_len_more var_of 0 i i (omega arith)) ∙ map_push f (numbered (range_with_len 0 i)) (var_of i))
 
 -- ---- a variable after a return
+
+-- nothing stands beside nothing
+pub no_own : (xs ys : List VarId) → length xs ≡ 0 → zip xs ys ≡ []
+no_own [] ys none = refl
+no_own (x ∷ xs) ys none = absurd (omega (arith, none))
+
+pub no_other : (xs ys : List VarId) → length ys ≡ 0 → zip xs ys ≡ []
+no_other [] ys none = refl
+no_other (x ∷ xs) [] none = refl
+no_other (x ∷ xs) (y ∷ ys) none = absurd (omega (arith, none))
 
 mapped : (o : Option (VarId × VarId)) (r : Option VarId) (f : VarId → Value) (otherwise : Value) → r ≡ option_map (λ (p : VarId × VarId). p.1) o →
     option_map_or f r otherwise ≡ option_map_or (λ (p : VarId × VarId). f p.1) o otherwise

@@ -13,8 +13,8 @@ returns-in-Some c = (
 pub restricted-requires : goal.restricted-requires
 restricted-requires c = vars_length c.args.store c.args.vars.now (c.args.store).vars c.requires.fits.values
 
-pub returns-in-None : goal.returns-in-None
-returns-in-None c = (
+pub returns : goal.returns
+returns c = (
   subst (λ (o : Option Cause). AtCut c.args.types.now c.args.vars.now c.args.cut.now c.args.store o) c.in-None.is c.in_ok-cause.ensures,
   c.in_ok-restricted-in-None.ensures,
 )

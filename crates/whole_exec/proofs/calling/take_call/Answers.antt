@@ -54,8 +54,8 @@ returns-in-Ok c =
           (λ t after. Begins program call (frame_of a t) (all_waiting c.args.waiting.now) after) c.in-Ok.after _ sets.2 c.in_ok-begin-in-Ok.ensures,
     )
 
-pub returns-in-Err : goal.returns-in-Err
-returns-in-Err c =
+pub returns : goal.returns
+returns c =
     let program = c.args.program.now in
     let a = c.args.activation in
     let call = c.args.call.now in

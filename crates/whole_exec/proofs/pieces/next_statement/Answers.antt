@@ -16,20 +16,21 @@ loop-piece-preserved c =
     let after = c.next_of.new.left in
     more_skips (left_of start) (stmts_of piece ++ left_of c.pop.new.self) (left_of after)
     (taken_off start c.loop-piece.left piece c.pop.new.self c.in-Some.ensures c.loop-piece.invariant)
-    (subst (λ (o : Option Next). Skips (stmts_of piece ++ left_of c.pop.new.self) (front o (left_of after))) c.in_default-next.is c.in_ok-next.ensures.same)
+    (subst (λ (o : Option Next). Skips (stmts_of piece ++ left_of c.pop.new.self) (front o (left_of after))) c.in_default-2.is c.in_ok-next.ensures.same)
 
 pub loop-piece-smaller : goal.loop-piece-smaller
 loop-piece-smaller c = taken_less c.loop-piece.left c.in-Some.piece c.pop.new.self c.next_of.new.left c.in-Some.ensures c.in_ok-next.ensures.less
 
 -- something was found in it
-pub returns-in-Some-next-clause-same : goal.returns-in-Some-next-clause-same
-returns-in-Some-next-clause-same c =
+pub returns-in-Some-2-clause-same : goal.returns-in-Some-2-clause-same
+returns-in-Some-2-clause-same c =
     let start = c.args.left.now in
     let piece = c.in-Some.piece in
     let after = c.next_of.new.left in
-    more_skips (left_of start) (stmts_of piece ++ left_of c.pop.new.self) (front c.in_ok-next.next (left_of after))
+    subst (λ (o : Option Next). Skips (left_of start) (front o (left_of after))) c.in-Some-2.is
+    (more_skips (left_of start) (stmts_of piece ++ left_of c.pop.new.self) (front c.in_ok-next.next (left_of after))
     (taken_off start c.loop-piece.left piece c.pop.new.self c.in-Some.ensures c.loop-piece.invariant)
-    c.in_ok-next.ensures.same
+    c.in_ok-next.ensures.same)
 
 -- no piece is left
 pub returns-clause-same : goal.returns-clause-same

@@ -12,8 +12,8 @@ returns-in-End c =
     ran_to types c.args.items 0 c.args.store c.in-End.after c.in-End._place
     (subst (RunsCode types (ending_code c.args.items 0) c.args.store) c.in-End.is c.in_ok-_place.ensures)
 
-pub returns-in-Fail : goal.returns-in-Fail
-returns-in-Fail c =
+pub returns : goal.returns
+returns c =
     let types = c.args.types.now in
     ran_into types c.args.items 0 c.args.store c.in-Fail.cause c.in-Fail.line
     (subst (RunsCode types (ending_code c.args.items 0) c.args.store) c.in-Fail.is c.in_ok-_place.ensures)

@@ -19,8 +19,8 @@ returns-in-End c =
     (subst (λ (code : Code). RunsCode c.args.types.now code c.args.store _) same
     (subst (RunsCode c.args.types.now _ c.args.store) c.in-End.is c.in_ok-place.ensures))
 
-pub returns-in-Fail : goal.returns-in-Fail
-returns-in-Fail c =
+pub returns : goal.returns
+returns c =
     let same = choosing_is c.new-items.result c.args.line c.in_ok-read.read c.args.cond.now c.in_ok-yes.yes c.in_ok-no.no c.new-items.ensures
     c.in_ok-read.ensures c.in_ok-yes.ensures c.in_ok-no.ensures in
     untold_at c.args.types.now c.args.line c.args.cond.now c.args.store c.in-Fail.cause c.in-Fail.line

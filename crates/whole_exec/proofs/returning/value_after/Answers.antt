@@ -33,4 +33,4 @@ returns-else-is_spent c =
     (otherwise (is_spent c.args.call.now (class_at c.args.vars.now c.args.var) c.args.var))) c.in-None.is)
     ∙ value_is c.args.vars.now c.args.call.now c.args.results.now c.args.rest.now c.args.exited.now c.args.var c.as_slice.result.now c.result_for.result
     c.as_slice.ensures c.result_for.ensures in
-    subst (λ (x : Value). IfOk c.copied-in-None.result (λ value. value ≡ x)) same c.copied-in-None.ensures
+    subst (λ (x : Value). IfOk c.copied-else-is_spent.result (λ value. value ≡ x)) same c.copied-else-is_spent.ensures

@@ -15,8 +15,8 @@ returns-in-Some c = λ program.
     subst (λ (at : At). Ends program 0 (state_of at (all_waiting c.args.waiting)) states.Running) (sym c.in-Exited.is)
     (subst (λ (ws : List Suspended). Ends program 0 (states.exited c.in-Exited.store (all_waiting ws)) states.Running) (sym c.in-Some.ensures) refl)
 
-pub returns-in-None : goal.returns-in-None
-returns-in-None c = λ program.
+pub returns : goal.returns
+returns c = λ program.
     subst (λ (at : At). Ends program 0 (state_of at (all_waiting c.args.waiting)) (states.Exit c.in-Exited.store)) (sym c.in-Exited.is)
     (subst (λ (ws : List Suspended). Ends program 0 (states.exited c.in-Exited.store (all_waiting ws)) (states.Exit c.in-Exited.store))
     (sym c.in-None.ensures.0) refl)

@@ -11,5 +11,5 @@ returns-then-truth c = on_ok c.push.result (λ put. block_first c.args.truth c.a
     (ap (λ (b : Bool). if b then c.args.yes.now else c.args.no.now) (sym c.if-truth.true))) c.push.ensures.ok
 
 pub returns-else-truth : goal.returns-else-truth
-returns-else-truth c = on_ok c.push-2.result (λ put. block_first c.args.truth c.args.yes c.args.no c.args.no c.args.left.now c.push-2.new.self put
-    (ap (λ (b : Bool). if b then c.args.yes.now else c.args.no.now) (sym c.if-truth.false))) c.push-2.ensures.ok
+returns-else-truth c = on_ok c.push-else-truth.result (λ put. block_first c.args.truth c.args.yes c.args.no c.args.no c.args.left.now c.push-else-truth.new.self put
+    (ap (λ (b : Bool). if b then c.args.yes.now else c.args.no.now) (sym c.if-truth.false))) c.push-else-truth.ensures.ok

@@ -18,8 +18,8 @@ returns-in-Ok c = λ waiting. (
   refl,
 )
 
-pub returns-in-Err : goal.returns-in-Err
-returns-in-Err c = λ waiting. (
+pub returns : goal.returns
+returns c = λ waiting. (
   Err c.in-Err.fault,
   subst (λ types. Does types c.args.line c.args.store c.args.act.now (Err c.in-Err.fault)) c.types.ensures
       (subst (Does c.types.result.now c.args.line c.args.store c.args.act.now) c.in-Err.is c.in_ok-after.ensures),

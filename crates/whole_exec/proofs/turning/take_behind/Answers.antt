@@ -18,8 +18,8 @@ returns-in-Ok c = λ waiting.
     (λ (truth : Bool). if truth then l.body.now ++ loop_of l ∷ [] else []) (left_of (c.args.activation).left) (left_of c.push_body.new.left)
     told.0 told.1 c.in_ok-push_body-in-Ok.ensures
 
-pub returns-in-Err : goal.returns-in-Err
-returns-in-Err c = λ waiting.
+pub returns : goal.returns
+returns c = λ waiting.
     let l = c.args.behind in
     let told = subst (IsToldOf l.place.line c.args.store l.test.now) c.in-Err.is c.in_ok-truth.ensures in
     untold_turn l.place.line _ (truth_of c.args.store l.test.now) c.in-Err.fault told.0 told.1

@@ -42,8 +42,8 @@ returns-in-Ok c = λ waiting.
       arrived_on types vars sets.0 (plain_cut proc.last proc.post) (λ t after. after ≡ goes (exited t waiting)) c.in-Ok.after _ sets.2 refl,
     )
 
-pub returns-in-Err : goal.returns-in-Err
-returns-in-Err c = λ waiting.
+pub returns : goal.returns
+returns c = λ waiting.
     let types = (c.args.program.now).types in
     let vars = (c.args.activation).vars.now in
     let proc = (c.args.activation).proc.now in

@@ -17,7 +17,7 @@ returns-in-Ok c = λ waiting.
     (λ (truth : Bool). if truth then c.args.yes.now else c.args.no.now) (left_of (c.args.activation).left) (left_of c.push_block.new.left)
     told.0 told.1 c.in_ok-push_block-in-Ok.ensures
 
-pub returns-in-Err : goal.returns-in-Err
-returns-in-Err c = λ waiting.
+pub returns : goal.returns
+returns c = λ waiting.
     let told = subst (IsToldOf c.args.line c.args.store c.args.cond.now) c.in-Err.is c.in_ok-truth.ensures in
     untold_turn c.args.line _ (truth_of c.args.store c.args.cond.now) c.in-Err.fault told.0 told.1

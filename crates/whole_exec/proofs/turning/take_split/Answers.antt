@@ -34,8 +34,8 @@ returns-in-Ok c = λ waiting.
     (λ t after. after ≡ goes (on_with (entry_of c.args.activation) waiting (left_of (c.args.activation).left) t)) c.in-Ok.after _ arrives
     (refl)
 
-pub returns-in-Err : goal.returns-in-Err
-returns-in-Err c = λ waiting.
+pub returns : goal.returns
+returns c = λ waiting.
     let types = (c.args.program.now).types in
     let vars = (c.args.activation).vars.now in
     let cut = plain_cut c.args.place.line c.args.assertion.now in

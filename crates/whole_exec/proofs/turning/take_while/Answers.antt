@@ -35,8 +35,8 @@ returns-in-Ok c = λ waiting.
     (λ t after. after ≡ goes (on_with (entry_of c.args.activation) waiting (behind_cut (c.args.met).place (c.args.met).test.now (c.args.met).invariant.now (c.args.met).body.now ∷ left_of (c.args.activation).left) t)) c.in-Ok.after _ arrives
     (ap (λ (l : List Stmt). goes (on_with (entry_of c.args.activation) waiting l c.in-Ok.after)) (ap left_of c.in_ok-push-in-Ok.ensures.ok))
 
-pub returns-in-Err : goal.returns-in-Err
-returns-in-Err c = λ waiting.
+pub returns : goal.returns
+returns c = λ waiting.
     let types = (c.args.program.now).types in
     let vars = (c.args.activation).vars.now in
     let cut = plain_cut (c.args.met).place.line (c.args.met).invariant.now in
