@@ -1,7 +1,8 @@
 use Rattle.std.proofs.Common.{List, is_some, sym, ap, subst, arith}
+use Rattle.whole_run.specs.States.{runs}
 use Rattle.whole_exec.specs.declared.activation.Suspended.{Suspended}
 use Rattle.whole_exec.specs.Answers.{answer_of}
-use Rattle.whole_exec.specs.Standings.{all_waiting, state_of}
+use Rattle.whole_exec.specs.Standings.{frame_of, all_waiting, state_of}
 use Rattle.whole_exec.specs.Turning.{TurnsAs}
 use Rattle.whole_exec.proofs.Laws.{Laws}
 use Rattle.whole_exec.proofs.Standing.{next_of}
@@ -23,7 +24,7 @@ loop-step-init c =
       c.args.steps,
       omega arith,
       subst (λ (ws : List Suspended). IsGoing program c.args.number c.args.store c.args.steps
-          (state_of _ (all_waiting ws)) c.args.steps) (sym c.new-waiting.ensures)
+          (runs (frame_of c.in_ok-entered.field-0 c.args.store) (all_waiting ws)) c.args.steps) (sym c.new-waiting.ensures)
           (starts law program c.requires.program c.args.number c.args.store c.args.steps c.in_ok-entered.field-0 c.in_ok-entered.ensures c.requires.start),
     )
 
