@@ -5,7 +5,6 @@
 #[cfg(test)]
 mod answers;
 #[cfg(test)]
-mod bools;
 #[cfg(test)]
 mod calls;
 #[cfg(test)]

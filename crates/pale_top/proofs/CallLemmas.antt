@@ -3,9 +3,8 @@ use Rattle.std.proofs.Common.{◌≡◌, ◌∙◌, ◌+◌, ◌<◌, ◌≤◌,
 use Rattle.std.specs.Prelude.{IfSome, IfOk, IsErrOf, OnErr}
 use Rattle.std.proofs.Math.ListN.{drop_of_length-le}
 use Rattle.std.proofs.lemmas.List.{length-replicate}
-use Rattle.bool_path.specs.declared.program.BoolProc.{BoolProc}
-use Rattle.bool_path.specs.declared.judge.BoolJudged.{BoolJudged}
-use Rattle.bool_path.specs.declared.judge.BoolJudged.TheVariants.{Valid, Invalid}
+use Rattle.program_judge.specs.declared.ways.Ending.{Ending}
+use Rattle.program_judge.specs.declared.ways.Ending.TheVariants as ending
 use Rattle.pale_io.specs.Told.{without_first}
 use Rattle.pale_io.specs.Whole.{ReadsAll, WritesAll, WritesFront}
 use Rattle.pale_io.specs.declared.stops.WriteStop.{WriteStop}
@@ -26,9 +25,11 @@ use Rattle.pale_top.specs.Replaying as replaying
 use Rattle.pale_top.specs.Deciding.{Decides, Says}
 use Rattle.ws2s_syntax.specs.Checked.{Text as WsText}
 use Rattle.pale_top.specs.Deciding as deciding
-use Rattle.pale_top.specs.Output.{Answers, Begins, CallOutput, Checks, too_long, unjudged, report, EndsBy, IsAnswer, IsCutShort, Output}
+use Rattle.pale_top.specs.Checking.{Checks}
+use Rattle.pale_top.specs.Checking as checking
+use Rattle.pale_top.specs.Output.{Answers, Begins, CallOutput, EndsBy, IsAnswer, IsCutShort, Output}
 use Rattle.pale_top.specs.Output.{check, replay, format, ws2s}
-use Rattle.pale_top.specs.Output.{given, Reports, Wrote, WroteAtMost, status_of}
+use Rattle.pale_top.specs.Output.{given, Wrote, WroteAtMost}
 use Rattle.pale_top.specs.Report.{too_long_line}
 use Rattle.pale_top.specs.Texts.{most_bytes}
 
@@ -70,18 +71,16 @@ IsGiven Text = Unit {0}
 IsGiven Limit = Unit {0}
 IsGiven status = ⊥
 
-triple_given : (judged : BoolJudged) → IsGiven (status_of judged)
-triple_given Valid = tt
-triple_given (Invalid values) = tt
+ending_given : (how : Ending) → IsGiven (checking.status_of how)
+ending_given ending.Good = tt
+ending_given ending.Bad = tt
+ending_given ending.Ambiguous = tt
+ending_given ending.Limit = tt
 
-program_given : (procedure : Option BoolProc) (output : List ℕ) (status : Status) → Reports procedure output status → IsGiven status
-program_given None output status reports = subst IsGiven (sym reports.1) tt
-program_given (Some p) output status reports = subst IsGiven (sym reports.ends) (triple_given reports.judged)
-
-checked_given : (text output : List ℕ) (status : Status) → Checks text output status → IsGiven status
-checked_given text output status (too_long more) = tt
-checked_given text output status (unjudged refusal within no_bools is) = tt
-checked_given text output status (report program o s within reads reports) = program_given program.procedure output status reports
+checked_given : (limit : ℕ) (text output : List ℕ) (status : Status) → Checks limit text output status → IsGiven status
+checked_given limit text output status (checking.too_long more) = tt
+checked_given limit text output status (checking.refused refusal within is) = tt
+checked_given limit text output status (checking.judged program triples o how within is reports) = ending_given how
 
 answer_given : (a : Answer) → IsGiven (replaying.status_of a)
 answer_given (answer.StoreRefused line kind) = tt
@@ -114,7 +113,7 @@ decided_given limit text output status (deciding.refused refusal within is) = tt
 decided_given limit text output status (deciding.read tree o s within is says) = said_given limit tree o s says
 
 output_given : (settings : Settings) (text output : List ℕ) (status : Status) → Output settings text output status → IsGiven status
-output_given settings text output status (check is written answer checks) = checked_given text output status checks
+output_given settings text output status (check is written answer checks) = checked_given settings.limit text output status checks
 output_given settings text output status (replay is written answer replays) = replayed_given text output status replays
 output_given settings text output status (format is written answer formats) = formatted_given text output status formats
 output_given settings text output status (ws2s is written answer decides) = decided_given settings.limit text output status decides
@@ -165,7 +164,7 @@ pub too_long_output : (settings : Settings) (text : List ℕ) → most_bytes < l
 too_long_output settings text more = by_mode settings.mode refl
   where
     by_mode : (mode : Mode) → settings.mode ≡ mode → Output settings text too_long_line Text
-    by_mode Check is = check is too_long_line Text (too_long more)
+    by_mode Check is = check is too_long_line Text (checking.too_long more)
     by_mode Replay is = replay is too_long_line Text (replaying.too_long more)
     by_mode Format is = format is too_long_line Text (formatting.too_long more)
     by_mode Ws2s is = ws2s is too_long_line Text (deciding.too_long more)

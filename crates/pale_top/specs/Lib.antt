@@ -1,7 +1,7 @@
+pub mod Checking
 pub mod Deciding
 pub mod Formatting
 pub mod Output
-pub mod Refusing
 pub mod Replaying
 pub mod Report
 pub mod Statuses

@@ -17,6 +17,7 @@ use crate::writing::{ended, say};
 use crate::{Mode, Settings, Status, WordsStop, read_words};
 use pale_io::{ReadStop, Sink, Source, WriteStop, read_all};
 use std::alloc::Global;
+use ws2s_pass::PassList;
 
 /// The most bytes that a text may have.
 const MOST_BYTES: usize = 1_048_576;
@@ -26,6 +27,7 @@ fn answer_text<K: Sink>(
     alloc: Global,
     settings: Settings,
     text: &[u8],
+    passes: &PassList,
     sink: &mut K,
 ) -> Result<Status, WriteStop>
     requires within { length text.now ≤ most_bytes }
@@ -36,7 +38,7 @@ fn answer_text<K: Sink>(
     ensures kept { K.faults sink.old ≤ K.faults sink.new }
 {
     match settings.mode {
-        Mode::Check => check_text(alloc, text, sink),
+        Mode::Check => check_text(alloc, settings.limit, text, passes, sink),
         Mode::Replay => replay_text(alloc, text, sink),
         Mode::Format => format_text(alloc, text, sink),
         Mode::Ws2s => decide_text(alloc, settings.limit, text, sink),
@@ -49,6 +51,7 @@ fn answer<S: Source, K: Sink>(
     settings: Settings,
     source: &mut S,
     sink: &mut K,
+    passes: &PassList,
 ) -> Status
     requires { IsLimit settings.limit }
     ensures answer { IsAnswer result → Answers (Output settings) (S.left source.old) (K.written sink.old) (K.written sink.new) result }
@@ -64,7 +67,7 @@ fn answer<S: Source, K: Sink>(
     ensures sink_kept { K.faults sink.old ≤ K.faults sink.new }
 {
     match read_all(alloc, source, MOST_BYTES) {
-        Ok(text) => ended(answer_text(alloc, settings, &text, sink)),
+        Ok(text) => ended(answer_text(alloc, settings, &text, passes, sink)),
         Err(ReadStop::TooLong) => ended(say(sink, b"refused too-long\n", Status::Text)),
         Err(ReadStop::Fault) => Status::ReadFault,
         Err(ReadStop::NoMemory) => Status::Memory,
@@ -75,12 +78,14 @@ fn answer<S: Source, K: Sink>(
 ///
 /// The words are read first. Where they are refused, the usage line is written, and the source is not read.
 /// `Memory` is want of memory, `ReadFault` a fault of the source, after which nothing was written, and `WriteFault` a
-/// fault of the sink. `Limit` comes in the mode `ws2s` alone.
+/// fault of the sink. `Limit` comes in the modes `check` and `ws2s` alone, only by a Peak above the number of `--limit`,
+/// whatever the passes are.
 pub fn pale_main<S: Source, K: Sink>(
     alloc: Global,
     words: &Vec<String>,
     source: &mut S,
     sink: &mut K,
+    passes: &PassList,
 ) -> Status
     // What was written is the output for the words and for all that the source had left, and the status is that output's.
     ensures answer { IsAnswer result → Answers (CallOutput (map string_bytes words.now.items))
@@ -103,7 +108,7 @@ pub fn pale_main<S: Source, K: Sink>(
     ensures sink_kept { K.faults sink.old ≤ K.faults sink.new }
 {
     match read_words(alloc, words) {
-        Ok(settings) => answer(alloc, settings, source, sink),
+        Ok(settings) => answer(alloc, settings, source, sink, passes),
         Err(WordsStop::Refused) => {
             let usage = b"usage: pale MODE [--limit N] [--seed N]\n";
             ended(say(sink, usage, Status::Words))

@@ -1,0 +1,5 @@
+pub mod JoinedLemmas
+pub mod GoodLemmas
+pub mod FieldsLemmas
+pub mod StandingLemmas
+pub mod EndingLemmas
