@@ -1,10 +1,8 @@
-//! Tests of the whole program over sources and sinks in memory, and of what it reads of programs of bools. The crate has
-//! nothing else.
+//! Tests of the whole program over sources and sinks in memory. The crate has nothing else.
 #![tactic(auto)]
 
 #[cfg(test)]
 mod answers;
-#[cfg(test)]
 #[cfg(test)]
 mod calls;
 #[cfg(test)]

@@ -1,5 +1,5 @@
 //! The pointer fields and the triples of a program, judged one after the other, each with its report written before the next.
-ghost use Rattle.std.specs.Prelude.{◌≡◌, ◌≤◌, All, IfOk, OnErr, IsErrOf};
+ghost use Rattle.std.specs.Prelude.{◌≡◌, ◌≤◌, [], ◌∷◌, ◌++◌, All, IfOk, OnOk, OnErr, IsErrOf};
 ghost use Rattle.pale_io.specs.Faults.{Rose};
 ghost use Rattle.bdd_nodes.specs.Shelf.{limit_of};
 ghost use Rattle.gta_keep.specs.Holding.{HasNoTables};
@@ -15,10 +15,18 @@ use pale_io::{Sink, WriteStop, write_all};
 use pale_program::WholeProgram;
 use pale_types::Typed;
 use program_judge::{FieldWay, TripleWay, field_report, pointer_fields, triple_report};
-use std::alloc::Global;
+use std::alloc::{AllocError, Global};
 use store_core::{FieldId, TypeTable};
 use store_exec::Triple;
 use ws2s_pass::PassList;
+
+/// Puts how one more was judged at the end.
+fn push_way<W: Drop>(ways: &mut Vec<W>, way: W) -> Result<(), AllocError>
+    ensures { OnOk result (ways.new.items ≡ ways.old.items ++ way ∷ []) }
+{
+    ways.push(way)?;
+    Ok(())
+}
 
 /// Judges a pointer field, and writes its report.
 fn check_field<K: Sink>(
@@ -66,7 +74,7 @@ pub(crate) fn check_fields<K: Sink>(
     let mut ways = Vec::new(alloc);
     for f in fields.as_slice() {
         let way = check_field(alloc, types, *f, passes, shelf, sink)?;
-        ways.push(way)?;
+        push_way(&mut ways, way)?;
     }
     Ok(ways)
 }
@@ -121,7 +129,7 @@ pub(crate) fn check_triples<K: Sink>(
     for t in whole.triples.as_slice() {
         let number = ways.len() as u64 + 1;
         let way = check_triple(alloc, &whole.typed, number, t, passes, shelf, sink)?;
-        ways.push(way)?;
+        push_way(&mut ways, way)?;
     }
     Ok(ways)
 }

@@ -1,0 +1,4 @@
+pub mod DecidedAssertions
+pub mod EndLemmas
+pub mod PlacesLemmas
+pub mod CutLemmas
