@@ -72,20 +72,20 @@ all_done xs = sym (append-nil xs)
 
 -- ---- fields
 
+-- the first i fields are reported on
+abbrev pub FieldsWrote : ℕ → List TypeEntry → Option (List ℕ) → ℕ → Option (List ℕ) → List FieldWay → Type 0
+FieldsWrote limit types a i b ways = Wrote (ReportsFields limit types (take i (pointer_fields types))) a b ways
+
 module _ (limit : ℕ) (program : TypedProgram) (triples : List Triple) (fits : ProgramFits program) (own : All (FitsProgram program) triples)
     (a : Option (List ℕ)) where
   abbrev fs : List FieldId
   fs = pointer_fields program.types
 
-  -- the first i fields are reported on
-  abbrev pub FieldsWrote : ℕ → Option (List ℕ) → List FieldWay → Type 0
-  FieldsWrote i b ways = Wrote (ReportsFields limit program.types (take i fs)) a b ways
-
-  pub fields_start : FieldsWrote 0 a []
+  pub fields_start : FieldsWrote limit program.types a 0 a []
   fields_start = record { output = []; allowed = no_field; written = nothing_written a }
 
   pub fields_next : (i : ℕ) (f : FieldId) (b c : Option (List ℕ)) (ways : List FieldWay) (way : FieldWay) → i < length fs → f ≡ get_or fs i f →
-      FieldsWrote i b ways → Wrote (ReportsField limit program.types f) b c way → FieldsWrote (i + 1) c (ways ++ way ∷ [])
+      FieldsWrote limit program.types a i b ways → Wrote (ReportsField limit program.types f) b c way → FieldsWrote limit program.types a (i + 1) c (ways ++ way ∷ [])
   fields_next i f b c ways way inside is before next = record {
     output = before.output ++ next.output;
     allowed = subst (λ (gs : List FieldId). ReportsFields limit program.types gs (before.output ++ next.output) (ways ++ way ∷ []))
@@ -99,12 +99,12 @@ module _ (limit : ℕ) (program : TypedProgram) (triples : List Triple) (fits : 
   fields_can_end i lines ways reports = fields-end limit program triples fits own (take i fs) (drop i fs) (sym (take-append-drop i fs)) lines ways reports
 
   -- behind the report of a field
-  pub fields_begin : (i : ℕ) (b : Option (List ℕ)) (ways : List FieldWay) → FieldsWrote i b ways → WroteAtMost (ReportsProgram limit program triples) a b
+  pub fields_begin : (i : ℕ) (b : Option (List ℕ)) (ways : List FieldWay) → FieldsWrote limit program.types a i b ways → WroteAtMost (ReportsProgram limit program triples) a b
   fields_begin i b ways before =
       whole_begins (ReportsProgram limit program triples) a b before.output before.written (fields_can_end i before.output ways before.allowed)
 
   -- in one
-  pub field_begins : (i : ℕ) (f : FieldId) (b c : Option (List ℕ)) (ways : List FieldWay) → i < length fs → f ≡ get_or fs i f → FieldsWrote i b ways →
+  pub field_begins : (i : ℕ) (f : FieldId) (b c : Option (List ℕ)) (ways : List FieldWay) → i < length fs → f ≡ get_or fs i f → FieldsWrote limit program.types a i b ways →
       WroteAtMost (ReportsField limit program.types f) b c → WroteAtMost (ReportsProgram limit program triples) a c
   field_begins i f b c ways inside is before (inl same) =
       subst (λ (d : Option (List ℕ)). WroteAtMost (ReportsProgram limit program triples) a d) (sym same) (fields_begin i b ways before)
@@ -116,7 +116,7 @@ module _ (limit : ℕ) (program : TypedProgram) (triples : List Triple) (fits : 
       (fields_can_end (i + 1) (before.output ++ front.output) (ways ++ front.status ∷ []) reports)
 
   -- all are reported on
-  pub fields_whole : (i : ℕ) (b : Option (List ℕ)) (ways : List FieldWay) → length fs ≤ i → FieldsWrote i b ways →
+  pub fields_whole : (i : ℕ) (b : Option (List ℕ)) (ways : List FieldWay) → length fs ≤ i → FieldsWrote limit program.types a i b ways →
       Wrote (ReportsFields limit program.types fs) a b ways
   fields_whole i b ways all before =
       subst (λ (gs : List FieldId). Wrote (ReportsFields limit program.types gs) a b ways) (take_all i fs all) before
@@ -159,13 +159,13 @@ ways_count limit program _ _ _ _ (no_triple k) = refl
 ways_count limit program _ _ _ _ (next_triple k t ts way ways lines others report more) =
     ap (λ (n : ℕ). suc n) (ways_count limit program (suc k) ts others ways more)
 
+-- the first i triples are reported on
+abbrev pub TriplesWrote : ℕ → TypedProgram → List Triple → Option (List ℕ) → ℕ → Option (List ℕ) → List TripleWay → Type 0
+TriplesWrote limit program triples a i b ways = Wrote (ReportsTriples limit program 1 (take i triples)) a b ways
+
 module _ (limit : ℕ) (program : TypedProgram) (triples : List Triple) (fits : ProgramFits program) (own : All (FitsProgram program) triples)
     (every : AreFunctional program.types) (a : Option (List ℕ)) where
-  -- the first i triples are reported on
-  abbrev pub TriplesWrote : ℕ → Option (List ℕ) → List TripleWay → Type 0
-  TriplesWrote i b ways = Wrote (ReportsTriples limit program 1 (take i triples)) a b ways
-
-  pub triples_start : TriplesWrote 0 a []
+  pub triples_start : TriplesWrote limit program triples a 0 a []
   triples_start = record { output = []; allowed = no_triple 1; written = nothing_written a }
 
   triples_more : (i : ℕ) (t : Triple) (number : ℕ) (lines piece : List ℕ) (ways : List TripleWay) (way : TripleWay) → i < length triples →
@@ -180,8 +180,8 @@ module _ (limit : ℕ) (program : TypedProgram) (triples : List Triple) (fits : 
       (subst (λ (k : ℕ). ReportsTriple limit program k t piece way) at report))
 
   pub triples_next : (i : ℕ) (t : Triple) (number : ℕ) (b c : Option (List ℕ)) (ways : List TripleWay) (way : TripleWay) → i < length triples →
-      t ≡ get_or triples i t → number ≡ length ways + 1 → TriplesWrote i b ways → Wrote (ReportsTriple limit program number t) b c way →
-      TriplesWrote (i + 1) c (ways ++ way ∷ [])
+      t ≡ get_or triples i t → number ≡ length ways + 1 → TriplesWrote limit program triples a i b ways → Wrote (ReportsTriple limit program number t) b c way →
+      TriplesWrote limit program triples a (i + 1) c (ways ++ way ∷ [])
   triples_next i t number b c ways way inside is counted before next = record {
     output = before.output ++ next.output;
     allowed = triples_more i t number before.output next.output ways way inside is counted before.allowed next.allowed;
@@ -194,13 +194,13 @@ module _ (limit : ℕ) (program : TypedProgram) (triples : List Triple) (fits : 
       triples-end limit program triples fits own every (take i triples) (drop i triples) (sym (take-append-drop i triples)) lines ways reports
 
   -- behind the report of a triple
-  pub triples_begin : (i : ℕ) (b : Option (List ℕ)) (ways : List TripleWay) → TriplesWrote i b ways → WroteAtMost (ReportsAll limit program triples) a b
+  pub triples_begin : (i : ℕ) (b : Option (List ℕ)) (ways : List TripleWay) → TriplesWrote limit program triples a i b ways → WroteAtMost (ReportsAll limit program triples) a b
   triples_begin i b ways before =
       whole_begins (ReportsAll limit program triples) a b before.output before.written (triples_can_end i before.output ways before.allowed)
 
   -- in one
   pub triple_begins : (i : ℕ) (t : Triple) (number : ℕ) (b c : Option (List ℕ)) (ways : List TripleWay) → i < length triples → t ≡ get_or triples i t →
-      number ≡ length ways + 1 → TriplesWrote i b ways → WroteAtMost (ReportsTriple limit program number t) b c →
+      number ≡ length ways + 1 → TriplesWrote limit program triples a i b ways → WroteAtMost (ReportsTriple limit program number t) b c →
       WroteAtMost (ReportsAll limit program triples) a c
   triple_begins i t number b c ways inside is counted before (inl same) =
       subst (λ (d : Option (List ℕ)). WroteAtMost (ReportsAll limit program triples) a d) (sym same) (triples_begin i b ways before)
@@ -210,7 +210,7 @@ module _ (limit : ℕ) (program : TypedProgram) (triples : List Triple) (fits : 
       (triples_more i t number before.output front.output ways front.status inside is counted before.allowed front.allowed))
 
   -- all are reported on
-  pub triples_whole : (i : ℕ) (b : Option (List ℕ)) (ways : List TripleWay) → length triples ≤ i → TriplesWrote i b ways →
+  pub triples_whole : (i : ℕ) (b : Option (List ℕ)) (ways : List TripleWay) → length triples ≤ i → TriplesWrote limit program triples a i b ways →
       Wrote (ReportsTriples limit program 1 triples) a b ways
   triples_whole i b ways all before =
       subst (λ (ts : List Triple). Wrote (ReportsTriples limit program 1 ts) a b ways) (take_all i triples all) before
