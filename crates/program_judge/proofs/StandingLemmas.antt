@@ -48,7 +48,7 @@ places-same c = λ i. fold-Code (List ℕ) (List ℕ) (λ x. each-place x i) (λ
 
 regions-on : (part : Option (List VarId)) → AllByRecursion (IsRegionOf part) (regions_at part)
 regions-on None = (tt, tt)
-regions-on (Some roots) = (refl, refl, tt)
+regions-on (Some roots) = (refl, (refl, tt))
 
 claims-on : (part : Option (List VarId)) (claims : List Claim) → AreReadAt part claims → AreOn part claims
 claims-on part claims read =
