@@ -1,0 +1,1 @@
+cd /work/main; echo -n "proofs: "; for c in $(cut -d: -f1 crates.txt | grep -v "_tests$"); do ls -d /opt/rattle-kept/proof-$c-* >/dev/null 2>&1 || echo -n "$c "; done; echo; echo -n "tests: "; for c in $(cut -d: -f1 crates.txt); do if grep -rqs "#\[test\]" crates/$c/src; then ls -d /opt/rattle-kept/tests-$c-* >/dev/null 2>&1 || echo -n "$c "; fi; done; echo
