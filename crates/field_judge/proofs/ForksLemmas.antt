@@ -19,8 +19,8 @@ use Rattle.routing_expr.specs.WellFormed.{IsFirstCell}
 use Rattle.routing_expr.specs.Searches.{Lists}
 use Rattle.routing_expr.proofs.GatheringLemmas.{below_suc, Contains-at, Contains-none, Contains-one}
 use Rattle.routing_expr.proofs.KeyLemmas.{keys-rise, key_of_live}
-use Rattle.graph_fields.specs.Forking.{Forks, HasFork}
-use Rattle.graph_fields.proofs.ForkingLemmas.{live-with}
+use Rattle.graph_meaning.specs.Fields.Forking.{Forks, HasFork}
+use Rattle.graph_meaning.proofs.fields.ForkingLemmas.{live-with}
 use Rattle.store_pointers.specs.Only.{HasTwo}
 
 -- ---- two cells of a list

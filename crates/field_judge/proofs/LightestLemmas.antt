@@ -39,10 +39,10 @@ use Rattle.tree_backbone.proofs.StoreLemmas.{IsStoreOf-decoded}
 use Rattle.tree_backbone.proofs.ValuesLemmas.{here_value}
 use Rattle.graph_view.specs.Sights.{var_slots, at_first}
 use Rattle.graph_view.specs.Cuts.{field_forks, field_formula}
-use Rattle.graph_fields.specs.Forking.{Forks, HasFork}
-use Rattle.graph_fields.proofs.ForkingLemmas.{field_formula-store}
-use Rattle.graph_fields.proofs.FunctionalLemmas.{functional-means}
-use Rattle.graph_fields.proofs.AloneLemmas.{light-tree}
+use Rattle.graph_meaning.specs.Fields.Forking.{Forks, HasFork}
+use Rattle.graph_meaning.proofs.fields.ForkingLemmas.{field_formula-store}
+use Rattle.graph_meaning.proofs.fields.FunctionalLemmas.{functional-means}
+use Rattle.graph_meaning.proofs.fields.AloneLemmas.{light-tree}
 use Rattle.witness_store.specs.Results.{IsReadOff}
 use Rattle.field_judge.specs.OneEach.{type_vars}
 use Rattle.field_judge.specs.Weighed.{IsVariantTrack}

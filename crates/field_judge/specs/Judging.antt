@@ -20,7 +20,7 @@ use Rattle.tree_encode.specs.Spaces.{guide_of}
 use Rattle.tree_store.specs.Weighing.{AreVariantTracks}
 use Rattle.tree_backbone.specs.Stores.{AreNumberedFromOne}
 use Rattle.graph_view.specs.Cuts.{field_formula}
-use Rattle.graph_fields.specs.Forking.{Forks, HasFork}
+use Rattle.graph_meaning.specs.Fields.Forking.{Forks, HasFork}
 use Rattle.field_judge.specs.declared.judging.FieldJudged.{FieldJudged}
 use Rattle.field_judge.specs.declared.judging.FieldJudged.TheVariants as judged
 use Rattle.field_judge.specs.OneEach.{type_vars}

@@ -3,7 +3,7 @@
 ghost use Rattle.std.specs.Prelude.{◌↔◌, ◌<◌, IsTrue, length, IfOk, IfNone, IfSome};
 ghost use Rattle.std.specs.Bool.{OnTrue, OnFalse};
 ghost use Rattle.routing_expr.specs.WellFormed.{IsFirstCell};
-ghost use Rattle.graph_fields.specs.Forking.{Forks, HasFork};
+ghost use Rattle.graph_meaning.specs.Fields.Forking.{Forks, HasFork};
 
 use routing_expr::destinations;
 use std::alloc::{AllocError, Global};

@@ -4,6 +4,9 @@
 //! error: nothing is written there.
 #![tactic(auto)]
 
+mod passes;
+
+use crate::passes::passes;
 use pale_io::{StdSink, StdSource};
 use pale_top::{Status, pale_main};
 use std::alloc::AllocError;
@@ -23,9 +26,12 @@ fn run(rt: &HostRuntime) -> Status {
     let Ok(words) = words_of(rt) else {
         return Status::Memory;
     };
+    let Ok(passes) = passes(rt.alloc()) else {
+        return Status::Memory;
+    };
     let mut source = StdSource::new(rt.stdin());
     let mut sink = StdSink::new(rt.stdout());
-    pale_main(rt.alloc(), &words, &mut source, &mut sink)
+    pale_main(rt.alloc(), &words, &mut source, &mut sink, &passes)
 }
 
 fn main(rt: HostRuntime) -> ExitCode {

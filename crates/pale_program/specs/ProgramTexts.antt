@@ -1,16 +1,11 @@
 -- What the text of a program is read as, and what is refused first: a stray byte, then tokens that are no program or open too many
 -- levels, then what breaks a static rule, then a triple with too many atoms or too many `new`.
-use Rattle.std.specs.Prelude.{◌≡◌, ℕ, Bool, false, List, Some, None, codes, position, unwrap_or}
-use Rattle.std.specs.Str.{bytes_eq}
-use Rattle.pale_text.specs.declared.place.Pos.{Pos}
+use Rattle.std.specs.Prelude.{◌≡◌, ℕ, List, Some, None}
 use Rattle.pale_text.specs.declared.refusal.Refusal.{Refusal}
 use Rattle.pale_text.specs.declared.refusal.TextStop.{TextStop}
 use Rattle.pale_text.specs.declared.refusal.TextStop.TheVariants as stop
-use Rattle.pale_text.specs.declared.token.TokenKind.{TokenKind}
-use Rattle.pale_text.specs.declared.token.TokenKind.TheVariants as kind
 use Rattle.pale_text.specs.declared.token.TokenList.{TokenList}
 use Rattle.pale_text.specs.Lexing.{IsLexed, IsLexStop}
-use Rattle.pale_text.specs.TextStops.{place_at}
 use Rattle.pale_syntax.specs.declared.tree.declaration.Program.{Program}
 use Rattle.pale_syntax.specs.ProgramReading.{IsParsedAs, IsParseStop}
 use Rattle.store_exec.specs.declared.triple.Triple.{Triple}
@@ -49,20 +44,3 @@ pub data IsRefusedAs (text : List ℕ) (refusal : Refusal) : Type 0 where
 abbrev pub IsStopOf : List ℕ → TextStop → Type 0
 IsStopOf text (stop.Refused refusal) = IsRefusedAs text refusal
 IsStopOf text stop.NoMemory = Unit {0}
-
--- ---- where the first procedure stands
-
-abbrev pub is_proc_word : TokenKind → Bool
-is_proc_word (kind.Name name) = bytes_eq name (codes "proc")
-is_proc_word (kind.Number digits) = false
-is_proc_word (kind.Mark mark) = false
-
--- the first `proc`, or the first token where there is none
-abbrev pub start_in : TokenList → Pos
-start_in list = place_at list (unwrap_or (position (λ token. is_proc_word token.kind) list.tokens) 0)
-
--- the same of a text
-pub record IsStartOf (text : List ℕ) (place : Pos) : Type 0 where
-  pub list : TokenList
-  pub lexed : IsLexed text list
-  pub there : start_in list ≡ place

@@ -11,7 +11,8 @@ use store_core::{ByteList, CellId, FieldId, TypeTable, VarId, VarTable};
 use store_exec::Cause;
 use store_text::StoreKind;
 
-fn word_of(cause: Cause) -> &'static str
+/// The word that is written for a cause.
+pub fn word_of(cause: Cause) -> &'static str
     ensures { result.now ≡ word_of_cause cause }
 {
     match cause {
@@ -29,7 +30,12 @@ fn word_of(cause: Cause) -> &'static str
     }
 }
 
-fn push_number(alloc: Global, text: &mut Vec<u8>, number: u64) -> Result<(), AllocError>
+/// Writes the number in decimal.
+///
+/// # Errors
+///
+/// Want of memory.
+pub fn push_number(alloc: Global, text: &mut Vec<u8>, number: u64) -> Result<(), AllocError>
     ensures { OnOk result (text.new.items ≡ text.old.items ++ decimal number) }
 {
     text.extend_from_slice(number.to_string(alloc)?.as_bytes())
@@ -43,7 +49,8 @@ fn push_cell(alloc: Global, text: &mut Vec<u8>, cell: CellId) -> Result<(), Allo
     push_number(alloc, text, u64::from(cell.0))
 }
 
-fn field_name(types: &TypeTable, field: FieldId) -> &[u8]
+/// The name of a field; nothing for an unknown one.
+pub fn field_name(types: &TypeTable, field: FieldId) -> &[u8]
     ensures { result.now ≡ field_name types.now field }
 {
     types.field_name(field).unwrap_or(b"")

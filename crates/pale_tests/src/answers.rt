@@ -1,6 +1,6 @@
 //! WS2S texts with what `ws2s` writes for them and its status, worked out by hand.
 
-use crate::calls::{answers, repeated};
+use crate::calls::{repeated, writes};
 use std::alloc::{AllocError, Global};
 use std::test::Fail;
 
@@ -180,6 +180,18 @@ static TEXTS: &[(&str, &str, &str, u8)] = &[
     ("", "ws2s; var1 p, p;", "refused 1:15 duplicate\n", 3),
     ("", "ws2s; var2 X; X in X;", "refused 1:15 kind\n", 3),
 ];
+
+/// Whether `ws2s`, with these words behind it, writes this for a text, with this status.
+fn answers(
+    alloc: Global,
+    more: &str,
+    text: &[u8],
+    want: &[u8],
+    number: u8,
+) -> Result<bool, AllocError> {
+    let line = format!(in alloc; "ws2s {more}")?;
+    writes(alloc, line.as_str(), text, want, number)
+}
 
 #[test]
 fn texts_have_their_answers(rt: HostRuntime) -> Result<(), Fail> {

@@ -3,6 +3,7 @@
 use pale_io::{CleanSink, CleanSource};
 use pale_top::pale_main;
 use std::alloc::{AllocError, Global};
+use ws2s_pass::PassList;
 
 /// The words of a line.
 pub fn words_of(alloc: Global, line: &str) -> Result<Vec<String>, AllocError> {
@@ -13,40 +14,51 @@ pub fn words_of(alloc: Global, line: &str) -> Result<Vec<String>, AllocError> {
     Ok(words)
 }
 
-/// What the program writes for words and a text, and its status.
-fn called(alloc: Global, words: &Vec<String>, text: &[u8]) -> Result<(Vec<u8>, u8), AllocError> {
+/// What the program writes for words and a text, with these passes, and its status.
+fn called(
+    alloc: Global,
+    words: &Vec<String>,
+    text: &[u8],
+    passes: &PassList,
+) -> Result<(Vec<u8>, u8), AllocError> {
     let mut source = CleanSource::new(Vec::from_slice(alloc, text)?);
     let mut sink = CleanSink::new(alloc);
-    let status = pale_main(alloc, words, &mut source, &mut sink);
+    let status = pale_main(alloc, words, &mut source, &mut sink, passes);
     Ok((Vec::from_slice(alloc, sink.written())?, status.number()))
 }
 
-/// Whether `pale MODE` writes this for a text, with this status.
-pub fn writes(
+/// Whether `pale`, with the words of this line behind it and with these passes, writes this for a text, with this status.
+pub fn writes_with(
     alloc: Global,
-    mode: &str,
+    passes: &PassList,
+    line: &str,
     text: &[u8],
     want: &[u8],
     number: u8,
 ) -> Result<bool, AllocError> {
     let mut words = words_of(alloc, "pale")?;
-    words.push(String::from_str(alloc, mode)?)?;
-    let (written, status) = called(alloc, &words, text)?;
+    words.append(&mut words_of(alloc, line)?)?;
+    let (written, status) = called(alloc, &words, text, passes)?;
     Ok(written.as_slice() == want && status == number)
 }
 
-/// Whether `pale ws2s`, with these words behind it, writes this for a text, with this status.
-pub fn answers(
+/// The same without passes.
+pub fn writes(
     alloc: Global,
-    more: &str,
+    line: &str,
     text: &[u8],
     want: &[u8],
     number: u8,
 ) -> Result<bool, AllocError> {
-    let mut words = words_of(alloc, "pale ws2s")?;
-    words.append(&mut words_of(alloc, more)?)?;
-    let (written, status) = called(alloc, &words, text)?;
-    Ok(written.as_slice() == want && status == number)
+    writes_with(alloc, &PassList::new(alloc), line, text, want, number)
+}
+
+/// A text, what `check` writes for it, and the status.
+pub type Row = (&'static str, &'static str, u8);
+
+/// Whether `check` does as the row says.
+pub fn is_reported(alloc: Global, (text, want, number): &Row) -> Result<bool, AllocError> {
+    writes(alloc, "check", text.as_bytes(), want.as_bytes(), *number)
 }
 
 /// A text that is a piece so many times, between two others.

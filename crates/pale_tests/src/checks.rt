@@ -1,4 +1,4 @@
-//! Texts with what `check` writes for them and its status, worked out by hand from the rules of the language.
+//! Programs without cells with what `check` writes for them and its status, worked out by hand from the rules of the language.
 
 use crate::calls::writes;
 use std::alloc::{AllocError, Global};
@@ -23,6 +23,7 @@ fn a_text_without_procedure_has_no_triple(rt: HostRuntime) -> Result<(), Fail> {
         b" \t\r\n",
         b"# nothing but \xff and \x00",
         b"# one line\n# another\n",
+        b"type T = { } pred q(x: T) = [true];",
     ] {
         let want = b"triples 0 valid 0 invalid 0 limit 0\n";
         assert!(rt; writes(rt.alloc(), "check", text, want, 0)?, "{text:?}");
@@ -67,6 +68,18 @@ static VALID: &[(&str, &str)] = &[
         "proc p(bool a) returns (bool b) logic bool v pre [a <=> v] post [b <=> ~v] { a = !a; b = a; }",
         "p line 1",
     ),
+    // Assertions, conditions and branches.
+    ("proc p(bool a) pre [(a)] { }", "p line 1"),
+    ("proc p(bool a) pre [a & ~a] post [false] { }", "p line 1"),
+    ("proc p(bool a) { a = a && a; }", "p line 1"),
+    (
+        "proc p(bool a) returns (bool b) logic bool v pre [a <=> v] post [b <=> v] { if (a) { b = true; } }",
+        "p line 1",
+    ),
+    (
+        "proc p(bool a, bool c) returns (bool b) logic bool v pre [v <=> a & c] post [v => b] { b = !(!a || !c); }",
+        "p line 1",
+    ),
     // `<=>` groups to the left: this `post` is `(b <=> false) <=> ~v`.
     (
         "proc p(bool a) returns (bool b) logic bool v pre [a <=> v] post [b <=> false <=> ~v] { b = a; }",
@@ -89,6 +102,10 @@ fn a_triple_that_no_values_fail_is_valid(rt: HostRuntime) -> Result<(), Fail> {
 /// Texts whose one triple is invalid, with its line and its store.
 static INVALID: &[(&str, &str)] = &[
     // Of each triple exactly these values meet it and fail it.
+    (
+        "proc p(bool a, bool c) returns (bool b) post [b] {\n  b = true;\n  if (a) {\n    assert [c];\n  }\n}\n",
+        "p line 1 invalid assert line 4\nstore\nvar a true\nvar c false\nvar b false\nend\n",
+    ),
     (
         "proc p() post [false] { }",
         "p line 1 invalid post line 1\nstore\nend\n",
@@ -115,80 +132,6 @@ static INVALID: &[(&str, &str)] = &[
 fn the_values_that_fail_are_printed(rt: HostRuntime) -> Result<(), Fail> {
     for (text, report) in INVALID {
         assert!(rt; is_invalid(rt.alloc(), text, report)?, "{text}");
-    }
-    Ok(())
-}
-
-/// Texts that are no programs of bools, with the place and the kind that are written.
-static REFUSED: &[(&str, &str)] = &[
-    // Which names may stand where.
-    ("proc p() pre [t] { bool t; }", "1:15 unknown"),
-    ("proc p() post [t] { bool t; }", "1:16 unknown"),
-    ("proc p(bool a) post [a] { }", "1:22 kind"),
-    ("proc p() returns (bool b) pre [b] { }", "1:32 kind"),
-    ("proc p() logic bool v returns (bool b) { }", "1:23 syntax"),
-    (
-        "proc p() returns (bool b) logic bool v { b = v; }",
-        "1:46 kind",
-    ),
-    ("proc p() logic bool v { v = true; }", "1:25 kind"),
-    ("proc p(bool a) pre [c] { }", "1:21 unknown"),
-    ("proc p(bool a) { c = a; }", "1:18 unknown"),
-    ("proc p(bool a) { a = p; }", "1:22 unknown"),
-    ("proc p() { t = true; bool t; }", "1:22 syntax"),
-    // Names that are there, or are none.
-    ("proc p(bool a, bool a) { }", "1:21 duplicate"),
-    ("proc p(bool a) returns (bool a) { }", "1:30 duplicate"),
-    ("proc p() logic bool v { bool v; }", "1:30 duplicate"),
-    ("proc p() { bool t; bool t; }", "1:25 duplicate"),
-    ("proc set() { }", "1:6 syntax"),
-    ("proc p(bool in) { }", "1:13 syntax"),
-    ("proc p(bool 1) { }", "1:13 syntax"),
-    ("proc p(bool _a) { }", "1:13 char"),
-    // Grammar.
-    ("proc p() {", "1:11 syntax"),
-    ("proc p() }", "1:10 syntax"),
-    ("proc p() { } ;", "1:14 syntax"),
-    ("proc p(bool a,) { }", "1:15 syntax"),
-    ("proc p() returns () { }", "1:19 syntax"),
-    ("proc p() logic { }", "1:16 syntax"),
-    ("proc p() pre [] { }", "1:15 syntax"),
-    ("proc p() post [true] pre [true] { }", "1:22 syntax"),
-    ("proc p(bool a) { a = true }", "1:27 syntax"),
-    ("proc p(bool a) { a = ; }", "1:22 syntax"),
-    ("proc p(bool a) { a == true; }", "1:20 syntax"),
-    ("proc p(bool a) { a = ~a; }", "1:22 syntax"),
-    ("proc p(bool a) pre [!a] { }", "1:21 syntax"),
-    ("proc p(bool a) pre [a <=> ~] { }", "1:28 syntax"),
-    ("proc p(bool a) pre [~a <=> ~~] { }", "1:30 syntax"),
-    // A type that isn't there.
-    ("proc p(data x: T) { }", "1:16 unknown"),
-    // No token begins with these bytes.
-    ("proc p() { % }", "1:12 char"),
-    ("proc p() { \u{e9} }", "1:12 char"),
-    // Forms of the whole language, which aren't judged yet: at the first `proc`, and where there is none at the first token.
-    ("proc p() { } proc q() { }", "1:1 not-yet"),
-    ("proc p(bool a) pre [(a)] { }", "1:1 not-yet"),
-    ("proc p(bool a) pre [a & a] { }", "1:1 not-yet"),
-    ("proc p(bool a) { a = a && a; }", "1:1 not-yet"),
-    ("proc p(bool a) { if (a) { } }", "1:1 not-yet"),
-    (
-        "# a type\ntype T = { }\n  proc p(data x: T) { }\nproc q() { }",
-        "3:3 not-yet",
-    ),
-    ("\n type T = { }", "2:2 not-yet"),
-    ("pred q() = [true];", "1:1 not-yet"),
-];
-
-fn is_refused(alloc: Global, text: &str, fault: &str) -> Result<bool, AllocError> {
-    let want = format!(in alloc; "refused {fault}\n")?;
-    writes(alloc, "check", text.as_bytes(), want.as_bytes(), 3)
-}
-
-#[test]
-fn a_text_that_is_no_program_of_bools_is_refused(rt: HostRuntime) -> Result<(), Fail> {
-    for (text, fault) in REFUSED {
-        assert!(rt; is_refused(rt.alloc(), text, fault)?, "{text}");
     }
     Ok(())
 }

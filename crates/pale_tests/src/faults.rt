@@ -1,10 +1,12 @@
 //! Whole calls, each ending in each of its ways, and with reads and writes that fail.
 
 use crate::calls::words_of;
+use pale_generator::gen_program;
 use pale_io::{MemSink, MemSource};
 use pale_top::{Status, pale_main};
 use std::alloc::{AllocError, Global};
 use std::test::Fail;
+use ws2s_pass::PassList;
 
 const NEG: &str = "proc neg(bool a) returns (bool b)
 logic bool v
@@ -17,6 +19,10 @@ post [b <=> ~v]
 
 const NEG_REPORT: &str = "triple 1 neg line 1 valid
 triples 1 valid 1 invalid 0 limit 0
+";
+
+const LIMIT_REPORT: &str = "triple 1 neg line 1 limit
+triples 1 valid 0 invalid 0 limit 1
 ";
 
 const WRONG: &str = "proc neg(bool a) returns (bool b)
@@ -45,6 +51,8 @@ b = ! a ;
 
 const USAGE: &str = "usage: pale MODE [--limit N] [--seed N]\n";
 
+const GEN_LINE: &str = "gen 0 procedures 1 triples 1 valid 1 invalid 0 limit 0\n";
+
 /// A call that ended: its status, what it wrote, and how often its source and its sink failed.
 #[derive(Drop)]
 struct Ended {
@@ -68,7 +76,8 @@ fn call(
         Vec::from_slice(alloc, reads)?,
     );
     let mut sink = MemSink::new(alloc, Vec::from_slice(alloc, writes)?);
-    let status = pale_main(alloc, &words, &mut source, &mut sink);
+    let passes = PassList::new(alloc);
+    let status = pale_main(alloc, &words, &mut source, &mut sink, &passes);
     Ok(Ended {
         status,
         written: Vec::from_slice(alloc, sink.written())?,
@@ -87,7 +96,8 @@ impl Ended {
 static REPORTS: &[(&str, &str, u8, &str)] = &[
     ("pale check", "", 0, "triples 0 valid 0 invalid 0 limit 0\n"),
     ("pale check", NEG, 0, NEG_REPORT),
-    ("pale check --limit 1 --seed 9", NEG, 0, NEG_REPORT),
+    ("pale check --limit 100000 --seed 9", NEG, 0, NEG_REPORT),
+    ("pale check --limit 1", NEG, 4, LIMIT_REPORT),
     ("pale check", WRONG, 1, WRONG_REPORT),
     ("pale", NEG, 2, USAGE),
     ("pale check extra", NEG, 2, USAGE),
@@ -99,6 +109,8 @@ static REPORTS: &[(&str, &str, u8, &str)] = &[
     ("pale format", "proc p() {", 3, "refused 1:11 syntax\n"),
     ("pale format", "proc p() { % }", 3, "refused 1:12 char\n"),
     ("pale format extra", NEG, 2, USAGE),
+    ("pale gen", "proc p() {", 0, GEN_LINE),
+    ("pale gen extra", NEG, 2, USAGE),
 ];
 
 /// Whether a call without faults ends so.
@@ -160,6 +172,18 @@ fn a_failed_read_leaves_nothing_written(rt: HostRuntime) -> Result<(), Fail> {
     Ok(())
 }
 
+/// Whether `gen` ends well over a source that would fail, which it doesn't ask.
+fn asks_no_source(alloc: Global) -> Result<bool, AllocError> {
+    let ended = call(alloc, "pale gen", b"", &[1], &[])?;
+    Ok(ended.read_faults == 0 && ended.is(Status::Good, GEN_LINE.as_bytes()))
+}
+
+#[test]
+fn gen_asks_no_source(rt: HostRuntime) -> Result<(), Fail> {
+    assert!(rt; asks_no_source(rt.alloc())?);
+    Ok(())
+}
+
 /// Whether a front of the output is written where this write fails, nothing where it is the first, and all where it isn't made.
 fn fails_at_write(
     alloc: Global,
@@ -192,5 +216,69 @@ fn a_failed_write_leaves_a_front(rt: HostRuntime) -> Result<(), Fail> {
             assert!(rt; is_so, "{line}");
         }
     }
+    Ok(())
+}
+
+/// Three procedures, of which the second has an invalid triple.
+const THREE: &str = "proc p() { }
+proc q() post [false] { }
+proc r() { }
+";
+
+/// The reports of the triples and the totals.
+static THREE_REPORTS: &[&str] = &[
+    "triple 1 p line 1 valid\n",
+    "triple 2 q line 2 invalid post line 2\nstore\nend\n",
+    "triple 3 r line 3 valid\n",
+    "triples 3 valid 2 invalid 1 limit 0\n",
+];
+
+/// The first of the reports, so many.
+fn first_reports(alloc: Global, count: usize) -> Result<String, AllocError> {
+    let mut text = String::new(alloc);
+    for report in THREE_REPORTS.iter().take(count) {
+        text.push_str(report)?;
+    }
+    Ok(text)
+}
+
+/// Whether exactly so many reports are written where the write after them fails.
+fn stops_after(alloc: Global, count: usize) -> Result<bool, AllocError> {
+    let ended = call(
+        alloc,
+        "pale check",
+        THREE.as_bytes(),
+        &[],
+        &[(count as u64).saturating_add(1)],
+    )?;
+    let wanted = first_reports(alloc, count)?;
+    let status = if count < THREE_REPORTS.len() {
+        Status::WriteFault
+    } else {
+        Status::Bad
+    };
+    Ok(ended.is(status, wanted.as_bytes()))
+}
+
+/// A reader sees how far a long run is.
+#[test]
+fn each_report_is_written_at_once(rt: HostRuntime) -> Result<(), Fail> {
+    for count in 0..5 {
+        assert!(rt; stops_after(rt.alloc(), count)?, "{count}");
+    }
+    Ok(())
+}
+
+/// Whether the first two reports on a generated module are written where the third write fails.
+fn module_stops(alloc: Global) -> Result<bool, AllocError> {
+    let text = gen_program(alloc, 5)?;
+    let ended = call(alloc, "pale check", text.as_slice(), &[], &[3])?;
+    let wanted = b"triple 1 push0 line 4 valid\ntriple 2 reverse1 line 11 valid\n";
+    Ok(ended.is(Status::WriteFault, wanted))
+}
+
+#[test]
+fn a_failed_write_ends_the_run(rt: HostRuntime) -> Result<(), Fail> {
+    assert!(rt; module_stops(rt.alloc())?);
     Ok(())
 }

@@ -1,11 +1,8 @@
-//! Tests of the whole program over sources and sinks in memory, and of what it reads of programs of bools. The crate has
-//! nothing else.
+//! Tests of the whole program over sources and sinks in memory. The crate has nothing else.
 #![tactic(auto)]
 
 #[cfg(test)]
 mod answers;
-#[cfg(test)]
-mod bools;
 #[cfg(test)]
 mod calls;
 #[cfg(test)]
@@ -15,8 +12,12 @@ mod faults;
 #[cfg(test)]
 mod formats;
 #[cfg(test)]
-mod made;
+mod lists;
+#[cfg(test)]
+mod refusals;
 #[cfg(test)]
 mod replays;
+#[cfg(test)]
+mod smallest;
 #[cfg(test)]
 mod words;

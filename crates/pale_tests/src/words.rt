@@ -65,6 +65,26 @@ fn words_give_their_settings_or_are_refused(rt: HostRuntime) -> Result<(), Fail>
 }
 
 #[test]
+fn words_ask_for_gen_with_its_seed(rt: HostRuntime) -> Result<(), Fail> {
+    let refused = Err(WordsStop::Refused);
+    let rows = [
+        ("pale gen", given(Mode::Gen, 2_000_000, 0)),
+        ("pale gen --seed 39", given(Mode::Gen, 2_000_000, 39)),
+        ("pale --seed 5 gen --limit 7", given(Mode::Gen, 7, 5)),
+        ("pale gen --seed", refused),
+        ("pale gen --seed -1", refused),
+        ("pale gen --seed 1000001", refused),
+        ("pale gen 5", refused),
+        ("pale check gen", refused),
+        ("pale generate", refused),
+    ];
+    for (line, wanted) in rows {
+        assert!(rt; gives(rt.alloc(), line, wanted)?, "{line}");
+    }
+    Ok(())
+}
+
+#[test]
 fn words_ask_for_format_as_for_check(rt: HostRuntime) -> Result<(), Fail> {
     let refused = Err(WordsStop::Refused);
     let rows = [

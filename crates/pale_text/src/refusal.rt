@@ -40,8 +40,6 @@ pub enum RefusalKind {
     BigFormula,
     /// A type has one variant too many.
     ManyVariants,
-    /// The text is of a form that is not built yet.
-    NotYet,
 }
 
 impl RefusalKind {
@@ -65,7 +63,6 @@ impl RefusalKind {
             RefusalKind::ManyNew => "many-new",
             RefusalKind::BigFormula => "big-formula",
             RefusalKind::ManyVariants => "many-variants",
-            RefusalKind::NotYet => "not-yet",
         }
     }
 }

@@ -1,11 +1,10 @@
 -- What a call leaves, by what it read and wrote.
 use Rattle.std.proofs.Common.{◌≡◌, ◌∙◌, ◌+◌, ◌<◌, ◌≤◌, ℕ, List, [], length, replicate, refl, ap, subst, sym, arith, inr, Option, Some, None, Result, Ok, Err}
-use Rattle.std.specs.Prelude.{IfSome, IfOk, IsErrOf, OnErr}
+use Rattle.std.specs.Prelude.{◌≢◌, IfSome, IfOk, IsErrOf, OnErr}
 use Rattle.std.proofs.Math.ListN.{drop_of_length-le}
 use Rattle.std.proofs.lemmas.List.{length-replicate}
-use Rattle.bool_path.specs.declared.program.BoolProc.{BoolProc}
-use Rattle.bool_path.specs.declared.judge.BoolJudged.{BoolJudged}
-use Rattle.bool_path.specs.declared.judge.BoolJudged.TheVariants.{Valid, Invalid}
+use Rattle.program_judge.specs.declared.ways.Ending.{Ending}
+use Rattle.program_judge.specs.declared.ways.Ending.TheVariants as ending
 use Rattle.pale_io.specs.Told.{without_first}
 use Rattle.pale_io.specs.Whole.{ReadsAll, WritesAll, WritesFront}
 use Rattle.pale_io.specs.declared.stops.WriteStop.{WriteStop}
@@ -13,7 +12,7 @@ use Rattle.pale_io.specs.declared.stops.WriteStop.TheVariants.{Failed, NoMemory}
 use Rattle.pale_top.specs.declared.status.Status.{Status}
 use Rattle.pale_top.specs.declared.status.Status.TheVariants.{Good, Bad, Words, Text, Limit, Memory, ReadFault, WriteFault}
 use Rattle.pale_top.specs.declared.words.Mode.{Mode}
-use Rattle.pale_top.specs.declared.words.Mode.TheVariants.{Check, Replay, Format, Ws2s}
+use Rattle.pale_top.specs.declared.words.Mode.TheVariants.{Check, Replay, Format, Ws2s, Gen}
 use Rattle.pale_top.specs.declared.words.Settings.{Settings}
 use Rattle.pale_top.specs.Words.{Gives, IsRefused}
 use Rattle.pale_top.proofs.WrittenLemmas.{Wrote-weaker, WroteAtMost-weaker}
@@ -26,9 +25,15 @@ use Rattle.pale_top.specs.Replaying as replaying
 use Rattle.pale_top.specs.Deciding.{Decides, Says}
 use Rattle.ws2s_syntax.specs.Checked.{Text as WsText}
 use Rattle.pale_top.specs.Deciding as deciding
-use Rattle.pale_top.specs.Output.{Answers, Begins, CallOutput, Checks, too_long, unjudged, report, EndsBy, IsAnswer, IsCutShort, Output}
-use Rattle.pale_top.specs.Output.{check, replay, format, ws2s}
-use Rattle.pale_top.specs.Output.{given, Reports, Wrote, WroteAtMost, status_of}
+use Rattle.pale_top.specs.Checking.{Checks}
+use Rattle.pale_top.specs.Checking as checking
+use Rattle.pale_top.specs.Output.{Answers, Begins, CallOutput, EndsBy, IsAnswer, IsCutShort, Output}
+use Rattle.pale_top.specs.Output.{check, replay, format, ws2s, generated}
+use Rattle.pale_top.specs.Generating.{Gens, Tells}
+use Rattle.pale_top.specs.Generating as generating
+use Rattle.store_exec.specs.declared.triple.Triple.{Triple}
+use Rattle.pale_types.specs.TypedPrograms.{TypedProgram}
+use Rattle.pale_top.specs.Output.{given, Wrote, WroteAtMost}
 use Rattle.pale_top.specs.Report.{too_long_line}
 use Rattle.pale_top.specs.Texts.{most_bytes}
 
@@ -70,18 +75,25 @@ IsGiven Text = Unit {0}
 IsGiven Limit = Unit {0}
 IsGiven status = ⊥
 
-triple_given : (judged : BoolJudged) → IsGiven (status_of judged)
-triple_given Valid = tt
-triple_given (Invalid values) = tt
+ending_given : (how : Ending) → IsGiven (checking.status_of how)
+ending_given ending.Good = tt
+ending_given ending.Bad = tt
+ending_given ending.Ambiguous = tt
+ending_given ending.Limit = tt
 
-program_given : (procedure : Option BoolProc) (output : List ℕ) (status : Status) → Reports procedure output status → IsGiven status
-program_given None output status reports = subst IsGiven (sym reports.1) tt
-program_given (Some p) output status reports = subst IsGiven (sym reports.ends) (triple_given reports.judged)
+checked_given : (limit : ℕ) (text output : List ℕ) (status : Status) → Checks limit text output status → IsGiven status
+checked_given limit text output status (checking.too_long more) = tt
+checked_given limit text output status (checking.refused refusal within is) = tt
+checked_given limit text output status (checking.judged program triples o how within is reports) = ending_given how
 
-checked_given : (text output : List ℕ) (status : Status) → Checks text output status → IsGiven status
-checked_given text output status (too_long more) = tt
-checked_given text output status (unjudged refusal within no_bools is) = tt
-checked_given text output status (report program o s within reads reports) = program_given program.procedure output status reports
+told_given : (limit seed : ℕ) (program : TypedProgram) (triples : List Triple) (output : List ℕ) (status : Status) →
+    Tells limit seed program triples output status → IsGiven status
+told_given limit seed program triples _ _ (generating.told ways how counts) = ending_given how
+
+generated_given : (limit seed : ℕ) (output : List ℕ) (status : Status) → Gens limit seed output status → IsGiven status
+generated_given limit seed output status (generating.too_long more) = tt
+generated_given limit seed output status (generating.refused refusal within is) = tt
+generated_given limit seed output status (generating.counted program triples o s within is tells) = told_given limit seed program triples o s tells
 
 answer_given : (a : Answer) → IsGiven (replaying.status_of a)
 answer_given (answer.StoreRefused line kind) = tt
@@ -114,10 +126,11 @@ decided_given limit text output status (deciding.refused refusal within is) = tt
 decided_given limit text output status (deciding.read tree o s within is says) = said_given limit tree o s says
 
 output_given : (settings : Settings) (text output : List ℕ) (status : Status) → Output settings text output status → IsGiven status
-output_given settings text output status (check is written answer checks) = checked_given text output status checks
+output_given settings text output status (check is written answer checks) = checked_given settings.limit text output status checks
 output_given settings text output status (replay is written answer replays) = replayed_given text output status replays
 output_given settings text output status (format is written answer formats) = formatted_given text output status formats
 output_given settings text output status (ws2s is written answer decides) = decided_given settings.limit text output status decides
+output_given settings text output status (generated is written answer gens) = generated_given settings.limit settings.seed output status gens
 
 -- such an output isn't cut short
 given_whole : (status : Status) → IsGiven status → IsCutShort status → ⊥
@@ -134,6 +147,15 @@ given_whole ReadFault one cut = cut
 module _ (settings : Settings) (text : List ℕ) (before after : Option (List ℕ)) where
   wrote_given : (answer status : Status) → status ≡ answer → Wrote (Output settings text) before after answer → IsGiven status
   wrote_given answer status ends wrote = subst IsGiven (sym ends) (output_given settings text wrote.output answer wrote.allowed)
+
+  -- where it wasn't cut short, the output was written
+  pub text_answers : (left : Option (List ℕ)) (outcome : Result Status WriteStop) (status : Status) → IfSome left (λ bytes. text ≡ bytes)
+      → EndsBy outcome status → IfOk outcome (Wrote (Output settings text) before after) → IsAnswer status
+      → Answers (Output settings) left before after status
+  text_answers left (Ok answer) status told ends wrote is =
+      record { text = text; told = told; wrote = subst (λ (s : Status). Wrote (Output settings text) before after s) (sym ends) wrote }
+  text_answers left (Err Failed) status told ends wrote is = absurd (subst IsAnswer ends is)
+  text_answers left (Err NoMemory) status told ends wrote is = absurd (subst IsAnswer ends is)
 
   -- where the writing was cut short, what was written begins an output
   pub text_begun : (left : Option (List ℕ)) (outcome : Result Status WriteStop) (status : Status) → IfSome left (λ bytes. text ≡ bytes) → EndsBy outcome status
@@ -160,15 +182,16 @@ module _ (settings : Settings) (text : List ℕ) (before after : Option (List �
       let bad : Memory ≡ WriteFault = sym ends ∙ is in
       cc
 
--- each mode refuses a text with too many bytes
-pub too_long_output : (settings : Settings) (text : List ℕ) → most_bytes < length text → Output settings text too_long_line Text
-too_long_output settings text more = by_mode settings.mode refl
+-- each mode that reads a text refuses one with too many bytes
+pub too_long_output : (settings : Settings) (text : List ℕ) → settings.mode ≢ Gen → most_bytes < length text → Output settings text too_long_line Text
+too_long_output settings text reads more = by_mode settings.mode refl
   where
     by_mode : (mode : Mode) → settings.mode ≡ mode → Output settings text too_long_line Text
-    by_mode Check is = check is too_long_line Text (too_long more)
+    by_mode Check is = check is too_long_line Text (checking.too_long more)
     by_mode Replay is = replay is too_long_line Text (replaying.too_long more)
     by_mode Format is = format is too_long_line Text (formatting.too_long more)
     by_mode Ws2s is = ws2s is too_long_line Text (deciding.too_long more)
+    by_mode Gen is = absurd (reads is)
 
 -- ---- a call that says one line
 

@@ -1,12 +1,12 @@
 mod ArgsLemmas
 mod CallLemmas
+mod CheckingLemmas
 mod CommandLemmas
 mod DecidingLemmas
 mod OutputLemmas
+mod PromiseLemmas
 mod ReadLemmas
-mod ReportLemmas
 mod SameRulesLemmas
 mod SettingsLemmas
-mod TripleLemmas
 mod ValueLemmas
 mod WrittenLemmas

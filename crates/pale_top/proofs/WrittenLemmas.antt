@@ -1,7 +1,7 @@
 -- What two writes leave, one after the other.
 use Rattle.std.proofs.Common.{◌≡◌, ◌∙◌, ◌+◌, ◌<◌, ◌≤◌, ℕ, List, ◌++◌, length, take, refl, ap, sym, subst, arith, Option, Some, None, append_assoc}
-use Rattle.std.proofs.Common.{length-append, Result, Ok, Err, inl, inr}
-use Rattle.std.specs.Prelude.{IfOk, OnErr}
+use Rattle.std.proofs.Common.{append-nil, length-append, Result, Ok, Err, inl, inr, []}
+use Rattle.std.specs.Prelude.{IfOk, OnErr, OnOk}
 use Rattle.std.proofs.lemmas.List.{take-append-le}
 use Rattle.std.proofs.Math.Seq.{take-append_seam, take-append-add}
 use Rattle.pale_io.specs.Told.{appended}
@@ -14,9 +14,30 @@ pub on_err : {T E P : Type 0} (r : Result T E) → P → OnErr r P
 on_err (Ok x) p = tt
 on_err (Err e) p = p
 
+pub on_err_weaker : {T E P Q : Type 0} (r : Result T E) → (P → Q) → OnErr r P → OnErr r Q
+on_err_weaker (Ok x) from p = tt
+on_err_weaker (Err e) from p = from p
+
+pub on_ok_weaker : {T E P Q : Type 0} (r : Result T E) → (P → Q) → OnOk r P → OnOk r Q
+on_ok_weaker (Ok x) from p = from p
+on_ok_weaker (Err e) from p = tt
+
+-- four pieces behind a text
+pub four_pieces : (text a b c d : List ℕ) → (((text ++ a) ++ b) ++ c) ++ d ≡ text ++ (((a ++ b) ++ c) ++ d)
+four_pieces text a b c d = ap (λ (xs : List ℕ). (xs ++ c) ++ d) (append_assoc text a b)
+    ∙ (ap (λ (xs : List ℕ). xs ++ d) (append_assoc text (a ++ b) c) ∙ append_assoc text ((a ++ b) ++ c) d)
+
 appended-append : (told : Option (List ℕ)) (xs ys : List ℕ) → appended (appended told xs) ys ≡ appended told (xs ++ ys)
 appended-append None xs ys = refl
 appended-append (Some bytes) xs ys = ap (λ (all : List ℕ). Some all) (append_assoc bytes xs ys)
+
+-- no piece
+pub nothing_written : (a : Option (List ℕ)) → WritesAll a a []
+nothing_written a = record { added = same a }
+  where
+    same : (told : Option (List ℕ)) → told ≡ appended told []
+    same None = refl
+    same (Some bytes) = ap (λ (all : List ℕ). Some all) (sym (append-nil bytes))
 
 -- all of one piece, and then all of another
 pub both_written : (a b c : Option (List ℕ)) (xs ys : List ℕ) → WritesAll a b xs → WritesAll b c ys → WritesAll a c (xs ++ ys)
@@ -85,6 +106,21 @@ module _ (A B : List ℕ → Status → Type 0) (follows : (output : List ℕ) (
   pub begun-weaker : (outcome : Result Status WriteStop) → OnErr outcome (WroteAtMost A before after) → OnErr outcome (WroteAtMost B before after)
   begun-weaker (Ok status) begun = tt
   begun-weaker (Err stop) begun = WroteAtMost-weaker begun
+
+-- the same where what is told of the output is told in another way
+module _ {X Y : Type 0} (A : List ℕ → X → Type 0) (B : List ℕ → Y → Type 0) (turn : X → Y)
+    (follows : (output : List ℕ) (x : X) → A output x → B output (turn x)) (before after : Option (List ℕ)) where
+  pub Wrote-turned : (x : X) → Wrote A before after x → Wrote B before after (turn x)
+  Wrote-turned x wrote = record { output = wrote.output; allowed = follows wrote.output x wrote.allowed; written = wrote.written }
+
+  pub WroteAtMost-turned : WroteAtMost A before after → WroteAtMost B before after
+  WroteAtMost-turned (inl nothing) = inl nothing
+  WroteAtMost-turned (inr front) = inr (record {
+    output = front.output;
+    status = turn front.status;
+    allowed = follows front.output front.status front.allowed;
+    written = front.written;
+  })
 
 -- what a line that is said leaves, where it is an allowed output
 module _ (Allowed : List ℕ → Status → Type 0) (before after : Option (List ℕ)) (line : List ℕ) (answer : Status) (allowed : Allowed line answer) where

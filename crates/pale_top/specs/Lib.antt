@@ -1,7 +1,8 @@
+pub mod Checking
 pub mod Deciding
 pub mod Formatting
+pub mod Generating
 pub mod Output
-pub mod Refusing
 pub mod Replaying
 pub mod Report
 pub mod Statuses

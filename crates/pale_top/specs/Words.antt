@@ -8,7 +8,7 @@ use Rattle.clap.specs.declared.builder.action.ArgAction.TheVariants.{Set}
 use Rattle.clap.specs.declared.builder.value_parser.ValueParser.{ValueParser}
 use Rattle.clap.specs.declared.builder.value_parser.ValueParser.TheVariants.{Names, Signed}
 use Rattle.pale_top.specs.declared.words.Mode.{Mode}
-use Rattle.pale_top.specs.declared.words.Mode.TheVariants.{Check, Replay, Format, Ws2s}
+use Rattle.pale_top.specs.declared.words.Mode.TheVariants.{Check, Replay, Format, Ws2s, Gen}
 use Rattle.pale_top.specs.declared.words.Settings.{Settings}
 
 -- ---- the command
@@ -19,10 +19,11 @@ mode_name Check = codes "check"
 mode_name Replay = codes "replay"
 mode_name Format = codes "format"
 mode_name Ws2s = codes "ws2s"
+mode_name Gen = codes "gen"
 
 -- the names of all modes
 abbrev pub mode_names : List Text
-mode_names = mode_name Check ∷ mode_name Replay ∷ mode_name Format ∷ mode_name Ws2s ∷ []
+mode_names = mode_name Check ∷ mode_name Replay ∷ mode_name Format ∷ mode_name Ws2s ∷ mode_name Gen ∷ []
 
 -- a value that is lent; where it stands is of no account
 abbrev pub lent : {X : Type 0} → X → Bor X
@@ -110,3 +111,7 @@ pub record HasSettings (rows : List Row) (settings : Settings) : Type 0 where
 pub record Gives (words : List Text) (settings : Settings) : Type 0 where
   pub taken : fault_of command words ≡ []
   pub values : HasSettings (matches_of command words) settings
+
+-- the command takes the words, which ask for this mode
+abbrev pub AsksFor : List Text → Mode → Type 0
+AsksFor words mode = (settings : Settings) × Gives words settings × (settings.mode ≡ mode)

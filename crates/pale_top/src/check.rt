@@ -1,94 +1,114 @@
-//! The mode `check`: the report of a program.
-ghost use Rattle.std.specs.Prelude.{◌≡◌, ◌≤◌, length, IfOk, OnErr, IsErrOf};
+//! The mode `check`: the reports of a program.
+ghost use Rattle.std.specs.Prelude.{◌≡◌, ◌≤◌, length, All, IfOk, OnErr, IsErrOf};
 ghost use Rattle.pale_io.specs.Faults.{Rose};
+ghost use Rattle.bdd_nodes.specs.Shelf.{limit_of};
+ghost use Rattle.gta_keep.specs.Holding.{HasNoTables};
+ghost use Rattle.witness_store.specs.Alike.{AreFunctional};
+ghost use Rattle.pale_types.specs.Fitting.{ProgramFits};
+ghost use Rattle.hoare_split.specs.Fitting.{FitsProgram};
+ghost use Rattle.program_judge.specs.Reports.{ReportsAll, ReportsProgram};
+ghost use Rattle.pale_top.specs.Checking.{Checks, status_of};
+ghost use Rattle.pale_top.specs.Output.{Wrote, WroteAtMost};
 ghost use Rattle.pale_top.specs.Texts.{most_bytes};
-ghost use Rattle.pale_top.specs.Output.{Checks, Reports, ReportsTriple, Wrote, WroteAtMost, status_of, totals_of, triple_report};
+ghost use Rattle.pale_top.specs.Words.{IsLimit};
 
 use crate::Status;
-use crate::refuse::refuse_text;
-use crate::report::{invalid_report, totals, valid_report};
+use crate::check_parts::{check_fields, check_triples};
+use crate::report::refused_line;
 use crate::writing::say;
-use bool_path::{BoolJudged, BoolProc, BoolProgram, BoolStop, judge_bools, read_bools};
+use bdd_nodes::Shelf;
 use pale_io::{Sink, WriteStop, write_all};
-use std::alloc::{AllocError, Global};
+use pale_program::{WholeProgram, read_program};
+use pale_text::TextStop;
+use program_judge::{Ending, are_functional, judged_ending, stopped_ending, totals_text};
+use std::alloc::Global;
+use ws2s_pass::PassList;
 
-/// The report of a triple, by how it was judged.
-fn report_of(alloc: Global, p: &BoolProc, judged: &BoolJudged) -> Result<Vec<u8>, AllocError>
-    ensures { IfOk result (λ text. text.items ≡ triple_report p.now judged.now) }
+/// The status of a report, by how it ends.
+pub(crate) fn status_of(how: Ending) -> Status
+    ensures { result ≡ status_of how }
 {
-    match judged {
-        BoolJudged::Valid => valid_report(alloc, p),
-        BoolJudged::Invalid(values) => invalid_report(alloc, p, values),
+    match how {
+        Ending::Good => Status::Good,
+        Ending::Bad => Status::Bad,
+        Ending::Ambiguous => Status::Text,
+        Ending::Limit => Status::Limit,
     }
 }
 
-fn totals_of(alloc: Global, judged: &BoolJudged) -> Result<Vec<u8>, AllocError>
-    ensures { IfOk result (λ text. text.items ≡ totals_of judged.now) }
-{
-    match judged {
-        BoolJudged::Valid => totals(alloc, 1, 0, 0),
-        BoolJudged::Invalid(_) => totals(alloc, 0, 1, 0),
-    }
-}
-
-fn status_of(judged: &BoolJudged) -> Status
-    ensures { result ≡ status_of judged.now }
-{
-    match judged {
-        BoolJudged::Valid => Status::Good,
-        BoolJudged::Invalid(_) => Status::Bad,
-    }
-}
-
-/// Judges a procedure's triple, and writes its report and then the line of totals.
-fn check_triple<K: Sink>(alloc: Global, p: &BoolProc, sink: &mut K) -> Result<Status, WriteStop>
-    ensures ok { IfOk result (Wrote (ReportsTriple p.now) (K.written sink.old) (K.written sink.new)) }
-    ensures err { OnErr result (WroteAtMost (ReportsTriple p.now) (K.written sink.old) (K.written sink.new)) }
+/// Judges all triples, and writes the report of each and then the totals. Every pointer field is functional.
+fn check_all<K: Sink>(
+    alloc: Global,
+    whole: &WholeProgram,
+    passes: &PassList,
+    shelf: &mut Shelf,
+    sink: &mut K,
+) -> Result<Ending, WriteStop>
+    requires program { ProgramFits whole.now.typed }
+    requires triples { All (FitsProgram whole.now.typed) whole.now.triples }
+    requires functional { AreFunctional whole.now.typed.types }
+    requires tables { HasNoTables shelf.old }
+    ensures ok { IfOk result (Wrote (ReportsAll (limit_of shelf.old) whole.now.typed whole.now.triples) (K.written sink.old) (K.written sink.new)) }
+    ensures err { OnErr result (WroteAtMost (ReportsAll (limit_of shelf.old) whole.now.typed whole.now.triples) (K.written sink.old) (K.written sink.new)) }
     ensures failed { IsErrOf result WriteStop.Failed → Rose (K.faults sink.old) (K.faults sink.new) }
     ensures kept { K.faults sink.old ≤ K.faults sink.new }
 {
-    let judged = judge_bools(alloc, p)?;
-    let report = report_of(alloc, p, &judged)?;
-    write_all(sink, report.as_slice())?;
-    let line = totals_of(alloc, &judged)?;
-    say(sink, line.as_slice(), status_of(&judged))
+    let ways = check_triples(alloc, whole, passes, shelf, sink)?;
+    let totals = totals_text(alloc, ways.as_slice())?;
+    write_all(sink, totals.as_slice())?;
+    Ok(judged_ending(ways.as_slice()))
 }
 
-/// Writes the report of a program.
+/// Judges a program, with at most `limit` decision nodes at a time, and writes what is said of it.
 fn check_program<K: Sink>(
     alloc: Global,
-    program: &BoolProgram,
+    limit: u32,
+    whole: &WholeProgram,
+    passes: &PassList,
     sink: &mut K,
-) -> Result<Status, WriteStop>
-    ensures ok { IfOk result (Wrote (Reports program.now.procedure) (K.written sink.old) (K.written sink.new)) }
-    ensures err { OnErr result (WroteAtMost (Reports program.now.procedure) (K.written sink.old) (K.written sink.new)) }
+) -> Result<Ending, WriteStop>
+    requires limit { IsLimit limit }
+    requires program { ProgramFits whole.now.typed }
+    requires triples { All (FitsProgram whole.now.typed) whole.now.triples }
+    ensures ok { IfOk result (Wrote (ReportsProgram limit whole.now.typed whole.now.triples) (K.written sink.old) (K.written sink.new)) }
+    ensures err { OnErr result (WroteAtMost (ReportsProgram limit whole.now.typed whole.now.triples) (K.written sink.old) (K.written sink.new)) }
     ensures failed { IsErrOf result WriteStop.Failed → Rose (K.faults sink.old) (K.faults sink.new) }
     ensures kept { K.faults sink.old ≤ K.faults sink.new }
 {
-    match &program.procedure {
-        Some(p) => check_triple(alloc, p, sink),
-        None => {
-            let line = totals(alloc, 0, 0, 0)?;
-            say(sink, line.as_slice(), Status::Good)
-        }
+    let mut shelf = Shelf::open(alloc, limit)?;
+    let ways = check_fields(alloc, whole, passes, &mut shelf, sink)?;
+    if are_functional(ways.as_slice()) {
+        check_all(alloc, whole, passes, &mut shelf, sink)
+    } else {
+        write_all(sink, b"stopped at fields\n")?;
+        Ok(stopped_ending(ways.as_slice()))
     }
 }
 
 /// Checks a text that isn't too long.
 pub(crate) fn check_text<K: Sink>(
     alloc: Global,
+    limit: u32,
     text: &[u8],
+    passes: &PassList,
     sink: &mut K,
 ) -> Result<Status, WriteStop>
-    requires { length text.now ≤ most_bytes }
-    ensures ok { IfOk result (Wrote (Checks text.now) (K.written sink.old) (K.written sink.new)) }
-    ensures err { OnErr result (WroteAtMost (Checks text.now) (K.written sink.old) (K.written sink.new)) }
+    requires within { length text.now ≤ most_bytes }
+    requires limit { IsLimit limit }
+    ensures ok { IfOk result (Wrote (Checks limit text.now) (K.written sink.old) (K.written sink.new)) }
+    ensures err { OnErr result (WroteAtMost (Checks limit text.now) (K.written sink.old) (K.written sink.new)) }
     ensures failed { IsErrOf result WriteStop.Failed → Rose (K.faults sink.old) (K.faults sink.new) }
     ensures kept { K.faults sink.old ≤ K.faults sink.new }
 {
-    match read_bools(alloc, text) {
-        Ok(program) => check_program(alloc, &program, sink),
-        Err(BoolStop::NotYet) => refuse_text(alloc, text, sink),
-        Err(BoolStop::NoMemory) => Err(WriteStop::NoMemory),
+    match read_program(alloc, text) {
+        Ok(whole) => {
+            let how = check_program(alloc, limit, &whole, passes, sink)?;
+            Ok(status_of(how))
+        }
+        Err(TextStop::Refused(refusal)) => {
+            let line = refused_line(alloc, &refusal)?;
+            say(sink, line.as_slice(), Status::Text)
+        }
+        Err(TextStop::NoMemory) => Err(WriteStop::NoMemory),
     }
 }

@@ -19,6 +19,8 @@ pub enum Mode {
     Format,
     /// Answers a WS2S text.
     Ws2s,
+    /// Judges the generator's program of a seed.
+    Gen,
 }
 
 /// What the words of a call ask for.
@@ -54,7 +56,7 @@ ghost use Rattle.clap.specs.declared.builder.value_parser.ValueParser.TheVariant
 ghost use Rattle.pale_top.specs.Words.{Gives, HasMode, HasNumber, HasSettings, HasValues, number_of, mode_rule, number_rule, IsRefused, IsModeParser};
 ghost use Rattle.pale_top.specs.Words.{mode_name, command_with};
 
-static MODE_NAMES: [&str; 4] = ["check", "replay", "format", "ws2s"];
+static MODE_NAMES: [&str; 5] = ["check", "replay", "format", "ws2s", "gen"];
 
 impl Mode {
     /// The mode of this name.
@@ -67,6 +69,7 @@ impl Mode {
             "replay" => Some(Mode::Replay),
             "format" => Some(Mode::Format),
             "ws2s" => Some(Mode::Ws2s),
+            "gen" => Some(Mode::Gen),
             _ => None,
         }
     }

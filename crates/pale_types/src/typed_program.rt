@@ -1,6 +1,6 @@
 //! A typed program.
 
-ghost use Rattle.std.specs.Prelude.{◌≡◌, option_map, slice_get};
+ghost use Rattle.std.specs.Prelude.{◌≡◌, length, option_map, slice_get};
 
 use crate::typed::{ProcEntry, TypedProc};
 use plain_data::{Items, at};
@@ -43,6 +43,13 @@ impl Typed {
         ensures { result.now ≡ self.now.types }
     {
         &self.types
+    }
+
+    /// How many procedures it has. Takes no memory.
+    pub fn procs(&self) -> usize
+        ensures { result ≡ length self.now.procs }
+    {
+        self.procs.len()
     }
 
     /// The procedure with this number; `None` exactly for an unknown one.

@@ -30,16 +30,16 @@ use Rattle.tree_formula.specs.WellEncoded.{track_or_first, well_encoded}
 use Rattle.tree_meaning.proofs.FormulaLemmas.{well_encoded-means}
 use Rattle.tree_meaning.proofs.TablesLemmas.{owners-there}
 use Rattle.tree_backbone.specs.Stores.{IsStoreOf}
-use Rattle.graph_fields.proofs.AssignmentLemmas.{assignment}
+use Rattle.graph_meaning.proofs.fields.AssignmentLemmas.{assignment}
 use Rattle.witness_store.specs.Alike.{AreFunctional}
 use Rattle.witness_store.proofs.FunctionalLemmas.{IsWellFormed-set}
 use Rattle.field_judge.proofs.WeighedLemmas.{are-variant_tracks}
 use Rattle.site_view.specs.declared.site.Site.{Site}
-use Rattle.site_meaning.specs.Seeing.{IsOver}
+use Rattle.triple_meaning.specs.Sites.Seeing.{IsOver}
 use Rattle.site_view.specs.States.{Check}
 use Rattle.site_view.specs.Sites.{sites_of}
 use Rattle.site_view.specs.Triples.{walked, bind, definitions, start_holds, site_formula_at, first_bound, site_formula}
-use Rattle.triple_formulas.specs.Satisfying.{IsSatisfiedAt, IsFirstSatisfied}
+use Rattle.triple_meaning.specs.Failing.Satisfying.{IsSatisfiedAt, IsFirstSatisfied}
 use Rattle.triple_judge.specs.declared.searching.Found.{Found}
 use Rattle.triple_judge.specs.Searching.{IsNowhere, IsLightest}
 use Rattle.triple_judge.specs.Lightest.{IsLightestFailure}

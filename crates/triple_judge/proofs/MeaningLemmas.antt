@@ -11,10 +11,10 @@ use Rattle.site_view.specs.declared.site.Site.{Site}
 use Rattle.site_view.specs.Sites.{sites_of}
 use Rattle.site_view.specs.Triples.{passed}
 use Rattle.site_list.proofs.WalkLemmas.{walk-passes}
-use Rattle.site_meaning.specs.Seeing.{IsOver}
-use Rattle.triple_formulas.specs.Satisfying.{IsPosed, IsSatisfiedAt, IsFirstSatisfied}
-use Rattle.triple_formulas.proofs.FailingLemmas.{failing-first, site-meets}
-use Rattle.triple_formulas.proofs.SettledLemmas as formulas
+use Rattle.triple_meaning.specs.Sites.Seeing.{IsOver}
+use Rattle.triple_meaning.specs.Failing.Satisfying.{IsPosed, IsSatisfiedAt, IsFirstSatisfied}
+use Rattle.triple_meaning.proofs.failing.FailingLemmas.{failing-first, site-meets}
+use Rattle.triple_meaning.proofs.failing.SettledLemmas as formulas
 use Rattle.triple_judge.specs.Standing.{CanBeJudged}
 
 abbrev pub place_of : Cause → ℕ → Site

@@ -8,7 +8,7 @@ use Rattle.store_exec.specs.declared.triple.Cut.{Cut}
 use Rattle.store_exec.specs.declared.triple.Triple.{Triple}
 use Rattle.store_exec.specs.Fits.{TripleFits}
 use Rattle.store_ends.specs.Places.{places_of}
-use Rattle.claim_meaning.specs.Given.{IsRegionOf}
+use Rattle.triple_meaning.specs.Claims.Given.{IsRegionOf}
 
 -- each of the claims is on all cells, on the part of these variables, or on its rest
 abbrev pub AreOn : Option (List VarId) → List Claim → Type 0

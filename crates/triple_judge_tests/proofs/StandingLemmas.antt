@@ -17,7 +17,7 @@ use Rattle.store_exec.specs.declared.code.Tail.TheFolds.{fold-Code}
 use Rattle.store_exec.specs.declared.triple.Claim.{Claim}
 use Rattle.store_exec.specs.declared.triple.Cut.{Cut}
 use Rattle.store_exec.specs.declared.triple.Triple.{Triple}
-use Rattle.claim_meaning.specs.Given.{IsRegionOf}
+use Rattle.triple_meaning.specs.Claims.Given.{IsRegionOf}
 use Rattle.pale_types.specs.declared.typed.ProcEntry.{ProcEntry}
 use Rattle.pale_types.specs.TypedPrograms.{TypedProgram}
 use Rattle.pale_types.specs.Fitting.{ProgramFits, ProcFits}

@@ -1,1 +1,5 @@
-pub mod Parted
+pub mod Claims
+pub mod Sites
+pub mod Triples
+pub mod Tracks
+pub mod Failing

@@ -1,6 +1,6 @@
-//! The programs of the full language in the repository's `examples/`, and how they are spelled.
+//! Whole programs of the full language, and how they are spelled.
 
-/// The text of each `NAME.pale`, and that of its `NAME.pale.format`.
+/// The text of each, and its spelling.
 pub(super) static GALLERY: &[(&str, &str)] = &[
     (
         "# A list is turned round. The logic set remembers the cells at entry: none goes and none comes.\ntype Node = { data next: Node; }\n\nproc reverse(data x: Node) returns (data y: Node)\nlogic set S: Node\npre [all c: Node: c in S]\npost [all c: Node: c in S] {\n  data t: Node;\n  while (x != null) [(all c: Node: c in S) & t = null] {\n    t = x.next;\n    x.next = y;\n    y = x;\n    x = t;\n    t = null;\n  }\n}\n",

@@ -1,4 +1,3 @@
-use Rattle.std.proofs.Common.{sym}
 use Rattle.pale_program.proofs.StopLemmas.{handed_on, lex_stop, parse_stop, type_stop, split_stop}
 use Rattle.pale_program.proofs.program.read_program.Goals as goal
 
@@ -42,8 +41,8 @@ returns-clause-program c = record {
   split = c.in_ok-triples.ensures.triples;
 }
 
-pub returns-clause-start : goal.returns-clause-start
-returns-clause-start c = record { list = c.in_ok-list.list; lexed = c.in_ok-list.ensures.tokens; there = sym c.start_in-start.ensures }
+pub returns-clause-typed : goal.returns-clause-typed
+returns-clause-typed c = c.in_ok-typed.ensures.fits
 
 pub returns-clause-fits : goal.returns-clause-fits
 returns-clause-fits c = c.in_ok-triples.ensures.fits c.in_ok-typed.ensures.fits

@@ -1,5 +1,6 @@
 use Rattle.pale_top.specs.Formatting.{Formats}
-use Rattle.pale_top.specs.Output.{Checks, Output, check, replay, format, ws2s}
+use Rattle.pale_top.specs.Checking.{Checks}
+use Rattle.pale_top.specs.Output.{Output, check, replay, format, ws2s}
 use Rattle.pale_top.specs.Deciding.{Decides}
 use Rattle.pale_top.specs.Replaying.{Replays}
 use Rattle.pale_top.proofs.WrittenLemmas.{begun-weaker, whole-weaker}
@@ -7,12 +8,12 @@ use Rattle.pale_top.proofs.call.answer_text.Goals as goal
 
 pub returns-in-Check-clause-ok : goal.returns-in-Check-clause-ok
 returns-in-Check-clause-ok g c =
-    whole-weaker (Checks c.args.text.now) (Output c.args.settings c.args.text.now) (check c.in-Check.is)
+    whole-weaker (Checks c.args.settings.limit c.args.text.now) (Output c.args.settings c.args.text.now) (check c.in-Check.is)
     (g.K.Sink.written c.args.sink.now) (g.K.Sink.written c.check_text.new.sink) c.check_text.result c.check_text.ensures.ok
 
 pub returns-in-Check-clause-err : goal.returns-in-Check-clause-err
 returns-in-Check-clause-err g c =
-    begun-weaker (Checks c.args.text.now) (Output c.args.settings c.args.text.now) (check c.in-Check.is)
+    begun-weaker (Checks c.args.settings.limit c.args.text.now) (Output c.args.settings c.args.text.now) (check c.in-Check.is)
     (g.K.Sink.written c.args.sink.now) (g.K.Sink.written c.check_text.new.sink) c.check_text.result c.check_text.ensures.err
 
 pub returns-in-Replay-clause-ok : goal.returns-in-Replay-clause-ok

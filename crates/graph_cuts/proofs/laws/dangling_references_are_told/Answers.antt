@@ -1,5 +1,0 @@
-use Rattle.graph_cuts.proofs.DanglingLemmas.{dangles-means}
-use Rattle.graph_cuts.proofs.laws.dangling_references_are_told.Goals as goal
-
-pub returns : goal.returns
-returns c = λ l view a b first s at count next wells. dangles-means l view a first s at count wells b next

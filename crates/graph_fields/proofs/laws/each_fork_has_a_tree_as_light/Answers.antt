@@ -1,5 +1,0 @@
-use Rattle.graph_fields.proofs.AloneLemmas.{light-tree}
-use Rattle.graph_fields.proofs.laws.each_fork_has_a_tree_as_light.Goals as goal
-
-pub returns : goal.returns
-returns c = λ types vars others s f table each fits backbone fork. light-tree types vars others s f table each fits backbone fork

@@ -1,0 +1,3 @@
+pub mod Live
+pub mod Walks
+pub mod Fields

@@ -1,0 +1,168 @@
+-- What an output of `check` promises, by the laws of reports.
+use Rattle.std.proofs.Common.{◌≡◌, ◌∙◌, ◌⊎◌, inl, inr, ◌≤◌, ◌<◌, ℕ, List, [], ◌∷◌, length, Option, Some, None, ap, refl, subst, sym, arith}
+use Rattle.std.specs.Prelude.{IfSome}
+use Rattle.std.proofs.lemmas.Option.{same_Some}
+use Rattle.pale_text.specs.declared.refusal.Refusal.{Refusal}
+use Rattle.store_exec.specs.declared.triple.Triple.{Triple}
+use Rattle.pale_types.specs.TypedPrograms.{TypedProgram}
+use Rattle.pale_program.specs.ProgramTexts.{IsReadAs, IsRefusedAs}
+use Rattle.program_judge.specs.declared.ways.Ending.{Ending}
+use Rattle.program_judge.specs.declared.ways.Ending.TheVariants as ending
+use Rattle.program_judge.specs.Reports.{ReportsProgram}
+use Rattle.program_judge.specs.Safety.{RunsNeverFail, IsSafe}
+use Rattle.program_judge.specs.Completeness.{ArePeaksWithin, IsWithinPeaks}
+use Rattle.pale_top.specs.declared.status.Status.{Status}
+use Rattle.pale_top.specs.declared.status.Status.TheVariants.{Good, Bad}
+use Rattle.pale_top.specs.declared.words.Mode.{Mode}
+use Rattle.pale_top.specs.declared.words.Mode.TheVariants.{Check, Replay, Format, Ws2s, Gen}
+use Rattle.pale_top.specs.declared.words.Settings.{Settings}
+use Rattle.pale_top.specs.Checking.{Checks, status_of, too_long, refused, judged}
+use Rattle.pale_top.specs.Output.{Answers, IsAnswer, Output, check, replay, format, ws2s, generated}
+use Rattle.pale_top.specs.Texts.{most_bytes}
+use Rattle.pale_top.specs.Words.{AsksFor, Gives, mode_name}
+
+-- ---- what the words ask for
+
+-- the names of the modes begin with letters of their own
+first_letter : List ℕ → ℕ
+first_letter [] = 0
+first_letter (x ∷ xs) = x
+
+less : (a b : ℕ) → a < b → a ≡ b → ⊥
+less a b below same = omega (arith, below, same)
+
+same_name : (one other : Mode) → mode_name one ≡ mode_name other → one ≡ other
+unfolding first_letter
+same_name Check Check is = refl
+same_name Check Replay is = absurd (less 99 114 (omega arith) (ap first_letter is))
+same_name Check Format is = absurd (less 99 102 (omega arith) (ap first_letter is))
+same_name Check Ws2s is = absurd (less 99 119 (omega arith) (ap first_letter is))
+same_name Check Gen is = absurd (less 99 103 (omega arith) (ap first_letter is))
+same_name Replay Check is = absurd (less 99 114 (omega arith) (ap first_letter (sym is)))
+same_name Replay Replay is = refl
+same_name Replay Format is = absurd (less 102 114 (omega arith) (ap first_letter (sym is)))
+same_name Replay Ws2s is = absurd (less 114 119 (omega arith) (ap first_letter is))
+same_name Replay Gen is = absurd (less 103 114 (omega arith) (ap first_letter (sym is)))
+same_name Format Check is = absurd (less 99 102 (omega arith) (ap first_letter (sym is)))
+same_name Format Replay is = absurd (less 102 114 (omega arith) (ap first_letter is))
+same_name Format Format is = refl
+same_name Format Ws2s is = absurd (less 102 119 (omega arith) (ap first_letter is))
+same_name Format Gen is = absurd (less 102 103 (omega arith) (ap first_letter is))
+same_name Ws2s Check is = absurd (less 99 119 (omega arith) (ap first_letter (sym is)))
+same_name Ws2s Replay is = absurd (less 114 119 (omega arith) (ap first_letter (sym is)))
+same_name Ws2s Format is = absurd (less 102 119 (omega arith) (ap first_letter (sym is)))
+same_name Ws2s Ws2s is = refl
+same_name Ws2s Gen is = absurd (less 103 119 (omega arith) (ap first_letter (sym is)))
+same_name Gen Check is = absurd (less 99 103 (omega arith) (ap first_letter (sym is)))
+same_name Gen Replay is = absurd (less 103 114 (omega arith) (ap first_letter is))
+same_name Gen Format is = absurd (less 102 103 (omega arith) (ap first_letter (sym is)))
+same_name Gen Ws2s is = absurd (less 103 119 (omega arith) (ap first_letter is))
+same_name Gen Gen is = refl
+
+module _ (words : List (List ℕ)) (one other : Settings) (a : Gives words one) (b : Gives words other) where
+  pub same_mode : one.mode ≡ other.mode
+  same_mode = same_name one.mode other.mode (same_Some (mode_name one.mode) (mode_name other.mode) (sym a.values.mode ∙ b.values.mode))
+
+  pub same_limit : one.limit ≡ other.limit
+  same_limit = same_Some one.limit other.limit (sym a.values.limit ∙ b.values.limit)
+
+-- ---- what the layers below say of reports
+
+abbrev pub SafeRuns : Type 0
+SafeRuns = (limit : ℕ) (text : List ℕ) (program : TypedProgram) (triples : List Triple) (output : List ℕ) →
+    IsReadAs text program triples → ReportsProgram limit program triples output ending.Good → RunsNeverFail program
+
+pub record Laws : Type 0 where
+  pub one : (text : List ℕ) (program other : TypedProgram) (triples others : List Triple) → IsReadAs text program triples →
+      IsReadAs text other others → (program ≡ other) × (triples ≡ others)
+  pub apart : (text : List ℕ) (program : TypedProgram) (triples : List Triple) (refusal : Refusal) → IsReadAs text program triples →
+      IsRefusedAs text refusal → ⊥
+  pub verdicts : (limit : ℕ) (program : TypedProgram) (triples : List Triple) (output : List ℕ) (how : Ending) →
+      ArePeaksWithin limit program triples → ReportsProgram limit program triples output how → (how ≡ ending.Good) ⊎ (how ≡ ending.Bad)
+
+-- ---- no whole run fails
+
+good_ending : (how : Ending) → status_of how ≡ Good → how ≡ ending.Good
+good_ending ending.Good is = refl
+good_ending ending.Bad is = absurd (cc)
+good_ending ending.Ambiguous is = absurd (cc)
+good_ending ending.Limit is = absurd (cc)
+
+module _ (runs : SafeRuns) where
+  safe_checks : (limit : ℕ) (text output : List ℕ) (status : Status) → Checks limit text output status → status ≡ Good → IsSafe text
+  safe_checks limit text _ _ (too_long more) is = absurd (cc)
+  safe_checks limit text _ _ (refused refusal within stop) is = absurd (cc)
+  safe_checks limit text _ _ (judged program triples output how within read reports) is = record {
+    program = program;
+    triples = triples;
+    read = read;
+    safe = runs limit text program triples output read
+        (subst (λ (e : Ending). ReportsProgram limit program triples output e) (good_ending how is) reports);
+  }
+
+  safe_output : (settings : Settings) → settings.mode ≡ Check → (text output : List ℕ) (status : Status) → Output settings text output status →
+      status ≡ Good → IsSafe text
+  safe_output settings asks text output status (check is written answer checks) good = safe_checks settings.limit text output status checks good
+  safe_output settings asks text output status (replay is written answer replays) good = (let bad : Check ≡ Replay = sym asks ∙ is in absurd (cc))
+  safe_output settings asks text output status (format is written answer formats) good = (let bad : Check ≡ Format = sym asks ∙ is in absurd (cc))
+  safe_output settings asks text output status (ws2s is written answer decides) good = (let bad : Check ≡ Ws2s = sym asks ∙ is in absurd (cc))
+  safe_output settings asks text output status (generated is written answer gens) good = (let bad : Check ≡ Gen = sym asks ∙ is in absurd (cc))
+
+  told_safe : (left : Option (List ℕ)) (text : List ℕ) → IfSome left (λ bytes. text ≡ bytes) → IsSafe text → IfSome left IsSafe
+  told_safe None text told safe = tt
+  told_safe (Some bytes) text told safe = subst IsSafe told safe
+
+  pub safe_answer : (words : List (List ℕ)) (settings : Settings) → Gives words settings → (left before after : Option (List ℕ)) (status : Status) →
+      (IsAnswer status → Answers (Output settings) left before after status) → status ≡ Good → AsksFor words Check → IfSome left IsSafe
+  safe_answer words settings gives left before after status answers good (other, given, asks) =
+      let answer = answers (subst IsAnswer (sym good) tt) in
+      let mode : settings.mode ≡ Check = same_mode words settings other gives given ∙ asks in
+      told_safe left answer.text answer.told (safe_output settings mode answer.text answer.wrote.output status answer.wrote.allowed good)
+
+-- ---- within the Peaks there is a verdict
+
+good_or_bad : (how : Ending) → (how ≡ ending.Good) ⊎ (how ≡ ending.Bad) → (status_of how ≡ Good) ⊎ (status_of how ≡ Bad)
+good_or_bad how (inl is) = inl (ap status_of is)
+good_or_bad how (inr is) = inr (ap status_of is)
+
+module _ (laws : Laws) where
+  decided_checks : (limit : ℕ) (text output : List ℕ) (status : Status) → Checks limit text output status → length text ≤ most_bytes →
+      IsWithinPeaks limit text → (status ≡ Good) ⊎ (status ≡ Bad)
+  decided_checks limit text _ _ (too_long more) short within = absurd (omega (arith, more, short))
+  decided_checks limit text _ _ (refused refusal most stop) short within =
+      absurd (laws.apart text within.program within.triples refusal within.read stop)
+  decided_checks limit text _ _ (judged program triples output how most read reports) short within =
+      let same = laws.one text program within.program triples within.triples read within.read in
+      let moved = subst (λ (p : TypedProgram). ReportsProgram limit p triples output how) same.0 reports in
+      let whole = subst (λ (ts : List Triple). ReportsProgram limit within.program ts output how) same.1 moved in
+      good_or_bad how (laws.verdicts limit within.program within.triples output how within.within whole)
+
+  decided_output : (settings : Settings) → settings.mode ≡ Check → (text output : List ℕ) (status : Status) → Output settings text output status →
+      length text ≤ most_bytes → IsWithinPeaks settings.limit text → (status ≡ Good) ⊎ (status ≡ Bad)
+  decided_output settings asks text output status (check is written answer checks) short within =
+      decided_checks settings.limit text output status checks short within
+  decided_output settings asks text output status (replay is written answer replays) short within =
+      (let bad : Check ≡ Replay = sym asks ∙ is in absurd (cc))
+  decided_output settings asks text output status (format is written answer formats) short within =
+      (let bad : Check ≡ Format = sym asks ∙ is in absurd (cc))
+  decided_output settings asks text output status (ws2s is written answer decides) short within =
+      (let bad : Check ≡ Ws2s = sym asks ∙ is in absurd (cc))
+  decided_output settings asks text output status (generated is written answer gens) short within =
+      (let bad : Check ≡ Gen = sym asks ∙ is in absurd (cc))
+
+  told_decided : (limit : ℕ) (left : Option (List ℕ)) (text : List ℕ) (status : Status) → IfSome left (λ bytes. text ≡ bytes) →
+      (length text ≤ most_bytes → IsWithinPeaks limit text → (status ≡ Good) ⊎ (status ≡ Bad)) →
+      IfSome left (λ bytes. length bytes ≤ most_bytes → IsWithinPeaks limit bytes → (status ≡ Good) ⊎ (status ≡ Bad))
+  told_decided limit None text status told decided = tt
+  told_decided limit (Some bytes) text status told decided =
+      subst (λ (b : List ℕ). length b ≤ most_bytes → IsWithinPeaks limit b → (status ≡ Good) ⊎ (status ≡ Bad)) told decided
+
+  pub decided_answer : (words : List (List ℕ)) (settings : Settings) → Gives words settings → (left before after : Option (List ℕ)) (status : Status) →
+      Answers (Output settings) left before after status → (other : Settings) → Gives words other → other.mode ≡ Check →
+      IfSome left (λ bytes. length bytes ≤ most_bytes → IsWithinPeaks other.limit bytes → (status ≡ Good) ⊎ (status ≡ Bad))
+  decided_answer words settings gives left before after status answer other given asks =
+      let mode : settings.mode ≡ Check = same_mode words settings other gives given ∙ asks in
+      subst (λ (l : ℕ). IfSome left (λ bytes. length bytes ≤ most_bytes → IsWithinPeaks l bytes → (status ≡ Good) ⊎ (status ≡ Bad)))
+      (same_limit words settings other gives given)
+      (told_decided settings.limit left answer.text status answer.told
+      (decided_output settings mode answer.text answer.wrote.output status answer.wrote.allowed))

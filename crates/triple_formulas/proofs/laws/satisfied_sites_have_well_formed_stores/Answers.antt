@@ -1,5 +1,0 @@
-use Rattle.triple_formulas.proofs.SiteLemmas.{satisfied-over}
-use Rattle.triple_formulas.proofs.laws.satisfied_sites_have_well_formed_stores.Goals as goal
-
-pub returns : goal.returns
-returns c = λ types vars t a site posed finite satisfied. satisfied-over types vars t posed a finite site satisfied

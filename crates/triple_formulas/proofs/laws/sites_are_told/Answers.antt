@@ -1,5 +1,0 @@
-use Rattle.triple_formulas.proofs.SiteLemmas.{site-told}
-use Rattle.triple_formulas.proofs.laws.sites_are_told.Goals as goal
-
-pub returns : goal.returns
-returns c = λ types vars t a s site check posed over there. site-told types vars t posed a s over site check there

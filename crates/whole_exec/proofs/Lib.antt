@@ -1,0 +1,6 @@
+pub mod Codes
+pub mod PieceLemmas
+pub mod Forms
+pub mod Values
+pub mod Turnable
+pub mod Going

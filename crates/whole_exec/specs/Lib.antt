@@ -1,0 +1,4 @@
+pub mod Answers
+pub mod Starting
+pub mod Standings
+pub mod Turning

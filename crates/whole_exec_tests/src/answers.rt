@@ -1,0 +1,162 @@
+//! What comes of a run of a text.
+
+ghost use Rattle.std.specs.Prelude.{◌≡◌, ◌<◌, length, slice_get, option_map, Some, IsTrue, IfOk};
+ghost use Rattle.store_core.specs.Stores.{Fits, IsFresh};
+ghost use Rattle.pale_types.specs.Fitting.{ProgramFits};
+
+use pale_parse::parse;
+use pale_text::{TextStop, lex};
+use pale_types::{Typed, check_types};
+use routing_expr::{well_formed, well_formed_stores_are_fresh};
+use std::alloc::{AllocError, Global};
+use std::fmt::Write;
+use store_core::{CellId, Store, Value, VarTable};
+use store_exec::Cause;
+use store_text::{read_store, read_stores_fit};
+use whole_exec::{Answer, run_procedure};
+
+/// What is to come of a run.
+#[derive(Clone, Copy)]
+pub(crate) enum Want {
+    Running,
+    Fail(Cause, u32),
+    /// With this told of the store.
+    Exit(&'static str),
+}
+
+fn typed_of(alloc: Global, text: &[u8]) -> Result<Typed, TextStop>
+    requires { length text.now < u32.MAX }
+    ensures { IfOk result (λ typed. ProgramFits typed) }
+{
+    let list = lex(alloc, text)?;
+    let program = parse(alloc, &list)?;
+    check_types(alloc, &program)
+}
+
+/// Whether the store is well-formed, and so fresh.
+fn is_fresh(
+    alloc: Global,
+    program: &Typed,
+    vars: &VarTable,
+    store: &Store,
+) -> Result<bool, AllocError>
+    requires { Fits program.now.types vars.now store.now }
+    ensures { IfOk result (λ fresh. IsTrue fresh → IsFresh store.now) }
+{
+    well_formed_stores_are_fresh();
+    match well_formed(alloc, program.types(), vars, store)? {
+        Some(_) => Ok(false),
+        None => Ok(true),
+    }
+}
+
+/// What comes of a run from a store that fits and is fresh.
+fn started(
+    alloc: Global,
+    program: &Typed,
+    number: u32,
+    vars: &VarTable,
+    store: Store,
+    steps: u32,
+) -> Result<Answer, AllocError>
+    requires program { ProgramFits program.now }
+    requires vars { option_map (λ entry. entry.vars) (slice_get program.now.procs number) ≡ Some vars.now }
+    requires fits { Fits program.now.types vars.now store }
+    requires fresh { IsFresh store }
+    requires next { store.next < 1000001 }
+    requires steps { steps < 1000001 }
+{
+    // Only for its clause on the table.
+    let _ = vars.vars();
+    run_procedure(alloc, program, number, store, steps)
+}
+
+/// What comes of a run; `None` where a text is refused or the store isn't well-formed.
+fn answer_of(
+    alloc: Global,
+    text: &[u8],
+    number: u32,
+    store: &[u8],
+    steps: u32,
+) -> Result<Option<Answer>, AllocError>
+    requires text { length text.now < u32.MAX }
+    requires store { length store.now < u32.MAX }
+{
+    read_stores_fit();
+    let Ok(program) = typed_of(alloc, text) else {
+        return Ok(None);
+    };
+    let Some(vars) = program.vars(number) else {
+        return Ok(None);
+    };
+    let Ok(read) = read_store(alloc, program.types(), vars, store) else {
+        return Ok(None);
+    };
+    let fresh = is_fresh(alloc, &program, vars, &read)?;
+    if !fresh || read.next() > 1_000_000 || steps > 1_000_000 {
+        return Ok(None);
+    }
+    Ok(Some(started(alloc, &program, number, vars, read, steps)?))
+}
+
+fn push_cells(out: &mut String, cells: &[CellId]) -> Result<(), AllocError> {
+    out.push_str(" {")?;
+    for cell in cells {
+        write!(out, " {}", cell.0)?;
+    }
+    out.push_str(" }")
+}
+
+fn push_value(out: &mut String, value: &Value) -> Result<(), AllocError> {
+    match value {
+        Value::Bool(true) => out.push_str(" true"),
+        Value::Bool(false) => out.push_str(" false"),
+        Value::Cell(None) => out.push_str(" null"),
+        Value::Cell(Some(cell)) => write!(out, " {}", cell.0),
+        Value::Cells(cells) => push_cells(out, cells.as_slice()),
+    }
+}
+
+/// The next number, the values of the variables in order, and the numbers of the cells.
+fn told_of(alloc: Global, store: &Store) -> Result<String, AllocError> {
+    let mut out = format!(in alloc; "next {}:", store.next())?;
+    for value in store.values() {
+        push_value(&mut out, value)?;
+    }
+    out.push_str(";")?;
+    for place in 0..store.cells() {
+        if let Some(cell) = store.cell_at(place) {
+            write!(out, " {}", cell.0)?;
+        }
+    }
+    Ok(out)
+}
+
+fn is_wanted(alloc: Global, answer: Answer, want: Want) -> Result<bool, AllocError> {
+    match (answer, want) {
+        (Answer::Running, Want::Running) => Ok(true),
+        (Answer::Fail(cause, line), Want::Fail(other, there)) => {
+            Ok(cause == other && line == there)
+        }
+        (Answer::Exit(store), Want::Exit(told)) => Ok(told_of(alloc, &store)?.as_str() == told),
+        _ => Ok(false),
+    }
+}
+
+/// Whether this comes of a run of the procedure with this number from the store, for so many steps at most.
+pub(crate) fn comes(
+    alloc: Global,
+    text: &[u8],
+    number: u32,
+    store: &[u8],
+    steps: u32,
+    want: Want,
+) -> Result<bool, AllocError> {
+    if text.len() >= 100_000 || store.len() >= 100_000 {
+        return Ok(false);
+    }
+    match answer_of(alloc, text, number, store, steps)? {
+        Some(answer) => is_wanted(alloc, answer, want),
+        None => Ok(false),
+    }
+}

@@ -1,0 +1,4 @@
+pub mod RestrictingLemmas
+pub mod CellLemmas
+pub mod Merging
+pub mod ReturnLemmas
