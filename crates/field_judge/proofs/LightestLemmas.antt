@@ -30,13 +30,13 @@ use Rattle.routing_laws.specs.Refuting.{Refutes}
 use Rattle.tree_encode.specs.Tracks.{track_count}
 use Rattle.tree_store.proofs.WeighingLemmas.{weight-cells}
 use Rattle.tree_formula.specs.WellEncoded.{well_encoded}
-use Rattle.tree_shapes.specs.Shapes.{LaysOut}
-use Rattle.tree_meaning.proofs.FormulaLemmas.{well_encoded-means}
-use Rattle.tree_meaning.proofs.TablesLemmas.{owners-there}
-use Rattle.tree_backbone.specs.Decoded.{Standing, field_in, decoded}
-use Rattle.tree_backbone.specs.Stores.{IsStoreOf}
-use Rattle.tree_backbone.proofs.StoreLemmas.{IsStoreOf-decoded}
-use Rattle.tree_backbone.proofs.ValuesLemmas.{here_value}
+use Rattle.tree_store.specs.Shapes.{LaysOut}
+use Rattle.tree_store.proofs.FormulaLemmas.{well_encoded-means}
+use Rattle.tree_store.proofs.TablesLemmas.{owners-there}
+use Rattle.tree_store.specs.Decoded.{Standing, field_in, decoded}
+use Rattle.tree_store.specs.Stores.{IsStoreOf}
+use Rattle.tree_store.proofs.StoreLemmas.{IsStoreOf-decoded}
+use Rattle.tree_store.proofs.ValuesLemmas.{here_value}
 use Rattle.graph_view.specs.Sights.{var_slots, at_first}
 use Rattle.graph_view.specs.Cuts.{field_forks, field_formula}
 use Rattle.graph_meaning.specs.Fields.Forking.{Forks, HasFork}

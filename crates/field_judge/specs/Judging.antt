@@ -18,7 +18,7 @@ use Rattle.routing_expr.specs.WellFormed.{IsBackbone, IsFunctional, IsFirstCell}
 use Rattle.store_pointers.specs.Pointers.{IsPointerField}
 use Rattle.tree_encode.specs.Spaces.{guide_of}
 use Rattle.tree_store.specs.Weighing.{AreVariantTracks}
-use Rattle.tree_backbone.specs.Stores.{AreNumberedFromOne}
+use Rattle.tree_store.specs.Stores.{AreNumberedFromOne}
 use Rattle.graph_view.specs.Cuts.{field_formula}
 use Rattle.graph_meaning.specs.Fields.Forking.{Forks, HasFork}
 use Rattle.field_judge.specs.declared.judging.FieldJudged.{FieldJudged}

@@ -28,14 +28,14 @@ use Rattle.routing_laws.proofs.DecidedStores.{dests}
 use Rattle.tree_encode.specs.Tracks.{track_count, variants_from}
 use Rattle.tree_store.proofs.WeighingLemmas.{weight-cells}
 use Rattle.tree_formula.specs.WellEncoded.{well_encoded}
-use Rattle.tree_shapes.specs.Shapes.{LaysOut}
-use Rattle.tree_meaning.proofs.FormulaLemmas.{well_encoded-means}
-use Rattle.tree_meaning.proofs.TablesLemmas.{owners-there}
-use Rattle.tree_backbone.specs.Decoded.{Standing, AreCells, field_in, cells_below, decoded}
-use Rattle.tree_backbone.specs.Stores.{IsStoreOf}
-use Rattle.tree_backbone.proofs.StoreLemmas.{IsStoreOf-decoded}
-use Rattle.tree_backbone.proofs.ValuesLemmas.{here_value}
-use Rattle.tree_backbone.proofs.ExistenceLemmas.{AreCells-below, bound, cell_short}
+use Rattle.tree_store.specs.Shapes.{LaysOut}
+use Rattle.tree_store.proofs.FormulaLemmas.{well_encoded-means}
+use Rattle.tree_store.proofs.TablesLemmas.{owners-there}
+use Rattle.tree_store.specs.Decoded.{Standing, AreCells, field_in, cells_below, decoded}
+use Rattle.tree_store.specs.Stores.{IsStoreOf}
+use Rattle.tree_store.proofs.StoreLemmas.{IsStoreOf-decoded}
+use Rattle.tree_store.proofs.ValuesLemmas.{here_value}
+use Rattle.tree_store.proofs.ExistenceLemmas.{AreCells-below, bound, cell_short}
 use Rattle.graph_view.specs.Sights.{var_slots, at_first}
 use Rattle.graph_view.specs.Cuts.{field_forks}
 use Rattle.graph_meaning.specs.Fields.Forking.{Forks, HasFork}

@@ -19,7 +19,7 @@ use Rattle.pale_program.specs.ProgramTexts.{IsReadAs}
 use Rattle.triple_judge.specs.Judging.{IsValid}
 use Rattle.whole_run.specs.States.{Fail}
 use Rattle.whole_run.specs.Runs.{WholeRun}
-use Rattle.whole_safety.specs.Safety.{NoTripleFails, MeetsEntry}
+use Rattle.whole_run.specs.Safety.{NoTripleFails, MeetsEntry}
 use Rattle.program_judge.specs.Safety.{RunsNeverFail}
 
 abbrev pub AreValid : TypedProgram → List Triple → Type 0

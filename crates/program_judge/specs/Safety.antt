@@ -7,7 +7,7 @@ use Rattle.pale_types.specs.TypedPrograms.{TypedProgram}
 use Rattle.pale_program.specs.ProgramTexts.{IsReadAs}
 use Rattle.whole_run.specs.States.{Fail}
 use Rattle.whole_run.specs.Runs.{WholeRun}
-use Rattle.whole_safety.specs.Safety.{MeetsEntry}
+use Rattle.whole_run.specs.Safety.{MeetsEntry}
 
 -- no procedure's run fails from a store that meets its entry triple, however many steps it has
 abbrev pub RunsNeverFail : TypedProgram → Type 0

@@ -16,7 +16,7 @@ use field_judge::laws::ambiguous_fields_are_not_functional;
 use pale_parse::one_program;
 use pale_text::{stray_byte_is_one, tokens_are_one};
 use triple_judge::laws::triples_have_one_peak;
-use whole_places::programs_of_texts_never_fail;
+use whole_run::programs_of_texts_never_fail;
 use ws2s_theory::peaks_exist;
 
 /// A text is read as one program with its triples, or refused at one place: not both, and not as two programs.

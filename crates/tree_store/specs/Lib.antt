@@ -3,3 +3,9 @@ pub mod Growing
 pub mod Rows
 pub mod Spots
 pub mod Weighing
+pub mod Shapes
+pub mod Premises
+pub mod Worked
+pub mod Preorder
+pub mod Decoded
+pub mod Stores

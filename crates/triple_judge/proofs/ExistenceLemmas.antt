@@ -20,7 +20,7 @@ use Rattle.routing_expr.proofs.GatheringLemmas.{Contains-none, Contains-here, Co
 use Rattle.tree_encode.specs.Tracks.{track_at, variants_from}
 use Rattle.tree_store.specs.Weighing.{AreVariantTracks}
 use Rattle.tree_store.proofs.WeighingLemmas.{weight-cells}
-use Rattle.tree_backbone.proofs.ExistenceLemmas.{variant-listed, store_of_finite}
+use Rattle.tree_store.proofs.ExistenceLemmas.{variant-listed, store_of_finite}
 use Rattle.witness_store.specs.Alike.{AreFunctional}
 use Rattle.witness_store.proofs.ListsLemmas.{present}
 use Rattle.witness_store.proofs.VariantsLemmas.{listed-track}

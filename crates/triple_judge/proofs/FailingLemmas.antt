@@ -23,13 +23,13 @@ use Rattle.store_exec.specs.Failing.{Meets, Fails}
 use Rattle.store_pointers.specs.Pointers.{ArePointersSet}
 use Rattle.routing_expr.specs.WellFormed.{IsWellFormed}
 use Rattle.tree_encode.specs.Tracks.{track_count, var_track}
-use Rattle.tree_shapes.specs.Shapes.{LaysOut}
+use Rattle.tree_store.specs.Shapes.{LaysOut}
 use Rattle.tree_store.specs.Encoding.{IsAssignmentOf}
 use Rattle.tree_store.proofs.WeighingLemmas.{weight-cells}
 use Rattle.tree_formula.specs.WellEncoded.{track_or_first, well_encoded}
-use Rattle.tree_meaning.proofs.FormulaLemmas.{well_encoded-means}
-use Rattle.tree_meaning.proofs.TablesLemmas.{owners-there}
-use Rattle.tree_backbone.specs.Stores.{IsStoreOf}
+use Rattle.tree_store.proofs.FormulaLemmas.{well_encoded-means}
+use Rattle.tree_store.proofs.TablesLemmas.{owners-there}
+use Rattle.tree_store.specs.Stores.{IsStoreOf}
 use Rattle.graph_meaning.proofs.fields.AssignmentLemmas.{assignment}
 use Rattle.witness_store.specs.Alike.{AreFunctional}
 use Rattle.witness_store.proofs.FunctionalLemmas.{IsWellFormed-set}

@@ -33,8 +33,8 @@ use Rattle.pale_calls.specs.declared.class.VarClass.{VarClass}
 use Rattle.pale_types.specs.declared.typed.ProcEntry.{ProcEntry}
 use Rattle.pale_types.specs.TypedPrograms.{TypedProgram}
 use Rattle.whole_exec.specs.Turning.{IsReady, CanRead, CanSet}
-use Rattle.whole_answers.proofs.Settings.{settings_none}
-use Rattle.whole_answers.proofs.Steps.{one_new}
+use Rattle.whole_run.proofs.AnswerSettings.{settings_none}
+use Rattle.whole_run.proofs.AnswerSteps.{one_new}
 
 -- ---- codes that fit
 

@@ -21,7 +21,7 @@ use Rattle.pale_types.specs.Fitting.{StatementFits}
 use Rattle.hoare_split.specs.Cuts.{plain_cut}
 use Rattle.whole_run.specs.States.{Waiting, State, Turn, goes, fails}
 use Rattle.whole_run.specs.Turns.{from_truth, on_with, Arrives, TakesForm, Takes, Exits}
-use Rattle.whole_safety.proofs.Blocks.{form_fits}
+use Rattle.whole_run.proofs.Blocks.{form_fits}
 use Rattle.whole_exec.specs.declared.activation.Activation.{Activation}
 use Rattle.whole_exec.specs.declared.activation.At.{At}
 use Rattle.whole_exec.specs.declared.pieces.Next.{Next}

@@ -13,10 +13,10 @@ use Rattle.whole_exec.specs.declared.activation.Activation.{Activation}
 use Rattle.whole_exec.specs.Starting.{CanStart}
 use Rattle.whole_exec.specs.Standings.{entry_of, frame_of}
 use Rattle.whole_exec.specs.Turning.{IsEntered, LeadsTo}
-use Rattle.whole_answers.proofs.Laws.{Laws}
-use Rattle.whole_answers.proofs.Standing.{Holds, next_of, OnTurn}
-use Rattle.whole_answers.proofs.Steps.{takes_on}
-use Rattle.whole_answers.proofs.Returning.{returns_on}
+use Rattle.whole_run.proofs.AnswerLaws.{Laws}
+use Rattle.whole_run.proofs.AnswerStanding.{Holds, next_of, OnTurn}
+use Rattle.whole_run.proofs.AnswerSteps.{takes_on}
+use Rattle.whole_run.proofs.AnswerReturning.{returns_on}
 
 some_same : {X : Type 0} (x y : X) → Some x ≡ Some y → x ≡ y
 some_same x y e = cc

@@ -10,8 +10,8 @@ use Rattle.pale_types.specs.declared.typed.ProcEntry.{ProcEntry}
 use Rattle.pale_types.specs.TypedPrograms.{TypedProgram}
 use Rattle.hoare_split.specs.Cuts.{call_cut}
 use Rattle.whole_run.specs.States.{Waiting, State, runs, exited}
-use Rattle.whole_frames.proofs.Beside.{rest_live}
-use Rattle.whole_answers.proofs.Standing.{IsCalled, IsDone, Holds, next_of}
+use Rattle.whole_run.proofs.Beside.{rest_live}
+use Rattle.whole_run.proofs.AnswerStanding.{IsCalled, IsDone, Holds, next_of}
 use Rattle.whole_exec.specs.Turning.{CanReturn, CanTurn}
 
 module _ (program : TypedProgram) where

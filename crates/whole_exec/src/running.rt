@@ -16,7 +16,7 @@ use pale_types::{Typed, claims_with_actuals_put_in_fit};
 use plain_data::Stack;
 use std::alloc::{AllocError, Global};
 use store_core::Store;
-use whole_frames::{handed_stores_meet_the_entry, returned_stores_are_well_formed};
+use whole_run::{handed_stores_meet_the_entry, returned_stores_are_well_formed};
 
 /// The answer of a run that has no step left.
 fn answer_at(at: At<'_>, waiting: Stack<Suspended<'_>>) -> Answer

@@ -2,3 +2,8 @@ pub mod States
 pub mod Handing
 pub mod Turns
 pub mod Runs
+pub mod Leaving
+pub mod FlowRuns
+pub mod Segments
+pub mod Places
+pub mod Safety

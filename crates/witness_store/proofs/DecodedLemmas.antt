@@ -8,7 +8,7 @@ use Rattle.store_core.specs.declared.store.CellBody.{CellBody}
 use Rattle.store_core.specs.declared.value.Value.{Value}
 use Rattle.store_core.specs.StoreBodies.{cells_of, store_of}
 use Rattle.store_core.specs.Tables.{TypeEntry, VarEntry}
-use Rattle.tree_backbone.specs.Decoded.{Standing, entries_in, vars_in}
+use Rattle.tree_store.specs.Decoded.{Standing, entries_in, vars_in}
 use Rattle.witness_store.specs.declared.cells.Found.{Found}
 use Rattle.witness_store.specs.Finding.{AreFoundAs, AreFound, AreNumbers}
 use Rattle.witness_store.specs.Reading.{AreRead}

@@ -22,8 +22,8 @@ use Rattle.tree_encode.specs.declared.counting.Counted.TheVariants.{Children}
 use Rattle.tree_encode.specs.Counting.{is_counted, rank}
 use Rattle.tree_encode.specs.Tracks.{bool_track, child_number}
 use Rattle.tree_encode.proofs.IndexLemmas.{count-more}
-use Rattle.tree_backbone.specs.Decoded.{Standing, child_at, field_in, slot_in, slots_in, first_where}
-use Rattle.tree_backbone.proofs.ValuesLemmas.{own_field}
+use Rattle.tree_store.specs.Decoded.{Standing, child_at, field_in, slot_in, slots_in, first_where}
+use Rattle.tree_store.proofs.ValuesLemmas.{own_field}
 use Rattle.witness_store.specs.declared.cells.Found.{Found}
 use Rattle.witness_store.specs.Finding.{IsFoundAs}
 use Rattle.witness_store.specs.Reading.{left_of_node, right_of_node, has_track, number_in, IsNodeAt, IsBehind, AreRead}

@@ -16,12 +16,12 @@ use Rattle.store_core.specs.Tables.{TypeEntry, VarEntry, KnowsVariant, variant_c
 use Rattle.tree_encode.specs.Tracks.{variants_from, variant_track, track_at}
 use Rattle.tree_encode.specs.Counting.{variants_in}
 use Rattle.tree_encode.proofs.TracksLemmas.{and_then-some, cond-some}
-use Rattle.tree_shapes.specs.Shapes.{IsCellOf, LaysOut}
-use Rattle.tree_meaning.proofs.MarksLemmas.{one-variant}
-use Rattle.tree_backbone.specs.Preorder.{ComesBefore}
-use Rattle.tree_backbone.specs.Decoded.{Standing, AreCells}
-use Rattle.tree_backbone.proofs.CellsLemmas.{one_place}
-use Rattle.tree_backbone.proofs.ExistenceLemmas.{variant-listed}
+use Rattle.tree_store.specs.Shapes.{IsCellOf, LaysOut}
+use Rattle.tree_store.proofs.MarksLemmas.{one-variant}
+use Rattle.tree_store.specs.Preorder.{ComesBefore}
+use Rattle.tree_store.specs.Decoded.{Standing, AreCells}
+use Rattle.tree_store.proofs.CellsLemmas.{one_place}
+use Rattle.tree_store.proofs.ExistenceLemmas.{variant-listed}
 use Rattle.witness_store.specs.declared.cells.Found.{Found}
 use Rattle.witness_store.specs.Orders.{preorder_of}
 use Rattle.witness_store.specs.Finding.{variant_on, variant_in, found_among, IsFoundAs, AreFoundAs, AreFound, FindsCells, AreInside}

@@ -12,7 +12,7 @@ use Rattle.routing_expr.specs.Destinations.{Dest, IsOnlyDestination}
 use Rattle.routing_expr.specs.WellFormed.{IsBackbone, IsWellFormed}
 use Rattle.store_pointers.specs.Pointers.{IsPointerField, IsDestinationIfOne, ArePointersSet}
 use Rattle.store_pointers.proofs.ExistenceLemmas.{set_store}
-use Rattle.tree_backbone.specs.Stores.{IsStoreOf}
+use Rattle.tree_store.specs.Stores.{IsStoreOf}
 use Rattle.witness_store.specs.Alike.{AreFunctional, IsOfWellFormed}
 use Rattle.witness_store.proofs.PointersLemmas.{IsStoreOf-alike}
 

@@ -7,7 +7,7 @@ use Rattle.store_core.specs.Stores.{CellEntry}
 use Rattle.store_core.specs.Tables.{TypeEntry, VarEntry}
 use Rattle.tree_encode.specs.Tracks.{var_track}
 use Rattle.witness_store.proofs.ListsLemmas.{take-next, length-front}
-use Rattle.tree_backbone.specs.Decoded.{Standing, numbered, first_where, all_where, cell_in, entries_in, var_in, vars_in}
+use Rattle.tree_store.specs.Decoded.{Standing, numbered, first_where, all_where, cell_in, entries_in, var_in, vars_in}
 
 pub entries-more : (types : List TypeEntry) (a : Assignment) (cells : List Standing) (n : ℕ) (from : List Standing) (x : Standing) →
     entries_in types a cells n (from ++ x ∷ []) ≡ entries_in types a cells n from ++ (n + length from, cell_in types a cells x) ∷ []

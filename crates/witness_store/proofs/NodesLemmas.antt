@@ -8,7 +8,7 @@ use Rattle.ws2s_core.specs.declared.label_tree.TreeNode.{TreeNode}
 use Rattle.ws2s_core.specs.LabelTrees.{IsTree}
 use Rattle.ws2s_theory.specs.Trees.{StandsAt, at_root, at_left, at_right}
 use Rattle.tree_encode.proofs.TracksLemmas.{in_first, in_second}
-use Rattle.tree_backbone.specs.Preorder.{ComesBefore}
+use Rattle.tree_store.specs.Preorder.{ComesBefore}
 use Rattle.witness_store.specs.Orders.{places_below, preorder_of}
 use Rattle.witness_store.proofs.ListsLemmas.{appended}
 

@@ -10,8 +10,8 @@ use Rattle.ws2s_core.proofs.ExamplesLemmas.{same_position-true, same_position-re
 use Rattle.ws2s_theory.specs.Trees.{StandsAt}
 use Rattle.store_core.specs.declared.ids.CellId.{CellId}
 use Rattle.store_core.specs.Tables.{TypeEntry}
-use Rattle.tree_backbone.specs.Decoded.{Standing, numbered, first_where}
-use Rattle.tree_backbone.proofs.CellsLemmas.{one_place}
+use Rattle.tree_store.specs.Decoded.{Standing, numbered, first_where}
+use Rattle.tree_store.proofs.CellsLemmas.{one_place}
 use Rattle.witness_store.specs.declared.cells.Found.{Found}
 use Rattle.witness_store.specs.Finding.{IsFoundAs, AreFoundAs, AreFound, number_of, AreNumbers}
 use Rattle.witness_store.specs.Reading.{AreRead}

@@ -35,10 +35,10 @@ use Rattle.tree_encode.specs.Tracks.{of_var, track_at}
 use Rattle.tree_encode.proofs.ApartLemmas.{one-position}
 use Rattle.tree_store.specs.Encoding.{NamesCell, IsTreeOf}
 use Rattle.tree_store.proofs.SpotsLemmas.{of-some}
-use Rattle.tree_meaning.proofs.StoresLemmas.{placed-live}
-use Rattle.tree_meaning.proofs.TablesLemmas.{number_of_var, var-there}
-use Rattle.tree_meaning.proofs.WordsLemmas.{EndsInZero}
-use Rattle.tree_backbone.specs.Stores.{IsStoreOf}
+use Rattle.tree_store.proofs.StoresLemmas.{placed-live}
+use Rattle.tree_store.proofs.TablesLemmas.{number_of_var, var-there}
+use Rattle.tree_store.proofs.WordsLemmas.{EndsInZero}
+use Rattle.tree_store.specs.Stores.{IsStoreOf}
 use Rattle.witness_store.specs.Alike.{StandAlike}
 use Rattle.witness_store.proofs.SamePlaceLemmas.{IsLaid, placed-ends, turned, same-one, goes, variant-same, value-there, leads-goes, truth-goes, bool_kind, bool_value}
 

@@ -12,7 +12,7 @@ use Rattle.ws2s_theory.proofs.TreesLemmas.{left-at, right-at, below-position}
 use Rattle.store_core.specs.declared.ids.CellId.{CellId}
 use Rattle.store_core.specs.Tables.{TypeEntry}
 use Rattle.tree_encode.specs.Tracks.{variant_track}
-use Rattle.tree_backbone.specs.Decoded.{Standing, first_where, is_on}
+use Rattle.tree_store.specs.Decoded.{Standing, first_where, is_on}
 use Rattle.witness_store.specs.Reading.{left_of_node, right_of_node, has_track, number_in, IsNodeAt, AreRead}
 use Rattle.witness_store.proofs.ListsLemmas.{present}
 use Rattle.witness_store.proofs.NumbersLemmas.{same_position-false, none-where}

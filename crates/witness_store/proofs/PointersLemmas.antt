@@ -15,8 +15,8 @@ use Rattle.tree_encode.specs.Positions.{IsPlaced}
 use Rattle.tree_store.specs.Encoding.{NamesCell, CellIsOn, RootIsOn, IsOn}
 use Rattle.store_pointers.specs.Pointers.{DoCellsFit, IsSameButPointers}
 use Rattle.store_pointers.proofs.AlikeLemmas.{alike_turned, by_variant, live_alike, var_alike, truth_alike, stands_alike, AreAlike-same}
-use Rattle.tree_meaning.specs.Premises.{SetsHoldLive}
-use Rattle.tree_backbone.specs.Stores.{IsStoreOf}
+use Rattle.tree_store.specs.Premises.{SetsHoldLive}
+use Rattle.tree_store.specs.Stores.{IsStoreOf}
 
 module _ (types : List TypeEntry) (vars : List VarEntry) (s t : StoreMap) (fits : DoCellsFit types s) (k : IsSameButPointers types s t) where
   pub placed_alike : (c : CellId) (p : Position) → IsPlaced types vars s c p → IsPlaced types vars t c p

@@ -26,13 +26,13 @@ use Rattle.tree_encode.specs.Positions.{below, IsPlaced}
 use Rattle.tree_encode.proofs.ApartLemmas.{placed-apart, one-position}
 use Rattle.tree_encode.proofs.PositionsLemmas.{data_field, numbered, own_type}
 use Rattle.tree_store.specs.Encoding.{IsAssignmentOf}
-use Rattle.tree_shapes.specs.Shapes.{LaysOut}
-use Rattle.tree_meaning.specs.Premises.{SetsHoldLive}
-use Rattle.tree_meaning.proofs.HoldersLemmas.{backbone-lays}
-use Rattle.tree_meaning.proofs.MarksLemmas.{one-variant}
-use Rattle.tree_meaning.proofs.StoresLemmas.{HasLastStep, last-step, below-last, below-ends, placed-live, cell-marked, marked-cell}
-use Rattle.tree_meaning.proofs.WordsLemmas.{EndsInZero, slot-ends, slot-not_child, children-apart}
-use Rattle.tree_backbone.proofs.StandingLemmas.{field_one}
+use Rattle.tree_store.specs.Shapes.{LaysOut}
+use Rattle.tree_store.specs.Premises.{SetsHoldLive}
+use Rattle.tree_store.proofs.HoldersLemmas.{backbone-lays}
+use Rattle.tree_store.proofs.MarksLemmas.{one-variant}
+use Rattle.tree_store.proofs.StoresLemmas.{HasLastStep, last-step, below-last, below-ends, placed-live, cell-marked, marked-cell}
+use Rattle.tree_store.proofs.WordsLemmas.{EndsInZero, slot-ends, slot-not_child, children-apart}
+use Rattle.tree_store.proofs.DecodedLemmas.{field_one}
 use Rattle.witness_store.specs.Alike.{StandAlike}
 
 -- ---- paths

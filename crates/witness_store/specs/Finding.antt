@@ -8,7 +8,7 @@ use Rattle.ws2s_core.specs.declared.track.Track.{Track}
 use Rattle.store_core.specs.declared.ids.CellId.{CellId}
 use Rattle.store_core.specs.declared.ids.VariantId.{VariantId}
 use Rattle.store_core.specs.Tables.{TypeEntry}
-use Rattle.tree_backbone.specs.Decoded.{Standing, AreCells, numbered}
+use Rattle.tree_store.specs.Decoded.{Standing, AreCells, numbered}
 use Rattle.witness_store.specs.declared.cells.Found.{Found}
 
 -- the variant of the first of the tracks that is a variant's, the variants being listed by their tracks

@@ -12,7 +12,7 @@ use Rattle.store_core.specs.Tables.{TypeEntry}
 use Rattle.ws2s_forms.specs.Places.{ones}
 use Rattle.tree_encode.specs.declared.counting.Counted.TheVariants.{Children}
 use Rattle.tree_encode.specs.Counting.{rank}
-use Rattle.tree_backbone.specs.Decoded.{Standing, AreCells, first_where}
+use Rattle.tree_store.specs.Decoded.{Standing, AreCells, first_where}
 
 -- the children of the node at a place
 abbrev pub left_of_node : List TreeNode → Option ℕ → Option ℕ

@@ -4,7 +4,7 @@ use Rattle.gta_theory.specs.Assignments.{Assignment}
 use Rattle.store_core.specs.Tables.{TypeEntry, VarEntry}
 use Rattle.store_core.specs.Stores.{StoreMap}
 use Rattle.store_pointers.specs.Pointers.{IsSameButPointers}
-use Rattle.tree_backbone.specs.Decoded.{Standing, AreCells, decoded}
+use Rattle.tree_store.specs.Decoded.{Standing, AreCells, decoded}
 
 -- the store is the one that is read off the tracks, with null in every pointer field
 pub record IsReadOff (types : List TypeEntry) (vars : List VarEntry) (a : Assignment) (s : StoreMap) : Type 0 where

@@ -4,7 +4,7 @@ ghost use Rattle.std.specs.Prelude.{◌≡◌, ◌++◌, [], length, IfOk, OnOk}
 ghost use Rattle.ws2s_core.specs.LabelTrees.{assignment_of};
 ghost use Rattle.store_core.specs.Tables.{variant_count};
 ghost use Rattle.tree_encode.specs.Tracks.{variants_at, variants_from};
-ghost use Rattle.tree_shapes.specs.Shapes.{LaysOut};
+ghost use Rattle.tree_store.specs.Shapes.{LaysOut};
 ghost use Rattle.witness_store.specs.Finding.{variant_on, variant_in, FindsCells, AreInside, AreNumbers};
 
 use crate::preorder::{node_at, preorder};

@@ -2,8 +2,8 @@
 
 ghost use Rattle.std.specs.Prelude.{◌≡◌, IfOk};
 ghost use Rattle.ws2s_core.specs.LabelTrees.{assignment_of};
-ghost use Rattle.tree_shapes.specs.Shapes.{LaysOut};
-ghost use Rattle.tree_backbone.specs.Stores.{IsStoreOf};
+ghost use Rattle.tree_store.specs.Shapes.{LaysOut};
+ghost use Rattle.tree_store.specs.Stores.{IsStoreOf};
 ghost use Rattle.store_pointers.specs.Pointers.{ArePointersSet};
 ghost use Rattle.witness_store.specs.Results.{IsReadOff, IsReadOffButPointers};
 

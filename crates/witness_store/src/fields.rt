@@ -9,7 +9,7 @@ ghost use Rattle.store_core.specs.StoreBodies.{AreLive, IsKept, cell_entry};
 ghost use Rattle.store_core.specs.StoreBodies as kept;
 ghost use Rattle.tree_encode.specs.declared.counting.Counted.TheVariants.{Children};
 ghost use Rattle.tree_encode.specs.Counting.{counts, is_counted};
-ghost use Rattle.tree_backbone.specs.Decoded.{Standing, slot_in, slots_in, cell_in, entries_in};
+ghost use Rattle.tree_store.specs.Decoded.{Standing, slot_in, slots_in, cell_in, entries_in};
 ghost use Rattle.witness_store.specs.Finding.{IsFoundAs, AreFoundAs};
 ghost use Rattle.witness_store.specs.Reading.{IsBehind, AreRead};
 

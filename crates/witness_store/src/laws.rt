@@ -12,8 +12,8 @@ ghost use Rattle.routing_laws.specs.Pairing.{ArePaired};
 ghost use Rattle.tree_encode.specs.Tracks.{track_count};
 ghost use Rattle.tree_store.specs.Encoding.{IsTreeOf};
 ghost use Rattle.tree_formula.specs.WellEncoded.{well_encoded};
-ghost use Rattle.tree_meaning.specs.Premises.{OwnersAreThere};
-ghost use Rattle.tree_backbone.specs.Stores.{IsStoreOf};
+ghost use Rattle.tree_store.specs.Premises.{OwnersAreThere};
+ghost use Rattle.tree_store.specs.Stores.{IsStoreOf};
 ghost use Rattle.store_pointers.specs.Pointers.{ArePointersSet};
 ghost use Rattle.witness_store.specs.Alike.{AreSameBelow, AreFunctional, IsOfWellFormed, StandAlike};
 

@@ -3,8 +3,8 @@
 ghost use Rattle.std.specs.Prelude.{◌≡◌, ◌<◌, length, List, IfOk};
 ghost use Rattle.ws2s_core.specs.LabelTrees.{IsTree, assignment_of};
 ghost use Rattle.tree_encode.specs.Tracks as tracks;
-ghost use Rattle.tree_backbone.specs.Decoded as decoded;
-ghost use Rattle.tree_backbone.specs.Decoded.{Standing, all_where, var_in, vars_in};
+ghost use Rattle.tree_store.specs.Decoded as decoded;
+ghost use Rattle.tree_store.specs.Decoded.{Standing, all_where, var_in, vars_in};
 ghost use Rattle.witness_store.specs.Finding.{AreFoundAs};
 
 use crate::cells::Found;

@@ -47,7 +47,7 @@ use Rattle.graph_meaning.proofs.live.AgreeingLemmas.{Agrees-bound, IsOnly-bound,
 use Rattle.graph_meaning.proofs.live.SeenLemmas.{seen-is_dead}
 use Rattle.graph_meaning.proofs.live.TellLemmas.{stands-somewhere}
 use Rattle.routing_laws.proofs.DecidedLemmas.{in_none}
-use Rattle.tree_meaning.proofs.ListsLemmas.{Contains-one}
+use Rattle.tree_store.proofs.ListsLemmas.{Contains-one}
 use Rattle.graph_meaning.proofs.live.ReadLemmas.{is-none}
 use Rattle.graph_meaning.specs.Walks.Wells.{ShowsWell}
 use Rattle.graph_meaning.proofs.walks.GroundLemmas.{reference-test}

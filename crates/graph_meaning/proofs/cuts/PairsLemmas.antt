@@ -11,7 +11,7 @@ use Rattle.store_core.specs.Tables.{VarEntry}
 use Rattle.routing_expr.specs.WellFormed.{IsDataVar}
 use Rattle.routing_laws.proofs.DecidedLemmas.{in_none, in_at, at_in}
 use Rattle.tree_encode.proofs.TracksLemmas.{in_first, in_second}
-use Rattle.tree_meaning.proofs.ListsLemmas.{Contains-one}
+use Rattle.tree_store.proofs.ListsLemmas.{Contains-one}
 use Rattle.tree_formula.specs.WellEncoded.{named}
 use Rattle.graph_view.specs.declared.view.Sym.{Sym}
 use Rattle.graph_view.specs.Cuts.{data_value, values_by, pairs}

@@ -31,8 +31,8 @@ use Rattle.tree_encode.specs.Layouts.{LaidOut}
 use Rattle.tree_encode.proofs.PositionsLemmas.{own_type}
 use Rattle.tree_store.proofs.SpotsLemmas.{of-some}
 use Rattle.tree_formula.specs.WellEncoded.{type_id, field_in, types_in, fields_in}
-use Rattle.tree_meaning.proofs.ListsLemmas.{Contains-named, flat_map-inside, named-inside}
-use Rattle.tree_meaning.proofs.TablesLemmas.{field-known}
+use Rattle.tree_store.proofs.ListsLemmas.{Contains-named, flat_map-inside, named-inside}
+use Rattle.tree_store.proofs.TablesLemmas.{field-known}
 use Rattle.graph_view.specs.declared.view.Sym.{Sym}
 use Rattle.graph_view.specs.declared.view.View.{View}
 use Rattle.graph_view.specs.Syms.{is_in}

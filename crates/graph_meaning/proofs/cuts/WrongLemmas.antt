@@ -32,7 +32,7 @@ use Rattle.routing_laws.proofs.DecidedLemmas.{in_none}
 use Rattle.routing_laws.proofs.DecidedStores.{only_or_shown}
 use Rattle.tree_encode.specs.Layouts.{LaidOut}
 use Rattle.tree_store.proofs.SpotsLemmas.{of-some}
-use Rattle.tree_meaning.proofs.ListsLemmas.{flat_map-inside, Contains-one, listed-inside, Contains-listed}
+use Rattle.tree_store.proofs.ListsLemmas.{flat_map-inside, Contains-one, listed-inside, Contains-listed}
 use Rattle.graph_view.specs.declared.view.View.{View}
 use Rattle.graph_view.specs.Sights.{Sight, sight_of}
 use Rattle.graph_view.specs.Live.{has, lives_in}

@@ -33,7 +33,7 @@ use Rattle.routing_laws.proofs.RegionLemmas.{store_on-IsOn, live_on, on_live, pa
 use Rattle.routing_laws.proofs.RegionLemmas.{value_on as field_on}
 use Rattle.routing_laws.proofs.HangingLemmas.{no_parent, backbone_hangs}
 use Rattle.routing_laws.proofs.FitsOn.{cells_fit_on, above_on}
-use Rattle.tree_meaning.proofs.TablesLemmas.{type-known}
+use Rattle.tree_store.proofs.TablesLemmas.{type-known}
 use Rattle.tree_store.proofs.SpotsLemmas.{present}
 use Rattle.tree_store.proofs.WeighingLemmas.{weight-cells}
 use Rattle.graph_meaning.specs.Fields.Forking.{Forks, HasFork, HasLightTree}

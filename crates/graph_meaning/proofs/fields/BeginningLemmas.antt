@@ -29,9 +29,9 @@ use Rattle.tree_encode.proofs.TracksLemmas.{in_first, in_second, mapped}
 use Rattle.tree_store.specs.Encoding.{NamesCell, IsOn, IsAssignmentOf}
 use Rattle.tree_store.proofs.SpotsLemmas.{of-some, present}
 use Rattle.tree_formula.specs.WellEncoded.{named, var_id, vars_in, track_or_first}
-use Rattle.tree_meaning.specs.Premises.{OwnersAreThere, SetsHoldLive}
-use Rattle.tree_meaning.proofs.ListsLemmas.{named-inside}
-use Rattle.tree_meaning.proofs.TablesLemmas.{number_of_var, var-there, track-few, owners-there}
+use Rattle.tree_store.specs.Premises.{OwnersAreThere, SetsHoldLive}
+use Rattle.tree_store.proofs.ListsLemmas.{named-inside}
+use Rattle.tree_store.proofs.TablesLemmas.{number_of_var, var-there, track-few, owners-there}
 use Rattle.graph_view.specs.declared.view.Sym.TheVariants.{At}
 use Rattle.graph_view.specs.After.{Standing, IsAt, AreStanding, StandsForCell, StandsForCells, StandsFor, IsSeen, IsSymBelow, IsEventBelow}
 use Rattle.graph_view.specs.Fitting.{AreFree}

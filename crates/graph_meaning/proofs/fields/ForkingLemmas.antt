@@ -30,12 +30,12 @@ use Rattle.tree_encode.specs.Tracks.{track_count}
 use Rattle.tree_store.specs.Encoding.{IsAssignmentOf}
 use Rattle.tree_store.proofs.SpotsLemmas.{of-some}
 use Rattle.tree_formula.specs.WellEncoded.{well_encoded}
-use Rattle.tree_meaning.specs.Premises.{SetsHoldLive}
-use Rattle.tree_meaning.proofs.FormulaLemmas.{well_encoded-means}
-use Rattle.tree_meaning.proofs.HoldersLemmas.{backbone-lays}
-use Rattle.tree_meaning.proofs.TablesLemmas.{owners-there}
-use Rattle.tree_backbone.specs.Stores.{IsStoreOf}
-use Rattle.tree_backbone.proofs.ExistenceLemmas.{store_of_finite}
+use Rattle.tree_store.specs.Premises.{SetsHoldLive}
+use Rattle.tree_store.proofs.FormulaLemmas.{well_encoded-means}
+use Rattle.tree_store.proofs.HoldersLemmas.{backbone-lays}
+use Rattle.tree_store.proofs.TablesLemmas.{owners-there}
+use Rattle.tree_store.specs.Stores.{IsStoreOf}
+use Rattle.tree_store.proofs.ExistenceLemmas.{store_of_finite}
 use Rattle.graph_view.specs.declared.view.View.{View}
 use Rattle.graph_view.specs.Sights.{Sight, var_slots, at_first}
 use Rattle.graph_view.specs.Live.{has, lives_in}

@@ -16,7 +16,7 @@ use Rattle.routing_expr.specs.WellFormed.{IsFunctional, SetHoldsLive}
 use Rattle.routing_expr.proofs.LiveLemmas.{IsSome-and}
 use Rattle.routing_laws.specs.Refuting.{IsOneEach, Refutes}
 use Rattle.routing_laws.proofs.OneEachLemmas.{functional_from}
-use Rattle.tree_meaning.specs.Premises.{SetsHoldLive}
+use Rattle.tree_store.specs.Premises.{SetsHoldLive}
 use Rattle.graph_view.specs.Cuts.{field_formula}
 use Rattle.graph_meaning.specs.Fields.Forking.{HasFork}
 use Rattle.graph_meaning.proofs.fields.AssignmentLemmas.{assignment}

@@ -9,7 +9,7 @@ use Rattle.routing_expr.specs.WellFormed.{IsBackbone}
 use Rattle.routing_laws.proofs.DecidedWalks.{live_cells, live_in, in_live}
 use Rattle.tree_encode.specs.Positions.{IsPlaced}
 use Rattle.tree_encode.proofs.ApartLemmas.{one-position}
-use Rattle.tree_meaning.proofs.StoresLemmas.{placed-live}
+use Rattle.tree_store.proofs.StoresLemmas.{placed-live}
 use Rattle.graph_view.specs.After.{Standing, IsAt, AreStanding}
 use Rattle.graph_meaning.specs.Live.Standing.{Sits}
 use Rattle.graph_meaning.proofs.live.StandingLemmas.{Sits-first}

@@ -36,10 +36,10 @@ use Rattle.tree_encode.proofs.PositionsLemmas.{data_field, numbered, own_type}
 use Rattle.tree_store.specs.Encoding.{IsAssignmentOf}
 use Rattle.tree_store.proofs.SpotsLemmas.{of-some}
 use Rattle.tree_formula.specs.WellEncoded.{track_or_first}
-use Rattle.tree_meaning.proofs.NumbersLemmas.{fields-apart}
-use Rattle.tree_meaning.proofs.StoresLemmas.{last-step, below-last, below-ends}
-use Rattle.tree_meaning.proofs.TablesLemmas.{track-few}
-use Rattle.tree_meaning.proofs.WordsLemmas.{EndsInZero, slot-ends, slot-not_child, children-apart}
+use Rattle.tree_store.proofs.NumbersLemmas.{fields-apart}
+use Rattle.tree_store.proofs.StoresLemmas.{last-step, below-last, below-ends}
+use Rattle.tree_store.proofs.TablesLemmas.{track-few}
+use Rattle.tree_store.proofs.WordsLemmas.{EndsInZero, slot-ends, slot-not_child, children-apart}
 use Rattle.graph_view.specs.declared.view.Sym.{Sym}
 use Rattle.graph_view.specs.declared.view.Sym.TheVariants.{Null, At}
 use Rattle.graph_view.specs.Syms.{is_in, truth}

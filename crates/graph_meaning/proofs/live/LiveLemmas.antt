@@ -26,9 +26,9 @@ use Rattle.tree_encode.specs.Tracks.{track_count}
 use Rattle.tree_store.specs.Encoding.{IsAssignmentOf}
 use Rattle.tree_store.proofs.SpotsLemmas.{of-some, map-some}
 use Rattle.tree_formula.specs.WellEncoded.{is_of}
-use Rattle.tree_shapes.specs.Shapes.{IsCellOf}
-use Rattle.tree_meaning.proofs.StandingLemmas.{is_of-means}
-use Rattle.tree_meaning.proofs.StoresLemmas.{marked-cell, cell-marked}
+use Rattle.tree_store.specs.Shapes.{IsCellOf}
+use Rattle.tree_store.proofs.StandingLemmas.{is_of-means}
+use Rattle.tree_store.proofs.StoresLemmas.{marked-cell, cell-marked}
 use Rattle.graph_view.specs.declared.view.Sym.{Sym}
 use Rattle.graph_view.specs.declared.view.Event.{Event}
 use Rattle.graph_view.specs.declared.view.Event.TheVariants.{New, Write, Free}

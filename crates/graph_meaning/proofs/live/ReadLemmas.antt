@@ -25,9 +25,9 @@ use Rattle.routing_laws.proofs.RegionLemmas.{number_in, in_number, store_on-IsOn
 use Rattle.tree_encode.proofs.TracksLemmas.{and_then-some}
 use Rattle.tree_store.proofs.SpotsLemmas.{of-some}
 use Rattle.tree_formula.specs.WellEncoded.{type_id, variant_in, types_in, variants_of}
-use Rattle.tree_meaning.specs.Premises.{OwnersAreThere}
-use Rattle.tree_meaning.proofs.ListsLemmas.{Contains-named, named-inside}
-use Rattle.tree_meaning.proofs.TablesLemmas.{type-known, unnamed-is, unnamed-known, owner-is, owner-inside, common-had, own-had, had-own}
+use Rattle.tree_store.specs.Premises.{OwnersAreThere}
+use Rattle.tree_store.proofs.ListsLemmas.{Contains-named, named-inside}
+use Rattle.tree_store.proofs.TablesLemmas.{type-known, unnamed-is, unnamed-known, owner-is, owner-inside, common-had, own-had, had-own}
 use Rattle.graph_view.specs.declared.view.Sym.{Sym}
 use Rattle.graph_view.specs.Syms.{is_in}
 use Rattle.graph_view.specs.Sights.{Sight}

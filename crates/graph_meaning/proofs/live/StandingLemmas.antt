@@ -17,7 +17,7 @@ use Rattle.store_laws.proofs.ChangeLemmas.{IsPut-put_cell, IsFieldSet-set_field,
 use Rattle.store_laws.proofs.FitsLemmas.{above_alike, above_put}
 use Rattle.routing_expr.specs.WellFormed.{IsBackbone}
 use Rattle.tree_encode.proofs.ApartLemmas.{placed-apart, one-position}
-use Rattle.tree_meaning.proofs.StoresLemmas.{placed-live}
+use Rattle.tree_store.proofs.StoresLemmas.{placed-live}
 use Rattle.graph_view.specs.declared.view.Sym.{Sym}
 use Rattle.graph_view.specs.declared.view.Event.{Event}
 use Rattle.graph_view.specs.declared.view.Event.TheVariants.{New, Write, Free}

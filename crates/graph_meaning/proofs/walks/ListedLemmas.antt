@@ -12,8 +12,8 @@ use Rattle.store_core.specs.declared.ids.FieldId.{FieldId}
 use Rattle.store_core.specs.Tables.{TypeEntry, FieldEntry, field_at, fields_of}
 use Rattle.routing_laws.proofs.DecidedLemmas.{in_none}
 use Rattle.tree_formula.specs.WellEncoded.{type_id, field_in, types_in, fields_in}
-use Rattle.tree_meaning.proofs.ListsLemmas.{Contains-named, flat_map-inside}
-use Rattle.tree_meaning.proofs.TablesLemmas.{field-known}
+use Rattle.tree_store.proofs.ListsLemmas.{Contains-named, flat_map-inside}
+use Rattle.tree_store.proofs.TablesLemmas.{field-known}
 use Rattle.graph_view.specs.Fields.{fields_in_where, fields_where}
 use Rattle.graph_view.specs.After.{Standing, IsAt}
 

@@ -13,7 +13,7 @@ use Rattle.routing_expr.specs.Destinations.{Dest}
 use Rattle.routing_expr.specs.WellFormed.{IsBackbone}
 use Rattle.tree_store.specs.Encoding.{IsAssignmentOf}
 use Rattle.tree_store.specs.Weighing.{AreVariantTracks}
-use Rattle.tree_meaning.specs.Premises.{SetsHoldLive}
+use Rattle.tree_store.specs.Premises.{SetsHoldLive}
 use Rattle.graph_view.specs.Cuts.{field_formula}
 
 -- the cell has the field, and two destinations for it

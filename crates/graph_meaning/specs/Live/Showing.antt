@@ -5,7 +5,7 @@ use Rattle.store_core.specs.Stores.{StoreMap, Fits}
 use Rattle.routing_expr.specs.WellFormed.{IsBackbone}
 use Rattle.tree_encode.specs.Layouts.{LaidOut}
 use Rattle.tree_store.specs.Encoding.{IsAssignmentOf}
-use Rattle.tree_meaning.specs.Premises.{OwnersAreThere}
+use Rattle.tree_store.specs.Premises.{OwnersAreThere}
 use Rattle.graph_view.specs.declared.view.View.{View}
 use Rattle.graph_view.specs.After.{Standing, IsSeen, IsRead}
 use Rattle.graph_view.specs.Fitting.{AreFree}

@@ -26,7 +26,7 @@ use Rattle.routing_laws.proofs.DecidedLemmas.{in_none}
 use Rattle.store_exec.specs.Cuts.{IsPointerVar, Escapes}
 use Rattle.tree_encode.specs.Layouts.{LaidOut}
 use Rattle.tree_formula.specs.WellEncoded.{var_id, vars_in}
-use Rattle.tree_meaning.proofs.ListsLemmas.{Contains-named, flat_map-inside, cond-inside, listed-inside, Contains-listed}
+use Rattle.tree_store.proofs.ListsLemmas.{Contains-named, flat_map-inside, cond-inside, listed-inside, Contains-listed}
 use Rattle.tree_store.proofs.SpotsLemmas.{of-some}
 use Rattle.graph_view.specs.declared.view.View.{View}
 use Rattle.graph_view.specs.Syms.{is_in}

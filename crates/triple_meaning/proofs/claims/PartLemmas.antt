@@ -32,7 +32,7 @@ use Rattle.routing_laws.proofs.DecidedStores.{part_of}
 use Rattle.routing_laws.proofs.RegionLemmas.{number_in, in_number}
 use Rattle.store_logic.specs.Fits.{IsKnownDataVar}
 use Rattle.tree_encode.specs.Layouts.{LaidOut}
-use Rattle.tree_meaning.proofs.ListsLemmas.{Contains-one}
+use Rattle.tree_store.proofs.ListsLemmas.{Contains-one}
 use Rattle.graph_view.specs.declared.view.Sym.{Sym}
 use Rattle.graph_view.specs.declared.view.Sym.TheVariants.{Null, At}
 use Rattle.graph_view.specs.declared.view.View.{View}

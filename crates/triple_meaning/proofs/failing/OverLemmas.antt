@@ -4,7 +4,7 @@ use Rattle.gta_theory.specs.Assignments.{PositionSet, Assignment}
 use Rattle.store_core.specs.Tables.{TypeEntry, VarEntry}
 use Rattle.store_core.specs.Stores.{StoreMap}
 use Rattle.tree_encode.specs.Tracks.{track_count}
-use Rattle.tree_meaning.proofs.TablesLemmas.{track-few}
+use Rattle.tree_store.proofs.TablesLemmas.{track-few}
 use Rattle.graph_view.specs.After.{Standing}
 use Rattle.graph_meaning.specs.Walks.Wells.{ShowsWell}
 use Rattle.site_view.specs.States.{State}

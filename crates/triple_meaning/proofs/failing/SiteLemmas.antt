@@ -16,11 +16,11 @@ use Rattle.store_exec.specs.Cuts.{AreMet, Escapes}
 use Rattle.store_exec.specs.Failing.{IsBlank, StartHolds}
 use Rattle.tree_encode.specs.Tracks.{track_count, var_track}
 use Rattle.tree_formula.specs.WellEncoded.{track_or_first, well_encoded}
-use Rattle.tree_meaning.proofs.TablesLemmas.{owners-there}
+use Rattle.tree_store.proofs.TablesLemmas.{owners-there}
 use Rattle.witness_store.specs.Alike.{IsOfWellFormed}
-use Rattle.tree_meaning.proofs.FormulaLemmas.{well_encoded-means}
-use Rattle.tree_meaning.proofs.HoldersLemmas.{backbone-lays}
-use Rattle.tree_backbone.proofs.ExistenceLemmas.{store_of_finite}
+use Rattle.tree_store.proofs.FormulaLemmas.{well_encoded-means}
+use Rattle.tree_store.proofs.HoldersLemmas.{backbone-lays}
+use Rattle.tree_store.proofs.ExistenceLemmas.{store_of_finite}
 use Rattle.witness_store.proofs.FunctionalLemmas.{IsOfWellFormed-store}
 use Rattle.site_view.specs.States.{Check}
 use Rattle.site_view.specs.Triples.{at_start, walked, bind, definitions, start_holds, site_formula_at, first_bound, site_formula}

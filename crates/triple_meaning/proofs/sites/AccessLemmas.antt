@@ -23,7 +23,7 @@ use Rattle.store_exec.specs.declared.cause.Cause.TheVariants as cause
 use Rattle.store_exec.specs.Steps.{and_then, field_read, read}
 use Rattle.tree_store.proofs.SpotsLemmas.{of-some}
 use Rattle.tree_formula.specs.WellEncoded.{owner, variant_in}
-use Rattle.tree_meaning.proofs.TablesLemmas.{owner-is, common-had}
+use Rattle.tree_store.proofs.TablesLemmas.{owner-is, common-had}
 use Rattle.graph_view.specs.declared.view.Sym.{Sym}
 use Rattle.graph_view.specs.declared.view.Sym.TheVariants.{Null, At}
 use Rattle.graph_view.specs.Syms.{is_in, is_null}

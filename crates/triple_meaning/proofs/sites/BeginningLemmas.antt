@@ -17,8 +17,8 @@ use Rattle.tree_encode.specs.Counting.{is_data_kind, is_data_var}
 use Rattle.tree_encode.specs.Tracks.{track_count, slot_of_var, child_number}
 use Rattle.tree_encode.specs.Positions.{below, IsPlaced}
 use Rattle.tree_encode.proofs.PositionsLemmas.{slotted}
-use Rattle.tree_meaning.proofs.WordsLemmas.{slots-apart, slot-ends, slot-not_child}
-use Rattle.tree_meaning.proofs.StoresLemmas.{last-step, below-last, below-ends}
+use Rattle.tree_store.proofs.WordsLemmas.{slots-apart, slot-ends, slot-not_child}
+use Rattle.tree_store.proofs.StoresLemmas.{last-step, below-last, below-ends}
 use Rattle.graph_view.specs.Sights.{var_slots}
 use Rattle.graph_view.specs.After.{Standing, IsAt, AreStanding}
 use Rattle.graph_meaning.proofs.fields.BeginningLemmas.{first-shows_well}

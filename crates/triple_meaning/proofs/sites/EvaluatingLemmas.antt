@@ -27,7 +27,7 @@ use Rattle.store_logic.specs.FitsCode.{RhsFits}
 use Rattle.store_exec.specs.declared.cause.Cause.{Cause}
 use Rattle.store_exec.specs.Steps.{and_then, made_of, truth_of}
 use Rattle.store_exec.specs.Steps as exec
-use Rattle.tree_meaning.proofs.WordsLemmas.{slots-apart}
+use Rattle.tree_store.proofs.WordsLemmas.{slots-apart}
 use Rattle.graph_view.specs.declared.view.Sym.{Sym}
 use Rattle.graph_view.specs.declared.view.Sym.TheVariants.{Null, At}
 use Rattle.graph_view.specs.declared.view.Event.TheVariants.{New}

@@ -20,7 +20,7 @@ use Rattle.store_core.specs.Tables.{TypeEntry, FieldEntry, VarEntry, KnowsVarian
 use Rattle.store_core.specs.Stores.{StoreMap, IsLive, field_value}
 use Rattle.routing_expr.specs.Walks.{DataAndPointers, IsFollowed}
 use Rattle.tree_encode.specs.Layouts.{LaidOut}
-use Rattle.tree_meaning.proofs.TablesLemmas.{owners-there}
+use Rattle.tree_store.proofs.TablesLemmas.{owners-there}
 use Rattle.graph_view.specs.declared.view.Sym.{Sym}
 use Rattle.graph_view.specs.declared.view.Event.{Event}
 use Rattle.graph_view.specs.declared.view.View.{View}

@@ -14,7 +14,7 @@ use Rattle.store_core.specs.declared.kind.FieldKind.TheVariants as field
 use Rattle.store_core.specs.Tables.{TypeEntry, FieldEntry, VarEntry, field_at, unnamed_of}
 use Rattle.tree_encode.specs.Tracks.{of_variant, of_bool, track_count, variant_track, bool_track, child_number}
 use Rattle.tree_formula.specs.WellEncoded.{types_in, variants_of, track_or_first, owner, is_of}
-use Rattle.tree_meaning.proofs.TablesLemmas.{track-few}
+use Rattle.tree_store.proofs.TablesLemmas.{track-few}
 use Rattle.graph_view.specs.declared.view.Sym.{Sym}
 use Rattle.graph_view.specs.declared.view.Sym.TheVariants.{Null, At}
 use Rattle.graph_view.specs.declared.view.Event.{Event}

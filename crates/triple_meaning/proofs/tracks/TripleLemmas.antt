@@ -10,8 +10,8 @@ use Rattle.store_exec.specs.declared.triple.Start.{Start}
 use Rattle.store_exec.specs.Fits.{TripleFits}
 use Rattle.tree_encode.specs.Tracks.{track_count, track_at, var_track}
 use Rattle.tree_formula.specs.WellEncoded.{var_id, vars_in, track_or_first}
-use Rattle.tree_meaning.proofs.ListsLemmas.{named-inside}
-use Rattle.tree_meaning.proofs.TablesLemmas.{number_of_var}
+use Rattle.tree_store.proofs.ListsLemmas.{named-inside}
+use Rattle.tree_store.proofs.TablesLemmas.{number_of_var}
 use Rattle.graph_view.specs.declared.view.Sym.TheVariants.{At}
 use Rattle.graph_view.specs.After.{IsSymBelow}
 use Rattle.site_view.specs.States.{next_track}

@@ -3,7 +3,7 @@ use Rattle.ws2s_core.specs.LabelTrees.{assignment_of}
 use Rattle.store_core.specs.declared.ids.CellId.{CellId}
 use Rattle.store_core.specs.Tables.{TypeEntry, VarEntry}
 use Rattle.routing_expr.specs.WellFormed.{IsFirstCell}
-use Rattle.tree_shapes.specs.Shapes.{LaysOut}
+use Rattle.tree_store.specs.Shapes.{LaysOut}
 use Rattle.graph_meaning.specs.Fields.Forking.{Forks, HasFork}
 use Rattle.witness_store.specs.Results.{IsReadOff}
 use Rattle.field_judge.proofs.LightestLemmas.{lays-out, has-fork, least-fork}

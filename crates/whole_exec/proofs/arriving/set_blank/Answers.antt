@@ -5,7 +5,7 @@ use Rattle.store_exec.specs.Runs.{RunsItems}
 use Rattle.store_exec.specs.Going.{CanRun}
 use Rattle.hoare_split.specs.Picking.{those, test_of}
 use Rattle.hoare_split.specs.Settings.{settings}
-use Rattle.whole_answers.proofs.Settings.{all_end}
+use Rattle.whole_run.proofs.AnswerSettings.{all_end}
 use Rattle.whole_exec.proofs.Codes.{settings_can}
 use Rattle.whole_exec.proofs.arriving.set_blank.Goals as goal
 

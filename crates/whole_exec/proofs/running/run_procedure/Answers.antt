@@ -4,8 +4,8 @@ use Rattle.whole_exec.specs.declared.activation.Suspended.{Suspended}
 use Rattle.whole_exec.specs.Answers.{answer_of}
 use Rattle.whole_exec.specs.Standings.{frame_of, all_waiting, state_of}
 use Rattle.whole_exec.specs.Turning.{TurnsAs}
-use Rattle.whole_answers.proofs.Laws.{Laws}
-use Rattle.whole_answers.proofs.Standing.{next_of}
+use Rattle.whole_run.proofs.AnswerLaws.{Laws}
+use Rattle.whole_run.proofs.AnswerStanding.{next_of}
 use Rattle.whole_exec.proofs.Turnable.{can_turn}
 use Rattle.whole_exec.proofs.Going.{IsGoing, starts, goes_on, one_left, one_room, done}
 use Rattle.whole_exec.proofs.running.run_procedure.Goals as goal

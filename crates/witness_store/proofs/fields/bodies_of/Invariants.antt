@@ -1,7 +1,7 @@
 use Rattle.std.proofs.Common.{◌≡◌, suc, List, take}
 use Rattle.ws2s_core.specs.LabelTrees.{assignment_of}
 use Rattle.store_core.specs.StoreBodies.{AreLive, IsKept, cells_of}
-use Rattle.tree_backbone.specs.Decoded.{Standing, entries_in}
+use Rattle.tree_store.specs.Decoded.{Standing, entries_in}
 use Rattle.witness_store.specs.Finding.{AreFoundAs}
 use Rattle.witness_store.specs.Reading.{AreRead}
 use Rattle.witness_store.proofs.fields.bodies_of.Given as goal

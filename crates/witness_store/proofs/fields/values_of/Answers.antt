@@ -3,7 +3,7 @@ use Rattle.std.proofs.lemmas.List.{take_all}
 use Rattle.ws2s_core.specs.LabelTrees.{assignment_of}
 use Rattle.store_core.specs.declared.ids.FieldId.{FieldId}
 use Rattle.store_core.specs.Tables.{fields_of}
-use Rattle.tree_backbone.specs.Decoded.{slots_in}
+use Rattle.tree_store.specs.Decoded.{slots_in}
 use Rattle.witness_store.proofs.FieldsLemmas.{slots-next}
 use Rattle.witness_store.proofs.ListsLemmas.{present}
 use Rattle.witness_store.proofs.fields.values_of.Goals as goal

@@ -3,7 +3,7 @@ use Rattle.gta_theory.specs.Assignments.{Position}
 use Rattle.ws2s_core.specs.LabelTrees.{IsTree, assignment_of}
 use Rattle.ws2s_theory.specs.Trees.{StandsAt}
 use Rattle.store_core.specs.Tables.{KnowsVariant, fields_of}
-use Rattle.tree_backbone.specs.Decoded.{Standing, slots_in}
+use Rattle.tree_store.specs.Decoded.{Standing, slots_in}
 use Rattle.witness_store.specs.Finding.{IsFoundAs}
 use Rattle.witness_store.specs.Reading.{IsBehind, AreRead}
 use Rattle.witness_store.proofs.fields.values_of.Given as goal

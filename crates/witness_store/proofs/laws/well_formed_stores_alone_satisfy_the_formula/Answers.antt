@@ -1,6 +1,6 @@
-use Rattle.tree_meaning.proofs.FormulaLemmas.{well_encoded-means}
-use Rattle.tree_meaning.proofs.HoldersLemmas.{backbone-lays}
-use Rattle.tree_backbone.proofs.ExistenceLemmas.{store_of_finite}
+use Rattle.tree_store.proofs.FormulaLemmas.{well_encoded-means}
+use Rattle.tree_store.proofs.HoldersLemmas.{backbone-lays}
+use Rattle.tree_store.proofs.ExistenceLemmas.{store_of_finite}
 use Rattle.witness_store.proofs.FunctionalLemmas.{IsOfWellFormed-store}
 use Rattle.witness_store.proofs.laws.well_formed_stores_alone_satisfy_the_formula.Goals as goal
 

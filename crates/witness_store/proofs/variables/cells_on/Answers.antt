@@ -4,8 +4,8 @@ use Rattle.std.proofs.lemmas.Option.{slice_get-get_or}
 use Rattle.ws2s_core.specs.LabelTrees.{assignment_of}
 use Rattle.store_core.specs.declared.ids.CellId.{CellId}
 use Rattle.store_core.proofs.Growing.{AllByRecursion-weaker, AllByRecursion-push}
-use Rattle.tree_backbone.specs.Decoded as decoded
-use Rattle.tree_backbone.specs.Decoded.{all_where}
+use Rattle.tree_store.specs.Decoded as decoded
+use Rattle.tree_store.specs.Decoded.{all_where}
 use Rattle.witness_store.specs.declared.cells.Found.{Found}
 use Rattle.witness_store.proofs.ListedLemmas.{named-yes, named-no}
 use Rattle.witness_store.proofs.ListsLemmas.{present}

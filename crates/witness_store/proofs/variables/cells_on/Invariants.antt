@@ -1,7 +1,7 @@
 use Rattle.std.proofs.Common.{◌≡◌, ◌<◌, suc, List, take}
 use Rattle.std.specs.List.{AllByRecursion}
 use Rattle.ws2s_core.specs.LabelTrees.{IsTree, assignment_of}
-use Rattle.tree_backbone.specs.Decoded.{Standing, is_on, all_where}
+use Rattle.tree_store.specs.Decoded.{Standing, is_on, all_where}
 use Rattle.witness_store.specs.Finding.{AreFoundAs}
 use Rattle.witness_store.proofs.variables.cells_on.Given as goal
 

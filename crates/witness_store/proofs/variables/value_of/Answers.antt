@@ -3,8 +3,8 @@ use Rattle.ws2s_core.specs.LabelTrees.{assignment_of}
 use Rattle.ws2s_theory.specs.Trees.{last_place}
 use Rattle.store_core.specs.declared.value.Value.TheVariants as value
 use Rattle.tree_encode.specs.Tracks.{var_track}
-use Rattle.tree_backbone.specs.Decoded as decoded
-use Rattle.tree_backbone.specs.Decoded.{first_where, var_in}
+use Rattle.tree_store.specs.Decoded as decoded
+use Rattle.tree_store.specs.Decoded.{first_where, var_in}
 use Rattle.witness_store.specs.Reading.{has_track}
 use Rattle.witness_store.proofs.ListedLemmas.{first-of-all}
 use Rattle.witness_store.proofs.PlacesLemmas.{on-node, root-node}

@@ -3,7 +3,7 @@ use Rattle.std.proofs.lemmas.Option.{same_Some}
 use Rattle.ws2s_core.specs.LabelTrees.{assignment_of}
 use Rattle.store_core.specs.Tables.{VarEntry}
 use Rattle.tree_encode.specs.Tracks.{var_track}
-use Rattle.tree_backbone.specs.Decoded.{var_in}
+use Rattle.tree_store.specs.Decoded.{var_in}
 use Rattle.witness_store.proofs.ListedLemmas.{vars-next}
 use Rattle.witness_store.proofs.ListsLemmas.{present}
 use Rattle.witness_store.proofs.variables.variables_of.Goals as goal

@@ -1,6 +1,6 @@
 use Rattle.std.proofs.Common.{◌≡◌, List, take}
 use Rattle.ws2s_core.specs.LabelTrees.{assignment_of}
-use Rattle.tree_backbone.specs.Decoded.{Standing, vars_in}
+use Rattle.tree_store.specs.Decoded.{Standing, vars_in}
 use Rattle.witness_store.specs.Finding.{AreFoundAs}
 use Rattle.witness_store.proofs.variables.variables_of.Given as goal
 

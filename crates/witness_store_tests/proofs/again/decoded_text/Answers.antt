@@ -1,5 +1,5 @@
 use Rattle.ws2s_core.specs.LabelTrees.{assignment_of}
-use Rattle.tree_meaning.proofs.HoldersLemmas.{backbone-lays}
+use Rattle.tree_store.proofs.HoldersLemmas.{backbone-lays}
 use Rattle.witness_store_tests.proofs.again.decoded_text.Goals as goal
 
 pub decode-requires : goal.decode-requires

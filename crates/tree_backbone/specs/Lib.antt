@@ -1,3 +1,0 @@
-pub mod Preorder
-pub mod Decoded
-pub mod Stores

@@ -1,5 +1,0 @@
-use Rattle.tree_meaning.proofs.FormulaLemmas.{well_encoded-means}
-use Rattle.tree_meaning.proofs.laws.the_formula_lays_out_backbones.Goals as goal
-
-pub returns : goal.returns
-returns c = λ types vars next a owners finite few. well_encoded-means types vars owners a next few finite

@@ -1,4 +1,0 @@
-//! When an assignment lays out a backbone, told by positions alone.
-//!
-//! No code runs here. `specs/Shapes.antt` has the words.
-#![tactic(auto)]

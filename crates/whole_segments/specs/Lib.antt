@@ -1,2 +1,0 @@
-pub mod FlowRuns
-pub mod Segments
