@@ -18,7 +18,7 @@ use Rattle.whole_run.specs.States.{Waiting, runs, exited, Turn, goes}
 use Rattle.whole_run.specs.Handing.{rest_store, returned_store}
 use Rattle.whole_run.specs.Turns.{Returns}
 use Rattle.whole_run.specs.Leaving.{CameOf}
-use Rattle.whole_run.proofs.Returning.{returned_moves}
+use Rattle.whole_run.proofs.AfterReturn.{returned_moves}
 use Rattle.whole_run.proofs.AnswerLaws.{Laws}
 use Rattle.whole_run.proofs.AnswerStanding.{IsCalled, Stands, stands_move, IsRunning, IsDone, Holds, OnTurn}
 

@@ -22,7 +22,7 @@ use Rattle.hoare_split.specs.Calls.{on_all}
 use Rattle.whole_run.proofs.Holding.{Alike, satisfied_too}
 use Rattle.whole_run.proofs.HandedStart.{left_in, kept_in, variable_now}
 use Rattle.whole_run.proofs.ReturnedClaims.{alike_same}
-use Rattle.whole_run.proofs.Laws.{MetStays}
+use Rattle.whole_run.proofs.CallLaws.{MetStays}
 
 alike_part : (s : StoreMap) (y : Value) → Alike s y (live_part s y)
 alike_part s (value.Bool truth) = alike_same s (value.Bool truth)

@@ -17,8 +17,8 @@ pub mod SegmentLemmas
 pub mod SafeFlows
 pub mod Moving
 pub mod Settings
-pub mod Returning
-pub mod Laws
+pub mod AfterReturn
+pub mod CallLaws
 pub mod Standing
 pub mod Blocks
 pub mod Steps

@@ -24,7 +24,7 @@ use Rattle.whole_run.specs.States.{runs, Fail}
 use Rattle.whole_run.specs.Runs.{WholeRun}
 use Rattle.whole_run.specs.Places.{cut_places, PlacesAreDistinct}
 use Rattle.whole_run.specs.Safety.{NoTripleFails, MeetsEntry}
-use Rattle.whole_run.proofs.Laws.{Laws}
+use Rattle.whole_run.proofs.CallLaws.{Laws}
 use Rattle.whole_run.proofs.Points.{IsOwn, own_are_one, starts_own, safe_of}
 use Rattle.whole_run.proofs.Standing.{IsGood, IsRunning}
 use Rattle.whole_run.proofs.Steps.{IsSound}

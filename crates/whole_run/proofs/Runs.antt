@@ -28,8 +28,8 @@ use Rattle.whole_run.proofs.HandedStart.{variable_now}
 use Rattle.whole_run.specs.Segments.{flow_left}
 use Rattle.whole_run.proofs.SafeFlows.{safe-unless}
 use Rattle.whole_run.proofs.Moving.{IsKept}
-use Rattle.whole_run.proofs.Laws.{Laws}
-use Rattle.whole_run.proofs.Returning.{returned_moves}
+use Rattle.whole_run.proofs.CallLaws.{Laws}
+use Rattle.whole_run.proofs.AfterReturn.{returned_moves}
 use Rattle.whole_run.proofs.Standing.{IsCalled, Stands, stands_move, IsRunning, IsDone, Holds, OnTurn}
 use Rattle.whole_run.proofs.Steps.{IsSound, takes_on}
 

@@ -63,7 +63,7 @@ use Rattle.whole_run.specs.Segments.{flow_left}
 use Rattle.whole_run.proofs.SafeFlows.{IsSafe, BothSafe, safe-unless, safe-item, no-fault, safe-after, choice-safe}
 use Rattle.whole_run.proofs.Moving.{IsKept, variable_below, act_moves, restricted_moves}
 use Rattle.whole_run.proofs.Settings.{AreSet, set_all}
-use Rattle.whole_run.proofs.Laws.{Laws}
+use Rattle.whole_run.proofs.CallLaws.{Laws}
 use Rattle.whole_run.proofs.Blocks.{flow_front, starts_front, choice_starts, behind_flow, behind_starts, form_fits, behind_fits}
 use Rattle.whole_run.proofs.Standing.{SafeFrom, IsGood, IsReady, IsCalled, Stands, stands_move, IsRunning, Holds, OnTurn}
 

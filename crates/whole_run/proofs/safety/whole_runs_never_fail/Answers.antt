@@ -1,5 +1,5 @@
 use Rattle.store_exec.proofs.RestrictedLemmas.{well_formed-at_cut}
-use Rattle.whole_run.proofs.Laws.{Laws}
+use Rattle.whole_run.proofs.CallLaws.{Laws}
 use Rattle.whole_run.proofs.Claims.{met_stays}
 use Rattle.whole_run.proofs.Procedures.{runs_never_fail}
 use Rattle.whole_run.proofs.safety.whole_runs_never_fail.Goals as goal
