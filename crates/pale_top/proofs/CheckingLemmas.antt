@@ -23,8 +23,8 @@ use Rattle.program_judge.specs.Reports.{ReportsAll, totalled, ReportsProgram, st
 use Rattle.program_judge.proofs.JoinedLemmas.{field-more, triple-more}
 use Rattle.program_judge.proofs.EndingLemmas.{fields-end, triples-end}
 use Rattle.pale_io.specs.Whole.{WritesAll, WritesFront}
-use Rattle.pale_top.specs.Output.{Wrote, WroteAtMost}
-use Rattle.pale_top.proofs.WrittenLemmas.{nothing_written, both_written, front_of_first, first_written, front_of_second}
+use Rattle.pale_modes.specs.Written.{Wrote, WroteAtMost}
+use Rattle.pale_modes.proofs.WrittenLemmas.{nothing_written, both_written, front_of_first, first_written, front_of_second}
 
 -- ---- what was written so far begins an output
 

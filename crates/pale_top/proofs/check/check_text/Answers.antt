@@ -1,11 +1,11 @@
 use Rattle.std.proofs.Common.{◌∙◌, ℕ, List, subst, sym}
 use Rattle.pale_program.specs.ProgramTexts.{IsStopOf}
 use Rattle.program_judge.specs.Reports.{ReportsProgram}
-use Rattle.pale_top.specs.declared.status.Status.{Status}
-use Rattle.pale_top.specs.declared.status.Status.TheVariants.{Text}
+use Rattle.pale_modes.specs.declared.status.Status.{Status}
+use Rattle.pale_modes.specs.declared.status.Status.TheVariants.{Text}
 use Rattle.pale_top.specs.Checking.{Checks, refused, judged, status_of}
-use Rattle.pale_top.specs.Output.{Wrote}
-use Rattle.pale_top.proofs.WrittenLemmas.{on_err, said_begun, said_whole, Wrote-turned, WroteAtMost-turned}
+use Rattle.pale_modes.specs.Written.{Wrote}
+use Rattle.pale_modes.proofs.WrittenLemmas.{on_err, said_begun, said_whole, Wrote-turned, WroteAtMost-turned}
 use Rattle.pale_top.proofs.check.check_text.Goals as goal
 
 pub returns-in_err-how-in-Ok-clause-err : goal.returns-in_err-how-in-Ok-clause-err

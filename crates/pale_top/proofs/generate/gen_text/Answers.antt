@@ -2,11 +2,11 @@ use Rattle.std.proofs.Common.{◌≡◌, ◌∙◌, ◌<◌, ◌≤◌, ℕ, Lis
 use Rattle.pale_generator.specs.Generated.{program_text}
 use Rattle.pale_text.specs.declared.refusal.TextStop.TheVariants.{Refused}
 use Rattle.pale_program.specs.ProgramTexts.{IsReadAs, IsStopOf}
-use Rattle.pale_top.specs.declared.status.Status.TheVariants.{Text}
+use Rattle.pale_modes.specs.declared.status.Status.TheVariants.{Text}
 use Rattle.pale_top.specs.Generating.{Gens, Tells, counted, refused, too_long}
-use Rattle.pale_top.specs.Report.{too_long_line}
-use Rattle.pale_top.specs.Texts.{most_bytes}
-use Rattle.pale_top.proofs.WrittenLemmas.{begun-weaker, said_begun, said_whole, whole-weaker}
+use Rattle.pale_modes.specs.Report.{too_long_line}
+use Rattle.pale_modes.specs.Texts.{most_bytes}
+use Rattle.pale_modes.proofs.WrittenLemmas.{begun-weaker, said_begun, said_whole, whole-weaker}
 use Rattle.pale_top.proofs.generate.gen_text.Goals as goal
 
 pub returns-then-len-gt-MOST_BYTES-clause-ok : goal.returns-then-len-gt-MOST_BYTES-clause-ok
