@@ -7,7 +7,12 @@ use Rattle.std.proofs.Math.Seq.{take-append_seam, take-append-add}
 use Rattle.pale_io.specs.Told.{appended}
 use Rattle.pale_io.specs.Whole.{WritesAll, WritesFront}
 use Rattle.pale_io.specs.declared.stops.WriteStop.{WriteStop}
+use Rattle.pale_text.specs.declared.refusal.Refusal.{Refusal}
+use Rattle.pale_text.specs.declared.refusal.TextStop.{TextStop}
+use Rattle.pale_text.specs.declared.refusal.TextStop.TheVariants.{Refused}
 use Rattle.pale_modes.specs.declared.status.Status.{Status}
+use Rattle.pale_modes.specs.declared.status.Status.TheVariants.{Text}
+use Rattle.pale_modes.specs.Report.{Refuses, refused, refused_line}
 use Rattle.pale_modes.specs.Written.{Wrote, WroteAtMost}
 
 pub on_err : {T E P : Type 0} (r : Result T E) → P → OnErr r P
@@ -132,3 +137,16 @@ module _ (Allowed : List ℕ → Status → Type 0) (before after : Option (List
   pub said_begun : (outcome : Result Status WriteStop) → OnErr outcome (WritesFront before after line) → OnErr outcome (WroteAtMost Allowed before after)
   said_begun (Ok status) begun = tt
   said_begun (Err stop) begun = line_begun Allowed before after line answer allowed begun
+
+-- what a refusal leaves, where the line of each refusal of the text is an allowed output
+module _ (why : TextStop) (Allowed : List ℕ → Status → Type 0) (follows : (refusal : Refusal) → why ≡ Refused refusal → Allowed (refused_line refusal) Text)
+    (before after : Option (List ℕ)) where
+  refusal_follows : (output : List ℕ) (status : Status) → Refuses why output status → Allowed output status
+  refusal_follows _ _ (refused refusal is) = follows refusal is
+
+  pub refused_whole : (outcome : Result Status WriteStop) → IfOk outcome (Wrote (Refuses why) before after) → IfOk outcome (Wrote Allowed before after)
+  refused_whole = whole-weaker (Refuses why) Allowed refusal_follows before after
+
+  pub refused_begun : (outcome : Result Status WriteStop) → OnErr outcome (WroteAtMost (Refuses why) before after) →
+      OnErr outcome (WroteAtMost Allowed before after)
+  refused_begun = begun-weaker (Refuses why) Allowed refusal_follows before after

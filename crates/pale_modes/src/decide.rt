@@ -10,10 +10,9 @@ ghost use Rattle.pale_modes.specs.Texts.{most_bytes};
 ghost use Rattle.pale_words.specs.Words.{IsLimit};
 
 use crate::Status;
-use crate::report::refused_line;
+use crate::report::refuse;
 use crate::writing::say;
 use pale_io::{Sink, WriteStop};
-use pale_text::TextStop;
 use std::alloc::{AllocError, Global};
 use ws2s_answer::{Answer, answer_of};
 use ws2s_core::LabelTree;
@@ -129,10 +128,6 @@ pub fn decide_text<K: Sink>(
 {
     match read_ws2s(alloc, text) {
         Ok(tree) => answer_tree(alloc, limit, &tree, sink),
-        Err(TextStop::Refused(refusal)) => {
-            let line = refused_line(alloc, &refusal)?;
-            say(sink, line.as_slice(), Status::Text)
-        }
-        Err(TextStop::NoMemory) => Err(WriteStop::NoMemory),
+        Err(stop) => refuse(alloc, stop, sink),
     }
 }

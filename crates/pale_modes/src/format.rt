@@ -9,7 +9,7 @@ ghost use Rattle.pale_modes.specs.Report.{refused_line};
 ghost use Rattle.pale_modes.specs.Texts.{most_bytes};
 
 use crate::Status;
-use crate::report::refused_line;
+use crate::report::refuse;
 use crate::writing::say;
 use pale_io::{Sink, WriteStop};
 use pale_parse::parse;
@@ -45,10 +45,6 @@ pub fn format_text<K: Sink>(
             let printed = print_program(alloc, &program)?;
             say(sink, printed.as_slice(), Status::Good)
         }
-        Err(TextStop::Refused(refusal)) => {
-            let line = refused_line(alloc, &refusal)?;
-            say(sink, line.as_slice(), Status::Text)
-        }
-        Err(TextStop::NoMemory) => Err(WriteStop::NoMemory),
+        Err(stop) => refuse(alloc, stop, sink),
     }
 }

@@ -17,6 +17,6 @@ pub use decide::decide_text;
 pub use format::format_text;
 pub use laws::formatting_is_one;
 pub use replay::replay_text;
-pub use report::refused_line;
+pub use report::refuse;
 pub use status::Status;
 pub use writing::{ended, say};

@@ -6,11 +6,10 @@ ghost use Rattle.pale_modes.specs.Replaying.{Replays, status_of};
 ghost use Rattle.pale_modes.specs.Texts.{most_bytes};
 
 use crate::Status;
-use crate::report::refused_line;
+use crate::report::refuse;
 use crate::writing::say;
 use pale_io::{Sink, WriteStop};
 use pale_replay::{Answer, replay};
-use pale_text::TextStop;
 use std::alloc::Global;
 
 fn status_of(answer: Answer) -> Status
@@ -37,10 +36,6 @@ pub fn replay_text<K: Sink>(
 {
     match replay(alloc, text) {
         Ok(replay) => say(sink, replay.line.as_slice(), status_of(replay.answer)),
-        Err(TextStop::Refused(refusal)) => {
-            let line = refused_line(alloc, &refusal)?;
-            say(sink, line.as_slice(), Status::Text)
-        }
-        Err(TextStop::NoMemory) => Err(WriteStop::NoMemory),
+        Err(stop) => refuse(alloc, stop, sink),
     }
 }

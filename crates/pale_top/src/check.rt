@@ -15,9 +15,8 @@ ghost use Rattle.pale_words.specs.Words.{IsLimit};
 use crate::check_parts::{check_fields, check_triples};
 use bdd_nodes::Shelf;
 use pale_io::{Sink, WriteStop, write_all};
-use pale_modes::{Status, refused_line, say};
+use pale_modes::{Status, refuse};
 use pale_program::{WholeProgram, read_program};
-use pale_text::TextStop;
 use program_judge::{Ending, are_functional, judged_ending, stopped_ending, totals_text};
 use std::alloc::Global;
 use ws2s_pass::PassList;
@@ -103,10 +102,6 @@ pub(crate) fn check_text<K: Sink>(
             let how = check_program(alloc, limit, &whole, passes, sink)?;
             Ok(status_of(how))
         }
-        Err(TextStop::Refused(refusal)) => {
-            let line = refused_line(alloc, &refusal)?;
-            say(sink, line.as_slice(), Status::Text)
-        }
-        Err(TextStop::NoMemory) => Err(WriteStop::NoMemory),
+        Err(stop) => refuse(alloc, stop, sink),
     }
 }

@@ -18,10 +18,9 @@ use crate::nowhere::Nowhere;
 use bdd_nodes::Shelf;
 use pale_generator::gen_program;
 use pale_io::{Sink, WriteStop};
-use pale_modes::{Status, refused_line, say};
+use pale_modes::{Status, refuse, say};
 use pale_program::{WholeProgram, read_program};
 use pale_replay::push_number;
-use pale_text::TextStop;
 use program_judge::{
     Ending, TripleWay, are_functional, invalid_count, judged_ending, limit_count, stopped_ending,
     valid_count,
@@ -184,10 +183,6 @@ pub(crate) fn gen_text<K: Sink>(
     }
     match read_program(alloc, text.as_slice()) {
         Ok(whole) => gen_whole(alloc, limit, seed, &whole, passes, sink),
-        Err(TextStop::Refused(refusal)) => {
-            let line = refused_line(alloc, &refusal)?;
-            say(sink, line.as_slice(), Status::Text)
-        }
-        Err(TextStop::NoMemory) => Err(WriteStop::NoMemory),
+        Err(stop) => refuse(alloc, stop, sink),
     }
 }

@@ -1,8 +1,7 @@
-use Rattle.std.proofs.Common.{List, ℕ, subst, sym, ◌∙◌}
+use Rattle.std.proofs.Common.{subst}
 use Rattle.ws2s_read.specs.TextReading.{IsReadStop}
-use Rattle.pale_modes.specs.declared.status.Status.TheVariants.{Text}
 use Rattle.pale_modes.specs.Deciding.{Says, Decides, read, refused}
-use Rattle.pale_modes.proofs.WrittenLemmas.{said_whole, said_begun, whole-weaker, begun-weaker}
+use Rattle.pale_modes.proofs.WrittenLemmas.{begun-weaker, refused_begun, refused_whole, whole-weaker}
 use Rattle.pale_modes.proofs.decide.decide_text.Goals as goal
 
 pub returns-in-Ok-clause-ok : goal.returns-in-Ok-clause-ok
@@ -17,18 +16,14 @@ returns-in-Ok-clause-err g c =
     (λ output status says. read c.in-Ok.tree output status c.requires.within c.in-Ok.ensures.text says)
     (g.K.Sink.written c.args.sink.now) (g.K.Sink.written c.answer_tree.new.sink) c.answer_tree.result c.answer_tree.ensures.err
 
-pub returns-in_ok-line-in-Err-Refused-clause-ok : goal.returns-in_ok-line-in-Err-Refused-clause-ok
-returns-in_ok-line-in-Err-Refused-clause-ok g c =
-    let refusal = c.in-Err-Refused.refusal in
-    said_whole (Decides c.args.limit c.args.text.now) (g.K.Sink.written c.args.sink.now) (g.K.Sink.written c.say.new.sink) c.as_slice.result.now Text
-    (subst (λ (l : List ℕ). Decides c.args.limit c.args.text.now l Text) (sym (c.as_slice.ensures.value ∙ c.in_ok-line-in-Err-Refused.ensures))
-    (refused refusal c.requires.within
-    (subst (IsReadStop c.args.text.now) c.in-Err-Refused.field-0-is c.in-Err-Refused.ensures.stop))) c.say.result c.say.ensures.ok
+pub returns-in-Err-clause-ok : goal.returns-in-Err-clause-ok
+returns-in-Err-clause-ok g c =
+    refused_whole c.in-Err.stop (Decides c.args.limit c.args.text.now)
+    (λ refusal is. refused refusal c.requires.within (subst (IsReadStop c.args.text.now) is c.in-Err.ensures.stop))
+    (g.K.Sink.written c.args.sink.now) (g.K.Sink.written c.refuse.new.sink) c.refuse.result c.refuse.ensures.ok
 
-pub returns-in_ok-line-in-Err-Refused-clause-err : goal.returns-in_ok-line-in-Err-Refused-clause-err
-returns-in_ok-line-in-Err-Refused-clause-err g c =
-    let refusal = c.in-Err-Refused.refusal in
-    said_begun (Decides c.args.limit c.args.text.now) (g.K.Sink.written c.args.sink.now) (g.K.Sink.written c.say.new.sink) c.as_slice.result.now Text
-    (subst (λ (l : List ℕ). Decides c.args.limit c.args.text.now l Text) (sym (c.as_slice.ensures.value ∙ c.in_ok-line-in-Err-Refused.ensures))
-    (refused refusal c.requires.within
-    (subst (IsReadStop c.args.text.now) c.in-Err-Refused.field-0-is c.in-Err-Refused.ensures.stop))) c.say.result c.say.ensures.err
+pub returns-in-Err-clause-err : goal.returns-in-Err-clause-err
+returns-in-Err-clause-err g c =
+    refused_begun c.in-Err.stop (Decides c.args.limit c.args.text.now)
+    (λ refusal is. refused refusal c.requires.within (subst (IsReadStop c.args.text.now) is c.in-Err.ensures.stop))
+    (g.K.Sink.written c.args.sink.now) (g.K.Sink.written c.refuse.new.sink) c.refuse.result c.refuse.ensures.err
