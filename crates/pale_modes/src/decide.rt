@@ -4,10 +4,10 @@ ghost use Rattle.pale_io.specs.Faults.{Rose};
 ghost use Rattle.ws2s_core.specs.LabelTrees.{assignment_of};
 ghost use Rattle.ws2s_example.specs.Examples.{HaveOnePosition, IsExampleText};
 ghost use Rattle.ws2s_answer.specs.Answering.{IsAnswer};
+ghost use Rattle.pale_words.specs.Words.{IsLimit};
 ghost use Rattle.pale_modes.specs.Deciding.{Decides, Says, HasSmallFormulas, status_of};
 ghost use Rattle.pale_modes.specs.Written.{Wrote, WroteAtMost};
 ghost use Rattle.pale_modes.specs.Texts.{most_bytes};
-ghost use Rattle.pale_words.specs.Words.{IsLimit};
 
 use crate::Status;
 use crate::report::refuse;

@@ -29,11 +29,7 @@ fn read_program(alloc: Global, text: &[u8]) -> Result<Program, TextStop>
 }
 
 /// Writes the canonical spelling of a text that isn't too long, or the line of its first fault.
-pub fn format_text<K: Sink>(
-    alloc: Global,
-    text: &[u8],
-    sink: &mut K,
-) -> Result<Status, WriteStop>
+pub fn format_text<K: Sink>(alloc: Global, text: &[u8], sink: &mut K) -> Result<Status, WriteStop>
     requires { length text.now ≤ most_bytes }
     ensures ok { IfOk result (Wrote (Formats text.now) (K.written sink.old) (K.written sink.new)) }
     ensures err { OnErr result (WroteAtMost (Formats text.now) (K.written sink.old) (K.written sink.new)) }

@@ -23,11 +23,7 @@ fn status_of(answer: Answer) -> Status
 }
 
 /// Writes what is said of a text that isn't too long: of its store in a triple of its program, or the line of its first fault.
-pub fn replay_text<K: Sink>(
-    alloc: Global,
-    text: &[u8],
-    sink: &mut K,
-) -> Result<Status, WriteStop>
+pub fn replay_text<K: Sink>(alloc: Global, text: &[u8], sink: &mut K) -> Result<Status, WriteStop>
     requires { length text.now ≤ most_bytes }
     ensures ok { IfOk result (Wrote (Replays text.now) (K.written sink.old) (K.written sink.new)) }
     ensures err { OnErr result (WroteAtMost (Replays text.now) (K.written sink.old) (K.written sink.new)) }

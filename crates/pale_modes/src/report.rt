@@ -27,11 +27,7 @@ fn refused_line(alloc: Global, refusal: &Refusal) -> Result<Vec<u8>, AllocError>
 }
 
 /// Writes the line of a text that wasn't read because of its first fault.
-pub fn refuse<K: Sink>(
-    alloc: Global,
-    stop: TextStop,
-    sink: &mut K,
-) -> Result<Status, WriteStop>
+pub fn refuse<K: Sink>(alloc: Global, stop: TextStop, sink: &mut K) -> Result<Status, WriteStop>
     ensures ok { IfOk result (Wrote (Refuses stop) (K.written sink.old) (K.written sink.new)) }
     ensures err { OnErr result (WroteAtMost (Refuses stop) (K.written sink.old) (K.written sink.new)) }
     ensures failed { IsErrOf result WriteStop.Failed → Rose (K.faults sink.old) (K.faults sink.new) }

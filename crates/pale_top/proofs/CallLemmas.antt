@@ -3,36 +3,34 @@ use Rattle.std.proofs.Common.{◌≡◌, ◌∙◌, ◌+◌, ◌<◌, ◌≤◌,
 use Rattle.std.specs.Prelude.{◌≢◌, IfSome, IfOk, IsErrOf, OnErr}
 use Rattle.std.proofs.Math.ListN.{drop_of_length-le}
 use Rattle.std.proofs.lemmas.List.{length-replicate}
-use Rattle.program_judge.specs.declared.ways.Ending.{Ending}
-use Rattle.program_judge.specs.declared.ways.Ending.TheVariants as ending
 use Rattle.pale_io.specs.Told.{without_first}
 use Rattle.pale_io.specs.Whole.{ReadsAll, WritesAll, WritesFront}
 use Rattle.pale_io.specs.declared.stops.WriteStop.{WriteStop}
 use Rattle.pale_io.specs.declared.stops.WriteStop.TheVariants.{Failed, NoMemory}
-use Rattle.pale_modes.specs.declared.status.Status.{Status}
-use Rattle.pale_modes.specs.declared.status.Status.TheVariants.{Good, Bad, Words, Text, Limit, Memory, ReadFault, WriteFault}
+use Rattle.store_exec.specs.declared.triple.Triple.{Triple}
+use Rattle.pale_types.specs.TypedPrograms.{TypedProgram}
 use Rattle.pale_words.specs.declared.words.Mode.{Mode}
 use Rattle.pale_words.specs.declared.words.Mode.TheVariants.{Check, Replay, Format, Ws2s, Gen}
 use Rattle.pale_words.specs.declared.words.Settings.{Settings}
 use Rattle.pale_words.specs.Words.{Gives}
+use Rattle.pale_modes.specs.declared.status.Status.{Status}
+use Rattle.pale_modes.specs.declared.status.Status.TheVariants.{Good, Bad, Words, Text, Limit, Memory, ReadFault, WriteFault}
 use Rattle.pale_modes.proofs.GivenLemmas.{IsGiven, decided_given, formatted_given, replayed_given}
 use Rattle.pale_modes.proofs.WrittenLemmas.{Wrote-weaker, WroteAtMost-weaker}
 use Rattle.pale_modes.specs.Formatting as formatting
 use Rattle.pale_modes.specs.Replaying as replaying
 use Rattle.pale_modes.specs.Deciding as deciding
-use Rattle.pale_top.specs.Checking.{Checks}
-use Rattle.pale_top.specs.Checking as checking
-use Rattle.pale_modes.specs.Written.{EndsBy}
-use Rattle.pale_top.specs.Output.{Answers, Begins, CallOutput, IsAnswer, IsCutShort, Output}
-use Rattle.pale_top.specs.Output.{check, replay, format, ws2s, generated}
-use Rattle.pale_top.specs.Generating.{Gens, Tells}
-use Rattle.pale_top.specs.Generating as generating
-use Rattle.store_exec.specs.declared.triple.Triple.{Triple}
-use Rattle.pale_types.specs.TypedPrograms.{TypedProgram}
-use Rattle.pale_modes.specs.Written.{Wrote, WroteAtMost}
-use Rattle.pale_top.specs.Output.{given}
+use Rattle.pale_modes.specs.Written.{EndsBy, Wrote, WroteAtMost}
 use Rattle.pale_modes.specs.Report.{too_long_line}
 use Rattle.pale_modes.specs.Texts.{most_bytes}
+use Rattle.program_judge.specs.declared.ways.Ending.{Ending}
+use Rattle.program_judge.specs.declared.ways.Ending.TheVariants as ending
+use Rattle.pale_top.specs.Checking.{Checks}
+use Rattle.pale_top.specs.Checking as checking
+use Rattle.pale_top.specs.Output.{Answers, Begins, CallOutput, IsAnswer, IsCutShort, Output}
+use Rattle.pale_top.specs.Output.{check, replay, format, ws2s, generated, given}
+use Rattle.pale_top.specs.Generating.{Gens, Tells}
+use Rattle.pale_top.specs.Generating as generating
 
 -- ---- the text that was read
 

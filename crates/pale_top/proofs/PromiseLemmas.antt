@@ -1,25 +1,24 @@
 -- What an output of `check` promises, by the laws of reports.
-use Rattle.std.proofs.Common.{◌≡◌, ◌∙◌, ◌⊎◌, inl, inr, ◌≤◌, ◌<◌, ℕ, List, [], ◌∷◌, length, Option, Some, None, ap, refl, subst, sym, arith}
+use Rattle.std.proofs.Common.{◌≡◌, ◌∙◌, ◌⊎◌, inl, inr, ◌≤◌, ℕ, List, length, Option, Some, None, ap, refl, subst, sym, arith}
 use Rattle.std.specs.Prelude.{IfSome}
 use Rattle.pale_text.specs.declared.refusal.Refusal.{Refusal}
 use Rattle.store_exec.specs.declared.triple.Triple.{Triple}
 use Rattle.pale_types.specs.TypedPrograms.{TypedProgram}
 use Rattle.pale_program.specs.ProgramTexts.{IsReadAs, IsRefusedAs}
+use Rattle.pale_words.specs.declared.words.Mode.TheVariants.{Check, Replay, Format, Ws2s, Gen}
+use Rattle.pale_words.specs.declared.words.Settings.{Settings}
+use Rattle.pale_words.specs.Words.{AsksFor, Gives}
+use Rattle.pale_words.proofs.GivesLemmas.{same_limit, same_mode}
+use Rattle.pale_modes.specs.declared.status.Status.{Status}
+use Rattle.pale_modes.specs.declared.status.Status.TheVariants.{Good, Bad}
+use Rattle.pale_modes.specs.Texts.{most_bytes}
 use Rattle.program_judge.specs.declared.ways.Ending.{Ending}
 use Rattle.program_judge.specs.declared.ways.Ending.TheVariants as ending
 use Rattle.program_judge.specs.Reports.{ReportsProgram}
 use Rattle.program_judge.specs.Safety.{RunsNeverFail, IsSafe}
 use Rattle.program_judge.specs.Completeness.{ArePeaksWithin, IsWithinPeaks}
-use Rattle.pale_modes.specs.declared.status.Status.{Status}
-use Rattle.pale_modes.specs.declared.status.Status.TheVariants.{Good, Bad}
-use Rattle.pale_words.specs.declared.words.Mode.{Mode}
-use Rattle.pale_words.specs.declared.words.Mode.TheVariants.{Check, Replay, Format, Ws2s, Gen}
-use Rattle.pale_words.specs.declared.words.Settings.{Settings}
 use Rattle.pale_top.specs.Checking.{Checks, status_of, too_long, refused, judged}
 use Rattle.pale_top.specs.Output.{Answers, IsAnswer, Output, check, replay, format, ws2s, generated}
-use Rattle.pale_modes.specs.Texts.{most_bytes}
-use Rattle.pale_words.specs.Words.{AsksFor, Gives}
-use Rattle.pale_words.proofs.GivesLemmas.{same_limit, same_mode}
 
 -- ---- what the layers below say of reports
 

@@ -1,20 +1,17 @@
 -- What a call of the program writes and how it ends, by its words and by the text that its source had left.
 -- The definitions speak of texts and of what they are read as, and of no step that the program makes.
-use Rattle.std.specs.Prelude.{◌≡◌, ◌⊎◌, ℕ, List, Option, IfSome, Result, Ok, Err}
-use Rattle.pale_io.specs.declared.stops.WriteStop.{WriteStop}
-use Rattle.pale_io.specs.declared.stops.WriteStop.TheVariants.{Failed, NoMemory}
-use Rattle.pale_io.specs.Whole.{WritesAll, WritesFront}
-use Rattle.pale_modes.specs.declared.status.Status.{Status}
-use Rattle.pale_modes.specs.declared.status.Status.TheVariants.{Words, Memory, ReadFault, WriteFault}
+use Rattle.std.specs.Prelude.{◌≡◌, ℕ, List, codes, Option, IfSome}
 use Rattle.pale_words.specs.declared.words.Mode.TheVariants.{Check, Replay, Format, Ws2s, Gen}
 use Rattle.pale_words.specs.declared.words.Settings.{Settings}
-use Rattle.pale_top.specs.Checking.{Checks}
+use Rattle.pale_words.specs.Words.{Gives, IsRefused}
+use Rattle.pale_modes.specs.declared.status.Status.{Status}
+use Rattle.pale_modes.specs.declared.status.Status.TheVariants.{Words, Memory, ReadFault, WriteFault}
 use Rattle.pale_modes.specs.Deciding.{Decides}
 use Rattle.pale_modes.specs.Formatting.{Formats}
-use Rattle.pale_top.specs.Generating.{Gens}
 use Rattle.pale_modes.specs.Replaying.{Replays}
-use Rattle.pale_words.specs.Words.{Gives, IsRefused}
 use Rattle.pale_modes.specs.Written.{Wrote, WroteAtMost}
+use Rattle.pale_top.specs.Checking.{Checks}
+use Rattle.pale_top.specs.Generating.{Gens}
 
 -- ---- a call
 

@@ -6,11 +6,11 @@ ghost use Rattle.gta_keep.specs.Holding.{HasNoTables};
 ghost use Rattle.witness_store.specs.Alike.{AreFunctional};
 ghost use Rattle.pale_types.specs.Fitting.{ProgramFits};
 ghost use Rattle.hoare_split.specs.Fitting.{FitsProgram};
-ghost use Rattle.program_judge.specs.Reports.{ReportsAll, ReportsProgram};
-ghost use Rattle.pale_top.specs.Checking.{Checks, status_of};
+ghost use Rattle.pale_words.specs.Words.{IsLimit};
 ghost use Rattle.pale_modes.specs.Written.{Wrote, WroteAtMost};
 ghost use Rattle.pale_modes.specs.Texts.{most_bytes};
-ghost use Rattle.pale_words.specs.Words.{IsLimit};
+ghost use Rattle.program_judge.specs.Reports.{ReportsAll, ReportsProgram};
+ghost use Rattle.pale_top.specs.Checking.{Checks, status_of};
 
 use crate::check_parts::{check_fields, check_triples};
 use bdd_nodes::Shelf;

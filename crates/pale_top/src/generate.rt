@@ -6,10 +6,10 @@ ghost use Rattle.gta_keep.specs.Holding.{HasNoTables};
 ghost use Rattle.witness_store.specs.Alike.{AreFunctional};
 ghost use Rattle.pale_types.specs.Fitting.{ProgramFits};
 ghost use Rattle.hoare_split.specs.Fitting.{FitsProgram};
+ghost use Rattle.pale_words.specs.Words.{IsLimit};
+ghost use Rattle.pale_modes.specs.Written.{Wrote, WroteAtMost};
 ghost use Rattle.program_judge.specs.Reports.{ReportsTriples, judged_ending};
 ghost use Rattle.pale_top.specs.Generating.{Counts, Gens, Tells, gen_counts, gen_head, gen_line, gen_sizes};
-ghost use Rattle.pale_modes.specs.Written.{Wrote, WroteAtMost};
-ghost use Rattle.pale_words.specs.Words.{IsLimit};
 
 use crate::call::MOST_BYTES;
 use crate::check::status_of;
