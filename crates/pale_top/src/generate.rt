@@ -18,9 +18,8 @@ use crate::nowhere::Nowhere;
 use bdd_nodes::Shelf;
 use pale_generator::gen_program;
 use pale_io::{Sink, WriteStop};
-use pale_modes::{Status, refuse, say};
+use pale_modes::{Status, push_number, refuse, say};
 use pale_program::{WholeProgram, read_program};
-use pale_replay::push_number;
 use program_judge::{
     Ending, TripleWay, are_functional, invalid_count, judged_ending, limit_count, stopped_ending,
     valid_count,
