@@ -1,7 +1,7 @@
 //! The words of a call, with what they ask for.
 
 use crate::calls::words_of;
-use pale_top::{Mode, Settings, WordsStop, read_words};
+use pale_words::{Mode, Settings, WordsStop, read_words};
 use std::alloc::{AllocError, Global};
 use std::test::Fail;
 

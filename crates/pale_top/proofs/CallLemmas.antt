@@ -3,39 +3,34 @@ use Rattle.std.proofs.Common.{◌≡◌, ◌∙◌, ◌+◌, ◌<◌, ◌≤◌,
 use Rattle.std.specs.Prelude.{◌≢◌, IfSome, IfOk, IsErrOf, OnErr}
 use Rattle.std.proofs.Math.ListN.{drop_of_length-le}
 use Rattle.std.proofs.lemmas.List.{length-replicate}
-use Rattle.program_judge.specs.declared.ways.Ending.{Ending}
-use Rattle.program_judge.specs.declared.ways.Ending.TheVariants as ending
 use Rattle.pale_io.specs.Told.{without_first}
 use Rattle.pale_io.specs.Whole.{ReadsAll, WritesAll, WritesFront}
 use Rattle.pale_io.specs.declared.stops.WriteStop.{WriteStop}
 use Rattle.pale_io.specs.declared.stops.WriteStop.TheVariants.{Failed, NoMemory}
-use Rattle.pale_top.specs.declared.status.Status.{Status}
-use Rattle.pale_top.specs.declared.status.Status.TheVariants.{Good, Bad, Words, Text, Limit, Memory, ReadFault, WriteFault}
-use Rattle.pale_top.specs.declared.words.Mode.{Mode}
-use Rattle.pale_top.specs.declared.words.Mode.TheVariants.{Check, Replay, Format, Ws2s, Gen}
-use Rattle.pale_top.specs.declared.words.Settings.{Settings}
-use Rattle.pale_top.specs.Words.{Gives, IsRefused}
-use Rattle.pale_top.proofs.WrittenLemmas.{Wrote-weaker, WroteAtMost-weaker}
-use Rattle.pale_top.specs.Formatting.{Formats}
-use Rattle.pale_top.specs.Formatting as formatting
-use Rattle.pale_replay.specs.declared.answer.Answer.{Answer}
-use Rattle.pale_replay.specs.declared.answer.Answer.TheVariants as answer
-use Rattle.pale_top.specs.Replaying.{Replays}
-use Rattle.pale_top.specs.Replaying as replaying
-use Rattle.pale_top.specs.Deciding.{Decides, Says}
-use Rattle.ws2s_syntax.specs.Checked.{Text as WsText}
-use Rattle.pale_top.specs.Deciding as deciding
-use Rattle.pale_top.specs.Checking.{Checks}
-use Rattle.pale_top.specs.Checking as checking
-use Rattle.pale_top.specs.Output.{Answers, Begins, CallOutput, EndsBy, IsAnswer, IsCutShort, Output}
-use Rattle.pale_top.specs.Output.{check, replay, format, ws2s, generated}
-use Rattle.pale_top.specs.Generating.{Gens, Tells}
-use Rattle.pale_top.specs.Generating as generating
 use Rattle.store_exec.specs.declared.triple.Triple.{Triple}
 use Rattle.pale_types.specs.TypedPrograms.{TypedProgram}
-use Rattle.pale_top.specs.Output.{given, Wrote, WroteAtMost}
-use Rattle.pale_top.specs.Report.{too_long_line}
-use Rattle.pale_top.specs.Texts.{most_bytes}
+use Rattle.pale_words.specs.declared.words.Mode.{Mode}
+use Rattle.pale_words.specs.declared.words.Mode.TheVariants.{Check, Replay, Format, Ws2s, Gen}
+use Rattle.pale_words.specs.declared.words.Settings.{Settings}
+use Rattle.pale_words.specs.Words.{Gives}
+use Rattle.pale_modes.specs.declared.status.Status.{Status}
+use Rattle.pale_modes.specs.declared.status.Status.TheVariants.{Good, Bad, Words, Text, Limit, Memory, ReadFault, WriteFault}
+use Rattle.pale_modes.proofs.GivenLemmas.{IsGiven, decided_given, formatted_given, replayed_given}
+use Rattle.pale_modes.proofs.WrittenLemmas.{Wrote-weaker, WroteAtMost-weaker}
+use Rattle.pale_modes.specs.Formatting as formatting
+use Rattle.pale_modes.specs.Replaying as replaying
+use Rattle.pale_modes.specs.Deciding as deciding
+use Rattle.pale_modes.specs.Written.{EndsBy, Wrote, WroteAtMost}
+use Rattle.pale_modes.specs.Report.{too_long_line}
+use Rattle.pale_modes.specs.Texts.{most_bytes}
+use Rattle.program_judge.specs.declared.ways.Ending.{Ending}
+use Rattle.program_judge.specs.declared.ways.Ending.TheVariants as ending
+use Rattle.pale_top.specs.Checking.{Checks}
+use Rattle.pale_top.specs.Checking as checking
+use Rattle.pale_top.specs.Output.{Answers, Begins, CallOutput, IsAnswer, IsCutShort, Output}
+use Rattle.pale_top.specs.Output.{check, replay, format, ws2s, generated, given}
+use Rattle.pale_top.specs.Generating.{Gens, Tells}
+use Rattle.pale_top.specs.Generating as generating
 
 -- ---- the text that was read
 
@@ -67,14 +62,6 @@ all_read most (Some left) after bytes reads =
 
 -- ---- the statuses of outputs
 
--- an output has one of these
-abbrev IsGiven : Status → Type 0
-IsGiven Good = Unit {0}
-IsGiven Bad = Unit {0}
-IsGiven Text = Unit {0}
-IsGiven Limit = Unit {0}
-IsGiven status = ⊥
-
 ending_given : (how : Ending) → IsGiven (checking.status_of how)
 ending_given ending.Good = tt
 ending_given ending.Bad = tt
@@ -94,36 +81,6 @@ generated_given : (limit seed : ℕ) (output : List ℕ) (status : Status) → G
 generated_given limit seed output status (generating.too_long more) = tt
 generated_given limit seed output status (generating.refused refusal within is) = tt
 generated_given limit seed output status (generating.counted program triples o s within is tells) = told_given limit seed program triples o s tells
-
-answer_given : (a : Answer) → IsGiven (replaying.status_of a)
-answer_given (answer.StoreRefused line kind) = tt
-answer_given (answer.NotWellFormed wrong) = tt
-answer_given answer.StartFalse = tt
-answer_given (answer.Fails why line) = tt
-answer_given (answer.Ends line) = tt
-
-replayed_given : (text output : List ℕ) (status : Status) → Replays text output status → IsGiven status
-replayed_given text output status (replaying.too_long more) = tt
-replayed_given text output status (replaying.refused refusal within stop) = tt
-replayed_given text output status (replaying.replay a line within is) = answer_given a
-
-formatted_given : (text output : List ℕ) (status : Status) → Formats text output status → IsGiven status
-formatted_given text output status (formatting.too_long more) = tt
-formatted_given text output status (formatting.stray refusal within stop) = tt
-formatted_given text output status (formatting.unparsed list refusal within lexed stop) = tt
-formatted_given text output status (formatting.program list tree within lexed parsed) = tt
-
-said_given : (limit : ℕ) (tree : WsText) (output : List ℕ) (status : Status) → Says limit tree output status → IsGiven status
-said_given limit tree output status (deciding.big big) = tt
-said_given limit tree output status (deciding.unsatisfiable small answer) = tt
-said_given limit tree output status (deciding.valid small answer) = tt
-said_given limit tree output status (deciding.satisfiable nodes lines small answer example) = tt
-said_given limit tree output status (deciding.above small answer) = tt
-
-decided_given : (limit : ℕ) (text output : List ℕ) (status : Status) → Decides limit text output status → IsGiven status
-decided_given limit text output status (deciding.too_long more) = tt
-decided_given limit text output status (deciding.refused refusal within is) = tt
-decided_given limit text output status (deciding.read tree o s within is says) = said_given limit tree o s says
 
 output_given : (settings : Settings) (text output : List ℕ) (status : Status) → Output settings text output status → IsGiven status
 output_given settings text output status (check is written answer checks) = checked_given settings.limit text output status checks
@@ -232,8 +189,3 @@ module _ (words : List (List ℕ)) (settings : Settings) (gives : Gives words se
     told = begins.told;
     wrote = WroteAtMost-weaker (Output settings begins.text) (CallOutput words begins.text) (given settings gives) before after begins.wrote;
   }
-
--- words that give settings aren't refused
-pub not_refused : (words : List (List ℕ)) (settings : Settings) → Gives words settings → IsRefused words → ⊥
-unfolding IsRefused
-not_refused words settings gives refused = refused gives.taken

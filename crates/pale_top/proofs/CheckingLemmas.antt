@@ -13,6 +13,9 @@ use Rattle.witness_store.specs.Alike.{AreFunctional}
 use Rattle.pale_types.specs.TypedPrograms.{TypedProgram}
 use Rattle.pale_types.specs.Fitting.{ProgramFits}
 use Rattle.hoare_split.specs.Fitting.{FitsProgram}
+use Rattle.pale_io.specs.Whole.{WritesAll, WritesFront}
+use Rattle.pale_modes.specs.Written.{Wrote, WroteAtMost}
+use Rattle.pale_modes.proofs.WrittenLemmas.{nothing_written, both_written, front_of_first, first_written, front_of_second}
 use Rattle.program_judge.specs.declared.ways.FieldWay.{FieldWay}
 use Rattle.program_judge.specs.declared.ways.TripleWay.{TripleWay}
 use Rattle.program_judge.specs.declared.ways.Ending.{Ending}
@@ -22,9 +25,6 @@ use Rattle.program_judge.specs.Reports.{ReportsField, ReportsFields, no_field, R
 use Rattle.program_judge.specs.Reports.{ReportsAll, totalled, ReportsProgram, stopped, judged}
 use Rattle.program_judge.proofs.JoinedLemmas.{field-more, triple-more}
 use Rattle.program_judge.proofs.EndingLemmas.{fields-end, triples-end}
-use Rattle.pale_io.specs.Whole.{WritesAll, WritesFront}
-use Rattle.pale_top.specs.Output.{Wrote, WroteAtMost}
-use Rattle.pale_top.proofs.WrittenLemmas.{nothing_written, both_written, front_of_first, first_written, front_of_second}
 
 -- ---- what was written so far begins an output
 

@@ -1,12 +1,3 @@
-mod ArgsLemmas
 mod CallLemmas
 mod CheckingLemmas
-mod CommandLemmas
-mod DecidingLemmas
-mod OutputLemmas
 mod PromiseLemmas
-mod ReadLemmas
-mod SameRulesLemmas
-mod SettingsLemmas
-mod ValueLemmas
-mod WrittenLemmas

@@ -1,70 +1,24 @@
 -- What an output of `check` promises, by the laws of reports.
-use Rattle.std.proofs.Common.{◌≡◌, ◌∙◌, ◌⊎◌, inl, inr, ◌≤◌, ◌<◌, ℕ, List, [], ◌∷◌, length, Option, Some, None, ap, refl, subst, sym, arith}
+use Rattle.std.proofs.Common.{◌≡◌, ◌∙◌, ◌⊎◌, inl, inr, ◌≤◌, ℕ, List, length, Option, Some, None, ap, refl, subst, sym, arith}
 use Rattle.std.specs.Prelude.{IfSome}
-use Rattle.std.proofs.lemmas.Option.{same_Some}
 use Rattle.pale_text.specs.declared.refusal.Refusal.{Refusal}
 use Rattle.store_exec.specs.declared.triple.Triple.{Triple}
 use Rattle.pale_types.specs.TypedPrograms.{TypedProgram}
 use Rattle.pale_program.specs.ProgramTexts.{IsReadAs, IsRefusedAs}
+use Rattle.pale_words.specs.declared.words.Mode.TheVariants.{Check, Replay, Format, Ws2s, Gen}
+use Rattle.pale_words.specs.declared.words.Settings.{Settings}
+use Rattle.pale_words.specs.Words.{AsksFor, Gives}
+use Rattle.pale_words.proofs.GivesLemmas.{same_limit, same_mode}
+use Rattle.pale_modes.specs.declared.status.Status.{Status}
+use Rattle.pale_modes.specs.declared.status.Status.TheVariants.{Good, Bad}
+use Rattle.pale_modes.specs.Texts.{most_bytes}
 use Rattle.program_judge.specs.declared.ways.Ending.{Ending}
 use Rattle.program_judge.specs.declared.ways.Ending.TheVariants as ending
 use Rattle.program_judge.specs.Reports.{ReportsProgram}
 use Rattle.program_judge.specs.Safety.{RunsNeverFail, IsSafe}
 use Rattle.program_judge.specs.Completeness.{ArePeaksWithin, IsWithinPeaks}
-use Rattle.pale_top.specs.declared.status.Status.{Status}
-use Rattle.pale_top.specs.declared.status.Status.TheVariants.{Good, Bad}
-use Rattle.pale_top.specs.declared.words.Mode.{Mode}
-use Rattle.pale_top.specs.declared.words.Mode.TheVariants.{Check, Replay, Format, Ws2s, Gen}
-use Rattle.pale_top.specs.declared.words.Settings.{Settings}
 use Rattle.pale_top.specs.Checking.{Checks, status_of, too_long, refused, judged}
 use Rattle.pale_top.specs.Output.{Answers, IsAnswer, Output, check, replay, format, ws2s, generated}
-use Rattle.pale_top.specs.Texts.{most_bytes}
-use Rattle.pale_top.specs.Words.{AsksFor, Gives, mode_name}
-
--- ---- what the words ask for
-
--- the names of the modes begin with letters of their own
-first_letter : List ℕ → ℕ
-first_letter [] = 0
-first_letter (x ∷ xs) = x
-
-less : (a b : ℕ) → a < b → a ≡ b → ⊥
-less a b below same = omega (arith, below, same)
-
-same_name : (one other : Mode) → mode_name one ≡ mode_name other → one ≡ other
-unfolding first_letter
-same_name Check Check is = refl
-same_name Check Replay is = absurd (less 99 114 (omega arith) (ap first_letter is))
-same_name Check Format is = absurd (less 99 102 (omega arith) (ap first_letter is))
-same_name Check Ws2s is = absurd (less 99 119 (omega arith) (ap first_letter is))
-same_name Check Gen is = absurd (less 99 103 (omega arith) (ap first_letter is))
-same_name Replay Check is = absurd (less 99 114 (omega arith) (ap first_letter (sym is)))
-same_name Replay Replay is = refl
-same_name Replay Format is = absurd (less 102 114 (omega arith) (ap first_letter (sym is)))
-same_name Replay Ws2s is = absurd (less 114 119 (omega arith) (ap first_letter is))
-same_name Replay Gen is = absurd (less 103 114 (omega arith) (ap first_letter (sym is)))
-same_name Format Check is = absurd (less 99 102 (omega arith) (ap first_letter (sym is)))
-same_name Format Replay is = absurd (less 102 114 (omega arith) (ap first_letter is))
-same_name Format Format is = refl
-same_name Format Ws2s is = absurd (less 102 119 (omega arith) (ap first_letter is))
-same_name Format Gen is = absurd (less 102 103 (omega arith) (ap first_letter is))
-same_name Ws2s Check is = absurd (less 99 119 (omega arith) (ap first_letter (sym is)))
-same_name Ws2s Replay is = absurd (less 114 119 (omega arith) (ap first_letter (sym is)))
-same_name Ws2s Format is = absurd (less 102 119 (omega arith) (ap first_letter (sym is)))
-same_name Ws2s Ws2s is = refl
-same_name Ws2s Gen is = absurd (less 103 119 (omega arith) (ap first_letter (sym is)))
-same_name Gen Check is = absurd (less 99 103 (omega arith) (ap first_letter (sym is)))
-same_name Gen Replay is = absurd (less 103 114 (omega arith) (ap first_letter is))
-same_name Gen Format is = absurd (less 102 103 (omega arith) (ap first_letter (sym is)))
-same_name Gen Ws2s is = absurd (less 103 119 (omega arith) (ap first_letter is))
-same_name Gen Gen is = refl
-
-module _ (words : List (List ℕ)) (one other : Settings) (a : Gives words one) (b : Gives words other) where
-  pub same_mode : one.mode ≡ other.mode
-  same_mode = same_name one.mode other.mode (same_Some (mode_name one.mode) (mode_name other.mode) (sym a.values.mode ∙ b.values.mode))
-
-  pub same_limit : one.limit ≡ other.limit
-  same_limit = same_Some one.limit other.limit (sym a.values.limit ∙ b.values.limit)
 
 -- ---- what the layers below say of reports
 

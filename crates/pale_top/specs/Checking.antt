@@ -4,13 +4,13 @@ use Rattle.pale_text.specs.declared.refusal.Refusal.{Refusal}
 use Rattle.store_exec.specs.declared.triple.Triple.{Triple}
 use Rattle.pale_types.specs.TypedPrograms.{TypedProgram}
 use Rattle.pale_program.specs.ProgramTexts.{IsReadAs, IsRefusedAs}
+use Rattle.pale_modes.specs.declared.status.Status.{Status}
+use Rattle.pale_modes.specs.declared.status.Status.TheVariants.{Good, Bad, Text, Limit}
+use Rattle.pale_modes.specs.Report.{refused_line, too_long_line}
+use Rattle.pale_modes.specs.Texts.{most_bytes}
 use Rattle.program_judge.specs.declared.ways.Ending.{Ending}
 use Rattle.program_judge.specs.declared.ways.Ending.TheVariants as ending
 use Rattle.program_judge.specs.Reports.{ReportsProgram}
-use Rattle.pale_top.specs.declared.status.Status.{Status}
-use Rattle.pale_top.specs.declared.status.Status.TheVariants.{Good, Bad, Text, Limit}
-use Rattle.pale_top.specs.Report.{refused_line, too_long_line}
-use Rattle.pale_top.specs.Texts.{most_bytes}
 
 -- the status of a report, by how it ends
 abbrev pub status_of : Ending → Status

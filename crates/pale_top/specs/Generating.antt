@@ -7,16 +7,16 @@ use Rattle.store_exec.specs.declared.triple.Triple.{Triple}
 use Rattle.pale_types.specs.TypedPrograms.{TypedProgram}
 use Rattle.pale_generator.specs.Generated.{program_text}
 use Rattle.pale_program.specs.ProgramTexts.{IsReadAs, IsRefusedAs}
+use Rattle.pale_modes.specs.declared.status.Status.{Status}
+use Rattle.pale_modes.specs.declared.status.Status.TheVariants.{Text}
+use Rattle.pale_modes.specs.Report.{refused_line, too_long_line}
+use Rattle.pale_modes.specs.Texts.{most_bytes}
 use Rattle.program_judge.specs.declared.ways.Ending.{Ending}
 use Rattle.program_judge.specs.declared.ways.FieldWay.{FieldWay}
 use Rattle.program_judge.specs.declared.ways.TripleWay.{TripleWay}
 use Rattle.program_judge.specs.Reports.{pointer_fields, is_functional, is_valid, is_invalid, is_at_limit, stopped_ending, judged_ending}
 use Rattle.program_judge.specs.Reports.{ReportsFields, ReportsTriples}
-use Rattle.pale_top.specs.declared.status.Status.{Status}
-use Rattle.pale_top.specs.declared.status.Status.TheVariants.{Text}
 use Rattle.pale_top.specs.Checking.{status_of}
-use Rattle.pale_top.specs.Report.{refused_line, too_long_line}
-use Rattle.pale_top.specs.Texts.{most_bytes}
 
 -- ` procedures P triples T`
 abbrev pub gen_sizes : ℕ → ℕ → List ℕ

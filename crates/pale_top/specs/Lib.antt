@@ -1,10 +1,3 @@
 pub mod Checking
-pub mod Deciding
-pub mod Formatting
 pub mod Generating
 pub mod Output
-pub mod Replaying
-pub mod Report
-pub mod Statuses
-pub mod Texts
-pub mod Words

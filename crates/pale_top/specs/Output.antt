@@ -1,22 +1,23 @@
 -- What a call of the program writes and how it ends, by its words and by the text that its source had left.
 -- The definitions speak of texts and of what they are read as, and of no step that the program makes.
-use Rattle.std.specs.Prelude.{◌≡◌, ◌⊎◌, ℕ, List, Option, IfSome, Result, Ok, Err}
-use Rattle.pale_io.specs.declared.stops.WriteStop.{WriteStop}
-use Rattle.pale_io.specs.declared.stops.WriteStop.TheVariants.{Failed, NoMemory}
-use Rattle.pale_io.specs.Whole.{WritesAll, WritesFront}
-use Rattle.pale_top.specs.declared.status.Status.{Status}
-use Rattle.pale_top.specs.declared.status.Status.TheVariants.{Words, Memory, ReadFault, WriteFault}
-use Rattle.pale_top.specs.declared.words.Mode.TheVariants.{Check, Replay, Format, Ws2s, Gen}
-use Rattle.pale_top.specs.declared.words.Settings.{Settings}
+use Rattle.std.specs.Prelude.{◌≡◌, ℕ, List, codes, Option, IfSome}
+use Rattle.pale_words.specs.declared.words.Mode.TheVariants.{Check, Replay, Format, Ws2s, Gen}
+use Rattle.pale_words.specs.declared.words.Settings.{Settings}
+use Rattle.pale_words.specs.Words.{Gives, IsRefused}
+use Rattle.pale_modes.specs.declared.status.Status.{Status}
+use Rattle.pale_modes.specs.declared.status.Status.TheVariants.{Words, Memory, ReadFault, WriteFault}
+use Rattle.pale_modes.specs.Deciding.{Decides}
+use Rattle.pale_modes.specs.Formatting.{Formats}
+use Rattle.pale_modes.specs.Replaying.{Replays}
+use Rattle.pale_modes.specs.Written.{Wrote, WroteAtMost}
 use Rattle.pale_top.specs.Checking.{Checks}
-use Rattle.pale_top.specs.Deciding.{Decides}
-use Rattle.pale_top.specs.Formatting.{Formats}
 use Rattle.pale_top.specs.Generating.{Gens}
-use Rattle.pale_top.specs.Replaying.{Replays}
-use Rattle.pale_top.specs.Words.{Gives, IsRefused}
-use Rattle.pale_top.specs.Report.{usage_line}
 
 -- ---- a call
+
+-- the line for words that are refused
+abbrev pub usage_line : List ℕ
+usage_line = codes "usage: pale MODE [--limit N] [--seed N]\n"
 
 -- what a call with these settings writes for a text, and its status, by the mode; `gen` has no text
 pub data Output (settings : Settings) (text : List ℕ) : List ℕ → Status → Type 0 where
@@ -45,29 +46,6 @@ abbrev pub IsCutShort : Status → Type 0
 IsCutShort Memory = Unit {0}
 IsCutShort WriteFault = Unit {0}
 IsCutShort status = ⊥
-
--- the status of a call after this outcome at the sink
-abbrev pub EndsBy : Result Status WriteStop → Status → Type 0
-EndsBy (Ok answer) status = status ≡ answer
-EndsBy (Err Failed) status = status ≡ WriteFault
-EndsBy (Err NoMemory) status = status ≡ Memory
-
--- By what a sink told before and after: an output was written that is allowed with this status, or with what else is told of it.
-pub record Wrote {A : Type 0} (Allowed : List ℕ → A → Type 0) (before after : Option (List ℕ)) (status : A) : Type 0 where
-  pub output : List ℕ
-  pub allowed : Allowed output status
-  pub written : WritesAll before after output
-
--- a front was written of an output that is allowed with some status
-pub record WroteFront {A : Type 0} (Allowed : List ℕ → A → Type 0) (before after : Option (List ℕ)) : Type 0 where
-  pub output : List ℕ
-  pub status : A
-  pub allowed : Allowed output status
-  pub written : WritesFront before after output
-
--- nothing was written, or such a front
-abbrev pub WroteAtMost : {A : Type 0} → (List ℕ → A → Type 0) → Option (List ℕ) → Option (List ℕ) → Type 0
-WroteAtMost Allowed before after = (after ≡ before) ⊎ WroteFront Allowed before after
 
 -- the output that was written is allowed for a text, which is all that the source had left, where it told of that
 pub record Answers (Allowed : List ℕ → List ℕ → Status → Type 0) (left before after : Option (List ℕ)) (status : Status)

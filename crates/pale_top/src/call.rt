@@ -4,21 +4,19 @@ ghost use Rattle.std.specs.String.{string_bytes};
 ghost use Rattle.pale_io.specs.Faults.{Rose};
 ghost use Rattle.pale_io.specs.Told.{without_first};
 ghost use Rattle.pale_io.specs.Whole.{ReadsFront};
-ghost use Rattle.pale_top.specs.Output.{Answers, Begins, IsAnswer, IsCutShort, CallOutput, Output, Wrote, WroteAtMost};
-ghost use Rattle.pale_top.specs.Report.{too_long_line, usage_line};
-ghost use Rattle.pale_top.specs.Texts.{most_bytes};
-ghost use Rattle.pale_top.specs.Words.{AsksFor, Gives, IsLimit, IsRefused};
+ghost use Rattle.pale_words.specs.Words.{AsksFor, Gives, IsLimit, IsRefused};
+ghost use Rattle.pale_modes.specs.Report.{too_long_line};
+ghost use Rattle.pale_modes.specs.Texts.{most_bytes};
+ghost use Rattle.pale_modes.specs.Written.{Wrote, WroteAtMost};
 ghost use Rattle.program_judge.specs.Safety.{IsSafe};
 ghost use Rattle.program_judge.specs.Completeness.{IsWithinPeaks};
+ghost use Rattle.pale_top.specs.Output.{Answers, Begins, IsAnswer, IsCutShort, CallOutput, Output, usage_line};
 
 use crate::check::check_text;
-use crate::decide::decide_text;
-use crate::format::format_text;
 use crate::generate::gen_text;
-use crate::replay::replay_text;
-use crate::writing::{ended, say};
-use crate::{Mode, Settings, Status, WordsStop, read_words};
 use pale_io::{ReadStop, Sink, Source, WriteStop, read_all};
+use pale_modes::{Status, decide_text, ended, format_text, replay_text, say};
+use pale_words::{Mode, Settings, WordsStop, read_words};
 use program_judge::promises::{
     good_reports_have_safe_runs, reports_within_the_peaks_are_verdicts, texts_have_one_reading,
 };

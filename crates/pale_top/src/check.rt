@@ -6,20 +6,17 @@ ghost use Rattle.gta_keep.specs.Holding.{HasNoTables};
 ghost use Rattle.witness_store.specs.Alike.{AreFunctional};
 ghost use Rattle.pale_types.specs.Fitting.{ProgramFits};
 ghost use Rattle.hoare_split.specs.Fitting.{FitsProgram};
+ghost use Rattle.pale_words.specs.Words.{IsLimit};
+ghost use Rattle.pale_modes.specs.Written.{Wrote, WroteAtMost};
+ghost use Rattle.pale_modes.specs.Texts.{most_bytes};
 ghost use Rattle.program_judge.specs.Reports.{ReportsAll, ReportsProgram};
 ghost use Rattle.pale_top.specs.Checking.{Checks, status_of};
-ghost use Rattle.pale_top.specs.Output.{Wrote, WroteAtMost};
-ghost use Rattle.pale_top.specs.Texts.{most_bytes};
-ghost use Rattle.pale_top.specs.Words.{IsLimit};
 
-use crate::Status;
 use crate::check_parts::{check_fields, check_triples};
-use crate::report::refused_line;
-use crate::writing::say;
 use bdd_nodes::Shelf;
 use pale_io::{Sink, WriteStop, write_all};
+use pale_modes::{Status, refuse};
 use pale_program::{WholeProgram, read_program};
-use pale_text::TextStop;
 use program_judge::{Ending, are_functional, judged_ending, stopped_ending, totals_text};
 use std::alloc::Global;
 use ws2s_pass::PassList;
@@ -105,10 +102,6 @@ pub(crate) fn check_text<K: Sink>(
             let how = check_program(alloc, limit, &whole, passes, sink)?;
             Ok(status_of(how))
         }
-        Err(TextStop::Refused(refusal)) => {
-            let line = refused_line(alloc, &refusal)?;
-            say(sink, line.as_slice(), Status::Text)
-        }
-        Err(TextStop::NoMemory) => Err(WriteStop::NoMemory),
+        Err(stop) => refuse(alloc, stop, sink),
     }
 }

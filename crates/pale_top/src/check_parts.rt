@@ -6,9 +6,9 @@ ghost use Rattle.gta_keep.specs.Holding.{HasNoTables};
 ghost use Rattle.witness_store.specs.Alike.{AreFunctional};
 ghost use Rattle.pale_types.specs.Fitting.{ProgramFits};
 ghost use Rattle.hoare_split.specs.Fitting.{FitsProgram};
+ghost use Rattle.pale_modes.specs.Written.{Wrote, WroteAtMost};
 ghost use Rattle.program_judge.specs.Reports as reports;
 ghost use Rattle.program_judge.specs.Reports.{ReportsField, ReportsFields, ReportsTriple, ReportsTriples, ReportsAll, ReportsProgram};
-ghost use Rattle.pale_top.specs.Output.{Wrote, WroteAtMost};
 
 use bdd_nodes::Shelf;
 use pale_io::{Sink, WriteStop, write_all};

@@ -6,24 +6,20 @@ ghost use Rattle.gta_keep.specs.Holding.{HasNoTables};
 ghost use Rattle.witness_store.specs.Alike.{AreFunctional};
 ghost use Rattle.pale_types.specs.Fitting.{ProgramFits};
 ghost use Rattle.hoare_split.specs.Fitting.{FitsProgram};
+ghost use Rattle.pale_words.specs.Words.{IsLimit};
+ghost use Rattle.pale_modes.specs.Written.{Wrote, WroteAtMost};
 ghost use Rattle.program_judge.specs.Reports.{ReportsTriples, judged_ending};
 ghost use Rattle.pale_top.specs.Generating.{Counts, Gens, Tells, gen_counts, gen_head, gen_line, gen_sizes};
-ghost use Rattle.pale_top.specs.Output.{Wrote, WroteAtMost};
-ghost use Rattle.pale_top.specs.Words.{IsLimit};
 
-use crate::Status;
 use crate::call::MOST_BYTES;
 use crate::check::status_of;
 use crate::check_parts::{check_fields, check_triples};
 use crate::nowhere::Nowhere;
-use crate::report::refused_line;
-use crate::writing::say;
 use bdd_nodes::Shelf;
 use pale_generator::gen_program;
 use pale_io::{Sink, WriteStop};
+use pale_modes::{Status, push_number, refuse, say};
 use pale_program::{WholeProgram, read_program};
-use pale_replay::push_number;
-use pale_text::TextStop;
 use program_judge::{
     Ending, TripleWay, are_functional, invalid_count, judged_ending, limit_count, stopped_ending,
     valid_count,
@@ -186,10 +182,6 @@ pub(crate) fn gen_text<K: Sink>(
     }
     match read_program(alloc, text.as_slice()) {
         Ok(whole) => gen_whole(alloc, limit, seed, &whole, passes, sink),
-        Err(TextStop::Refused(refusal)) => {
-            let line = refused_line(alloc, &refusal)?;
-            say(sink, line.as_slice(), Status::Text)
-        }
-        Err(TextStop::NoMemory) => Err(WriteStop::NoMemory),
+        Err(stop) => refuse(alloc, stop, sink),
     }
 }

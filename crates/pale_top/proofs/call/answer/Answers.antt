@@ -1,9 +1,9 @@
 use Rattle.std.proofs.Common.{◌≡◌, List, ℕ, rules, refl, sym, subst, inl}
 use Rattle.std.specs.Prelude.{IfSome}
-use Rattle.pale_top.specs.declared.status.Status.TheVariants.{Text}
+use Rattle.pale_modes.specs.declared.status.Status.TheVariants.{Text}
 use Rattle.pale_top.specs.Output.{Output}
-use Rattle.pale_top.specs.Report.{too_long_line}
-use Rattle.pale_top.specs.Texts.{most_bytes}
+use Rattle.pale_modes.specs.Report.{too_long_line}
+use Rattle.pale_modes.specs.Texts.{most_bytes}
 use Rattle.pale_top.proofs.CallLemmas.{all_read, line_answers, line_begins, long_text, no_read_fault, some_text, text_begun, too_long_output, write_failed}
 use Rattle.pale_top.proofs.call.answer.Goals as goal
 

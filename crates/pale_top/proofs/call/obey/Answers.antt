@@ -2,7 +2,7 @@ use Rattle.std.proofs.Common.{refl}
 use Rattle.pale_top.specs.Generating.{Gens}
 use Rattle.pale_top.specs.Output.{Output, generated}
 use Rattle.pale_top.proofs.CallLemmas.{no_read_fault, some_text, text_answers, text_begun, write_failed}
-use Rattle.pale_top.proofs.WrittenLemmas.{begun-weaker, whole-weaker}
+use Rattle.pale_modes.proofs.WrittenLemmas.{begun-weaker, whole-weaker}
 use Rattle.pale_top.proofs.call.obey.Goals as goal
 
 pub returns-in-Gen-clause-answer : goal.returns-in-Gen-clause-answer

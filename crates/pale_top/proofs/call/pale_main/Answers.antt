@@ -1,10 +1,10 @@
 use Rattle.std.proofs.Common.{◌∙◌, rules, refl, sym, inl, inr, map}
 use Rattle.std.specs.String.{string_bytes}
-use Rattle.pale_top.specs.declared.status.Status.TheVariants.{Words}
-use Rattle.pale_top.specs.Output.{CallOutput, refused}
-use Rattle.pale_top.specs.Report.{usage_line}
-use Rattle.pale_top.proofs.CallLemmas.{call_answers, call_begins, line_answers, line_begins, not_refused, some_text}
-use Rattle.pale_top.proofs.PromiseLemmas.{decided_answer, safe_answer, same_mode}
+use Rattle.pale_modes.specs.declared.status.Status.TheVariants.{Words}
+use Rattle.pale_top.specs.Output.{CallOutput, refused, usage_line}
+use Rattle.pale_top.proofs.CallLemmas.{call_answers, call_begins, line_answers, line_begins, some_text}
+use Rattle.pale_words.proofs.GivesLemmas.{not_refused, same_mode}
+use Rattle.pale_top.proofs.PromiseLemmas.{decided_answer, safe_answer}
 use Rattle.pale_top.proofs.call.pale_main.Goals as goal
 
 pub returns-in-Ok-clause-answer : goal.returns-in-Ok-clause-answer

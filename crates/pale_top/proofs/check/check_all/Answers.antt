@@ -3,8 +3,8 @@ use Rattle.bdd_nodes.specs.Shelf.{limit_of}
 use Rattle.pale_io.specs.Whole.{WritesAll, WritesFront}
 use Rattle.program_judge.specs.declared.ways.Ending.{Ending}
 use Rattle.program_judge.specs.Reports.{ReportsAll, judged_ending, totals_of}
-use Rattle.pale_top.specs.Output.{Wrote}
-use Rattle.pale_top.proofs.WrittenLemmas.{on_err}
+use Rattle.pale_modes.specs.Written.{Wrote}
+use Rattle.pale_modes.proofs.WrittenLemmas.{on_err}
 use Rattle.pale_top.proofs.CheckingLemmas.{before_totals, totals_begin, totals_whole}
 use Rattle.pale_top.proofs.check.check_all.Goals as goal
 

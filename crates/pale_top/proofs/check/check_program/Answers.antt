@@ -5,8 +5,8 @@ use Rattle.bdd_nodes.specs.Shelf.{limit_of}
 use Rattle.program_judge.specs.declared.ways.Ending.{Ending}
 use Rattle.program_judge.specs.Reports.{ReportsAll, ReportsFields, ReportsProgram, is_functional, pointer_fields, stopped_ending}
 use Rattle.program_judge.proofs.EndingLemmas.{all-functional}
-use Rattle.pale_top.specs.Output.{Wrote, WroteAtMost}
-use Rattle.pale_top.proofs.WrittenLemmas.{on_err, on_err_weaker}
+use Rattle.pale_modes.specs.Written.{Wrote, WroteAtMost}
+use Rattle.pale_modes.proofs.WrittenLemmas.{on_err, on_err_weaker}
 use Rattle.pale_top.proofs.CheckingLemmas.{judged_begins, judged_whole, stopped_begins, stopped_whole}
 use Rattle.pale_top.proofs.check.check_program.Goals as goal
 

@@ -1,0 +1,51 @@
+-- The statuses of what a mode writes.
+use Rattle.std.specs.Prelude.{ℕ, List}
+use Rattle.pale_replay.specs.declared.answer.Answer.{Answer}
+use Rattle.pale_replay.specs.declared.answer.Answer.TheVariants as answer
+use Rattle.ws2s_syntax.specs.Checked as checked
+use Rattle.pale_modes.specs.declared.status.Status.{Status}
+use Rattle.pale_modes.specs.declared.status.Status.TheVariants.{Good, Bad, Text, Limit}
+use Rattle.pale_modes.specs.Deciding.{Decides, Says}
+use Rattle.pale_modes.specs.Deciding as deciding
+use Rattle.pale_modes.specs.Formatting.{Formats}
+use Rattle.pale_modes.specs.Formatting as formatting
+use Rattle.pale_modes.specs.Replaying.{Replays}
+use Rattle.pale_modes.specs.Replaying as replaying
+
+-- an output has one of these
+abbrev pub IsGiven : Status → Type 0
+IsGiven Good = Unit {0}
+IsGiven Bad = Unit {0}
+IsGiven Text = Unit {0}
+IsGiven Limit = Unit {0}
+IsGiven status = ⊥
+
+answer_given : (a : Answer) → IsGiven (replaying.status_of a)
+answer_given (answer.StoreRefused line kind) = tt
+answer_given (answer.NotWellFormed wrong) = tt
+answer_given answer.StartFalse = tt
+answer_given (answer.Fails why line) = tt
+answer_given (answer.Ends line) = tt
+
+pub replayed_given : (text output : List ℕ) (status : Status) → Replays text output status → IsGiven status
+replayed_given text output status (replaying.too_long more) = tt
+replayed_given text output status (replaying.refused refusal within stop) = tt
+replayed_given text output status (replaying.replay a line within is) = answer_given a
+
+pub formatted_given : (text output : List ℕ) (status : Status) → Formats text output status → IsGiven status
+formatted_given text output status (formatting.too_long more) = tt
+formatted_given text output status (formatting.stray refusal within stop) = tt
+formatted_given text output status (formatting.unparsed list refusal within lexed stop) = tt
+formatted_given text output status (formatting.program list tree within lexed parsed) = tt
+
+said_given : (limit : ℕ) (tree : checked.Text) (output : List ℕ) (status : Status) → Says limit tree output status → IsGiven status
+said_given limit tree output status (deciding.big big) = tt
+said_given limit tree output status (deciding.unsatisfiable small answer) = tt
+said_given limit tree output status (deciding.valid small answer) = tt
+said_given limit tree output status (deciding.satisfiable nodes lines small answer example) = tt
+said_given limit tree output status (deciding.above small answer) = tt
+
+pub decided_given : (limit : ℕ) (text output : List ℕ) (status : Status) → Decides limit text output status → IsGiven status
+decided_given limit text output status (deciding.too_long more) = tt
+decided_given limit text output status (deciding.refused refusal within is) = tt
+decided_given limit text output status (deciding.read tree o s within is says) = said_given limit tree o s says

@@ -1,0 +1,4 @@
+mod DecidingLemmas
+mod FormattingLemmas
+pub mod GivenLemmas
+pub mod WrittenLemmas

@@ -1,0 +1,23 @@
+//! The modes that judge no program: `replay`, `format` and `ws2s`, each over a text and a sink of bytes, and what every mode
+//! shares: the status of a call, the lines and numbers that any mode may write, and how a call ends after what its sink left.
+//!
+//! `specs/Replaying.antt`, `specs/Formatting.antt` and `specs/Deciding.antt` say what each of the three writes for a text and
+//! with which status; `specs/Written.antt` says what a sink was told of an allowed output.
+#![tactic(auto)]
+
+mod decide;
+mod format;
+mod laws;
+mod replay;
+mod report;
+mod status;
+mod writing;
+
+pub use decide::decide_text;
+pub use format::format_text;
+pub use laws::formatting_is_one;
+pub use pale_replay::push_number;
+pub use replay::replay_text;
+pub use report::refuse;
+pub use status::Status;
+pub use writing::{ended, say};
