@@ -15,9 +15,12 @@ use std::marker::Model;
 use std::num::NonZeroUsize;
 use ws2s_core::FormulaId;
 
-/// Automata of formulas that may be asked for again, by the formulas' numbers, at most 256 of them. Contracts see the list
-/// of them, the last one used first. Each has a table of its own in one shelf, so they are released before they are
-/// dropped.
+/// How many automata are kept at most: on the way to one verdict thousands may be asked for again.
+const MOST_KEPT: usize = 4_096;
+
+/// Automata of formulas that may be asked for again, by the formulas' numbers, at most `MOST_KEPT` of them. Contracts see
+/// the list of them, the last one used first. Each has a table of its own in one shelf, so they are released before they
+/// are dropped.
 #[derive(Drop)]
 pub struct Kept {
     automata: LruCache<FormulaId, Auto>,
@@ -42,9 +45,9 @@ impl Kept {
     pub fn new(alloc: Global) -> Result<Kept, NoMemory>
         ensures { IfOk result (λ kept. kept ≡ []) }
     {
-        let most = NonZeroUsize::new(256).unwrap();
+        let most = NonZeroUsize::new(MOST_KEPT).unwrap();
         Ok(Kept {
-            automata: LruCache::new(alloc, most)?,
+            automata: LruCache::sparse(alloc, most)?,
         })
     }
 
