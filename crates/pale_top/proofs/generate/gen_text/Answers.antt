@@ -62,8 +62,8 @@ returns-in-Ok-clause-err g c =
     begun-weaker (Tells limit seed program triples) (Gens limit seed)
     (λ output status tells. counted program triples output status within read_as tells) before after c.gen_whole.result c.gen_whole.ensures.err
 
-pub returns-in-Err-clause-ok : goal.returns-in-Err-clause-ok
-returns-in-Err-clause-ok g c =
+pub returns-clause-ok : goal.returns-clause-ok
+returns-clause-ok g c =
     let limit = c.args.limit in
     let seed = c.args.seed in
     let is : c.in_ok-text.text.items ≡ program_text seed = c.in_ok-text.ensures ∙ ap program_text c.from.ensures in
@@ -73,8 +73,8 @@ returns-in-Err-clause-ok g c =
     refused_whole c.in-Err.stop (Gens limit seed) (λ refusal why. refused refusal within (subst (IsStopOf (program_text seed)) why stopped))
     (g.K.Sink.written c.args.sink.now) (g.K.Sink.written c.refuse.new.sink) c.refuse.result c.refuse.ensures.ok
 
-pub returns-in-Err-clause-err : goal.returns-in-Err-clause-err
-returns-in-Err-clause-err g c =
+pub returns-clause-err : goal.returns-clause-err
+returns-clause-err g c =
     let limit = c.args.limit in
     let seed = c.args.seed in
     let is : c.in_ok-text.text.items ≡ program_text seed = c.in_ok-text.ensures ∙ ap program_text c.from.ensures in
