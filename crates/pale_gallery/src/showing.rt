@@ -1,10 +1,10 @@
 //! What is written for one text.
-ghost use Rattle.std.specs.Prelude.{◌≡◌, ◌×◌, ◌++◌, codes, map, IfSome, OnOk};
+ghost use Rattle.std.specs.Prelude.{◌≡◌, IfSome, OnOk, map};
 ghost use Rattle.std.specs.String.{string_bytes};
 ghost use Rattle.pale_io.specs.Whole.{WritesAll};
 ghost use Rattle.pale_top.specs.Output.{IsAnswer};
 ghost use Rattle.pale_top.specs.Statuses.{number_of};
-ghost use Rattle.pale_gallery.specs.Shown.{Shows, head_line};
+ghost use Rattle.pale_gallery.specs.Shown.{Shows, head_line, status_line};
 
 use anyhow::{Context, Result};
 use pale_io::{CleanSource, Sink, write_all};
@@ -21,7 +21,7 @@ pub(crate) fn show_head<K: Sink>(alloc: Global, head: &str, sink: &mut K) -> Res
     Ok(())
 }
 
-/// The number of a status that is an answer, and none of want of memory or of a fault.
+/// The number of a status that is an answer, and not want of memory or a fault.
 fn answer_number(status: Status) -> Option<u8>
     ensures { IfSome result (λ number. IsAnswer status × (number ≡ number_of status)) }
 {
@@ -31,6 +31,16 @@ fn answer_number(status: Status) -> Option<u8>
         }
         Status::Memory | Status::ReadFault | Status::WriteFault => None,
     }
+}
+
+/// Writes a line with a status that is an answer. At any other one nothing is written.
+fn show_status<K: Sink>(alloc: Global, status: Status, sink: &mut K) -> Result<()>
+    ensures { OnOk result (IsAnswer status × WritesAll (K.written sink.old) (K.written sink.new) (status_line status)) }
+{
+    let number = answer_number(status).context("a call ended without an answer")?;
+    let line = format!(in alloc; "status {number}\n")?;
+    write_all(sink, line.as_bytes())?;
+    Ok(())
 }
 
 /// Writes what `pale` writes for these words and this text, and a line with the status.
@@ -44,8 +54,5 @@ pub(crate) fn show_text<K: Sink>(
 {
     let mut source = CleanSource::new(Vec::from_slice(alloc, text)?);
     let status = pale_main(alloc, words, &mut source, sink, &PassList::new(alloc));
-    let number = answer_number(status).context("a call ended without an answer")?;
-    let line = format!(in alloc; "status {number}\n")?;
-    write_all(sink, line.as_bytes())?;
-    Ok(())
+    show_status(alloc, status, sink)
 }
