@@ -7,9 +7,11 @@ It writes crates/pale_gallery/stdin and crates/pale_gallery/stdout, whose form s
 crates/pale_gallery/src/main.rt, from what is stored, and runs nothing:
   examples/      NAME.pale under `check`, and under `format` where NAME.format is there, and
                  NAME.replay under `replay`; each file there has to have its place in the bundle
-  pages          *.md at the top and in docs/: each block `pale MODE ..`, and each block `sh` that
-                 is one call `pale WORDS` or `pale WORDS < FILE` of a text of that page or of
-                 examples/, where a block `status` with a status from 0 to 4 stands behind it
+  pages          README.md, docs/answers.md and docs/reference.md: each block `pale MODE ..`, and
+                 each block `sh` that is one call `pale WORDS` or `pale WORDS < FILE` of a text of
+                 that page or of examples/, where a block `status` with a status from 0 to 4 stands
+                 behind it. The tutorial's texts would take a seventh of the time, and are left to
+                 tools/check_examples.py
   texts.bundle   in crates/pale_gallery, which says its form
 A spelling that `format` writes is there once more, as a text that is spelled as itself.
 
@@ -23,8 +25,9 @@ import re
 import sys
 from collections import namedtuple
 
-from stored import MODES, TOP, blocks, example_files, from_top, pages, read, status_of, write
+from stored import DOCS, MODES, TOP, blocks, example_files, from_top, read, status_of, write
 
+PAGES = (os.path.join(TOP, "README.md"), os.path.join(DOCS, "answers.md"), os.path.join(DOCS, "reference.md"))
 CRATE = os.path.join(TOP, "crates", "pale_gallery")
 NOTE = "Made by tools/make_gallery.py: not to be edited. The form stands in src/main.rt.\n"
 HEAD, ANSWER = "\n=== ", "\n==> "
@@ -106,7 +109,7 @@ def own_entries():
 
 
 def entries():
-    every = [*example_entries(), *(entry for page in pages() for entry in page_entries(page)), *own_entries()]
+    every = [*example_entries(), *(entry for page in PAGES for entry in page_entries(page)), *own_entries()]
     for entry in every:
         yield entry
         if entry.words[:1] == ["format"] and entry.status == 0 and entry.output != entry.text:

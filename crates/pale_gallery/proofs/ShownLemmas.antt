@@ -1,5 +1,5 @@
 -- What is shown of one text.
-use Rattle.std.proofs.Common.{◌≡◌, ℕ, List, Option, Some, Result, Ok, Err, subst}
+use Rattle.std.proofs.Common.{ℕ, List, Option, Some, Result, Ok, Err, subst}
 use Rattle.std.specs.Prelude.{OnOk}
 use Rattle.pale_io.specs.Whole.{WritesAll}
 use Rattle.pale_io.proofs.WholeLemmas.{WritesAll-append}
