@@ -17,8 +17,8 @@ Pages, *.md at the top and in docs/, by the words behind the three backquotes:
                 `pale` is PROGRAM and `examples` is the folder of that name
   status N      what the text or the commands before it write, and the status
 A `pale MODE` or `sh` block without a `status` block right behind it isn't run. In docs/pale.1
-the examples are run: a line `$ COMMAND`, and what stands below it. Each text of docs/answers.md has
-to stand, with what is written for it, as a row in crates/pale_tests/src/smallest.
+the examples are run: a line `$ COMMAND`, and what stands below it. The bundle of crates/pale_gallery
+has to be what tools/make_gallery.py makes of all this.
 
 Each store that `check` prints of an invalid triple is handed to `replay`, which has to write the
 same cause and line.
@@ -27,8 +27,8 @@ Each run ends after N seconds (60 where none are given); --nice puts runs behind
 --times writes the seconds of processor time of each run. A difference is a line, and at the end
 comes `N passed, M failed`; the status is 1 where something failed.
 
---write puts what was written into the files and pages in place of comparing, and makes the files
-of an example that are missing. A run that doesn't end in time leaves everything as it was.
+--write puts what was written into the files and pages in place of comparing, makes the files of an
+example that are missing, and the bundle. A run that doesn't end in time leaves everything as it was.
 
 Only the standard library is used.
 """
@@ -42,21 +42,10 @@ import subprocess
 import sys
 import tempfile
 
-TOP = os.path.dirname(os.path.dirname(os.path.abspath(__file__)))
-EXAMPLES = os.path.join(TOP, "examples")
-DOCS = os.path.join(TOP, "docs")
-MODES = ("check", "replay", "format", "ws2s", "gen")
+import make_gallery
+from stored import DOCS, EXAMPLES, MODES, blocks, example_files, from_top, pages, read, status_of, write
+
 FAILING = re.compile(r"^triple (\d+) \S+ line \d+ invalid (\S+ line \d+)\n(store\n(?:(?:var|cell) .*\n)*end\n)", re.M)
-
-
-def read(path):
-    with open(path, "rb") as file:
-        return file.read().decode("utf-8", "replace")
-
-
-def write(path, text):
-    with open(path, "wb") as file:
-        file.write(text.encode())
 
 
 def replays_of(program, answer):
@@ -137,16 +126,9 @@ def fault_of(answer, expected_status, expected):
     return None
 
 
-def status_of(mode, text):
-    """The status that belongs to what `format` or `replay` writes."""
-    if text.startswith("fail "):
-        return 1
-    return 0 if text.startswith("end ") or mode == "format" and not text.startswith("refused ") else 3
-
-
 def run_example(runner, tally, mode, source, kept, told=None):
     """One run of one file, compared with what is kept, or written over it. The file `told` has the status."""
-    shown = os.path.relpath(kept, TOP)
+    shown = from_top(kept)
     if not tally.wants(shown):
         return ""
     status, out = runner.mode([mode], read(source))
@@ -163,7 +145,7 @@ def run_example(runner, tally, mode, source, kept, told=None):
 
 
 def check_example(runner, tally, stem):
-    source, replay, shown = stem + ".pale", stem + ".replay", os.path.relpath(stem, TOP)
+    source, replay, shown = stem + ".pale", stem + ".replay", from_top(stem)
     program = read(source)
     if tally.wants(f"{shown}.pale"):
         has_row = f"`{os.path.relpath(source, EXAMPLES)}`" in read(os.path.join(EXAMPLES, "README.md"))
@@ -185,13 +167,12 @@ def check_example(runner, tally, stem):
 
 
 def check_examples(runner, tally):
-    for folder, _, files in sorted(os.walk(EXAMPLES)):
-        for name in sorted(files):
-            stem, suffix = os.path.splitext(os.path.join(folder, name))
-            if suffix == ".pale":
-                check_example(runner, tally, stem)
-            elif name != "README.md" and not os.path.exists(re.sub(r"\.replay$", "", stem) + ".pale"):
-                tally.say(os.path.relpath(os.path.join(folder, name), TOP), "belongs to no program")
+    for path in example_files():
+        stem, suffix = os.path.splitext(path)
+        if suffix == ".pale":
+            check_example(runner, tally, stem)
+        elif not os.path.exists(re.sub(r"\.replay$", "", stem) + ".pale"):
+            tally.say(from_top(path), "belongs to no program")
 
 
 class Folder:
@@ -218,14 +199,8 @@ class Folder:
         return self.runner.run(["sh", "-c", commands], folder=self.scratch.name, path=self.path)
 
 
-def blocks(text):
-    """The fenced blocks of a page: the words behind the fence, the text, and where the block stands."""
-    found = re.finditer(r"^```([^\n`]*)\n(.*?)^```$", text, re.S | re.M)
-    return [(block.group(1).split(), block.group(2), block.start(), block.end()) for block in found]
-
-
 def check_page(runner, tally, page):
-    shown, text, changed = os.path.relpath(page, TOP), read(page), []
+    shown, text, changed = from_top(page), read(page), []
     found = blocks(text)
     with Folder(runner) as folder:
         for (words, body, begin, _), behind in zip(found, found[1:] + [([], "", 0, 0)]):
@@ -250,33 +225,17 @@ def check_page(runner, tally, page):
         write(page, text)
 
 
-def rows_of(name):
-    """The rows of the tables in crates/pale_tests/src/NAME."""
-    folder = os.path.join(TOP, "crates", "pale_tests", "src", name)
-    return "".join(read(os.path.join(folder, file)) for file in sorted(os.listdir(folder)))
-
-
-def row(*parts):
-    """A row as it stands in such a table: texts in quotation marks, and the status."""
-    return ",\n        ".join([f'"{part}"' for part in parts[:-1]] + [parts[-1]]) + ",\n"
-
-
-def check_tests(tally):
-    """Each text of docs/answers.md, with what is written for it, stands as a row in the tests."""
-    tests = rows_of("smallest")
-    found = blocks(read(os.path.join(DOCS, "answers.md")))
-    for (words, body, *_), (behind, answer, *_) in zip(found, found[1:]):
-        alone = re.fullmatch(r"pale([\w -]*)\n", body) if words == ["sh"] else None
-        if alone:
-            words, body = ["pale"] + alone.group(1).split(), ""
-        if words[:1] == ["pale"] and behind[:1] == ["status"] and tally.wants("docs/answers.md"):
-            is_tested = row(" ".join(words[1:]), body, answer, behind[1]) in tests
-            tally.say("docs/answers.md", None if is_tested else f"no test has `{' '.join(words)}` with {body!r} so")
+def check_gallery(tally):
+    """The bundle that the gate's run reads, and what it has to write, are made of what is stored."""
+    if tally.write:
+        make_gallery.make()
+    if tally.wants("crates/pale_gallery"):
+        tally.say("crates/pale_gallery", "; ".join(make_gallery.stale()))
 
 
 def check_man(runner, tally, page):
     """The examples of the man page. They are compared alone, whatever is told."""
-    shown, text = os.path.relpath(page, TOP), read(page)
+    shown, text = from_top(page), read(page)
     with Folder(runner) as folder:
         for found in re.finditer(r"^\.nf\n\$ (.*)\n((?:.*\n)*?)\.fi$", text, re.M):
             place = f"{shown}:{text.count(chr(10), 0, found.start()) + 2}"
@@ -298,11 +257,9 @@ def main():
     runner = Runner(told)
     tally = Tally(told, runner)
     check_examples(runner, tally)
-    for folder in (TOP, DOCS):
-        for name in sorted(os.listdir(folder)):
-            if name.endswith(".md"):
-                check_page(runner, tally, os.path.join(folder, name))
-    check_tests(tally)
+    for page in pages():
+        check_page(runner, tally, page)
+    check_gallery(tally)
     check_man(runner, tally, os.path.join(DOCS, "pale.1"))
     print(f"{tally.passed} passed, {tally.failed} failed")
     return 1 if tally.failed else 0

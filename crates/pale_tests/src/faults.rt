@@ -21,10 +21,6 @@ const NEG_REPORT: &str = "triple 1 neg line 1 valid
 triples 1 valid 1 invalid 0 limit 0
 ";
 
-const LIMIT_REPORT: &str = "triple 1 neg line 1 limit
-triples 1 valid 0 invalid 0 limit 1
-";
-
 const WRONG: &str = "proc neg(bool a) returns (bool b)
 logic bool v
 pre [a <=> v]
@@ -48,8 +44,6 @@ const NEG_SPELLING: &str =
 b = ! a ;
 }
 ";
-
-const USAGE: &str = "usage: pale MODE [--limit N] [--seed N]\n";
 
 const GEN_LINE: &str = "gen 0 procedures 1 triples 1 valid 1 invalid 0 limit 0\n";
 
@@ -90,66 +84,6 @@ impl Ended {
     fn is(&self, status: Status, report: &[u8]) -> bool {
         self.status == status && self.written.as_slice() == report
     }
-}
-
-/// Words and a text, with the status and what is written.
-static REPORTS: &[(&str, &str, u8, &str)] = &[
-    ("pale check", "", 0, "triples 0 valid 0 invalid 0 limit 0\n"),
-    ("pale check", NEG, 0, NEG_REPORT),
-    ("pale check --limit 100000 --seed 9", NEG, 0, NEG_REPORT),
-    ("pale check --limit 1", NEG, 4, LIMIT_REPORT),
-    ("pale check", WRONG, 1, WRONG_REPORT),
-    ("pale", NEG, 2, USAGE),
-    ("pale check extra", NEG, 2, USAGE),
-    ("pale --help", NEG, 2, USAGE),
-    ("pale check", "proc p() {", 3, "refused 1:11 syntax\n"),
-    ("pale replay", "proc p() {", 3, "refused 1:11 syntax\n"),
-    ("pale format", NEG, 0, NEG_SPELLING),
-    ("pale format --limit 1 --seed 9", NEG, 0, NEG_SPELLING),
-    ("pale format", "proc p() {", 3, "refused 1:11 syntax\n"),
-    ("pale format", "proc p() { % }", 3, "refused 1:12 char\n"),
-    ("pale format extra", NEG, 2, USAGE),
-    ("pale gen", "proc p() {", 0, GEN_LINE),
-    ("pale gen extra", NEG, 2, USAGE),
-];
-
-/// Whether a call without faults ends so.
-fn reports(
-    alloc: Global,
-    line: &str,
-    text: &[u8],
-    number: u8,
-    report: &str,
-) -> Result<bool, AllocError> {
-    let ended = call(alloc, line, text, &[], &[])?;
-    Ok(ended.status.number() == number && ended.written.as_slice() == report.as_bytes())
-}
-
-#[test]
-fn texts_and_words_have_their_reports(rt: HostRuntime) -> Result<(), Fail> {
-    for (line, text, number, report) in REPORTS {
-        let is_so = reports(rt.alloc(), line, text.as_bytes(), *number, report)?;
-        assert!(rt; is_so, "{line}");
-    }
-    Ok(())
-}
-
-fn spaces_report(
-    alloc: Global,
-    count: usize,
-    number: u8,
-    report: &str,
-) -> Result<bool, AllocError> {
-    let spaces = vec![in alloc; b' '; count]?;
-    reports(alloc, "pale check", &spaces, number, report)
-}
-
-#[test]
-fn one_byte_more_is_too_long(rt: HostRuntime) -> Result<(), Fail> {
-    let whole = "triples 0 valid 0 invalid 0 limit 0\n";
-    assert!(rt; spaces_report(rt.alloc(), 1_048_576, 0, whole)?);
-    assert!(rt; spaces_report(rt.alloc(), 1_048_577, 3, "refused too-long\n")?);
-    Ok(())
 }
 
 /// Whether nothing is written where this read fails, and the output where it isn't made.
