@@ -1,0 +1,6 @@
+pub mod ListsLemmas
+pub mod ClassesLemmas
+pub mod FirstsLemmas
+pub mod RowsLemmas
+pub mod PartLemmas
+pub mod MergedLemmas

@@ -1,0 +1,4 @@
+pub mod Merged
+pub mod Lines
+pub mod Classes
+pub mod Parts
