@@ -7,6 +7,7 @@ pub mod KeepingLemmas
 pub mod KeptLemmas
 pub mod LimitLemmas
 pub mod MadeLemmas
+pub mod MergingLemmas
 pub mod PassesLemmas
 pub mod RoomLemmas
 pub mod SumLemmas

@@ -15,6 +15,7 @@ ghost use Rattle.gta_keep.specs.Holding.{Holds, HoldsBeside, IsMinimalFor, HaveS
 ghost use Rattle.gta_keep.specs.Limits.{PairsLimit, SetsLimit, MinimalLimit};
 
 use crate::kept::Kept;
+use crate::merging::merged;
 use bdd_nodes::Shelf;
 use bdd_walk::Stop;
 use gta_atom::atom;
@@ -88,12 +89,7 @@ pub fn quantify(
 }
 
 /// The minimal automaton of an atom.
-///
-/// # Errors
-///
-/// `Limit` only where the Sizes of the others that wait and of the result are together more than the shelf's limit; want of
-/// memory.
-pub fn build_atom(
+fn try_atom(
     alloc: Global,
     g: &Guide,
     f: &Formula,
@@ -116,6 +112,32 @@ pub fn build_atom(
         }
         answer => answer,
     }
+}
+
+/// The minimal automaton of an atom.
+///
+/// # Errors
+///
+/// `Limit` only where the Sizes of the others that wait and of the result are together more than the shelf's limit; want of
+/// memory.
+pub fn build_atom(
+    alloc: Global,
+    g: &Guide,
+    f: &Formula,
+    kept: &mut Kept,
+    shelf: &mut Shelf,
+) -> Result<Auto, Stop>
+    requires atom { IsAtom f.now }
+    requires held { HoldsBeside g.now shelf.old [] kept.old }
+    ensures ok { IfOk result (λ c. Passes g.now shelf.old shelf.new [] (c ∷ []) kept.old kept.new) }
+    ensures minimal { IfOk result (λ c. IsMinimalFor g.now shelf.new c f.now) }
+    ensures err { OnErr result (Passes g.now shelf.old shelf.new [] [] kept.old kept.new) }
+    ensures limit { result ≡ Err Stop.Limit → (others : List AutoView) (s n : ℕ) →
+        Holds g.now shelf.old (beside [] others kept.old) → HaveSum g.now shelf.old others s → HasMinimalSize g.now f.now n →
+        limit_of shelf.old < s + n }
+{
+    let made = try_atom(alloc, g, f, kept, shelf)?;
+    Ok(merged(alloc, g, made, kept, shelf))
 }
 
 /// The automaton of pairs of states. The two are let go of.
@@ -161,7 +183,7 @@ fn drop_track(
 }
 
 /// The minimal automaton that accepts the same. The one that it is made of is let go of.
-fn minimal_of(
+fn quotient_of(
     alloc: Global,
     g: &Guide,
     a: Auto,
@@ -177,6 +199,24 @@ fn minimal_of(
     let minimal = build_minimal(alloc, g, &a, kept, shelf);
     release(a, shelf);
     minimal
+}
+
+/// The minimal automaton that accepts the same, its tables merged. The one that it is made of is let go of.
+fn minimal_of(
+    alloc: Global,
+    g: &Guide,
+    a: Auto,
+    kept: &mut Kept,
+    shelf: &mut Shelf,
+) -> Result<Auto, Stop>
+    requires { HoldsBeside g.now shelf.old (a ∷ []) kept.old }
+    ensures ok { IfOk result (λ c. Passes g.now shelf.old shelf.new (a ∷ []) (c ∷ []) kept.old kept.new) }
+    ensures minimal { IfOk result (λ c. (f : Formula) → Recognises g.now (automaton_of shelf.old a) f → IsMinimalFor g.now shelf.new c f) }
+    ensures err { OnErr result (Passes g.now shelf.old shelf.new (a ∷ []) [] kept.old kept.new) }
+    ensures limit { result ≡ Err Stop.Limit → MinimalLimit g.now shelf.old a kept.old }
+{
+    let minimal = quotient_of(alloc, g, a, kept, shelf)?;
+    Ok(merged(alloc, g, minimal, kept, shelf))
 }
 
 /// The automaton of pairs of states, beside the two.

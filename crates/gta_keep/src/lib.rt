@@ -9,6 +9,7 @@
 mod building;
 mod kept;
 mod laws;
+mod merging;
 
 pub use building::{build_atom, conjoin, quantify};
 pub use kept::Kept;

@@ -1,68 +1,21 @@
-use Rattle.std.proofs.Common.{[]}
-use Rattle.gta_keep.proofs.PassesLemmas.{Passes-none, Passes-made, Passes-both, HoldsBeside-after}
-use Rattle.gta_keep.proofs.MadeLemmas.{built-ok, built-err}
-use Rattle.gta_keep.proofs.LimitLemmas.{limit-atom}
+use Rattle.std.proofs.Common.{[], ◌∷◌, ◌∙◌}
+use Rattle.gta_keep.proofs.PassesLemmas.{Passes-both, HoldsBeside-after}
 use Rattle.gta_keep.proofs.building.build_atom.Goals as goal
 
-pub make_room-requires : goal.make_room-requires
-make_room-requires c =
-    let g = c.args.g.now in
-    let was = c.args.shelf.now in
-    let kept = c.args.kept.now in
-    let made = c.in-Err-Limit.ensures in (
-      g,
-      HoldsBeside-after g was c.atom.new.shelf [] [] kept kept
-          (Passes-made g was c.atom.new.shelf kept c.requires.held.holds.is_shelf made.shelf made.kept made.err made.same_limit) c.requires.held,
-    )
+pub returns-in_err-made-clause-limit : goal.returns-in_err-made-clause-limit
+returns-in_err-made-clause-limit c = λ stopped.
+    c.try_atom.ensures.limit (let why = rw stopped at c.from_residual.ensures in c.in_err-made.was ∙ (let is = why.1 in cc))
 
-pub returns-in-Err-Limit-clause-ok : goal.returns-in-Err-Limit-clause-ok
-returns-in-Err-Limit-clause-ok c =
-    let g = c.args.g.now in
-    let was = c.args.shelf.now in
-    let kept = c.args.kept.now in
-    let made = c.in-Err-Limit.ensures in
-    let again = c.atom-in-Err-Limit.ensures in
-    let first = Passes-made g was c.atom.new.shelf kept c.requires.held.holds.is_shelf made.shelf made.kept made.err made.same_limit in
-    let left = Passes-both g was c.atom.new.shelf c.make_room.new.shelf [] [] [] kept kept c.make_room.new.self first (c.make_room.ensures.passes g) in
-    built-ok g was c.make_room.new.shelf c.atom-in-Err-Limit.new.shelf [] kept c.make_room.new.self left c.requires.held again.shelf again.kept
-    again.same_limit c.atom-in-Err-Limit.result again.auto again.table
+pub merged-requires : goal.merged-requires
+merged-requires c =
+    HoldsBeside-after c.args.g.now c.args.shelf.now c.try_atom.new.shelf [] (c.in_ok-made.made ∷ []) c.args.kept.now c.try_atom.new.kept
+    c.in_ok-made.ensures.ok c.requires.held
 
-pub returns-in-Err-Limit-clause-err : goal.returns-in-Err-Limit-clause-err
-returns-in-Err-Limit-clause-err c =
-    let g = c.args.g.now in
-    let was = c.args.shelf.now in
-    let kept = c.args.kept.now in
-    let made = c.in-Err-Limit.ensures in
-    let again = c.atom-in-Err-Limit.ensures in
-    let first = Passes-made g was c.atom.new.shelf kept c.requires.held.holds.is_shelf made.shelf made.kept made.err made.same_limit in
-    let left = Passes-both g was c.atom.new.shelf c.make_room.new.shelf [] [] [] kept kept c.make_room.new.self first (c.make_room.ensures.passes g) in
-    built-err g was c.make_room.new.shelf c.atom-in-Err-Limit.new.shelf kept c.make_room.new.self left
-    (HoldsBeside-after g was c.make_room.new.shelf [] [] kept c.make_room.new.self left c.requires.held).holds.is_shelf
-    again.shelf again.kept again.same_limit c.atom-in-Err-Limit.result again.err
+pub returns-clause-ok : goal.returns-clause-ok
+returns-clause-ok c =
+    let kept = c.try_atom.new.kept in
+    Passes-both c.args.g.now c.args.shelf.now c.try_atom.new.shelf c.merged.new.shelf [] (c.in_ok-made.made ∷ []) (c.merged.result ∷ [])
+    c.args.kept.now kept kept c.in_ok-made.ensures.ok c.merged.ensures.passes
 
-pub returns-in-Err-Limit-clause-limit : goal.returns-in-Err-Limit-clause-limit
-returns-in-Err-Limit-clause-limit c = λ is others s n holds have has.
-    let g = c.args.g.now in
-    let was = c.args.shelf.now in
-    let kept = c.args.kept.now in
-    let made = c.in-Err-Limit.ensures in
-    let first = Passes-made g was c.atom.new.shelf kept c.requires.held.holds.is_shelf made.shelf made.kept made.err made.same_limit in
-    limit-atom g was c.atom.new.shelf c.make_room.new.shelf kept c.make_room.new.self first (c.make_room.ensures.passes g)
-    (c.make_room.ensures.room g) c.args.f.now (c.atom-in-Err-Limit.ensures.limit is) others s n holds have has
-
-pub returns-in_default-clause-err : goal.returns-in_default-clause-err
-returns-in_default-clause-err c =
-    let g = c.args.g.now in
-    let was = c.args.shelf.now in
-    let kept = c.args.kept.now in
-    let made = c.in_default.ensures in
-    Passes-made g was c.atom.new.shelf kept c.requires.held.holds.is_shelf made.shelf made.kept made.err made.same_limit
-
-pub returns-in_default-2-clause-ok : goal.returns-in_default-2-clause-ok
-returns-in_default-2-clause-ok c =
-    let g = c.args.g.now in
-    let was = c.args.shelf.now in
-    let kept = c.args.kept.now in
-    let made = c.atom.ensures in
-    built-ok g was was c.atom.new.shelf [] kept kept (Passes-none g was [] kept) c.requires.held made.shelf made.kept made.same_limit
-    c.atom.result made.auto made.table
+pub returns-clause-minimal : goal.returns-clause-minimal
+returns-clause-minimal c = c.merged.ensures.minimal c.args.f.now c.in_ok-made.ensures.minimal
