@@ -6,7 +6,7 @@ use std::alloc::{AllocError, Global};
 use ws2s_pass::PassList;
 
 /// The words of a line.
-pub fn words_of(alloc: Global, line: &str) -> Result<Vec<String>, AllocError> {
+pub(crate) fn words_of(alloc: Global, line: &str) -> Result<Vec<String>, AllocError> {
     let mut words = Vec::new(alloc);
     for word in line.split_whitespace() {
         words.push(String::from_str(alloc, word)?)?;
@@ -23,7 +23,7 @@ fn called(alloc: Global, words: &Vec<String>, text: &[u8]) -> Result<(Vec<u8>, u
 }
 
 /// Whether `pale`, with the words of this line behind it, writes this for a text, with this status.
-pub fn writes(
+pub(crate) fn writes(
     alloc: Global,
     line: &str,
     text: &[u8],
