@@ -1,8 +1,8 @@
 -- Chains of indices.
-use Rattle.std.proofs.Common.{◌≡◌, ◌≢◌, ℕ, suc, ◌+◌, ◌<◌, ◌≤◌, List, [], ◌∷◌, ◌++◌, length, get_or, set, sym, ◌∙◌, ap, refl}
+use Rattle.std.proofs.Common.{◌≡◌, ◌≢◌, ℕ, suc, ◌+◌, ◌<◌, ◌≤◌, List, [], ◌∷◌, ◌++◌, length, get_or, set, replicate, sym, ◌∙◌, ap, refl}
 use Rattle.std.proofs.Common.{subst, inl, inr, arith, length-append}
 use Rattle.std.proofs.lemmas.Bool.{cases_lt}
-use Rattle.std.proofs.lemmas.List.{get_or-set_other, get_or-set_same, length-set}
+use Rattle.std.proofs.lemmas.List.{get_or-set_other, get_or-set_same, get_or-replicate, length-replicate, length-set}
 use Rattle.std.proofs.Math.ListN.{get_or-append}
 use Rattle.std.proofs.Math.Seq.{get_or-append_seam}
 use Rattle.bdd_nodes.specs.declared.node.Node.{Node}
@@ -86,10 +86,9 @@ IsLatest-later nodes buckets bucket index link latest other = record {
 
 -- one index more is put before the others of its bucket
 pub IsIndexed-put : (nodes : List Node) (buckets chain : List ℕ) (bucket index : ℕ) →
-    IsIndexed nodes buckets chain index → bucket ≡ bucket_of (node_at nodes index) (length buckets) →
-    bucket < length buckets → index < length chain →
-    IsIndexed nodes (set buckets bucket (index + 1)) (set chain index (get_or buckets bucket 0)) (suc index)
-IsIndexed-put nodes buckets chain bucket index indexed its bucket_in index_in =
+    IsIndexed nodes buckets chain index → index ≡ length chain → bucket ≡ bucket_of (node_at nodes index) (length buckets) →
+    bucket < length buckets → IsIndexed nodes (set buckets bucket (index + 1)) (chain ++ get_or buckets bucket 0 ∷ []) (suc index)
+IsIndexed-put nodes buckets chain bucket index indexed next its bucket_in =
     let n = length buckets in
     let same : length (set buckets bucket (index + 1)) ≡ n = length-set buckets bucket (index + 1) in
     record {
@@ -108,42 +107,37 @@ IsIndexed-put nodes buckets chain bucket index indexed its bucket_in index_in =
             ]
           ]);
       before = λ i early. subst (λ (m : ℕ). IsLatest nodes m (bucket_of (node_at nodes i) m) i
-          (get_or (set chain index (get_or buckets bucket 0)) i 0)) (sym same)
+          (get_or (chain ++ get_or buckets bucket 0 ∷ []) i 0)) (sym same)
           (elim (cases_lt i index) [
             | inl earlier ↦ subst (IsLatest nodes n (bucket_of (node_at nodes i) n) i)
-                (sym (get_or-set_other chain index i (get_or buckets bucket 0) 0 (λ e. omega arith)))
+                (sym (get_or-append chain (get_or buckets bucket 0 ∷ []) 0 i (omega arith)))
                 (indexed.before i earlier)
             | inr not_earlier ↦
                 let here : index ≡ i = omega arith in
-                subst (λ (k : ℕ). IsLatest nodes n (bucket_of (node_at nodes k) n) k (get_or (set chain index (get_or buckets bucket 0)) k 0)) here
-                (subst (IsLatest nodes n (bucket_of (node_at nodes index) n) index) (sym (get_or-set_same chain index (get_or buckets bucket 0) 0 index_in))
+                subst (λ (k : ℕ). IsLatest nodes n (bucket_of (node_at nodes k) n) k (get_or (chain ++ get_or buckets bucket 0 ∷ []) k 0)) here
+                (subst (IsLatest nodes n (bucket_of (node_at nodes index) n) index)
+                (sym (ap (λ (k : ℕ). get_or (chain ++ get_or buckets bucket 0 ∷ []) k 0) next ∙ get_or-append_seam chain (get_or buckets bucket 0) [] 0))
                 (subst (λ (k : ℕ). IsLatest nodes n k index (get_or buckets bucket 0)) its (indexed.latest bucket bucket_in)))
           ]);
     }
 
--- the nodes with one more, which is put before the others of its bucket
-pub IsIndexed-grown : (nodes : List Node) (n : Node) (buckets chain : List ℕ) (bucket index : ℕ) →
-    index ≡ length nodes → IsIndexed nodes buckets chain (length nodes) → bucket ≡ bucket_of n (length buckets) →
-    bucket < length buckets → length nodes < length chain →
-    IsIndexed (nodes ++ n ∷ []) (set buckets bucket (index + 1)) (set chain index (get_or buckets bucket 0))
-    (length (nodes ++ n ∷ []))
-IsIndexed-grown nodes n buckets chain bucket index at_end indexed its bucket_in index_in =
-    let e : suc index ≡ length (nodes ++ n ∷ []) = let l = length-append nodes (n ∷ []) in omega arith in
-    let last : node_at (nodes ++ n ∷ []) index ≡ n = ap (node_at (nodes ++ n ∷ [])) at_end ∙ get_or-append_seam nodes n [] _ in
-    subst (IsIndexed (nodes ++ n ∷ []) (set buckets bucket (index + 1)) (set chain index (get_or buckets bucket 0))) e
-    (IsIndexed-put (nodes ++ n ∷ []) buckets chain bucket index
-    (subst (IsIndexed (nodes ++ n ∷ []) buckets chain) (sym at_end)
-    (IsIndexed-same nodes (nodes ++ n ∷ []) buckets chain (length nodes)
-    (λ i within. get_or-append nodes (n ∷ []) _ i within) indexed))
-    (its ∙ ap (λ (m : Node). bucket_of m (length buckets)) (sym last)) bucket_in (omega arith))
+-- nodes are in their chains as before where one more stands behind them
+pub IsIndexed-grown : (nodes : List Node) (n : Node) (buckets chain : List ℕ) → IsIndexed nodes buckets chain (length nodes) →
+    IsIndexed (nodes ++ n ∷ []) buckets chain (length nodes)
+IsIndexed-grown nodes n buckets chain indexed =
+    IsIndexed-same nodes (nodes ++ n ∷ []) buckets chain (length nodes)
+    (λ i within. get_or-append nodes (n ∷ []) _ i within) indexed
 
 -- no node is in empty chains
-pub IsIndexed-none : (nodes : List Node) (buckets chain : List ℕ) → ((i : ℕ) → get_or buckets i 0 ≡ 0) → IsIndexed nodes buckets chain 0
-IsIndexed-none nodes buckets chain zero_all = record {
-  latest = λ bucket within. record {
-    within = (let z = zero_all bucket in omega arith);
-    belongs = λ index e. absurd (let z = zero_all bucket in omega arith);
-    none_since = λ i past early its. omega arith;
-  };
+pub IsIndexed-none : (nodes : List Node) (chain : List ℕ) (count : ℕ) → IsIndexed nodes (replicate count 0) chain 0
+IsIndexed-none nodes chain count = record {
+  latest = λ bucket within.
+      let z : get_or (replicate {A = ℕ} count 0) bucket 0 ≡ 0 =
+      get_or-replicate count bucket 0 0 (subst (λ (n : ℕ). bucket < n) (length-replicate count 0) within) in
+      record {
+        within = omega arith;
+        belongs = λ index e. absurd (omega arith);
+        none_since = λ i past early its. omega arith;
+      };
   before = λ i early. absurd (omega arith);
 }

@@ -8,6 +8,7 @@ use Rattle.std.proofs.lemmas.Bool.Decides.{nat_tests}
 use Rattle.bdd_nodes.specs.declared.node_ref.NodeRef.{NodeRef}
 use Rattle.bdd_nodes.specs.declared.roots.RootTable.{RootTable}
 use Rattle.bdd_nodes.specs.Roots.{number_of, roots_under, table_at, number_at, AreNumbered}
+use Rattle.bdd_nodes.specs.Between.{IsBetween}
 
 Rises : List RootTable → Type 0
 Rises tables = (i j : ℕ) → i < j → j < length tables → number_at tables i < number_at tables j
@@ -69,12 +70,30 @@ roots_under-remove_other (t ∷ tables) (suc position) number within other =
     ap (λ (rest : Option (List NodeRef)). if eqb (number_of t.id) number then Some t.roots else rest)
     (roots_under-remove_other tables position number (omega arith) other)
 
--- a search by halves: the number isn't below `low`, nor from `high` on
-pub record IsBetween (tables : List RootTable) (number low high : ℕ) : Type 0 where
-  pub ordered : low ≤ high
-  pub within : high ≤ length tables
-  pub above : (i : ℕ) → i < low → number_at tables i < number
-  pub below : (i : ℕ) → high ≤ i → i < length tables → number < number_at tables i
+-- the table at `low` has no greater number
+pub IsBetween-from : (tables : List RootTable) (number low high : ℕ) →
+    ((i j : ℕ) → i < j → j < length tables → number_at tables i < number_at tables j) →
+    IsBetween tables number 0 high → low < high → number_at tables low ≤ number → IsBetween tables number low high
+IsBetween-from tables number low high rise between inside no_more = record {
+  ordered = omega arith;
+  within = between.within;
+  above = λ i early. (let w = between.within in let r = rise i low early (omega arith) in omega arith);
+  below = between.below;
+}
+
+-- the table at `low` has a greater number
+pub IsBetween-lower : (tables : List RootTable) (number low high : ℕ) →
+    ((i j : ℕ) → i < j → j < length tables → number_at tables i < number_at tables j) →
+    IsBetween tables number 0 high → low < high → number < number_at tables low → IsBetween tables number 0 low
+IsBetween-lower tables number low high rise between inside more = record {
+  ordered = omega arith;
+  within = let w = between.within in omega arith;
+  above = between.above;
+  below = λ i late within. elim (cases_lt low i) [
+    | inl past ↦ (let r = rise low i past within in omega arith)
+    | inr here ↦ subst (λ (k : ℕ). number < number_at tables k) (let e : low ≡ i = omega arith in e) more
+  ];
+}
 
 -- the lower half is left behind
 pub IsBetween-upper : (tables : List RootTable) (number low high middle : ℕ) →

@@ -1,8 +1,10 @@
 pub mod Nodes
 pub mod Roots
+pub mod Between
 pub mod Shelf
 pub mod Changes
 pub mod Hash
 pub mod Index
+pub mod Room
 pub mod Stored
 pub mod Collecting

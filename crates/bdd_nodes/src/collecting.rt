@@ -1,6 +1,6 @@
 //! The steps of a collection: marking what is kept, and moving it to the front.
 
-ghost use Rattle.std.specs.Prelude.{◌≡◌, ◌+◌, ◌<◌, ◌≤◌, ◌^◌, ℕ, All, length, map, vec_len, slice_index};
+ghost use Rattle.std.specs.Prelude.{◌≡◌, ◌+◌, ◌<◌, ◌≤◌, ◌^◌, ℕ, All, length, map, slice_index};
 ghost use Rattle.bdd_nodes.specs.Nodes.{node_of, rank, AreCanonical};
 ghost use Rattle.bdd_nodes.specs.Collecting.{with_mark, marked_below, linked, linked_table, all_roots, IsLinked, AreClosed, MarksList, MarksSides, MovesBelow};
 
@@ -9,9 +9,9 @@ use crate::node_ref::{Named, NodeRef};
 use crate::roots::{RefList, RootTable};
 
 /// Sets every number to 0.
-pub(crate) fn clear(numbers: &mut Vec<u32>)
-    ensures zero { (i : ℕ) → slice_index numbers.new.items i ≡ 0 }
-    ensures len { vec_len numbers.new ≡ vec_len numbers.old }
+pub(crate) fn clear(numbers: &mut [u32])
+    ensures zero { (i : ℕ) → slice_index numbers.new i ≡ 0 }
+    ensures len { length numbers.new ≡ length numbers.old }
 {
     for number in numbers.iter_mut() {
         *number = 0;
@@ -19,18 +19,18 @@ pub(crate) fn clear(numbers: &mut Vec<u32>)
 }
 
 #[inline(always)]
-fn mark(marks: &mut Vec<u32>, r: NodeRef)
-    requires { rank (node_of r) ≤ vec_len marks.old }
-    ensures { marks.new.items ≡ with_mark marks.old.items (node_of r) }
+fn mark(marks: &mut [u32], r: NodeRef)
+    requires { rank (node_of r) ≤ length marks.old }
+    ensures { marks.new ≡ with_mark marks.old (node_of r) }
 {
     if let Named::Inner(index) = r.named() {
         marks[index as usize] = 1;
     }
 }
 
-fn mark_list(roots: &[NodeRef], marks: &mut Vec<u32>)
-    requires { All (λ r. rank (node_of r) ≤ vec_len marks.old) roots.now }
-    ensures { MarksList roots.now marks.old.items marks.new.items }
+fn mark_list(roots: &[NodeRef], marks: &mut [u32])
+    requires { All (λ r. rank (node_of r) ≤ length marks.old) roots.now }
+    ensures { MarksList roots.now marks.old marks.new }
 {
     for root in roots {
         mark(marks, *root);
@@ -38,9 +38,9 @@ fn mark_list(roots: &[NodeRef], marks: &mut Vec<u32>)
 }
 
 /// Marks the roots of the tables.
-pub(crate) fn mark_tables(tables: &[RootTable], marks: &mut Vec<u32>)
-    requires { All (λ r. rank (node_of r) ≤ vec_len marks.old) (all_roots tables.now) }
-    ensures { MarksList (all_roots tables.now) marks.old.items marks.new.items }
+pub(crate) fn mark_tables(tables: &[RootTable], marks: &mut [u32])
+    requires { All (λ r. rank (node_of r) ≤ length marks.old) (all_roots tables.now) }
+    ensures { MarksList (all_roots tables.now) marks.old marks.new }
 {
     for table in tables {
         mark_list(table.roots.as_slice(), marks);
@@ -48,10 +48,10 @@ pub(crate) fn mark_tables(tables: &[RootTable], marks: &mut Vec<u32>)
 }
 
 /// Marks what is reached from marked nodes: from the last node on, since sides stand before.
-pub(crate) fn mark_sides(nodes: &[Node], marks: &mut Vec<u32>)
+pub(crate) fn mark_sides(nodes: &[Node], marks: &mut [u32])
     requires canonical { AreCanonical nodes.now }
-    requires fits { length nodes.now ≤ vec_len marks.old }
-    ensures { MarksSides nodes.now marks.old.items marks.new.items 0 }
+    requires fits { length nodes.now ≤ length marks.old }
+    ensures { MarksSides nodes.now marks.old marks.new 0 }
 {
     for index in (0..nodes.len()).rev() {
         if marks[index] == 1 {
@@ -75,13 +75,13 @@ fn linked(links: &[u32], r: NodeRef) -> NodeRef
 }
 
 /// Moves the marked nodes to the front, puts links in index of their marks, and counts them.
-pub(crate) fn move_nodes(nodes: &mut [Node], marks: &mut Vec<u32>) -> usize
+pub(crate) fn move_nodes(nodes: &mut [Node], marks: &mut [u32]) -> usize
     requires canonical { AreCanonical nodes.old }
-    requires closed { AreClosed nodes.old marks.old.items }
-    requires fits { length nodes.old ≤ vec_len marks.old }
+    requires closed { AreClosed nodes.old marks.old }
+    requires fits { length nodes.old ≤ length marks.old }
     requires small { length nodes.old < 2 ^ 31 }
-    ensures count { result ≡ marked_below marks.old.items (length nodes.old) }
-    ensures moved { MovesBelow nodes.old marks.old.items nodes.new marks.new.items (length nodes.old) }
+    ensures count { result ≡ marked_below marks.old (length nodes.old) }
+    ensures moved { MovesBelow nodes.old marks.old nodes.new marks.new (length nodes.old) }
 {
     let mut kept = 0;
     for index in 0..nodes.len() {

@@ -1,12 +1,14 @@
 //! Finding a node: chains of indices, one for each bucket.
 
-ghost use Rattle.std.specs.Prelude.{◌≡◌, ◌≢◌, ◌+◌, ◌<◌, ◌≤◌, ◌^◌, ℕ, length, vec_len, slice_index, slice_set, IfSome, IfNone};
+ghost use Rattle.std.specs.Prelude.{◌≡◌, ◌≢◌, ◌+◌, ◌<◌, ◌≤◌, ◌^◌, ℕ, [], ◌∷◌, ◌++◌, length, vec_len, vec_capacity, slice_index, slice_set, replicate};
+ghost use Rattle.std.specs.Prelude.{IfOk, IfSome, IfNone};
 ghost use Rattle.bdd_nodes.specs.Nodes.{node_at};
 ghost use Rattle.bdd_nodes.specs.Hash.{bucket_of};
 ghost use Rattle.bdd_nodes.specs.Index.{IsIndexed};
+ghost use Rattle.bdd_nodes.specs.Room.{HasRoom};
 
-use crate::collecting;
 use crate::node::Node;
+use std::alloc::{AllocError, Global};
 
 /// Chains of indices. A link is an index plus one, and 0 ends a chain.
 #[derive(Debug, Drop)]
@@ -17,7 +19,25 @@ pub(crate) struct Index {
     pub(crate) chain: Vec<u32>,
 }
 
+/// How many buckets there are at first, where the limit isn't less.
+const FIRST_BUCKETS: u32 = 1_024;
+
 impl Index {
+    /// Chains without nodes, with room for so many and for as many buckets. `AllocError` for want of that memory.
+    pub(crate) fn open(alloc: Global, limit: u32) -> Result<Index, AllocError>
+        requires { 1 ≤ limit }
+        ensures roomy { IfOk result (HasRoom limit) }
+        ensures indexed { IfOk result (λ index. IsIndexed [] index.buckets.items index.chain.items 0) }
+        ensures empty { IfOk result (λ index. index.chain.items ≡ []) }
+    {
+        let mut buckets = Vec::with_capacity(alloc, limit as usize)?;
+        zeros_within(&mut buckets, limit.min(FIRST_BUCKETS) as usize);
+        Ok(Index {
+            buckets,
+            chain: Vec::with_capacity(alloc, limit as usize)?,
+        })
+    }
+
     /// The index of the node, if it is there.
     #[inline(always)]
     pub(crate) fn find(&self, nodes: &[Node], bucket: usize, node: Node) -> Option<u32>
@@ -40,34 +60,100 @@ impl Index {
         None
     }
 
-    /// Puts an index before the others of its bucket.
+    /// Puts the next index before the others of its bucket.
     #[inline(always)]
-    pub(crate) fn put(&mut self, bucket: usize, index: u32)
+    fn put(&mut self, bucket: usize)
         requires bucket_in { bucket < vec_len self.old.buckets }
-        requires index_in { index < vec_len self.old.chain }
-        requires link_fits { index + 1 < 2 ^ 32 }
-        ensures bucket { self.new.buckets.items ≡ slice_set self.old.buckets.items bucket (index + 1) }
+        requires room { vec_len self.old.chain < vec_capacity self.old.chain }
+        requires small { vec_len self.old.chain + 1 < 2 ^ 32 }
+        ensures bucket { self.new.buckets.items
+            ≡ slice_set self.old.buckets.items bucket (vec_len self.old.chain + 1) }
         ensures before { self.new.chain.items
-            ≡ slice_set self.old.chain.items index (slice_index self.old.buckets.items bucket) }
+            ≡ self.old.chain.items ++ slice_index self.old.buckets.items bucket ∷ [] }
+        ensures bucket_room { vec_capacity self.new.buckets ≡ vec_capacity self.old.buckets }
+        ensures chain_room { vec_capacity self.old.chain ≤ vec_capacity self.new.chain }
     {
-        self.chain[index as usize] = self.buckets[bucket];
-        self.buckets[bucket] = index + 1;
+        push_within(&mut self.chain, self.buckets[bucket]);
+        self.buckets[bucket] = self.chain.len() as u32;
     }
 
-    /// Puts all nodes, and them alone.
-    pub(crate) fn rebuild(&mut self, nodes: &[Node])
-        requires room { length nodes.now ≤ vec_len self.old.buckets }
-        requires fits { length nodes.now ≤ vec_len self.old.chain }
-        requires small { vec_len self.old.buckets < 2 ^ 31 }
+    /// Puts the last node, and makes more buckets where there are more nodes.
+    #[inline(always)]
+    pub(crate) fn put_last(&mut self, nodes: &[Node], bucket: usize, limit: u32)
+        requires roomy { HasRoom limit self.old }
+        requires small { limit < 2 ^ 31 }
+        requires within { length nodes.now ≤ limit }
+        requires last { length nodes.now ≡ vec_len self.old.chain + 1 }
+        requires indexed { IsIndexed nodes.now self.old.buckets.items self.old.chain.items (vec_len self.old.chain) }
+        requires its { bucket ≡ bucket_of (node_at nodes.now (vec_len self.old.chain)) (vec_len self.old.buckets) }
+        requires bucket_in { bucket < vec_len self.old.buckets }
         ensures indexed { IsIndexed nodes.now self.new.buckets.items self.new.chain.items (length nodes.now) }
-        ensures buckets_len { vec_len self.new.buckets ≡ vec_len self.old.buckets }
-        ensures chain_len { vec_len self.new.chain ≡ vec_len self.old.chain }
+        ensures chain_len { vec_len self.new.chain ≡ length nodes.now }
+        ensures roomy { HasRoom limit self.new }
     {
-        collecting::clear(&mut self.buckets);
-        let buckets = self.buckets.len() as u32;
-        for index in 0..nodes.len() {
-            let bucket = nodes[index].bucket(buckets);
-            self.put(bucket, index as u32);
+        self.put(bucket);
+        if nodes.len() > self.buckets.len() {
+            self.widen(nodes, limit);
         }
     }
+
+    /// Makes twice the buckets, up to the limit, and puts all nodes.
+    #[cold]
+    #[inline(never)]
+    fn widen(&mut self, nodes: &[Node], limit: u32)
+        requires roomy { HasRoom limit self.old }
+        requires small { limit < 2 ^ 31 }
+        requires within { length nodes.now ≤ limit }
+        ensures indexed { IsIndexed nodes.now self.new.buckets.items self.new.chain.items (length nodes.now) }
+        ensures chain_len { vec_len self.new.chain ≡ length nodes.now }
+        ensures roomy { HasRoom limit self.new }
+    {
+        let count = self.buckets.len() as u32;
+        let more = if count < limit - count {
+            count * 2
+        } else {
+            limit
+        };
+        self.rebuild(nodes, more);
+    }
+
+    /// Puts all nodes, and them alone, into so many buckets.
+    pub(crate) fn rebuild(&mut self, nodes: &[Node], count: u32)
+        requires some { 1 ≤ count }
+        requires room { count ≤ vec_capacity self.old.buckets }
+        requires fits { length nodes.now ≤ vec_capacity self.old.chain }
+        requires small { length nodes.now < 2 ^ 31 }
+        ensures indexed { IsIndexed nodes.now self.new.buckets.items self.new.chain.items (length nodes.now) }
+        ensures buckets_len { vec_len self.new.buckets ≡ count }
+        ensures chain_len { vec_len self.new.chain ≡ length nodes.now }
+        ensures buckets_room { vec_capacity self.old.buckets ≤ vec_capacity self.new.buckets }
+        ensures chain_room { vec_capacity self.old.chain ≤ vec_capacity self.new.chain }
+    {
+        zeros_within(&mut self.buckets, count as usize);
+        self.chain.clear();
+        for index in 0..nodes.len() {
+            let bucket = nodes[index].bucket(count);
+            self.put(bucket);
+        }
+    }
+}
+
+/// Puts the number at the end, where there is room.
+#[inline(always)]
+fn push_within(numbers: &mut Vec<u32>, number: u32)
+    requires { vec_len numbers.old < vec_capacity numbers.old }
+    ensures items { numbers.new.items ≡ numbers.old.items ++ number ∷ [] }
+    ensures room { vec_capacity numbers.old ≤ vec_capacity numbers.new }
+{
+    let _ = numbers.push(number);
+}
+
+/// So many zeros alone, where there is room.
+fn zeros_within(numbers: &mut Vec<u32>, count: usize)
+    requires { count ≤ vec_capacity numbers.old }
+    ensures zeros { numbers.new.items ≡ replicate count 0 }
+    ensures room { vec_capacity numbers.old ≤ vec_capacity numbers.new }
+{
+    numbers.clear();
+    let _ = numbers.resize(count, 0);
 }

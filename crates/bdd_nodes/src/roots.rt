@@ -1,10 +1,11 @@
 //! Tables of roots.
 
-ghost use Rattle.std.specs.Prelude.{◌≡◌, ◌≢◌, ◌+◌, ◌<◌, ◌≤◌, ℕ, [], ◌∷◌, ◌++◌, length, All, map, vec_len};
+ghost use Rattle.std.specs.Prelude.{◌≡◌, ◌≢◌, ◌+◌, ◌<◌, ◌≤◌, ℕ, [], ◌∷◌, ◌++◌, length, All, map};
 ghost use Rattle.std.specs.Prelude.{IfOk, OnErr, IfSome, IfNone, IsSome, None, Some, MatchOption};
 ghost use Rattle.bdd_nodes.specs.Nodes.{node_of, rank};
 ghost use Rattle.bdd_nodes.specs.Collecting.{all_roots, linked_table, IsLinked, MarksList};
 ghost use Rattle.bdd_nodes.specs.Roots.{number_at, number_of, roots_under, root_under, AreNumbered};
+ghost use Rattle.bdd_nodes.specs.Between.{IsBetween};
 
 use crate::collecting;
 use crate::node_ref::NodeRef;
@@ -96,9 +97,9 @@ impl RootSet {
     }
 
     /// Marks all roots.
-    pub(crate) fn mark(&self, marks: &mut Vec<u32>)
-        requires { All (λ r. rank (node_of r) ≤ vec_len marks.old) (all_roots self.now.tables) }
-        ensures { MarksList (all_roots self.now.tables) marks.old.items marks.new.items }
+    pub(crate) fn mark(&self, marks: &mut [u32])
+        requires { All (λ r. rank (node_of r) ≤ length marks.old) (all_roots self.now.tables) }
+        ensures { MarksList (all_roots self.now.tables) marks.old marks.new }
     {
         collecting::mark_tables(&self.tables, marks);
     }
@@ -120,8 +121,7 @@ fn position_of(tables: &[RootTable], id: TableId) -> Option<usize>
     ensures found { IfSome result (λ position. number_at tables.now position ≡ number_of id) }
     ensures none { IfNone result (roots_under tables.now (number_of id) ≡ None) }
 {
-    let mut low = 0;
-    let mut high = tables.len();
+    let (mut low, mut high) = bounds_of(tables, id);
     while low < high {
         let middle = low + (high - low) / 2;
         let number = tables[middle].id.0;
@@ -135,4 +135,23 @@ fn position_of(tables: &[RootTable], id: TableId) -> Option<usize>
         }
     }
     None
+}
+
+/// From where on and before where the table with this number stands, if it is there: looks at the last table, the second,
+/// fourth, eighth .. from the end, since the tables asked for are mostly among the last.
+fn bounds_of(tables: &[RootTable], id: TableId) -> (usize, usize)
+    requires rise { (i j : ℕ) → i < j → j < length tables.now → number_at tables.now i < number_at tables.now j }
+    ensures { IsBetween tables.now (number_of id) result.0 result.1 }
+{
+    let mut high = tables.len();
+    let mut back = 1;
+    while back <= tables.len() {
+        let low = tables.len() - back;
+        if tables[low].id.0 <= id.0 {
+            return (low, high);
+        }
+        high = low;
+        back *= 2;
+    }
+    (0, high)
 }

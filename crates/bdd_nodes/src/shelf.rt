@@ -30,7 +30,7 @@ pub struct Shelf {
     limit: u32,
     /// In the order in which they were made: the sides of a node stand before it.
     nodes: Vec<Node>,
-    /// It has a bucket and a link for each node that may come.
+    /// It has a link for each node, and room for links and buckets for all that may come.
     index: Index,
     roots: RootSet,
 }
@@ -44,12 +44,12 @@ impl Model for Shelf {
 
     ghost view = { λ a. record { nodes = a.nodes.items; limit = a.limit; roots = a.roots } };
 
-    ghost invariant = { λ a. IsStored a.limit a.nodes.items (vec_capacity a.nodes) a.index.chain.items a.index.buckets.items a.roots };
+    ghost invariant = { λ a. IsStored a.limit a.nodes.items (vec_capacity a.nodes) a.index a.roots };
 }
 
 impl Shelf {
-    /// A shelf without nodes and tables, with all the memory for `limit` nodes and for collecting them: 20 bytes a node.
-    /// `AllocError` for want of that memory.
+    /// A shelf without nodes and tables, with all the memory for `limit` nodes and for collecting them: 20 bytes a node,
+    /// which are reserved here and touched as nodes come. `AllocError` for want of that memory.
     pub fn open(alloc: Global, limit: u32) -> Result<Shelf, AllocError>
         requires some { 1 ≤ limit }
         requires small { limit ≤ 16000000 }
@@ -59,10 +59,7 @@ impl Shelf {
         Ok(Shelf {
             limit,
             nodes: Vec::with_capacity(alloc, limit as usize)?,
-            index: Index {
-                buckets: vec![in alloc; 0; limit as usize]?,
-                chain: vec![in alloc; 0; limit as usize]?,
-            },
+            index: Index::open(alloc, limit)?,
             roots: RootSet::new(alloc),
         })
     }
@@ -93,7 +90,7 @@ impl Shelf {
             return Ok(low);
         }
         let node = Node { track, low, high };
-        let bucket = node.bucket(limit);
+        let bucket = node.bucket(self.index.buckets.len() as u32);
         if let Some(index) = self.index.find(&self.nodes, bucket, node) {
             return Ok(NodeRef::inner(index));
         }
@@ -103,7 +100,7 @@ impl Shelf {
             return Err(Full);
         }
         push_within(&mut self.nodes, node);
-        self.index.put(bucket, index);
+        self.index.put_last(&self.nodes, bucket, limit);
         Ok(NodeRef::inner(index))
     }
 }

@@ -16,13 +16,14 @@ impl Shelf {
         ensures limit { limit_of self.new ≡ limit_of self.old }
         ensures shelf { IsShelf self.new }
     {
-        let marks = &mut self.index.chain;
+        let marks = self.index.chain.as_mut_slice();
         collecting::clear(marks);
         self.roots.mark(marks);
         collecting::mark_sides(&self.nodes, marks);
         let count = collecting::move_nodes(&mut self.nodes, marks);
         self.roots.move_all(marks);
         self.nodes.truncate(count);
-        self.index.rebuild(&self.nodes);
+        let buckets = self.index.buckets.len() as u32;
+        self.index.rebuild(&self.nodes, buckets);
     }
 }

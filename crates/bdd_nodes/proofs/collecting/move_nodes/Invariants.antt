@@ -4,5 +4,5 @@ use Rattle.bdd_nodes.proofs.collecting.move_nodes.Given as goal
 
 abbrev pub invariant-loop-index : goal.invariant-loop-index
 invariant-loop-index l =
-    (l.kept ≡ marked_below l.initial.marks.items l.index)
-    × MovesBelow l.initial.nodes l.initial.marks.items l.nodes l.marks.items l.index
+    (l.kept ≡ marked_below l.initial.marks l.index)
+    × MovesBelow l.initial.nodes l.initial.marks l.nodes l.marks l.index

@@ -1,9 +1,12 @@
-use Rattle.std.proofs.Common.{◌≡◌, vec_len}
+use Rattle.std.proofs.Common.{◌≡◌, ◌≤◌, vec_len, vec_capacity}
 use Rattle.bdd_nodes.specs.Index.{IsIndexed}
 use Rattle.bdd_nodes.proofs.index.Index.rebuild.Given as goal
 
 abbrev pub invariant-loop-index : goal.invariant-loop-index
-invariant-loop-index l =
-    IsIndexed l.nodes l.self.buckets.items l.self.chain.items l.index
-    × (vec_len l.self.buckets ≡ vec_len l.initial.self.buckets)
-    × (vec_len l.self.chain ≡ vec_len l.initial.self.chain)
+invariant-loop-index l = record {
+  indexed : IsIndexed l.nodes l.self.buckets.items l.self.chain.items l.index;
+  buckets_len : vec_len l.self.buckets ≡ l.count;
+  chain_len : vec_len l.self.chain ≡ l.index;
+  buckets_room : vec_capacity l.fn.self.buckets ≤ vec_capacity l.self.buckets;
+  chain_room : vec_capacity l.fn.self.chain ≤ vec_capacity l.self.chain;
+}

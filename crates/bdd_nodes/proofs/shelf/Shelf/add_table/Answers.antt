@@ -37,8 +37,8 @@ invariant_of-self-2 c = record {
   shelf = shelf c;
   indexed = c.self.invariant.indexed;
   chain_len = c.self.invariant.chain_len;
-  buckets_len = c.self.invariant.buckets_len;
   room = c.self.invariant.room;
+  index_room = c.self.invariant.index_room;
 }
 
 pub returns-clause-shelf : goal.returns-clause-shelf

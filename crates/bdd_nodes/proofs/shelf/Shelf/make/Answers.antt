@@ -9,7 +9,7 @@ use Rattle.bdd_nodes.specs.Hash.{bucket_of}
 use Rattle.bdd_nodes.specs.Shelf.{Contents, IsShelf, Has, choice_of, state_of, count_of, limit_of}
 use Rattle.bdd_nodes.specs.Changes.{Keeps, AddsOnly, is_valid}
 use Rattle.bdd_nodes.proofs.GrowLemmas.{grown}
-use Rattle.bdd_nodes.proofs.IndexLemmas.{IsIndexed-grown}
+use Rattle.bdd_nodes.specs.Index.{IsIndexed}
 use Rattle.bdd_nodes.proofs.MakeLemmas.{count-valid, AddsOnly-valid, valid-index, states-index, Has-index, Has-absent, with_node}
 use Rattle.bdd_nodes.proofs.MakeLemmas.{IsShelf-with_node, Keeps-with_node, states-made, AddsOnly-made, count-made}
 use Rattle.bdd_nodes.proofs.shelf.Shelf.make.Goals as goal
@@ -118,25 +118,15 @@ grown-view c =
 pub invariant_of-self : goal.invariant_of-self
 invariant_of-self c =
     let stored = c.self.invariant in
-    let items : c.push_within.new.nodes.items ≡ grown c.self.inside.nodes.items (node c) = c.push_within.ensures.items in
-    let index : c.len-index.result ≡ length c.self.inside.nodes.items = c.len-index.ensures ∙ c.self.inside.nodes.ok.0 in
-    let limit : c.self.inside.limit ≡ c.args.self.now.limit = ap (λ (s : Contents). s.limit) c.self.view_is in
-    let at = at_end c in
-    let space = room c in
     record {
       shelf = subst IsShelf (sym (grown-view c))
           (IsShelf-with_node c.args.self.now (shelf-opened c) (node c) c.requires.low c.requires.high (differ c)
-          (absent c) space);
-      indexed = rw (items, c.put.ensures.bucket, c.put.ensures.before)
-          (IsIndexed-grown c.self.inside.nodes.items
-          (node c) c.self.inside.index.buckets.items c.self.inside.index.chain.items c.bucket-bucket.result
-          c.len-index.result index stored.indexed
-          (c.bucket-bucket.ensures.value ∙ ap (bucket_of (node c)) (sym stored.buckets_len))
-          (let b = c.bucket-bucket.ensures.within in let l = stored.buckets_len in omega arith)
-          (let l = stored.chain_len in omega arith));
-      chain_len = ap length c.put.ensures.before ∙ length-set _ _ _ ∙ stored.chain_len;
-      buckets_len = ap length c.put.ensures.bucket ∙ length-set _ _ _ ∙ stored.buckets_len;
+          (absent c) (room c));
+      indexed = subst (λ (ns : List Node). IsIndexed ns c.put_last.new.self.buckets.items c.put_last.new.self.chain.items
+          (length ns)) c.deref-2.ensures.value c.put_last.ensures.indexed;
+      chain_len = let l = c.put_last.ensures.chain_len in let v = c.put_last.new.self.chain.ok.0 in let d = ap length c.deref-2.ensures.value in omega arith;
       room = let r = c.push_within.ensures.room in let s = stored.room in omega arith;
+      index_room = c.put_last.ensures.roomy;
     }
 
 pub returns-clause-value : goal.returns-clause-value
