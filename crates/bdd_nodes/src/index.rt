@@ -1,6 +1,6 @@
 //! Finding a node: chains of indices, one for each bucket.
 
-ghost use Rattle.std.specs.Prelude.{◌≡◌, ◌≢◌, ◌+◌, ◌<◌, ◌≤◌, ◌^◌, ℕ, [], ◌∷◌, ◌++◌, length, vec_len, vec_capacity, slice_index, slice_set, replicate};
+ghost use Rattle.std.specs.Prelude.{◌≡◌, ◌≢◌, ◌+◌, ◌<◌, ◌≤◌, ◌^◌, ℕ, [], ◌∷◌, ◌++◌, length, vec_len, vec_capacity, slice_index, slice_set};
 ghost use Rattle.std.specs.Prelude.{IfOk, IfSome, IfNone};
 ghost use Rattle.bdd_nodes.specs.Nodes.{node_at};
 ghost use Rattle.bdd_nodes.specs.Hash.{bucket_of};
@@ -8,6 +8,7 @@ ghost use Rattle.bdd_nodes.specs.Index.{IsIndexed};
 ghost use Rattle.bdd_nodes.specs.Room.{HasRoom};
 
 use crate::node::Node;
+use crate::within::{push_within, zeros_within};
 use std::alloc::{AllocError, Global};
 
 /// Chains of indices. A link is an index plus one, and 0 ends a chain.
@@ -70,7 +71,7 @@ impl Index {
             ≡ slice_set self.old.buckets.items bucket (vec_len self.old.chain + 1) }
         ensures before { self.new.chain.items
             ≡ self.old.chain.items ++ slice_index self.old.buckets.items bucket ∷ [] }
-        ensures bucket_room { vec_capacity self.new.buckets ≡ vec_capacity self.old.buckets }
+        ensures buckets_room { vec_capacity self.new.buckets ≡ vec_capacity self.old.buckets }
         ensures chain_room { vec_capacity self.old.chain ≤ vec_capacity self.new.chain }
     {
         push_within(&mut self.chain, self.buckets[bucket]);
@@ -109,12 +110,7 @@ impl Index {
         ensures roomy { HasRoom limit self.new }
     {
         let count = self.buckets.len() as u32;
-        let more = if count < limit - count {
-            count * 2
-        } else {
-            limit
-        };
-        self.rebuild(nodes, more);
+        self.rebuild(nodes, limit.min(count * 2));
     }
 
     /// Puts all nodes, and them alone, into so many buckets.
@@ -136,24 +132,4 @@ impl Index {
             self.put(bucket);
         }
     }
-}
-
-/// Puts the number at the end, where there is room.
-#[inline(always)]
-fn push_within(numbers: &mut Vec<u32>, number: u32)
-    requires { vec_len numbers.old < vec_capacity numbers.old }
-    ensures items { numbers.new.items ≡ numbers.old.items ++ number ∷ [] }
-    ensures room { vec_capacity numbers.old ≤ vec_capacity numbers.new }
-{
-    let _ = numbers.push(number);
-}
-
-/// So many zeros alone, where there is room.
-fn zeros_within(numbers: &mut Vec<u32>, count: usize)
-    requires { count ≤ vec_capacity numbers.old }
-    ensures zeros { numbers.new.items ≡ replicate count 0 }
-    ensures room { vec_capacity numbers.old ≤ vec_capacity numbers.new }
-{
-    numbers.clear();
-    let _ = numbers.resize(count, 0);
 }

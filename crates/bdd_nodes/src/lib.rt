@@ -11,6 +11,7 @@ mod node;
 mod node_ref;
 mod roots;
 mod shelf;
+mod within;
 
 pub use laws::{
     equal_references, inner_references_change_with_their_first_track,

@@ -4,7 +4,7 @@ mod collect;
 pub(crate) mod read;
 mod tables;
 
-ghost use Rattle.std.specs.Prelude.{◌≡◌, ◌+◌, ◌<◌, ◌≤◌, ◌^◌, ◌↔◌, IfOk, OnErr, IsErr, IfSome, IfNone, if◌then◌else◌, vec_len, vec_capacity, ◌++◌, ◌∷◌, []};
+ghost use Rattle.std.specs.Prelude.{◌≡◌, ◌+◌, ◌≤◌, ◌↔◌, IfOk, OnErr, IsErr, IfSome, IfNone, if◌then◌else◌};
 ghost use Rattle.labels.specs.Labels.{Label};
 ghost use Rattle.bdd_nodes.specs.Nodes.{node_of};
 ghost use Rattle.bdd_nodes.specs.Shelf.{IsShelf, IsValid, IsSideFor, IsFullFor, Splits, AsksFrom, empty_shelf, count_of, limit_of, state_of};
@@ -15,6 +15,7 @@ use crate::index::Index;
 use crate::node::Node;
 use crate::node_ref::NodeRef;
 use crate::roots::RootSet;
+use crate::within::push_within;
 use std::alloc::{AllocError, Global};
 use std::marker::Model;
 use thiserror::Error;
@@ -103,14 +104,4 @@ impl Shelf {
         self.index.put_last(&self.nodes, bucket, limit);
         Ok(NodeRef::inner(index))
     }
-}
-
-/// Puts the node at the end, where there is room.
-#[inline(always)]
-fn push_within(nodes: &mut Vec<Node>, node: Node)
-    requires { vec_len nodes.old < vec_capacity nodes.old }
-    ensures items { nodes.new.items ≡ nodes.old.items ++ node ∷ [] }
-    ensures room { vec_capacity nodes.old ≤ vec_capacity nodes.new }
-{
-    let _ = nodes.push(node);
 }

@@ -1,12 +1,10 @@
-use Rattle.std.proofs.Common.{◌≡◌, ℕ, ◌≤◌, List, length, take, vec_len, sym, ◌∙◌, ap, subst, arith}
-use Rattle.std.specs.Prelude.{All, map}
+use Rattle.std.proofs.Common.{◌≡◌, ℕ, ◌≤◌, List, length, take, sym, ◌∙◌, ap, subst, arith}
 use Rattle.bdd_nodes.specs.declared.node.Node.{Node}
 use Rattle.bdd_nodes.specs.declared.roots.RootTable.{RootTable}
-use Rattle.bdd_nodes.specs.Nodes.{node_of}
 use Rattle.bdd_nodes.specs.Roots.{Registered}
 use Rattle.bdd_nodes.specs.Shelf.{Contents, IsShelf, count_of}
 use Rattle.bdd_nodes.specs.Changes.{MovesRoots, CountsHeld}
-use Rattle.bdd_nodes.specs.Collecting.{all_roots, marked_below, linked_table, IsLinked, MarksSides, MovesBelow}
+use Rattle.bdd_nodes.specs.Collecting.{marked_below, MarksSides, MovesBelow}
 use Rattle.bdd_nodes.specs.Index.{IsIndexed}
 use Rattle.bdd_nodes.proofs.ElementsLemmas.{take-written}
 use Rattle.bdd_nodes.proofs.CollectedLemmas.{All-rank, All-linked, collected, IsShelf-collected, MovesRoots-collected, CountsHeld-collected}

@@ -1,11 +1,9 @@
 use Rattle.std.proofs.Common.{◌≡◌, ◌≢◌, ℕ, ◌+◌, ◌<◌, List, length, if◌then◌else◌, sym, ◌∙◌, ap, subst, refl, Bool, true, false, vec_len, arith, rules}
-use Rattle.std.proofs.lemmas.List.{length-set}
 use Rattle.bdd_nodes.specs.declared.node.Node.{Node}
 use Rattle.bdd_nodes.specs.declared.node_ref.Named.TheVariants.{Inner}
 use Rattle.bdd_nodes.specs.Roots.{Registered}
 use Rattle.labels.specs.Labels.{Label}
 use Rattle.bdd_nodes.specs.Nodes.{node_at, node_of}
-use Rattle.bdd_nodes.specs.Hash.{bucket_of}
 use Rattle.bdd_nodes.specs.Shelf.{Contents, IsShelf, Has, choice_of, state_of, count_of, limit_of}
 use Rattle.bdd_nodes.specs.Changes.{Keeps, AddsOnly, is_valid}
 use Rattle.bdd_nodes.proofs.GrowLemmas.{grown}
@@ -106,7 +104,7 @@ contents nodes limit roots = record { nodes = nodes; limit = limit; roots = root
 -- the new view is the shelf with the node
 grown-view : (c : After-inner-2) →
     ◌≡◌ {A = Contents} (record {
-      nodes = c.push_within.new.nodes.items;
+      nodes = c.push_within.new.items.items;
       limit = c.self.inside.limit;
       roots = c.self.inside.roots;
     })
