@@ -55,8 +55,9 @@ impl NodeRef {
         }
     }
 
+    /// The reference as a number, which no other reference has.
     #[inline(always)]
-    pub(crate) fn word(self) -> u32
+    pub fn word(self) -> u32
         ensures { result ≡ self.word }
     {
         self.word

@@ -41,18 +41,19 @@ impl Eq for RefPair {
 }
 
 impl Hash for RefPair {
-    ghost use Rattle.std.specs.Prelude.{◌++◌};
+    ghost use Rattle.std.specs.Prelude.{◌+◌, ◌*◌, ◌^◌};
     ghost use Rattle.std.proofs.Common.{rules};
     ghost use Rattle.std.specs.Cmp.Rules.{comparing, hashing};
     ghost use Rattle.std.specs.Hash as fed;
 
-    ghost hash_input = { λ pair. fed.u32 pair.left.word ++ fed.u32 pair.right.word };
+    ghost hash_input = { λ pair. fed.u64 (pair.left.word * 2 ^ 32 + pair.right.word) };
 
     ghost respects_eq = { Prim.search (hashing, rules) };
 
+    #[inline]
     fn hash<H: Hasher>(&self, state: &mut H) {
-        self.left.hash(state);
-        self.right.hash(state);
+        let high = u64::from(self.left.word()) * 0x1_0000_0000;
+        state.write_u64(high + u64::from(self.right.word()));
     }
 }
 
