@@ -1,12 +1,15 @@
 //! How many states projections have, and which of them accept the tree of one node without tracks.
 
 ghost use Rattle.std.specs.Prelude.{IfOk};
-ghost use Rattle.gta_core.specs.Auto.{IsAuto};
+ghost use Rattle.gta_theory.specs.Guides.{IsSpace};
+ghost use Rattle.gta_core.specs.Auto.{guide_of, IsAuto};
 ghost use Rattle.gta_atom.specs.Atom.{IsAtom};
 
+use bdd_list::list_nodes;
 use bdd_nodes::Shelf;
 use gta_atom::atom;
 use gta_core::{Auto, accepts, automata_outlive_changes, tables_outlive_changes};
+use gta_minimise::minimise;
 use gta_product::product;
 use gta_project::project;
 use plain_data::Items;
@@ -64,6 +67,35 @@ fn both(alloc: Global, g: &Guide, f: &Formula, h: &Formula, shelf: &mut Shelf) -
     Ok(c)
 }
 
+/// The Size of an automaton over one space.
+fn size_of(alloc: Global, a: &Auto, shelf: &Shelf) -> Result<usize, Fail>
+    requires { IsSpace (guide_of a.now) 0 }
+{
+    let states = a.states(0).unwrap_or(0) as usize;
+    let part = a.factored(alloc, shelf, 0)?;
+    let listing = list_nodes(alloc, shelf, part.roots.as_slice())?;
+    Ok(
+        states
+            .wrapping_mul(states)
+            .wrapping_add(listing.nodes.len()),
+    )
+}
+
+/// How many states the projection has in space 0, and how many its minimal automaton.
+fn minimal(
+    alloc: Global,
+    g: &Guide,
+    a: &Auto,
+    track: u32,
+    shelf: &mut Shelf,
+) -> Result<(Option<u32>, Option<u32>), Fail>
+    requires { IsAuto g.now shelf.old a.now }
+{
+    let b = project(alloc, g, a, Track(track), shelf)?;
+    let m = minimise(alloc, g, &b, shelf)?;
+    Ok((b.states(0), m.states(0)))
+}
+
 #[test]
 fn atoms_are_projected(rt: HostRuntime) -> Result<(), Fail> {
     let alloc = rt.alloc();
@@ -99,6 +131,19 @@ fn a_product_is_projected(rt: HostRuntime) -> Result<(), Fail> {
     let sub = Formula::Sub(Track(1), Track(0));
     let a = both(alloc, &plain, &root, &sub, &mut shelf)?;
     assert!(rt; a.states(0) == Some(5));
+    assert!(rt; size_of(alloc, &a, &shelf)? == 30);
     assert!(rt; projected(alloc, &plain, &a, 1, &mut shelf)? == (Some(4), false));
+    Ok(())
+}
+
+#[test]
+fn a_projection_is_made_minimal(rt: HostRuntime) -> Result<(), Fail> {
+    let alloc = rt.alloc();
+    let plain = Guide::plain(alloc)?;
+    let mut shelf = Shelf::open(alloc, 100)?;
+    let root = Formula::Root(Track(1));
+    let sub = Formula::Sub(Track(1), Track(0));
+    let a = both(alloc, &plain, &root, &sub, &mut shelf)?;
+    assert!(rt; minimal(alloc, &plain, &a, 1, &mut shelf)? == (Some(4), Some(2)));
     Ok(())
 }
