@@ -70,31 +70,6 @@ roots_under-remove_other (t ∷ tables) (suc position) number within other =
     ap (λ (rest : Option (List NodeRef)). if eqb (number_of t.id) number then Some t.roots else rest)
     (roots_under-remove_other tables position number (omega arith) other)
 
--- the table at `low` has no greater number
-pub IsBetween-from : (tables : List RootTable) (number low high : ℕ) →
-    ((i j : ℕ) → i < j → j < length tables → number_at tables i < number_at tables j) →
-    IsBetween tables number 0 high → low < high → number_at tables low ≤ number → IsBetween tables number low high
-IsBetween-from tables number low high rise between inside no_more = record {
-  ordered = omega arith;
-  within = between.within;
-  above = λ i early. (let w = between.within in let r = rise i low early (omega arith) in omega arith);
-  below = between.below;
-}
-
--- the table at `low` has a greater number
-pub IsBetween-lower : (tables : List RootTable) (number low high : ℕ) →
-    ((i j : ℕ) → i < j → j < length tables → number_at tables i < number_at tables j) →
-    IsBetween tables number 0 high → low < high → number < number_at tables low → IsBetween tables number 0 low
-IsBetween-lower tables number low high rise between inside more = record {
-  ordered = omega arith;
-  within = let w = between.within in omega arith;
-  above = between.above;
-  below = λ i late within. elim (cases_lt low i) [
-    | inl past ↦ (let r = rise low i past within in omega arith)
-    | inr here ↦ subst (λ (k : ℕ). number < number_at tables k) (let e : low ≡ i = omega arith in e) more
-  ];
-}
-
 -- the lower half is left behind
 pub IsBetween-upper : (tables : List RootTable) (number low high middle : ℕ) →
     ((i j : ℕ) → i < j → j < length tables → number_at tables i < number_at tables j) →
