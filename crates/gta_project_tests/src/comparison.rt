@@ -6,7 +6,7 @@
 //! any, and for a set of one position which one it is. So parts of the tree, one position outside alone, with a part
 //! or twice, are all that there is to try.
 
-ghost use Rattle.std.specs.Prelude.{◌≤◌, IfOk};
+ghost use Rattle.std.specs.Prelude.{◌≡◌, ◌≤◌, IfOk, length};
 ghost use Rattle.gta_core.specs.Auto.{guide_of, IsAuto};
 ghost use Rattle.ws2s_core.specs.LabelTrees.{IsTree};
 
@@ -36,11 +36,74 @@ enum Form {
     None2,
 }
 
+/// Formulas without a bound track, each by a letter for its form (`A` for all, `N` for not all, `E` for some set, `Z` for no
+/// set) and three literals, each by a letter (`s` for `Sub`, `i` for `Single`, `l` and `r` for `Succ0` and `Succ1`, `o` for
+/// `Root`; `S`, `I` and `O` negated) and its tracks, the one track twice.
+const FREE: &str = "\
+    As01s00s00 AS01s00s00 Ai00s00s00 Ni00i11s00 Ai00s01s00 \
+    Al01s00s00 Ar10O11s00 Ao00S10s00 Ns01s10s00 As01S10I11 \
+    Al01o00s00 AI00I11s10 Ao00o11s00 Nr01s00s00 Ai00I00s00 \
+    Ni00I00s00 ";
+
+/// Formulas in which track 2 is bound.
+const BOUND: &str = "\
+    Ei22s20s00 Ei22s20s21 Ei22s20S21 El02s21s00 El20s21s00 \
+    Er20l21s00 El02r21s00 El02S21s00 Eo22s20s00 Eo22l20s00 \
+    Es02s21s00 Es02s21I22 Es02s12i22 ES20s21I22 ES20S21i22 \
+    EI22s20S02 ES02s12s00 Er20S21s00 El20O22s00 Zi22s20S21 \
+    Zl02s21s00 Zo22s20s21 Zi22s20s00 Ei22S20s21 ";
+
+/// Formulas for three spaces.
+const OVER_THREE: &str = "\
+    Ai00s01s00 Nr01s00s00 El20s21s00 Zi22s20S21 ";
+
 /// A formula of three literals.
 #[derive(Clone, Copy, Debug)]
 struct Case {
     form: Form,
     literals: [Literal; 3],
+}
+
+/// The literal of a letter and two digits.
+fn literal_of(letter: u8, one: u8, other: u8) -> Literal {
+    let (one, other) = (track_of(one), track_of(other));
+    match letter {
+        b's' => Sub(one, other),
+        b'S' => NotSub(one, other),
+        b'i' => Single(one),
+        b'I' => NotSingle(one),
+        b'l' => Succ0(one, other),
+        b'r' => Succ1(one, other),
+        b'o' => Root(one),
+        _ => NotRoot(one),
+    }
+}
+
+fn track_of(digit: u8) -> u32 {
+    u32::from(digit).wrapping_sub(u32::from(b'0'))
+}
+
+fn form_of(letter: u8) -> Form {
+    match letter {
+        b'A' => All,
+        b'N' => NotAll,
+        b'E' => Some2,
+        _ => None2,
+    }
+}
+
+/// The formula of ten letters and digits.
+fn case_of(text: &[u8]) -> Case
+    requires { length text.now ≡ 10 }
+{
+    Case {
+        form: form_of(text[0]),
+        literals: [
+            literal_of(text[1], text[2], text[3]),
+            literal_of(text[4], text[5], text[6]),
+            literal_of(text[7], text[8], text[9]),
+        ],
+    }
 }
 
 /// Whether the literal holds of the sets of tracks 0, 1 and 2.
@@ -206,82 +269,43 @@ fn all_apart(alloc: Global, g: &Guide, case: Case) -> Result<u32, Fail> {
     Ok(all)
 }
 
+/// Of the formulas of a table, those which an automaton accepts otherwise than they say: how many there are, and how many
+/// formulas the table has.
+fn all_of(alloc: Global, g: &Guide, table: &str) -> Result<(u32, u32), Fail> {
+    let mut wrong: u32 = 0;
+    let mut many: u32 = 0;
+    for text in table.as_bytes().chunks(11) {
+        if text.len() != 11 {
+            continue;
+        }
+        many = many.wrapping_add(1);
+        if all_apart(alloc, g, case_of(&text[..10]))? != 0 {
+            wrong = wrong.wrapping_add(1);
+        }
+    }
+    Ok((wrong, many))
+}
+
 #[test]
 fn products_and_complements_accept_what_formulas_say(rt: HostRuntime) -> Result<(), Fail> {
     let alloc = rt.alloc();
-    let g = Guide::plain(alloc)?;
-    for (form, literals) in [
-        (All, [Sub(0, 1), Sub(0, 0), Sub(0, 0)]),
-        (All, [NotSub(0, 1), Sub(0, 0), Sub(0, 0)]),
-        (All, [Single(0), Sub(0, 0), Sub(0, 0)]),
-        (NotAll, [Single(0), Single(1), Sub(0, 0)]),
-        (All, [Single(0), Sub(0, 1), Sub(0, 0)]),
-        (All, [Succ0(0, 1), Sub(0, 0), Sub(0, 0)]),
-        (All, [Succ1(1, 0), NotRoot(1), Sub(0, 0)]),
-        (All, [Root(0), NotSub(1, 0), Sub(0, 0)]),
-        (NotAll, [Sub(0, 1), Sub(1, 0), Sub(0, 0)]),
-        (All, [Sub(0, 1), NotSub(1, 0), NotSingle(1)]),
-        (All, [Succ0(0, 1), Root(0), Sub(0, 0)]),
-        (All, [NotSingle(0), NotSingle(1), Sub(1, 0)]),
-        (All, [Root(0), Root(1), Sub(0, 0)]),
-        (NotAll, [Succ1(0, 1), Sub(0, 0), Sub(0, 0)]),
-        (All, [Single(0), NotSingle(0), Sub(0, 0)]),
-        (NotAll, [Single(0), NotSingle(0), Sub(0, 0)]),
-    ] {
-        let case = Case { form, literals };
-        assert!(rt; all_apart(alloc, &g, case)? == 0, "{case:?}");
-    }
+    let plain = Guide::plain(alloc)?;
+    assert!(rt; all_of(alloc, &plain, FREE)? == (0, 16));
     Ok(())
 }
 
 #[test]
 fn projections_accept_what_formulas_say(rt: HostRuntime) -> Result<(), Fail> {
     let alloc = rt.alloc();
-    let g = Guide::plain(alloc)?;
-    for (form, literals) in [
-        (Some2, [Single(2), Sub(2, 0), Sub(0, 0)]),
-        (Some2, [Single(2), Sub(2, 0), Sub(2, 1)]),
-        (Some2, [Single(2), Sub(2, 0), NotSub(2, 1)]),
-        (Some2, [Succ0(0, 2), Sub(2, 1), Sub(0, 0)]),
-        (Some2, [Succ0(2, 0), Sub(2, 1), Sub(0, 0)]),
-        (Some2, [Succ1(2, 0), Succ0(2, 1), Sub(0, 0)]),
-        (Some2, [Succ0(0, 2), Succ1(2, 1), Sub(0, 0)]),
-        (Some2, [Succ0(0, 2), NotSub(2, 1), Sub(0, 0)]),
-        (Some2, [Root(2), Sub(2, 0), Sub(0, 0)]),
-        (Some2, [Root(2), Succ0(2, 0), Sub(0, 0)]),
-        (Some2, [Sub(0, 2), Sub(2, 1), Sub(0, 0)]),
-        (Some2, [Sub(0, 2), Sub(2, 1), NotSingle(2)]),
-        (Some2, [Sub(0, 2), Sub(1, 2), Single(2)]),
-        (Some2, [NotSub(2, 0), Sub(2, 1), NotSingle(2)]),
-        (Some2, [NotSub(2, 0), NotSub(2, 1), Single(2)]),
-        (Some2, [NotSingle(2), Sub(2, 0), NotSub(0, 2)]),
-        (Some2, [NotSub(0, 2), Sub(1, 2), Sub(0, 0)]),
-        (Some2, [Succ1(2, 0), NotSub(2, 1), Sub(0, 0)]),
-        (Some2, [Succ0(2, 0), NotRoot(2), Sub(0, 0)]),
-        (None2, [Single(2), Sub(2, 0), NotSub(2, 1)]),
-        (None2, [Succ0(0, 2), Sub(2, 1), Sub(0, 0)]),
-        (None2, [Root(2), Sub(2, 0), Sub(2, 1)]),
-        (None2, [Single(2), Sub(2, 0), Sub(0, 0)]),
-        (Some2, [Single(2), NotSub(2, 0), Sub(2, 1)]),
-    ] {
-        let case = Case { form, literals };
-        assert!(rt; all_apart(alloc, &g, case)? == 0, "{case:?}");
-    }
+    let plain = Guide::plain(alloc)?;
+    assert!(rt; all_of(alloc, &plain, BOUND)? == (0, 24));
     Ok(())
 }
 
 #[test]
 fn formulas_over_three_spaces_are_accepted_as_they_say(rt: HostRuntime) -> Result<(), Fail> {
     let alloc = rt.alloc();
-    let g = Guide::new(alloc, Items::from_slice(alloc, &[(1, 0), (1, 1), (2, 0)])?)?;
-    for (form, literals) in [
-        (All, [Single(0), Sub(0, 1), Sub(0, 0)]),
-        (NotAll, [Succ1(0, 1), Sub(0, 0), Sub(0, 0)]),
-        (Some2, [Succ0(2, 0), Sub(2, 1), Sub(0, 0)]),
-        (None2, [Single(2), Sub(2, 0), NotSub(2, 1)]),
-    ] {
-        let case = Case { form, literals };
-        assert!(rt; all_apart(alloc, &g, case)? == 0, "{case:?}");
-    }
+    let three = Guide::new(alloc, Items::from_slice(alloc, &[(1, 0), (1, 1), (2, 0)])?)?;
+    assert!(rt; all_of(alloc, &three, OVER_THREE)? == (0, 4));
     Ok(())
 }
