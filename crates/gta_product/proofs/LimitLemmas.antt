@@ -137,14 +137,17 @@ module _ (g : Spaces) (guide : IsGuide g) (A B C : Automaton ℕ) (of_A : IsStab
         let r = slice_index_or many.columns place.column (0, 0) in
         let x = named (left g many.space) l (many.in_left place.row (0, 0) place.row_within) in
         let y = named (right g many.space) r (many.in_right place.column (0, 0) place.column_within) in
-        let at = Contains-get in_space.pairs (x.name, y.name) (in_space.all_pairs.every (x.name, y.name) (x.there, y.there)) in
-        (at.0, slice_get_within in_space.pairs at.0 (x.name, y.name) at.1, record {
-          place = place;
-          names = (x.name, y.name);
-          there = at.1;
-          row = x.is;
-          column = y.is;
-        })
+        let at = Contains-get in_space.pairs (x.name, y.name) (in_space.all_pairs.every (x.name, y.name) (x.there, y.there)) in (
+          at.0,
+          slice_get_within in_space.pairs at.0 (x.name, y.name) at.1,
+          record {
+            place = place;
+            names = (x.name, y.name);
+            there = at.1;
+            row = x.is;
+            column = y.is;
+          },
+        )
 
     one-cell : (k m j : ℕ) → IsCellOf k j → IsCellOf m j → k ≡ m
     one-cell k m j x y =

@@ -56,7 +56,7 @@ module _ (g : Spaces) (AB : Automaton (ℕ × ℕ)) where
     pub each : All (IsStepFunction given) wholes
     pub exceeds : ExceedsAmong shelf wholes
 
-  -- a space has more pairs of different generated pairs of its children than the limit
+  -- different generated pairs of a space's children, as rows and columns, have more cells than the limit
   pub record HasManyCells (shelf : Contents) : Type 0 where
     pub space : ℕ
     pub inside : IsSpace g space
@@ -77,7 +77,7 @@ module _ (g : Spaces) (AB : Automaton (ℕ × ℕ)) where
     pub are : AreSpaces spaces
     pub counted : (given : ℕ → List ℕ → ℕ) → CompleteAll spaces given → AddsSteps first now given
 
-  -- there is less room than the product of these spaces has missing functions, or a space has many cells
+  -- there is less room than the product of these spaces has missing functions, or some space has many cells
   pub record Exceeded (first : Contents) : Type 0 where
     pub spaces : List (List (ℕ × ℕ))
     pub exceeds : (given : ℕ → List ℕ → ℕ) → CompleteAll spaces given → ExceedsSteps first given ⊎ HasManyCells first

@@ -26,7 +26,7 @@ module _ (g : Spaces) (AB : Automaton (ℕ × ℕ)) where
   AreGenerated s pairs = (pair : ℕ × ℕ) → Contains pairs pair → Generated g AB s pair
 
   module _ (a b : AutoView) where
-    -- the space was joined for generated pairs of its children, one of each class
+    -- the space was joined for generated pairs of its children, one for each of their classes
     pub record HasSeen (s : ℕ) (growth : Growth) : Type 0 where
       pub rows : AreGenerated (left g s) growth.rows.ones
       pub columns : AreGenerated (right g s) growth.columns.ones
@@ -47,7 +47,7 @@ module _ (g : Spaces) (AB : Automaton (ℕ × ℕ)) where
     pub tables : SameTables old new
     pub building : (start : Contents) → Building g AB start old before → Building g AB start new after
 
-  -- there is less room than the product that was being built has missing functions, or a space has many cells
+  -- there is less room than the product that was being built has missing functions, or some space has many cells
   abbrev pub LacksRoom : Contents → List (List (ℕ × ℕ)) → List (List (ℕ × ℕ)) → Type 0
   LacksRoom old before after = (start : Contents) → Building g AB start old before → (given : ℕ → List ℕ → ℕ) →
       CompleteAll g AB after given → ExceedsSteps g AB start given ⊎ HasManyCells g AB start

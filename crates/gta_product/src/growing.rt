@@ -153,6 +153,7 @@ fn grow_once(
 }
 
 /// Joins a space for what has come in its children: the new rows with all columns, and the earlier rows with the new ones.
+/// Stops before that where the space's table would have too many roots.
 #[allow(clippy::too_many_arguments)]
 fn grow_space(
     alloc: Global,
@@ -199,7 +200,7 @@ fn grow_space(
     )
 }
 
-/// Whether a table of so many rows and columns has more roots than go with this limit of nodes.
+/// Whether a table of so many rows and columns has too many roots for this limit of nodes.
 fn exceeds(rows: usize, columns: usize, limit: u32) -> bool
     ensures { IsTrue result ↔ 16 * limit < rows * columns }
 {

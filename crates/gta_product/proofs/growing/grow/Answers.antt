@@ -1,12 +1,11 @@
 -- Again and again, until nothing comes.
-use Rattle.std.proofs.Common.{◌≡◌, ℕ, List, Contains, sym, ◌∙◌, ap, subst, arith}
-use Rattle.gta_theory.specs.Guides.{left, right}
+use Rattle.std.proofs.Common.{ℕ, sym, ◌∙◌}
 use Rattle.std.proofs.lemmas.Bool.{false≢true}
 use Rattle.gta_theory.specs.Automata.{Automaton}
 use Rattle.gta_theory.specs.Constructions.{pairs}
 use Rattle.gta_core.specs.Auto.{automaton_of}
 use Rattle.gta_product.specs.Building.{AreSpaces}
-use Rattle.gta_product.specs.Growing.{AreGenerated, HasSeen, HaveSeen, LacksRoom}
+use Rattle.gta_product.specs.Growing.{HaveSeen}
 use Rattle.gta_product.proofs.GrowingLemmas.{Goes-none, both-on, both-back, auto-on, Goes-next, LacksRoom-next, room-less}
 use Rattle.gta_product.proofs.growing.grow.Goals as goal
 

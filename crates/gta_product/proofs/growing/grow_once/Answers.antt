@@ -1,11 +1,10 @@
 -- Once in each space.
-use Rattle.std.proofs.Common.{◌≡◌, ℕ, List, Contains, sym, ◌∙◌, ap, subst, arith}
-use Rattle.gta_theory.specs.Guides.{left, right}
+use Rattle.std.proofs.Common.{ℕ, ◌∙◌, arith}
 use Rattle.gta_theory.specs.Automata.{Automaton}
 use Rattle.gta_theory.specs.Constructions.{pairs}
 use Rattle.gta_core.specs.Auto.{automaton_of}
 use Rattle.gta_product.specs.Building.{AreSpaces}
-use Rattle.gta_product.specs.Growing.{AreGenerated, HasSeen, HaveSeen, LacksRoom}
+use Rattle.gta_product.specs.Growing.{HasSeen}
 use Rattle.gta_product.proofs.PartLemmas.{get-at}
 use Rattle.gta_product.proofs.GrowingLemmas.{Goes-none, HaveSeen-set, both-on, both-back, auto-on, Goes-next, LacksRoom-next}
 use Rattle.gta_product.proofs.growing.grow_once.Goals as goal

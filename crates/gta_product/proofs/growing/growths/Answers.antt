@@ -26,9 +26,9 @@ loop-space-preserved c =
           (ap (λ (gs : List Growth). slice_get gs s) (sym c.in_ok-push.ensures.items) ∙ there)) [
             | inl before ↦ c.loop-space.invariant.none s growth before
             | inr last ↦ subst (λ (g : Growth). IsNew g.rows × IsNew g.columns) (sym last.1) (
-                record { ones = c.new.ensures.ones; keys = c.new.ensures.keys },
-                record { ones = c.new-in-loop-space.ensures.ones; keys = c.new-in-loop-space.ensures.keys },
-              )
+              record { ones = c.new.ensures.ones; keys = c.new.ensures.keys },
+              record { ones = c.new-in-loop-space.ensures.ones; keys = c.new-in-loop-space.ensures.keys },
+            )
           ];
     }
 

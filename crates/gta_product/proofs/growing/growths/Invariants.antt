@@ -1,4 +1,4 @@
-use Rattle.std.specs.Prelude.{◌≡◌, length, Some, [], slice_get}
+use Rattle.std.specs.Prelude.{◌≡◌, length, Some, slice_get}
 use Rattle.std.proofs.Common.{ℕ}
 use Rattle.gta_product.specs.declared.growing.Growth.{Growth}
 use Rattle.gta_product.proofs.GrowingLemmas.{IsNew}
