@@ -73,6 +73,7 @@ loop-space-preserved c = record {
       (both-back c.args.g.now c.args.a.now c.args.b.now c.args.shelf.now c.loop-space.shelf c.count.ensures.shelf c.args.numbers.now.items
       c.loop-space.numbers.items
       c.loop-space.invariant.goes
-      (λ (AB : Automaton (ℕ × ℕ)). HasSeen c.args.g.now AB c.args.a.now c.args.b.now c.loop-space.space c.grow_space.new.growth) c.in_ok-grow_space.ensures.seen);
+      (λ (AB : Automaton (ℕ × ℕ)). HasSeen c.args.g.now AB c.args.a.now c.args.b.now c.loop-space.space c.grow_space.new.growth)
+      c.in_ok-grow_space.ensures.seen);
   fits = c.in_ok-grow_space.ensures.fits;
 }
