@@ -1,28 +1,31 @@
 -- A product that goes on being built, step after step, and how much room is left for pairs.
-use Rattle.std.proofs.Common.{◌≡◌, ◌≢◌, ℕ, suc, ◌+◌, ◌-◌, ◌^◌, ◌≤◌, ◌<◌, List, [], ◌∷◌}
-use Rattle.std.proofs.Common.{◌++◌, ◌⊎◌, length, map, Option, Some, None, Result, Ok, Err, OnOk, Contains, slice_get}
+use Rattle.std.proofs.Common.{◌≡◌, ◌≢◌, ℕ, suc, ◌*◌, ◌^◌, ◌≤◌, ◌<◌, List, [], ◌∷◌}
+use Rattle.std.proofs.Common.{◌⊎◌, length, map, Option, Some, Result, Ok, Err, OnOk, Contains, slice_get}
 use Rattle.std.proofs.Common.{refl, sym, ◌∙◌, ap, subst, inl, inr, arith}
 use Rattle.std.specs.Prelude.{slice_set}
 use Rattle.std.proofs.lemmas.Bool.{cases_lt}
 use Rattle.std.proofs.lemmas.Bool.Decides.{eqb_tells}
 use Rattle.std.proofs.lemmas.List.Elements.{Contains-append_cases}
 use Rattle.std.proofs.lemmas.Option.{slice_get_within, get_or_from_slice_get}
-use Rattle.bdd_nodes.specs.Shelf.{Contents, IsShelf}
+use Rattle.bdd_nodes.specs.Shelf.{Contents, IsShelf, limit_of}
 use Rattle.bdd_nodes.proofs.CallerLemmas.{Keeps-refl, Keeps-trans}
 use Rattle.bdd_walk.specs.Answers.{Completes}
 use Rattle.gta_theory.specs.Guides.{Spaces, IsSpace, left, right}
 use Rattle.gta_theory.specs.Automata.{Automaton}
 use Rattle.gta_theory.specs.Constructions.{pairs}
+use Rattle.gta_theory.proofs.ListsLemmas.{All-from_contains}
 use Rattle.gta_core.specs.Auto.{AutoView, automaton_of, IsAuto}
+use Rattle.gta_product.specs.declared.growing.Seen.{Seen}
 use Rattle.gta_product.specs.declared.growing.Growth.{Growth}
 use Rattle.gta_product.specs.Classes.{Notes, known, fresh}
 use Rattle.gta_product.specs.Numbers.{numbered, AreNumbers, Extends}
 use Rattle.gta_product.specs.Filling.{Joins, ExceedsCells}
-use Rattle.gta_product.specs.Building.{AreSpaces, CompleteAll, ExceedsSteps, Building, Exceeded, ExtendAll}
+use Rattle.gta_product.specs.Building.{AreSpaces, CompleteAll, ExceedsSteps, HasManyCells, Building, Exceeded, ExtendAll}
 use Rattle.gta_product.specs.Growing.{AreGenerated, HasSeen, HaveSeen, Goes, LacksRoom, room_left}
 use Rattle.gta_product.proofs.BuildingLemmas.{SetsSpace, ExtendAll-set, AreSpaces-set, Building-set, ExceedsSteps-set}
 use Rattle.gta_product.proofs.CellsLemmas.{get-index}
-use Rattle.gta_product.proofs.PartLemmas.{SetsSpace-at, get-set, get-set_other, length-set_at}
+use Rattle.gta_product.proofs.PartLemmas.{SetsSpace-at, get-set, get-set_other, length-set_at, parts-length}
+use Rattle.gta_product.proofs.KeyedLemmas.{IsKeyed-none, ones-differ}
 use Rattle.gta_product.proofs.NextLemmas.{alone-is}
 use Rattle.gta_product.proofs.SameLemmas.{ExtendAll-refl, ExtendAll-trans}
 use Rattle.gta_product.proofs.ShelfLemmas.{both-kept, auto-kept}
@@ -50,15 +53,15 @@ module _ (g : Spaces) (AB : Automaton (ℕ × ℕ)) where
   LacksRoom-after old middle before between after first lacks =
       λ start building given completes. lacks start (first.building start building) given completes
 
-  pub HaveSeen-set : (growths : List Growth) (s : ℕ) (growth : Growth) → HaveSeen g AB growths → s < length growths → HasSeen g AB s growth →
-      HaveSeen g AB (slice_set growths s growth)
-  HaveSeen-set growths s growth have within here = record {
+  pub HaveSeen-set : (a b : AutoView) (growths : List Growth) (s : ℕ) (growth : Growth) → HaveSeen g AB a b growths → s < length growths →
+      HasSeen g AB a b s growth → HaveSeen g AB a b (slice_set growths s growth)
+  HaveSeen-set a b growths s growth have within here = record {
     many = length-set_at growths s growth ∙ have.many;
     each = λ t other there. elim (eqb_tells t s) [
       | inl same ↦
           let is : ◌≡◌ {A = Option Growth} (Some growth) (Some other) =
           sym (get-set growths s growth within) ∙ ap (slice_get (slice_set growths s growth)) (sym same.1) ∙ there in
-          subst (λ (n : ℕ). HasSeen g AB n other) (sym same.1) (subst (HasSeen g AB s) (same-growth growth other is) here)
+          subst (λ (n : ℕ). HasSeen g AB a b n other) (sym same.1) (subst (HasSeen g AB a b s) (same-growth growth other is) here)
       | inr apart ↦ have.each t other (sym (get-set_other growths s t growth apart.1) ∙ there)
     ];
   }
@@ -90,8 +93,8 @@ module _ (g : Spaces) (AB : Automaton (ℕ × ℕ)) (s : ℕ) (inside : IsSpace 
   pub LacksRoom-fill : ((given : List ℕ → ℕ) → Completes (numbered after) given → ExceedsCells AB s rows columns shelf given) →
       LacksRoom g AB shelf spaces (slice_set spaces s after)
   LacksRoom-fill exceeds = λ start building given completes.
-      ExceedsSteps-set g AB s inside spaces (slice_set spaces s after) before after are sets rows columns row-generated column-generated
-      shelf now joins numbers start building given completes (exceeds (given s) (completes s after sets.is))
+      inl (ExceedsSteps-set g AB s inside spaces (slice_set spaces s after) before after are sets rows columns row-generated column-generated
+      shelf now joins numbers start building given completes (exceeds (given s) (completes s after sets.is)))
 
 -- over what joins have done, the product is the same
 module _ (g : Spaces) (a b : AutoView) (old middle : Contents) (is_shelf : IsShelf old) (before between : List (List (ℕ × ℕ)))
@@ -189,20 +192,51 @@ Notes-only class pair old new (fresh at is) x there =
       | inr last ↦ inr (sym (alone-is pair x last))
     ]
 
-pub HasSeen-none : (g : Spaces) (AB : Automaton (ℕ × ℕ)) (s : ℕ) (growth : Growth) → growth.rows.ones ≡ [] → growth.columns.ones ≡ [] →
-    HasSeen g AB s growth
-HasSeen-none g AB s growth no_rows no_columns = record {
-  rows = λ pair there. absurd (nowhere pair (subst (λ (ps : List (ℕ × ℕ)). Contains ps pair) no_rows there));
-  columns = λ pair there. absurd (nowhere pair (subst (λ (ps : List (ℕ × ℕ)). Contains ps pair) no_columns there));
+-- nothing was looked at
+pub record IsNew (seen : Seen) : Type 0 where
+  pub ones : seen.ones ≡ []
+  pub keys : seen.keys ≡ []
+
+pub HasSeen-none : (g : Spaces) (AB : Automaton (ℕ × ℕ)) (a b : AutoView) (s : ℕ) (growth : Growth) → IsNew growth.rows → IsNew growth.columns →
+    HasSeen g AB a b s growth
+HasSeen-none g AB a b s growth rows columns = record {
+  rows = λ pair there. absurd (nowhere pair (subst (λ (ps : List (ℕ × ℕ)). Contains ps pair) rows.ones there));
+  columns = λ pair there. absurd (nowhere pair (subst (λ (ps : List (ℕ × ℕ)). Contains ps pair) columns.ones there));
+  row_keys = λ first second in_a in_b. IsKeyed-none first.rows second.rows growth.rows rows.ones rows.keys;
+  column_keys = λ first second in_a in_b. IsKeyed-none first.columns second.columns growth.columns columns.ones columns.keys;
 }
   where
     nowhere : (pair : ℕ × ℕ) → Contains [] pair → ⊥
     nowhere pair there = omega (arith, there.1)
 
+-- a space for which joins would make more roots than go with the limit
+pub LacksRoom-cells : (g : Spaces) (shelf : Contents) (a b : AutoView) → IsAuto g shelf a → IsAuto g shelf b → (s : ℕ) → IsSpace g s → (growth : Growth) →
+    HasSeen g (pairs (automaton_of shelf a) (automaton_of shelf b)) a b s growth →
+    16 * limit_of shelf < length growth.rows.ones * length growth.columns.ones → (before after : List (List (ℕ × ℕ))) →
+    LacksRoom g (pairs (automaton_of shelf a) (automaton_of shelf b)) shelf before after
+LacksRoom-cells g shelf a b auto_a auto_b s inside growth seen many before after = λ start building given completes.
+    let first = get-index a.parts s (omega (arith, inside, parts-length g shelf a auto_a)) in
+    let second = get-index b.parts s (omega (arith, inside, parts-length g shelf b auto_b)) in
+    inr (record {
+      space = s;
+      inside = inside;
+      rows = growth.rows.ones;
+      columns = growth.columns.ones;
+      in_left = All-from_contains _ growth.rows.ones seen.rows;
+      in_right = All-from_contains _ growth.columns.ones seen.columns;
+      rows_differ = ones-differ first.0.rows second.0.rows growth.rows (seen.row_keys first.0 second.0 first.1 second.1);
+      columns_differ = ones-differ first.0.columns second.0.columns growth.columns (seen.column_keys first.0 second.0 first.1 second.1);
+      many = omega (arith, many, building.same_limit);
+    })
+
 -- what follows where a call answers Ok
 pub on-ok : {T E P Q : Type 0} (r : Result T E) → (P → Q) → OnOk r P → OnOk r Q
 on-ok (Ok x) follows holds = follows holds
 on-ok (Err e) follows holds = tt
+
+pub on-ok-both : {T E P Q S : Type 0} (r : Result T E) → (P → Q → S) → OnOk r P → OnOk r Q → OnOk r S
+on-ok-both (Ok x) follows one other = follows one other
+on-ok-both (Err e) follows one other = tt
 
 pub on-ok-always : {T E P : Type 0} (r : Result T E) → P → OnOk r P
 on-ok-always (Ok x) holds = holds
@@ -237,7 +271,7 @@ module _ (g : Spaces) (a b : AutoView) (first now : Contents) (is_shelf : IsShel
       Exceeded g (pairs (automaton_of first a) (automaton_of first b)) first
   Exceeded-goes after lacks = record {
     spaces = after;
-    exceeds = λ given completes. to-first (λ (AB : Automaton (ℕ × ℕ)). ExceedsSteps g AB first given)
+    exceeds = λ given completes. to-first (λ (AB : Automaton (ℕ × ℕ)). ExceedsSteps g AB first given ⊎ HasManyCells g AB first)
         (lacks first (to-now (λ (AB : Automaton (ℕ × ℕ)). Building g AB first now before) building) given
         (to-now (λ (AB : Automaton (ℕ × ℕ)). CompleteAll g AB after given) completes));
   }

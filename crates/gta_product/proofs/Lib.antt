@@ -1,5 +1,6 @@
 pub mod NumbersLemmas
 pub mod ClassesLemmas
+pub mod KeyedLemmas
 pub mod ComplementLemmas
 pub mod FillingLemmas
 pub mod JoinsLemmas

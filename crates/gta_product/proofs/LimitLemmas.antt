@@ -1,10 +1,12 @@
 -- What has no room is no more than the Size of the product.
-use Rattle.std.proofs.Common.{◌≡◌, ◌≢◌, ℕ, zero, suc, ◌+◌, ◌<◌, ◌≤◌, Bool, List, [], ◌∷◌, ◌++◌, map, length, length-append, Contains, refl}
+use Rattle.std.proofs.Common.{◌≡◌, ◌≢◌, ℕ, zero, suc, ◌+◌, ◌-◌, ◌*◌, ◌<◌, ◌≤◌, Bool, List, [], ◌∷◌, ◌++◌, map, length, length-append, Contains, refl}
+use Rattle.std.proofs.Common.{Option, Some, slice_get, slice_index_or}
 use Rattle.std.proofs.Common.{sym, ◌∙◌, ap, subst, inl, inr, arith}
 use Rattle.std.specs.List.{All, AllPairs}
 use Rattle.std.proofs.Math.Path.{fun_ext}
 use Rattle.std.proofs.lemmas.Bool.{cases_lt}
 use Rattle.std.proofs.lemmas.List.{length-map}
+use Rattle.std.proofs.lemmas.Option.{slice_get_within}
 use Rattle.std.proofs.lemmas.List.Elements.{All-contains, Contains-append_left, Contains-append_right}
 use Rattle.labels.specs.Labels.{Label, Function, with_below}
 use Rattle.bdd_nodes.specs.Shelf.{Contents, count_of, limit_of}
@@ -13,11 +15,13 @@ use Rattle.gta_theory.specs.Guides.{Spaces, IsGuide, IsSpace, left, right}
 use Rattle.gta_theory.specs.Automata.{Automaton, IsStable, Has}
 use Rattle.gta_theory.specs.Constructions.{pairs, IsProduct}
 use Rattle.gta_theory.specs.Generated.{Generated, starts, steps}
-use Rattle.gta_theory.specs.Sizes.{IsPart, sum_below, SizeOf}
+use Rattle.gta_theory.specs.Sizes.{IsPart, SizeIn, sum_below, SizeOf}
 use Rattle.gta_theory.proofs.AutomataLemmas.{IsClosed-values, IsStable-product}
-use Rattle.gta_theory.proofs.ListsLemmas.{Contains-map}
+use Rattle.gta_theory.proofs.CountingLemmas.{matched-le}
+use Rattle.gta_theory.proofs.ListsLemmas.{Contains-map, place-once}
 use Rattle.gta_theory.proofs.SizesLemmas.{length-partners}
-use Rattle.gta_product.specs.Building.{IsStepFunction, ExceedsSteps}
+use Rattle.gta_product.specs.Building.{IsStepFunction, ExceedsSteps, HasManyCells}
+use Rattle.gta_product.proofs.ShelfLemmas.{Contains-get}
 
 -- the parts of the spaces below a number, each with its space
 record ListsSpaces (g : Spaces) (C : Automaton ℕ) (has : ℕ → ℕ → Type 0) (below count : ℕ) : Type 0 where
@@ -46,6 +50,41 @@ module _ (g : Spaces) (C : Automaton ℕ) (has : ℕ → ℕ → Type 0) (n : �
 
   all_spaces : ListsSpaces g C has (length g) n
   all_spaces = subst (ListsSpaces g C has (length g)) size.is_sum (spaces_below (length g) (omega arith))
+
+-- one of the numbers that are added up
+term-le : (f : ℕ → ℕ) (m s : ℕ) → s < m → f s ≤ sum_below f m
+term-le f zero s within = absurd (omega arith)
+term-le f (suc m) s within = elim (cases_lt s m) [
+  | inl early ↦ omega (arith, term-le f m s early)
+  | inr last ↦ (let same : s ≡ m = omega arith in subst (λ (k : ℕ). f k ≤ sum_below f m + f m) (sym same) (omega arith))
+]
+
+-- the row and the column of a place in a table of h rows and w columns
+record IsPlaceIn (h w k : ℕ) : Type 0 where
+  row : ℕ
+  column : ℕ
+  row_within : row < h
+  column_within : column < w
+  is : k ≡ row * w + column
+
+place-in : (h w k : ℕ) → k < h * w → IsPlaceIn h w k
+place-in zero w k within = absurd (omega arith)
+place-in (suc h) w k within = elim (cases_lt k w) [
+  | inl first ↦ record { row = 0; column = k; row_within = omega arith; column_within = first; is = omega arith }
+  | inr later ↦
+      let before = place-in h w (k - w) (omega arith) in
+      let at = before.is in
+      record {
+        row = suc before.row;
+        column = before.column;
+        row_within = omega (arith, before.row_within);
+        column_within = before.column_within;
+        is = omega arith;
+      }
+]
+
+same_pair : (a b : ℕ × ℕ) → ◌≡◌ {A = Option (ℕ × ℕ)} (Some a) (Some b) → a ≡ b
+same_pair a b e = cc
 
 module _ (g : Spaces) (guide : IsGuide g) (A B C : Automaton ℕ) (of_A : IsStable g A) (of_B : IsStable g B)
     (states : ℕ → ℕ → Bool) (pair : ℕ → ℕ → ℕ × ℕ) (product : IsProduct g A B C (Has states) pair) where
@@ -77,6 +116,56 @@ module _ (g : Spaces) (guide : IsGuide g) (A B C : Automaton ℕ) (of_A : IsStab
             ∙ ap (λ (u : ℕ × ℕ). (pairs A B).step s u (pair (right g s) y.name) label) x.is
             ∙ ap (λ (v : ℕ × ℕ). (pairs A B).step s p v label) y.is;
       }
+
+  -- many cells: each stands for a pair of child states of its own
+  module _ (n : ℕ) (size : SizeOf g C (Has states) n) (shelf : Contents) (many : HasManyCells g (pairs A B) shelf) where
+    in_space : SizeIn g C (Has states) many.space (size.sizes many.space)
+    in_space = size.in_space many.space many.inside
+
+    -- the cell at this place has the names at that one
+    record IsCellOf (k j : ℕ) : Type 0 where
+      place : IsPlaceIn (length many.rows) (length many.columns) k
+      names : ℕ × ℕ
+      there : slice_get in_space.pairs j ≡ Some names
+      row : pair (left g many.space) names.0 ≡ slice_index_or many.rows place.row (0, 0)
+      column : pair (right g many.space) names.1 ≡ slice_index_or many.columns place.column (0, 0)
+
+    cell-of : (k : ℕ) → k < length many.rows * length many.columns → (j : ℕ) × (j < length in_space.pairs) × IsCellOf k j
+    cell-of k within =
+        let place = place-in (length many.rows) (length many.columns) k within in
+        let l = slice_index_or many.rows place.row (0, 0) in
+        let r = slice_index_or many.columns place.column (0, 0) in
+        let x = named (left g many.space) l (many.in_left place.row (0, 0) place.row_within) in
+        let y = named (right g many.space) r (many.in_right place.column (0, 0) place.column_within) in
+        let at = Contains-get in_space.pairs (x.name, y.name) (in_space.all_pairs.every (x.name, y.name) (x.there, y.there)) in (
+          at.0,
+          slice_get_within in_space.pairs at.0 (x.name, y.name) at.1,
+          record {
+            place = place;
+            names = (x.name, y.name);
+            there = at.1;
+            row = x.is;
+            column = y.is;
+          },
+        )
+
+    one-cell : (k m j : ℕ) → IsCellOf k j → IsCellOf m j → k ≡ m
+    one-cell k m j x y =
+        let same = same_pair x.names y.names (sym x.there ∙ y.there) in
+        let row = place-once many.rows many.rows_differ x.place.row y.place.row (0, 0) x.place.row_within y.place.row_within
+        (sym x.row ∙ ap (λ (p : ℕ × ℕ). pair (left g many.space) p.0) same ∙ y.row) in
+        let column = place-once many.columns many.columns_differ x.place.column y.place.column (0, 0) x.place.column_within y.place.column_within
+        (sym x.column ∙ ap (λ (p : ℕ × ℕ). pair (right g many.space) p.1) same ∙ y.column) in
+        x.place.is ∙ ap (λ (i : ℕ). i * length many.columns + x.place.column) row
+        ∙ ap (λ (i : ℕ). y.place.row * length many.columns + i) column ∙ sym y.place.is
+
+    -- where there are many cells, the limit is below the Size
+    pub cells-below : limit_of shelf < count_of shelf + n
+    cells-below =
+        let fit = matched-le (length in_space.pairs) (length many.rows * length many.columns) IsCellOf
+        (record { partner = cell-of; once = one-cell }) in
+        let part = term-le size.sizes (length g) many.space many.inside in
+        omega (arith, fit, part, many.many, in_space.is_sum, size.is_sum)
 
   module _ (given : ℕ → List ℕ → ℕ) where
     -- the number that is given to the pair of a state

@@ -1,5 +1,5 @@
 -- The product at the start, at its end, and where there was no room.
-use Rattle.std.proofs.Common.{ℕ, ◌+◌, ◌<◌, Bool, List, [], Option, Result, Ok, Err, OnErr, slice_get, refl, sym, ◌∙◌, ap, subst, arith}
+use Rattle.std.proofs.Common.{ℕ, ◌+◌, ◌<◌, ◌⊎◌, inl, inr, Bool, List, [], Option, Result, Ok, Err, OnErr, slice_get, refl, sym, ◌∙◌, ap, subst, arith}
 use Rattle.std.specs.Prelude.{unwrap_or, is_some}
 use Rattle.bdd_nodes.specs.Roots.{Registered, roots_under}
 use Rattle.bdd_nodes.specs.declared.node_ref.NodeRef.{NodeRef}
@@ -15,8 +15,8 @@ use Rattle.gta_theory.specs.Constructions.{pairs, IsProduct}
 use Rattle.gta_theory.specs.Sizes.{SizeOf}
 use Rattle.gta_core.specs.Changes.{RegistersTable}
 use Rattle.gta_product.specs.Numbers.{numbered}
-use Rattle.gta_product.specs.Building.{AreSpaces, CompleteAll, ExceedsSteps, Building, Leaves}
-use Rattle.gta_product.proofs.LimitLemmas.{limit-below}
+use Rattle.gta_product.specs.Building.{AreSpaces, CompleteAll, ExceedsSteps, HasManyCells, Building, Leaves}
+use Rattle.gta_product.proofs.LimitLemmas.{limit-below, cells-below}
 
 pub Building-start : (g : Spaces) (AB : Automaton (ℕ × ℕ)) (shelf : Contents) (spaces : List (List (ℕ × ℕ))) → IsShelf shelf → AreSpaces g AB spaces →
     Building g AB shelf shelf spaces
@@ -38,12 +38,14 @@ CompleteAll-given_in g AB spaces = λ s numbers is.
     subst (λ (o : Option (List (ℕ × ℕ))). Completes (numbered numbers) (given_by (numbered (unwrap_or o [])))) (sym is) (Completes-given_by (numbered numbers))
 
 pub limit-product : (g : Spaces) → IsGuide g → (A B : Automaton ℕ) → IsStable g A → IsStable g B → (first : Contents) (spaces : List (List (ℕ × ℕ))) →
-    ((given : ℕ → List ℕ → ℕ) → CompleteAll g (pairs A B) spaces given → ExceedsSteps g (pairs A B) first given) →
+    ((given : ℕ → List ℕ → ℕ) → CompleteAll g (pairs A B) spaces given → ExceedsSteps g (pairs A B) first given ⊎ HasManyCells g (pairs A B) first) →
     (C : Automaton ℕ) (states : ℕ → ℕ → Bool) (pair : ℕ → ℕ → ℕ × ℕ) (size : ℕ) → IsProduct g A B C (Has states) pair → SizeOf g C (Has states) size →
     limit_of first < count_of first + size
 limit-product g guide A B of_A of_B first spaces exceeds C states pair size product sized =
-    limit-below g guide A B C of_A of_B states pair product (given_in spaces) first size sized (exceeds (given_in spaces) (CompleteAll-given_in g
-    (pairs A B) spaces))
+    elim (exceeds (given_in spaces) (CompleteAll-given_in g (pairs A B) spaces)) [
+      | inl steps ↦ limit-below g guide A B C of_A of_B states pair product (given_in spaces) first size sized steps
+      | inr cells ↦ cells-below g guide A B C of_A of_B states pair product size sized first cells
+    ]
 
 -- one table is registered after joins
 pub RegistersTable-after : (first now new : Contents) (table : ℕ) (roots : List NodeRef) → SameTables first now → AddsTable now new table roots →

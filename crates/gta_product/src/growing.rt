@@ -1,12 +1,12 @@
 //! The pairs that come: a space is joined for the classes of its children's pairs that weren't joined yet.
 
-ghost use Rattle.std.specs.Prelude.{◌≡◌, ◌<◌, ◌⊎◌, ℕ, List, [], length, map, Err, All, Contains, IfOk, OnOk, IsTrue, ◌↔◌};
+ghost use Rattle.std.specs.Prelude.{◌≡◌, ◌<◌, ◌*◌, ◌⊎◌, ℕ, List, [], length, map, Err, All, Contains, IfOk, OnOk, IsTrue, ◌↔◌};
 ghost use Rattle.gta_theory.specs.Automata.{Automaton};
 ghost use Rattle.gta_theory.specs.Constructions.{pairs};
 ghost use Rattle.gta_theory.specs.Guides.{left, right};
-ghost use Rattle.gta_core.specs.Auto.{automaton_of, IsAuto};
+ghost use Rattle.gta_core.specs.Auto.{AutoView, automaton_of, IsAuto};
 ghost use Rattle.gta_product.specs.Building.{AreSpaces, FitAll};
-ghost use Rattle.gta_product.specs.Growing.{AreGenerated, HasSeen, HaveSeen, Goes, LacksRoom};
+ghost use Rattle.gta_product.specs.Growing.{AreGenerated, IsKeyed, HasSeen, HaveSeen, Goes, LacksRoom};
 
 use crate::classes::note;
 use crate::filling::fill;
@@ -17,6 +17,9 @@ use gta_core::Auto;
 use plain_data::Items;
 use std::alloc::Global;
 use ws2s_core::Guide;
+
+/// The most roots that the table of a space may have for each node of the shelf's limit: they stand outside the shelf.
+const CELLS_A_NODE: u64 = 16;
 
 /// The classes of a child's pairs so far.
 #[derive(Drop)]
@@ -30,7 +33,8 @@ pub(crate) struct Seen {
 
 impl Seen {
     fn new(alloc: Global) -> Seen
-        ensures { result.ones ≡ [] }
+        ensures ones { result.ones ≡ [] }
+        ensures keys { result.keys ≡ [] }
     {
         Seen {
             keys: Numbering::new(alloc),
@@ -42,7 +46,8 @@ impl Seen {
     /// Looks at the pairs that have come, of which those of new classes join the ones.
     fn look(&mut self, pairs: &[(u32, u32)], left: &[u32], right: &[u32]) -> Result<(), NoMemory>
         requires { All (λ pair. (pair.0 < length left.now) × (pair.1 < length right.now)) pairs.now }
-        ensures { OnOk result ((x : ℕ × ℕ) → Contains self.new.ones x → Contains self.old.ones x ⊎ Contains pairs.now x) }
+        ensures only { OnOk result ((x : ℕ × ℕ) → Contains self.new.ones x → Contains self.old.ones x ⊎ Contains pairs.now x) }
+        ensures keyed { OnOk result (IsKeyed left.now right.now self.old → IsKeyed left.now right.now self.new) }
     {
         for k in self.looked..pairs.len() {
             let pair = pairs[k];
@@ -64,7 +69,7 @@ pub(crate) struct Growth {
 
 /// Nothing was looked at in any space.
 pub(crate) fn growths(alloc: Global, g: &Guide) -> Result<Vec<Growth>, NoMemory>
-    ensures { IfOk result (λ growths. (A B : Automaton ℕ) → HaveSeen g.now (pairs A B) growths.items) }
+    ensures { IfOk result (λ growths. (A B : Automaton ℕ) (a b : AutoView) → HaveSeen g.now (pairs A B) a b growths.items) }
 {
     let mut growths = Vec::new(alloc);
     for _space in 0..g.spaces() {
@@ -91,14 +96,14 @@ pub(crate) fn grow(
     requires first { IsAuto g.now shelf.old a.now }
     requires second { IsAuto g.now shelf.old b.now }
     requires spaces { AreSpaces g.now (pairs (automaton_of shelf.old a.now) (automaton_of shelf.old b.now)) numbers.old.items }
-    requires seen { HaveSeen g.now (pairs (automaton_of shelf.old a.now) (automaton_of shelf.old b.now)) growths.old.items }
+    requires seen { HaveSeen g.now (pairs (automaton_of shelf.old a.now) (automaton_of shelf.old b.now)) a.now b.now growths.old.items }
     requires fits { FitAll shelf.old joiners.old.items numbers.old.items }
     ensures goes { Goes g.now (pairs (automaton_of shelf.old a.now) (automaton_of shelf.old b.now))
         shelf.old shelf.new numbers.old.items numbers.new.items }
     ensures limit { result ≡ Err Stop.Limit → LacksRoom g.now (pairs (automaton_of shelf.old a.now) (automaton_of shelf.old b.now))
         shelf.old numbers.old.items numbers.new.items }
     ensures spaces { OnOk result (AreSpaces g.now (pairs (automaton_of shelf.old a.now) (automaton_of shelf.old b.now)) numbers.new.items) }
-    ensures seen { OnOk result (HaveSeen g.now (pairs (automaton_of shelf.old a.now) (automaton_of shelf.old b.now)) growths.new.items) }
+    ensures seen { OnOk result (HaveSeen g.now (pairs (automaton_of shelf.old a.now) (automaton_of shelf.old b.now)) a.now b.now growths.new.items) }
     ensures fits { OnOk result (FitAll shelf.new joiners.new.items numbers.new.items) }
 {
     // Only for its clause `shelf`.
@@ -128,14 +133,14 @@ fn grow_once(
     requires first { IsAuto g.now shelf.old a.now }
     requires second { IsAuto g.now shelf.old b.now }
     requires spaces { AreSpaces g.now (pairs (automaton_of shelf.old a.now) (automaton_of shelf.old b.now)) numbers.old.items }
-    requires seen { HaveSeen g.now (pairs (automaton_of shelf.old a.now) (automaton_of shelf.old b.now)) growths.old.items }
+    requires seen { HaveSeen g.now (pairs (automaton_of shelf.old a.now) (automaton_of shelf.old b.now)) a.now b.now growths.old.items }
     requires fits { FitAll shelf.old joiners.old.items numbers.old.items }
     ensures goes { Goes g.now (pairs (automaton_of shelf.old a.now) (automaton_of shelf.old b.now))
         shelf.old shelf.new numbers.old.items numbers.new.items }
     ensures limit { result ≡ Err Stop.Limit → LacksRoom g.now (pairs (automaton_of shelf.old a.now) (automaton_of shelf.old b.now))
         shelf.old numbers.old.items numbers.new.items }
     ensures spaces { OnOk result (AreSpaces g.now (pairs (automaton_of shelf.old a.now) (automaton_of shelf.old b.now)) numbers.new.items) }
-    ensures seen { OnOk result (HaveSeen g.now (pairs (automaton_of shelf.old a.now) (automaton_of shelf.old b.now)) growths.new.items) }
+    ensures seen { OnOk result (HaveSeen g.now (pairs (automaton_of shelf.old a.now) (automaton_of shelf.old b.now)) a.now b.now growths.new.items) }
     ensures fits { OnOk result (FitAll shelf.new joiners.new.items numbers.new.items) }
 {
     // Only for its clause `shelf`.
@@ -148,6 +153,7 @@ fn grow_once(
 }
 
 /// Joins a space for what has come in its children: the new rows with all columns, and the earlier rows with the new ones.
+/// Stops before that where the space's table would have too many roots.
 #[allow(clippy::too_many_arguments)]
 fn grow_space(
     alloc: Global,
@@ -164,20 +170,27 @@ fn grow_space(
     requires second { IsAuto g.now shelf.old b.now }
     requires spaces { AreSpaces g.now (pairs (automaton_of shelf.old a.now) (automaton_of shelf.old b.now)) numbers.old.items }
     requires inside { space < length g.now }
-    requires seen { HasSeen g.now (pairs (automaton_of shelf.old a.now) (automaton_of shelf.old b.now)) space growth.old }
+    requires seen { HasSeen g.now (pairs (automaton_of shelf.old a.now) (automaton_of shelf.old b.now)) a.now b.now space growth.old }
     requires fits { FitAll shelf.old joiners.old.items numbers.old.items }
     ensures goes { Goes g.now (pairs (automaton_of shelf.old a.now) (automaton_of shelf.old b.now))
         shelf.old shelf.new numbers.old.items numbers.new.items }
     ensures limit { result ≡ Err Stop.Limit → LacksRoom g.now (pairs (automaton_of shelf.old a.now) (automaton_of shelf.old b.now))
         shelf.old numbers.old.items numbers.new.items }
     ensures spaces { OnOk result (AreSpaces g.now (pairs (automaton_of shelf.old a.now) (automaton_of shelf.old b.now)) numbers.new.items) }
-    ensures seen { OnOk result (HasSeen g.now (pairs (automaton_of shelf.old a.now) (automaton_of shelf.old b.now)) space growth.new) }
+    ensures seen { OnOk result (HasSeen g.now (pairs (automaton_of shelf.old a.now) (automaton_of shelf.old b.now)) a.now b.now space growth.new) }
     ensures fits { OnOk result (FitAll shelf.new joiners.new.items numbers.new.items) }
 {
     // Only for its clause `shelf`.
     let _ = shelf.count();
     let (rows, columns) = (growth.rows.ones.len(), growth.columns.ones.len());
     look_at(g, a, b, shelf, space, numbers, growth)?;
+    if exceeds(
+        growth.rows.ones.len(),
+        growth.columns.ones.len(),
+        shelf.limit(),
+    ) {
+        return Err(Stop::Limit);
+    }
     let (earlier, new) = parted(growth.rows.ones.as_slice(), rows);
     let all = growth.columns.ones.as_slice();
     join_pairs(alloc, g, a, b, shelf, space, new, all, joiners, numbers)?;
@@ -185,6 +198,13 @@ fn grow_space(
     join_pairs(
         alloc, g, a, b, shelf, space, earlier, came, joiners, numbers,
     )
+}
+
+/// Whether a table of so many rows and columns has too many roots for this limit of nodes.
+fn exceeds(rows: usize, columns: usize, limit: u32) -> bool
+    ensures { IsTrue result ↔ 16 * limit < rows * columns }
+{
+    rows as u128 * columns as u128 > CELLS_A_NODE as u128 * limit as u128
 }
 
 /// The first so many pairs, and the others.
@@ -212,8 +232,8 @@ fn look_at(
     requires second { IsAuto g.now shelf.now b.now }
     requires spaces { AreSpaces g.now (pairs (automaton_of shelf.now a.now) (automaton_of shelf.now b.now)) numbers.now.items }
     requires inside { space < length g.now }
-    requires seen { HasSeen g.now (pairs (automaton_of shelf.now a.now) (automaton_of shelf.now b.now)) space growth.old }
-    ensures { OnOk result (HasSeen g.now (pairs (automaton_of shelf.now a.now) (automaton_of shelf.now b.now)) space growth.new) }
+    requires seen { HasSeen g.now (pairs (automaton_of shelf.now a.now) (automaton_of shelf.now b.now)) a.now b.now space growth.old }
+    ensures { OnOk result (HasSeen g.now (pairs (automaton_of shelf.now a.now) (automaton_of shelf.now b.now)) a.now b.now space growth.new) }
 {
     let at = space as usize;
     let children = g.children(space).unwrap_or((0, 0));

@@ -1,12 +1,11 @@
 -- Again and again, until nothing comes.
-use Rattle.std.proofs.Common.{◌≡◌, ℕ, List, Contains, sym, ◌∙◌, ap, subst, arith}
-use Rattle.gta_theory.specs.Guides.{left, right}
+use Rattle.std.proofs.Common.{ℕ, sym, ◌∙◌}
 use Rattle.std.proofs.lemmas.Bool.{false≢true}
 use Rattle.gta_theory.specs.Automata.{Automaton}
 use Rattle.gta_theory.specs.Constructions.{pairs}
 use Rattle.gta_core.specs.Auto.{automaton_of}
 use Rattle.gta_product.specs.Building.{AreSpaces}
-use Rattle.gta_product.specs.Growing.{AreGenerated, HasSeen, HaveSeen, LacksRoom}
+use Rattle.gta_product.specs.Growing.{HaveSeen}
 use Rattle.gta_product.proofs.GrowingLemmas.{Goes-none, both-on, both-back, auto-on, Goes-next, LacksRoom-next, room-less}
 use Rattle.gta_product.proofs.growing.grow.Goals as goal
 
@@ -39,7 +38,7 @@ pub grow_once-requires-clause-seen : goal.grow_once-requires-clause-seen
 grow_once-requires-clause-seen c = both-on c.args.g.now c.args.a.now c.args.b.now c.args.shelf.now c.loop-before.shelf c.count.ensures.shelf
     c.args.numbers.now.items c.loop-before.numbers.items
     c.loop-before.invariant.goes
-    (λ (AB : Automaton (ℕ × ℕ)). HaveSeen c.args.g.now AB c.loop-before.growths.items) c.loop-before.invariant.seen
+    (λ (AB : Automaton (ℕ × ℕ)). HaveSeen c.args.g.now AB c.args.a.now c.args.b.now c.loop-before.growths.items) c.loop-before.invariant.seen
 
 pub returns-in_err-grow_once-clause-goes : goal.returns-in_err-grow_once-clause-goes
 returns-in_err-grow_once-clause-goes c = Goes-next c.args.g.now c.args.a.now c.args.b.now c.args.shelf.now c.loop-before.shelf c.count.ensures.shelf
@@ -72,7 +71,7 @@ pub returns-then-are_same-clause-seen : goal.returns-then-are_same-clause-seen
 returns-then-are_same-clause-seen c = both-back c.args.g.now c.args.a.now c.args.b.now c.args.shelf.now c.loop-before.shelf c.count.ensures.shelf
     c.args.numbers.now.items
     c.loop-before.numbers.items c.loop-before.invariant.goes
-    (λ (AB : Automaton (ℕ × ℕ)). HaveSeen c.args.g.now AB c.grow_once.new.growths.items) c.in_ok-grow_once.ensures.seen
+    (λ (AB : Automaton (ℕ × ℕ)). HaveSeen c.args.g.now AB c.args.a.now c.args.b.now c.grow_once.new.growths.items) c.in_ok-grow_once.ensures.seen
 
 pub loop-before-preserved : goal.loop-before-preserved
 loop-before-preserved c = record {
@@ -83,7 +82,7 @@ loop-before-preserved c = record {
       (λ (AB : Automaton (ℕ × ℕ)). AreSpaces c.args.g.now AB c.grow_once.new.numbers.items) c.in_ok-grow_once.ensures.spaces;
   seen = both-back c.args.g.now c.args.a.now c.args.b.now c.args.shelf.now c.loop-before.shelf c.count.ensures.shelf c.args.numbers.now.items
       c.loop-before.numbers.items c.loop-before.invariant.goes
-      (λ (AB : Automaton (ℕ × ℕ)). HaveSeen c.args.g.now AB c.grow_once.new.growths.items) c.in_ok-grow_once.ensures.seen;
+      (λ (AB : Automaton (ℕ × ℕ)). HaveSeen c.args.g.now AB c.args.a.now c.args.b.now c.grow_once.new.growths.items) c.in_ok-grow_once.ensures.seen;
   fits = c.in_ok-grow_once.ensures.fits;
 }
 

@@ -8,7 +8,7 @@ abbrev pub invariant-loop-before : goal.invariant-loop-before
 invariant-loop-before l = record {
   goes : Goes l.g (pairs (automaton_of l.fn.shelf l.a) (automaton_of l.fn.shelf l.b)) l.fn.shelf l.shelf l.fn.numbers.items l.numbers.items;
   are : AreSpaces l.g (pairs (automaton_of l.fn.shelf l.a) (automaton_of l.fn.shelf l.b)) l.numbers.items;
-  seen : HaveSeen l.g (pairs (automaton_of l.fn.shelf l.a) (automaton_of l.fn.shelf l.b)) l.growths.items;
+  seen : HaveSeen l.g (pairs (automaton_of l.fn.shelf l.a) (automaton_of l.fn.shelf l.b)) l.a l.b l.growths.items;
   fits : FitAll l.shelf l.joiners.items l.numbers.items;
 }
 

@@ -8,6 +8,6 @@ abbrev pub invariant-loop-space : goal.invariant-loop-space
 invariant-loop-space l = record {
   goes : Goes l.g (pairs (automaton_of l.fn.shelf l.a) (automaton_of l.fn.shelf l.b)) l.fn.shelf l.shelf l.fn.numbers.items l.numbers.items;
   are : AreSpaces l.g (pairs (automaton_of l.fn.shelf l.a) (automaton_of l.fn.shelf l.b)) l.numbers.items;
-  seen : HaveSeen l.g (pairs (automaton_of l.fn.shelf l.a) (automaton_of l.fn.shelf l.b)) l.growths.items;
+  seen : HaveSeen l.g (pairs (automaton_of l.fn.shelf l.a) (automaton_of l.fn.shelf l.b)) l.a l.b l.growths.items;
   fits : FitAll l.shelf l.joiners.items l.numbers.items;
 }

@@ -1,8 +1,7 @@
 -- A space is joined for generated pairs.
-use Rattle.std.proofs.Common.{◌≡◌, ℕ, List, sym, ◌∙◌, subst, arith}
-use Rattle.std.specs.Prelude.{None, slice_set, Contains}
+use Rattle.std.proofs.Common.{arith}
+use Rattle.std.specs.Prelude.{None, slice_set}
 use Rattle.bdd_walk.specs.Fits.{Fits}
-use Rattle.gta_theory.specs.Guides.{left, right}
 use Rattle.gta_theory.specs.Constructions.{pairs}
 use Rattle.gta_core.specs.Auto.{automaton_of}
 use Rattle.gta_product.specs.Numbers.{numbered}

@@ -8,7 +8,7 @@ abbrev pub invariant-loop-growths : goal.invariant-loop-growths
 invariant-loop-growths l = record {
   building : Building l.g (pairs (automaton_of l.fn.shelf l.a) (automaton_of l.fn.shelf l.b)) l.fn.shelf l.shelf l.numbers.items;
   fits : FitAll l.shelf l.joiners.items l.numbers.items;
-  seen : HaveSeen l.g (pairs (automaton_of l.fn.shelf l.a) (automaton_of l.fn.shelf l.b)) l.growths.items;
+  seen : HaveSeen l.g (pairs (automaton_of l.fn.shelf l.a) (automaton_of l.fn.shelf l.b)) l.a l.b l.growths.items;
 }
 
 abbrev pub decreases-loop-growths : goal.decreases-loop-growths
