@@ -4,3 +4,4 @@ pub mod FirstsLemmas
 pub mod RowsLemmas
 pub mod PartLemmas
 pub mod MergedLemmas
+pub mod ToldLemmas

@@ -18,7 +18,9 @@ use Rattle.gta_merge.specs.declared.lines.Side.TheVariants.{Left, Right}
 use Rattle.gta_merge.specs.declared.classes.Classes.{Classes}
 use Rattle.gta_merge.specs.Lines.{root_beside, PutsRows}
 use Rattle.gta_merge.specs.Classes.{AreFirsts, HaveLikeRoots, AreToldApart, AreClassed}
+use Rattle.gta_merge.specs.Merged.{HasNoEqualLines}
 use Rattle.gta_merge.specs.Parts.{IsPartOf, UsesAfter}
+use Rattle.gta_merge.specs.Told.{AreApart}
 use Rattle.gta_merge.proofs.ListsLemmas.{map-at, none-there, not-none}
 
 range-at : (n i : ℕ) → i < n → slice_get (range_with_len 0 n) i ≡ Some i
@@ -154,6 +156,40 @@ module _ (shelf : Contents) (a : AutoView) (auto : IsAuto (guide_of a) shelf a) 
           ∙ like-columns first.one x first.same r
       | inr past ↦ right-past q x past ∙ sym (right-past r x past)
     ]
+
+  -- the first states of both children
+  module _ (ls rs : List ℕ) (ls_are : AreFirsts own.rows lefts ls) (rs_are : AreFirsts own.columns rights rs) where
+    pub beside-left : All (λ other. All (λ state. IsSome (root_beside shelf a s Left state other)) ls) rs
+    beside-left = λ k d k_in j e j_in. known (get_or ls j e) (get_or rs k d)
+        (ls_are.within j (get_or ls j e) (slice_get-get_or ls j e j_in)) (rs_are.within k (get_or rs k d) (slice_get-get_or rs k d k_in))
+
+    pub beside-right : All (λ other. All (λ state. IsSome (root_beside shelf a s Right state other)) rs) ls
+    beside-right = λ k d k_in j e j_in. known (get_or ls k d) (get_or rs j e)
+        (ls_are.within k (get_or ls k d) (slice_get-get_or ls k d k_in)) (rs_are.within j (get_or rs j e) (slice_get-get_or rs j e j_in))
+
+    pub no-equal : AreApart (root_beside shelf a s Left) ls → AreApart (root_beside shelf a s Right) rs → HasNoEqualLines shelf a s
+    no-equal rows_apart columns_apart = record {
+      part = own;
+      there = there;
+      rows = λ q r q_in r_in. (
+        like-rows q r,
+        λ like.
+            let one = ls_are.each q (let m = lefts-are in omega arith) in
+            let two = ls_are.each r (let m = lefts-are in omega arith) in
+            let same : one.one ≡ two.one = rows_apart one.place two.place one.one two.one one.there two.there
+            (λ x. like-rows one.one q one.same x ∙ like x ∙ sym (like-rows two.one r two.same x)) in
+            sym one.same ∙ ap (slice_get own.rows) same ∙ two.same,
+      );
+      columns = λ q r q_in r_in. (
+        like-columns q r,
+        λ like.
+            let one = rs_are.each q (let m = rights-are in omega arith) in
+            let two = rs_are.each r (let m = rights-are in omega arith) in
+            let same : one.one ≡ two.one = columns_apart one.place two.place one.one two.one one.there two.there
+            (λ x. like-columns one.one q one.same x ∙ like x ∙ sym (like-columns two.one r two.same x)) in
+            sym one.same ∙ ap (slice_get own.columns) same ∙ two.same,
+      );
+    }
 
   module _ (rows : Classes) (rows_are : AreClassed (root_beside shelf a s Left) lefts rows) where
     pub row-inside : (class one : ℕ) → slice_get rows.ones class ≡ Some one → one < lefts

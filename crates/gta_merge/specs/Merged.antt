@@ -3,7 +3,7 @@
 use Rattle.std.specs.Prelude.{◌≡◌, ℕ, ◌*◌, ◌<◌, ◌↔◌, List, length, Some, slice_get}
 use Rattle.bdd_nodes.specs.Shelf.{Contents}
 use Rattle.gta_core.specs.declared.part.Part.{Part}
-use Rattle.gta_core.specs.Auto.{AutoView, root_at}
+use Rattle.gta_core.specs.Auto.{AutoView, states_of, root_at}
 
 -- so many classes: each is that of a state, and two states share one exactly where they are alike
 pub record AreClasses (IsLike : ℕ → ℕ → Type 0) (many : ℕ) (classes : List ℕ) : Type 0 where
@@ -31,3 +31,19 @@ pub record IsMergedPart (shelf : Contents) (a : AutoView) (s : ℕ) (part : Part
 -- equal rows of a space's table are one, and so are equal columns
 pub record IsMerged (shelf : Contents) (a : AutoView) : Type 0 where
   pub each : (s : ℕ) (part : Part) → slice_get a.parts s ≡ Some part → IsMergedPart shelf a s part
+
+-- of so many states, two have one of these classes exactly where they are alike
+abbrev pub ShareExactly : (ℕ → ℕ → Type 0) → ℕ → List ℕ → Type 0
+ShareExactly IsLike many classes = (q r : ℕ) → q < many → r < many → (slice_get classes q ≡ slice_get classes r) ↔ IsLike q r
+
+-- no row of a space's table is there twice, and no column: states of a child share a class exactly where they have the same
+-- roots
+pub record HasNoEqualLines (shelf : Contents) (a : AutoView) (s : ℕ) : Type 0 where
+  pub part : Part
+  pub there : slice_get a.parts s ≡ Some part
+  pub rows : ShareExactly (HaveEqualRows shelf a s) (states_of a part.children.0) part.rows
+  pub columns : ShareExactly (HaveEqualColumns shelf a s) (states_of a part.children.1) part.columns
+
+-- it is so in each space
+pub record HaveNoEqualLines (shelf : Contents) (a : AutoView) : Type 0 where
+  pub each : (s : ℕ) → s < length a.parts → HasNoEqualLines shelf a s

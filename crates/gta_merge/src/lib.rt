@@ -7,5 +7,7 @@
 mod classes;
 mod lines;
 mod merged;
+mod told;
 
 pub use merged::merge;
+pub use told::is_told_apart;

@@ -19,7 +19,7 @@ pub(crate) enum Side {
 }
 
 /// The root of a state of a child with a state of the other child.
-fn root_beside(
+pub(crate) fn root_beside(
     a: &Auto,
     shelf: &Shelf,
     space: u32,

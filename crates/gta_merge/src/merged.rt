@@ -157,7 +157,7 @@ fn classes_in(
 }
 
 /// The part of a space.
-fn part_at(a: &Auto, space: u32) -> &Part
+pub(crate) fn part_at(a: &Auto, space: u32) -> &Part
     requires { space < length a.now.parts }
     ensures part { slice_get a.now.parts space ≡ Some result.now }
     ensures whole { IsWhole a.now }
@@ -166,7 +166,7 @@ fn part_at(a: &Auto, space: u32) -> &Part
 }
 
 /// How many states a space has; none for an unknown one.
-fn states_in(a: &Auto, space: u32) -> u32
+pub(crate) fn states_in(a: &Auto, space: u32) -> u32
     ensures { result ≡ states_of a.now space }
 {
     match a.parts().get(space as usize) {

@@ -1,6 +1,9 @@
 use Rattle.gta_keep.proofs.MergingLemmas.{auto-one, passes-merged, minimal-merged}
 use Rattle.gta_keep.proofs.merging.merged.Goals as goal
 
+pub is_told_apart-requires : goal.is_told_apart-requires
+is_told_apart-requires c = auto-one c.args.g.now c.args.shelf.now c.args.a c.args.kept.now c.requires
+
 pub merge-requires : goal.merge-requires
 merge-requires c = auto-one c.args.g.now c.args.shelf.now c.args.a c.args.kept.now c.requires
 
