@@ -1,5 +1,5 @@
 -- The steps from a set of references.
-use Rattle.std.proofs.Common.{◌≡◌, ◌≢◌, ℕ, suc, ◌<◌, ◌≤◌, Bool, true, false, List, [], ◌∷◌, ◌++◌, map, Option, Some, Contains, Vec, Global}
+use Rattle.std.proofs.Common.{◌≡◌, ◌≢◌, ℕ, suc, ◌<◌, Bool, true, false, List, [], ◌∷◌, ◌++◌, map, Option, Some, Contains, Vec, Global}
 use Rattle.std.proofs.Common.{IsTrue, sym, ◌∙◌, ap, refl, subst, inl, inr, arith, if◌then◌else◌}
 use Rattle.std.specs.List.{list_all, flat_map, AllByRecursion}
 use Rattle.std.proofs.Math.Path.{fun_ext}
@@ -20,7 +20,7 @@ use Rattle.bdd_walk.proofs.ContainsLemmas.{Contains-first, Contains-later, Conta
 use Rattle.bdd_walk.proofs.KeysLemmas.{IsView-with_track, IsSplitBy-sides, IsSplitBy-append}
 use Rattle.bdd_walk.proofs.SetsLemmas.{set_of-same}
 use Rattle.bdd_walk.proofs.SetWeightLemmas.{asks, stays, both-cases, set-sides-fall, all-both-fall}
-use Rattle.bdd_walk.proofs.SidesLemmas.{side-known, sides-kept, sides-valid, side-kept, AskFirst-kept}
+use Rattle.bdd_walk.proofs.SidesLemmas.{side-known, sides-kept, sides-valid, AskFirst-kept}
 
 -- what all references of a list are, each is; and the other way round
 valid-each : (shelf : Contents) (rs : List NodeRef) → IsTrue (list_all (is_valid shelf) rs) → (r : NodeRef) → Contains rs r → IsTrue (is_valid shelf r)
@@ -80,7 +80,8 @@ module _ (shelf : Contents) (t : ℕ) where
       (λ q is. asked-has rs label q (back q (asked-only ss label q is)))
 
   -- the set of the references asks the same
-  pub asked-set : (rs set : List NodeRef) → IsSetOf rs set → (label : Label) → set_of (asked_of shelf rs (Some t) label) ≡ set_of (asked_of shelf set (Some t) label)
+  pub asked-set : (rs set : List NodeRef) → IsSetOf rs set → (label : Label) →
+      set_of (asked_of shelf rs (Some t) label) ≡ set_of (asked_of shelf set (Some t) label)
   asked-set rs set is label = asked-same rs set label
       (λ q asked. record { root = asked.root; bit = asked.bit; there = is.has asked.root asked.there; is = asked.is })
       (λ q asked. record { root = asked.root; bit = asked.bit; there = is.only asked.root asked.there; is = asked.is })
@@ -126,13 +127,14 @@ module _ (shelf : Contents) (track : ℕ) where
       | inl here ↦ (false, same false ∙ here)
       | inr later ↦ absurd (Contains-none s later)
     ]
-    | asks top is ↦ elim (Contains-cases (side_at shelf track false r) s (side_at shelf track true r ∷ []) (subst (λ (ss : List NodeRef). Contains ss s) is there)) [
-      | inl low ↦ (false, low)
-      | inr later ↦ elim (Contains-cases (side_at shelf track true r) s [] later) [
-        | inl high ↦ (true, high)
-        | inr none ↦ absurd (Contains-none s none)
-      ]
-    ]
+    | asks top is ↦ elim (Contains-cases (side_at shelf track false r) s (side_at shelf track true r ∷ [])
+        (subst (λ (ss : List NodeRef). Contains ss s) is there)) [
+          | inl low ↦ (false, low)
+          | inr later ↦ elim (Contains-cases (side_at shelf track true r) s [] later) [
+            | inl high ↦ (true, high)
+            | inr none ↦ absurd (Contains-none s none)
+          ]
+        ]
   ]
 
   all-both-has : (rs : List NodeRef) (r : NodeRef) (bit : Bool) → Contains rs r → Contains (flat_map (both_at shelf track) rs) (side_at shelf track bit r)
@@ -249,8 +251,10 @@ module _ (t : ℕ) (base now : Contents) (is_shelf : IsShelf base) (keeps : Keep
     high_goes = record { inside = side_inside high true is_high; falls = side_falls high true is_high };
     split = IsSplitBy-sets track _ _ _ _ _
         (IsSplitBy-append track _ _ _ _ _ _
-        (IsSplitBy-sides base now is_shelf keeps track key.items valid first_base.all (λ label. with_track label t false) (IsView-with_track track t false apart))
-        (IsSplitBy-sides base now is_shelf keeps track key.items valid first_base.all (λ label. with_track label t true) (IsView-with_track track t true apart)))
+        (IsSplitBy-sides base now is_shelf keeps track key.items valid first_base.all (λ label. with_track label t false)
+        (IsView-with_track track t false apart))
+        (IsSplitBy-sides base now is_shelf keeps track key.items valid first_base.all (λ label. with_track label t true)
+        (IsView-with_track track t true apart)))
         (λ label. asked-set base t (map (side_at now track false) key.items) low.items is_low label)
         (λ label. asked-set base t (map (side_at now track true) key.items) high.items is_high label);
   }

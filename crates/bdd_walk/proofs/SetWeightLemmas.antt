@@ -1,5 +1,5 @@
 -- The weights of sets of references.
-use Rattle.std.proofs.Common.{◌≡◌, ℕ, suc, zero, ◌+◌, ◌^◌, ◌<◌, ◌≤◌, Bool, cond, List, [], ◌∷◌, ◌++◌, map, Some, None, Option, nat_eq, eqb}
+use Rattle.std.proofs.Common.{◌≡◌, ℕ, suc, zero, ◌+◌, ◌^◌, ◌<◌, ◌≤◌, Bool, cond, List, [], ◌∷◌, map, Some, None, Option, nat_eq, eqb}
 use Rattle.std.proofs.Common.{Contains, IsTrue, sym, ◌∙◌, ap, refl, subst, inl, inr, arith, true, false, if◌then◌else◌}
 use Rattle.std.specs.List.{list_all, sum_by, dedup, dedup_from, flat_map}
 use Rattle.std.specs.List.Sorted.{IsPermutation}
@@ -44,7 +44,8 @@ module _ (f : NodeRef → ℕ) (same : NodeRef → NodeRef → Bool) where
 -- sorted, and each once
 pub IsSetOf-made : (rs sorted set : List NodeRef) → IsPermutation rs sorted → set ≡ dedup (λ x y. nat_eq x.word y.word) sorted → IsSetOf rs set
 IsSetOf-made rs sorted set moved is = record {
-  has = λ r there. subst (λ (ss : List NodeRef). Contains ss r) (sym is) (Contains-dedup refs-equal same_word sorted r (Contains-permutation rs sorted r moved there));
+  has = λ r there. subst (λ (ss : List NodeRef). Contains ss r) (sym is)
+      (Contains-dedup refs-equal same_word sorted r (Contains-permutation rs sorted r moved there));
   only = λ r there. Contains-permutation sorted rs r (IsPermutation-sym rs sorted moved)
       (Contains-from_dedup (λ x y. nat_eq x.word y.word) sorted r (subst (λ (ss : List NodeRef). Contains ss r) is there));
   within = subst (λ (ss : List NodeRef). set_weight_of ss ≤ set_weight_of rs) (sym is)

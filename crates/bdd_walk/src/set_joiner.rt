@@ -39,8 +39,11 @@ fn join_sets<L: LeafRule>(
     requires valid { All (IsValid shelf.old) roots.items }
     requires may_ask { (label : Label) → L.may_ask rule.old (set_of (asked_of shelf.old roots.items (Some dropped) label)) }
     requires fits { FitsSetMemo dropped shelf.old (L.answers rule.old) kept.old.memo }
-    ensures progress { Progress (record { shelf = shelf.old; answers = L.answers rule.old;
-        whole = λ label. set_of (asked_of shelf.old roots.items (Some dropped) label) }) shelf.new (L.answers rule.new) }
+    ensures progress { Progress (record {
+      shelf = shelf.old;
+      answers = L.answers rule.old;
+      whole = λ label. set_of (asked_of shelf.old roots.items (Some dropped) label);
+    }) shelf.new (L.answers rule.new) }
     ensures stands { IfOk result (Stands shelf.new (L.answers rule.new) (λ label. set_of (asked_of shelf.old roots.items (Some dropped) label))) }
     ensures limit { result ≡ Err Stop.Limit → (given : List ℕ → ℕ) → Completes (L.answers rule.new) given
         → Exceeds shelf.old (λ label. given (set_of (asked_of shelf.old roots.items (Some dropped) label))) }
