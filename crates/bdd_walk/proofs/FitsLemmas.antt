@@ -4,6 +4,7 @@ use Rattle.bdd_nodes.specs.declared.node_ref.NodeRef.{NodeRef}
 use Rattle.bdd_nodes.specs.Shelf.{Contents}
 use Rattle.bdd_nodes.specs.Changes.{Keeps}
 use Rattle.bdd_walk.specs.declared.joiner.Joiner.{Joiner}
+use Rattle.bdd_walk.specs.declared.set_joiner.SetJoiner.{SetJoiner}
 use Rattle.bdd_walk.specs.declared.stop.Stop.{Stop}
 use Rattle.bdd_walk.specs.declared.two_roots.RefPair.{RefPair}
 use Rattle.bdd_walk.specs.declared.walk.Kept.{Kept}
@@ -11,7 +12,8 @@ use Rattle.bdd_walk.specs.Answers.{Answers, KeepsAnswers}
 use Rattle.bdd_walk.specs.Sides.{half_of}
 use Rattle.bdd_walk.specs.Laws.{valid-kept, leaves-still, one-stays_in, one-asks_still}
 use Rattle.bdd_walk.specs.ManyLaws.{many-asks_still}
-use Rattle.bdd_walk.specs.Fits.{Fits, FitsOne, FitsTwo, FitsMany, refs_of}
+use Rattle.bdd_walk.specs.SetLaws.{sets-asks_still}
+use Rattle.bdd_walk.specs.Fits.{Fits, FitsOne, FitsTwo, FitsMany, FitsSets, refs_of}
 use Rattle.bdd_walk.proofs.WaitsLemmas.{IsMemo-seen}
 
 module _ (old new : Contents) (answers more : Answers) (keeps : Keeps old new) (kept : KeepsAnswers answers more) where
@@ -27,6 +29,11 @@ module _ (old new : Contents) (answers more : Answers) (keeps : Keeps old new) (
         (λ roots inside. valid-kept old new keeps roots.items inside)
         (λ roots inside. many-asks_still old new keeps dropped (half_of roots.items) roots.items inside) fits.many;
   }
+
+  pub FitsSets-kept : (joiner : SetJoiner) (dropped : ℕ) → FitsSets joiner dropped old answers → FitsSets joiner dropped new more
+  FitsSets-kept joiner dropped fits = IsMemo-seen _ _ _ _ _ old new answers more joiner.kept.memo keeps kept
+      (λ roots inside. valid-kept old new keeps roots.items inside)
+      (λ roots inside. sets-asks_still old new keeps dropped roots.items inside) fits
 
 -- a joiner with other results for one root, for two, or for lists
 module _ (joiner : Joiner) (dropped : Option ℕ) (shelf : Contents) (answers : Answers) (fits : Fits joiner dropped shelf answers) where

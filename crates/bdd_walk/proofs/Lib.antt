@@ -1,4 +1,6 @@
 pub mod ShelfLemmas
+pub mod ContainsLemmas
+pub mod SetsLemmas
 pub mod CostLemmas
 pub mod StandsLemmas
 pub mod AddsLemmas
@@ -9,6 +11,8 @@ pub mod SidesLemmas
 pub mod KeysLemmas
 pub mod OneRootLemmas
 pub mod ManyRootsLemmas
+pub mod SetWeightLemmas
+pub mod SetRootsLemmas
 pub mod CallLemmas
 pub mod FitsLemmas
 pub mod AddsAmongLemmas

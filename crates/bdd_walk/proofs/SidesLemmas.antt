@@ -18,13 +18,13 @@ some_none : (track : ℕ) → Some track ≡ None → ⊥
 some_none track e = cc
 
 -- what a side is, by what the reference asks first
-side-here : (shelf : Contents) (track : ℕ) (bit : Bool) (r : NodeRef) (first : Option ℕ) → top_of shelf r ≡ first →
+pub side-here : (shelf : Contents) (track : ℕ) (bit : Bool) (r : NodeRef) (first : Option ℕ) → top_of shelf r ≡ first →
     is_first first track ≡ true → side_at shelf track bit r ≡ (if bit then high_of shelf r else low_of shelf r)
 side-here shelf track bit r first top here =
     ap (λ (o : Option ℕ). if is_first o track then (if bit then high_of shelf r else low_of shelf r) else r) top
     ∙ ap (λ (b : Bool). if b then (if bit then high_of shelf r else low_of shelf r) else r) here
 
-side-else : (shelf : Contents) (track : ℕ) (bit : Bool) (r : NodeRef) (first : Option ℕ) → top_of shelf r ≡ first →
+pub side-else : (shelf : Contents) (track : ℕ) (bit : Bool) (r : NodeRef) (first : Option ℕ) → top_of shelf r ≡ first →
     is_first first track ≡ false → side_at shelf track bit r ≡ r
 side-else shelf track bit r first top other =
     ap (λ (o : Option ℕ). if is_first o track then (if bit then high_of shelf r else low_of shelf r) else r) top

@@ -1,5 +1,5 @@
 -- The lists of leaves that a join puts to its rule: one for each label.
-use Rattle.std.specs.Prelude.{◌≡◌, ℕ, true, false, List, ◌++◌, map, Option, Some, None}
+use Rattle.std.specs.Prelude.{ℕ, true, false, List, ◌++◌, map, Option, Some, None}
 use Rattle.bdd_nodes.specs.declared.node_ref.NodeRef.{NodeRef}
 use Rattle.labels.specs.Labels.{Label, with_track}
 use Rattle.bdd_nodes.specs.Shelf.{Contents, state_of}

@@ -1,5 +1,5 @@
 -- When the results that a joiner keeps are right for a shelf and a rule's answers.
-use Rattle.std.specs.Prelude.{ℕ, List, [], ◌∷◌, Option, nat_eq, ◌&&◌, Vec}
+use Rattle.std.specs.Prelude.{ℕ, List, Some, [], ◌∷◌, Option, nat_eq, ◌&&◌, Vec}
 use Rattle.std.specs.List.{list_all}
 use Rattle.std.specs.Cmp.Lexicographic.{pointwise}
 use Rattle.std.proofs.Common.{Global}
@@ -8,8 +8,10 @@ use Rattle.bdd_nodes.specs.Shelf.{Contents}
 use Rattle.bdd_nodes.specs.Changes.{is_valid}
 use Rattle.bdd_walk.specs.declared.two_roots.RefPair.{RefPair}
 use Rattle.bdd_walk.specs.declared.joiner.Joiner.{Joiner}
+use Rattle.bdd_walk.specs.declared.set_joiner.SetJoiner.{SetJoiner}
 use Rattle.bdd_walk.specs.Answers.{Answers}
-use Rattle.bdd_walk.specs.Asked.{leaves_of}
+use Rattle.bdd_walk.specs.Asked.{leaves_of, asked_of}
+use Rattle.bdd_walk.specs.Sets.{set_of}
 use Rattle.bdd_walk.specs.Sides.{asked_by, half_of}
 use Rattle.bdd_walk.specs.Waits.{Memo, IsMemo}
 
@@ -39,3 +41,13 @@ pub record Fits (joiner : Joiner) (dropped : Option ℕ) (shelf : Contents) (ans
   pub one : FitsOne shelf answers joiner.one.memo
   pub two : FitsTwo shelf answers joiner.two.memo
   pub many : FitsMany dropped shelf answers joiner.many.memo
+
+-- results for a set of roots, of which a track is dropped
+abbrev pub FitsSetMemo : ℕ → Contents → Answers → Memo (Vec NodeRef Global) → Type 0
+FitsSetMemo dropped shelf answers memo =
+    IsMemo (λ a b. pointwise (λ one other. nat_eq one.word other.word) a.items b.items)
+    (λ roots label. set_of (asked_of shelf roots.items (Some dropped) label)) (λ roots. list_all (is_valid shelf) roots.items) shelf answers memo
+
+-- the roots of each key are valid, and its result gives for each label the rule's answer on the set of their leaves
+abbrev pub FitsSets : SetJoiner → ℕ → Contents → Answers → Type 0
+FitsSets joiner dropped shelf answers = FitsSetMemo dropped shelf answers joiner.kept.memo

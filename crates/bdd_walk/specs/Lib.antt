@@ -1,5 +1,6 @@
 pub mod Answers
 pub mod Asked
+pub mod Sets
 pub mod Under
 pub mod Stands
 pub mod Steps
@@ -9,5 +10,6 @@ pub mod Sides
 pub mod Laws
 pub mod PairLaws
 pub mod ManyLaws
+pub mod SetLaws
 pub mod Rules
 pub mod Fits

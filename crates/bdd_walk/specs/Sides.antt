@@ -1,6 +1,7 @@
 -- What a step takes of the references: their sides under a track, and the track that is asked first.
-use Rattle.std.specs.Prelude.{◌≡◌, ◌+◌, ◌/◌, ℕ, Bool, true, false, List, [], ◌∷◌, ◌++◌, take, drop, length, min, Option, Some, None, nat_eq, if◌then◌else◌, ◌⊎◌}
-use Rattle.std.specs.List.{AllByRecursion}
+use Rattle.std.specs.Prelude.{◌≡◌, ◌+◌, ◌≤◌, ◌^◌, ◌/◌, ℕ, Bool, true, false}
+use Rattle.std.specs.Prelude.{List, [], ◌∷◌, ◌++◌, take, drop, length, min, Contains, Option, Some, None, nat_eq, if◌then◌else◌, ◌⊎◌}
+use Rattle.std.specs.List.{AllByRecursion, sum_by}
 use Rattle.bdd_nodes.specs.declared.node_ref.NodeRef.{NodeRef}
 use Rattle.labels.specs.Labels.{Label, with_track}
 use Rattle.bdd_nodes.specs.Shelf.{Contents, AsksFrom, top_of, low_of, high_of, rank_of}
@@ -57,6 +58,20 @@ abbrev pub asked_by : Contents → Option ℕ → ℕ → List NodeRef → Askin
 asked_by shelf None half rs label = leaves_of shelf rs label
 asked_by shelf (Some t) half rs label =
     leaves_of shelf (take half rs) (with_track label t false) ++ leaves_of shelf (drop half rs) (with_track label t true)
+
+-- both sides of a reference that asks the track first; else the reference
+abbrev pub both_at : Contents → ℕ → NodeRef → List NodeRef
+both_at shelf track r = if is_first (top_of shelf r) track then low_of shelf r ∷ high_of shelf r ∷ [] else r ∷ []
+
+-- a number that falls where both sides are taken for a reference
+abbrev pub set_weight_of : List NodeRef → ℕ
+set_weight_of rs = sum_by (λ r. 3 ^ rank_of r) rs
+
+-- the other list has the same references, and isn't heavier
+pub record IsSetOf (rs set : List NodeRef) : Type 0 where
+  pub has : (r : NodeRef) → Contains rs r → Contains set r
+  pub only : (r : NodeRef) → Contains set r → Contains rs r
+  pub within : set_weight_of set ≤ set_weight_of rs
 
 -- the track that is fixed
 abbrev pub fixed_label : Option FixedTrack → Label → Label

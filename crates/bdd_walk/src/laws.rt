@@ -6,13 +6,20 @@ ghost use Rattle.bdd_nodes.specs.Shelf.{Contents, limit_of};
 ghost use Rattle.bdd_nodes.specs.Changes.{Keeps};
 ghost use Rattle.bdd_walk.specs.declared.joiner.Joiner.{Joiner};
 ghost use Rattle.bdd_walk.specs.Answers.{Answers, KeepsAnswers};
-ghost use Rattle.bdd_walk.specs.Fits.{Fits};
+ghost use Rattle.bdd_walk.specs.declared.set_joiner.SetJoiner.{SetJoiner};
+ghost use Rattle.bdd_walk.specs.Fits.{Fits, FitsSets};
 ghost use Rattle.bdd_walk.specs.Under.{AddsAmong, Exceeds, ExceedsAmong};
 
 /// What a joiner keeps goes on being right where the shelf keeps its nodes and the rule its answers.
 pub fn a_joiner_fits_what_goes_on()
     ensures { (joiner : Joiner) (dropped : Option ℕ) (old new : Contents) (answers more : Answers) → Keeps old new
         → KeepsAnswers answers more → Fits joiner dropped old answers → Fits joiner dropped new more }
+{}
+
+/// What a joiner of sets keeps goes on being right where the shelf keeps its nodes and the rule its answers.
+pub fn a_set_joiner_fits_what_goes_on()
+    ensures { (joiner : SetJoiner) (dropped : ℕ) (old new : Contents) (answers more : Answers) → Keeps old new
+        → KeepsAnswers answers more → FitsSets joiner dropped old answers → FitsSets joiner dropped new more }
 {}
 
 /// What joins add counts up: the functions of later joins were missing from the shelf that has those of earlier ones. And

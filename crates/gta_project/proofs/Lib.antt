@@ -1,6 +1,7 @@
 pub mod SetsLemmas
 pub mod NumbersLemmas
 pub mod ClassesLemmas
+pub mod ShortsLemmas
 pub mod RootsLemmas
 pub mod SubsetsLemmas
 pub mod ClosingLemmas

@@ -2,6 +2,7 @@ pub mod Sets
 pub mod Subsets
 pub mod Numbers
 pub mod Classes
+pub mod Shorts
 pub mod Roots
 pub mod Closing
 pub mod Filling

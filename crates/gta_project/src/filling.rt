@@ -7,16 +7,20 @@ ghost use Rattle.bdd_nodes.specs.Shelf.{IsValid};
 ghost use Rattle.gta_core.specs.Auto.{root_at, automaton_of};
 ghost use Rattle.gta_project.specs.Subsets.{set_step};
 ghost use Rattle.gta_project.specs.Numbers.{number_in, numbered, AreNumbers};
+ghost use Rattle.gta_project.specs.Classes.{HaveClasses};
+ghost use Rattle.gta_project.specs.Shorts.{rows_in, columns_in, AreShorts};
 ghost use Rattle.gta_project.specs.Filling.{IsCell, Joins, ExceedsCells, IsRow, AreCells};
 
 use crate::numbering::Numbering;
 use crate::roots::roots_at;
+use crate::shorts::{classes_in, one_a_class, shortened};
 use bdd_nodes::{NodeRef, RefList, Shelf};
 use bdd_walk::{Joiner, StateList, Stop};
 use gta_core::Auto;
 use std::alloc::Global;
 
 /// The root for a set of each child: a join of the roots that the automaton has for their states, with the track dropped.
+/// The roots are those for the short list of each set.
 #[allow(clippy::too_many_arguments)]
 pub(crate) fn join_cell(
     alloc: Global,
@@ -26,10 +30,14 @@ pub(crate) fn join_cell(
     space: u32,
     left: &[u32],
     right: &[u32],
+    short_left: &[u32],
+    short_right: &[u32],
     joiner: &mut Joiner,
     numbers: &mut Numbering,
 ) -> Result<NodeRef, Stop>
     requires known { (l r : ℕ) → Contains left.now l → Contains right.now r → IsSome (root_at shelf.old a.now space l r) }
+    requires rows { HaveClasses (rows_in a.now space) left.now short_left.now }
+    requires columns { HaveClasses (columns_in a.now space) right.now short_right.now }
     requires fits { Fits joiner.old (Some track) shelf.old (numbered numbers.old) }
     ensures joins { Joins (set_step (automaton_of shelf.old a.now) track) space (left.now ∷ []) (right.now ∷ [])
         shelf.old shelf.new numbers.old numbers.new }
@@ -41,14 +49,14 @@ pub(crate) fn join_cell(
 {
     // Only for their clauses `shelf` and `numbers`.
     let _ = (shelf.count(), numbers.len());
-    let roots = roots_at(alloc, a, shelf, space, left, right)?;
+    let roots = roots_at(alloc, a, shelf, space, short_left, short_right)?;
     let joined = joiner.join(alloc, shelf, roots.as_slice(), Some(track), numbers);
     let _ = numbers.len();
     let made = joined?;
     Ok(made)
 }
 
-/// The roots of a row: it is joined with each column.
+/// The roots of a row: it is joined with each column. The short lists are those of the row and of the columns.
 #[allow(clippy::too_many_arguments)]
 fn fill_row(
     alloc: Global,
@@ -58,12 +66,16 @@ fn fill_row(
     space: u32,
     row: &[u32],
     columns: &[StateList],
+    short: &[u32],
+    shorts: &[StateList],
     joiner: &mut Joiner,
     numbers: &mut Numbering,
     roots: &mut RefList,
 ) -> Result<(), Stop>
     requires known { (column : List ℕ) → Contains columns.now column → (l r : ℕ) → Contains row.now l → Contains column r →
         IsSome (root_at shelf.old a.now space l r) }
+    requires short { HaveClasses (rows_in a.now space) row.now short.now }
+    requires shorts { AreShorts (columns_in a.now space) columns.now shorts.now }
     requires valid { All (IsValid shelf.old) roots.old }
     requires fits { Fits joiner.old (Some track) shelf.old (numbered numbers.old) }
     ensures joins { Joins (set_step (automaton_of shelf.old a.now) track) space (row.now ∷ []) columns.now
@@ -78,9 +90,12 @@ fn fill_row(
 {
     // Only for their clauses `shelf` and `numbers`.
     let _ = (shelf.count(), numbers.len());
-    for column in columns {
-        let column = column.as_slice();
-        let root = join_cell(alloc, a, track, shelf, space, row, column, joiner, numbers)?;
+    for at in 0..columns.len() {
+        let column = columns[at].as_slice();
+        let other = shorts[at].as_slice();
+        let root = join_cell(
+            alloc, a, track, shelf, space, row, column, short, other, joiner, numbers,
+        )?;
         roots.push(root)?;
     }
     Ok(())
@@ -116,10 +131,24 @@ pub(crate) fn fill(
 {
     // Only for their clauses `shelf` and `numbers`.
     let _ = (shelf.count(), numbers.len());
+    let (row_classes, column_classes) = classes_in(a, space);
+    let shorts = shortened(alloc, columns, column_classes)?;
     for row in rows {
         let row = row.as_slice();
+        let short = one_a_class(alloc, row, row_classes)?;
         fill_row(
-            alloc, a, track, shelf, space, row, columns, joiner, numbers, roots,
+            alloc,
+            a,
+            track,
+            shelf,
+            space,
+            row,
+            columns,
+            short.as_slice(),
+            shorts.as_slice(),
+            joiner,
+            numbers,
+            roots,
         )?;
     }
     Ok(())

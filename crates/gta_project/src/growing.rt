@@ -266,6 +266,9 @@ fn join_sets(
 {
     // Only for its clause `guide`.
     let _ = g.spaces();
+    if rows.is_empty() || columns.is_empty() {
+        return Ok(());
+    }
     let at = space as usize;
     let mut roots = RefList::new(alloc);
     fill(

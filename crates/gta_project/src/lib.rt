@@ -13,5 +13,6 @@ mod numbering;
 mod projecting;
 mod roots;
 mod sets;
+mod shorts;
 
 pub use projecting::project;

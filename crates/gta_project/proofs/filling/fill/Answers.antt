@@ -4,11 +4,27 @@ use Rattle.std.proofs.lemmas.List.{take_more}
 use Rattle.bdd_nodes.specs.declared.node_ref.NodeRef.{NodeRef}
 use Rattle.gta_project.specs.Subsets.{set_step}
 use Rattle.gta_core.specs.Auto.{automaton_of}
+use Rattle.gta_project.specs.Classes.{HaveClasses}
+use Rattle.gta_project.specs.Shorts.{rows_in, columns_in, AreShorts}
 use Rattle.gta_project.specs.Filling.{Stepping, IsRow, AreCells}
 use Rattle.gta_project.proofs.ShelfLemmas.{root_at-kept}
-use Rattle.gta_project.proofs.JoinsLemmas.{AreCells-more}
+use Rattle.gta_project.proofs.JoinsLemmas.{Joins-none, AreCells-more}
 use Rattle.gta_project.proofs.NextLemmas.{same-step, Joins-next, ExceedsCells-next, in-alone}
 use Rattle.gta_project.proofs.filling.fill.Goals as goal
+
+pub returns-in_err-shorts-clause-joins : goal.returns-in_err-shorts-clause-joins
+returns-in_err-shorts-clause-joins c = Joins-none (set_step (automaton_of c.args.shelf.now c.args.a.now) c.args.track) c.args.space c.args.rows.now
+    c.args.columns.now c.args.shelf.now c.args.numbers.now c.count.ensures.shelf
+
+pub fill_row-requires-clause-short : goal.fill_row-requires-clause-short
+fill_row-requires-clause-short c =
+    subst (λ (xs : List ℕ). HaveClasses (rows_in c.args.a.now c.args.space) c.as_slice-row.result.now xs) (sym c.as_slice.ensures)
+    (subst (λ (classes : List ℕ). HaveClasses classes c.as_slice-row.result.now c.in_ok-short.short) c.classes_in.ensures.rows c.in_ok-short.ensures.classes)
+
+pub fill_row-requires-clause-shorts : goal.fill_row-requires-clause-shorts
+fill_row-requires-clause-shorts c =
+    subst (λ (xs : List (List ℕ)). AreShorts (columns_in c.args.a.now c.args.space) c.args.columns.now xs) (sym c.as_slice-in-loop-row.ensures)
+    (subst (λ (classes : List ℕ). AreShorts classes c.args.columns.now c.in_ok-shorts.shorts) c.classes_in.ensures.columns c.in_ok-shorts.ensures)
 
 pub fill_row-requires-clause-known : goal.fill_row-requires-clause-known
 fill_row-requires-clause-known c = λ column in_columns l r in_l in_r.
@@ -42,7 +58,7 @@ returns-in_err-fill_row-clause-limit c = λ stopped given completes.
     (in-alone c.args.rows.now row there) (λ x there. there)
     c.args.shelf.now c.loop-row.shelf c.fill_row.new.shelf c.args.numbers.now c.loop-row.numbers c.fill_row.new.numbers c.count.ensures.shelf
     c.loop-row.invariant.joins c.fill_row.ensures.numbers c.fill_row.ensures.joins given completes
-    (c.fill_row.ensures.limit (let why = rw stopped at c.from_residual.ensures in c.in_err-fill_row.was ∙ (let is = why.1 in cc)) given completes)
+    (c.fill_row.ensures.limit (let why = rw stopped at c.from_residual-in_err-fill_row.ensures in c.in_err-fill_row.was ∙ (let is = why.1 in cc)) given completes)
 
 pub loop-row-preserved : goal.loop-row-preserved
 loop-row-preserved c =

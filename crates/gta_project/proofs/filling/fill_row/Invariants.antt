@@ -7,11 +7,11 @@ use Rattle.gta_project.specs.Numbers.{numbered, AreNumbers}
 use Rattle.gta_project.specs.Filling.{Joins, IsRow}
 use Rattle.gta_project.proofs.filling.fill_row.Given as goal
 
-abbrev pub invariant-loop-column : goal.invariant-loop-column
-invariant-loop-column l = record {
+abbrev pub invariant-loop-at : goal.invariant-loop-at
+invariant-loop-at l = record {
   joins : Joins (set_step (automaton_of l.fn.shelf l.a) l.track) l.space (l.row ∷ []) l.columns
       l.fn.shelf l.shelf l.fn.numbers l.numbers;
-  row : IsRow (set_step (automaton_of l.fn.shelf l.a) l.track) l.space l.row (take l.column-index l.columns)
+  row : IsRow (set_step (automaton_of l.fn.shelf l.a) l.track) l.space l.row (take l.at l.columns)
       l.numbers l.shelf l.fn.roots l.roots;
   valid : All (IsValid l.shelf) l.roots;
   fits : Fits l.joiner (Some l.track) l.shelf (numbered l.numbers);

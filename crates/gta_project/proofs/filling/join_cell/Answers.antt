@@ -4,16 +4,22 @@ use Rattle.bdd_nodes.specs.declared.node_ref.NodeRef.{NodeRef}
 use Rattle.gta_core.specs.Auto.{root_at}
 use Rattle.gta_project.specs.Roots.{AreRoots}
 use Rattle.gta_project.proofs.ClosingLemmas.{some-is}
+use Rattle.gta_project.proofs.ShortsLemmas.{known-short, AreRoots-short}
 use Rattle.gta_project.proofs.FillingLemmas.{Joins-one, IsCell-one, ExceedsCells-one}
 use Rattle.gta_project.proofs.filling.join_cell.Goals as goal
+
+pub roots_at-requires : goal.roots_at-requires
+roots_at-requires c = known-short c.args.shelf.now c.args.a.now c.args.space c.args.left.now c.args.right.now c.args.short_left.now c.args.short_right.now
+    c.requires.rows c.requires.columns c.requires.known
 
 pub returns-in_err-made-clause-joins : goal.returns-in_err-made-clause-joins
 returns-in_err-made-clause-joins c =
     let shelf = c.args.shelf.now in
     let a = c.args.a.now in
     let roots = c.as_slice.result.now in
-    let are = subst (λ (rs : List NodeRef). AreRoots shelf a c.args.space c.args.left.now c.args.right.now rs) (sym c.as_slice.ensures.value)
-    c.in_ok-roots.ensures in
+    let are = AreRoots-short shelf a c.args.space c.args.left.now c.args.right.now c.args.short_left.now c.args.short_right.now c.requires.rows
+    c.requires.columns roots (subst (λ (rs : List NodeRef). AreRoots shelf a c.args.space c.args.short_left.now c.args.short_right.now rs)
+    (sym c.as_slice.ensures.value) c.in_ok-roots.ensures) in
     let known = λ (l r : ℕ) (in_l : Contains c.args.left.now l) (in_r : Contains c.args.right.now r).
     let k : (root : NodeRef) × (root_at shelf a c.args.space l r ≡ Some root) = some-is (root_at shelf a c.args.space l r)
     (c.requires.known l r in_l in_r) in k in
@@ -27,8 +33,9 @@ returns-in_err-made-clause-limit c = λ stopped given completes.
     let shelf = c.args.shelf.now in
     let a = c.args.a.now in
     let roots = c.as_slice.result.now in
-    let are = subst (λ (rs : List NodeRef). AreRoots shelf a c.args.space c.args.left.now c.args.right.now rs) (sym c.as_slice.ensures.value)
-    c.in_ok-roots.ensures in
+    let are = AreRoots-short shelf a c.args.space c.args.left.now c.args.right.now c.args.short_left.now c.args.short_right.now c.requires.rows
+    c.requires.columns roots (subst (λ (rs : List NodeRef). AreRoots shelf a c.args.space c.args.short_left.now c.args.short_right.now rs)
+    (sym c.as_slice.ensures.value) c.in_ok-roots.ensures) in
     let known = λ (l r : ℕ) (in_l : Contains c.args.left.now l) (in_r : Contains c.args.right.now r).
     let k : (root : NodeRef) × (root_at shelf a c.args.space l r ≡ Some root) = some-is (root_at shelf a c.args.space l r)
     (c.requires.known l r in_l in_r) in k in
@@ -42,8 +49,9 @@ returns-clause-joins c =
     let shelf = c.args.shelf.now in
     let a = c.args.a.now in
     let roots = c.as_slice.result.now in
-    let are = subst (λ (rs : List NodeRef). AreRoots shelf a c.args.space c.args.left.now c.args.right.now rs) (sym c.as_slice.ensures.value)
-    c.in_ok-roots.ensures in
+    let are = AreRoots-short shelf a c.args.space c.args.left.now c.args.right.now c.args.short_left.now c.args.short_right.now c.requires.rows
+    c.requires.columns roots (subst (λ (rs : List NodeRef). AreRoots shelf a c.args.space c.args.short_left.now c.args.short_right.now rs)
+    (sym c.as_slice.ensures.value) c.in_ok-roots.ensures) in
     let known = λ (l r : ℕ) (in_l : Contains c.args.left.now l) (in_r : Contains c.args.right.now r).
     let k : (root : NodeRef) × (root_at shelf a c.args.space l r ≡ Some root) = some-is (root_at shelf a c.args.space l r)
     (c.requires.known l r in_l in_r) in k in
@@ -57,8 +65,9 @@ returns-clause-cell c =
     let shelf = c.args.shelf.now in
     let a = c.args.a.now in
     let roots = c.as_slice.result.now in
-    let are = subst (λ (rs : List NodeRef). AreRoots shelf a c.args.space c.args.left.now c.args.right.now rs) (sym c.as_slice.ensures.value)
-    c.in_ok-roots.ensures in
+    let are = AreRoots-short shelf a c.args.space c.args.left.now c.args.right.now c.args.short_left.now c.args.short_right.now c.requires.rows
+    c.requires.columns roots (subst (λ (rs : List NodeRef). AreRoots shelf a c.args.space c.args.short_left.now c.args.short_right.now rs)
+    (sym c.as_slice.ensures.value) c.in_ok-roots.ensures) in
     let known = λ (l r : ℕ) (in_l : Contains c.args.left.now l) (in_r : Contains c.args.right.now r).
     let k : (root : NodeRef) × (root_at shelf a c.args.space l r ≡ Some root) = some-is (root_at shelf a c.args.space l r)
     (c.requires.known l r in_l in_r) in k in

@@ -3,9 +3,9 @@ use Rattle.std.proofs.lemmas.List.Filters.{dedup_is}
 use Rattle.std.proofs.lemmas.List.Kept.{Contains-dedup_nat, Contains-from_dedup}
 use Rattle.std.proofs.lemmas.List.Sorted.{Contains-permutation, IsPermutation-sym}
 use Rattle.std.proofs.lemmas.Map.Keys.{IsStrictlyIncreasing-dedup}
-use Rattle.gta_project.specs.Sets.{set_of}
-use Rattle.gta_project.proofs.SetsLemmas.{Rises-increasing, set_of-is}
-use Rattle.gta_project.proofs.sets.set_of.Goals as goal
+use Rattle.bdd_walk.specs.Sets.{set_of}
+use Rattle.bdd_walk.proofs.SetsLemmas.{Rises-increasing, set_of-is}
+use Rattle.bdd_walk.proofs.sets.set_of.Goals as goal
 
 pub returns : goal.returns
 returns c =

@@ -4,8 +4,8 @@ use Rattle.std.proofs.Common.{refl, sym, ◌∙◌, ap, subst, inl, inr, arith, 
 use Rattle.std.specs.Prelude.{IsTrue}
 use Rattle.std.specs.List.Sorted.{IsStrictlyIncreasing}
 use Rattle.std.proofs.lemmas.Bool.{cases_Bool, eqb-true, eq-eqb, false≢true, ltb-true, ltb-false}
-use Rattle.gta_theory.proofs.ListsLemmas.{Contains-first, Contains-later, Contains-cases, Contains-none}
-use Rattle.gta_project.specs.Sets.{put, set_of, has_state}
+use Rattle.bdd_walk.proofs.ContainsLemmas.{Contains-first, Contains-later, Contains-cases, Contains-none}
+use Rattle.bdd_walk.specs.Sets.{put, set_of, has_state}
 
 -- all states of the list are later
 pub Above : ℕ → List ℕ → Type 0
