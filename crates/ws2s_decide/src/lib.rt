@@ -13,6 +13,7 @@ mod task;
 mod verdict;
 mod visiting;
 mod waiting;
+mod way;
 mod ways;
 
 pub use decider::{Decider, decide};

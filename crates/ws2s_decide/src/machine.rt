@@ -13,6 +13,7 @@ use crate::making::{make_conjunction, make_negation, make_quantified};
 use crate::task::Task;
 use crate::visiting::visit;
 use crate::waiting::Waiting;
+use crate::way::Way;
 use bdd_nodes::Shelf;
 use bdd_walk::Stop;
 use gta_core::Auto;
@@ -55,11 +56,13 @@ fn step(
     }
 }
 
-/// Does all tasks.
+/// Does all tasks. As the formula stands a limit is answered as soon as those that wait have more pairs of child states than
+/// there may be nodes.
 fn run(
     alloc: Global,
     g: &Guide,
     interner: &Interner,
+    way: Way,
     machine: &mut Machine,
     kept: &mut Kept,
     shelf: &mut Shelf,
@@ -75,6 +78,9 @@ fn run(
 {
     while let Some(task) = machine.tasks.pop() {
         step(alloc, g, interner, task, machine, kept, shelf)?;
+        if way == Way::AsItStands && machine.automata.pairs() > u64::from(shelf.limit()) {
+            return Err(Stop::Limit);
+        }
     }
     Ok(())
 }
@@ -89,6 +95,7 @@ pub(crate) fn automaton_of(
     g: &Guide,
     interner: &Interner,
     id: FormulaId,
+    way: Way,
     kept: &mut Kept,
     shelf: &mut Shelf,
 ) -> Result<Auto, Stop>
@@ -107,7 +114,7 @@ pub(crate) fn automaton_of(
         automata: Waiting::new(alloc),
     };
     machine.tasks.push(Task::Visit(id))?;
-    let ended = run(alloc, g, interner, &mut machine, kept, shelf);
+    let ended = run(alloc, g, interner, way, &mut machine, kept, shelf);
     let last = match ended {
         Ok(()) => Ok(machine.automata.pop().unwrap()),
         Err(stop) => {

@@ -13,6 +13,7 @@ ghost use Rattle.ws2s_decide.specs.Deciding.{IsVerdict};
 
 use crate::deciding::verdict_of;
 use crate::verdict::Verdict;
+use crate::way::Way;
 use bdd_nodes::Shelf;
 use bdd_walk::NoMemory;
 use gta_keep::Kept;
@@ -67,11 +68,11 @@ pub(crate) fn decide_number(
 {
     let made = easier(alloc, interner, id, weigh)?;
     if made == id {
-        return verdict_of(alloc, g, interner, id, weigh, kept, shelf);
+        return verdict_of(alloc, g, interner, id, Way::AsItStands, weigh, kept, shelf);
     }
-    let first = verdict_of(alloc, g, interner, made, weigh, kept, shelf)?;
+    let first = verdict_of(alloc, g, interner, made, Way::Easier, weigh, kept, shelf)?;
     match first {
-        Verdict::Limit => verdict_of(alloc, g, interner, id, weigh, kept, shelf),
+        Verdict::Limit => verdict_of(alloc, g, interner, id, Way::AsItStands, weigh, kept, shelf),
         found => Ok(found),
     }
 }

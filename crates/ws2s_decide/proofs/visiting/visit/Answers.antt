@@ -83,11 +83,11 @@ returns-in-None-clause-ok c =
     c.args.machine.now.automata c.args.kept.now c.copy_of.new.self passes stack out stands)) c.visit_anew.ensures.ok
 
 pub returns-in-None-clause-limit : goal.returns-in-None-clause-limit
-returns-in-None-clause-limit c = λ stopped stack out n stands within.
+returns-in-None-clause-limit c = λ stopped stack out n stands fits.
     let passes = (rw c.in-None.is at c.in_ok-copy.ensures.ok) c.args.g.now in
     let less = c.visit_anew.ensures.limit stopped stack out n
     (Stands-passed c.args.g.now c.args.interner.now c.args.shelf.now c.copy_of.new.shelf (Task.Visit c.args.id ∷ c.args.machine.now.tasks)
-    c.args.machine.now.automata c.args.kept.now c.copy_of.new.self passes stack out stands) within in
+    c.args.machine.now.automata c.args.kept.now c.copy_of.new.self passes stack out stands) fits in
     subst (λ (limit : ℕ). limit < n) passes.limit less
 
 pub returns-in-None-clause-same_limit : goal.returns-in-None-clause-same_limit
