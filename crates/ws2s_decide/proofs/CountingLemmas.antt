@@ -10,7 +10,6 @@ use Rattle.bdd_nodes.specs.Shelf.{Contents}
 use Rattle.gta_theory.specs.Guides.{Spaces}
 use Rattle.gta_core.specs.Auto.{AutoView}
 use Rattle.gta_core.specs.Sizes.{IsSized}
-use Rattle.gta_keep.specs.Holding.{HaveSum}
 use Rattle.ws2s_decide.specs.Counting.{IsInSizes, AreCounted}
 
 -- no automata have no pairs

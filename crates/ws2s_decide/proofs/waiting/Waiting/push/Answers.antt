@@ -1,4 +1,4 @@
-use Rattle.std.proofs.Common.{ℕ, List, sym, subst, arith}
+use Rattle.std.proofs.Common.{List, sym, subst, arith}
 use Rattle.std.specs.Prelude.{is_ok}
 use Rattle.gta_core.specs.Auto.{AutoView}
 use Rattle.ws2s_decide.specs.Counting.{IsInSizes}
