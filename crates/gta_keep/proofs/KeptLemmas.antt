@@ -2,10 +2,10 @@
 use Rattle.std.proofs.Common.{◌≡◌, ℕ, ◌+◌, ◌-◌, ◌≤◌, ◌==◌, ◌⊎◌, inl, inr, if◌then◌else◌, zero, suc, Bool, true, false, Option, Some, None, List, [], ◌∷◌, ◌++◌, take, length, Contains, IsSome, slice_get, option_map, refl, sym, ◌∙◌, ap, subst, arith}
 use Rattle.std.specs.Map.{lookup, lookup_entry, remove_entry}
 use Rattle.std.proofs.lemmas.Bool.{false≢true}
-use Rattle.std.specs.Option.{option_map_or}
+use Rattle.std.specs.Option.{MatchOption, option_map_or}
 use Rattle.std.proofs.lemmas.List.Elements.{Contains-append_right}
 use Rattle.lru.specs.LruCache.{LruCache, promoted, put_entries, displaced, last_entry}
-use Rattle.lru.proofs.CallerLemmas.{Contains-promoted, Contains-take, Contains-lookup, Contains-lookup_entry, Contains-put_entries}
+use Rattle.lru.proofs.CallerLemmas.{Contains-promoted, Contains-remove_entry, Contains-take, Contains-lookup, Contains-lookup_entry, Contains-put_entries}
 use Rattle.bdd_nodes.specs.Shelf.{Contents, IsShelf, roots_of}
 use Rattle.bdd_nodes.specs.Changes.{DropsTable}
 use Rattle.gta_theory.specs.Guides.{Spaces}
@@ -13,8 +13,8 @@ use Rattle.gta_core.specs.Auto.{AutoView, IsAuto}
 use Rattle.gta_core.specs.Changes.{AddsOneTable}
 use Rattle.gta_core.proofs.AutoLemmas.{past-none}
 use Rattle.ws2s_core.specs.declared.node.FormulaId.{FormulaId}
-use Rattle.gta_keep.specs.Holding.{times, Holds, HoldsBeside, Passes, beside, kept_autos}
-use Rattle.gta_keep.proofs.PassesLemmas.{Entries, Contains-kept, Contains-entry, Contains-beside, Holds-order, Passes-order, Passes-both, Passes-beside, Passes-added, Passes-release, HoldsBeside-after}
+use Rattle.gta_keep.specs.Holding.{times, Holds, HoldsBeside, IsNotKept, IsCopyOfKept, Passes, as_list, beside, kept_autos}
+use Rattle.gta_keep.proofs.PassesLemmas.{Entries, Contains-kept, Contains-entry, Contains-beside, Holds-order, Passes-none, Passes-order, Passes-both, Passes-beside, Passes-added, Passes-release, HoldsBeside-after}
 
 -- once where the automaton has the table
 abbrev pub once : AutoView → ℕ → ℕ
@@ -114,6 +114,43 @@ none-popped [] after is are = (refl, are)
 none-popped (f ∷ kept) after is are =
     absurd (let le = past-none (f ∷ kept) (length (f ∷ kept) - 1) (sym is) in let none : ⊥ = omega (arith, le) in none)
 
+-- ---- one is taken out
+
+lookup-entry : (test : FormulaId → Bool) (kept : Entries) →
+    lookup test kept ≡ option_map (λ (e : FormulaId × AutoView). e.1) (lookup_entry test kept)
+lookup-entry test [] = refl
+lookup-entry test (f ∷ kept) = (elim (test f.0) as (λ y. test f.0 ≡ y →
+    lookup test (f ∷ kept) ≡ option_map (λ (e : FormulaId × AutoView). e.1) (lookup_entry test (f ∷ kept))) [
+      | true ↦ λ passes. rw passes refl
+      | false ↦ λ fails. rw fails (lookup-entry test kept)
+    ]) refl
+
+removed-none : (test : FormulaId → Bool) (kept : Entries) → lookup_entry test kept ≡ None → remove_entry test kept ≡ kept
+removed-none test [] is = refl
+removed-none test (f ∷ kept) is = (elim (test f.0) as (λ y. test f.0 ≡ y → remove_entry test (f ∷ kept) ≡ f ∷ kept) [
+  | true ↦ λ passes. absurd (let is' = rw passes at is in cc)
+  | false ↦ λ fails. rw fails (ap (λ (es : Entries). f ∷ es) (removed-none test kept (rw fails at is)))
+]) refl
+
+module _ (test : FormulaId → Bool) (g : Spaces) (shelf : Contents) (kept : Entries) where
+  taken-at : (o : Option (FormulaId × AutoView)) → lookup_entry test kept ≡ o →
+      Passes g shelf shelf [] (as_list (option_map (λ (e : FormulaId × AutoView). e.1) o)) kept (remove_entry test kept)
+  taken-at None is =
+      subst (λ (es : Entries). Passes g shelf shelf [] [] kept es) (sym (removed-none test kept is)) (Passes-none g shelf [] kept)
+  taken-at (Some e) is =
+      Passes-order g shelf [] (e.1 ∷ []) kept (remove_entry test kept)
+      (λ t. let sum = remove-times test kept e is t in omega (arith, sum)) inside (Contains-remove_entry test kept)
+    where
+      inside : (a : AutoView) → Contains (e.1 ∷ []) a → Contains ([] ++ kept_autos kept) a
+      inside a (zero, lt, same) = subst (Contains (kept_autos kept)) same (Contains-kept kept e (Contains-lookup_entry test kept e is).0)
+      inside a (suc k, lt, same) = absurd (omega (arith, lt))
+
+  -- it is no longer kept
+  pub taken-passes : (o : Option AutoView) → o ≡ lookup test kept → Passes g shelf shelf [] (as_list o) kept (remove_entry test kept)
+  taken-passes o is =
+      subst (λ (x : Option AutoView). Passes g shelf shelf [] (as_list x) kept (remove_entry test kept))
+      (sym (is ∙ lookup-entry test kept)) (taken-at (lookup_entry test kept) refl)
+
 -- ---- one is looked up
 
 module _ (test : FormulaId → Bool) (id : FormulaId) where
@@ -133,6 +170,16 @@ module _ (test : FormulaId → Bool) (id : FormulaId) where
     past rest unequal (zero, lt, at) = false≢true (sym unequal ∙ ap (λ (e : FormulaId × AutoView). test e.0) at ∙ passes)
     past rest unequal (suc k, lt, at) = rest (k, omega (arith, lt), at)
 
+  -- what was looked up was kept for the number, and nothing was where there is none
+  pub found-or-none : test id ≡ true → ((x : FormulaId) → test x ≡ true → id ≡ x) → (kept : Entries) (shelf : Contents) (o : Option AutoView) →
+      o ≡ lookup test kept → MatchOption o (IsNotKept id kept) (IsCopyOfKept shelf shelf id kept)
+  found-or-none passes exact kept shelf None is = none-entry passes kept is
+  found-or-none passes exact kept shelf (Some was) is = record {
+    was = was;
+    there = found-entry exact kept was is;
+    copies = record { automaton = refl; states = λ s. refl };
+  }
+
 -- a copy of it comes, and it is the last that was used
 pub copied-passes : (test : FormulaId → Bool) (h : Spaces) (old new : Contents) (kept after : Entries) → HoldsBeside h old [] kept →
     (id : FormulaId) (was copy : AutoView) → Contains kept (id, was) → IsShelf new → AddsOneTable old new copy.table →
@@ -146,15 +193,6 @@ copied-passes test h old new kept after held id was copy there is_shelf one auto
     (subst (λ (es : Entries). Passes g new new [] [] kept es) (sym are) (Passes-promoted test g new kept)))
 
 -- ---- a new one comes
-
-lookup-entry : (test : FormulaId → Bool) (kept : Entries) →
-    lookup test kept ≡ option_map (λ (e : FormulaId × AutoView). e.1) (lookup_entry test kept)
-lookup-entry test [] = refl
-lookup-entry test (f ∷ kept) = (elim (test f.0) as (λ y. test f.0 ≡ y →
-    lookup test (f ∷ kept) ≡ option_map (λ (e : FormulaId × AutoView). e.1) (lookup_entry test (f ∷ kept))) [
-      | true ↦ λ passes. rw passes refl
-      | false ↦ λ fails. rw fails (lookup-entry test kept)
-    ]) refl
 
 module _ (eq : FormulaId → FormulaId → Bool) (c : LruCache FormulaId AutoView) (few : length c.entries ≤ c.cap) (id : FormulaId) (copy : AutoView) where
   abbrev put_of : Option (FormulaId × AutoView) → Entries

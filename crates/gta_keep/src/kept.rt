@@ -1,7 +1,7 @@
 //! Automata that are kept by the numbers of formulas.
 
 ghost use Rattle.std.specs.Prelude.{◌≡◌, ◌≤◌, ℕ, List, [], ◌∷◌, IfOk, OnOk, OnErr, MatchOption};
-ghost use Rattle.bdd_nodes.specs.Shelf.{count_of};
+ghost use Rattle.bdd_nodes.specs.Shelf.{Contents, count_of};
 ghost use Rattle.gta_theory.specs.Guides.{Spaces};
 ghost use Rattle.gta_core.specs.Auto.{AutoView, IsAuto};
 ghost use Rattle.gta_keep.specs.Holding.{Holds, HoldsBeside, HaveSum, IsCopyOfKept, IsNotKept, IsKeptCopy, Passes, TakesIn, as_list, beside};
@@ -75,6 +75,14 @@ impl Kept {
         };
         self.automata.promote(&id);
         Ok(Some(copy))
+    }
+
+    /// The automaton that is kept for the number, which is no longer kept; `None` exactly where none is. Takes no memory.
+    pub fn take(&mut self, id: FormulaId) -> Option<Auto>
+        ensures found { (shelf : Contents) → MatchOption result (IsNotKept id self.old) (IsCopyOfKept shelf shelf id self.old) }
+        ensures passes { (g : Spaces) (shelf : Contents) → Passes g shelf shelf [] (as_list result) self.old self.new }
+    {
+        self.automata.pop(&id)
     }
 
     /// Keeps a copy of the automaton for the number, in the place of what was kept for it. The one that was used longest

@@ -10,6 +10,7 @@ mod deciding;
 mod machine;
 mod making;
 mod task;
+mod uses;
 mod verdict;
 mod visiting;
 mod waiting;

@@ -11,11 +11,12 @@ ghost use Rattle.ws2s_decide.specs.Going.{moment, Rests, IsGoing, Advances, Ends
 
 use crate::making::{make_conjunction, make_negation, make_quantified};
 use crate::task::Task;
+use crate::uses::Uses;
 use crate::visiting::visit;
 use crate::waiting::Waiting;
 use crate::way::Way;
 use bdd_nodes::Shelf;
-use bdd_walk::Stop;
+use bdd_walk::{NoMemory, Stop};
 use gta_core::Auto;
 use gta_keep::Kept;
 use plain_data::Stack;
@@ -27,6 +28,8 @@ use ws2s_core::{FormulaId, Guide, Interner};
 pub(crate) struct Machine {
     pub(crate) tasks: Stack<Task>,
     pub(crate) automata: Waiting,
+    /// How often formulas still come, where no other formula is decided afterwards.
+    pub(crate) uses: Option<Uses>,
 }
 
 /// Does a task.
@@ -78,7 +81,7 @@ fn run(
 {
     while let Some(task) = machine.tasks.pop() {
         step(alloc, g, interner, task, machine, kept, shelf)?;
-        if way == Way::AsItStands && machine.automata.pairs() > u64::from(shelf.limit()) {
+        if way.stops_early && machine.automata.pairs() > u64::from(shelf.limit()) {
             return Err(Stop::Limit);
         }
     }
@@ -112,6 +115,7 @@ pub(crate) fn automaton_of(
     let mut machine = Machine {
         tasks: Stack::new(alloc),
         automata: Waiting::new(alloc),
+        uses: uses_of(alloc, interner, id, way)?,
     };
     machine.tasks.push(Task::Visit(id))?;
     let ended = run(alloc, g, interner, way, &mut machine, kept, shelf);
@@ -124,4 +128,18 @@ pub(crate) fn automaton_of(
     };
     drop(machine);
     last
+}
+
+/// How often formulas come on the way to the automaton of the formula, where no other is decided afterwards.
+fn uses_of(
+    alloc: Global,
+    interner: &Interner,
+    id: FormulaId,
+    way: Way,
+) -> Result<Option<Uses>, NoMemory> {
+    if way.once {
+        Ok(Some(Uses::new(alloc, interner, id)?))
+    } else {
+        Ok(None)
+    }
 }

@@ -1,10 +1,11 @@
 //! How a formula is decided.
 
-/// Which of its formulas a decision is about: only the Peak of the formula as it stands licenses a limit.
-#[derive(Clone, Copy, Debug, PartialEq, Eq)]
-pub(crate) enum Way {
-    /// An easier formula: every task is tried.
-    Easier,
-    /// The formula as it stands: a limit is answered as soon as it is licensed.
-    AsItStands,
+/// What a decision may leave out.
+#[derive(Clone, Copy, Debug)]
+pub(crate) struct Way {
+    /// Whether a limit is answered as soon as it is licensed; else every task is tried. Only the Peak of the formula as it
+    /// stands licenses one.
+    pub(crate) stops_early: bool,
+    /// Whether no other formula is decided afterwards: then what doesn't come again isn't kept.
+    pub(crate) once: bool,
 }
