@@ -82,7 +82,7 @@ fn is_last(id: FormulaId, uses: &mut Option<Uses>) -> bool {
     }
 }
 
-/// The same where no automaton is kept for the formula.
+/// What [`visit`] does where no automaton is kept for the formula.
 fn visit_anew(
     alloc: Global,
     g: &Guide,
