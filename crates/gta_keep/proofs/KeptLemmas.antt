@@ -1,7 +1,9 @@
 -- On what is kept: which automata are there after a use, a fall out, and a new one.
-use Rattle.std.proofs.Common.{◌≡◌, ℕ, ◌+◌, ◌-◌, ◌≤◌, ◌==◌, ◌⊎◌, inl, inr, if◌then◌else◌, zero, suc, Bool, true, false, Option, Some, None, List, [], ◌∷◌, ◌++◌, take, length, Contains, IsSome, slice_get, option_map, refl, sym, ◌∙◌, ap, subst, arith}
+use Rattle.std.proofs.Common.{◌≡◌, ℕ, ◌+◌, ◌-◌, ◌<◌, ◌≤◌, ◌==◌, ◌⊎◌, inl, inr, if◌then◌else◌, zero, suc, Bool, true, false, Option, Some, None, List, [], ◌∷◌, ◌++◌, take, length, Contains, IsSome, slice_get, option_map, refl, sym, ◌∙◌, ap, subst, arith}
 use Rattle.std.specs.Map.{lookup, lookup_entry, remove_entry}
 use Rattle.std.proofs.lemmas.Bool.{false≢true}
+use Rattle.std.proofs.lemmas.Option.{slice_get_within}
+use Rattle.std.proofs.lemmas.List.{length-take}
 use Rattle.std.specs.Option.{MatchOption, option_map_or}
 use Rattle.std.proofs.lemmas.List.Elements.{Contains-append_right}
 use Rattle.lru.specs.LruCache.{LruCache, promoted, put_entries, displaced, last_entry}
@@ -9,6 +11,7 @@ use Rattle.lru.proofs.CallerLemmas.{Contains-promoted, Contains-remove_entry, Co
 use Rattle.bdd_nodes.specs.Shelf.{Contents, IsShelf, roots_of}
 use Rattle.bdd_nodes.specs.Changes.{DropsTable}
 use Rattle.gta_theory.specs.Guides.{Spaces}
+use Rattle.gta_theory.proofs.ListsLemmas.{Contains-none, Contains-first, Contains-later, Contains-cases}
 use Rattle.gta_core.specs.Auto.{AutoView, IsAuto}
 use Rattle.gta_core.specs.Changes.{AddsOneTable}
 use Rattle.gta_core.proofs.AutoLemmas.{past-none}
@@ -87,6 +90,54 @@ Passes-popped g shelf kept e is =
     inside : (a : AutoView) → Contains (e.1 ∷ []) a → Contains ([] ++ kept_autos kept) a
     inside a (zero, lt, same) = subst (Contains (kept_autos kept)) same (Contains-kept kept e (Contains-at kept (length kept - 1) e is))
     inside a (suc k, lt, same) = absurd (omega (arith, lt))
+
+-- one that has come out of what is kept is registered
+module _ (h : Spaces) (old : Contents) (kept after : Entries) (held : HoldsBeside h old [] kept) (a : AutoView)
+    (taken : (g : Spaces) → Passes g old old [] (a ∷ []) kept after) where
+  out : HoldsBeside h old (a ∷ []) after
+  out = HoldsBeside-after h old old [] (a ∷ []) kept after (taken h) held
+
+  pub taken-registered : IsSome (roots_of old a.table)
+  taken-registered = (out.holds.each a (0, omega arith, refl)).registered
+
+-- and it is let go of
+module _ (h : Spaces) (old new : Contents) (kept after : Entries) (held : HoldsBeside h old [] kept) (a : AutoView)
+    (taken : (g : Spaces) → Passes g old old [] (a ∷ []) kept after) (is_shelf : IsShelf new) (drops : DropsTable old new a.table) where
+  pub taken-gone : (g : Spaces) → Passes g old new [] [] kept after
+  taken-gone g =
+      Passes-both g old old new [] (a ∷ []) [] kept after after (taken g)
+      (Passes-release g old new a [] after h (out h old kept after held a taken) is_shelf drops)
+
+  pub taken-held : HoldsBeside h new [] after
+  taken-held = HoldsBeside-after h old new [] [] kept after (taken-gone h) held
+
+-- the last one has one key
+pub same-key : (last : Option (FormulaId × AutoView)) (a b : FormulaId × AutoView) → Some a ≡ last → Some b ≡ last → a.0 ≡ b.0
+same-key last a b is_a is_b = (let both = is_a ∙ sym is_b in let same : a ≡ b = cc in ap (λ (e : FormulaId × AutoView). e.0) same)
+
+-- another one than the last stays
+stays-at : (kept : Entries) (n : ℕ) (e x : FormulaId × AutoView) → length kept ≤ suc n → slice_get kept n ≡ Some e → (x ≡ e → ⊥) →
+    Contains kept x → Contains (take n kept) x
+stays-at [] n e x few is other there = absurd (Contains-none x there)
+stays-at (f ∷ kept) zero e x few is other there = elim (Contains-cases f x kept there) [
+  | inl same ↦ absurd (other (let last : f ≡ e = cc in sym same ∙ last))
+  | inr (k, below, at) ↦ absurd (omega (arith, few, below))
+]
+stays-at (f ∷ kept) (suc n) e x few is other there = elim (Contains-cases f x kept there) [
+  | inl same ↦ subst (λ (y : FormulaId × AutoView). Contains (f ∷ take n kept) y) same (Contains-first f (take n kept))
+  | inr later ↦ Contains-later f x (take n kept) (stays-at kept n e x (omega (arith, few)) is other later)
+]
+
+pub stays-popped : (kept : Entries) (e : FormulaId × AutoView) (id : FormulaId) → last_entry kept ≡ Some e → (e.0 ≡ id → ⊥) → (auto : AutoView) →
+    Contains kept (id, auto) → Contains (take (length kept - 1) kept) (id, auto)
+stays-popped kept e id is other auto =
+    stays-at kept (length kept - 1) e (id, auto) (omega arith) is (λ same. other (sym (ap (λ (x : FormulaId × AutoView). x.0) same)))
+
+pub fewer-popped : (kept : Entries) (e : FormulaId × AutoView) → last_entry kept ≡ Some e → length (take (length kept - 1) kept) < length kept
+fewer-popped kept e is =
+    let inside = slice_get_within kept (length kept - 1) e is in
+    let many = length-take (length kept - 1) kept in
+    omega (arith, inside, many)
 
 -- it is registered
 pub popped-registered : (h : Spaces) (shelf : Contents) (kept : Entries) → HoldsBeside h shelf [] kept → (e : FormulaId × AutoView) →
