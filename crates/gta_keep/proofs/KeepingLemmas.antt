@@ -123,3 +123,42 @@ module _ (h : Spaces) (old mid : Contents) (kept : Entries) (id : FormulaId) (au
 
           pub kept-out : IsKeptCopy old new id auto after
           kept-out = record { now = copy; there = here; copies = copy_stays new copy refl (stays (id, copy) here) }
+
+-- what came is held
+pub HoldsBeside-taken : (g : Spaces) (old new : Contents) (id : FormulaId) (auto : AutoView) (before after : Entries) → HoldsBeside g old [] before →
+    TakesIn g old new id auto before after → HoldsBeside g new [] after
+HoldsBeside-taken g old new id auto before after held takes = record { others = held.others; holds = takes.holds held.others held.holds }
+
+-- a copy that stays is one
+IsCopy-kept : (old mid new : Contents) (was now : AutoView) → IsCopy old mid was now → KeepsTable mid new now.table → IsCopy old new was now
+IsCopy-kept old mid new was now copies keeps = record {
+  automaton = automaton_of-kept mid new now keeps ∙ copies.automaton;
+  states = copies.states;
+}
+
+-- and then some of what is kept is let go of
+module _ (g : Spaces) (old mid new : Contents) (id : FormulaId) (auto : AutoView) where
+  pub TakesIn-less : (before between after : Entries) → TakesIn g old mid id auto before between → Passes g mid new [] [] between after →
+      TakesIn g old new id auto before after
+  TakesIn-less before between after takes passes = record {
+    entries = λ entry there.
+        let keeps = passes.kept.tables entry there in
+        elim (takes.entries entry (passes.kept.entries entry there)) [
+          | inl was ↦ inl (was.0, KeepsTable-both old mid new (entry.1).table was.1 keeps)
+          | inr came ↦ inr (came.0, IsCopy-kept old mid new auto entry.1 came.1 keeps)
+        ];
+    holds = λ others holds. passes.holds others (takes.holds others holds);
+    others = λ others other holds there.
+        KeepsTable-both old mid new other.table (takes.others others other holds there) (passes.others others other (takes.holds others holds) there);
+    limit = passes.limit ∙ takes.limit;
+  }
+
+  pub IsKeptCopy-less : (between after : Entries) → IsKeptCopy old mid id auto between → Passes g mid new [] [] between after →
+      ((now : AutoView) → Contains between (id, now) → Contains after (id, now)) → IsKeptCopy old new id auto after
+  IsKeptCopy-less between after kept passes stays =
+      let there = stays kept.now kept.there in
+      record {
+        now = kept.now;
+        there = there;
+        copies = IsCopy-kept old mid new auto kept.now kept.copies (passes.kept.tables (id, kept.now) there);
+      }

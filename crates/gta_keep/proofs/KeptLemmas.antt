@@ -1,20 +1,23 @@
 -- On what is kept: which automata are there after a use, a fall out, and a new one.
-use Rattle.std.proofs.Common.{◌≡◌, ℕ, ◌+◌, ◌-◌, ◌≤◌, ◌==◌, ◌⊎◌, inl, inr, if◌then◌else◌, zero, suc, Bool, true, false, Option, Some, None, List, [], ◌∷◌, ◌++◌, take, length, Contains, IsSome, slice_get, option_map, refl, sym, ◌∙◌, ap, subst, arith}
+use Rattle.std.proofs.Common.{◌≡◌, ℕ, ◌+◌, ◌-◌, ◌<◌, ◌≤◌, ◌==◌, ◌⊎◌, inl, inr, if◌then◌else◌, zero, suc, Bool, true, false, Option, Some, None, List, [], ◌∷◌, ◌++◌, take, length, Contains, IsSome, slice_get, option_map, refl, sym, ◌∙◌, ap, subst, arith}
 use Rattle.std.specs.Map.{lookup, lookup_entry, remove_entry}
 use Rattle.std.proofs.lemmas.Bool.{false≢true}
-use Rattle.std.specs.Option.{option_map_or}
+use Rattle.std.proofs.lemmas.Option.{slice_get_within}
+use Rattle.std.proofs.lemmas.List.{length-take}
+use Rattle.std.specs.Option.{MatchOption, option_map_or}
 use Rattle.std.proofs.lemmas.List.Elements.{Contains-append_right}
 use Rattle.lru.specs.LruCache.{LruCache, promoted, put_entries, displaced, last_entry}
-use Rattle.lru.proofs.CallerLemmas.{Contains-promoted, Contains-take, Contains-lookup, Contains-lookup_entry, Contains-put_entries}
+use Rattle.lru.proofs.CallerLemmas.{Contains-promoted, Contains-remove_entry, Contains-take, Contains-lookup, Contains-lookup_entry, Contains-put_entries}
 use Rattle.bdd_nodes.specs.Shelf.{Contents, IsShelf, roots_of}
 use Rattle.bdd_nodes.specs.Changes.{DropsTable}
 use Rattle.gta_theory.specs.Guides.{Spaces}
+use Rattle.gta_theory.proofs.ListsLemmas.{Contains-none, Contains-first, Contains-later, Contains-cases}
 use Rattle.gta_core.specs.Auto.{AutoView, IsAuto}
 use Rattle.gta_core.specs.Changes.{AddsOneTable}
 use Rattle.gta_core.proofs.AutoLemmas.{past-none}
 use Rattle.ws2s_core.specs.declared.node.FormulaId.{FormulaId}
-use Rattle.gta_keep.specs.Holding.{times, Holds, HoldsBeside, Passes, beside, kept_autos}
-use Rattle.gta_keep.proofs.PassesLemmas.{Entries, Contains-kept, Contains-entry, Contains-beside, Holds-order, Passes-order, Passes-both, Passes-beside, Passes-added, Passes-release, HoldsBeside-after}
+use Rattle.gta_keep.specs.Holding.{times, Holds, HoldsBeside, IsNotKept, IsCopyOfKept, Passes, as_list, beside, kept_autos}
+use Rattle.gta_keep.proofs.PassesLemmas.{Entries, Contains-kept, Contains-entry, Contains-beside, Holds-order, Passes-none, Passes-order, Passes-both, Passes-beside, Passes-added, Passes-release, HoldsBeside-after}
 
 -- once where the automaton has the table
 abbrev pub once : AutoView → ℕ → ℕ
@@ -88,6 +91,54 @@ Passes-popped g shelf kept e is =
     inside a (zero, lt, same) = subst (Contains (kept_autos kept)) same (Contains-kept kept e (Contains-at kept (length kept - 1) e is))
     inside a (suc k, lt, same) = absurd (omega (arith, lt))
 
+-- one that has come out of what is kept is registered
+module _ (h : Spaces) (old : Contents) (kept after : Entries) (held : HoldsBeside h old [] kept) (a : AutoView)
+    (taken : (g : Spaces) → Passes g old old [] (a ∷ []) kept after) where
+  out : HoldsBeside h old (a ∷ []) after
+  out = HoldsBeside-after h old old [] (a ∷ []) kept after (taken h) held
+
+  pub taken-registered : IsSome (roots_of old a.table)
+  taken-registered = (out.holds.each a (0, omega arith, refl)).registered
+
+-- and it is let go of
+module _ (h : Spaces) (old new : Contents) (kept after : Entries) (held : HoldsBeside h old [] kept) (a : AutoView)
+    (taken : (g : Spaces) → Passes g old old [] (a ∷ []) kept after) (is_shelf : IsShelf new) (drops : DropsTable old new a.table) where
+  pub taken-gone : (g : Spaces) → Passes g old new [] [] kept after
+  taken-gone g =
+      Passes-both g old old new [] (a ∷ []) [] kept after after (taken g)
+      (Passes-release g old new a [] after h (out h old kept after held a taken) is_shelf drops)
+
+  pub taken-held : HoldsBeside h new [] after
+  taken-held = HoldsBeside-after h old new [] [] kept after (taken-gone h) held
+
+-- the last one has one key
+pub same-key : (last : Option (FormulaId × AutoView)) (a b : FormulaId × AutoView) → Some a ≡ last → Some b ≡ last → a.0 ≡ b.0
+same-key last a b is_a is_b = (let both = is_a ∙ sym is_b in let same : a ≡ b = cc in ap (λ (e : FormulaId × AutoView). e.0) same)
+
+-- another one than the last stays
+stays-at : (kept : Entries) (n : ℕ) (e x : FormulaId × AutoView) → length kept ≤ suc n → slice_get kept n ≡ Some e → (x ≡ e → ⊥) →
+    Contains kept x → Contains (take n kept) x
+stays-at [] n e x few is other there = absurd (Contains-none x there)
+stays-at (f ∷ kept) zero e x few is other there = elim (Contains-cases f x kept there) [
+  | inl same ↦ absurd (other (let last : f ≡ e = cc in sym same ∙ last))
+  | inr (k, below, at) ↦ absurd (omega (arith, few, below))
+]
+stays-at (f ∷ kept) (suc n) e x few is other there = elim (Contains-cases f x kept there) [
+  | inl same ↦ subst (λ (y : FormulaId × AutoView). Contains (f ∷ take n kept) y) same (Contains-first f (take n kept))
+  | inr later ↦ Contains-later f x (take n kept) (stays-at kept n e x (omega (arith, few)) is other later)
+]
+
+pub stays-popped : (kept : Entries) (e : FormulaId × AutoView) (id : FormulaId) → last_entry kept ≡ Some e → (e.0 ≡ id → ⊥) → (auto : AutoView) →
+    Contains kept (id, auto) → Contains (take (length kept - 1) kept) (id, auto)
+stays-popped kept e id is other auto =
+    stays-at kept (length kept - 1) e (id, auto) (omega arith) is (λ same. other (sym (ap (λ (x : FormulaId × AutoView). x.0) same)))
+
+pub fewer-popped : (kept : Entries) (e : FormulaId × AutoView) → last_entry kept ≡ Some e → length (take (length kept - 1) kept) < length kept
+fewer-popped kept e is =
+    let inside = slice_get_within kept (length kept - 1) e is in
+    let many = length-take (length kept - 1) kept in
+    omega (arith, inside, many)
+
 -- it is registered
 pub popped-registered : (h : Spaces) (shelf : Contents) (kept : Entries) → HoldsBeside h shelf [] kept → (e : FormulaId × AutoView) →
     Some e ≡ last_entry kept → IsSome (roots_of shelf (e.1).table)
@@ -114,6 +165,43 @@ none-popped [] after is are = (refl, are)
 none-popped (f ∷ kept) after is are =
     absurd (let le = past-none (f ∷ kept) (length (f ∷ kept) - 1) (sym is) in let none : ⊥ = omega (arith, le) in none)
 
+-- ---- one is taken out
+
+lookup-entry : (test : FormulaId → Bool) (kept : Entries) →
+    lookup test kept ≡ option_map (λ (e : FormulaId × AutoView). e.1) (lookup_entry test kept)
+lookup-entry test [] = refl
+lookup-entry test (f ∷ kept) = (elim (test f.0) as (λ y. test f.0 ≡ y →
+    lookup test (f ∷ kept) ≡ option_map (λ (e : FormulaId × AutoView). e.1) (lookup_entry test (f ∷ kept))) [
+      | true ↦ λ passes. rw passes refl
+      | false ↦ λ fails. rw fails (lookup-entry test kept)
+    ]) refl
+
+removed-none : (test : FormulaId → Bool) (kept : Entries) → lookup_entry test kept ≡ None → remove_entry test kept ≡ kept
+removed-none test [] is = refl
+removed-none test (f ∷ kept) is = (elim (test f.0) as (λ y. test f.0 ≡ y → remove_entry test (f ∷ kept) ≡ f ∷ kept) [
+  | true ↦ λ passes. absurd (let is' = rw passes at is in cc)
+  | false ↦ λ fails. rw fails (ap (λ (es : Entries). f ∷ es) (removed-none test kept (rw fails at is)))
+]) refl
+
+module _ (test : FormulaId → Bool) (g : Spaces) (shelf : Contents) (kept : Entries) where
+  taken-at : (o : Option (FormulaId × AutoView)) → lookup_entry test kept ≡ o →
+      Passes g shelf shelf [] (as_list (option_map (λ (e : FormulaId × AutoView). e.1) o)) kept (remove_entry test kept)
+  taken-at None is =
+      subst (λ (es : Entries). Passes g shelf shelf [] [] kept es) (sym (removed-none test kept is)) (Passes-none g shelf [] kept)
+  taken-at (Some e) is =
+      Passes-order g shelf [] (e.1 ∷ []) kept (remove_entry test kept)
+      (λ t. let sum = remove-times test kept e is t in omega (arith, sum)) inside (Contains-remove_entry test kept)
+    where
+      inside : (a : AutoView) → Contains (e.1 ∷ []) a → Contains ([] ++ kept_autos kept) a
+      inside a (zero, lt, same) = subst (Contains (kept_autos kept)) same (Contains-kept kept e (Contains-lookup_entry test kept e is).0)
+      inside a (suc k, lt, same) = absurd (omega (arith, lt))
+
+  -- it is no longer kept
+  pub taken-passes : (o : Option AutoView) → o ≡ lookup test kept → Passes g shelf shelf [] (as_list o) kept (remove_entry test kept)
+  taken-passes o is =
+      subst (λ (x : Option AutoView). Passes g shelf shelf [] (as_list x) kept (remove_entry test kept))
+      (sym (is ∙ lookup-entry test kept)) (taken-at (lookup_entry test kept) refl)
+
 -- ---- one is looked up
 
 module _ (test : FormulaId → Bool) (id : FormulaId) where
@@ -133,6 +221,16 @@ module _ (test : FormulaId → Bool) (id : FormulaId) where
     past rest unequal (zero, lt, at) = false≢true (sym unequal ∙ ap (λ (e : FormulaId × AutoView). test e.0) at ∙ passes)
     past rest unequal (suc k, lt, at) = rest (k, omega (arith, lt), at)
 
+  -- what was looked up was kept for the number, and nothing was where there is none
+  pub found-or-none : test id ≡ true → ((x : FormulaId) → test x ≡ true → id ≡ x) → (kept : Entries) (shelf : Contents) (o : Option AutoView) →
+      o ≡ lookup test kept → MatchOption o (IsNotKept id kept) (IsCopyOfKept shelf shelf id kept)
+  found-or-none passes exact kept shelf None is = none-entry passes kept is
+  found-or-none passes exact kept shelf (Some was) is = record {
+    was = was;
+    there = found-entry exact kept was is;
+    copies = record { automaton = refl; states = λ s. refl };
+  }
+
 -- a copy of it comes, and it is the last that was used
 pub copied-passes : (test : FormulaId → Bool) (h : Spaces) (old new : Contents) (kept after : Entries) → HoldsBeside h old [] kept →
     (id : FormulaId) (was copy : AutoView) → Contains kept (id, was) → IsShelf new → AddsOneTable old new copy.table →
@@ -146,15 +244,6 @@ copied-passes test h old new kept after held id was copy there is_shelf one auto
     (subst (λ (es : Entries). Passes g new new [] [] kept es) (sym are) (Passes-promoted test g new kept)))
 
 -- ---- a new one comes
-
-lookup-entry : (test : FormulaId → Bool) (kept : Entries) →
-    lookup test kept ≡ option_map (λ (e : FormulaId × AutoView). e.1) (lookup_entry test kept)
-lookup-entry test [] = refl
-lookup-entry test (f ∷ kept) = (elim (test f.0) as (λ y. test f.0 ≡ y →
-    lookup test (f ∷ kept) ≡ option_map (λ (e : FormulaId × AutoView). e.1) (lookup_entry test (f ∷ kept))) [
-      | true ↦ λ passes. rw passes refl
-      | false ↦ λ fails. rw fails (lookup-entry test kept)
-    ]) refl
 
 module _ (eq : FormulaId → FormulaId → Bool) (c : LruCache FormulaId AutoView) (few : length c.entries ≤ c.cap) (id : FormulaId) (copy : AutoView) where
   abbrev put_of : Option (FormulaId × AutoView) → Entries

@@ -8,6 +8,7 @@ pub mod KeptLemmas
 pub mod LimitLemmas
 pub mod MadeLemmas
 pub mod MergingLemmas
+pub mod PairsLemmas
 pub mod PassesLemmas
 pub mod RoomLemmas
 pub mod SumLemmas

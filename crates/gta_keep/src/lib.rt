@@ -10,9 +10,11 @@ mod building;
 mod kept;
 mod laws;
 mod merging;
+mod pairs;
 
 pub use building::{build_atom, conjoin, quantify};
 pub use kept::Kept;
 pub use laws::{
     automata_have_sizes, copies_are_minimal, held_automata_have_room, held_automata_outlive_changes,
 };
+pub use pairs::pairs_of;

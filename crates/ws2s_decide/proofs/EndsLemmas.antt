@@ -14,6 +14,7 @@ use Rattle.ws2s_theory.specs.Peaks.{HasPeak}
 use Rattle.ws2s_theory.proofs.PeaksLemmas.{HasPeak-unique}
 use Rattle.ws2s_decide.specs.Tasks.{Makes, HasSum}
 use Rattle.ws2s_decide.specs.Going.{Moment, moment, Rests, IsNamedIn, steps_of, Stands, Advances, Follows, NeedsMore, IsGoing, HasMade, EndsWith}
+use Rattle.ws2s_decide.proofs.FitsLemmas.{none-waits}
 use Rattle.ws2s_decide.proofs.StepsLemmas.{formula-at}
 
 -- ---- from the first task to the last
@@ -23,7 +24,7 @@ module _ (g : Spaces) (formulas : List Formula) where
   Follows-step old middle new follows advances stack out stands =
       let later = follows stack out stands in
       let on = advances later.stack' out later.stands in
-      record { stack' = on.stack'; stands = on.stands; within = λ n within. (on.goes).within n (later.within n within) }
+      record { stack' = on.stack'; stands = on.stands; fits = λ n fits. (on.goes).fits n (later.fits n fits) }
 
   pub IsGoing-follows : (old new : Moment) → Follows g formulas old new → IsGoing g formulas old → IsGoing g formulas new
   IsGoing-follows old new follows going =
@@ -32,9 +33,9 @@ module _ (g : Spaces) (formulas : List Formula) where
 
   pub NeedsMore-follows : (old new : Moment) → Follows g formulas old new → limit_of new.shelf ≡ limit_of old.shelf → NeedsMore g formulas new →
       NeedsMore g formulas old
-  NeedsMore-follows old new follows same needs stack out n stands within =
+  NeedsMore-follows old new follows same needs stack out n stands fits =
       let later = follows stack out stands in
-      subst (λ (limit : ℕ). limit < n) same (needs later.stack' out n later.stands (later.within n within))
+      subst (λ (limit : ℕ). limit < n) same (needs later.stack' out n later.stands (later.fits n fits))
 
   -- where nothing is to be done, the formula's automaton waits alone
   made : (now : Moment) (automata : List AutoView) (stack : List Formula) (out : Formula) → now.automata ≡ automata →
@@ -71,7 +72,7 @@ module _ (g : Spaces) (formulas : List Formula) where
       slice_get formulas id.0 ≡ Some f → Rests g formulas shelf [] kept → HasPeak g f p →
       NeedsMore g formulas (moment shelf (Task.Visit id ∷ []) [] kept) → limit_of shelf < p
   limit-first guide shelf id kept f p there rests peak needs =
-      needs [] f p (Stands-first shelf id kept f there rests) (at, tt) where
+      needs [] f p (Stands-first shelf id kept f there rests) (record { waiting = none-waits g p; within = (at, tt) }) where
         at : (s q : ℕ) → HasSum g [] s → HasPeak g (formula_at formulas id.0) q → s + q ≤ p
         at s q HasSum.none of_q =
             let e = HasPeak-unique g guide f q p (subst (λ (w : Formula). HasPeak g w q) (formula-at formulas id.0 f there) of_q) peak in

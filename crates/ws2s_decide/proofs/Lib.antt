@@ -1,5 +1,7 @@
 pub mod ComplementLemmas
+pub mod CountingLemmas
 pub mod EndsLemmas
+pub mod FitsLemmas
 pub mod KeepingLemmas
 pub mod LastLemmas
 pub mod NeedsLemmas

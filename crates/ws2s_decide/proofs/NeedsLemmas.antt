@@ -14,6 +14,7 @@ use Rattle.ws2s_decide.specs.declared.task.Task.{Task}
 use Rattle.gta_keep.specs.Holding.{Holds, IsMinimalFor, AreMinimalFor, kept_autos, beside, HaveSum, HaveSizes}
 use Rattle.ws2s_theory.specs.Peaks.{HasMinimalSize, HasProductSize, HasSubsetSize, HasPeak}
 use Rattle.ws2s_theory.proofs.SizesLemmas.{HasMinimalSize-exists, HasProductSize-exists, HasSubsetSize-exists}
+use Rattle.ws2s_decide.specs.Counting.{IsInSizes}
 use Rattle.ws2s_decide.specs.Tasks.{Within, HasSum}
 use Rattle.ws2s_decide.specs.Going.{moment, steps_of, NeedsMore}
 use Rattle.ws2s_decide.proofs.SumsLemmas.{HasSum-exists, HaveSum-stack}
@@ -29,17 +30,27 @@ module _ (g : Spaces) (guide : IsGuide g) (formulas : List Formula) where
     waiting-sum autos others stack s holds = HaveSum-stack g guide shelf sizes autos stack s
         (λ a there. holds.each a (Contains-append_left autos others a there))
 
+    -- those that wait have more pairs of child states than there may be nodes
+    pub needs-past : (tasks : List Task) (autos : List AutoView) (kept : List (FormulaId × AutoView)) (pairs : ℕ) → IsInSizes autos pairs →
+        limit_of shelf < pairs → NeedsMore g formulas (moment shelf tasks autos kept)
+    needs-past tasks autos kept pairs counted past stack out n stands fits =
+        let sum = HasSum-exists g guide stack in
+        let have = waiting-sum autos (kept_autos kept) stack sum.0 (stands.rests).holds stands.minimal sum.1 in
+        let most = counted g shelf sum.0 have in
+        let le = fits.waiting sum.0 sum.1 in
+        omega (arith, past, most, le)
+
     -- an atom has no room
     pub needs-atom : (f : Formula) (id : FormulaId) (tasks : List Task) (autos : List AutoView) (kept : List (FormulaId × AutoView)) →
         IsAtom f → slice_get formulas id.0 ≡ Some f →
         ((others : List AutoView) (s n : ℕ) → Holds g shelf (beside [] others kept) → HaveSum g shelf others s → HasMinimalSize g f n →
         limit_of shelf < s + n) →
         NeedsMore g formulas (moment shelf (Task.Visit id ∷ tasks) autos kept)
-    needs-atom f id tasks autos kept atom there limit stack out n stands within =
+    needs-atom f id tasks autos kept atom there limit stack out n stands fits =
         let sum = HasSum-exists g guide stack in
         let size = HasMinimalSize-exists g guide f in
         let peak = subst (λ (w : Formula). HasPeak g w size.0) (sym (formula-at formulas id.0 f there)) (HasPeak-atom g f atom size.0 size.1) in
-        let le = within.0 sum.0 size.0 sum.1 peak in
+        let le = (fits.within).0 sum.0 size.0 sum.1 peak in
         let lt = limit autos sum.0 size.0 (stands.rests).holds
         (waiting-sum autos (kept_autos kept) stack sum.0 (stands.rests).holds stands.minimal sum.1) size.1 in
         omega (arith, le, lt)
@@ -51,7 +62,7 @@ module _ (g : Spaces) (guide : IsGuide g) (formulas : List Formula) where
         HasMinimalSize g f n → HasMinimalSize g h m → HasProductSize g f h p → HasMinimalSize g (And f h) r →
         limit_of shelf < s + (n + m + p + r)) →
         NeedsMore g formulas (moment shelf (Task.Conjoin id ∷ tasks) (b ∷ a ∷ rest) kept)
-    needs-conjoin id tasks a b rest kept limit stack out n stands within =
+    needs-conjoin id tasks a b rest kept limit stack out n stands fits =
         let last = last-two g formulas shelf id tasks a b rest stack out stands.minimal stands.makes in
         let holds = Holds-swap g shelf a b (rest ++ kept_autos kept) (stands.rests).holds in
         let sum = HasSum-exists g guide last.below in
@@ -59,7 +70,7 @@ module _ (g : Spaces) (guide : IsGuide g) (formulas : List Formula) where
         let second = HasMinimalSize-exists g guide last.right in
         let product = HasProductSize-exists g guide last.left last.right in
         let result = HasMinimalSize-exists g guide (And last.left last.right) in
-        let within' = subst (λ (s : List Formula). Within g n (steps_of formulas (Task.Conjoin id ∷ tasks)) s) last.is within in
+        let within' = subst (λ (s : List Formula). Within g n (steps_of formulas (Task.Conjoin id ∷ tasks)) s) last.is fits.within in
         let le = within'.0 sum.0 first.0 second.0 product.0 result.0 sum.1 first.1 second.1 product.1 result.1 in
         let each = λ (x : AutoView) (there : Contains rest x). holds.each x
         (Contains-later a x (b ∷ rest ++ kept_autos kept) (Contains-later b x (rest ++ kept_autos kept)
@@ -76,14 +87,14 @@ module _ (g : Spaces) (guide : IsGuide g) (formulas : List Formula) where
         IsMinimalFor g shelf a f → HaveSum g shelf others s →
         HasMinimalSize g f n → HasSubsetSize g t f p → HasMinimalSize g (Ex2 t f) r → limit_of shelf < s + (n + p + r)) →
         NeedsMore g formulas (moment shelf (Task.Quantify t id ∷ tasks) (a ∷ rest) kept)
-    needs-quantify t id tasks a rest kept limit stack out n stands within =
+    needs-quantify t id tasks a rest kept limit stack out n stands fits =
         let last = last-one g formulas shelf t id tasks a rest stack out stands.minimal stands.makes in
         let holds = (stands.rests).holds in
         let sum = HasSum-exists g guide last.below in
         let part = HasMinimalSize-exists g guide last.part in
         let subset = HasSubsetSize-exists g guide t last.part in
         let result = HasMinimalSize-exists g guide (Ex2 t last.part) in
-        let within' = subst (λ (s : List Formula). Within g n (steps_of formulas (Task.Quantify t id ∷ tasks)) s) last.is within in
+        let within' = subst (λ (s : List Formula). Within g n (steps_of formulas (Task.Quantify t id ∷ tasks)) s) last.is fits.within in
         let le = within'.0 sum.0 part.0 subset.0 result.0 sum.1 part.1 subset.1 result.1 in
         let each = λ (x : AutoView) (there : Contains rest x). holds.each x
         (Contains-later a x (rest ++ kept_autos kept) (Contains-append_left rest (kept_autos kept) x there)) in

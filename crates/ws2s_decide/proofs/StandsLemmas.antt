@@ -129,7 +129,7 @@ module _ (g : Spaces) (guide : IsGuide g) (formulas : List Formula) where
           };
           goes = subst (λ (s : List Formula). GoesOn g (steps_of formulas (Task.Conjoin id ∷ tasks)) s (steps_of formulas tasks)
               (formula_at formulas id.0 ∷ last.below)) (sym last.is)
-              (goes-conjoin g guide (formula_at formulas id.0) last.left last.right (steps_of formulas tasks) last.below);
+              (goes-conjoin g guide (formula_at formulas id.0) last.left last.right (steps_of formulas tasks) last.below last.whole);
         }
 
     -- the track of the last one was dropped
@@ -152,5 +152,5 @@ module _ (g : Spaces) (guide : IsGuide g) (formulas : List Formula) where
           };
           goes = subst (λ (s : List Formula). GoesOn g (steps_of formulas (Task.Quantify t id ∷ tasks)) s (steps_of formulas tasks)
               (formula_at formulas id.0 ∷ last.below)) (sym last.is)
-              (goes-quantify g guide t (formula_at formulas id.0) last.part (steps_of formulas tasks) last.below);
+              (goes-quantify g guide t (formula_at formulas id.0) last.part (steps_of formulas tasks) last.below last.whole);
         }

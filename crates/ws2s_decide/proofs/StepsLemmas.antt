@@ -19,6 +19,7 @@ use Rattle.ws2s_theory.proofs.PeaksLemmas.{HasPeak-Sub, HasPeak-Single, HasPeak-
 use Rattle.ws2s_decide.specs.declared.task.Task.{Task}
 use Rattle.ws2s_decide.specs.Tasks.{Step, visit, negate, conjoin, quantify, Makes, IsCompound, tasks_for}
 use Rattle.ws2s_decide.specs.Going.{GoesOn, IsNamedIn, steps_of}
+use Rattle.ws2s_decide.proofs.FitsLemmas.{fits-visit, fits-negate, fits-conjoin, fits-quantify}
 use Rattle.ws2s_decide.proofs.TasksLemmas.{fewer-And, fewer-Not, fewer-Ex2, within-And, within-Not, within-Ex2}
 
 pub formula-at : (formulas : List Formula) (k : ℕ) (f : Formula) → slice_get formulas k ≡ Some f → formula_at formulas k ≡ f
@@ -48,38 +49,38 @@ module _ (g : Spaces) (guide : IsGuide g) where
   pub goes-visit : (f : Formula) (steps : List Step) (stack : List Formula) → GoesOn g (visit f ∷ steps) stack steps (f ∷ stack)
   goes-visit f steps stack = record {
     fewer = (let some = node_count-some f in omega arith);
-    within = λ n within. within.1;
+    fits = λ n. fits-visit g guide n steps stack f;
   }
 
   pub goes-negate : (f : Formula) (steps : List Step) (stack : List Formula) → GoesOn g (negate ∷ steps) (f ∷ stack) steps (Not f ∷ stack)
-  goes-negate f steps stack = record { fewer = omega arith; within = λ n within. within }
+  goes-negate f steps stack = record { fewer = omega arith; fits = λ n. fits-negate g guide n steps stack f }
 
-  pub goes-conjoin : (whole f h : Formula) (steps : List Step) (stack : List Formula) →
+  pub goes-conjoin : (whole f h : Formula) (steps : List Step) (stack : List Formula) → whole ≡ And f h →
       GoesOn g (conjoin whole ∷ steps) (h ∷ f ∷ stack) steps (whole ∷ stack)
-  goes-conjoin whole f h steps stack = record { fewer = omega arith; within = λ n within. within.1 }
+  goes-conjoin whole f h steps stack is = record { fewer = omega arith; fits = λ n. fits-conjoin g guide n steps stack whole f h is }
 
-  pub goes-quantify : (t : Track) (whole f : Formula) (steps : List Step) (stack : List Formula) →
+  pub goes-quantify : (t : Track) (whole f : Formula) (steps : List Step) (stack : List Formula) → whole ≡ Ex2 t f →
       GoesOn g (quantify t whole ∷ steps) (f ∷ stack) steps (whole ∷ stack)
-  goes-quantify t whole f steps stack = record { fewer = omega arith; within = λ n within. within.1 }
+  goes-quantify t whole f steps stack is = record { fewer = omega arith; fits = λ n. fits-quantify g guide n steps stack t whole f is }
 
   -- a visit is taken apart
   goes-And : (whole f h : Formula) (steps : List Step) (stack : List Formula) → whole ≡ And f h →
       GoesOn g (visit whole ∷ steps) stack (visit f ∷ visit h ∷ conjoin whole ∷ steps) stack
   goes-And whole f h steps stack is =
       subst (λ (w : Formula). GoesOn g (visit w ∷ steps) stack (visit f ∷ visit h ∷ conjoin w ∷ steps) stack) (sym is)
-      (record { fewer = fewer-And f h steps; within = λ n. within-And g guide n f h steps stack })
+      (record { fewer = fewer-And f h steps; fits = λ n fits. record { waiting = fits.waiting; within = within-And g guide n f h steps stack fits.within } })
 
   goes-Not : (whole f : Formula) (steps : List Step) (stack : List Formula) → whole ≡ Not f →
       GoesOn g (visit whole ∷ steps) stack (visit f ∷ negate ∷ steps) stack
   goes-Not whole f steps stack is =
       subst (λ (w : Formula). GoesOn g (visit w ∷ steps) stack (visit f ∷ negate ∷ steps) stack) (sym is)
-      (record { fewer = fewer-Not f steps; within = λ n. within-Not g guide n f steps stack })
+      (record { fewer = fewer-Not f steps; fits = λ n fits. record { waiting = fits.waiting; within = within-Not g guide n f steps stack fits.within } })
 
   goes-Ex2 : (t : Track) (whole f : Formula) (steps : List Step) (stack : List Formula) → whole ≡ Ex2 t f →
       GoesOn g (visit whole ∷ steps) stack (visit f ∷ quantify t whole ∷ steps) stack
   goes-Ex2 t whole f steps stack is =
       subst (λ (w : Formula). GoesOn g (visit w ∷ steps) stack (visit f ∷ quantify t w ∷ steps) stack) (sym is)
-      (record { fewer = fewer-Ex2 t f steps; within = λ n. within-Ex2 g guide n t f steps stack })
+      (record { fewer = fewer-Ex2 t f steps; fits = λ n fits. record { waiting = fits.waiting; within = within-Ex2 g guide n t f steps stack fits.within } })
 
   -- the tasks for a formula that is no atom: they make the same, name formulas that are there, and go on
   pub record Apart (formulas : List Formula) (id : FormulaId) (tasks tasks' : List Task) (stack : List Formula) (out : Formula) : Type 0 where

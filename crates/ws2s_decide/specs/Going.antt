@@ -9,7 +9,7 @@ use Rattle.ws2s_core.specs.declared.node.FormulaId.{FormulaId}
 use Rattle.ws2s_decide.specs.declared.task.Task.{Task}
 use Rattle.gta_keep.specs.Holding.{Holds, IsMinimalFor, AreMinimalFor, beside}
 use Rattle.ws2s_decide.specs.Keeping.{IsKept}
-use Rattle.ws2s_decide.specs.Tasks.{Step, step_of, Makes, Within, steps_left}
+use Rattle.ws2s_decide.specs.Tasks.{Step, step_of, Makes, Fits, steps_left}
 
 -- what there is at a moment: a shelf, the tasks that are still to be done, the automata that wait, and those that are kept
 pub record Moment : Type 0 where
@@ -52,10 +52,10 @@ pub record IsGoing (g : Spaces) (formulas : List Formula) (now : Moment) : Type 
   pub out : Formula
   pub stands : Stands g formulas now stack out
 
--- with fewer steps to come, none of which needs more than those before
+-- with fewer steps to come, and no more is needed than before
 pub record GoesOn (g : Spaces) (steps : List Step) (stack : List Formula) (steps' : List Step) (stack' : List Formula) : Type 0 where
   pub fewer : steps_left steps' < steps_left steps
-  pub within : (n : ℕ) → Within g n steps stack → Within g n steps' stack'
+  pub fits : (n : ℕ) → Fits g n steps stack → Fits g n steps' stack'
 
 -- it stands for the formula with some stack, further on than with those tasks and that stack
 pub record StandsOn (g : Spaces) (formulas : List Formula) (tasks : List Task) (stack : List Formula) (now : Moment)
@@ -74,17 +74,17 @@ pub record StandsLater (g : Spaces) (formulas : List Formula) (tasks : List Task
     (out : Formula) : Type 0 where
   pub stack' : List Formula
   pub stands : Stands g formulas now stack' out
-  pub within : (n : ℕ) → Within g n (steps_of formulas tasks) stack → Within g n (steps_of formulas now.tasks) stack'
+  pub fits : (n : ℕ) → Fits g n (steps_of formulas tasks) stack → Fits g n (steps_of formulas now.tasks) stack'
 
 -- whatever it stood for, it stands for, and needs no more
 abbrev pub Follows : Spaces → List Formula → Moment → Moment → Type 0
 Follows g formulas old new = (stack : List Formula) (out : Formula) → Stands g formulas old stack out →
     StandsLater g formulas old.tasks stack new out
 
--- the steps to come need more than the shelf's limit: there is no bound within it
+-- the automata that wait, or the steps to come, need more than the shelf's limit: there is no bound within it
 abbrev pub NeedsMore : Spaces → List Formula → Moment → Type 0
 NeedsMore g formulas now = (stack : List Formula) (out : Formula) (n : ℕ) → Stands g formulas now stack out →
-    Within g n (steps_of formulas now.tasks) stack → limit_of now.shelf < n
+    Fits g n (steps_of formulas now.tasks) stack → limit_of now.shelf < n
 
 -- the formula's automaton waits alone, and nothing is to be done
 pub record HasMade (g : Spaces) (formulas : List Formula) (now : Moment) (out : Formula) : Type 0 where

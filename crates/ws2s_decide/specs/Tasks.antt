@@ -91,3 +91,8 @@ Within g n (conjoin whole ∷ steps) (h ∷ []) = Unit {0}
 Within g n (conjoin whole ∷ steps) (h ∷ (f ∷ stack)) = ConjoinsWithin g n stack f h × Within g n steps (whole ∷ stack)
 Within g n (quantify t whole ∷ steps) [] = Unit {0}
 Within g n (quantify t whole ∷ steps) (f ∷ stack) = QuantifiesWithin g n stack t f × Within g n steps (whole ∷ stack)
+
+-- no more than n is needed: not for the automata of the stack together, and on the way no step needs more
+pub record Fits (g : Spaces) (n : ℕ) (steps : List Step) (stack : List Formula) : Type 0 where
+  pub waiting : (s : ℕ) → HasSum g stack s → s ≤ n
+  pub within : Within g n steps stack

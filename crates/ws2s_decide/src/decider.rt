@@ -25,6 +25,8 @@ pub struct Decider {
     interner: Interner,
     /// Automata of formulas, by their numbers.
     kept: Kept,
+    /// Whether it is used once.
+    once: bool,
 }
 
 impl Decider {
@@ -41,6 +43,7 @@ impl Decider {
             guide,
             interner: Interner::new(alloc),
             kept: Kept::new(alloc)?,
+            once: false,
         })
     }
 
@@ -80,6 +83,7 @@ impl Decider {
             &self.guide,
             &mut self.interner,
             id,
+            self.once,
             weigh,
             &mut self.kept,
             shelf,
@@ -99,6 +103,7 @@ impl Decider {
             guide,
             interner,
             mut kept,
+            once: _,
         } = self;
         drop(guide);
         drop(interner);
@@ -137,6 +142,7 @@ pub fn decide(
     let _ = shelf.count();
     let guide = copy_of(alloc, g)?;
     let mut decider = Decider::new(alloc, guide)?;
+    decider.once = true;
     let verdict = decider.decide(alloc, f, weigh, shelf);
     decider.close(shelf);
     verdict

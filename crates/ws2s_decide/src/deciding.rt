@@ -14,6 +14,7 @@ ghost use Rattle.ws2s_decide.specs.Deciding.{IsVerdict};
 
 use crate::machine::automaton_of;
 use crate::verdict::Verdict;
+use crate::way::Way;
 use bdd_nodes::Shelf;
 use bdd_walk::{NoMemory, Stop};
 use gta_core::{Auto, release};
@@ -32,6 +33,7 @@ pub(crate) fn verdict_of(
     g: &Guide,
     interner: &Interner,
     id: FormulaId,
+    way: Way,
     weigh: &TrackList,
     kept: &mut Kept,
     shelf: &mut Shelf,
@@ -45,7 +47,7 @@ pub(crate) fn verdict_of(
     ensures rests { Rests g.now interner.now shelf.new [] kept.new }
     ensures same_limit { limit_of shelf.new ≡ limit_of shelf.old }
 {
-    match automaton_of(alloc, g, interner, id, kept, shelf) {
+    match automaton_of(alloc, g, interner, id, way, kept, shelf) {
         Ok(auto) => verdict_by(alloc, g, auto, weigh, shelf),
         Err(Stop::Limit) => Ok(Verdict::Limit),
         Err(Stop::NoMemory) => Err(AllocError),

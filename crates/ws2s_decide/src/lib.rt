@@ -10,9 +10,11 @@ mod deciding;
 mod machine;
 mod making;
 mod task;
+mod uses;
 mod verdict;
 mod visiting;
 mod waiting;
+mod way;
 mod ways;
 
 pub use decider::{Decider, decide};

@@ -11,10 +11,12 @@ ghost use Rattle.ws2s_decide.specs.Going.{moment, Rests, IsGoing, Advances, Ends
 
 use crate::making::{make_conjunction, make_negation, make_quantified};
 use crate::task::Task;
+use crate::uses::Uses;
 use crate::visiting::visit;
 use crate::waiting::Waiting;
+use crate::way::Way;
 use bdd_nodes::Shelf;
-use bdd_walk::Stop;
+use bdd_walk::{NoMemory, Stop};
 use gta_core::Auto;
 use gta_keep::Kept;
 use plain_data::Stack;
@@ -26,6 +28,8 @@ use ws2s_core::{FormulaId, Guide, Interner};
 pub(crate) struct Machine {
     pub(crate) tasks: Stack<Task>,
     pub(crate) automata: Waiting,
+    /// How often formulas still come, where no other formula is decided afterwards.
+    pub(crate) uses: Option<Uses>,
 }
 
 /// Does a task.
@@ -55,11 +59,13 @@ fn step(
     }
 }
 
-/// Does all tasks.
+/// Does all tasks. As the formula stands a limit is answered as soon as those that wait have more pairs of child states than
+/// there may be nodes.
 fn run(
     alloc: Global,
     g: &Guide,
     interner: &Interner,
+    way: Way,
     machine: &mut Machine,
     kept: &mut Kept,
     shelf: &mut Shelf,
@@ -75,6 +81,9 @@ fn run(
 {
     while let Some(task) = machine.tasks.pop() {
         step(alloc, g, interner, task, machine, kept, shelf)?;
+        if way.stops_early && machine.automata.pairs() > u64::from(shelf.limit()) {
+            return Err(Stop::Limit);
+        }
     }
     Ok(())
 }
@@ -89,6 +98,7 @@ pub(crate) fn automaton_of(
     g: &Guide,
     interner: &Interner,
     id: FormulaId,
+    way: Way,
     kept: &mut Kept,
     shelf: &mut Shelf,
 ) -> Result<Auto, Stop>
@@ -105,9 +115,10 @@ pub(crate) fn automaton_of(
     let mut machine = Machine {
         tasks: Stack::new(alloc),
         automata: Waiting::new(alloc),
+        uses: uses_of(alloc, interner, id, way)?,
     };
     machine.tasks.push(Task::Visit(id))?;
-    let ended = run(alloc, g, interner, &mut machine, kept, shelf);
+    let ended = run(alloc, g, interner, way, &mut machine, kept, shelf);
     let last = match ended {
         Ok(()) => Ok(machine.automata.pop().unwrap()),
         Err(stop) => {
@@ -117,4 +128,18 @@ pub(crate) fn automaton_of(
     };
     drop(machine);
     last
+}
+
+/// How often formulas come on the way to the automaton of the formula, where no other is decided afterwards.
+fn uses_of(
+    alloc: Global,
+    interner: &Interner,
+    id: FormulaId,
+    way: Way,
+) -> Result<Option<Uses>, NoMemory> {
+    if way.once {
+        Ok(Some(Uses::new(alloc, interner, id)?))
+    } else {
+        Ok(None)
+    }
 }

@@ -1,14 +1,16 @@
 //! What is made of the automata that wait last.
 
-ghost use Rattle.std.specs.Prelude.{◌≡◌, ◌<◌, ◌∷◌, List, Some, Err, OnOk, OnErr, slice_get};
+ghost use Rattle.std.specs.Prelude.{◌≡◌, ◌<◌, [], ◌∷◌, List, Some, Err, OnOk, OnErr, slice_get};
 ghost use Rattle.bdd_nodes.specs.Shelf.{limit_of};
 ghost use Rattle.gta_theory.specs.Guides.{Spaces, IsGuide};
 ghost use Rattle.ws2s_core.specs.declared.formula.Formula.{Formula};
 ghost use Rattle.ws2s_decide.specs.declared.task.Task.TheVariants as task;
-ghost use Rattle.gta_keep.specs.Holding.{IsMinimalFor};
+ghost use Rattle.gta_core.specs.Auto.{IsAuto};
+ghost use Rattle.gta_keep.specs.Holding.{HoldsBeside, IsMinimalFor, TakesIn};
 ghost use Rattle.ws2s_decide.specs.Going.{moment, Rests, IsGoing, Advances, KeepsTables, NeedsMore};
 
 use crate::machine::Machine;
+use crate::uses::{Uses, may_come};
 use bdd_nodes::Shelf;
 use bdd_walk::{NoMemory, Stop};
 use gta_core::Auto;
@@ -91,7 +93,7 @@ pub(crate) fn make_quantified(
     Ok(())
 }
 
-/// The automaton of the formula with the number comes to wait, and a copy of it is kept.
+/// The automaton of the formula with the number comes to wait, and a copy of it is kept where it may come again.
 ///
 /// # Errors
 ///
@@ -114,7 +116,30 @@ fn come(
     ensures tasks { machine.new.tasks ≡ machine.old.tasks }
     ensures same_limit { limit_of shelf.new ≡ limit_of shelf.old }
 {
-    let keeping = kept.keep(alloc, id, &auto, shelf);
+    let keeping = keep(alloc, id, &auto, &machine.uses, kept, shelf);
     machine.automata.push(auto, shelf)?;
     keeping
+}
+
+/// A copy of the automaton is kept for the formula where it may come again.
+///
+/// # Errors
+///
+/// Want of memory. What was kept is kept.
+fn keep(
+    alloc: Global,
+    id: FormulaId,
+    auto: &Auto,
+    uses: &Option<Uses>,
+    kept: &mut Kept,
+    shelf: &mut Shelf,
+) -> Result<(), NoMemory>
+    requires { (g : Spaces) × HoldsBeside g shelf.old (auto.now ∷ []) kept.old }
+    ensures { (g : Spaces) → IsAuto g shelf.old auto.now → TakesIn g shelf.old shelf.new id auto.now kept.old kept.new }
+{
+    if may_come(id, uses) {
+        kept.keep(alloc, id, auto, shelf)
+    } else {
+        Ok(())
+    }
 }

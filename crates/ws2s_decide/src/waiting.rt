@@ -6,11 +6,13 @@ ghost use Rattle.bdd_nodes.specs.Changes.{DropsTable};
 ghost use Rattle.gta_theory.specs.Guides.{Spaces};
 ghost use Rattle.gta_core.specs.Auto.{AutoView};
 ghost use Rattle.gta_keep.specs.Holding.{Holds};
+ghost use Rattle.ws2s_decide.specs.Counting.{IsInSizes};
 ghost use Rattle.ws2s_decide.specs.Going.{Releases};
 
 use bdd_nodes::Shelf;
 use bdd_walk::NoMemory;
 use gta_core::{Auto, release};
+use gta_keep::pairs_of;
 use std::alloc::{AllocError, Global};
 use std::marker::Model;
 
@@ -18,16 +20,20 @@ use std::marker::Model;
 /// they are released before they are dropped.
 #[derive(Drop)]
 pub(crate) struct Waiting {
-    held: Vec<Auto>,
+    /// The last one last, each with the pairs of child states that it and those before it have together.
+    held: Vec<(Auto, u64)>,
 }
 
 impl Model for Waiting {
-    ghost use Rattle.std.specs.Prelude.{List, reverse};
+    ghost use Rattle.std.specs.Prelude.{List, map, reverse};
     ghost use Rattle.gta_core.specs.Auto.{AutoView};
+    ghost use Rattle.ws2s_decide.specs.Counting.{AreCounted};
 
     ghost Value = { List AutoView };
 
-    ghost view = { λ waiting. reverse waiting.held.items };
+    ghost view = { λ waiting. map (λ one. one.0) (reverse waiting.held.items) };
+
+    ghost invariant = { λ waiting. AreCounted (reverse waiting.held.items) };
 }
 
 impl Waiting {
@@ -53,10 +59,12 @@ impl Waiting {
         ensures dropped { OnErr result (DropsTable shelf.old shelf.new auto.table) }
         ensures shelf { OnErr result (IsShelf shelf.new) }
     {
-        match self.held.push(auto) {
+        let pairs = self.pairs().saturating_add(pairs_of(&auto));
+        match self.held.push((auto, pairs)) {
             Ok(()) => Ok(()),
             Err(refused) => {
-                release(refused.value, shelf);
+                let (auto, _) = refused.value;
+                release(auto, shelf);
                 Err(AllocError)
             }
         }
@@ -66,7 +74,19 @@ impl Waiting {
     pub(crate) fn pop(&mut self) -> Option<Auto>
         ensures { MatchOption result ((self.old ≡ []) × (self.new ≡ [])) (λ first. self.old ≡ first ∷ self.new) }
     {
-        self.held.pop()
+        let (auto, _) = self.held.pop()?;
+        Some(auto)
+    }
+
+    /// How many pairs of child states the automata have together, or the greatest number where there are more. Their Sizes
+    /// count each of them. Takes no memory.
+    pub(crate) fn pairs(&self) -> u64
+        ensures { IsInSizes self.now result }
+    {
+        match self.held.last() {
+            Some((_, pairs)) => *pairs,
+            None => 0,
+        }
     }
 
     /// Releases all of them. Takes no memory.

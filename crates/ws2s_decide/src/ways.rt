@@ -13,6 +13,7 @@ ghost use Rattle.ws2s_decide.specs.Deciding.{IsVerdict};
 
 use crate::deciding::verdict_of;
 use crate::verdict::Verdict;
+use crate::way::Way;
 use bdd_nodes::Shelf;
 use bdd_walk::NoMemory;
 use gta_keep::Kept;
@@ -52,6 +53,7 @@ pub(crate) fn decide_number(
     g: &Guide,
     interner: &mut Interner,
     id: FormulaId,
+    once: bool,
     weigh: &TrackList,
     kept: &mut Kept,
     shelf: &mut Shelf,
@@ -65,13 +67,21 @@ pub(crate) fn decide_number(
     ensures rests { Rests g.now interner.new shelf.new [] kept.new }
     ensures same_limit { limit_of shelf.new ≡ limit_of shelf.old }
 {
+    let as_it_stands = Way {
+        stops_early: true,
+        once,
+    };
+    let easier_one = Way {
+        stops_early: false,
+        once,
+    };
     let made = easier(alloc, interner, id, weigh)?;
     if made == id {
-        return verdict_of(alloc, g, interner, id, weigh, kept, shelf);
+        return verdict_of(alloc, g, interner, id, as_it_stands, weigh, kept, shelf);
     }
-    let first = verdict_of(alloc, g, interner, made, weigh, kept, shelf)?;
+    let first = verdict_of(alloc, g, interner, made, easier_one, weigh, kept, shelf)?;
     match first {
-        Verdict::Limit => verdict_of(alloc, g, interner, id, weigh, kept, shelf),
+        Verdict::Limit => verdict_of(alloc, g, interner, id, as_it_stands, weigh, kept, shelf),
         found => Ok(found),
     }
 }

@@ -1,8 +1,11 @@
-use Rattle.std.proofs.Common.{◌<◌, List, ◌∷◌, sym, ◌∙◌, subst}
+use Rattle.std.proofs.Common.{◌<◌, List, ◌∷◌, sym, ◌∙◌, subst, arith}
+use Rattle.bdd_nodes.specs.Shelf.{limit_of}
+use Rattle.gta_keep.proofs.AutoSizesLemmas.{HaveSizes-shelf}
 use Rattle.ws2s_decide.specs.declared.task.Task.{Task}
 use Rattle.ws2s_decide.specs.Tasks.{steps_left}
 use Rattle.ws2s_decide.specs.Going.{moment, steps_of, IsGoing, Follows}
 use Rattle.ws2s_decide.proofs.EndsLemmas.{IsGoing-follows, Follows-step, NeedsMore-follows, ends}
+use Rattle.ws2s_decide.proofs.NeedsLemmas.{needs-past}
 use Rattle.ws2s_decide.proofs.machine.run.Goals as goal
 
 pub step-requires-clause-going : goal.step-requires-clause-going
@@ -52,3 +55,31 @@ returns-clause-ok c =
     ends c.args.g.now c.args.interner.now old (moment l.shelf c.pop.new.self l.machine.automata l.kept) c.in_default.ensures.1
     (subst (λ (tasks : List Task). Follows c.args.g.now c.args.interner.now old (moment l.shelf tasks l.machine.automata l.kept))
     (c.in_default.ensures.0 ∙ sym c.in_default.ensures.1) l.invariant.follows)
+
+pub returns-then-pairs-from-clause-err : goal.returns-then-pairs-from-clause-err
+returns-then-pairs-from-clause-err c =
+    let l = c.loop-task in
+    let going = subst (λ (tasks : List Task). IsGoing c.args.g.now c.args.interner.now (moment l.shelf tasks l.machine.automata l.kept)) c.in-Some.ensures
+    (IsGoing-follows c.args.g.now c.args.interner.now
+    (moment c.args.shelf.now c.args.machine.now.tasks c.args.machine.now.automata c.args.kept.now)
+    (moment l.shelf l.machine.tasks l.machine.automata l.kept) l.invariant.follows c.requires.going) in
+    let on = c.in_ok-step.ensures.ok going.stack going.out going.stands in
+    on.stands.rests
+
+pub returns-then-pairs-from-clause-limit : goal.returns-then-pairs-from-clause-limit
+returns-then-pairs-from-clause-limit c = λ stopped.
+    let l = c.loop-task in
+    let g = c.args.g.now in
+    let formulas = c.args.interner.now in
+    let old = moment c.args.shelf.now c.args.machine.now.tasks c.args.machine.now.automata c.args.kept.now in
+    let new = c.step.new in
+    let follows = Follows-step g formulas old (moment l.shelf (c.in-Some.task ∷ c.pop.new.self) l.machine.automata l.kept)
+    (moment new.shelf new.machine.tasks new.machine.automata new.kept)
+    (subst (λ (tasks : List Task). Follows g formulas old (moment l.shelf tasks l.machine.automata l.kept)) c.in-Some.ensures l.invariant.follows)
+    c.in_ok-step.ensures.ok in
+    let past : limit_of new.shelf < c.pairs.result =
+    (let more = c.if-pairs-from.true in let limit = c.limit.ensures.value in let from = c.from.ensures in omega (arith, more, limit, from)) in
+    NeedsMore-follows g formulas old (moment new.shelf new.machine.tasks new.machine.automata new.kept) follows
+    (c.step.ensures.same_limit ∙ l.invariant.limit)
+    (needs-past g c.requires.guide formulas new.shelf (HaveSizes-shelf g new.shelf c.limit.ensures.shelf) new.machine.tasks new.machine.automata new.kept
+    c.pairs.result c.pairs.ensures past)

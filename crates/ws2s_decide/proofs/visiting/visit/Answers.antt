@@ -13,7 +13,7 @@ use Rattle.ws2s_decide.proofs.visiting.visit.Goals as goal
 
 pub returns-in_err-copy-clause-err : goal.returns-in_err-copy-clause-err
 returns-in_err-copy-clause-err c = on_err _ c.from_residual.result
-    (Rests-passed c.args.g.now c.args.interner.now c.args.shelf.now c.copy_of.new.shelf c.args.machine.now.automata c.args.kept.now c.copy_of.new.self
+    (Rests-passed c.args.g.now c.args.interner.now c.args.shelf.now c.find.new.shelf c.args.machine.now.automata c.args.kept.now c.find.new.kept
     (c.in_err-copy.ensures.err c.args.g.now) c.requires.going.stands.rests)
 
 pub returns-in_err-copy-clause-same_limit : goal.returns-in_err-copy-clause-same_limit
@@ -22,20 +22,20 @@ returns-in_err-copy-clause-same_limit c = (c.in_err-copy.ensures.err c.args.g.no
 pub push-requires : goal.push-requires
 push-requires c =
     let passes = (rw c.in-Some.is at c.in_ok-copy.ensures.ok) c.args.g.now in
-    let rests = Rests-come c.args.g.now c.args.interner.now c.args.shelf.now c.copy_of.new.shelf c.in-Some.copy c.args.machine.now.automata
-    c.args.kept.now c.copy_of.new.self passes c.requires.going.stands.rests in
-    Holds-registered c.args.g.now c.copy_of.new.shelf (c.in-Some.copy ∷ (c.args.machine.now.automata ++ kept_autos c.copy_of.new.self)) rests.holds
-    c.in-Some.copy (Contains-first c.in-Some.copy (c.args.machine.now.automata ++ kept_autos c.copy_of.new.self))
+    let rests = Rests-come c.args.g.now c.args.interner.now c.args.shelf.now c.find.new.shelf c.in-Some.copy c.args.machine.now.automata
+    c.args.kept.now c.find.new.kept passes c.requires.going.stands.rests in
+    Holds-registered c.args.g.now c.find.new.shelf (c.in-Some.copy ∷ (c.args.machine.now.automata ++ kept_autos c.find.new.kept)) rests.holds
+    c.in-Some.copy (Contains-first c.in-Some.copy (c.args.machine.now.automata ++ kept_autos c.find.new.kept))
 
 pub returns-in_err-push-in-Some-clause-err : goal.returns-in_err-push-in-Some-clause-err
 returns-in_err-push-in-Some-clause-err c =
     let passes = (rw c.in-Some.is at c.in_ok-copy.ensures.ok) c.args.g.now in
-    let rests = Rests-come c.args.g.now c.args.interner.now c.args.shelf.now c.copy_of.new.shelf c.in-Some.copy c.args.machine.now.automata
-    c.args.kept.now c.copy_of.new.self passes c.requires.going.stands.rests in
+    let rests = Rests-come c.args.g.now c.args.interner.now c.args.shelf.now c.find.new.shelf c.in-Some.copy c.args.machine.now.automata
+    c.args.kept.now c.find.new.kept passes c.requires.going.stands.rests in
     on_err _ c.from_residual-in_err-push-in-Some.result
-    (subst (λ (xs : List AutoView). Rests c.args.g.now c.args.interner.now c.push.new.shelf xs c.copy_of.new.self) (sym c.in_err-push-in-Some.ensures.err)
-    (Rests-release c.args.g.now c.args.interner.now c.copy_of.new.shelf c.push.new.shelf c.in-Some.copy c.args.machine.now.automata
-    c.copy_of.new.self rests c.in_err-push-in-Some.ensures.shelf c.in_err-push-in-Some.ensures.dropped))
+    (subst (λ (xs : List AutoView). Rests c.args.g.now c.args.interner.now c.push.new.shelf xs c.find.new.kept) (sym c.in_err-push-in-Some.ensures.err)
+    (Rests-release c.args.g.now c.args.interner.now c.find.new.shelf c.push.new.shelf c.in-Some.copy c.args.machine.now.automata
+    c.find.new.kept rests c.in_err-push-in-Some.ensures.shelf c.in_err-push-in-Some.ensures.dropped))
 
 pub returns-in_err-push-in-Some-clause-same_limit : goal.returns-in_err-push-in-Some-clause-same_limit
 returns-in_err-push-in-Some-clause-same_limit c =
@@ -49,8 +49,8 @@ visit_anew-requires-clause-going c =
     record {
       stack = going.stack;
       out = going.out;
-      stands = Stands-passed c.args.g.now c.args.interner.now c.args.shelf.now c.copy_of.new.shelf (Task.Visit c.args.id ∷ c.args.machine.now.tasks)
-          c.args.machine.now.automata c.args.kept.now c.copy_of.new.self passes going.stack going.out going.stands;
+      stands = Stands-passed c.args.g.now c.args.interner.now c.args.shelf.now c.find.new.shelf (Task.Visit c.args.id ∷ c.args.machine.now.tasks)
+          c.args.machine.now.automata c.args.kept.now c.find.new.kept passes going.stack going.out going.stands;
     }
 
 pub returns-in_ok-push-in-Some-clause-ok : goal.returns-in_ok-push-in-Some-clause-ok
@@ -59,15 +59,15 @@ returns-in_ok-push-in-Some-clause-ok c = λ stack out stands.
     let formulas = c.args.interner.now in
     let tasks = c.args.machine.now.tasks in
     let autos = c.args.machine.now.automata in
-    let kept = c.copy_of.new.self in
+    let kept = c.find.new.kept in
     let passes = (rw c.in-Some.is at c.in_ok-copy.ensures.ok) g in
     let found = rw c.in-Some.is at c.in_ok-copy.ensures.found in
     subst (λ (xs : List AutoView). StandsOn g formulas (Task.Visit c.args.id ∷ tasks) stack (moment c.push.new.shelf tasks xs kept) out)
     (sym c.in_ok-push-in-Some.ensures.ok)
     (subst (λ (now : Contents). StandsOn g formulas (Task.Visit c.args.id ∷ tasks) stack (moment now tasks (c.in-Some.copy ∷ autos) kept) out)
     (sym c.in_ok-push-in-Some.ensures.same)
-    (StandsOn-come g formulas c.args.shelf.now c.copy_of.new.shelf c.requires.guide c.in-Some.copy c.args.id tasks autos c.args.kept.now kept passes
-    (minimal-found g formulas c.args.shelf.now c.copy_of.new.shelf c.args.id c.in-Some.copy c.args.kept.now stands.rests.kept_for found)
+    (StandsOn-come g formulas c.args.shelf.now c.find.new.shelf c.requires.guide c.in-Some.copy c.args.id tasks autos c.args.kept.now kept passes
+    (minimal-found g formulas c.args.shelf.now c.find.new.shelf c.args.id c.in-Some.copy c.args.kept.now stands.rests.kept_for found)
     stack out stands))
 
 pub returns-in_ok-push-in-Some-clause-same_limit : goal.returns-in_ok-push-in-Some-clause-same_limit
@@ -79,15 +79,15 @@ pub returns-in-None-clause-ok : goal.returns-in-None-clause-ok
 returns-in-None-clause-ok c =
     let passes = (rw c.in-None.is at c.in_ok-copy.ensures.ok) c.args.g.now in
     on_ok_weaker c.visit_anew.result (λ advances stack out stands. advances stack out
-    (Stands-passed c.args.g.now c.args.interner.now c.args.shelf.now c.copy_of.new.shelf (Task.Visit c.args.id ∷ c.args.machine.now.tasks)
-    c.args.machine.now.automata c.args.kept.now c.copy_of.new.self passes stack out stands)) c.visit_anew.ensures.ok
+    (Stands-passed c.args.g.now c.args.interner.now c.args.shelf.now c.find.new.shelf (Task.Visit c.args.id ∷ c.args.machine.now.tasks)
+    c.args.machine.now.automata c.args.kept.now c.find.new.kept passes stack out stands)) c.visit_anew.ensures.ok
 
 pub returns-in-None-clause-limit : goal.returns-in-None-clause-limit
-returns-in-None-clause-limit c = λ stopped stack out n stands within.
+returns-in-None-clause-limit c = λ stopped stack out n stands fits.
     let passes = (rw c.in-None.is at c.in_ok-copy.ensures.ok) c.args.g.now in
     let less = c.visit_anew.ensures.limit stopped stack out n
-    (Stands-passed c.args.g.now c.args.interner.now c.args.shelf.now c.copy_of.new.shelf (Task.Visit c.args.id ∷ c.args.machine.now.tasks)
-    c.args.machine.now.automata c.args.kept.now c.copy_of.new.self passes stack out stands) within in
+    (Stands-passed c.args.g.now c.args.interner.now c.args.shelf.now c.find.new.shelf (Task.Visit c.args.id ∷ c.args.machine.now.tasks)
+    c.args.machine.now.automata c.args.kept.now c.find.new.kept passes stack out stands) fits in
     subst (λ (limit : ℕ). limit < n) passes.limit less
 
 pub returns-in-None-clause-same_limit : goal.returns-in-None-clause-same_limit

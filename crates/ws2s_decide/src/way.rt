@@ -1,0 +1,11 @@
+//! How a formula is decided.
+
+/// What a decision may leave out.
+#[derive(Clone, Copy, Debug)]
+pub(crate) struct Way {
+    /// Whether a limit is answered as soon as it is licensed; else every task is tried. Only the Peak of the formula as it
+    /// stands licenses one.
+    pub(crate) stops_early: bool,
+    /// Whether no other formula is decided afterwards: then what doesn't come again isn't kept.
+    pub(crate) once: bool,
+}
