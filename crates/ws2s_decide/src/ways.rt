@@ -43,7 +43,8 @@ fn easier(
     Ok(made)
 }
 
-/// The verdict on the formula with the number. Its Peak alone licenses a limit, so only the second way answers one.
+/// The verdict on the formula with the number. Its Peak alone licenses a limit, so only the second way answers one, as soon
+/// as it is licensed. A formula that is its own easiest one is tried to the end.
 ///
 /// # Errors
 ///
@@ -67,21 +68,21 @@ pub(crate) fn decide_number(
     ensures rests { Rests g.now interner.new shelf.new [] kept.new }
     ensures same_limit { limit_of shelf.new ≡ limit_of shelf.old }
 {
-    let as_it_stands = Way {
-        stops_early: true,
+    let to_the_end = Way {
+        stops_early: false,
         once,
     };
-    let easier_one = Way {
-        stops_early: false,
+    let early = Way {
+        stops_early: true,
         once,
     };
     let made = easier(alloc, interner, id, weigh)?;
     if made == id {
-        return verdict_of(alloc, g, interner, id, as_it_stands, weigh, kept, shelf);
+        return verdict_of(alloc, g, interner, id, to_the_end, weigh, kept, shelf);
     }
-    let first = verdict_of(alloc, g, interner, made, easier_one, weigh, kept, shelf)?;
+    let first = verdict_of(alloc, g, interner, made, to_the_end, weigh, kept, shelf)?;
     match first {
-        Verdict::Limit => verdict_of(alloc, g, interner, id, as_it_stands, weigh, kept, shelf),
+        Verdict::Limit => verdict_of(alloc, g, interner, id, early, weigh, kept, shelf),
         found => Ok(found),
     }
 }
