@@ -1,4 +1,3 @@
-pub mod SetsLemmas
 pub mod NumbersLemmas
 pub mod ClassesLemmas
 pub mod ShortsLemmas

@@ -18,9 +18,9 @@ use Rattle.gta_theory.specs.Sizes.{IsPart, sum_below, SizeOf}
 use Rattle.gta_theory.proofs.SubsetLemmas.{IsClosed-subset}
 use Rattle.gta_theory.proofs.ListsLemmas.{Contains-map}
 use Rattle.gta_theory.proofs.SizesLemmas.{length-partners}
-use Rattle.gta_project.specs.Sets.{IsSet}
+use Rattle.bdd_walk.specs.Sets.{IsSet}
 use Rattle.gta_project.specs.Subsets.{subsets, IsInitial, AreInitial}
-use Rattle.gta_project.proofs.SetsLemmas.{sets-same}
+use Rattle.bdd_walk.proofs.SetsLemmas.{sets-same}
 use Rattle.gta_project.proofs.SubsetsLemmas.{set_step-has, set_step-only, IsSet-step}
 use Rattle.gta_project.proofs.CellsLemmas.{get-index}
 use Rattle.gta_project.specs.Building.{IsStepFunction, ExceedsSteps}

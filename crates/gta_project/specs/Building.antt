@@ -5,9 +5,9 @@ use Rattle.labels.specs.Labels.{Label, Function}
 use Rattle.bdd_nodes.specs.declared.node_ref.NodeRef.{NodeRef}
 use Rattle.bdd_nodes.specs.Shelf.{Contents, IsShelf, limit_of}
 use Rattle.bdd_nodes.specs.Changes.{Keeps, SameTables}
-use Rattle.bdd_walk.specs.declared.joiner.Joiner.{Joiner}
+use Rattle.bdd_walk.specs.declared.set_joiner.SetJoiner.{SetJoiner}
 use Rattle.bdd_walk.specs.Answers.{Completes}
-use Rattle.bdd_walk.specs.Fits.{Fits}
+use Rattle.bdd_walk.specs.Fits.{FitsSets}
 use Rattle.bdd_walk.specs.Under.{AddsAmong, ExceedsAmong}
 use Rattle.gta_theory.specs.Guides.{Spaces, IsSpace, left, right}
 use Rattle.gta_theory.specs.Automata.{Automaton}
@@ -118,10 +118,10 @@ pub record ExtendAll (old new : List (List (List ℕ))) : Type 0 where
   pub each : (s : ℕ) (sets more : List (List ℕ)) → slice_get old s ≡ Some sets → slice_get new s ≡ Some more → Extends sets more
 
 -- each space has a joiner, for the track t dropped, that fits its numbers
-pub record FitAll (t : ℕ) (shelf : Contents) (joiners : List Joiner) (spaces : List (List (List ℕ))) : Type 0 where
+pub record FitAll (t : ℕ) (shelf : Contents) (joiners : List SetJoiner) (spaces : List (List (List ℕ))) : Type 0 where
   pub many : length joiners ≡ length spaces
-  pub each : (s : ℕ) (joiner : Joiner) (sets : List (List ℕ)) → slice_get joiners s ≡ Some joiner → slice_get spaces s ≡ Some sets →
-      Fits joiner (Some t) shelf (numbered sets)
+  pub each : (s : ℕ) (joiner : SetJoiner) (sets : List (List ℕ)) → slice_get joiners s ≡ Some joiner → slice_get spaces s ≡ Some sets →
+      FitsSets joiner t shelf (numbered sets)
 
 -- what joins leave of a shelf
 pub record Leaves (old new : Contents) : Type 0 where

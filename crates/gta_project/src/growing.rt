@@ -12,7 +12,7 @@ use crate::classes::{key_of, note};
 use crate::filling::fill;
 use crate::numbering::Numbering;
 use bdd_nodes::{RefList, Shelf};
-use bdd_walk::{Joiner, NoMemory, StateList, Stop};
+use bdd_walk::{NoMemory, SetJoiner, StateList, Stop};
 use gta_core::Auto;
 use plain_data::Items;
 use std::alloc::Global;
@@ -85,7 +85,7 @@ pub(crate) fn grow(
     track: u32,
     initials: &[StateList],
     shelf: &mut Shelf,
-    joiners: &mut Vec<Joiner>,
+    joiners: &mut Vec<SetJoiner>,
     numbers: &mut Vec<Numbering>,
     growths: &mut Vec<Growth>,
 ) -> Result<(), Stop>
@@ -125,7 +125,7 @@ fn grow_once(
     track: u32,
     initials: &[StateList],
     shelf: &mut Shelf,
-    joiners: &mut Vec<Joiner>,
+    joiners: &mut Vec<SetJoiner>,
     numbers: &mut Vec<Numbering>,
     growths: &mut Vec<Growth>,
 ) -> Result<(), Stop>
@@ -163,7 +163,7 @@ fn grow_space(
     initials: &[StateList],
     shelf: &mut Shelf,
     space: u32,
-    joiners: &mut Vec<Joiner>,
+    joiners: &mut Vec<SetJoiner>,
     numbers: &mut Vec<Numbering>,
     growth: &mut Growth,
 ) -> Result<(), Stop>
@@ -247,7 +247,7 @@ fn join_sets(
     space: u32,
     rows: &[StateList],
     columns: &[StateList],
-    joiners: &mut Vec<Joiner>,
+    joiners: &mut Vec<SetJoiner>,
     numbers: &mut Vec<Numbering>,
 ) -> Result<(), Stop>
     requires auto { IsAuto g.now shelf.old a.now }

@@ -1,7 +1,7 @@
 use Rattle.std.proofs.Common.{◌≡◌, ℕ, List, Option, Some, Contains, get_or, inl, inr, sym, ◌∙◌, ap, subst, arith}
 use Rattle.std.specs.Prelude.{map, slice_index}
-use Rattle.gta_project.specs.Sets.{IsSet}
-use Rattle.gta_project.proofs.SetsLemmas.{set_of-twice}
+use Rattle.bdd_walk.specs.Sets.{IsSet}
+use Rattle.bdd_walk.proofs.SetsLemmas.{set_of-twice}
 use Rattle.gta_project.proofs.GrowingLemmas.{contains-at, Notes-only}
 use Rattle.gta_project.proofs.growing.Seen.look.Goals as goal
 
