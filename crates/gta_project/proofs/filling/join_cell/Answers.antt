@@ -1,8 +1,7 @@
 -- One root is joined for a set of each child.
-use Rattle.std.proofs.Common.{◌≡◌, ℕ, List, Some, Contains, sym, ◌∙◌, subst}
+use Rattle.std.proofs.Common.{◌≡◌, ℕ, Some, Contains, ◌∙◌}
 use Rattle.bdd_nodes.specs.declared.node_ref.NodeRef.{NodeRef}
 use Rattle.gta_core.specs.Auto.{root_at}
-use Rattle.gta_project.specs.Roots.{AreRoots}
 use Rattle.gta_project.proofs.ClosingLemmas.{some-is}
 use Rattle.gta_project.proofs.ShortsLemmas.{known-short, AreRoots-short}
 use Rattle.gta_project.proofs.FillingLemmas.{Joins-one, IsCell-one, ExceedsCells-one}
