@@ -17,4 +17,5 @@ pub mod CellsLemmas
 pub mod FinalLemmas
 pub mod LimitLemmas
 pub mod ProjectLemmas
+pub mod KeyedLemmas
 pub mod GrowingLemmas

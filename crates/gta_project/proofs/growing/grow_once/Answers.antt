@@ -42,7 +42,7 @@ grow_space-requires-clause-seen c =
     subsets-on c.args.g.now c.args.a.now c.args.track c.args.initials.now c.args.shelf.now c.loop-space.shelf c.count.ensures.shelf
     c.args.numbers.now.items c.loop-space.numbers.items
     c.loop-space.invariant.goes
-    (λ (Sets : Automaton (List ℕ)). HasSeen c.args.g.now Sets s c.index_mut-growth.result.now)
+    (λ (Sets : Automaton (List ℕ)). HasSeen c.args.g.now Sets c.args.a.now s c.index_mut-growth.result.now)
     (seen.each s c.index_mut-growth.result.now
     (get-at c.loop-space.growths.items s c.index_mut-growth.result.now (omega (arith, seen.many)) c.index_mut-growth.ensures.value))
 
@@ -68,12 +68,12 @@ loop-space-preserved c = record {
       (λ (Sets : Automaton (List ℕ)). AreSpaces c.args.g.now Sets c.grow_space.new.numbers.items) c.in_ok-grow_space.ensures.spaces;
   seen =
       let seen = c.loop-space.invariant.seen in
-      HaveSeen-set c.args.g.now (subsets (automaton_of c.args.shelf.now c.args.a.now) c.args.track c.args.initials.now)
+      HaveSeen-set c.args.g.now (subsets (automaton_of c.args.shelf.now c.args.a.now) c.args.track c.args.initials.now) c.args.a.now
       c.loop-space.growths.items c.loop-space.space c.grow_space.new.growth seen
       (let e = c.spaces-space-end.ensures.value in omega (arith, seen.many, c.loop-space-test.true))
       (subsets-back c.args.g.now c.args.a.now c.args.track c.args.initials.now c.args.shelf.now c.loop-space.shelf c.count.ensures.shelf
       c.args.numbers.now.items c.loop-space.numbers.items
       c.loop-space.invariant.goes
-      (λ (Sets : Automaton (List ℕ)). HasSeen c.args.g.now Sets c.loop-space.space c.grow_space.new.growth) c.in_ok-grow_space.ensures.seen);
+      (λ (Sets : Automaton (List ℕ)). HasSeen c.args.g.now Sets c.args.a.now c.loop-space.space c.grow_space.new.growth) c.in_ok-grow_space.ensures.seen);
   fits = c.in_ok-grow_space.ensures.fits;
 }
