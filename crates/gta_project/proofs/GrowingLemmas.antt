@@ -1,6 +1,6 @@
 -- A product that goes on being built, step after step, and how much room is left for sets.
-use Rattle.std.proofs.Common.{◌≡◌, ◌≢◌, ℕ, suc, ◌+◌, ◌-◌, ◌*◌, ◌^◌, ◌≤◌, ◌<◌, List, [], ◌∷◌}
-use Rattle.std.proofs.Common.{◌++◌, ◌⊎◌, length, map, Option, Some, None, Result, Ok, Err, OnOk, Contains, slice_get}
+use Rattle.std.proofs.Common.{◌≡◌, ◌≢◌, ℕ, suc, ◌*◌, ◌^◌, ◌≤◌, ◌<◌, List, [], ◌∷◌}
+use Rattle.std.proofs.Common.{◌⊎◌, length, map, Option, Some, Result, Ok, Err, OnOk, Contains, slice_get}
 use Rattle.std.proofs.Common.{refl, sym, ◌∙◌, ap, subst, inl, inr, arith}
 use Rattle.std.specs.Prelude.{slice_set}
 use Rattle.std.proofs.lemmas.Bool.{cases_lt}
@@ -22,7 +22,7 @@ use Rattle.gta_project.specs.Numbers.{number_in, AreNumbers, Extends}
 use Rattle.gta_project.specs.Filling.{Joins, ExceedsCells}
 use Rattle.gta_project.specs.Building.{AreSpaces, CompleteAll, ExceedsSteps, HasManyCells, Building, Exceeded, ExtendAll}
 use Rattle.gta_project.specs.Shorts.{rows_in, columns_in}
-use Rattle.gta_project.specs.Growing.{AreGenerated, IsKeyed, HasSeen, HaveSeen, Goes, LacksRoom, room_left}
+use Rattle.gta_project.specs.Growing.{AreGenerated, HasSeen, HaveSeen, Goes, LacksRoom, room_left}
 use Rattle.gta_project.proofs.BuildingLemmas.{ChangesSpace, ExtendAll-set, AreSpaces-set, Building-set, ExceedsSteps-set}
 use Rattle.gta_project.proofs.CellsLemmas.{get-index}
 use Rattle.gta_project.proofs.PartLemmas.{ChangesSpace-at, get-set, get-set_other, length-set_at}

@@ -1,12 +1,11 @@
 -- Again and again, until nothing comes.
-use Rattle.std.proofs.Common.{◌≡◌, ℕ, List, Contains, sym, ◌∙◌, ap, subst, arith}
-use Rattle.gta_theory.specs.Guides.{left, right}
+use Rattle.std.proofs.Common.{ℕ, List, sym, ◌∙◌}
 use Rattle.std.proofs.lemmas.Bool.{false≢true}
 use Rattle.gta_theory.specs.Automata.{Automaton}
 use Rattle.gta_project.specs.Subsets.{subsets}
 use Rattle.gta_core.specs.Auto.{automaton_of}
 use Rattle.gta_project.specs.Building.{AreSpaces}
-use Rattle.gta_project.specs.Growing.{AreGenerated, HasSeen, HaveSeen, LacksRoom}
+use Rattle.gta_project.specs.Growing.{HaveSeen}
 use Rattle.gta_project.proofs.GrowingLemmas.{Goes-none, subsets-on, subsets-back, auto-on, initial-on, Goes-next, LacksRoom-next, room-less}
 use Rattle.gta_project.proofs.growing.grow.Goals as goal
 

@@ -1,11 +1,10 @@
 -- Once in each space.
-use Rattle.std.proofs.Common.{◌≡◌, ℕ, List, Contains, sym, ◌∙◌, ap, subst, arith}
-use Rattle.gta_theory.specs.Guides.{left, right}
+use Rattle.std.proofs.Common.{ℕ, List, ◌∙◌, arith}
 use Rattle.gta_theory.specs.Automata.{Automaton}
 use Rattle.gta_project.specs.Subsets.{subsets}
 use Rattle.gta_core.specs.Auto.{automaton_of}
 use Rattle.gta_project.specs.Building.{AreSpaces}
-use Rattle.gta_project.specs.Growing.{AreGenerated, HasSeen, HaveSeen, LacksRoom}
+use Rattle.gta_project.specs.Growing.{HasSeen}
 use Rattle.gta_project.proofs.PartLemmas.{get-at}
 use Rattle.gta_project.proofs.GrowingLemmas.{Goes-none, HaveSeen-set, subsets-on, subsets-back, auto-on, initial-on, Goes-next, LacksRoom-next}
 use Rattle.gta_project.proofs.growing.grow_once.Goals as goal

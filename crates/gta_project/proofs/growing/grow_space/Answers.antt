@@ -1,12 +1,12 @@
 -- The new rows with all columns, and the earlier rows with the new ones.
-use Rattle.std.proofs.Common.{◌≡◌, ◌*◌, ℕ, List, length, Contains, sym, ◌∙◌, ap, subst, arith}
+use Rattle.std.proofs.Common.{◌≡◌, ◌*◌, ℕ, List, length, Contains, ◌∙◌, ap, subst, arith}
 use Rattle.gta_theory.specs.Guides.{left, right}
 use Rattle.gta_theory.specs.Automata.{Automaton}
 use Rattle.gta_project.specs.Subsets.{subsets}
 use Rattle.gta_core.specs.Auto.{automaton_of}
 use Rattle.gta_project.specs.Building.{AreSpaces}
-use Rattle.gta_project.specs.Growing.{AreGenerated, HasSeen, HaveSeen, LacksRoom}
-use Rattle.gta_project.proofs.GrowingLemmas.{on-ok-always, subsets-on, subsets-back, auto-on, initial-on, Goes-none, Goes-next, LacksRoom-next, LacksRoom-cells}
+use Rattle.gta_project.specs.Growing.{AreGenerated}
+use Rattle.gta_project.proofs.GrowingLemmas.{on-ok-always, subsets-on, subsets-back, auto-on, initial-on, Goes-next, LacksRoom-next, LacksRoom-cells}
 use Rattle.gta_project.proofs.growing.grow_space.Goals as goal
 
 pub returns-then-exceeds-clause-limit : goal.returns-then-exceeds-clause-limit

@@ -1,4 +1,4 @@
-use Rattle.std.specs.Prelude.{◌≡◌, length, Some, [], slice_get}
+use Rattle.std.specs.Prelude.{◌≡◌, length, Some, slice_get}
 use Rattle.std.proofs.Common.{ℕ}
 use Rattle.gta_project.specs.declared.growing.Growth.{Growth}
 use Rattle.gta_project.proofs.GrowingLemmas.{IsNew}

@@ -1,5 +1,5 @@
 -- The rows and columns that have come are generated.
-use Rattle.std.proofs.Common.{◌≡◌, ◌<◌, ◌⊎◌, ℕ, List, [], Option, Some, Contains, length, get_or, refl, sym, ◌∙◌, ap, subst, inl, inr, arith}
+use Rattle.std.proofs.Common.{◌≡◌, ◌<◌, ◌⊎◌, ℕ, List, [], Option, Contains, length, get_or, refl, sym, ◌∙◌, ap, subst, inl, inr}
 use Rattle.std.specs.Prelude.{unwrap_or, option_map}
 use Rattle.gta_theory.specs.Guides.{left, right}
 use Rattle.gta_core.specs.Auto.{automaton_of}
