@@ -16,4 +16,5 @@ pub mod CellsLemmas
 pub mod FinalLemmas
 pub mod LimitLemmas
 pub mod ProjectLemmas
+pub mod KeyedLemmas
 pub mod GrowingLemmas

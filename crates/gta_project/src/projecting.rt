@@ -36,9 +36,10 @@ use ws2s_core::{Guide, Track};
 ///
 /// # Errors
 ///
-/// `Limit` only where the nodes at the call and the Size of the projection are more than the limit. Want of memory, also
-/// where a space has more sets than there are state numbers, or the roots are more than a `u32` counts. After a stop no
-/// table is left.
+/// `Limit` only where the nodes at the call and the Size of the projection are more than the limit: where the shelf has
+/// no room for a node, or where the table of a space gets more than 16 roots for each node of the limit. Each root is for
+/// a pair of child states of its own, and the Size counts those. Want of memory, also where a space has more sets than
+/// there are state numbers, or the roots are more than a `u32` counts. After a stop no table is left.
 pub fn project(
     alloc: Global,
     g: &Guide,
