@@ -1,4 +1,4 @@
-use Rattle.std.proofs.Common.{[], ◌∷◌, Some, All, take}
+use Rattle.std.proofs.Common.{[], ◌∷◌, All, take}
 use Rattle.bdd_nodes.specs.Shelf.{IsValid}
 use Rattle.bdd_walk.specs.Fits.{FitsSets}
 use Rattle.gta_project.specs.Subsets.{set_step}

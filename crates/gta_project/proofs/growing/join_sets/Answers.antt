@@ -1,6 +1,6 @@
 -- A space is joined for generated sets.
 use Rattle.std.proofs.Common.{arith}
-use Rattle.std.specs.Prelude.{Some, slice_set}
+use Rattle.std.specs.Prelude.{slice_set}
 use Rattle.bdd_walk.specs.Fits.{FitsSets}
 use Rattle.gta_theory.specs.Guides.{left, right}
 use Rattle.gta_core.specs.Auto.{automaton_of}
