@@ -7,7 +7,7 @@ use Rattle.std.proofs.lemmas.List.Elements.{All-contains}
 use Rattle.gta_theory.proofs.ListsLemmas.{Contains-map, Contains-mapped}
 use Rattle.gta_project.specs.Numbers.{number_in, AreNumbers, Grows, stays, comes}
 use Rattle.gta_project.specs.Classes.{HaveClasses, IsClassed, IsClass, Notes, known, fresh, classes_of, AreKeyed}
-use Rattle.gta_project.proofs.SetsLemmas.{set_of-has, set_of-only}
+use Rattle.bdd_walk.proofs.SetsLemmas.{set_of-has, set_of-only}
 use Rattle.gta_project.proofs.NumbersLemmas.{number_in-get, number_in-last, get-snoc, get-kept, get-last}
 
 pub get-index : {X : Type 0} (d : X) (xs : List X) (k : ℕ) → k < length xs → (x : X) × (slice_get xs k ≡ Some x)

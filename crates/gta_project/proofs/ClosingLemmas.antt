@@ -18,11 +18,11 @@ use Rattle.gta_theory.specs.Constructions.{Settled, starts, steps, IsStepOf}
 use Rattle.gta_theory.specs.Numbered.{Below}
 use Rattle.gta_theory.proofs.ListsLemmas.{Contains-first, Contains-cases, Contains-none}
 use Rattle.gta_core.specs.Auto.{AutoView, states_of, initial_of, root_at, automaton_of, IsAuto}
-use Rattle.gta_project.specs.Sets.{set_of}
+use Rattle.bdd_walk.specs.Sets.{set_of}
 use Rattle.gta_project.specs.Subsets.{AreInitial}
 use Rattle.gta_project.specs.Roots.{AreRoots}
 use Rattle.gta_project.specs.Closing.{set_at, IsNext, AreNext, AreSettled}
-use Rattle.gta_project.proofs.SetsLemmas.{set_of-has, set_of-only, set_of-twice}
+use Rattle.bdd_walk.proofs.SetsLemmas.{set_of-has, set_of-only, set_of-twice}
 use Rattle.gta_project.proofs.SubsetsLemmas.{asked-has, asked-only}
 
 pub get-index : {X : Type 0} (xs : List X) (k : ℕ) → k < length xs → (x : X) × (slice_get xs k ≡ Some x)

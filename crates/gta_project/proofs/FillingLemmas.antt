@@ -11,8 +11,9 @@ use Rattle.bdd_walk.specs.Answers.{KeepsAnswers, AnswersOnly, Completes}
 use Rattle.bdd_walk.specs.Asked.{asked_of, IsGiven}
 use Rattle.bdd_walk.specs.Under.{Adds, AddsAmong, Exceeds, ExceedsAmong}
 use Rattle.bdd_walk.proofs.AddsAmongLemmas.{ExceedsAmong-alone}
+use Rattle.bdd_walk.proofs.SetsLemmas.{set_of-twice}
 use Rattle.gta_core.specs.Auto.{AutoView, root_at, automaton_of}
-use Rattle.gta_project.specs.Sets.{set_of}
+use Rattle.bdd_walk.specs.Sets.{set_of}
 use Rattle.gta_project.specs.Subsets.{set_step}
 use Rattle.gta_project.specs.Roots.{AreRoots}
 use Rattle.gta_project.specs.Numbers.{number_in, numbered, AreOfOneSet, AreNumbers}
@@ -43,9 +44,14 @@ module _ (a : AutoView) (t s : ℕ) (l r : List ℕ) (old new : Contents) (roots
   pub asked-step : (label : Label) → set_of (asked_of old roots (Some t) label) ≡ Step s l r label
   asked-step label = set_of-asked old a t s l r roots are known label
 
+  -- the set that is asked is a set already
+  twice-step : (label : Label) → set_of (set_of (asked_of old roots (Some t) label)) ≡ Step s l r label
+  twice-step label = set_of-twice (asked_of old roots (Some t) label) ∙ asked-step label
+
   -- the functions of the join by a way of giving numbers
-  given-step : (given : List ℕ → ℕ) → ◌≡◌ {A = Function} (λ label. given (set_of (asked_of old roots (Some t) label))) (λ label. given (Step s l r label))
-  given-step given = fun_ext (λ (label : Label). ap given (asked-step label))
+  given-step : (given : List ℕ → ℕ) →
+      ◌≡◌ {A = Function} (λ label. given (set_of (set_of (asked_of old roots (Some t) label)))) (λ label. given (Step s l r label))
+  given-step given = fun_ext (λ (label : Label). ap given (twice-step label))
 
   cell-function : (given : List ℕ → ℕ) → IsCellFunction Step s (l ∷ []) (r ∷ []) given (λ label. given (Step s l r label))
   cell-function given = record { row = l; column = r; in_rows = alone l; in_columns = alone r; states = λ label. refl }
@@ -59,8 +65,8 @@ module _ (a : AutoView) (t s : ℕ) (l r : List ℕ) (old new : Contents) (roots
 
   pub Joins-one : Keeps old new → limit_of new ≡ limit_of old →
       SameTables old new → IsShelf new → KeepsAnswers (numbered before) (numbered after) →
-      AnswersOnly (IsGiven AreOfOneSet (asked_of old roots (Some t))) (numbered before) (numbered after) →
-      ((given : List ℕ → ℕ) → Completes (numbered after) given → Adds old new (λ label. given (asked_of old roots (Some t) label))) →
+      AnswersOnly (IsGiven AreOfOneSet (λ label. set_of (asked_of old roots (Some t) label))) (numbered before) (numbered after) →
+      ((given : List ℕ → ℕ) → Completes (numbered after) given → Adds old new (λ label. given (set_of (asked_of old roots (Some t) label)))) →
       Joins Step s (l ∷ []) (r ∷ []) old new before after
   unfolding IsGiven
   Joins-one keeps same_limit tables shelf kept only adds = record {
@@ -86,7 +92,7 @@ module _ (a : AutoView) (t s : ℕ) (l r : List ℕ) (old new : Contents) (roots
                 label = given.0;
                 in_rows = alone l;
                 in_columns = alone r;
-                gives = sym (asked-step given.0) ∙ sym given.1 ∙ is;
+                gives = sym (twice-step given.0) ∙ sym given.1 ∙ is;
               })
         ];
     counted = λ given completes. record {
@@ -98,15 +104,15 @@ module _ (a : AutoView) (t s : ℕ) (l r : List ℕ) (old new : Contents) (roots
   }
 
   pub IsCell-one : (made : NodeRef) → IsValid new made →
-      ((label : Label) → numbered after (asked_of old roots (Some t) label) ≡ Some (state_of new made label)) →
+      ((label : Label) → numbered after (set_of (asked_of old roots (Some t) label)) ≡ Some (state_of new made label)) →
       IsCell Step s after l r new made
   IsCell-one made valid value = record {
     valid = valid;
-    states = λ label. ap (number_in after) (sym (asked-step label)) ∙ value label;
+    states = λ label. ap (number_in after) (sym (twice-step label)) ∙ value label;
   }
 
   pub ExceedsCells-one : (given : List ℕ → ℕ) → Completes (number_in after) given →
-      ((every : List ℕ → ℕ) → Completes (numbered after) every → Exceeds old (λ label. every (asked_of old roots (Some t) label))) →
+      ((every : List ℕ → ℕ) → Completes (numbered after) every → Exceeds old (λ label. every (set_of (asked_of old roots (Some t) label)))) →
       ExceedsCells Step s (l ∷ []) (r ∷ []) old given
   ExceedsCells-one given completes exceeds = record {
     wholes = (λ label. given (Step s l r label)) ∷ [];

@@ -23,9 +23,9 @@ use Rattle.gta_theory.proofs.ListsLemmas.{Contains-first, Contains-later, Contai
 use Rattle.gta_core.specs.declared.part.Part.{Part}
 use Rattle.gta_core.specs.Auto.{AutoView, states_of, is_accepting, guide_of, place_in, place_of, root_at, automaton_of, IsUsed, IsAuto, IsWhole}
 use Rattle.gta_core.proofs.AutoLemmas.{past-none, step-some}
-use Rattle.gta_project.specs.Sets.{IsSet, has_state}
+use Rattle.bdd_walk.specs.Sets.{IsSet, has_state}
 use Rattle.gta_project.specs.Subsets.{set_step, subsets, IsInitial, AreInitial}
-use Rattle.gta_project.proofs.SetsLemmas.{has_state-true, Contains-has_state, sets-same}
+use Rattle.bdd_walk.proofs.SetsLemmas.{has_state-true, Contains-has_state, sets-same}
 use Rattle.gta_project.proofs.SubsetsLemmas.{set_step-has, set_step-only}
 use Rattle.gta_project.specs.Numbers.{number_in, Extends}
 use Rattle.gta_project.specs.Filling.{IsCell}

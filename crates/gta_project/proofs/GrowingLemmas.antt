@@ -1,28 +1,32 @@
 -- A product that goes on being built, step after step, and how much room is left for sets.
-use Rattle.std.proofs.Common.{◌≡◌, ◌≢◌, ℕ, suc, ◌+◌, ◌-◌, ◌^◌, ◌≤◌, ◌<◌, List, [], ◌∷◌}
-use Rattle.std.proofs.Common.{◌++◌, ◌⊎◌, length, map, Option, Some, None, Result, Ok, Err, OnOk, Contains, slice_get}
+use Rattle.std.proofs.Common.{◌≡◌, ◌≢◌, ℕ, suc, ◌*◌, ◌^◌, ◌≤◌, ◌<◌, List, [], ◌∷◌}
+use Rattle.std.proofs.Common.{◌⊎◌, length, map, Option, Some, Result, Ok, Err, OnOk, Contains, slice_get}
 use Rattle.std.proofs.Common.{refl, sym, ◌∙◌, ap, subst, inl, inr, arith}
 use Rattle.std.specs.Prelude.{slice_set}
 use Rattle.std.proofs.lemmas.Bool.{cases_lt}
 use Rattle.std.proofs.lemmas.Bool.Decides.{eqb_tells}
 use Rattle.std.proofs.lemmas.List.Elements.{Contains-append_cases}
 use Rattle.std.proofs.lemmas.Option.{slice_get_within, get_or_from_slice_get}
-use Rattle.bdd_nodes.specs.Shelf.{Contents, IsShelf}
+use Rattle.bdd_nodes.specs.Shelf.{Contents, IsShelf, limit_of}
 use Rattle.bdd_nodes.proofs.CallerLemmas.{Keeps-refl, Keeps-trans}
 use Rattle.bdd_walk.specs.Answers.{Completes}
 use Rattle.gta_theory.specs.Guides.{Spaces, IsSpace, left, right}
 use Rattle.gta_theory.specs.Automata.{Automaton}
 use Rattle.gta_project.specs.Subsets.{subsets, AreInitial}
 use Rattle.gta_core.specs.Auto.{AutoView, automaton_of, IsAuto}
+use Rattle.gta_theory.proofs.ListsLemmas.{All-from_contains}
+use Rattle.gta_project.specs.declared.growing.Seen.{Seen}
 use Rattle.gta_project.specs.declared.growing.Growth.{Growth}
 use Rattle.gta_project.specs.Classes.{Notes, known, fresh}
 use Rattle.gta_project.specs.Numbers.{number_in, AreNumbers, Extends}
 use Rattle.gta_project.specs.Filling.{Joins, ExceedsCells}
-use Rattle.gta_project.specs.Building.{AreSpaces, CompleteAll, ExceedsSteps, Building, Exceeded, ExtendAll}
+use Rattle.gta_project.specs.Building.{AreSpaces, CompleteAll, ExceedsSteps, HasManyCells, Building, Exceeded, ExtendAll}
+use Rattle.gta_project.specs.Shorts.{rows_in, columns_in}
 use Rattle.gta_project.specs.Growing.{AreGenerated, HasSeen, HaveSeen, Goes, LacksRoom, room_left}
 use Rattle.gta_project.proofs.BuildingLemmas.{ChangesSpace, ExtendAll-set, AreSpaces-set, Building-set, ExceedsSteps-set}
 use Rattle.gta_project.proofs.CellsLemmas.{get-index}
 use Rattle.gta_project.proofs.PartLemmas.{ChangesSpace-at, get-set, get-set_other, length-set_at}
+use Rattle.gta_project.proofs.KeyedLemmas.{IsKeyed-none, ones-differ}
 use Rattle.gta_project.proofs.NextLemmas.{alone-is}
 use Rattle.gta_project.proofs.SameLemmas.{ExtendAll-refl, ExtendAll-trans}
 use Rattle.gta_project.proofs.ShelfLemmas.{subsets-kept, auto-kept, initial-kept}
@@ -50,15 +54,15 @@ module _ (g : Spaces) (Sets : Automaton (List ℕ)) where
   LacksRoom-after old middle before between after first lacks =
       λ start building given completes. lacks start (first.building start building) given completes
 
-  pub HaveSeen-set : (growths : List Growth) (s : ℕ) (growth : Growth) → HaveSeen g Sets growths → s < length growths → HasSeen g Sets s growth →
-      HaveSeen g Sets (slice_set growths s growth)
-  HaveSeen-set growths s growth have within here = record {
+  pub HaveSeen-set : (a : AutoView) (growths : List Growth) (s : ℕ) (growth : Growth) → HaveSeen g Sets a growths → s < length growths →
+      HasSeen g Sets a s growth → HaveSeen g Sets a (slice_set growths s growth)
+  HaveSeen-set a growths s growth have within here = record {
     many = length-set_at growths s growth ∙ have.many;
     each = λ t other there. elim (eqb_tells t s) [
       | inl same ↦
           let is : ◌≡◌ {A = Option Growth} (Some growth) (Some other) =
           sym (get-set growths s growth within) ∙ ap (slice_get (slice_set growths s growth)) (sym same.1) ∙ there in
-          subst (λ (n : ℕ). HasSeen g Sets n other) (sym same.1) (subst (HasSeen g Sets s) (same-growth growth other is) here)
+          subst (λ (n : ℕ). HasSeen g Sets a n other) (sym same.1) (subst (HasSeen g Sets a s) (same-growth growth other is) here)
       | inr apart ↦ have.each t other (sym (get-set_other growths s t growth apart.1) ∙ there)
     ];
   }
@@ -90,8 +94,8 @@ module _ (g : Spaces) (Sets : Automaton (List ℕ)) (s : ℕ) (inside : IsSpace 
   pub LacksRoom-fill : ((given : List ℕ → ℕ) → Completes (number_in after) given → ExceedsCells Sets.step s rows columns shelf given) →
       LacksRoom g Sets shelf spaces (slice_set spaces s after)
   LacksRoom-fill exceeds = λ start building given completes.
-      ExceedsSteps-set g Sets s inside spaces (slice_set spaces s after) before after are change rows columns row-generated column-generated
-      shelf now joins numbers start building given completes (exceeds (given s) (completes s after change.is))
+      inl (ExceedsSteps-set g Sets s inside spaces (slice_set spaces s after) before after are change rows columns row-generated column-generated
+      shelf now joins numbers start building given completes (exceeds (given s) (completes s after change.is)))
 
 -- over what joins have done, the product is the same
 module _ (g : Spaces) (a : AutoView) (t : ℕ) (initials : List (List ℕ)) (old middle : Contents) (is_shelf : IsShelf old) (before between : List (List
@@ -193,20 +197,47 @@ Notes-only class set old new (fresh at is) x there =
       | inr last ↦ inr (sym (alone-is set x last))
     ]
 
-pub HasSeen-none : (g : Spaces) (Sets : Automaton (List ℕ)) (s : ℕ) (growth : Growth) → growth.rows.ones ≡ [] → growth.columns.ones ≡ [] →
-    HasSeen g Sets s growth
-HasSeen-none g Sets s growth no_rows no_columns = record {
-  rows = λ set there. absurd (nowhere set (subst (λ (ps : List (List ℕ)). Contains ps set) no_rows there));
-  columns = λ set there. absurd (nowhere set (subst (λ (ps : List (List ℕ)). Contains ps set) no_columns there));
+-- nothing was looked at
+pub record IsNew (seen : Seen) : Type 0 where
+  pub ones : seen.ones ≡ []
+  pub keys : seen.keys ≡ []
+
+pub HasSeen-none : (g : Spaces) (Sets : Automaton (List ℕ)) (a : AutoView) (s : ℕ) (growth : Growth) → IsNew growth.rows → IsNew growth.columns →
+    HasSeen g Sets a s growth
+HasSeen-none g Sets a s growth rows columns = record {
+  rows = λ set there. absurd (nowhere set (subst (λ (ps : List (List ℕ)). Contains ps set) rows.ones there));
+  columns = λ set there. absurd (nowhere set (subst (λ (ps : List (List ℕ)). Contains ps set) columns.ones there));
+  row_keys = IsKeyed-none (rows_in a s) growth.rows rows.ones rows.keys;
+  column_keys = IsKeyed-none (columns_in a s) growth.columns columns.ones columns.keys;
 }
   where
     nowhere : (set : List ℕ) → Contains [] set → ⊥
     nowhere set there = omega (arith, there.1)
 
+-- a space for which joins would make more roots than go with the limit
+pub LacksRoom-cells : (g : Spaces) (Sets : Automaton (List ℕ)) (a : AutoView) (shelf : Contents) (s : ℕ) → IsSpace g s → (growth : Growth) →
+    HasSeen g Sets a s growth → 16 * limit_of shelf < length growth.rows.ones * length growth.columns.ones →
+    (before after : List (List (List ℕ))) → LacksRoom g Sets shelf before after
+LacksRoom-cells g Sets a shelf s inside growth seen many before after = λ start building given completes. inr (record {
+  space = s;
+  inside = inside;
+  rows = growth.rows.ones;
+  columns = growth.columns.ones;
+  in_left = All-from_contains _ growth.rows.ones seen.rows;
+  in_right = All-from_contains _ growth.columns.ones seen.columns;
+  rows_differ = ones-differ (rows_in a s) growth.rows seen.row_keys;
+  columns_differ = ones-differ (columns_in a s) growth.columns seen.column_keys;
+  many = omega (arith, many, building.same_limit);
+})
+
 -- what follows where a call answers Ok
 pub on-ok : {T E P Q : Type 0} (r : Result T E) → (P → Q) → OnOk r P → OnOk r Q
 on-ok (Ok x) follows holds = follows holds
 on-ok (Err e) follows holds = tt
+
+pub on-ok-both : {T E P Q S : Type 0} (r : Result T E) → (P → Q → S) → OnOk r P → OnOk r Q → OnOk r S
+on-ok-both (Ok x) follows one other = follows one other
+on-ok-both (Err e) follows one other = tt
 
 pub on-ok-always : {T E P : Type 0} (r : Result T E) → P → OnOk r P
 on-ok-always (Ok x) holds = holds
@@ -244,7 +275,7 @@ module _ (g : Spaces) (a : AutoView) (t : ℕ) (initials : List (List ℕ)) (fir
       Exceeded g (subsets (automaton_of first a) t initials) first
   Exceeded-goes after lacks = record {
     spaces = after;
-    exceeds = λ given completes. to-first (λ (Sets : Automaton (List ℕ)). ExceedsSteps g Sets first given)
+    exceeds = λ given completes. to-first (λ (Sets : Automaton (List ℕ)). ExceedsSteps g Sets first given ⊎ HasManyCells g Sets first)
         (lacks first (to-now (λ (Sets : Automaton (List ℕ)). Building g Sets first now before) building) given
         (to-now (λ (Sets : Automaton (List ℕ)). CompleteAll g Sets after given) completes));
   }

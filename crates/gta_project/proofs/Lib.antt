@@ -1,4 +1,3 @@
-pub mod SetsLemmas
 pub mod NumbersLemmas
 pub mod ClassesLemmas
 pub mod ShortsLemmas
@@ -17,4 +16,5 @@ pub mod CellsLemmas
 pub mod FinalLemmas
 pub mod LimitLemmas
 pub mod ProjectLemmas
+pub mod KeyedLemmas
 pub mod GrowingLemmas

@@ -1,11 +1,12 @@
 -- What has no room is no more than the Size of the projection.
-use Rattle.std.proofs.Common.{◌≡◌, ◌≢◌, ℕ, zero, suc, ◌+◌, ◌<◌, ◌≤◌, Bool, List, [], ◌++◌, map, length, length-append, Option, Contains, ◌↔◌, refl}
-use Rattle.std.proofs.Common.{sym, ◌∙◌, ap, subst, inl, inr, arith}
+use Rattle.std.proofs.Common.{◌≡◌, ◌≢◌, ℕ, zero, suc, ◌+◌, ◌-◌, ◌*◌, ◌<◌, ◌≤◌, Bool, List, [], ◌++◌, map, length, length-append, Option, Contains, ◌↔◌, refl}
+use Rattle.std.proofs.Common.{Some, slice_get, slice_index_or, sym, ◌∙◌, ap, subst, inl, inr, arith}
 use Rattle.std.specs.Prelude.{IsTrue, unwrap_or}
 use Rattle.std.specs.List.{All, AllPairs}
 use Rattle.std.proofs.Math.Path.{fun_ext}
 use Rattle.std.proofs.lemmas.Bool.{cases_lt}
 use Rattle.std.proofs.lemmas.List.{length-map}
+use Rattle.std.proofs.lemmas.Option.{slice_get_within}
 use Rattle.std.proofs.lemmas.List.Elements.{All-contains, Contains-append_left, Contains-append_right}
 use Rattle.labels.specs.Labels.{Label, Function, with_below}
 use Rattle.bdd_nodes.specs.Shelf.{Contents, count_of, limit_of}
@@ -14,16 +15,18 @@ use Rattle.gta_theory.specs.Guides.{Spaces, IsGuide, IsSpace, left, right}
 use Rattle.gta_theory.specs.Automata.{Automaton, IsStable, Has}
 use Rattle.gta_theory.specs.Constructions.{IsStepOf, IsSubset}
 use Rattle.gta_theory.specs.Generated.{Generated, starts, steps}
-use Rattle.gta_theory.specs.Sizes.{IsPart, sum_below, SizeOf}
+use Rattle.gta_theory.specs.Sizes.{IsPart, SizeIn, sum_below, SizeOf}
 use Rattle.gta_theory.proofs.SubsetLemmas.{IsClosed-subset}
-use Rattle.gta_theory.proofs.ListsLemmas.{Contains-map}
+use Rattle.gta_theory.proofs.CountingLemmas.{matched-le}
+use Rattle.gta_theory.proofs.ListsLemmas.{Contains-map, place-once}
 use Rattle.gta_theory.proofs.SizesLemmas.{length-partners}
-use Rattle.gta_project.specs.Sets.{IsSet}
+use Rattle.bdd_walk.specs.Sets.{IsSet}
 use Rattle.gta_project.specs.Subsets.{subsets, IsInitial, AreInitial}
-use Rattle.gta_project.proofs.SetsLemmas.{sets-same}
+use Rattle.bdd_walk.proofs.SetsLemmas.{sets-same}
 use Rattle.gta_project.proofs.SubsetsLemmas.{set_step-has, set_step-only, IsSet-step}
 use Rattle.gta_project.proofs.CellsLemmas.{get-index}
-use Rattle.gta_project.specs.Building.{IsStepFunction, ExceedsSteps}
+use Rattle.gta_project.specs.Building.{IsStepFunction, ExceedsSteps, HasManyCells}
+use Rattle.gta_project.proofs.ShelfLemmas.{Contains-get}
 
 -- the parts of the spaces below a number, each with its space
 record ListsSpaces (g : Spaces) (C : Automaton ℕ) (has : ℕ → ℕ → Type 0) (below count : ℕ) : Type 0 where
@@ -52,6 +55,41 @@ module _ (g : Spaces) (C : Automaton ℕ) (has : ℕ → ℕ → Type 0) (n : �
 
   all_spaces : ListsSpaces g C has (length g) n
   all_spaces = subst (ListsSpaces g C has (length g)) size.is_sum (spaces_below (length g) (omega arith))
+
+-- one of the numbers that are added up
+term-le : (f : ℕ → ℕ) (m s : ℕ) → s < m → f s ≤ sum_below f m
+term-le f zero s within = absurd (omega arith)
+term-le f (suc m) s within = elim (cases_lt s m) [
+  | inl early ↦ omega (arith, term-le f m s early)
+  | inr last ↦ (let same : s ≡ m = omega arith in subst (λ (k : ℕ). f k ≤ sum_below f m + f m) (sym same) (omega arith))
+]
+
+-- the row and the column of a place in a table of h rows and w columns
+record IsPlaceIn (h w k : ℕ) : Type 0 where
+  row : ℕ
+  column : ℕ
+  row_within : row < h
+  column_within : column < w
+  is : k ≡ row * w + column
+
+place-in : (h w k : ℕ) → k < h * w → IsPlaceIn h w k
+place-in zero w k within = absurd (omega arith)
+place-in (suc h) w k within = elim (cases_lt k w) [
+  | inl first ↦ record { row = 0; column = k; row_within = omega arith; column_within = first; is = omega arith }
+  | inr later ↦
+      let before = place-in h w (k - w) (omega arith) in
+      let at = before.is in
+      record {
+        row = suc before.row;
+        column = before.column;
+        row_within = omega (arith, before.row_within);
+        column_within = before.column_within;
+        is = omega arith;
+      }
+]
+
+same_pair : (a b : ℕ × ℕ) → ◌≡◌ {A = Option (ℕ × ℕ)} (Some a) (Some b) → a ≡ b
+same_pair a b e = cc
 
 -- a step from other sets with the same states
 step-sets : (A : Automaton ℕ) (t s : ℕ) (Left Right More_left More_right : ℕ → Type 0) (label : Label) (q : ℕ) →
@@ -124,6 +162,66 @@ module _ (g : Spaces) (guide : IsGuide g) (A : Automaton ℕ) (stable : IsStable
   unfolding Names
   one-set s x set other is_set is_other of_set of_other =
       sets-same set other is_set is_other (λ q there. (of_other q).0 ((of_set q).1 there)) (λ q there. (of_set q).0 ((of_other q).1 there))
+
+  generated-set : (s : ℕ) (set : List ℕ) → Generated g Sets s set → IsSet set
+  generated-set _ _ (starts s inside) =
+      let set = get-index initials s (omega (arith, are_initial.many)) in
+      (subst (IsInitial g A t s) (sym (ap (λ (o : Option (List ℕ)). unwrap_or o []) set.1)) (are_initial.each s set.0 set.1)).set
+  generated-set _ _ (steps s lefts rights label inside l r) = IsSet-step A t s lefts rights label
+
+  -- many cells: each stands for a pair of child states of its own
+  module _ (n : ℕ) (size : SizeOf g B (Has states) n) (shelf : Contents) (many : HasManyCells g Sets shelf) where
+    in_space : SizeIn g B (Has states) many.space (size.sizes many.space)
+    in_space = size.in_space many.space many.inside
+
+    -- the cell at this place has the names at that one
+    record IsCellOf (k j : ℕ) : Type 0 where
+      place : IsPlaceIn (length many.rows) (length many.columns) k
+      names : ℕ × ℕ
+      there : slice_get in_space.pairs j ≡ Some names
+      row : Names (left g many.space) names.0 (slice_index_or many.rows place.row [])
+      column : Names (right g many.space) names.1 (slice_index_or many.columns place.column [])
+
+    cell-of : (k : ℕ) → k < length many.rows * length many.columns → (j : ℕ) × (j < length in_space.pairs) × IsCellOf k j
+    cell-of k within =
+        let place = place-in (length many.rows) (length many.columns) k within in
+        let l = slice_index_or many.rows place.row [] in
+        let r = slice_index_or many.columns place.column [] in
+        let x = named (left g many.space) l (many.in_left place.row [] place.row_within) in
+        let y = named (right g many.space) r (many.in_right place.column [] place.column_within) in
+        let at = Contains-get in_space.pairs (x.name, y.name) (in_space.all_pairs.every (x.name, y.name) (x.there, y.there)) in (
+          at.0,
+          slice_get_within in_space.pairs at.0 (x.name, y.name) at.1,
+          record {
+            place = place;
+            names = (x.name, y.name);
+            there = at.1;
+            row = x.is;
+            column = y.is;
+          },
+        )
+
+    one-cell : (k m j : ℕ) → IsCellOf k j → IsCellOf m j → k ≡ m
+    one-cell k m j x y =
+        let same = same_pair x.names y.names (sym x.there ∙ y.there) in
+        let row = place-once many.rows many.rows_differ x.place.row y.place.row [] x.place.row_within y.place.row_within
+        (one-set (left g many.space) y.names.0 _ _ (generated-set _ _ (many.in_left x.place.row [] x.place.row_within))
+        (generated-set _ _ (many.in_left y.place.row [] y.place.row_within))
+        (subst (λ (p : ℕ × ℕ). Names (left g many.space) p.0 (slice_index_or many.rows x.place.row [])) same x.row) y.row) in
+        let column = place-once many.columns many.columns_differ x.place.column y.place.column [] x.place.column_within y.place.column_within
+        (one-set (right g many.space) y.names.1 _ _ (generated-set _ _ (many.in_right x.place.column [] x.place.column_within))
+        (generated-set _ _ (many.in_right y.place.column [] y.place.column_within))
+        (subst (λ (p : ℕ × ℕ). Names (right g many.space) p.1 (slice_index_or many.columns x.place.column [])) same x.column) y.column) in
+        x.place.is ∙ ap (λ (i : ℕ). i * length many.columns + x.place.column) row
+        ∙ ap (λ (i : ℕ). y.place.row * length many.columns + i) column ∙ sym y.place.is
+
+    -- where there are many cells, the limit is below the Size
+    pub cells-below : limit_of shelf < count_of shelf + n
+    cells-below =
+        let fit = matched-le (length in_space.pairs) (length many.rows * length many.columns) IsCellOf
+        (record { partner = cell-of; once = one-cell }) in
+        let part = term-le size.sizes (length g) many.space many.inside in
+        omega (arith, fit, part, many.many, in_space.is_sum, size.is_sum)
 
   module _ (given : ℕ → List ℕ → ℕ) where
     -- the number is what is given to the set that the state names

@@ -9,7 +9,7 @@ use Rattle.std.proofs.lemmas.Bool.{cases_Bool, eqb-true, eq-eqb, false≢true}
 use Rattle.bdd_walk.specs.Laws.{and-left, and-right, and-both}
 use Rattle.bdd_walk.specs.Answers.{KeepsAnswers, AnswersOnly, Completes}
 use Rattle.gta_project.specs.Numbers.{is_set, lists_of, number_in, numbered, AreOfOneSet, AreNumbers, Extends, Grows, stays, comes}
-use Rattle.gta_project.specs.Sets.{set_of, IsSet}
+use Rattle.bdd_walk.specs.Sets.{set_of, IsSet}
 
 pub is_set-true : (a b : List ℕ) → is_set a b ≡ true → a ≡ b
 is_set-true [] [] e = refl

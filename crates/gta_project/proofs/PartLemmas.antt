@@ -8,9 +8,9 @@ use Rattle.std.proofs.lemmas.Option.{slice_get_within, slice_get-get_or}
 use Rattle.bdd_nodes.specs.declared.node_ref.NodeRef.{NodeRef}
 use Rattle.bdd_nodes.specs.Shelf.{Contents}
 use Rattle.bdd_nodes.specs.Changes.{Keeps}
-use Rattle.bdd_walk.specs.declared.joiner.Joiner.{Joiner}
-use Rattle.bdd_walk.specs.Fits.{Fits}
-use Rattle.bdd_walk.proofs.FitsLemmas.{Fits-kept}
+use Rattle.bdd_walk.specs.declared.set_joiner.SetJoiner.{SetJoiner}
+use Rattle.bdd_walk.specs.Fits.{FitsSets}
+use Rattle.bdd_walk.proofs.FitsLemmas.{FitsSets-kept}
 use Rattle.gta_theory.specs.Guides.{Spaces, IsGuide, IsSpace, left, right}
 use Rattle.gta_theory.specs.Automata.{Automaton}
 use Rattle.gta_theory.specs.Numbered.{Below}
@@ -52,25 +52,25 @@ ChangesSpace-at old s before after was = record {
   others = λ t other. get-set_other old s t after other;
 }
 
-same_joiner : (a b : Joiner) → ◌≡◌ {A = Option Joiner} (Some a) (Some b) → a ≡ b
+same_joiner : (a b : SetJoiner) → ◌≡◌ {A = Option SetJoiner} (Some a) (Some b) → a ≡ b
 same_joiner a b e = cc
 
 same_pairs : (a b : List (List ℕ)) → ◌≡◌ {A = Option (List (List ℕ))} (Some a) (Some b) → a ≡ b
 same_pairs a b e = cc
 
 -- a joiner has gone on
-pub FitAll-set : (d : ℕ) (shelf now : Contents) (joiners : List Joiner) (old new : List (List (List ℕ))) (s : ℕ) (joiner : Joiner)
+pub FitAll-set : (d : ℕ) (shelf now : Contents) (joiners : List SetJoiner) (old new : List (List (List ℕ))) (s : ℕ) (joiner : SetJoiner)
     (before after : List (List ℕ)) → Keeps shelf now → s < length joiners → FitAll d shelf joiners old → ChangesSpace old new s before after →
-    Fits joiner (Some d) now (numbered after) → FitAll d now (slice_set joiners s joiner) new
+    FitsSets joiner d now (numbered after) → FitAll d now (slice_set joiners s joiner) new
 FitAll-set d shelf now joiners old new s joiner before after keeps within fits change here = record {
   many = length-set_at joiners s joiner ∙ fits.many ∙ sym change.many;
   each = λ t other sets at_joiner at_pairs. elim (eqb_tells t s) [
     | inl same ↦
         let is_joiner = ap (slice_get (slice_set joiners s joiner)) (sym same.1) ∙ at_joiner in
         let is_pairs = ap (slice_get new) (sym same.1) ∙ at_pairs in
-        subst (λ (j : Joiner). Fits j (Some d) now (numbered sets)) (same_joiner _ _ (sym (get-set joiners s joiner within) ∙ is_joiner))
-        (subst (λ (ps : List (List ℕ)). Fits joiner (Some d) now (numbered ps)) (same_pairs _ _ (sym change.is ∙ is_pairs)) here)
-    | inr apart ↦ Fits-kept shelf now (numbered sets) (numbered sets) keeps (λ states n there. there) other (Some d)
+        subst (λ (j : SetJoiner). FitsSets j d now (numbered sets)) (same_joiner _ _ (sym (get-set joiners s joiner within) ∙ is_joiner))
+        (subst (λ (ps : List (List ℕ)). FitsSets joiner d now (numbered ps)) (same_pairs _ _ (sym change.is ∙ is_pairs)) here)
+    | inr apart ↦ FitsSets-kept shelf now (numbered sets) (numbered sets) keeps (λ states n there. there) other d
         (fits.each t other sets (sym (get-set_other joiners s t joiner apart.1) ∙ at_joiner) (sym (change.others t apart.1) ∙ at_pairs))
   ];
 }

@@ -1,5 +1,5 @@
 -- The projection at the start, at its end, and where there was no room.
-use Rattle.std.proofs.Common.{ℕ, ◌+◌, ◌<◌, Bool, List, [], Option, Result, Ok, Err, OnErr, slice_get, refl, sym, ◌∙◌, ap, subst, arith}
+use Rattle.std.proofs.Common.{ℕ, ◌+◌, ◌<◌, ◌⊎◌, inl, inr, Bool, List, [], Option, Result, Ok, Err, OnErr, slice_get, refl, sym, ◌∙◌, ap, subst, arith}
 use Rattle.std.specs.Prelude.{unwrap_or, is_some, IsTrue}
 use Rattle.bdd_nodes.specs.Roots.{Registered, roots_under}
 use Rattle.bdd_nodes.specs.declared.node_ref.NodeRef.{NodeRef}
@@ -16,8 +16,8 @@ use Rattle.gta_project.specs.Subsets.{subsets, AreInitial}
 use Rattle.gta_theory.specs.Sizes.{SizeOf}
 use Rattle.gta_core.specs.Changes.{RegistersTable}
 use Rattle.gta_project.specs.Numbers.{number_in}
-use Rattle.gta_project.specs.Building.{AreSpaces, CompleteAll, ExceedsSteps, Building, Leaves}
-use Rattle.gta_project.proofs.LimitLemmas.{limit-below}
+use Rattle.gta_project.specs.Building.{AreSpaces, CompleteAll, ExceedsSteps, HasManyCells, Building, Leaves}
+use Rattle.gta_project.proofs.LimitLemmas.{limit-below, cells-below}
 
 pub Building-start : (g : Spaces) (Sets : Automaton (List ℕ)) (shelf : Contents) (spaces : List (List (List ℕ))) → IsShelf shelf → AreSpaces g Sets spaces →
     Building g Sets shelf shelf spaces
@@ -41,12 +41,15 @@ CompleteAll-given_in g Sets spaces = λ s numbers is.
 
 pub limit-subset : (g : Spaces) → IsGuide g → (A : Automaton ℕ) → IsStable g A → (t : ℕ) (initials : List (List ℕ)) → AreInitial g A t initials →
     (first : Contents) (spaces : List (List (List ℕ))) →
-    ((given : ℕ → List ℕ → ℕ) → CompleteAll g (subsets A t initials) spaces given → ExceedsSteps g (subsets A t initials) first given) →
+    ((given : ℕ → List ℕ → ℕ) → CompleteAll g (subsets A t initials) spaces given →
+    ExceedsSteps g (subsets A t initials) first given ⊎ HasManyCells g (subsets A t initials) first) →
     (B : Automaton ℕ) (states : ℕ → ℕ → Bool) (member : ℕ → ℕ → ℕ → Bool) (size : ℕ) →
     IsSubset g A t B (Has states) (λ s x q. IsTrue (member s x q)) → SizeOf g B (Has states) size → limit_of first < count_of first + size
 limit-subset g guide A stable t initials are_initial first spaces exceeds B states member size subset sized =
-    limit-below g guide A stable t initials are_initial B states member subset (given_in spaces) first size sized
-    (exceeds (given_in spaces) (CompleteAll-given_in g (subsets A t initials) spaces))
+    elim (exceeds (given_in spaces) (CompleteAll-given_in g (subsets A t initials) spaces)) [
+      | inl steps ↦ limit-below g guide A stable t initials are_initial B states member subset (given_in spaces) first size sized steps
+      | inr cells ↦ cells-below g guide A stable t initials are_initial B states member subset size sized first cells
+    ]
 
 -- one table is registered after joins
 pub RegistersTable-after : (first now new : Contents) (table : ℕ) (roots : List NodeRef) → SameTables first now → AddsTable now new table roots →

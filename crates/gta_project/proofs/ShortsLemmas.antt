@@ -11,9 +11,9 @@ use Rattle.gta_theory.proofs.ListsLemmas.{Contains-first, Contains-cases, Contai
 use Rattle.bdd_nodes.specs.declared.node_ref.NodeRef.{NodeRef}
 use Rattle.bdd_nodes.specs.Shelf.{Contents, root_of}
 use Rattle.gta_core.specs.declared.part.Part.{Part}
-use Rattle.gta_core.specs.Auto.{AutoView, place_in, place_of, root_at}
+use Rattle.gta_core.specs.Auto.{AutoView, place_in, root_at}
 use Rattle.gta_project.specs.Classes.{HaveClasses}
-use Rattle.gta_project.specs.Roots.{IsRootOf, AreRoots}
+use Rattle.gta_project.specs.Roots.{AreRoots}
 use Rattle.gta_project.specs.Shorts.{rows_in, columns_in, AreShorts, SeenClasses, IsShortStep, was_seen, is_first, has_none}
 use Rattle.gta_project.proofs.NumbersLemmas.{get-snoc}
 

@@ -10,10 +10,10 @@ use Rattle.gta_theory.specs.Constructions.{IsStepOf}
 use Rattle.gta_theory.proofs.ListsLemmas.{Contains-first, Contains-later, Contains-none, Contains-map, Contains-mapped, Contains-flat_map}
 use Rattle.gta_core.specs.Auto.{AutoView, root_at, automaton_of}
 use Rattle.gta_core.proofs.AutoLemmas.{step-some}
-use Rattle.gta_project.specs.Sets.{set_of, IsSet}
+use Rattle.bdd_walk.specs.Sets.{set_of, IsSet}
 use Rattle.gta_project.specs.Subsets.{steps_on, set_step}
 use Rattle.gta_project.specs.Roots.{AreRoots}
-use Rattle.gta_project.proofs.SetsLemmas.{set_of-has, set_of-only, set_of-same, set_of-twice}
+use Rattle.bdd_walk.proofs.SetsLemmas.{set_of-has, set_of-only, set_of-same, set_of-twice}
 
 Contains-flat_mapped : {X Y : Type 0} (f : X → List Y) (xs : List X) (y : Y) → Contains (flat_map f xs) y → (x : X) × Contains xs x × Contains (f x) y
 Contains-flat_mapped f [] y there = absurd (Contains-none y there)

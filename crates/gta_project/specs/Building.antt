@@ -1,13 +1,13 @@
 -- What a projection is made of while it is built: for each space its sets so far, and the nodes that joins made for them.
-use Rattle.std.specs.Prelude.{◌≡◌, ℕ, ◌<◌, ◌≤◌, ◌+◌, ◌*◌, List, length, Some, All, slice_get}
+use Rattle.std.specs.Prelude.{◌≡◌, ◌≢◌, ℕ, ◌<◌, ◌≤◌, ◌+◌, ◌*◌, ◌⊎◌, List, length, Some, All, AllPairs, slice_get}
 use Rattle.std.specs.List.{range_with_len}
 use Rattle.labels.specs.Labels.{Label, Function}
 use Rattle.bdd_nodes.specs.declared.node_ref.NodeRef.{NodeRef}
 use Rattle.bdd_nodes.specs.Shelf.{Contents, IsShelf, limit_of}
 use Rattle.bdd_nodes.specs.Changes.{Keeps, SameTables}
-use Rattle.bdd_walk.specs.declared.joiner.Joiner.{Joiner}
+use Rattle.bdd_walk.specs.declared.set_joiner.SetJoiner.{SetJoiner}
 use Rattle.bdd_walk.specs.Answers.{Completes}
-use Rattle.bdd_walk.specs.Fits.{Fits}
+use Rattle.bdd_walk.specs.Fits.{FitsSets}
 use Rattle.bdd_walk.specs.Under.{AddsAmong, ExceedsAmong}
 use Rattle.gta_theory.specs.Guides.{Spaces, IsSpace, left, right}
 use Rattle.gta_theory.specs.Automata.{Automaton}
@@ -56,6 +56,18 @@ module _ (g : Spaces) (Sets : Automaton (List ℕ)) where
     pub each : All (IsStepFunction given) wholes
     pub exceeds : ExceedsAmong shelf wholes
 
+  -- a space has more pairs of different generated sets of its children than the limit
+  pub record HasManyCells (shelf : Contents) : Type 0 where
+    pub space : ℕ
+    pub inside : IsSpace g space
+    pub rows : List (List ℕ)
+    pub columns : List (List ℕ)
+    pub in_left : All (Generated g Sets (left g space)) rows
+    pub in_right : All (Generated g Sets (right g space)) columns
+    pub rows_differ : AllPairs (λ x y. x ≢ y) rows
+    pub columns_differ : AllPairs (λ x y. x ≢ y) columns
+    pub many : limit_of shelf < length rows * length columns
+
   -- the projection at work since the shelf was as at first
   pub record Building (first now : Contents) (spaces : List (List (List ℕ))) : Type 0 where
     pub keeps : Keeps first now
@@ -65,10 +77,10 @@ module _ (g : Spaces) (Sets : Automaton (List ℕ)) where
     pub are : AreSpaces spaces
     pub counted : (given : ℕ → List ℕ → ℕ) → CompleteAll spaces given → AddsSteps first now given
 
-  -- there is less room than the projection of these spaces has missing functions
+  -- there is less room than the projection of these spaces has missing functions, or a space has many cells
   pub record Exceeded (first : Contents) : Type 0 where
     pub spaces : List (List (List ℕ))
-    pub exceeds : (given : ℕ → List ℕ → ℕ) → CompleteAll spaces given → ExceedsSteps first given
+    pub exceeds : (given : ℕ → List ℕ → ℕ) → CompleteAll spaces given → ExceedsSteps first given ⊎ HasManyCells first
 
   -- the part of a space has a root for each pair of classes of its children's sets, of a source that has this part
   pub record IsBuilt (s : ℕ) (lefts rights sets : List (List ℕ)) (own : Part) (shelf : Contents) (roots : List NodeRef)
@@ -118,10 +130,10 @@ pub record ExtendAll (old new : List (List (List ℕ))) : Type 0 where
   pub each : (s : ℕ) (sets more : List (List ℕ)) → slice_get old s ≡ Some sets → slice_get new s ≡ Some more → Extends sets more
 
 -- each space has a joiner, for the track t dropped, that fits its numbers
-pub record FitAll (t : ℕ) (shelf : Contents) (joiners : List Joiner) (spaces : List (List (List ℕ))) : Type 0 where
+pub record FitAll (t : ℕ) (shelf : Contents) (joiners : List SetJoiner) (spaces : List (List (List ℕ))) : Type 0 where
   pub many : length joiners ≡ length spaces
-  pub each : (s : ℕ) (joiner : Joiner) (sets : List (List ℕ)) → slice_get joiners s ≡ Some joiner → slice_get spaces s ≡ Some sets →
-      Fits joiner (Some t) shelf (numbered sets)
+  pub each : (s : ℕ) (joiner : SetJoiner) (sets : List (List ℕ)) → slice_get joiners s ≡ Some joiner → slice_get spaces s ≡ Some sets →
+      FitsSets joiner t shelf (numbered sets)
 
 -- what joins leave of a shelf
 pub record Leaves (old new : Contents) : Type 0 where

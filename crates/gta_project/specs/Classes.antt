@@ -1,7 +1,7 @@
 -- Classes of sets of states: sets of a class have the same roots.
 use Rattle.std.specs.Prelude.{◌≡◌, ◌≢◌, ℕ, ◌^◌, ◌<◌, ◌≤◌, List, [], ◌∷◌, ◌++◌, map, length, All, Contains, Some, slice_get, slice_index}
 use Rattle.gta_project.specs.declared.classes.Classes.{Classes}
-use Rattle.gta_project.specs.Sets.{set_of}
+use Rattle.bdd_walk.specs.Sets.{set_of}
 
 -- each state of one has the class of a state of the other
 pub record HaveClasses (classes one other : List ℕ) : Type 0 where

@@ -4,7 +4,7 @@ use Rattle.labels.specs.Labels.{empty_label}
 use Rattle.gta_theory.specs.Guides.{Spaces, left, right}
 use Rattle.gta_theory.specs.Automata.{Automaton}
 use Rattle.gta_theory.specs.Constructions.{Settled, IsStepOf}
-use Rattle.gta_project.specs.Sets.{IsSet}
+use Rattle.bdd_walk.specs.Sets.{IsSet}
 
 -- the set of a space; the empty one where there is none yet
 abbrev pub set_at : List (List ℕ) → ℕ → List ℕ

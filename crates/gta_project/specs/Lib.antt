@@ -1,4 +1,3 @@
-pub mod Sets
 pub mod Subsets
 pub mod Numbers
 pub mod Classes

@@ -4,7 +4,7 @@ use Rattle.std.specs.Prelude.{◌∷◌, ◌++◌, map, length, Option, Some, No
 use Rattle.std.specs.Cmp.Lexicographic.{pointwise}
 use Rattle.std.proofs.Common.{Global}
 use Rattle.bdd_walk.specs.Answers.{Answers}
-use Rattle.gta_project.specs.Sets.{set_of, IsSet}
+use Rattle.bdd_walk.specs.Sets.{set_of, IsSet}
 
 -- whether the two sets are the same
 abbrev pub is_set : List ℕ → List ℕ → Bool

@@ -6,7 +6,7 @@ use Rattle.labels.specs.Labels.{Label, with_track}
 use Rattle.gta_theory.specs.Guides.{Spaces}
 use Rattle.gta_theory.specs.Automata.{Automaton}
 use Rattle.gta_theory.specs.Constructions.{Settled}
-use Rattle.gta_project.specs.Sets.{set_of, IsSet}
+use Rattle.bdd_walk.specs.Sets.{set_of, IsSet}
 
 -- what steps on the label make of a state of each list
 abbrev pub steps_on : Automaton ℕ → ℕ → List ℕ → List ℕ → Label → List ℕ

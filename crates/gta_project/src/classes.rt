@@ -4,8 +4,7 @@ ghost use Rattle.std.specs.Prelude.{◌≡◌, ◌<◌, ◌≤◌, ◌^◌, ℕ,
 ghost use Rattle.gta_project.specs.Classes.{AreClasses, Notes, classes_of};
 
 use crate::numbering::Numbering;
-use crate::sets::set_of;
-use bdd_walk::{NoMemory, StateList};
+use bdd_walk::{NoMemory, StateList, set_of};
 use plain_data::Items;
 use std::alloc::Global;
 

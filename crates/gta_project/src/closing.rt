@@ -10,9 +10,8 @@ ghost use Rattle.gta_project.specs.Subsets.{AreInitial};
 ghost use Rattle.gta_project.specs.Closing.{set_at, IsNext, AreNext, AreSettled};
 
 use crate::roots::roots_at;
-use crate::sets::set_of;
 use bdd_nodes::{Label, NodeRef, Shelf};
-use bdd_walk::{NoMemory, StateList};
+use bdd_walk::{NoMemory, StateList, set_of};
 use gta_core::Auto;
 use plain_data::Items;
 use std::alloc::{AllocError, Global};

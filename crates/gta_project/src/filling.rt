@@ -2,7 +2,7 @@
 
 ghost use Rattle.std.specs.Prelude.{◌≡◌, ℕ, List, [], ◌∷◌, Some, Err, IsSome, IfOk, OnOk, Contains, All};
 ghost use Rattle.bdd_walk.specs.Answers.{Completes};
-ghost use Rattle.bdd_walk.specs.Fits.{Fits};
+ghost use Rattle.bdd_walk.specs.Fits.{FitsSets};
 ghost use Rattle.bdd_nodes.specs.Shelf.{IsValid};
 ghost use Rattle.gta_core.specs.Auto.{root_at, automaton_of};
 ghost use Rattle.gta_project.specs.Subsets.{set_step};
@@ -15,7 +15,7 @@ use crate::numbering::Numbering;
 use crate::roots::roots_at;
 use crate::shorts::{classes_in, one_a_class, shortened};
 use bdd_nodes::{NodeRef, RefList, Shelf};
-use bdd_walk::{Joiner, StateList, Stop};
+use bdd_walk::{SetJoiner, StateList, Stop};
 use gta_core::Auto;
 use std::alloc::Global;
 
@@ -32,25 +32,25 @@ pub(crate) fn join_cell(
     right: &[u32],
     short_left: &[u32],
     short_right: &[u32],
-    joiner: &mut Joiner,
+    joiner: &mut SetJoiner,
     numbers: &mut Numbering,
 ) -> Result<NodeRef, Stop>
     requires known { (l r : ℕ) → Contains left.now l → Contains right.now r → IsSome (root_at shelf.old a.now space l r) }
     requires rows { HaveClasses (rows_in a.now space) left.now short_left.now }
     requires columns { HaveClasses (columns_in a.now space) right.now short_right.now }
-    requires fits { Fits joiner.old (Some track) shelf.old (numbered numbers.old) }
+    requires fits { FitsSets joiner.old track shelf.old (numbered numbers.old) }
     ensures joins { Joins (set_step (automaton_of shelf.old a.now) track) space (left.now ∷ []) (right.now ∷ [])
         shelf.old shelf.new numbers.old numbers.new }
     ensures cell { IfOk result (IsCell (set_step (automaton_of shelf.old a.now) track) space numbers.new left.now right.now shelf.new) }
     ensures limit { result ≡ Err Stop.Limit → (given : List ℕ → ℕ) → Completes (number_in numbers.new) given →
         ExceedsCells (set_step (automaton_of shelf.old a.now) track) space (left.now ∷ []) (right.now ∷ []) shelf.old given }
-    ensures fits { OnOk result (Fits joiner.new (Some track) shelf.new (numbered numbers.new)) }
+    ensures fits { OnOk result (FitsSets joiner.new track shelf.new (numbered numbers.new)) }
     ensures numbers { AreNumbers numbers.new }
 {
     // Only for their clauses `shelf` and `numbers`.
     let _ = (shelf.count(), numbers.len());
     let roots = roots_at(alloc, a, shelf, space, short_left, short_right)?;
-    let joined = joiner.join(alloc, shelf, roots.as_slice(), Some(track), numbers);
+    let joined = joiner.join(alloc, shelf, roots, track, numbers);
     let _ = numbers.len();
     let made = joined?;
     Ok(made)
@@ -68,7 +68,7 @@ fn fill_row(
     columns: &[StateList],
     short: &[u32],
     shorts: &[StateList],
-    joiner: &mut Joiner,
+    joiner: &mut SetJoiner,
     numbers: &mut Numbering,
     roots: &mut RefList,
 ) -> Result<(), Stop>
@@ -77,7 +77,7 @@ fn fill_row(
     requires short { HaveClasses (rows_in a.now space) row.now short.now }
     requires shorts { AreShorts (columns_in a.now space) columns.now shorts.now }
     requires valid { All (IsValid shelf.old) roots.old }
-    requires fits { Fits joiner.old (Some track) shelf.old (numbered numbers.old) }
+    requires fits { FitsSets joiner.old track shelf.old (numbered numbers.old) }
     ensures joins { Joins (set_step (automaton_of shelf.old a.now) track) space (row.now ∷ []) columns.now
         shelf.old shelf.new numbers.old numbers.new }
     ensures cells { OnOk result (IsRow (set_step (automaton_of shelf.old a.now) track) space row.now columns.now
@@ -85,7 +85,7 @@ fn fill_row(
     ensures valid { OnOk result (All (IsValid shelf.new) roots.new) }
     ensures limit { result ≡ Err Stop.Limit → (given : List ℕ → ℕ) → Completes (number_in numbers.new) given →
         ExceedsCells (set_step (automaton_of shelf.old a.now) track) space (row.now ∷ []) columns.now shelf.old given }
-    ensures fits { OnOk result (Fits joiner.new (Some track) shelf.new (numbered numbers.new)) }
+    ensures fits { OnOk result (FitsSets joiner.new track shelf.new (numbered numbers.new)) }
     ensures numbers { AreNumbers numbers.new }
 {
     // Only for their clauses `shelf` and `numbers`.
@@ -111,14 +111,14 @@ pub(crate) fn fill(
     space: u32,
     rows: &[StateList],
     columns: &[StateList],
-    joiner: &mut Joiner,
+    joiner: &mut SetJoiner,
     numbers: &mut Numbering,
     roots: &mut RefList,
 ) -> Result<(), Stop>
     requires known { (row column : List ℕ) → Contains rows.now row → Contains columns.now column → (l r : ℕ) → Contains row l →
         Contains column r → IsSome (root_at shelf.old a.now space l r) }
     requires valid { All (IsValid shelf.old) roots.old }
-    requires fits { Fits joiner.old (Some track) shelf.old (numbered numbers.old) }
+    requires fits { FitsSets joiner.old track shelf.old (numbered numbers.old) }
     ensures joins { Joins (set_step (automaton_of shelf.old a.now) track) space rows.now columns.now
         shelf.old shelf.new numbers.old numbers.new }
     ensures cells { OnOk result (AreCells (set_step (automaton_of shelf.old a.now) track) space rows.now columns.now
@@ -126,7 +126,7 @@ pub(crate) fn fill(
     ensures valid { OnOk result (All (IsValid shelf.new) roots.new) }
     ensures limit { result ≡ Err Stop.Limit → (given : List ℕ → ℕ) → Completes (number_in numbers.new) given →
         ExceedsCells (set_step (automaton_of shelf.old a.now) track) space rows.now columns.now shelf.old given }
-    ensures fits { OnOk result (Fits joiner.new (Some track) shelf.new (numbered numbers.new)) }
+    ensures fits { OnOk result (FitsSets joiner.new track shelf.new (numbered numbers.new)) }
     ensures numbers { AreNumbers numbers.new }
 {
     // Only for their clauses `shelf` and `numbers`.

@@ -1,22 +1,25 @@
 //! The sets that come: a space is joined for the classes of its children's sets that weren't joined yet.
 
-ghost use Rattle.std.specs.Prelude.{◌≡◌, ◌<◌, ◌⊎◌, ℕ, List, [], length, map, Err, All, Contains, IfOk, OnOk, IsTrue, ◌↔◌, Some, slice_get};
+ghost use Rattle.std.specs.Prelude.{◌≡◌, ◌<◌, ◌*◌, ◌⊎◌, ℕ, List, [], length, map, Err, All, Contains, IfOk, OnOk, IsTrue, ◌↔◌, Some, slice_get};
 ghost use Rattle.gta_theory.specs.Automata.{Automaton};
 ghost use Rattle.gta_theory.specs.Guides.{left, right};
 ghost use Rattle.gta_project.specs.Subsets.{subsets, AreInitial};
-ghost use Rattle.gta_core.specs.Auto.{automaton_of, IsAuto};
+ghost use Rattle.gta_core.specs.Auto.{AutoView, automaton_of, IsAuto};
 ghost use Rattle.gta_project.specs.Building.{AreSpaces, FitAll};
-ghost use Rattle.gta_project.specs.Growing.{AreGenerated, HasSeen, HaveSeen, Goes, LacksRoom};
+ghost use Rattle.gta_project.specs.Growing.{AreGenerated, IsKeyed, HasSeen, HaveSeen, Goes, LacksRoom};
 
 use crate::classes::{key_of, note};
 use crate::filling::fill;
 use crate::numbering::Numbering;
 use bdd_nodes::{RefList, Shelf};
-use bdd_walk::{Joiner, NoMemory, StateList, Stop};
+use bdd_walk::{NoMemory, SetJoiner, StateList, Stop};
 use gta_core::Auto;
 use plain_data::Items;
 use std::alloc::Global;
 use ws2s_core::Guide;
+
+/// The most roots that the table of a space may have for each node of the shelf's limit: they stand outside the shelf.
+const CELLS_A_NODE: u64 = 16;
 
 /// The classes of a child's sets so far.
 #[derive(Drop)]
@@ -30,7 +33,8 @@ pub(crate) struct Seen {
 
 impl Seen {
     fn new(alloc: Global) -> Seen
-        ensures { result.ones ≡ [] }
+        ensures ones { result.ones ≡ [] }
+        ensures keys { result.keys ≡ [] }
     {
         Seen {
             keys: Numbering::new(alloc),
@@ -42,7 +46,8 @@ impl Seen {
     /// Looks at the sets that have come, of which those of new classes join the ones.
     fn look(&mut self, alloc: Global, sets: &Numbering, states: &[u32]) -> Result<(), NoMemory>
         requires { (k : ℕ) (set : List ℕ) → slice_get sets.now k ≡ Some set → All (λ q. q < length states.now) set }
-        ensures { OnOk result ((x : List ℕ) → Contains self.new.ones x → Contains self.old.ones x ⊎ Contains sets.now x) }
+        ensures only { OnOk result ((x : List ℕ) → Contains self.new.ones x → Contains self.old.ones x ⊎ Contains sets.now x) }
+        ensures keyed { OnOk result (IsKeyed states.now self.old → IsKeyed states.now self.new) }
     {
         for k in self.looked..sets.len() {
             let set = sets.set(k);
@@ -64,7 +69,8 @@ pub(crate) struct Growth {
 
 /// Nothing was looked at in any space.
 pub(crate) fn growths(alloc: Global, g: &Guide) -> Result<Vec<Growth>, NoMemory>
-    ensures { IfOk result (λ growths. (A : Automaton ℕ) (track : ℕ) (initials : List (List ℕ)) → HaveSeen g.now (subsets A track initials) growths.items) }
+    ensures { IfOk result (λ growths. (A : Automaton ℕ) (a : AutoView) (track : ℕ) (initials : List (List ℕ)) →
+        HaveSeen g.now (subsets A track initials) a growths.items) }
 {
     let mut growths = Vec::new(alloc);
     for _space in 0..g.spaces() {
@@ -85,21 +91,21 @@ pub(crate) fn grow(
     track: u32,
     initials: &[StateList],
     shelf: &mut Shelf,
-    joiners: &mut Vec<Joiner>,
+    joiners: &mut Vec<SetJoiner>,
     numbers: &mut Vec<Numbering>,
     growths: &mut Vec<Growth>,
 ) -> Result<(), Stop>
     requires auto { IsAuto g.now shelf.old a.now }
     requires initials { AreInitial g.now (automaton_of shelf.old a.now) track initials.now }
     requires spaces { AreSpaces g.now (subsets (automaton_of shelf.old a.now) track initials.now) numbers.old.items }
-    requires seen { HaveSeen g.now (subsets (automaton_of shelf.old a.now) track initials.now) growths.old.items }
+    requires seen { HaveSeen g.now (subsets (automaton_of shelf.old a.now) track initials.now) a.now growths.old.items }
     requires fits { FitAll track shelf.old joiners.old.items numbers.old.items }
     ensures goes { Goes g.now (subsets (automaton_of shelf.old a.now) track initials.now)
         shelf.old shelf.new numbers.old.items numbers.new.items }
     ensures limit { result ≡ Err Stop.Limit → LacksRoom g.now (subsets (automaton_of shelf.old a.now) track initials.now)
         shelf.old numbers.old.items numbers.new.items }
     ensures spaces { OnOk result (AreSpaces g.now (subsets (automaton_of shelf.old a.now) track initials.now) numbers.new.items) }
-    ensures seen { OnOk result (HaveSeen g.now (subsets (automaton_of shelf.old a.now) track initials.now) growths.new.items) }
+    ensures seen { OnOk result (HaveSeen g.now (subsets (automaton_of shelf.old a.now) track initials.now) a.now growths.new.items) }
     ensures fits { OnOk result (FitAll track shelf.new joiners.new.items numbers.new.items) }
 {
     // Only for its clause `shelf`.
@@ -125,21 +131,21 @@ fn grow_once(
     track: u32,
     initials: &[StateList],
     shelf: &mut Shelf,
-    joiners: &mut Vec<Joiner>,
+    joiners: &mut Vec<SetJoiner>,
     numbers: &mut Vec<Numbering>,
     growths: &mut Vec<Growth>,
 ) -> Result<(), Stop>
     requires auto { IsAuto g.now shelf.old a.now }
     requires initials { AreInitial g.now (automaton_of shelf.old a.now) track initials.now }
     requires spaces { AreSpaces g.now (subsets (automaton_of shelf.old a.now) track initials.now) numbers.old.items }
-    requires seen { HaveSeen g.now (subsets (automaton_of shelf.old a.now) track initials.now) growths.old.items }
+    requires seen { HaveSeen g.now (subsets (automaton_of shelf.old a.now) track initials.now) a.now growths.old.items }
     requires fits { FitAll track shelf.old joiners.old.items numbers.old.items }
     ensures goes { Goes g.now (subsets (automaton_of shelf.old a.now) track initials.now)
         shelf.old shelf.new numbers.old.items numbers.new.items }
     ensures limit { result ≡ Err Stop.Limit → LacksRoom g.now (subsets (automaton_of shelf.old a.now) track initials.now)
         shelf.old numbers.old.items numbers.new.items }
     ensures spaces { OnOk result (AreSpaces g.now (subsets (automaton_of shelf.old a.now) track initials.now) numbers.new.items) }
-    ensures seen { OnOk result (HaveSeen g.now (subsets (automaton_of shelf.old a.now) track initials.now) growths.new.items) }
+    ensures seen { OnOk result (HaveSeen g.now (subsets (automaton_of shelf.old a.now) track initials.now) a.now growths.new.items) }
     ensures fits { OnOk result (FitAll track shelf.new joiners.new.items numbers.new.items) }
 {
     // Only for its clause `shelf`.
@@ -163,7 +169,7 @@ fn grow_space(
     initials: &[StateList],
     shelf: &mut Shelf,
     space: u32,
-    joiners: &mut Vec<Joiner>,
+    joiners: &mut Vec<SetJoiner>,
     numbers: &mut Vec<Numbering>,
     growth: &mut Growth,
 ) -> Result<(), Stop>
@@ -171,20 +177,27 @@ fn grow_space(
     requires initials { AreInitial g.now (automaton_of shelf.old a.now) track initials.now }
     requires spaces { AreSpaces g.now (subsets (automaton_of shelf.old a.now) track initials.now) numbers.old.items }
     requires inside { space < length g.now }
-    requires seen { HasSeen g.now (subsets (automaton_of shelf.old a.now) track initials.now) space growth.old }
+    requires seen { HasSeen g.now (subsets (automaton_of shelf.old a.now) track initials.now) a.now space growth.old }
     requires fits { FitAll track shelf.old joiners.old.items numbers.old.items }
     ensures goes { Goes g.now (subsets (automaton_of shelf.old a.now) track initials.now)
         shelf.old shelf.new numbers.old.items numbers.new.items }
     ensures limit { result ≡ Err Stop.Limit → LacksRoom g.now (subsets (automaton_of shelf.old a.now) track initials.now)
         shelf.old numbers.old.items numbers.new.items }
     ensures spaces { OnOk result (AreSpaces g.now (subsets (automaton_of shelf.old a.now) track initials.now) numbers.new.items) }
-    ensures seen { OnOk result (HasSeen g.now (subsets (automaton_of shelf.old a.now) track initials.now) space growth.new) }
+    ensures seen { OnOk result (HasSeen g.now (subsets (automaton_of shelf.old a.now) track initials.now) a.now space growth.new) }
     ensures fits { OnOk result (FitAll track shelf.new joiners.new.items numbers.new.items) }
 {
     // Only for its clause `shelf`.
     let _ = shelf.count();
     let (rows, columns) = (growth.rows.ones.len(), growth.columns.ones.len());
     look_at(alloc, g, a, track, initials, shelf, space, numbers, growth)?;
+    if exceeds(
+        growth.rows.ones.len(),
+        growth.columns.ones.len(),
+        shelf.limit(),
+    ) {
+        return Err(Stop::Limit);
+    }
     let (earlier, new) = parted(growth.rows.ones.as_slice(), rows);
     let all = growth.columns.ones.as_slice();
     join_sets(
@@ -194,6 +207,13 @@ fn grow_space(
     join_sets(
         alloc, g, a, track, initials, shelf, space, earlier, came, joiners, numbers,
     )
+}
+
+/// Whether a table of so many rows and columns has too many roots for this limit of nodes.
+fn exceeds(rows: usize, columns: usize, limit: u32) -> bool
+    ensures { IsTrue result ↔ 16 * limit < rows * columns }
+{
+    rows as u128 * columns as u128 > CELLS_A_NODE as u128 * limit as u128
 }
 
 /// The first so many sets, and the others.
@@ -223,8 +243,8 @@ fn look_at(
     requires initials { AreInitial g.now (automaton_of shelf.now a.now) track _initials.now }
     requires spaces { AreSpaces g.now (subsets (automaton_of shelf.now a.now) track _initials.now) numbers.now.items }
     requires inside { space < length g.now }
-    requires seen { HasSeen g.now (subsets (automaton_of shelf.now a.now) track _initials.now) space growth.old }
-    ensures { OnOk result (HasSeen g.now (subsets (automaton_of shelf.now a.now) track _initials.now) space growth.new) }
+    requires seen { HasSeen g.now (subsets (automaton_of shelf.now a.now) track _initials.now) a.now space growth.old }
+    ensures { OnOk result (HasSeen g.now (subsets (automaton_of shelf.now a.now) track _initials.now) a.now space growth.new) }
 {
     let at = space as usize;
     let children = g.children(space).unwrap_or((0, 0));
@@ -247,7 +267,7 @@ fn join_sets(
     space: u32,
     rows: &[StateList],
     columns: &[StateList],
-    joiners: &mut Vec<Joiner>,
+    joiners: &mut Vec<SetJoiner>,
     numbers: &mut Vec<Numbering>,
 ) -> Result<(), Stop>
     requires auto { IsAuto g.now shelf.old a.now }

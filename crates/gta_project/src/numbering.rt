@@ -1,11 +1,10 @@
 //! Numbers for sets of states.
 
 ghost use Rattle.std.specs.Prelude.{◌≡◌, ◌<◌, ◌^◌, [], length, Some, IfOk, slice_get};
-ghost use Rattle.gta_project.specs.Sets.{IsSet};
+ghost use Rattle.bdd_walk.specs.Sets.{IsSet};
 ghost use Rattle.gta_project.specs.Numbers.{number_in, AreNumbers, Grows};
 
-use crate::sets::set_of;
-use bdd_walk::{LeafRule, StateList};
+use bdd_walk::{LeafRule, StateList, set_of};
 use indexmap::IndexSet;
 use std::alloc::{AllocError, Global};
 use std::marker::Model;

@@ -12,7 +12,7 @@ ghost use Rattle.gta_theory.specs.Sizes.{SizeOf};
 ghost use Rattle.gta_core.specs.Auto.{states_of, is_accepting, automaton_of, IsAuto};
 ghost use Rattle.gta_core.specs.Changes.{RegistersTable};
 ghost use Rattle.gta_core.specs.Placing.{Grows};
-ghost use Rattle.gta_project.specs.Sets.{IsSet};
+ghost use Rattle.bdd_walk.specs.Sets.{IsSet};
 ghost use Rattle.gta_project.specs.Subsets.{subsets, AreInitial};
 ghost use Rattle.gta_project.specs.Project.{IsSubsetOf};
 ghost use Rattle.gta_project.specs.Building.{AreSpaces, FitAll, ExtendAll, Building, CompleteAll, ExceedsSteps, IsPartOf, AreParts, Leaves, Exceeded};
@@ -24,7 +24,7 @@ use crate::filling::fill;
 use crate::growing::{are_same, counts, grow, growths};
 use crate::numbering::Numbering;
 use bdd_nodes::{RefList, Shelf};
-use bdd_walk::{Joiner, NoMemory, StateList, Stop};
+use bdd_walk::{NoMemory, SetJoiner, StateList, Stop};
 use gta_core::{Auto, BoolList, Part};
 use plain_data::Items;
 use std::alloc::{AllocError, Global};
@@ -36,9 +36,10 @@ use ws2s_core::{Guide, Track};
 ///
 /// # Errors
 ///
-/// `Limit` only where the nodes at the call and the Size of the projection are more than the limit. Want of memory, also
-/// where a space has more sets than there are state numbers, or the roots are more than a `u32` counts. After a stop no
-/// table is left.
+/// `Limit` only where the nodes at the call and the Size of the projection are more than the limit: where the shelf has
+/// no room for a node, or where the table of a space gets more than 16 roots for each node of the limit. Each root is for
+/// a pair of child states of its own, and the Size counts those. Want of memory, also where a space has more sets than
+/// there are state numbers, or the roots are more than a `u32` counts. After a stop no table is left.
 pub fn project(
     alloc: Global,
     g: &Guide,
@@ -160,13 +161,13 @@ fn start(alloc: Global, g: &Guide, initials: &[StateList]) -> Result<Vec<Numberi
 }
 
 /// A joiner for each space.
-fn joiners(alloc: Global, g: &Guide) -> Result<Vec<Joiner>, NoMemory>
+fn joiners(alloc: Global, g: &Guide) -> Result<Vec<SetJoiner>, NoMemory>
     ensures { IfOk result (λ joiners. (track : ℕ) (shelf : Contents) (spaces : List (List (List ℕ))) → length spaces ≡ length g.now →
         FitAll track shelf joiners.items spaces) }
 {
     let mut joiners = Vec::new(alloc);
     for _space in 0..g.spaces() {
-        joiners.push(Joiner::new(alloc))?;
+        joiners.push(SetJoiner::new(alloc))?;
     }
     Ok(joiners)
 }
@@ -213,7 +214,7 @@ fn parts_of(
     track: u32,
     initials: &[StateList],
     shelf: &mut Shelf,
-    joiners: &mut Vec<Joiner>,
+    joiners: &mut Vec<SetJoiner>,
     numbers: &mut Vec<Numbering>,
     roots: &mut RefList,
 ) -> Result<Items<Part>, Stop>
@@ -259,7 +260,7 @@ fn part_of(
     _initials: &[StateList],
     shelf: &mut Shelf,
     space: u32,
-    joiners: &mut Vec<Joiner>,
+    joiners: &mut Vec<SetJoiner>,
     numbers: &mut Vec<Numbering>,
     roots: &mut RefList,
 ) -> Result<Part, Stop>

@@ -2,8 +2,8 @@ use Rattle.std.proofs.Common.{◌≡◌, ◌+◌, ℕ, List, [], ◌∷◌, ◌+
 use Rattle.std.proofs.lemmas.List.{take_more}
 use Rattle.std.proofs.lemmas.Option.{slice_get-get_or}
 use Rattle.std.specs.Prelude.{map, slice_index}
-use Rattle.gta_project.specs.Sets.{IsSet}
-use Rattle.gta_project.proofs.SetsLemmas.{set_of-twice}
+use Rattle.bdd_walk.specs.Sets.{IsSet}
+use Rattle.bdd_walk.proofs.SetsLemmas.{set_of-twice}
 use Rattle.gta_project.specs.Numbers.{number_in, Grows}
 use Rattle.gta_project.specs.Classes.{AreKeyed}
 use Rattle.gta_project.proofs.ClassesLemmas.{AreKeyed-more}

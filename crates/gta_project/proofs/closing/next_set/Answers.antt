@@ -5,7 +5,7 @@ use Rattle.bdd_nodes.specs.Shelf.{label_of}
 use Rattle.bdd_walk.specs.Asked.{leaves_of}
 use Rattle.gta_theory.specs.Guides.{left, right}
 use Rattle.gta_core.specs.Auto.{initial_of, automaton_of}
-use Rattle.gta_project.specs.Sets.{set_of}
+use Rattle.bdd_walk.specs.Sets.{set_of}
 use Rattle.gta_project.specs.Roots.{AreRoots}
 use Rattle.gta_project.specs.Closing.{set_at, IsNext}
 use Rattle.gta_project.proofs.ClosingLemmas.{settled-known, IsNext-made}

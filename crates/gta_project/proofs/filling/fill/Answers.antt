@@ -58,7 +58,8 @@ returns-in_err-fill_row-clause-limit c = λ stopped given completes.
     (in-alone c.args.rows.now row there) (λ x there. there)
     c.args.shelf.now c.loop-row.shelf c.fill_row.new.shelf c.args.numbers.now c.loop-row.numbers c.fill_row.new.numbers c.count.ensures.shelf
     c.loop-row.invariant.joins c.fill_row.ensures.numbers c.fill_row.ensures.joins given completes
-    (c.fill_row.ensures.limit (let why = rw stopped at c.from_residual-in_err-fill_row.ensures in c.in_err-fill_row.was ∙ (let is = why.1 in cc)) given completes)
+    (c.fill_row.ensures.limit (let why = rw stopped at c.from_residual-in_err-fill_row.ensures in c.in_err-fill_row.was ∙ (let is = why.1 in cc)) given
+    completes)
 
 pub loop-row-preserved : goal.loop-row-preserved
 loop-row-preserved c =

@@ -1,6 +1,6 @@
-use Rattle.std.proofs.Common.{Some, All, take}
+use Rattle.std.proofs.Common.{All, take}
 use Rattle.bdd_nodes.specs.Shelf.{IsValid}
-use Rattle.bdd_walk.specs.Fits.{Fits}
+use Rattle.bdd_walk.specs.Fits.{FitsSets}
 use Rattle.gta_project.specs.Subsets.{set_step}
 use Rattle.gta_core.specs.Auto.{automaton_of}
 use Rattle.gta_project.specs.Numbers.{numbered, AreNumbers}
@@ -14,6 +14,6 @@ invariant-loop-row l = record {
   cells : AreCells (set_step (automaton_of l.fn.shelf l.a) l.track) l.space (take l.row-index l.rows) l.columns
       l.numbers l.shelf l.fn.roots l.roots;
   valid : All (IsValid l.shelf) l.roots;
-  fits : Fits l.joiner (Some l.track) l.shelf (numbered l.numbers);
+  fits : FitsSets l.joiner l.track l.shelf (numbered l.numbers);
   numbers : AreNumbers l.numbers;
 }

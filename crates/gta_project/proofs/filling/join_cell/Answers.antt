@@ -1,8 +1,7 @@
 -- One root is joined for a set of each child.
-use Rattle.std.proofs.Common.{◌≡◌, ℕ, List, Some, Contains, sym, ◌∙◌, subst}
+use Rattle.std.proofs.Common.{◌≡◌, ℕ, Some, Contains, ◌∙◌}
 use Rattle.bdd_nodes.specs.declared.node_ref.NodeRef.{NodeRef}
 use Rattle.gta_core.specs.Auto.{root_at}
-use Rattle.gta_project.specs.Roots.{AreRoots}
 use Rattle.gta_project.proofs.ClosingLemmas.{some-is}
 use Rattle.gta_project.proofs.ShortsLemmas.{known-short, AreRoots-short}
 use Rattle.gta_project.proofs.FillingLemmas.{Joins-one, IsCell-one, ExceedsCells-one}
@@ -16,10 +15,9 @@ pub returns-in_err-made-clause-joins : goal.returns-in_err-made-clause-joins
 returns-in_err-made-clause-joins c =
     let shelf = c.args.shelf.now in
     let a = c.args.a.now in
-    let roots = c.as_slice.result.now in
+    let roots = c.in_ok-roots.roots.items in
     let are = AreRoots-short shelf a c.args.space c.args.left.now c.args.right.now c.args.short_left.now c.args.short_right.now c.requires.rows
-    c.requires.columns roots (subst (λ (rs : List NodeRef). AreRoots shelf a c.args.space c.args.short_left.now c.args.short_right.now rs)
-    (sym c.as_slice.ensures.value) c.in_ok-roots.ensures) in
+    c.requires.columns roots c.in_ok-roots.ensures in
     let known = λ (l r : ℕ) (in_l : Contains c.args.left.now l) (in_r : Contains c.args.right.now r).
     let k : (root : NodeRef) × (root_at shelf a c.args.space l r ≡ Some root) = some-is (root_at shelf a c.args.space l r)
     (c.requires.known l r in_l in_r) in k in
@@ -32,10 +30,9 @@ pub returns-in_err-made-clause-limit : goal.returns-in_err-made-clause-limit
 returns-in_err-made-clause-limit c = λ stopped given completes.
     let shelf = c.args.shelf.now in
     let a = c.args.a.now in
-    let roots = c.as_slice.result.now in
+    let roots = c.in_ok-roots.roots.items in
     let are = AreRoots-short shelf a c.args.space c.args.left.now c.args.right.now c.args.short_left.now c.args.short_right.now c.requires.rows
-    c.requires.columns roots (subst (λ (rs : List NodeRef). AreRoots shelf a c.args.space c.args.short_left.now c.args.short_right.now rs)
-    (sym c.as_slice.ensures.value) c.in_ok-roots.ensures) in
+    c.requires.columns roots c.in_ok-roots.ensures in
     let known = λ (l r : ℕ) (in_l : Contains c.args.left.now l) (in_r : Contains c.args.right.now r).
     let k : (root : NodeRef) × (root_at shelf a c.args.space l r ≡ Some root) = some-is (root_at shelf a c.args.space l r)
     (c.requires.known l r in_l in_r) in k in
@@ -48,10 +45,9 @@ pub returns-clause-joins : goal.returns-clause-joins
 returns-clause-joins c =
     let shelf = c.args.shelf.now in
     let a = c.args.a.now in
-    let roots = c.as_slice.result.now in
+    let roots = c.in_ok-roots.roots.items in
     let are = AreRoots-short shelf a c.args.space c.args.left.now c.args.right.now c.args.short_left.now c.args.short_right.now c.requires.rows
-    c.requires.columns roots (subst (λ (rs : List NodeRef). AreRoots shelf a c.args.space c.args.short_left.now c.args.short_right.now rs)
-    (sym c.as_slice.ensures.value) c.in_ok-roots.ensures) in
+    c.requires.columns roots c.in_ok-roots.ensures in
     let known = λ (l r : ℕ) (in_l : Contains c.args.left.now l) (in_r : Contains c.args.right.now r).
     let k : (root : NodeRef) × (root_at shelf a c.args.space l r ≡ Some root) = some-is (root_at shelf a c.args.space l r)
     (c.requires.known l r in_l in_r) in k in
@@ -64,10 +60,9 @@ pub returns-clause-cell : goal.returns-clause-cell
 returns-clause-cell c =
     let shelf = c.args.shelf.now in
     let a = c.args.a.now in
-    let roots = c.as_slice.result.now in
+    let roots = c.in_ok-roots.roots.items in
     let are = AreRoots-short shelf a c.args.space c.args.left.now c.args.right.now c.args.short_left.now c.args.short_right.now c.requires.rows
-    c.requires.columns roots (subst (λ (rs : List NodeRef). AreRoots shelf a c.args.space c.args.short_left.now c.args.short_right.now rs)
-    (sym c.as_slice.ensures.value) c.in_ok-roots.ensures) in
+    c.requires.columns roots c.in_ok-roots.ensures in
     let known = λ (l r : ℕ) (in_l : Contains c.args.left.now l) (in_r : Contains c.args.right.now r).
     let k : (root : NodeRef) × (root_at shelf a c.args.space l r ≡ Some root) = some-is (root_at shelf a c.args.space l r)
     (c.requires.known l r in_l in_r) in k in

@@ -1,12 +1,11 @@
 -- Again and again, until nothing comes.
-use Rattle.std.proofs.Common.{◌≡◌, ℕ, List, Contains, sym, ◌∙◌, ap, subst, arith}
-use Rattle.gta_theory.specs.Guides.{left, right}
+use Rattle.std.proofs.Common.{ℕ, List, sym, ◌∙◌}
 use Rattle.std.proofs.lemmas.Bool.{false≢true}
 use Rattle.gta_theory.specs.Automata.{Automaton}
 use Rattle.gta_project.specs.Subsets.{subsets}
 use Rattle.gta_core.specs.Auto.{automaton_of}
 use Rattle.gta_project.specs.Building.{AreSpaces}
-use Rattle.gta_project.specs.Growing.{AreGenerated, HasSeen, HaveSeen, LacksRoom}
+use Rattle.gta_project.specs.Growing.{HaveSeen}
 use Rattle.gta_project.proofs.GrowingLemmas.{Goes-none, subsets-on, subsets-back, auto-on, initial-on, Goes-next, LacksRoom-next, room-less}
 use Rattle.gta_project.proofs.growing.grow.Goals as goal
 
@@ -39,7 +38,7 @@ pub grow_once-requires-clause-seen : goal.grow_once-requires-clause-seen
 grow_once-requires-clause-seen c = subsets-on c.args.g.now c.args.a.now c.args.track c.args.initials.now c.args.shelf.now c.loop-before.shelf
     c.count.ensures.shelf c.args.numbers.now.items c.loop-before.numbers.items
     c.loop-before.invariant.goes
-    (λ (Sets : Automaton (List ℕ)). HaveSeen c.args.g.now Sets c.loop-before.growths.items) c.loop-before.invariant.seen
+    (λ (Sets : Automaton (List ℕ)). HaveSeen c.args.g.now Sets c.args.a.now c.loop-before.growths.items) c.loop-before.invariant.seen
 
 pub returns-in_err-grow_once-clause-goes : goal.returns-in_err-grow_once-clause-goes
 returns-in_err-grow_once-clause-goes c = Goes-next c.args.g.now c.args.a.now c.args.track c.args.initials.now c.args.shelf.now c.loop-before.shelf
@@ -72,7 +71,7 @@ pub returns-then-are_same-clause-seen : goal.returns-then-are_same-clause-seen
 returns-then-are_same-clause-seen c = subsets-back c.args.g.now c.args.a.now c.args.track c.args.initials.now c.args.shelf.now c.loop-before.shelf
     c.count.ensures.shelf c.args.numbers.now.items
     c.loop-before.numbers.items c.loop-before.invariant.goes
-    (λ (Sets : Automaton (List ℕ)). HaveSeen c.args.g.now Sets c.grow_once.new.growths.items) c.in_ok-grow_once.ensures.seen
+    (λ (Sets : Automaton (List ℕ)). HaveSeen c.args.g.now Sets c.args.a.now c.grow_once.new.growths.items) c.in_ok-grow_once.ensures.seen
 
 pub loop-before-preserved : goal.loop-before-preserved
 loop-before-preserved c = record {
@@ -86,7 +85,7 @@ loop-before-preserved c = record {
   seen = subsets-back c.args.g.now c.args.a.now c.args.track c.args.initials.now c.args.shelf.now c.loop-before.shelf c.count.ensures.shelf
       c.args.numbers.now.items
       c.loop-before.numbers.items c.loop-before.invariant.goes
-      (λ (Sets : Automaton (List ℕ)). HaveSeen c.args.g.now Sets c.grow_once.new.growths.items) c.in_ok-grow_once.ensures.seen;
+      (λ (Sets : Automaton (List ℕ)). HaveSeen c.args.g.now Sets c.args.a.now c.grow_once.new.growths.items) c.in_ok-grow_once.ensures.seen;
   fits = c.in_ok-grow_once.ensures.fits;
 }
 

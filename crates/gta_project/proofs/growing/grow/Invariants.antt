@@ -8,7 +8,7 @@ abbrev pub invariant-loop-before : goal.invariant-loop-before
 invariant-loop-before l = record {
   goes : Goes l.g (subsets (automaton_of l.fn.shelf l.a) l.track l.initials) l.fn.shelf l.shelf l.fn.numbers.items l.numbers.items;
   are : AreSpaces l.g (subsets (automaton_of l.fn.shelf l.a) l.track l.initials) l.numbers.items;
-  seen : HaveSeen l.g (subsets (automaton_of l.fn.shelf l.a) l.track l.initials) l.growths.items;
+  seen : HaveSeen l.g (subsets (automaton_of l.fn.shelf l.a) l.track l.initials) l.a l.growths.items;
   fits : FitAll l.track l.shelf l.joiners.items l.numbers.items;
 }
 

@@ -1,11 +1,10 @@
 -- Once in each space.
-use Rattle.std.proofs.Common.{◌≡◌, ℕ, List, Contains, sym, ◌∙◌, ap, subst, arith}
-use Rattle.gta_theory.specs.Guides.{left, right}
+use Rattle.std.proofs.Common.{ℕ, List, ◌∙◌, arith}
 use Rattle.gta_theory.specs.Automata.{Automaton}
 use Rattle.gta_project.specs.Subsets.{subsets}
 use Rattle.gta_core.specs.Auto.{automaton_of}
 use Rattle.gta_project.specs.Building.{AreSpaces}
-use Rattle.gta_project.specs.Growing.{AreGenerated, HasSeen, HaveSeen, LacksRoom}
+use Rattle.gta_project.specs.Growing.{HasSeen}
 use Rattle.gta_project.proofs.PartLemmas.{get-at}
 use Rattle.gta_project.proofs.GrowingLemmas.{Goes-none, HaveSeen-set, subsets-on, subsets-back, auto-on, initial-on, Goes-next, LacksRoom-next}
 use Rattle.gta_project.proofs.growing.grow_once.Goals as goal
@@ -42,7 +41,7 @@ grow_space-requires-clause-seen c =
     subsets-on c.args.g.now c.args.a.now c.args.track c.args.initials.now c.args.shelf.now c.loop-space.shelf c.count.ensures.shelf
     c.args.numbers.now.items c.loop-space.numbers.items
     c.loop-space.invariant.goes
-    (λ (Sets : Automaton (List ℕ)). HasSeen c.args.g.now Sets s c.index_mut-growth.result.now)
+    (λ (Sets : Automaton (List ℕ)). HasSeen c.args.g.now Sets c.args.a.now s c.index_mut-growth.result.now)
     (seen.each s c.index_mut-growth.result.now
     (get-at c.loop-space.growths.items s c.index_mut-growth.result.now (omega (arith, seen.many)) c.index_mut-growth.ensures.value))
 
@@ -68,12 +67,12 @@ loop-space-preserved c = record {
       (λ (Sets : Automaton (List ℕ)). AreSpaces c.args.g.now Sets c.grow_space.new.numbers.items) c.in_ok-grow_space.ensures.spaces;
   seen =
       let seen = c.loop-space.invariant.seen in
-      HaveSeen-set c.args.g.now (subsets (automaton_of c.args.shelf.now c.args.a.now) c.args.track c.args.initials.now)
+      HaveSeen-set c.args.g.now (subsets (automaton_of c.args.shelf.now c.args.a.now) c.args.track c.args.initials.now) c.args.a.now
       c.loop-space.growths.items c.loop-space.space c.grow_space.new.growth seen
       (let e = c.spaces-space-end.ensures.value in omega (arith, seen.many, c.loop-space-test.true))
       (subsets-back c.args.g.now c.args.a.now c.args.track c.args.initials.now c.args.shelf.now c.loop-space.shelf c.count.ensures.shelf
       c.args.numbers.now.items c.loop-space.numbers.items
       c.loop-space.invariant.goes
-      (λ (Sets : Automaton (List ℕ)). HasSeen c.args.g.now Sets c.loop-space.space c.grow_space.new.growth) c.in_ok-grow_space.ensures.seen);
+      (λ (Sets : Automaton (List ℕ)). HasSeen c.args.g.now Sets c.args.a.now c.loop-space.space c.grow_space.new.growth) c.in_ok-grow_space.ensures.seen);
   fits = c.in_ok-grow_space.ensures.fits;
 }

@@ -1,13 +1,22 @@
 -- The new rows with all columns, and the earlier rows with the new ones.
-use Rattle.std.proofs.Common.{◌≡◌, ℕ, List, Contains, sym, ◌∙◌, ap, subst, arith}
+use Rattle.std.proofs.Common.{◌≡◌, ◌*◌, ℕ, List, length, Contains, ◌∙◌, ap, subst, arith}
 use Rattle.gta_theory.specs.Guides.{left, right}
 use Rattle.gta_theory.specs.Automata.{Automaton}
 use Rattle.gta_project.specs.Subsets.{subsets}
 use Rattle.gta_core.specs.Auto.{automaton_of}
 use Rattle.gta_project.specs.Building.{AreSpaces}
-use Rattle.gta_project.specs.Growing.{AreGenerated, HasSeen, HaveSeen, LacksRoom}
-use Rattle.gta_project.proofs.GrowingLemmas.{on-ok-always, subsets-on, subsets-back, auto-on, initial-on, Goes-none, Goes-next, LacksRoom-next}
+use Rattle.gta_project.specs.Growing.{AreGenerated}
+use Rattle.gta_project.proofs.GrowingLemmas.{on-ok-always, subsets-on, subsets-back, auto-on, initial-on, Goes-next, LacksRoom-next, LacksRoom-cells}
 use Rattle.gta_project.proofs.growing.grow_space.Goals as goal
+
+pub returns-then-exceeds-clause-limit : goal.returns-then-exceeds-clause-limit
+returns-then-exceeds-clause-limit c = λ stopped.
+    let many = c.exceeds.ensures.0 c.if-exceeds.true in
+    let cells : c.len.result * c.len-2.result ≡ length c.look_at.new.growth.rows.ones * length c.look_at.new.growth.columns.ones =
+    ap (λ (n : ℕ). n * c.len-2.result) c.len.ensures ∙ ap (λ (n : ℕ). length c.look_at.new.growth.rows.ones * n) c.len-2.ensures in
+    LacksRoom-cells c.args.g.now (subsets (automaton_of c.args.shelf.now c.args.a.now) c.args.track c.args.initials.now) c.args.a.now c.args.shelf.now
+    c.args.space c.requires.inside c.look_at.new.growth c.in_ok-look_at.ensures
+    (omega (arith, many, cells, c.limit.ensures.value)) c.args.numbers.now.items c.args.numbers.now.items
 
 pub join_sets-requires-clause-rows : goal.join_sets-requires-clause-rows
 join_sets-requires-clause-rows c = λ set there.

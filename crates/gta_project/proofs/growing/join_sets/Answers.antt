@@ -1,7 +1,7 @@
 -- A space is joined for generated sets.
-use Rattle.std.proofs.Common.{◌≡◌, ℕ, List, sym, ◌∙◌, subst, arith}
-use Rattle.std.specs.Prelude.{Some, slice_set, Contains}
-use Rattle.bdd_walk.specs.Fits.{Fits}
+use Rattle.std.proofs.Common.{arith}
+use Rattle.std.specs.Prelude.{slice_set}
+use Rattle.bdd_walk.specs.Fits.{FitsSets}
 use Rattle.gta_theory.specs.Guides.{left, right}
 use Rattle.gta_core.specs.Auto.{automaton_of}
 use Rattle.gta_project.specs.Subsets.{subsets}
@@ -75,7 +75,7 @@ returns-clause-fits c =
     let items = c.args.numbers.now.items in
     let before = c.index_mut-2.result.now in
     let was = get-at items s before (omega (arith, c.requires.spaces.many, c.requires.inside)) c.index_mut-2.ensures.value in
-    on-ok c.fill.result (λ (fits : Fits c.fill.new.joiner (Some c.args.track) c.fill.new.shelf (numbered c.fill.new.numbers)).
+    on-ok c.fill.result (λ (fits : FitsSets c.fill.new.joiner c.args.track c.fill.new.shelf (numbered c.fill.new.numbers)).
     FitAll-set c.args.track c.args.shelf.now c.fill.new.shelf c.args.joiners.now.items items (slice_set items s c.fill.new.numbers) s
     c.fill.new.joiner before
     c.fill.new.numbers c.fill.ensures.joins.keeps (omega (arith, c.requires.fits.many, c.requires.spaces.many, c.requires.inside)) c.requires.fits

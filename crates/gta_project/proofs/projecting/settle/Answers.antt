@@ -1,5 +1,5 @@
 -- The product is built as sets come, and once more for all sets, which gives the roots.
-use Rattle.std.proofs.Common.{◌≡◌, ℕ, List, sym, ◌∙◌, subst, arith}
+use Rattle.std.proofs.Common.{◌≡◌, ℕ, List, inl, sym, ◌∙◌, subst, arith}
 use Rattle.std.proofs.lemmas.Bool.{false≢true}
 use Rattle.gta_theory.specs.Automata.{Automaton}
 use Rattle.gta_project.specs.Subsets.{subsets}
@@ -18,7 +18,7 @@ loop-growths-init c =
     record {
       building = Building-start c.args.g.now Sets c.args.shelf.now c.in_ok-numbers.numbers.items c.count.ensures.shelf are;
       fits = c.in_ok-joiners.ensures c.args.track c.args.shelf.now c.in_ok-numbers.numbers.items are.many;
-      seen = c.in_ok-growths.ensures (automaton_of c.args.shelf.now c.args.a.now) c.args.track c.args.initials.now;
+      seen = c.in_ok-growths.ensures (automaton_of c.args.shelf.now c.args.a.now) c.args.a.now c.args.track c.args.initials.now;
     }
 
 pub grow-requires-clause-auto : goal.grow-requires-clause-auto
@@ -42,7 +42,7 @@ grow-requires-clause-spaces c =
 pub grow-requires-clause-seen : goal.grow-requires-clause-seen
 grow-requires-clause-seen c =
     to-now c.args.g.now c.args.a.now c.args.track c.args.initials.now c.args.shelf.now c.loop-growths.shelf c.count.ensures.shelf c.loop-growths.numbers.items
-    c.loop-growths.invariant.building (λ (Sets : Automaton (List ℕ)). HaveSeen c.args.g.now Sets c.loop-growths.growths.items)
+    c.loop-growths.invariant.building (λ (Sets : Automaton (List ℕ)). HaveSeen c.args.g.now Sets c.args.a.now c.loop-growths.growths.items)
     c.loop-growths.invariant.seen
 
 pub parts_of-requires-clause-auto : goal.parts_of-requires-clause-auto
@@ -147,8 +147,9 @@ returns-in_err-parts-clause-limit c = λ stopped.
     c.loop-growths.invariant.building
     c.grow.new.shelf c.grow.new.numbers.items c.grow.ensures.goes.building in
     Exceeded-goes c.args.g.now c.args.a.now c.args.track c.args.initials.now c.args.shelf.now c.grow.new.shelf c.count.ensures.shelf
-    c.grow.new.numbers.items grown c.parts_of.new.numbers.items
-    (c.parts_of.ensures.limit (let why = rw stopped at c.from_residual-in_err-parts.ensures in c.in_err-parts.was ∙ (let is = why.1 in cc)))
+    c.grow.new.numbers.items grown c.parts_of.new.numbers.items (λ start building given completes.
+    inl (c.parts_of.ensures.limit (let why = rw stopped at c.from_residual-in_err-parts.ensures in c.in_err-parts.was ∙ (let is = why.1 in cc)) start
+    building given completes))
 
 pub returns-then-are_same-clause-settled : goal.returns-then-are_same-clause-settled
 returns-then-are_same-clause-settled c =
@@ -189,7 +190,7 @@ loop-growths-preserved c =
       fits = c.in_ok-parts.ensures.fits;
       seen = to-first c.args.g.now c.args.a.now c.args.track c.args.initials.now c.args.shelf.now c.loop-growths.shelf c.count.ensures.shelf
           c.loop-growths.numbers.items
-          c.loop-growths.invariant.building (λ (Sets : Automaton (List ℕ)). HaveSeen c.args.g.now Sets c.grow.new.growths.items)
+          c.loop-growths.invariant.building (λ (Sets : Automaton (List ℕ)). HaveSeen c.args.g.now Sets c.args.a.now c.grow.new.growths.items)
           c.in_ok-grow.ensures.seen;
     }
 

@@ -8,7 +8,7 @@ abbrev pub invariant-loop-growths : goal.invariant-loop-growths
 invariant-loop-growths l = record {
   building : Building l.g (subsets (automaton_of l.fn.shelf l.a) l.track l.initials) l.fn.shelf l.shelf l.numbers.items;
   fits : FitAll l.track l.shelf l.joiners.items l.numbers.items;
-  seen : HaveSeen l.g (subsets (automaton_of l.fn.shelf l.a) l.track l.initials) l.growths.items;
+  seen : HaveSeen l.g (subsets (automaton_of l.fn.shelf l.a) l.track l.initials) l.a l.growths.items;
 }
 
 abbrev pub decreases-loop-growths : goal.decreases-loop-growths

@@ -1,6 +1,6 @@
 use Rattle.std.proofs.Common.{◌≡◌, ◌<◌, ℕ, List, [], ◌∷◌, length, length-append, Option, Some, slice_get, sym, ◌∙◌, ap, subst, inl, inr, arith}
 use Rattle.std.proofs.lemmas.Option.{slice_get-get_or}
-use Rattle.gta_project.specs.Sets.{IsSet}
+use Rattle.bdd_walk.specs.Sets.{IsSet}
 use Rattle.gta_project.specs.Numbers.{Grows}
 use Rattle.gta_project.specs.Subsets.{subsets}
 use Rattle.gta_project.specs.Building.{IsSpaceOf}

@@ -1,5 +1,5 @@
 -- One state after the other.
-use Rattle.std.proofs.Common.{◌≡◌, ◌+◌, ℕ, List, [], take, get_or, nat_eq, sym, ap, subst, arith}
+use Rattle.std.proofs.Common.{ℕ, List, [], take, get_or, nat_eq, sym, ap, subst, arith}
 use Rattle.std.specs.List.{list_any}
 use Rattle.std.proofs.lemmas.List.{take_more, take_all}
 use Rattle.gta_project.proofs.ShortsLemmas.{Shortens, Shortens-none, Shortens-step, HaveClasses-short}

@@ -1,7 +1,6 @@
 -- One set after the other.
 use Rattle.std.proofs.Common.{◌≡◌, ◌+◌, ℕ, List, [], ◌∷◌, ◌++◌, take, get_or, sym, ◌∙◌, ap, subst, arith}
 use Rattle.std.proofs.lemmas.List.{take_more, take_all}
-use Rattle.gta_project.specs.Classes.{HaveClasses}
 use Rattle.gta_project.specs.Shorts.{AreShorts}
 use Rattle.gta_project.proofs.ShortsLemmas.{AreShorts-none, AreShorts-more}
 use Rattle.gta_project.proofs.shorts.shortened.Goals as goal

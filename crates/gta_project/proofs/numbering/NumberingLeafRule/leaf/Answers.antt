@@ -1,7 +1,7 @@
 use Rattle.std.proofs.Common.{ℕ, List, ap, sym, ◌∙◌, subst}
-use Rattle.gta_project.specs.Sets.{set_of, IsSet}
+use Rattle.bdd_walk.specs.Sets.{set_of, IsSet}
 use Rattle.gta_project.specs.Numbers.{Grows}
-use Rattle.gta_project.proofs.SetsLemmas.{set_of-twice}
+use Rattle.bdd_walk.proofs.SetsLemmas.{set_of-twice}
 use Rattle.gta_project.proofs.NumbersLemmas.{KeepsAnswers-grows, AnswersOnly-grows}
 use Rattle.gta_project.proofs.numbering.NumberingLeafRule.leaf.Goals as goal
 
