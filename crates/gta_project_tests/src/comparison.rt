@@ -178,23 +178,31 @@ impl Case {
     }
 }
 
-/// The sets that count for a bound track, where the tree has these positions.
-fn tried(alloc: Global, inside: Set) -> Result<Items<Set>, AllocError> {
+/// Puts each set once more at the end, with these positions too.
+fn double(sets: &mut Items<Set>, more: Set) -> Result<(), AllocError> {
+    for k in 0..sets.len() {
+        let set = sets.get(k).copied().unwrap_or(0);
+        sets.push(set | more)?;
+    }
+    Ok(())
+}
+
+/// All sets of these positions.
+fn parts_of(alloc: Global, inside: Set) -> Result<Items<Set>, AllocError> {
     let mut sets = Items::new(alloc);
     sets.push(0)?;
     for place in 1..16 {
         if inside & bit(place) != 0 {
-            for k in 0..sets.len() {
-                let more = sets.as_slice()[k] | bit(place);
-                sets.push(more)?;
-            }
+            double(&mut sets, bit(place))?;
         }
     }
-    let parts = sets.len();
-    for k in 0..parts {
-        let more = sets.as_slice()[k] | bit(63);
-        sets.push(more)?;
-    }
+    Ok(sets)
+}
+
+/// The sets that count for a bound track, where the tree has these positions.
+fn tried(alloc: Global, inside: Set) -> Result<Items<Set>, AllocError> {
+    let mut sets = parts_of(alloc, inside)?;
+    double(&mut sets, bit(63))?;
     for place in 1..32 {
         if inside & bit(place) == 0 {
             sets.push(bit(place))?;
@@ -218,12 +226,20 @@ fn finished(alloc: Global, g: &Guide, a: Auto, case: Case, shelf: &mut Shelf) ->
     requires auto { IsAuto g.now shelf.old a }
     ensures auto { IfOk result (IsAuto g.now shelf.new) }
 {
-    let mut a = a;
-    if case.is_bound() {
-        a = project(alloc, g, &a, Track(2), shelf)?;
-    }
+    let bound = bind(alloc, g, a, case, shelf)?;
     if case.is_negated() {
-        a = complement(a);
+        return Ok(complement(bound));
+    }
+    Ok(bound)
+}
+
+/// The automaton with track 2 bound, where the formula binds it.
+fn bind(alloc: Global, g: &Guide, a: Auto, case: Case, shelf: &mut Shelf) -> Result<Auto, Fail>
+    requires auto { IsAuto g.now shelf.old a }
+    ensures auto { IfOk result (IsAuto g.now shelf.new) }
+{
+    if case.is_bound() {
+        return Ok(project(alloc, g, &a, Track(2), shelf)?);
     }
     Ok(a)
 }
