@@ -1,0 +1,6 @@
+use Rattle.std.proofs.Common.{◌/◌, ◌%◌}
+use Rattle.bench_classes.specs.Functions.{AreValues}
+use Rattle.bench_classes.proofs.tables.columns_of.Given as goal
+
+abbrev pub invariant-loop-state : goal.invariant-loop-state
+invariant-loop-state l = AreValues (λ q. q / l.classes % l.classes) l.state l.list.items
