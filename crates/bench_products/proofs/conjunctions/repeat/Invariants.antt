@@ -1,0 +1,8 @@
+use Rattle.gta_core.specs.Auto.{IsAuto}
+use Rattle.bench_products.proofs.conjunctions.repeat.Given as goal
+
+abbrev pub invariant-loop-round : goal.invariant-loop-round
+invariant-loop-round l = record {
+  first : IsAuto l.g l.shelf l.a;
+  second : IsAuto l.g l.shelf l.b;
+}
