@@ -5,7 +5,7 @@ use Rattle.std.proofs.lemmas.Option.{unwrap_or-slice_get}
 use Rattle.bdd_nodes.specs.declared.node_ref.NodeRef.{NodeRef}
 use Rattle.bdd_nodes.specs.Shelf.{Contents, roots_of, root_of}
 use Rattle.gta_core.specs.declared.part.Part.{Part}
-use Rattle.gta_core.specs.Auto.{AutoView, place_in, root_at}
+use Rattle.gta_core.specs.Auto.{AutoView, place_in, table_of, root_among, root_at}
 use Rattle.gta_core.specs.Factored.{factored_root}
 
 slice_get-none : {X : Type 0} (k : ℕ) → slice_get {X = X} [] k ≡ None
@@ -82,3 +82,14 @@ factored_root-copied shelf a s part there rows columns cells width above roots s
     ∙ ap (λ (xs : List ℕ). factored_root (record { rows = part.rows; columns = part.columns; width = width; cells = xs; roots = roots }) l r) same_cells
     ∙ ap (λ (w : ℕ). factored_root (record { rows = part.rows; columns = part.columns; width = w; cells = part.cells; roots = roots }) l r) same_width
     ∙ factored_root-is shelf a s part there roots above below are l r
+
+-- the root of a part, read among the roots of the table
+pub root_among-is : (shelf : Contents) (a : AutoView) (s : ℕ) (part : Part) → slice_get a.parts s ≡ Some part → (l r : ℕ) →
+    root_among (table_of shelf a) part l r ≡ root_at shelf a s l r
+unfolding root_at
+root_among-is shelf a s part there l r = by-place (place_in part l r)
+    ∙ ap (λ (o : Option Part). option_and_then (root_of shelf a.table) (option_and_then (λ p. place_in p l r) o)) (sym there)
+  where
+    by-place : (place : Option ℕ) → option_and_then (slice_get (table_of shelf a)) place ≡ option_and_then (root_of shelf a.table) place
+    by-place None = refl
+    by-place (Some place) = sym (root-in (roots_of shelf a.table) place)

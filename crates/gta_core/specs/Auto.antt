@@ -1,6 +1,6 @@
 -- What an automaton keeps, and which automaton that stands for in a shelf. (Tables of guided tree automata as shared
 -- decision diagrams: Klarlund and Møller, MONA Version 1.4 User Manual; Biehl, Klarlund and Rauhe 1996.)
-use Rattle.std.specs.Prelude.{◌≡◌, ℕ, ◌+◌, ◌*◌, ◌^◌, ◌≤◌, Bool, false, List, length, map, ◌↔◌, slice_get}
+use Rattle.std.specs.Prelude.{◌≡◌, ℕ, ◌+◌, ◌*◌, ◌^◌, ◌≤◌, Bool, false, List, [], length, map, ◌↔◌, slice_get}
 use Rattle.std.specs.Prelude.{Option, Some, IsSome, unwrap_or, option_map, option_and_then}
 use Rattle.bdd_nodes.specs.declared.node_ref.NodeRef.{NodeRef}
 use Rattle.bdd_nodes.specs.Shelf.{Contents, state_of, roots_of, root_of}
@@ -47,6 +47,14 @@ place_of a s l r = option_and_then (λ part. place_in part l r) (slice_get a.par
 -- the root of a pair of child states of a space; none for an unknown space or state
 unfoldable pub root_at : Contents → AutoView → ℕ → ℕ → ℕ → Option NodeRef
 root_at shelf a s l r = option_and_then (root_of shelf a.table) (place_of a s l r)
+
+-- the roots of its table, one space after the other; none where it isn't registered
+abbrev pub table_of : Contents → AutoView → List NodeRef
+table_of shelf a = unwrap_or (roots_of shelf a.table) []
+
+-- the root of a pair of child states of a space with this part, where the table has these roots; none for an unknown state
+abbrev pub root_among : List NodeRef → Part → ℕ → ℕ → Option NodeRef
+root_among roots part l r = option_and_then (slice_get roots) (place_in part l r)
 
 -- the automaton: its steps are the functions of the roots
 unfoldable pub automaton_of : Contents → AutoView → Automaton ℕ

@@ -8,7 +8,8 @@ ghost use Rattle.bdd_nodes.specs.Changes.{AddsTable, DropsTable};
 ghost use Rattle.gta_theory.specs.Guides.{Spaces, IsSpace, left, right};
 ghost use Rattle.gta_theory.specs.Numbered.{Below};
 ghost use Rattle.gta_theory.specs.Sizes.{IsChildPair};
-ghost use Rattle.gta_core.specs.Auto.{states_of, initial_of, is_accepting, guide_of, place_of, root_at, automaton_of, IsAuto, IsWhole};
+ghost use Rattle.gta_core.specs.declared.part.Part.{Part};
+ghost use Rattle.gta_core.specs.Auto.{states_of, initial_of, is_accepting, guide_of, place_of, table_of, root_among, root_at, automaton_of, IsAuto, IsWhole};
 ghost use Rattle.gta_core.specs.Changes.{AddsOneTable};
 
 use crate::part::Part;
@@ -98,6 +99,21 @@ impl Auto {
         ensures valid { IfSome result (IsValid shelf.now) }
     {
         shelf.roots(self.table)?.get(place).copied()
+    }
+
+    /// The roots of its table, where the parts name places, for [`Part::root`]: a builder reads them here, while the shelf
+    /// grows, and doesn't look the table up for each root. None for an unknown table.
+    ///
+    /// # Errors
+    ///
+    /// Want of memory.
+    pub fn roots(&self, alloc: Global, shelf: &Shelf) -> Result<RefList, NoMemory>
+        ensures table { IfOk result (λ roots. roots ≡ table_of shelf.now self.now) }
+        ensures roots { IfOk result (λ roots. (s l r : ℕ) (part : Part) → slice_get self.now.parts s ≡ Some part →
+            root_among roots part l r ≡ root_at shelf.now self.now s l r) }
+    {
+        let roots = roots_in(alloc, shelf, self.table)?;
+        Ok(roots)
     }
 
     /// The automaton of these parts, with a table of these roots that it registers.

@@ -2,6 +2,7 @@
 
 ghost use Rattle.std.specs.Prelude.{◌≡◌, IfOk};
 
+use bdd_nodes::NodeRef;
 use bdd_walk::NoMemory;
 use plain_data::Items;
 use std::alloc::Global;
@@ -29,7 +30,7 @@ pub struct Part {
 }
 
 impl Part {
-    ghost use Rattle.gta_core.specs.Auto.{place_in};
+    ghost use Rattle.gta_core.specs.Auto.{place_in, root_among};
 
     /// Where the root of a pair of child states stands in the table. `None` for an unknown state.
     #[inline]
@@ -40,6 +41,15 @@ impl Part {
         let column = *self.columns.get(right as usize)? as usize;
         let cell = *self.cells.get(row * self.width as usize + column)? as usize;
         Some(self.first as usize + cell)
+    }
+
+    /// The root of a pair of child states, where the automaton's table has these roots. `None` for an unknown state, and for a
+    /// place that they don't have. Takes no memory.
+    #[inline]
+    pub fn root(&self, roots: &[NodeRef], left: u32, right: u32) -> Option<NodeRef>
+        ensures { result ≡ root_among roots.now self.now left right }
+    {
+        roots.get(self.place(left, right)?).copied()
     }
 
     /// An equal part.
