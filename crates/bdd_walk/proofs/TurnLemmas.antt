@@ -9,6 +9,7 @@ use Rattle.bdd_nodes.specs.Changes.{Keeps, SameTables, AddsOnly, is_valid}
 use Rattle.bdd_nodes.proofs.CallerLemmas.{Keeps-trans}
 use Rattle.bdd_walk.specs.declared.walk.Frame.{Frame}
 use Rattle.bdd_walk.specs.declared.walk.Frame.TheVariants.{Low, High, Skip}
+use Rattle.bdd_walk.specs.declared.walk.Turn.{Turn}
 use Rattle.bdd_walk.specs.declared.walk.Turn.TheVariants.{Visit, Done}
 use Rattle.bdd_walk.specs.Answers.{Answers, KeepsAnswers, AnswersOnly, Completes}
 use Rattle.bdd_walk.specs.Asked.{IsGiven}
@@ -255,6 +256,17 @@ module _ {K : Type 0} (eq : K → K → Bool) (asked : K → Asking) (is_in : K 
           waits = AllWait-kept asked is_in call.whole shelf new answers answers keeps (λ states answer was. was) (reverse stack) (asked key) waits_on_top.1;
         };
       }
+
+-- other results that are right
+pub works-trimmed : {K : Type 0} (eq : K → K → Bool) (asked : K → Asking) (is_in : K → Bool) (call : Call)
+    (shelf : Contents) (answers : Answers) (memo other : Memo K) (stack : List (Frame K)) (turn : Turn K) →
+    (IsMemo eq asked is_in shelf answers memo → IsMemo eq asked is_in shelf answers other) →
+    Works eq asked is_in call shelf answers memo stack turn → Works eq asked is_in call shelf answers other stack turn
+works-trimmed eq asked is_in call shelf answers memo other stack turn trims works = record {
+  progress = works.progress;
+  kept = trims works.kept;
+  underway = works.underway;
+}
 
 -- an empty stack waits for the whole
 pub stands-whole : {K : Type 0} (eq : K → K → Bool) (asked : K → Asking) (is_in : K → Bool) (call : Call)

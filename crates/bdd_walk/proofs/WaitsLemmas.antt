@@ -67,6 +67,13 @@ IsMemo-none {K} eq asked is_in shelf answers memo empty = λ key r there.
     let none : get eq memo key ≡ None = ap (λ (entries : List (K × NodeRef)). lookup (eq key) entries) empty in
     absurd (let e : None ≡ Some r = sym none ∙ there in cc)
 
+-- a result that is found stands for its key
+pub memo-stands : {K : Type 0} (eq : K → K → Bool) (asked : K → Asking) (is_in : K → Bool) (shelf : Contents) (answers : Answers)
+    (memo : Memo K) (key : K) (made : NodeRef) → get eq memo key ≡ Some made → IsMemo eq asked is_in shelf answers memo →
+    Stands shelf answers (asked key) made
+unfolding IsMemo
+memo-stands eq asked is_in shelf answers memo key made found is_memo = (is_memo key made found).stands
+
 module _ {K : Type 0} (asked : K → Asking) (is_in : K → Bool) (whole : Asking) where
   -- what waits goes on waiting
   WaitsFor-kept : (old new : Contents) (answers more : Answers) → Keeps old new → KeepsAnswers answers more →

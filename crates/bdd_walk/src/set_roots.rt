@@ -21,12 +21,23 @@ pub(crate) struct SetRoots {
 }
 
 /// The set of the references of a list.
-pub(crate) fn ref_set(mut refs: Vec<NodeRef>) -> Vec<NodeRef>
+fn ref_set(mut refs: Vec<NodeRef>) -> Vec<NodeRef>
     ensures { IsSetOf refs.items result.items }
 {
     refs.sort_unstable();
     refs.dedup();
     refs
+}
+
+/// Puts the set of the references in the place of what the list had.
+pub(crate) fn put_set(set: &mut Vec<NodeRef>, refs: &[NodeRef]) -> Result<(), AllocError>
+    ensures { OnOk result (IsSetOf refs.now set.new.items) }
+{
+    set.clear();
+    set.extend_from_slice(refs)?;
+    set.sort_unstable();
+    set.dedup();
+    Ok(())
 }
 
 /// The set of the sides of all references.

@@ -52,6 +52,8 @@ pub(crate) enum Turn<K> {
 pub(crate) struct Kept<K: Eq + Hash> {
     pub(crate) memo: HashMap<K, NodeRef>,
     pub(crate) stack: Vec<Frame<K>>,
+    /// Where there are more results than so many, they are let go of, and made anew as they are asked for.
+    pub(crate) most: usize,
 }
 
 impl<K: Eq + Hash + Drop> Kept<K> {
@@ -62,7 +64,18 @@ impl<K: Eq + Hash + Drop> Kept<K> {
         Kept {
             memo: HashMap::new(alloc),
             stack: Vec::new(alloc),
+            most: usize::MAX,
         }
+    }
+}
+
+/// Lets go of all results where there are more than so many.
+fn trim<K: Eq + Hash + Drop>(alloc: Global, memo: &mut HashMap<K, NodeRef>, most: usize)
+    ensures { (asked : K → Asking) (is_in : K → Bool) (shelf : Contents) (answers : Answers) →
+        IsMemo K.eq asked is_in shelf answers memo.old → IsMemo K.eq asked is_in shelf answers memo.new }
+{
+    if memo.len() > most {
+        *memo = HashMap::new(alloc);
     }
 }
 
@@ -97,7 +110,7 @@ pub(crate) trait Walk {
         IsTrue (is_in walk old key) → AsksSame (asked walk new key) (asked walk old key) };
 }
 
-/// Goes down from a key, unless it has a result.
+/// Goes down from a key, unless it has a result. Where there are more results than so many, they are let go of first.
 fn visit<W: Walk, L: LeafRule>(
     alloc: Global,
     walk: &W,
@@ -105,6 +118,7 @@ fn visit<W: Walk, L: LeafRule>(
     rule: &mut L,
     memo: &mut HashMap<W::Key, NodeRef>,
     stack: &mut Vec<Frame<W::Key>>,
+    most: usize,
     key: W::Key,
 ) -> Result<Turn<W::Key>, Stop>
     requires shelf { IsShelf shelf.now }
@@ -126,6 +140,7 @@ fn visit<W: Walk, L: LeafRule>(
     if let Some(made) = memo.get(&key) {
         return Ok(Turn::Done(*made));
     }
+    trim(alloc, memo, most);
     match walk.step(alloc, shelf, &key)? {
         Step::Leaf(states) => {
             let made = Shelf::leaf(rule.leaf(&states)?);
@@ -221,6 +236,7 @@ pub(crate) fn join_kept<W: Walk, L: LeafRule>(
                 rule,
                 &mut kept.memo,
                 &mut kept.stack,
+                kept.most,
                 key,
             )?,
             Turn::Done(made) => match kept.stack.pop() {

@@ -6,7 +6,7 @@ use Rattle.bdd_walk.specs.Steps.{IsStep}
 use Rattle.bdd_walk.specs.Waits.{visit_cost, stack_cost}
 use Rattle.bdd_walk.specs.Progress.{Works}
 use Rattle.bdd_walk.proofs.CostLemmas.{visit-done, visit-skip, visit-low}
-use Rattle.bdd_walk.proofs.TurnLemmas.{AnswersOnly-none, AnswersOnly-leaf, works-found, progress-leaf, works-leaf, works-skip, works-low}
+use Rattle.bdd_walk.proofs.TurnLemmas.{AnswersOnly-none, AnswersOnly-leaf, works-found, progress-leaf, works-leaf, works-skip, works-low, works-trimmed}
 use Rattle.bdd_nodes.proofs.CallerLemmas.{Keeps-refl}
 use Rattle.bdd_walk.proofs.walk.visit.Goals as goal
 
@@ -39,12 +39,14 @@ returns-in_ok-insert-in-Leaf-clause-progress g c = λ call works.
     progress-leaf _ _ _ call c.args.shelf.now _ c.args.memo.now _ c.args.key works _ c.leaf.ensures.kept
 
 pub returns-in_ok-insert-in-Leaf-clause-works : goal.returns-in_ok-insert-in-Leaf-clause-works
-returns-in_ok-insert-in-Leaf-clause-works g c = λ call works.
+returns-in_ok-insert-in-Leaf-clause-works g c = λ call was.
+    let works = works-trimmed _ _ _ call c.args.shelf.now _ c.args.memo.now c.trim.new.memo c.args.stack.now.items (Visit c.args.key)
+    (c.trim.ensures _ _ _ _) was in
     let walk = c.args.walk.now in
     let step = subst (IsStep (g.W.Walk.asked walk call.shelf) (g.W.Walk.is_in walk call.shelf)
     (g.W.Walk.weight walk) c.args.key) c.in-Leaf.is
     (c.in_ok-states.ensures call.shelf works.progress.before works.progress.keeps works.underway.0.inside) in
-    works-leaf _ _ _ call c.args.shelf.now _ c.args.memo.now _ c.args.key works _
+    works-leaf _ _ _ call c.args.shelf.now _ c.trim.new.memo _ c.args.key works _
     c.leaf.ensures.kept c.in-Leaf.states step c.insert.new.self c.leaf-made.result
     c.in_ok-leaf-in-Leaf.field-0 (g.met.W.Walk.respects walk call.shelf) c.leaf-made.ensures
     c.in_ok-leaf-in-Leaf.ensures.answered c.in_ok-insert-in-Leaf.ensures.updates
@@ -53,16 +55,18 @@ pub returns-in_ok-insert-in-Leaf-clause-cost : goal.returns-in_ok-insert-in-Leaf
 returns-in_ok-insert-in-Leaf-clause-cost g c = visit-done (g.W.Walk.weight c.args.walk.now) c.args.stack.now.items c.args.key
 
 pub returns-in_ok-push-in-Skip-clause-works : goal.returns-in_ok-push-in-Skip-clause-works
-returns-in_ok-push-in-Skip-clause-works g c = λ call works.
+returns-in_ok-push-in-Skip-clause-works g c = λ call was.
+    let works = works-trimmed _ _ _ call c.args.shelf.now _ c.args.memo.now c.trim.new.memo c.args.stack.now.items (Visit c.args.key)
+    (c.trim.ensures _ _ _ _) was in
     let walk = c.args.walk.now in
     let step = subst (IsStep (g.W.Walk.asked walk call.shelf) (g.W.Walk.is_in walk call.shelf)
     (g.W.Walk.weight walk) c.args.key) c.in-Skip.is
     (c.in_ok-states.ensures call.shelf works.progress.before works.progress.keeps works.underway.0.inside) in
     subst (λ (stack : List (Frame g.row.W-Key.Denot)). Works g.W.Key.PartialEq.eq (g.W.Walk.asked walk call.shelf)
     (g.W.Walk.is_in walk call.shelf) call c.args.shelf.now
-    (g.L.LeafRule.answers c.args.rule.now) c.args.memo.now stack (Visit c.in-Skip.next))
+    (g.L.LeafRule.answers c.args.rule.now) c.trim.new.memo stack (Visit c.in-Skip.next))
     (sym c.in_ok-push-in-Skip.ensures.items)
-    (works-skip _ _ _ call c.args.shelf.now _ c.args.memo.now _ c.args.key works (g.W.Walk.weight walk) c.in-Skip.next step)
+    (works-skip _ _ _ call c.args.shelf.now _ c.trim.new.memo _ c.args.key works (g.W.Walk.weight walk) c.in-Skip.next step)
 
 pub returns-in_ok-push-in-Skip-clause-cost : goal.returns-in_ok-push-in-Skip-clause-cost
 returns-in_ok-push-in-Skip-clause-cost g c =
@@ -78,16 +82,18 @@ returns-in_ok-push-in-Skip-clause-cost g c =
     (visit-skip (g.W.Walk.weight walk) c.args.stack.now.items c.args.key c.in-Skip.next step.goes.falls)
 
 pub returns-in_ok-push-in-Split-clause-works : goal.returns-in_ok-push-in-Split-clause-works
-returns-in_ok-push-in-Split-clause-works g c = λ call works.
+returns-in_ok-push-in-Split-clause-works g c = λ call was.
+    let works = works-trimmed _ _ _ call c.args.shelf.now _ c.args.memo.now c.trim.new.memo c.args.stack.now.items (Visit c.args.key)
+    (c.trim.ensures _ _ _ _) was in
     let walk = c.args.walk.now in
     let step = subst (IsStep (g.W.Walk.asked walk call.shelf) (g.W.Walk.is_in walk call.shelf)
     (g.W.Walk.weight walk) c.args.key) c.in-Split.is
     (c.in_ok-states.ensures call.shelf works.progress.before works.progress.keeps works.underway.0.inside) in
     subst (λ (stack : List (Frame g.row.W-Key.Denot)). Works g.W.Key.PartialEq.eq (g.W.Walk.asked walk call.shelf)
     (g.W.Walk.is_in walk call.shelf) call c.args.shelf.now
-    (g.L.LeafRule.answers c.args.rule.now) c.args.memo.now stack (Visit c.in-Split.low))
+    (g.L.LeafRule.answers c.args.rule.now) c.trim.new.memo stack (Visit c.in-Split.low))
     (sym c.in_ok-push-in-Split.ensures.items)
-    (works-low _ _ _ call c.args.shelf.now _ c.args.memo.now _ c.args.key works (g.W.Walk.weight walk) c.in-Split.track c.in-Split.low c.in-Split.high step)
+    (works-low _ _ _ call c.args.shelf.now _ c.trim.new.memo _ c.args.key works (g.W.Walk.weight walk) c.in-Split.track c.in-Split.low c.in-Split.high step)
 
 pub returns-in_ok-push-in-Split-clause-cost : goal.returns-in_ok-push-in-Split-clause-cost
 returns-in_ok-push-in-Split-clause-cost g c =
