@@ -8,6 +8,7 @@ pub mod LimitLemmas
 pub mod CellsLemmas
 pub mod FinalLemmas
 pub mod ShelfLemmas
+pub mod TablesLemmas
 pub mod NextLemmas
 pub mod BuildingLemmas
 pub mod StartLemmas

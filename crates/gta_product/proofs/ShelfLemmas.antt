@@ -33,12 +33,12 @@ module _ (old new : Contents) (is_shelf : IsShelf old) (keeps : Keeps old new) (
   unfolding root_at
   root_at-kept a s l r = ap (λ (roots : Registered). option_and_then (root_under roots.tables a.table) (place_of a s l r)) tables
 
-within-some : {X : Type 0} (xs : List X) (i : ℕ) → IsSome (slice_get xs i) → i < length xs
+pub within-some : {X : Type 0} (xs : List X) (i : ℕ) → IsSome (slice_get xs i) → i < length xs
 within-some [] i some = absurd (false≢true some)
 within-some (x ∷ xs) zero some = omega arith
 within-some (x ∷ xs) (suc i) some = omega (arith, within-some xs i some)
 
-some-first : {X Y : Type 0} (f : X → Option Y) (o : Option X) → IsSome (option_and_then f o) → IsSome o
+pub some-first : {X Y : Type 0} (f : X → Option Y) (o : Option X) → IsSome (option_and_then f o) → IsSome o
 some-first f None some = some
 some-first f (Some x) some = refl
 

@@ -7,9 +7,11 @@ ghost use Rattle.bdd_nodes.specs.Shelf.{IsValid};
 ghost use Rattle.gta_theory.specs.Constructions.{pairs};
 ghost use Rattle.gta_core.specs.Auto.{root_at, automaton_of};
 ghost use Rattle.gta_product.specs.Numbers.{numbered, AreNumbers};
+ghost use Rattle.gta_product.specs.Tables.{AreTables};
 ghost use Rattle.gta_product.specs.Filling.{IsCell, Joins, ExceedsCells, IsRow, AreCells};
 
 use crate::numbering::Numbering;
+use crate::tables::{Tables, root_in};
 use bdd_nodes::{NodeRef, RefList, Shelf};
 use bdd_walk::{Joiner, Stop};
 use gta_core::Auto;
@@ -21,6 +23,7 @@ pub(crate) fn join_cell(
     alloc: Global,
     a: &Auto,
     b: &Auto,
+    tables: &Tables,
     shelf: &mut Shelf,
     space: u32,
     left: (u32, u32),
@@ -30,6 +33,7 @@ pub(crate) fn join_cell(
 ) -> Result<NodeRef, Stop>
     requires first { IsSome (root_at shelf.old a.now space left.0 right.0) }
     requires second { IsSome (root_at shelf.old b.now space left.1 right.1) }
+    requires tables { AreTables shelf.old a.now b.now tables.now }
     requires fits { Fits joiner.old None shelf.old (numbered numbers.old) }
     ensures joins { Joins (pairs (automaton_of shelf.old a.now) (automaton_of shelf.old b.now)) space (left ∷ []) (right ∷ [])
         shelf.old shelf.new numbers.old numbers.new }
@@ -39,14 +43,10 @@ pub(crate) fn join_cell(
     ensures fits { OnOk result (Fits joiner.new None shelf.new (numbered numbers.new)) }
     ensures numbers { AreNumbers numbers.new }
 {
-    let Some(first) = a.root(shelf, space, left.0, right.0) else {
-        unreachable!()
-    };
-    let Some(second) = b.root(shelf, space, left.1, right.1) else {
-        unreachable!()
-    };
     // Only for their clauses `numbers`.
     let _ = numbers.len();
+    let first = root_in(a, tables.first.as_slice(), shelf, space, left.0, right.0);
+    let second = root_in(b, tables.second.as_slice(), shelf, space, left.1, right.1);
     let joined = joiner.join(alloc, shelf, &[first, second], None, numbers);
     let _ = numbers.len();
     let made = joined?;
@@ -59,6 +59,7 @@ fn fill_row(
     alloc: Global,
     a: &Auto,
     b: &Auto,
+    tables: &Tables,
     shelf: &mut Shelf,
     space: u32,
     row: (u32, u32),
@@ -69,6 +70,7 @@ fn fill_row(
 ) -> Result<(), Stop>
     requires first { (r : ℕ × ℕ) → Contains columns.now r → IsSome (root_at shelf.old a.now space row.0 r.0) }
     requires second { (r : ℕ × ℕ) → Contains columns.now r → IsSome (root_at shelf.old b.now space row.1 r.1) }
+    requires tables { AreTables shelf.old a.now b.now tables.now }
     requires valid { All (IsValid shelf.old) roots.old }
     requires fits { Fits joiner.old None shelf.old (numbered numbers.old) }
     ensures joins { Joins (pairs (automaton_of shelf.old a.now) (automaton_of shelf.old b.now)) space (row ∷ []) columns.now
@@ -84,7 +86,9 @@ fn fill_row(
     // Only for their clauses `shelf` and `numbers`.
     let _ = (shelf.count(), numbers.len());
     for column in columns {
-        let root = join_cell(alloc, a, b, shelf, space, row, *column, joiner, numbers)?;
+        let root = join_cell(
+            alloc, a, b, tables, shelf, space, row, *column, joiner, numbers,
+        )?;
         roots.push(root)?;
     }
     Ok(())
@@ -96,6 +100,7 @@ pub(crate) fn fill(
     alloc: Global,
     a: &Auto,
     b: &Auto,
+    tables: &Tables,
     shelf: &mut Shelf,
     space: u32,
     rows: &[(u32, u32)],
@@ -106,6 +111,7 @@ pub(crate) fn fill(
 ) -> Result<(), Stop>
     requires first { (l r : ℕ × ℕ) → Contains rows.now l → Contains columns.now r → IsSome (root_at shelf.old a.now space l.0 r.0) }
     requires second { (l r : ℕ × ℕ) → Contains rows.now l → Contains columns.now r → IsSome (root_at shelf.old b.now space l.1 r.1) }
+    requires tables { AreTables shelf.old a.now b.now tables.now }
     requires valid { All (IsValid shelf.old) roots.old }
     requires fits { Fits joiner.old None shelf.old (numbered numbers.old) }
     ensures joins { Joins (pairs (automaton_of shelf.old a.now) (automaton_of shelf.old b.now)) space rows.now columns.now
@@ -122,7 +128,7 @@ pub(crate) fn fill(
     let _ = (shelf.count(), numbers.len());
     for row in rows {
         fill_row(
-            alloc, a, b, shelf, space, *row, columns, joiner, numbers, roots,
+            alloc, a, b, tables, shelf, space, *row, columns, joiner, numbers, roots,
         )?;
     }
     Ok(())

@@ -5,12 +5,14 @@ ghost use Rattle.gta_theory.specs.Automata.{Automaton};
 ghost use Rattle.gta_theory.specs.Constructions.{pairs};
 ghost use Rattle.gta_theory.specs.Guides.{left, right};
 ghost use Rattle.gta_core.specs.Auto.{AutoView, automaton_of, IsAuto};
+ghost use Rattle.gta_product.specs.Tables.{AreTables};
 ghost use Rattle.gta_product.specs.Building.{AreSpaces, FitAll};
 ghost use Rattle.gta_product.specs.Growing.{AreGenerated, IsKeyed, HasSeen, HaveSeen, Goes, LacksRoom};
 
 use crate::classes::note;
 use crate::filling::fill;
 use crate::numbering::Numbering;
+use crate::tables::Tables;
 use bdd_nodes::{RefList, Shelf};
 use bdd_walk::{Joiner, NoMemory, Stop};
 use gta_core::Auto;
@@ -88,6 +90,7 @@ pub(crate) fn grow(
     g: &Guide,
     a: &Auto,
     b: &Auto,
+    tables: &Tables,
     shelf: &mut Shelf,
     joiners: &mut Vec<Joiner>,
     numbers: &mut Vec<Numbering>,
@@ -95,6 +98,7 @@ pub(crate) fn grow(
 ) -> Result<(), Stop>
     requires first { IsAuto g.now shelf.old a.now }
     requires second { IsAuto g.now shelf.old b.now }
+    requires tables { AreTables shelf.old a.now b.now tables.now }
     requires spaces { AreSpaces g.now (pairs (automaton_of shelf.old a.now) (automaton_of shelf.old b.now)) numbers.old.items }
     requires seen { HaveSeen g.now (pairs (automaton_of shelf.old a.now) (automaton_of shelf.old b.now)) a.now b.now growths.old.items }
     requires fits { FitAll shelf.old joiners.old.items numbers.old.items }
@@ -110,7 +114,7 @@ pub(crate) fn grow(
     let _ = shelf.count();
     loop {
         let before = counts(alloc, numbers)?;
-        grow_once(alloc, g, a, b, shelf, joiners, numbers, growths)?;
+        grow_once(alloc, g, a, b, tables, shelf, joiners, numbers, growths)?;
         let after = counts(alloc, numbers)?;
         if are_same(&before, &after) {
             return Ok(());
@@ -125,6 +129,7 @@ fn grow_once(
     g: &Guide,
     a: &Auto,
     b: &Auto,
+    tables: &Tables,
     shelf: &mut Shelf,
     joiners: &mut Vec<Joiner>,
     numbers: &mut Vec<Numbering>,
@@ -132,6 +137,7 @@ fn grow_once(
 ) -> Result<(), Stop>
     requires first { IsAuto g.now shelf.old a.now }
     requires second { IsAuto g.now shelf.old b.now }
+    requires tables { AreTables shelf.old a.now b.now tables.now }
     requires spaces { AreSpaces g.now (pairs (automaton_of shelf.old a.now) (automaton_of shelf.old b.now)) numbers.old.items }
     requires seen { HaveSeen g.now (pairs (automaton_of shelf.old a.now) (automaton_of shelf.old b.now)) a.now b.now growths.old.items }
     requires fits { FitAll shelf.old joiners.old.items numbers.old.items }
@@ -147,7 +153,9 @@ fn grow_once(
     let _ = shelf.count();
     for space in 0..g.spaces() {
         let growth = &mut growths[space as usize];
-        grow_space(alloc, g, a, b, shelf, space, joiners, numbers, growth)?;
+        grow_space(
+            alloc, g, a, b, tables, shelf, space, joiners, numbers, growth,
+        )?;
     }
     Ok(())
 }
@@ -160,6 +168,7 @@ fn grow_space(
     g: &Guide,
     a: &Auto,
     b: &Auto,
+    tables: &Tables,
     shelf: &mut Shelf,
     space: u32,
     joiners: &mut Vec<Joiner>,
@@ -168,6 +177,7 @@ fn grow_space(
 ) -> Result<(), Stop>
     requires first { IsAuto g.now shelf.old a.now }
     requires second { IsAuto g.now shelf.old b.now }
+    requires tables { AreTables shelf.old a.now b.now tables.now }
     requires spaces { AreSpaces g.now (pairs (automaton_of shelf.old a.now) (automaton_of shelf.old b.now)) numbers.old.items }
     requires inside { space < length g.now }
     requires seen { HasSeen g.now (pairs (automaton_of shelf.old a.now) (automaton_of shelf.old b.now)) a.now b.now space growth.old }
@@ -193,10 +203,12 @@ fn grow_space(
     }
     let (earlier, new) = parted(growth.rows.ones.as_slice(), rows);
     let all = growth.columns.ones.as_slice();
-    join_pairs(alloc, g, a, b, shelf, space, new, all, joiners, numbers)?;
+    join_pairs(
+        alloc, g, a, b, tables, shelf, space, new, all, joiners, numbers,
+    )?;
     let (_, came) = parted(all, columns);
     join_pairs(
-        alloc, g, a, b, shelf, space, earlier, came, joiners, numbers,
+        alloc, g, a, b, tables, shelf, space, earlier, came, joiners, numbers,
     )
 }
 
@@ -253,6 +265,7 @@ fn join_pairs(
     g: &Guide,
     a: &Auto,
     b: &Auto,
+    tables: &Tables,
     shelf: &mut Shelf,
     space: u32,
     rows: &[(u32, u32)],
@@ -262,6 +275,7 @@ fn join_pairs(
 ) -> Result<(), Stop>
     requires first { IsAuto g.now shelf.old a.now }
     requires second { IsAuto g.now shelf.old b.now }
+    requires tables { AreTables shelf.old a.now b.now tables.now }
     requires spaces { AreSpaces g.now (pairs (automaton_of shelf.old a.now) (automaton_of shelf.old b.now)) numbers.old.items }
     requires inside { space < length g.now }
     requires rows { AreGenerated g.now (pairs (automaton_of shelf.old a.now) (automaton_of shelf.old b.now)) (left g.now space) rows.now }
@@ -282,6 +296,7 @@ fn join_pairs(
         alloc,
         a,
         b,
+        tables,
         shelf,
         space,
         rows,

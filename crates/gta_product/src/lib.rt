@@ -6,6 +6,7 @@ mod filling;
 mod growing;
 mod numbering;
 mod pairing;
+mod tables;
 mod turning;
 
 pub use pairing::product;

@@ -13,6 +13,7 @@ ghost use Rattle.gta_core.specs.Auto.{states_of, initial_of, is_accepting, autom
 ghost use Rattle.gta_core.specs.Changes.{RegistersTable};
 ghost use Rattle.gta_core.specs.Placing.{Grows};
 ghost use Rattle.gta_product.specs.Product.{IsProductOf};
+ghost use Rattle.gta_product.specs.Tables.{AreTables};
 ghost use Rattle.gta_product.specs.Building.{AreSpaces, FitAll, ExtendAll, Building, CompleteAll, ExceedsSteps, IsPartOf, AreParts, Leaves, Exceeded};
 ghost use Rattle.gta_product.specs.Settled.{IsSettled};
 
@@ -20,6 +21,7 @@ use crate::classes::classify;
 use crate::filling::fill;
 use crate::growing::{are_same, counts, grow, growths};
 use crate::numbering::Numbering;
+use crate::tables::Tables;
 use bdd_nodes::{RefList, Shelf};
 use bdd_walk::{Joiner, NoMemory, Stop};
 use gta_core::{Auto, BoolList, Part};
@@ -94,6 +96,7 @@ fn settle(alloc: Global, g: &Guide, a: &Auto, b: &Auto, shelf: &mut Shelf) -> Re
 {
     // Only for its clause `shelf`.
     let _ = shelf.count();
+    let tables = Tables::read(alloc, a, b, shelf)?;
     let mut numbers = start(alloc, g, a, b)?;
     let mut joiners = joiners(alloc, g)?;
     let mut growths = growths(alloc, g)?;
@@ -103,6 +106,7 @@ fn settle(alloc: Global, g: &Guide, a: &Auto, b: &Auto, shelf: &mut Shelf) -> Re
             g,
             a,
             b,
+            &tables,
             shelf,
             &mut joiners,
             &mut numbers,
@@ -115,6 +119,7 @@ fn settle(alloc: Global, g: &Guide, a: &Auto, b: &Auto, shelf: &mut Shelf) -> Re
             g,
             a,
             b,
+            &tables,
             shelf,
             &mut joiners,
             &mut numbers,
@@ -205,6 +210,7 @@ fn parts_of(
     g: &Guide,
     a: &Auto,
     b: &Auto,
+    tables: &Tables,
     shelf: &mut Shelf,
     joiners: &mut Vec<Joiner>,
     numbers: &mut Vec<Numbering>,
@@ -212,6 +218,7 @@ fn parts_of(
 ) -> Result<Items<Part>, Stop>
     requires first { IsAuto g.now shelf.old a.now }
     requires second { IsAuto g.now shelf.old b.now }
+    requires tables { AreTables shelf.old a.now b.now tables.now }
     requires spaces { AreSpaces g.now (pairs (automaton_of shelf.old a.now) (automaton_of shelf.old b.now)) numbers.old.items }
     requires fits { FitAll shelf.old joiners.old.items numbers.old.items }
     requires none { roots.old ≡ [] }
@@ -236,7 +243,9 @@ fn parts_of(
     let _ = shelf.count();
     let mut parts = Items::new(alloc);
     for space in 0..g.spaces() {
-        let part = part_of(alloc, g, a, b, shelf, space, joiners, numbers, roots)?;
+        let part = part_of(
+            alloc, g, a, b, tables, shelf, space, joiners, numbers, roots,
+        )?;
         parts.push(part)?;
     }
     Ok(parts)
@@ -249,6 +258,7 @@ fn part_of(
     g: &Guide,
     a: &Auto,
     b: &Auto,
+    tables: &Tables,
     shelf: &mut Shelf,
     space: u32,
     joiners: &mut Vec<Joiner>,
@@ -257,6 +267,7 @@ fn part_of(
 ) -> Result<Part, Stop>
     requires first { IsAuto g.now shelf.old a.now }
     requires second { IsAuto g.now shelf.old b.now }
+    requires tables { AreTables shelf.old a.now b.now tables.now }
     requires spaces { AreSpaces g.now (pairs (automaton_of shelf.old a.now) (automaton_of shelf.old b.now)) numbers.old.items }
     requires fits { FitAll shelf.old joiners.old.items numbers.old.items }
     requires inside { space < length g.now }
@@ -299,6 +310,7 @@ fn part_of(
         alloc,
         a,
         b,
+        tables,
         shelf,
         space,
         rows.ones.as_slice(),

@@ -10,6 +10,7 @@ use Rattle.gta_product.specs.Filling.{IsRow, AreCells}
 use Rattle.gta_product.proofs.ShelfLemmas.{root_at-kept}
 use Rattle.gta_product.proofs.JoinsLemmas.{AreCells-more}
 use Rattle.gta_product.proofs.NextLemmas.{same-both, Joins-next, ExceedsCells-next, in-alone}
+use Rattle.gta_product.proofs.TablesLemmas.{AreTables-kept}
 use Rattle.gta_product.proofs.filling.fill.Goals as goal
 
 pub fill_row-requires-clause-first : goal.fill_row-requires-clause-first
@@ -29,6 +30,10 @@ fill_row-requires-clause-second c = λ column there.
     subst (λ (o : Option NodeRef). IsSome o)
     (sym (root_at-kept c.args.shelf.now c.loop-row.shelf c.count.ensures.shelf joins.keeps joins.tables c.args.b.now c.args.space row.1 column.1))
     (c.requires.second row column (Contains-get_or c.args.rows.now i (0, 0) (omega arith)) there)
+
+pub fill_row-requires-clause-tables : goal.fill_row-requires-clause-tables
+fill_row-requires-clause-tables c = AreTables-kept c.args.shelf.now c.loop-row.shelf c.loop-row.invariant.joins.tables
+    c.args.a.now c.args.b.now c.args.tables.now c.requires.tables
 
 pub returns-in_err-fill_row-clause-joins : goal.returns-in_err-fill_row-clause-joins
 returns-in_err-fill_row-clause-joins c =

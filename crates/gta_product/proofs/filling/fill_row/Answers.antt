@@ -11,6 +11,7 @@ use Rattle.gta_product.specs.Filling.{IsCell, IsRow}
 use Rattle.gta_product.proofs.ShelfLemmas.{root_at-kept}
 use Rattle.gta_product.proofs.JoinsLemmas.{IsRow-more}
 use Rattle.gta_product.proofs.NextLemmas.{same-both, Joins-next, ExceedsCells-next, valid-more, in-alone}
+use Rattle.gta_product.proofs.TablesLemmas.{AreTables-kept}
 use Rattle.gta_product.proofs.filling.fill_row.Goals as goal
 
 pub join_cell-requires-clause-first : goal.join_cell-requires-clause-first
@@ -30,6 +31,10 @@ join_cell-requires-clause-second c =
     subst (λ (o : Option NodeRef). IsSome o)
     (sym (root_at-kept c.args.shelf.now c.loop-column.shelf c.count.ensures.shelf joins.keeps joins.tables c.args.b.now c.args.space (c.args.row).1 column.1))
     (c.requires.second column (Contains-get_or c.args.columns.now i (0, 0) (omega arith)))
+
+pub join_cell-requires-clause-tables : goal.join_cell-requires-clause-tables
+join_cell-requires-clause-tables c = AreTables-kept c.args.shelf.now c.loop-column.shelf c.loop-column.invariant.joins.tables
+    c.args.a.now c.args.b.now c.args.tables.now c.requires.tables
 
 pub returns-in_err-root-clause-joins : goal.returns-in_err-root-clause-joins
 returns-in_err-root-clause-joins c =

@@ -7,6 +7,7 @@ use Rattle.gta_core.specs.Auto.{automaton_of}
 use Rattle.gta_product.specs.Building.{AreSpaces}
 use Rattle.gta_product.specs.Growing.{HaveSeen}
 use Rattle.gta_product.proofs.GrowingLemmas.{Goes-none, both-on, both-back, auto-on, Goes-next, LacksRoom-next, room-less}
+use Rattle.gta_product.proofs.TablesLemmas.{AreTables-kept}
 use Rattle.gta_product.proofs.growing.grow.Goals as goal
 
 pub loop-before-init : goal.loop-before-init
@@ -27,6 +28,10 @@ pub grow_once-requires-clause-second : goal.grow_once-requires-clause-second
 grow_once-requires-clause-second c = auto-on c.args.g.now c.args.a.now c.args.b.now c.args.shelf.now c.loop-before.shelf c.count.ensures.shelf
     c.args.numbers.now.items c.loop-before.numbers.items
     c.loop-before.invariant.goes c.args.b.now c.requires.second
+
+pub grow_once-requires-clause-tables : goal.grow_once-requires-clause-tables
+grow_once-requires-clause-tables c = AreTables-kept c.args.shelf.now c.loop-before.shelf c.loop-before.invariant.goes.tables
+    c.args.a.now c.args.b.now c.args.tables.now c.requires.tables
 
 pub grow_once-requires-clause-spaces : goal.grow_once-requires-clause-spaces
 grow_once-requires-clause-spaces c = both-on c.args.g.now c.args.a.now c.args.b.now c.args.shelf.now c.loop-before.shelf c.count.ensures.shelf

@@ -7,6 +7,7 @@ use Rattle.gta_product.specs.Building.{AreSpaces}
 use Rattle.gta_product.specs.Growing.{HasSeen}
 use Rattle.gta_product.proofs.PartLemmas.{get-at}
 use Rattle.gta_product.proofs.GrowingLemmas.{Goes-none, HaveSeen-set, both-on, both-back, auto-on, Goes-next, LacksRoom-next}
+use Rattle.gta_product.proofs.TablesLemmas.{AreTables-kept}
 use Rattle.gta_product.proofs.growing.grow_once.Goals as goal
 
 pub loop-space-init : goal.loop-space-init
@@ -27,6 +28,10 @@ pub grow_space-requires-clause-second : goal.grow_space-requires-clause-second
 grow_space-requires-clause-second c = auto-on c.args.g.now c.args.a.now c.args.b.now c.args.shelf.now c.loop-space.shelf c.count.ensures.shelf
     c.args.numbers.now.items c.loop-space.numbers.items
     c.loop-space.invariant.goes c.args.b.now c.requires.second
+
+pub grow_space-requires-clause-tables : goal.grow_space-requires-clause-tables
+grow_space-requires-clause-tables c = AreTables-kept c.args.shelf.now c.loop-space.shelf c.loop-space.invariant.goes.tables
+    c.args.a.now c.args.b.now c.args.tables.now c.requires.tables
 
 pub grow_space-requires-clause-spaces : goal.grow_space-requires-clause-spaces
 grow_space-requires-clause-spaces c = both-on c.args.g.now c.args.a.now c.args.b.now c.args.shelf.now c.loop-space.shelf c.count.ensures.shelf

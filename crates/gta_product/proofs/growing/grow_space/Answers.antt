@@ -5,6 +5,7 @@ use Rattle.gta_theory.specs.Automata.{Automaton}
 use Rattle.gta_product.specs.Building.{AreSpaces}
 use Rattle.gta_product.specs.Growing.{AreGenerated}
 use Rattle.gta_product.proofs.GrowingLemmas.{on-ok-always, both-on, both-back, auto-on, Goes-next, LacksRoom-next, LacksRoom-cells}
+use Rattle.gta_product.proofs.TablesLemmas.{AreTables-kept}
 use Rattle.gta_product.proofs.growing.grow_space.Goals as goal
 
 pub returns-then-exceeds-clause-limit : goal.returns-then-exceeds-clause-limit
@@ -33,6 +34,10 @@ pub join_pairs-requires-2-clause-second : goal.join_pairs-requires-2-clause-seco
 join_pairs-requires-2-clause-second c = auto-on c.args.g.now c.args.a.now c.args.b.now c.args.shelf.now c.join_pairs.new.shelf c.count.ensures.shelf
     c.args.numbers.now.items c.join_pairs.new.numbers.items
     c.join_pairs.ensures.goes c.args.b.now c.requires.second
+
+pub join_pairs-requires-2-clause-tables : goal.join_pairs-requires-2-clause-tables
+join_pairs-requires-2-clause-tables c = AreTables-kept c.args.shelf.now c.join_pairs.new.shelf c.join_pairs.ensures.goes.tables
+    c.args.a.now c.args.b.now c.args.tables.now c.requires.tables
 
 pub join_pairs-requires-2-clause-spaces : goal.join_pairs-requires-2-clause-spaces
 join_pairs-requires-2-clause-spaces c = both-on c.args.g.now c.args.a.now c.args.b.now c.args.shelf.now c.join_pairs.new.shelf c.count.ensures.shelf

@@ -9,6 +9,7 @@ use Rattle.gta_core.specs.Auto.{automaton_of}
 use Rattle.gta_product.specs.Building.{AreSpaces, Building, ExceedsSteps, IsPartOf, AreParts, ExtendAll}
 use Rattle.gta_product.proofs.ShelfLemmas.{both-kept, auto-kept}
 use Rattle.gta_product.proofs.SameLemmas.{ExtendAll-refl, ExtendAll-trans, both-spaces, AreParts-more, AreParts-none}
+use Rattle.gta_product.proofs.TablesLemmas.{AreTables-kept}
 use Rattle.gta_product.proofs.pairing.parts_of.Goals as goal
 
 pub loop-space-init : goal.loop-space-init
@@ -36,6 +37,10 @@ pub part_of-requires-clause-second : goal.part_of-requires-clause-second
 part_of-requires-clause-second c =
     let inv = c.loop-space.invariant in
     auto-kept c.args.shelf.now c.loop-space.shelf c.count.ensures.shelf inv.keeps inv.tables c.args.g.now c.args.b.now c.requires.second
+
+pub part_of-requires-clause-tables : goal.part_of-requires-clause-tables
+part_of-requires-clause-tables c = AreTables-kept c.args.shelf.now c.loop-space.shelf c.loop-space.invariant.tables
+    c.args.a.now c.args.b.now c.args.tables.now c.requires.tables
 
 pub part_of-requires-clause-spaces : goal.part_of-requires-clause-spaces
 part_of-requires-clause-spaces c =

@@ -9,6 +9,7 @@ use Rattle.gta_product.specs.Growing.{HaveSeen}
 use Rattle.gta_product.proofs.FinalLemmas.{same-spaces}
 use Rattle.gta_product.proofs.ProductLemmas.{Building-start, Leaves-building, Leaves-none}
 use Rattle.gta_product.proofs.GrowingLemmas.{to-now, to-first, auto-now, Building-goes, Exceeded-goes, room-most, room-less}
+use Rattle.gta_product.proofs.TablesLemmas.{AreTables-kept}
 use Rattle.gta_product.proofs.pairing.settle.Goals as goal
 
 pub loop-growths-init : goal.loop-growths-init
@@ -30,6 +31,10 @@ pub grow-requires-clause-second : goal.grow-requires-clause-second
 grow-requires-clause-second c =
     auto-now c.args.g.now c.args.a.now c.args.b.now c.args.shelf.now c.loop-growths.shelf c.count.ensures.shelf c.loop-growths.numbers.items
     c.loop-growths.invariant.building c.args.b.now c.requires.second
+
+pub grow-requires-clause-tables : goal.grow-requires-clause-tables
+grow-requires-clause-tables c = AreTables-kept c.args.shelf.now c.loop-growths.shelf c.loop-growths.invariant.building.tables
+    c.args.a.now c.args.b.now c.in_ok-tables.tables c.in_ok-tables.ensures
 
 pub grow-requires-clause-spaces : goal.grow-requires-clause-spaces
 grow-requires-clause-spaces c =
@@ -59,6 +64,13 @@ parts_of-requires-clause-second c =
     auto-now c.args.g.now c.args.a.now c.args.b.now c.args.shelf.now c.grow.new.shelf c.count.ensures.shelf c.grow.new.numbers.items grown
     c.args.b.now c.requires.second
 
+pub parts_of-requires-clause-tables : goal.parts_of-requires-clause-tables
+parts_of-requires-clause-tables c =
+    let grown = Building-goes c.args.g.now c.args.a.now c.args.b.now c.args.shelf.now c.loop-growths.shelf c.count.ensures.shelf
+    c.loop-growths.numbers.items c.loop-growths.invariant.building
+    c.grow.new.shelf c.grow.new.numbers.items c.grow.ensures.goes.building in
+    AreTables-kept c.args.shelf.now c.grow.new.shelf grown.tables c.args.a.now c.args.b.now c.in_ok-tables.tables c.in_ok-tables.ensures
+
 pub parts_of-requires-clause-spaces : goal.parts_of-requires-clause-spaces
 parts_of-requires-clause-spaces c =
     let grown = Building-goes c.args.g.now c.args.a.now c.args.b.now c.args.shelf.now c.loop-growths.shelf c.count.ensures.shelf c.loop-growths.numbers.items
@@ -66,6 +78,10 @@ parts_of-requires-clause-spaces c =
     c.grow.new.shelf c.grow.new.numbers.items c.grow.ensures.goes.building in
     to-now c.args.g.now c.args.a.now c.args.b.now c.args.shelf.now c.grow.new.shelf c.count.ensures.shelf c.grow.new.numbers.items grown
     (λ (AB : Automaton (ℕ × ℕ)). AreSpaces c.args.g.now AB c.grow.new.numbers.items) grown.are
+
+pub returns-in_err-tables-clause-leaves : goal.returns-in_err-tables-clause-leaves
+returns-in_err-tables-clause-leaves c =
+    Leaves-none c.args.shelf.now c.count.ensures.shelf
 
 pub returns-in_err-numbers-clause-leaves : goal.returns-in_err-numbers-clause-leaves
 returns-in_err-numbers-clause-leaves c =
