@@ -130,7 +130,7 @@ initial-is shelf a s = refl
 
 -- the next set of a space
 pub IsNext-made : (g : Spaces) (shelf : Contents) (a : AutoView) (t : ℕ) (before : List (List ℕ)) (s : ℕ) (roots : List NodeRef) →
-    AreRoots shelf a s (set_at before (left g s)) (set_at before (right g s)) roots →
+    AreRoots (root_at shelf a s) (set_at before (left g s)) (set_at before (right g s)) roots →
     ((l r : ℕ) → Contains (set_at before (left g s)) l → Contains (set_at before (right g s)) r → IsSome (root_at shelf a s l r)) →
     (states : List ℕ) → states ≡ ((initial_of a s ∷ []) ++ leaves_of shelf roots (label_of [])) ++ leaves_of shelf roots (label_of (t ∷ [])) →
     IsNext g (automaton_of shelf a) t before s (set_of states)

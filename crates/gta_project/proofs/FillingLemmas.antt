@@ -35,7 +35,7 @@ All-alone : {X : Type 0} (P : X → Type 0) (x : X) → P x → All P (x ∷ [])
 All-alone P x holds = All-cons P x [] holds (λ k d within. absurd (omega arith))
 
 -- one join of the roots that an automaton has for states of two sets
-module _ (a : AutoView) (t s : ℕ) (l r : List ℕ) (old new : Contents) (roots : List NodeRef) (are : AreRoots old a s l r roots)
+module _ (a : AutoView) (t s : ℕ) (l r : List ℕ) (old new : Contents) (roots : List NodeRef) (are : AreRoots (root_at old a s) l r roots)
     (known : (m n : ℕ) → Contains l m → Contains r n → (root : NodeRef) × (root_at old a s m n ≡ Some root))
     (before after : List (List ℕ)) (numbers_before : AreNumbers before) (numbers_after : AreNumbers after) where
   abbrev pub Step : Stepping

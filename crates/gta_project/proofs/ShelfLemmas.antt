@@ -4,7 +4,7 @@ use Rattle.std.proofs.Common.{Option, Some, None, Contains, slice_get, refl, sym
 use Rattle.std.specs.Prelude.{IsSome, option_map, option_and_then, unwrap_or}
 use Rattle.std.proofs.lemmas.Bool.{false≢true}
 use Rattle.std.proofs.lemmas.Option.{slice_get-get_or}
-use Rattle.bdd_nodes.specs.Roots.{Registered, root_under}
+use Rattle.bdd_nodes.specs.Roots.{Registered, roots_under, root_under}
 use Rattle.bdd_nodes.specs.Shelf.{Contents, IsShelf, root_of}
 use Rattle.bdd_nodes.specs.Changes.{Keeps, SameTables}
 use Rattle.gta_theory.specs.Guides.{Spaces, IsGuide, IsSpace, left, right}
@@ -16,7 +16,7 @@ use Rattle.gta_project.proofs.ClosingLemmas.{settled-below, get-index}
 use Rattle.gta_theory.specs.Generated.{Generated, starts, steps}
 use Rattle.gta_theory.specs.Numbered.{Below}
 use Rattle.gta_core.specs.declared.part.Part.{Part}
-use Rattle.gta_core.specs.Auto.{AutoView, states_of, initial_of, place_in, place_of, root_at, automaton_of, IsAuto}
+use Rattle.gta_core.specs.Auto.{AutoView, states_of, initial_of, place_in, place_of, table_of, root_at, automaton_of, IsAuto}
 use Rattle.gta_core.proofs.AutoLemmas.{automaton_of-kept, IsAuto-kept}
 use Rattle.gta_core.proofs.KeptLemmas.{KeepsTable-joins}
 
@@ -39,6 +39,9 @@ module _ (old new : Contents) (is_shelf : IsShelf old) (keeps : Keeps old new) (
   pub root_at-kept : (a : AutoView) (s l r : ℕ) → root_at new a s l r ≡ root_at old a s l r
   unfolding root_at
   root_at-kept a s l r = ap (λ (roots : Registered). option_and_then (root_under roots.tables a.table) (place_of a s l r)) tables
+
+  pub table_of-kept : (a : AutoView) → table_of old a ≡ table_of new a
+  table_of-kept a = ap (λ (roots : Registered). unwrap_or (roots_under roots.tables a.table) []) (sym tables)
 
 within-some : {X : Type 0} (xs : List X) (i : ℕ) → IsSome (slice_get xs i) → i < length xs
 within-some [] i some = absurd (false≢true some)

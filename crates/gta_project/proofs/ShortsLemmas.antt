@@ -153,9 +153,9 @@ module _ (shelf : Contents) (a : AutoView) (s : ℕ) where
         subst (λ (o : Option NodeRef). IsSome o) (root_at-classes m.0 l n.0 r m.2 n.2) (known m.0 n.0 m.1 n.1)
 
     -- the roots for the short lists are those for the sets
-    pub AreRoots-short : (roots : List NodeRef) → AreRoots shelf a s short_lefts short_rights roots → AreRoots shelf a s lefts rights roots
+    pub AreRoots-short : (roots : List NodeRef) → AreRoots (root_at shelf a s) short_lefts short_rights roots →
+        AreRoots (root_at shelf a s) lefts rights roots
     AreRoots-short roots are = record {
-      valid = are.valid;
       each = λ l r root in_l in_r at.
           let m = rows.there l in_l in
           let n = columns.there r in_r in

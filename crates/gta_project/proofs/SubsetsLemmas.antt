@@ -94,7 +94,7 @@ pub IsSet-step : (A : Automaton ℕ) (t s : ℕ) (lefts rights : List ℕ) (labe
 IsSet-step A t s lefts rights label = set_of-twice (unset A t s lefts rights label 0 ++ both A t s lefts rights label 0)
 
 -- what roots ask
-module _ (shelf : Contents) (a : AutoView) (s : ℕ) (lefts rights : List ℕ) (roots : List NodeRef) (are : AreRoots shelf a s lefts rights roots)
+module _ (shelf : Contents) (a : AutoView) (s : ℕ) (lefts rights : List ℕ) (roots : List NodeRef) (are : AreRoots (root_at shelf a s) lefts rights roots)
     (known : (l r : ℕ) → Contains lefts l → Contains rights r → (root : NodeRef) × (root_at shelf a s l r ≡ Some root)) (label : Label) (q : ℕ) where
   pub leaves-has : StepsFrom (automaton_of shelf a) s lefts rights label q → Contains (leaves_of shelf roots label) q
   leaves-has of =
@@ -115,7 +115,7 @@ module _ (shelf : Contents) (a : AutoView) (s : ℕ) (lefts rights : List ℕ) (
       }
 
 -- the set of what they ask is what sets step to
-module _ (shelf : Contents) (a : AutoView) (t s : ℕ) (lefts rights : List ℕ) (roots : List NodeRef) (are : AreRoots shelf a s lefts rights roots)
+module _ (shelf : Contents) (a : AutoView) (t s : ℕ) (lefts rights : List ℕ) (roots : List NodeRef) (are : AreRoots (root_at shelf a s) lefts rights roots)
     (known : (l r : ℕ) → Contains lefts l → Contains rights r → (root : NodeRef) × (root_at shelf a s l r ≡ Some root)) (label : Label) where
   pub asked-has : (q : ℕ) → IsStepOf (automaton_of shelf a) t s (Contains lefts) (Contains rights) label q →
       Contains (asked_of shelf roots (Some t) label) q

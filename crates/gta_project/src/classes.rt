@@ -21,7 +21,7 @@ pub(crate) fn classify(alloc: Global, sets: &Numbering, states: &[u32]) -> Resul
     ensures classes { IfOk result (AreClasses sets.now states.now) }
     ensures few { IfOk result (λ classes. length classes.ones ≤ 2 ^ 31) }
 {
-    let mut keys = Numbering::new(alloc);
+    let mut keys = Numbering::new(alloc, usize::MAX);
     let mut of = Items::new(alloc);
     let mut ones = Items::new(alloc);
     for k in 0..sets.len() {

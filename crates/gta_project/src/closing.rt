@@ -5,11 +5,11 @@ ghost use Rattle.labels.specs.Labels.{empty_label, with_track};
 ghost use Rattle.bdd_nodes.specs.Shelf.{IsValid, state_of, label_of};
 ghost use Rattle.bdd_walk.specs.Asked.{leaves_of};
 ghost use Rattle.gta_theory.specs.Guides.{IsSpace};
-ghost use Rattle.gta_core.specs.Auto.{states_of, initial_of, automaton_of, IsAuto};
+ghost use Rattle.gta_core.specs.Auto.{states_of, initial_of, table_of, automaton_of, IsAuto};
 ghost use Rattle.gta_project.specs.Subsets.{AreInitial};
 ghost use Rattle.gta_project.specs.Closing.{set_at, IsNext, AreNext, AreSettled};
 
-use crate::roots::roots_at;
+use crate::roots::{make_distinct, roots_at};
 use bdd_nodes::{Label, NodeRef, Shelf};
 use bdd_walk::{NoMemory, StateList, set_of};
 use gta_core::Auto;
@@ -22,10 +22,12 @@ pub(crate) fn initial_sets(
     alloc: Global,
     g: &Guide,
     a: &Auto,
+    table: &[NodeRef],
     track: u32,
     shelf: &Shelf,
 ) -> Result<Items<StateList>, NoMemory>
-    requires { IsAuto g.now shelf.now a.now }
+    requires auto { IsAuto g.now shelf.now a.now }
+    requires table { table.now ≡ table_of shelf.now a.now }
     ensures { IfOk result (AreInitial g.now (automaton_of shelf.now a.now) track) }
 {
     // Only for its clause `guide`.
@@ -33,7 +35,7 @@ pub(crate) fn initial_sets(
     let mut sets = Items::new(alloc);
     let mut many = 0;
     loop {
-        let next = next_sets(alloc, g, a, track, shelf, sets.as_slice())?;
+        let next = next_sets(alloc, g, a, table, track, shelf, sets.as_slice())?;
         if are_same(next.as_slice(), sets.as_slice()) {
             return Ok(next);
         }
@@ -83,17 +85,19 @@ fn next_sets(
     alloc: Global,
     g: &Guide,
     a: &Auto,
+    table: &[NodeRef],
     track: u32,
     shelf: &Shelf,
     sets: &[StateList],
 ) -> Result<Items<StateList>, NoMemory>
     requires auto { IsAuto g.now shelf.now a.now }
+    requires table { table.now ≡ table_of shelf.now a.now }
     requires settled { AreSettled g.now (automaton_of shelf.now a.now) track sets.now }
     ensures { IfOk result (AreNext g.now (automaton_of shelf.now a.now) track sets.now) }
 {
     let mut next = Items::new(alloc);
     for space in 0..g.spaces() {
-        next.push(next_set(alloc, g, a, track, shelf, sets, space)?)?;
+        next.push(next_set(alloc, g, a, table, track, shelf, sets, space)?)?;
     }
     Ok(next)
 }
@@ -103,20 +107,26 @@ fn next_set(
     alloc: Global,
     g: &Guide,
     a: &Auto,
+    table: &[NodeRef],
     track: u32,
     shelf: &Shelf,
     sets: &[StateList],
     space: u32,
 ) -> Result<StateList, NoMemory>
     requires auto { IsAuto g.now shelf.now a.now }
+    requires table { table.now ≡ table_of shelf.now a.now }
     requires settled { AreSettled g.now (automaton_of shelf.now a.now) track sets.now }
     requires inside { IsSpace g.now space }
     ensures { IfOk result (IsNext g.now (automaton_of shelf.now a.now) track sets.now space) }
 {
+    // Only for its clause `shelf`.
+    let _ = shelf.count();
     let children = g.children(space).unwrap_or((0, 0));
     let lefts = set_in(sets, children.0);
     let rights = set_in(sets, children.1);
-    let roots = roots_at(alloc, a, shelf, space, lefts, rights)?;
+    let mut roots = Vec::new(alloc);
+    roots_at(a, table, space, lefts, rights, &mut roots)?;
+    make_distinct(&mut roots);
     let mut states = Items::new(alloc);
     states.push(initial(a, space))?;
     push_states(&mut states, shelf, roots.as_slice(), &Items::new(alloc))?;

@@ -4,7 +4,7 @@ ghost use Rattle.std.specs.Prelude.{◌≡◌, ℕ, List, [], ◌∷◌, Some, E
 ghost use Rattle.bdd_walk.specs.Answers.{Completes};
 ghost use Rattle.bdd_walk.specs.Fits.{FitsSets};
 ghost use Rattle.bdd_nodes.specs.Shelf.{IsValid};
-ghost use Rattle.gta_core.specs.Auto.{root_at, automaton_of};
+ghost use Rattle.gta_core.specs.Auto.{table_of, root_at, automaton_of};
 ghost use Rattle.gta_project.specs.Subsets.{set_step};
 ghost use Rattle.gta_project.specs.Numbers.{number_in, numbered, AreNumbers};
 ghost use Rattle.gta_project.specs.Classes.{HaveClasses};
@@ -20,11 +20,12 @@ use gta_core::Auto;
 use std::alloc::Global;
 
 /// The root for a set of each child: a join of the roots that the automaton has for their states, with the track dropped.
-/// The roots are those for the short list of each set.
+/// The roots are those for the short list of each set, which are put into `found`.
 #[allow(clippy::too_many_arguments)]
-pub(crate) fn join_cell(
+fn join_cell(
     alloc: Global,
     a: &Auto,
+    table: &[NodeRef],
     track: u32,
     shelf: &mut Shelf,
     space: u32,
@@ -32,9 +33,11 @@ pub(crate) fn join_cell(
     right: &[u32],
     short_left: &[u32],
     short_right: &[u32],
+    found: &mut Vec<NodeRef>,
     joiner: &mut SetJoiner,
     numbers: &mut Numbering,
 ) -> Result<NodeRef, Stop>
+    requires table { table.now ≡ table_of shelf.old a.now }
     requires known { (l r : ℕ) → Contains left.now l → Contains right.now r → IsSome (root_at shelf.old a.now space l r) }
     requires rows { HaveClasses (rows_in a.now space) left.now short_left.now }
     requires columns { HaveClasses (columns_in a.now space) right.now short_right.now }
@@ -49,8 +52,8 @@ pub(crate) fn join_cell(
 {
     // Only for their clauses `shelf` and `numbers`.
     let _ = (shelf.count(), numbers.len());
-    let roots = roots_at(alloc, a, shelf, space, short_left, short_right)?;
-    let joined = joiner.join(alloc, shelf, roots, track, numbers);
+    roots_at(a, table, space, short_left, short_right, found)?;
+    let joined = joiner.join(alloc, shelf, found.as_slice(), track, numbers);
     let _ = numbers.len();
     let made = joined?;
     Ok(made)
@@ -61,6 +64,7 @@ pub(crate) fn join_cell(
 fn fill_row(
     alloc: Global,
     a: &Auto,
+    table: &[NodeRef],
     track: u32,
     shelf: &mut Shelf,
     space: u32,
@@ -72,6 +76,7 @@ fn fill_row(
     numbers: &mut Numbering,
     roots: &mut RefList,
 ) -> Result<(), Stop>
+    requires table { table.now ≡ table_of shelf.old a.now }
     requires known { (column : List ℕ) → Contains columns.now column → (l r : ℕ) → Contains row.now l → Contains column r →
         IsSome (root_at shelf.old a.now space l r) }
     requires short { HaveClasses (rows_in a.now space) row.now short.now }
@@ -90,11 +95,13 @@ fn fill_row(
 {
     // Only for their clauses `shelf` and `numbers`.
     let _ = (shelf.count(), numbers.len());
+    let mut found = Vec::new(alloc);
     for at in 0..columns.len() {
         let column = columns[at].as_slice();
         let other = shorts[at].as_slice();
         let root = join_cell(
-            alloc, a, track, shelf, space, row, column, short, other, joiner, numbers,
+            alloc, a, table, track, shelf, space, row, column, short, other, &mut found, joiner,
+            numbers,
         )?;
         roots.push(root)?;
     }
@@ -106,6 +113,7 @@ fn fill_row(
 pub(crate) fn fill(
     alloc: Global,
     a: &Auto,
+    table: &[NodeRef],
     track: u32,
     shelf: &mut Shelf,
     space: u32,
@@ -115,6 +123,7 @@ pub(crate) fn fill(
     numbers: &mut Numbering,
     roots: &mut RefList,
 ) -> Result<(), Stop>
+    requires table { table.now ≡ table_of shelf.old a.now }
     requires known { (row column : List ℕ) → Contains rows.now row → Contains columns.now column → (l r : ℕ) → Contains row l →
         Contains column r → IsSome (root_at shelf.old a.now space l r) }
     requires valid { All (IsValid shelf.old) roots.old }
@@ -139,6 +148,7 @@ pub(crate) fn fill(
         fill_row(
             alloc,
             a,
+            table,
             track,
             shelf,
             space,

@@ -4,14 +4,14 @@ ghost use Rattle.std.specs.Prelude.{◌≡◌, ◌<◌, ◌*◌, ◌⊎◌, ℕ,
 ghost use Rattle.gta_theory.specs.Automata.{Automaton};
 ghost use Rattle.gta_theory.specs.Guides.{left, right};
 ghost use Rattle.gta_project.specs.Subsets.{subsets, AreInitial};
-ghost use Rattle.gta_core.specs.Auto.{AutoView, automaton_of, IsAuto};
+ghost use Rattle.gta_core.specs.Auto.{AutoView, table_of, automaton_of, IsAuto};
 ghost use Rattle.gta_project.specs.Building.{AreSpaces, FitAll};
 ghost use Rattle.gta_project.specs.Growing.{AreGenerated, IsKeyed, HasSeen, HaveSeen, Goes, LacksRoom};
 
 use crate::classes::{key_of, note};
 use crate::filling::fill;
 use crate::numbering::Numbering;
-use bdd_nodes::{RefList, Shelf};
+use bdd_nodes::{NodeRef, RefList, Shelf};
 use bdd_walk::{NoMemory, SetJoiner, StateList, Stop};
 use gta_core::Auto;
 use plain_data::Items;
@@ -37,7 +37,7 @@ impl Seen {
         ensures keys { result.keys ≡ [] }
     {
         Seen {
-            keys: Numbering::new(alloc),
+            keys: Numbering::new(alloc, usize::MAX),
             ones: Items::new(alloc),
             looked: 0,
         }
@@ -88,6 +88,7 @@ pub(crate) fn grow(
     alloc: Global,
     g: &Guide,
     a: &Auto,
+    table: &[NodeRef],
     track: u32,
     initials: &[StateList],
     shelf: &mut Shelf,
@@ -96,6 +97,7 @@ pub(crate) fn grow(
     growths: &mut Vec<Growth>,
 ) -> Result<(), Stop>
     requires auto { IsAuto g.now shelf.old a.now }
+    requires table { table.now ≡ table_of shelf.old a.now }
     requires initials { AreInitial g.now (automaton_of shelf.old a.now) track initials.now }
     requires spaces { AreSpaces g.now (subsets (automaton_of shelf.old a.now) track initials.now) numbers.old.items }
     requires seen { HaveSeen g.now (subsets (automaton_of shelf.old a.now) track initials.now) a.now growths.old.items }
@@ -113,7 +115,7 @@ pub(crate) fn grow(
     loop {
         let before = counts(alloc, numbers)?;
         grow_once(
-            alloc, g, a, track, initials, shelf, joiners, numbers, growths,
+            alloc, g, a, table, track, initials, shelf, joiners, numbers, growths,
         )?;
         let after = counts(alloc, numbers)?;
         if are_same(&before, &after) {
@@ -128,6 +130,7 @@ fn grow_once(
     alloc: Global,
     g: &Guide,
     a: &Auto,
+    table: &[NodeRef],
     track: u32,
     initials: &[StateList],
     shelf: &mut Shelf,
@@ -136,6 +139,7 @@ fn grow_once(
     growths: &mut Vec<Growth>,
 ) -> Result<(), Stop>
     requires auto { IsAuto g.now shelf.old a.now }
+    requires table { table.now ≡ table_of shelf.old a.now }
     requires initials { AreInitial g.now (automaton_of shelf.old a.now) track initials.now }
     requires spaces { AreSpaces g.now (subsets (automaton_of shelf.old a.now) track initials.now) numbers.old.items }
     requires seen { HaveSeen g.now (subsets (automaton_of shelf.old a.now) track initials.now) a.now growths.old.items }
@@ -153,7 +157,7 @@ fn grow_once(
     for space in 0..g.spaces() {
         let growth = &mut growths[space as usize];
         grow_space(
-            alloc, g, a, track, initials, shelf, space, joiners, numbers, growth,
+            alloc, g, a, table, track, initials, shelf, space, joiners, numbers, growth,
         )?;
     }
     Ok(())
@@ -165,6 +169,7 @@ fn grow_space(
     alloc: Global,
     g: &Guide,
     a: &Auto,
+    table: &[NodeRef],
     track: u32,
     initials: &[StateList],
     shelf: &mut Shelf,
@@ -174,6 +179,7 @@ fn grow_space(
     growth: &mut Growth,
 ) -> Result<(), Stop>
     requires auto { IsAuto g.now shelf.old a.now }
+    requires table { table.now ≡ table_of shelf.old a.now }
     requires initials { AreInitial g.now (automaton_of shelf.old a.now) track initials.now }
     requires spaces { AreSpaces g.now (subsets (automaton_of shelf.old a.now) track initials.now) numbers.old.items }
     requires inside { space < length g.now }
@@ -201,11 +207,11 @@ fn grow_space(
     let (earlier, new) = parted(growth.rows.ones.as_slice(), rows);
     let all = growth.columns.ones.as_slice();
     join_sets(
-        alloc, g, a, track, initials, shelf, space, new, all, joiners, numbers,
+        alloc, g, a, table, track, initials, shelf, space, new, all, joiners, numbers,
     )?;
     let (_, came) = parted(all, columns);
     join_sets(
-        alloc, g, a, track, initials, shelf, space, earlier, came, joiners, numbers,
+        alloc, g, a, table, track, initials, shelf, space, earlier, came, joiners, numbers,
     )
 }
 
@@ -261,6 +267,7 @@ fn join_sets(
     alloc: Global,
     g: &Guide,
     a: &Auto,
+    table: &[NodeRef],
     track: u32,
     _initials: &[StateList],
     shelf: &mut Shelf,
@@ -271,6 +278,7 @@ fn join_sets(
     numbers: &mut Vec<Numbering>,
 ) -> Result<(), Stop>
     requires auto { IsAuto g.now shelf.old a.now }
+    requires table { table.now ≡ table_of shelf.old a.now }
     requires initials { AreInitial g.now (automaton_of shelf.old a.now) track _initials.now }
     requires spaces { AreSpaces g.now (subsets (automaton_of shelf.old a.now) track _initials.now) numbers.old.items }
     requires inside { space < length g.now }
@@ -294,6 +302,7 @@ fn join_sets(
     fill(
         alloc,
         a,
+        table,
         track,
         shelf,
         space,

@@ -12,11 +12,33 @@ use std::marker::Model;
 /// The most numbers that there are for states.
 const MOST: usize = 1 << 31;
 
+/// How many states the sets of a space may have together for each node of the shelf's limit: they stand outside the shelf.
+const STATES_A_NODE: usize = 16;
+
+/// So many states they may have together whatever the limit is.
+const ROOM: usize = 1 << 20;
+
+/// How many states the sets of a space may have together on a shelf with this limit.
+pub(crate) fn room_for(limit: u32) -> usize {
+    (limit as usize).saturating_mul(STATES_A_NODE).max(ROOM)
+}
+
+/// The room that is left where a set with so many states was put, if it is new.
+fn left_of(room: usize, states: usize, is_new: bool) -> usize {
+    if is_new {
+        room.saturating_sub(states)
+    } else {
+        room
+    }
+}
+
 /// Sets of states in the order in which they came. The place of a set is its number.
 #[derive(Drop)]
 pub(crate) struct Numbering {
     alloc: Global,
     sets: IndexSet<Vec<u32>>,
+    /// How many states sets that come may still have together; none where the sets have as many as they may, or more.
+    room: usize,
 }
 
 impl Model for Numbering {
@@ -31,13 +53,14 @@ impl Model for Numbering {
 }
 
 impl Numbering {
-    /// No numbers yet. Takes no memory.
-    pub(crate) fn new(alloc: Global) -> Numbering
+    /// No numbers yet, and room for sets with so many states together. Takes no memory.
+    pub(crate) fn new(alloc: Global, room: usize) -> Numbering
         ensures { result ≡ [] }
     {
         Numbering {
             alloc,
             sets: IndexSet::new(alloc),
+            room,
         }
     }
 
@@ -56,7 +79,8 @@ impl Numbering {
         self.sets.as_slice().len()
     }
 
-    /// The number of a set, a new one where it has none. Want of memory, also where no number is left, changes nothing.
+    /// The number of a set, a new one where it has none. Want of memory, also where no number or no room is left, changes
+    /// nothing.
     pub(crate) fn number(&mut self, set: Vec<u32>) -> Result<u32, AllocError>
         requires { IsSet set.items }
         ensures value { IfOk result (λ number. number_in self.new set.items ≡ Some number) }
@@ -65,10 +89,12 @@ impl Numbering {
         ensures grows { Grows self.old self.new set.items }
         ensures numbers { AreNumbers self.new }
     {
-        if self.sets.len() >= MOST {
+        if self.sets.len() >= MOST || self.room == 0 {
             return Err(AllocError);
         }
-        let (place, _) = self.sets.insert_full(set)?;
+        let states = set.len();
+        let (place, is_new) = self.sets.insert_full(set)?;
+        self.room = left_of(self.room, states, is_new);
         Ok(place as u32)
     }
 }

@@ -9,7 +9,7 @@ ghost use Rattle.gta_theory.specs.Guides.{Spaces, IsGuide, IsSpace, left, right}
 ghost use Rattle.gta_theory.specs.Automata.{Automaton, Accepts, Has};
 ghost use Rattle.gta_theory.specs.Constructions.{IsSubset};
 ghost use Rattle.gta_theory.specs.Sizes.{SizeOf};
-ghost use Rattle.gta_core.specs.Auto.{states_of, is_accepting, automaton_of, IsAuto};
+ghost use Rattle.gta_core.specs.Auto.{states_of, is_accepting, table_of, automaton_of, IsAuto};
 ghost use Rattle.gta_core.specs.Changes.{RegistersTable};
 ghost use Rattle.gta_core.specs.Placing.{Grows};
 ghost use Rattle.bdd_walk.specs.Sets.{IsSet};
@@ -22,8 +22,8 @@ use crate::classes::classify;
 use crate::closing::initial_sets;
 use crate::filling::fill;
 use crate::growing::{are_same, counts, grow, growths};
-use crate::numbering::Numbering;
-use bdd_nodes::{RefList, Shelf};
+use crate::numbering::{Numbering, room_for};
+use bdd_nodes::{NodeRef, RefList, Shelf};
 use bdd_walk::{NoMemory, SetJoiner, StateList, Stop};
 use gta_core::{Auto, BoolList, Part};
 use plain_data::Items;
@@ -39,7 +39,8 @@ use ws2s_core::{Guide, Track};
 /// `Limit` only where the nodes at the call and the Size of the projection are more than the limit: where the shelf has
 /// no room for a node, or where the table of a space gets more than 16 roots for each node of the limit. Each root is for
 /// a pair of child states of its own, and the Size counts those. Want of memory, also where a space has more sets than
-/// there are state numbers, or the roots are more than a `u32` counts. After a stop no table is left.
+/// there are state numbers, where its sets have more states together than 16 for each node of the limit and than 2^20, or
+/// where the roots are more than a `u32` counts. After a stop no table is left.
 pub fn project(
     alloc: Global,
     g: &Guide,
@@ -68,8 +69,10 @@ pub fn project(
 {
     // Only for their clauses `shelf` and `guide`.
     let _ = (shelf.count(), g.spaces());
-    let initials = initial_sets(alloc, g, a, t.0, shelf)?;
-    let settled = settle(alloc, g, a, t.0, initials.as_slice(), shelf)?;
+    let roots = a.roots(alloc, shelf)?;
+    let table = roots.as_slice();
+    let initials = initial_sets(alloc, g, a, table, t.0, shelf)?;
+    let settled = settle(alloc, g, a, table, t.0, initials.as_slice(), shelf)?;
     let Settled {
         numbers,
         parts,
@@ -93,11 +96,13 @@ fn settle(
     alloc: Global,
     g: &Guide,
     a: &Auto,
+    table: &[NodeRef],
     track: u32,
     initials: &[StateList],
     shelf: &mut Shelf,
 ) -> Result<Settled, Stop>
     requires auto { IsAuto g.now shelf.old a.now }
+    requires table { table.now ≡ table_of shelf.old a.now }
     requires initials { AreInitial g.now (automaton_of shelf.old a.now) track initials.now }
     ensures leaves { Leaves shelf.old shelf.new }
     ensures limit { result ≡ Err Stop.Limit → Exceeded g.now (subsets (automaton_of shelf.old a.now) track initials.now) shelf.old }
@@ -105,7 +110,7 @@ fn settle(
 {
     // Only for its clause `shelf`.
     let _ = shelf.count();
-    let mut numbers = start(alloc, g, initials)?;
+    let mut numbers = start(alloc, g, initials, room_for(shelf.limit()))?;
     let mut joiners = joiners(alloc, g)?;
     let mut growths = growths(alloc, g)?;
     loop {
@@ -113,6 +118,7 @@ fn settle(
             alloc,
             g,
             a,
+            table,
             track,
             initials,
             shelf,
@@ -126,6 +132,7 @@ fn settle(
             alloc,
             g,
             a,
+            table,
             track,
             initials,
             shelf,
@@ -144,8 +151,13 @@ fn settle(
     }
 }
 
-/// The initial set of each space.
-fn start(alloc: Global, g: &Guide, initials: &[StateList]) -> Result<Vec<Numbering>, NoMemory>
+/// The initial set of each space, in a numbering with room for so many states.
+fn start(
+    alloc: Global,
+    g: &Guide,
+    initials: &[StateList],
+    room: usize,
+) -> Result<Vec<Numbering>, NoMemory>
     requires many { length initials.now ≡ length g.now }
     requires sets { (k : ℕ) (set : List ℕ) → slice_get initials.now k ≡ Some set → IsSet set }
     ensures { IfOk result (λ spaces. (A : Automaton ℕ) (track : ℕ) → AreSpaces g.now (subsets A track initials.now) spaces.items) }
@@ -153,7 +165,7 @@ fn start(alloc: Global, g: &Guide, initials: &[StateList]) -> Result<Vec<Numberi
     let mut spaces = Vec::new(alloc);
     for space in 0..g.spaces() {
         let initial = &initials[space as usize];
-        let mut numbers = Numbering::new(alloc);
+        let mut numbers = Numbering::new(alloc, room);
         numbers.number(Vec::from_slice(alloc, initial.as_slice())?)?;
         spaces.push(numbers)?;
     }
@@ -211,6 +223,7 @@ fn parts_of(
     alloc: Global,
     g: &Guide,
     a: &Auto,
+    table: &[NodeRef],
     track: u32,
     initials: &[StateList],
     shelf: &mut Shelf,
@@ -219,6 +232,7 @@ fn parts_of(
     roots: &mut RefList,
 ) -> Result<Items<Part>, Stop>
     requires auto { IsAuto g.now shelf.old a.now }
+    requires table { table.now ≡ table_of shelf.old a.now }
     requires initials { AreInitial g.now (automaton_of shelf.old a.now) track initials.now }
     requires spaces { AreSpaces g.now (subsets (automaton_of shelf.old a.now) track initials.now) numbers.old.items }
     requires fits { FitAll track shelf.old joiners.old.items numbers.old.items }
@@ -243,7 +257,7 @@ fn parts_of(
     let mut parts = Items::new(alloc);
     for space in 0..g.spaces() {
         let part = part_of(
-            alloc, g, a, track, initials, shelf, space, joiners, numbers, roots,
+            alloc, g, a, table, track, initials, shelf, space, joiners, numbers, roots,
         )?;
         parts.push(part)?;
     }
@@ -256,6 +270,7 @@ fn part_of(
     alloc: Global,
     g: &Guide,
     a: &Auto,
+    table: &[NodeRef],
     track: u32,
     _initials: &[StateList],
     shelf: &mut Shelf,
@@ -265,6 +280,7 @@ fn part_of(
     roots: &mut RefList,
 ) -> Result<Part, Stop>
     requires auto { IsAuto g.now shelf.old a.now }
+    requires table { table.now ≡ table_of shelf.old a.now }
     requires initials { AreInitial g.now (automaton_of shelf.old a.now) track _initials.now }
     requires spaces { AreSpaces g.now (subsets (automaton_of shelf.old a.now) track _initials.now) numbers.old.items }
     requires fits { FitAll track shelf.old joiners.old.items numbers.old.items }
@@ -298,6 +314,7 @@ fn part_of(
     fill(
         alloc,
         a,
+        table,
         track,
         shelf,
         space,

@@ -7,7 +7,7 @@ use Rattle.gta_core.specs.Auto.{automaton_of}
 use Rattle.gta_project.specs.Classes.{HaveClasses}
 use Rattle.gta_project.specs.Shorts.{rows_in, columns_in, AreShorts}
 use Rattle.gta_project.specs.Filling.{Stepping, IsRow, AreCells}
-use Rattle.gta_project.proofs.ShelfLemmas.{root_at-kept}
+use Rattle.gta_project.proofs.ShelfLemmas.{root_at-kept, table_of-kept}
 use Rattle.gta_project.proofs.JoinsLemmas.{Joins-none, AreCells-more}
 use Rattle.gta_project.proofs.NextLemmas.{same-step, Joins-next, ExceedsCells-next, in-alone}
 use Rattle.gta_project.proofs.filling.fill.Goals as goal
@@ -15,6 +15,11 @@ use Rattle.gta_project.proofs.filling.fill.Goals as goal
 pub returns-in_err-shorts-clause-joins : goal.returns-in_err-shorts-clause-joins
 returns-in_err-shorts-clause-joins c = Joins-none (set_step (automaton_of c.args.shelf.now c.args.a.now) c.args.track) c.args.space c.args.rows.now
     c.args.columns.now c.args.shelf.now c.args.numbers.now c.count.ensures.shelf
+
+pub fill_row-requires-clause-table : goal.fill_row-requires-clause-table
+fill_row-requires-clause-table c =
+    let joins = c.loop-row.invariant.joins in
+    c.requires.table ∙ table_of-kept c.args.shelf.now c.loop-row.shelf c.count.ensures.shelf joins.keeps joins.tables c.args.a.now
 
 pub fill_row-requires-clause-short : goal.fill_row-requires-clause-short
 fill_row-requires-clause-short c =

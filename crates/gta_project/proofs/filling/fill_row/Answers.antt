@@ -7,7 +7,7 @@ use Rattle.bdd_nodes.specs.Shelf.{IsValid}
 use Rattle.gta_project.specs.Subsets.{set_step}
 use Rattle.gta_core.specs.Auto.{automaton_of}
 use Rattle.gta_project.specs.Filling.{Stepping, IsCell, IsRow}
-use Rattle.gta_project.proofs.ShelfLemmas.{root_at-kept}
+use Rattle.gta_project.proofs.ShelfLemmas.{root_at-kept, table_of-kept}
 use Rattle.gta_project.proofs.JoinsLemmas.{IsRow-more}
 use Rattle.gta_project.proofs.NextLemmas.{same-step, Joins-next, ExceedsCells-next, valid-more, in-alone}
 use Rattle.gta_project.proofs.filling.fill_row.Goals as goal
@@ -23,6 +23,11 @@ join_cell-requires-clause-known c = λ l r in_l in_r.
     subst (λ (o : Option NodeRef). IsSome o)
     (sym (root_at-kept c.args.shelf.now c.loop-at.shelf c.count.ensures.shelf joins.keeps joins.tables c.args.a.now c.args.space l r))
     (c.requires.known column there l r in_l in_r)
+
+pub join_cell-requires-clause-table : goal.join_cell-requires-clause-table
+join_cell-requires-clause-table c =
+    let joins = c.loop-at.invariant.joins in
+    c.requires.table ∙ table_of-kept c.args.shelf.now c.loop-at.shelf c.count.ensures.shelf joins.keeps joins.tables c.args.a.now
 
 pub join_cell-requires-clause-rows : goal.join_cell-requires-clause-rows
 join_cell-requires-clause-rows c = c.requires.short

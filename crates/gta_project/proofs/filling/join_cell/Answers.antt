@@ -1,23 +1,28 @@
 -- One root is joined for a set of each child.
-use Rattle.std.proofs.Common.{◌≡◌, ℕ, Some, Contains, ◌∙◌}
+use Rattle.std.proofs.Common.{◌≡◌, ℕ, Option, Some, Contains, IsSome, sym, ◌∙◌, subst}
 use Rattle.bdd_nodes.specs.declared.node_ref.NodeRef.{NodeRef}
 use Rattle.gta_core.specs.Auto.{root_at}
+use Rattle.gta_project.proofs.RootsLemmas.{rooting-is, found-are, AreRoots-valid}
 use Rattle.gta_project.proofs.ClosingLemmas.{some-is}
 use Rattle.gta_project.proofs.ShortsLemmas.{known-short, AreRoots-short}
 use Rattle.gta_project.proofs.FillingLemmas.{Joins-one, IsCell-one, ExceedsCells-one}
 use Rattle.gta_project.proofs.filling.join_cell.Goals as goal
 
 pub roots_at-requires : goal.roots_at-requires
-roots_at-requires c = known-short c.args.shelf.now c.args.a.now c.args.space c.args.left.now c.args.right.now c.args.short_left.now c.args.short_right.now
-    c.requires.rows c.requires.columns c.requires.known
+roots_at-requires c = λ l r in_l in_r.
+    subst (λ (o : Option NodeRef). IsSome o)
+    (sym (rooting-is c.args.shelf.now c.args.a.now c.args.table.now c.requires.table c.args.space l r))
+    (known-short c.args.shelf.now c.args.a.now c.args.space c.args.left.now c.args.right.now c.args.short_left.now c.args.short_right.now
+    c.requires.rows c.requires.columns c.requires.known l r in_l in_r)
 
 pub returns-in_err-made-clause-joins : goal.returns-in_err-made-clause-joins
 returns-in_err-made-clause-joins c =
     let shelf = c.args.shelf.now in
     let a = c.args.a.now in
-    let roots = c.in_ok-roots.roots.items in
+    let roots = c.as_slice.result.now in
     let are = AreRoots-short shelf a c.args.space c.args.left.now c.args.right.now c.args.short_left.now c.args.short_right.now c.requires.rows
-    c.requires.columns roots c.in_ok-roots.ensures in
+    c.requires.columns roots (found-are shelf a c.args.table.now c.requires.table c.args.space c.args.short_left.now c.args.short_right.now
+    c.roots_at.new.roots.items roots c.as_slice.ensures.value c.in_ok-roots_at.ensures) in
     let known = λ (l r : ℕ) (in_l : Contains c.args.left.now l) (in_r : Contains c.args.right.now r).
     let k : (root : NodeRef) × (root_at shelf a c.args.space l r ≡ Some root) = some-is (root_at shelf a c.args.space l r)
     (c.requires.known l r in_l in_r) in k in
@@ -30,9 +35,10 @@ pub returns-in_err-made-clause-limit : goal.returns-in_err-made-clause-limit
 returns-in_err-made-clause-limit c = λ stopped given completes.
     let shelf = c.args.shelf.now in
     let a = c.args.a.now in
-    let roots = c.in_ok-roots.roots.items in
+    let roots = c.as_slice.result.now in
     let are = AreRoots-short shelf a c.args.space c.args.left.now c.args.right.now c.args.short_left.now c.args.short_right.now c.requires.rows
-    c.requires.columns roots c.in_ok-roots.ensures in
+    c.requires.columns roots (found-are shelf a c.args.table.now c.requires.table c.args.space c.args.short_left.now c.args.short_right.now
+    c.roots_at.new.roots.items roots c.as_slice.ensures.value c.in_ok-roots_at.ensures) in
     let known = λ (l r : ℕ) (in_l : Contains c.args.left.now l) (in_r : Contains c.args.right.now r).
     let k : (root : NodeRef) × (root_at shelf a c.args.space l r ≡ Some root) = some-is (root_at shelf a c.args.space l r)
     (c.requires.known l r in_l in_r) in k in
@@ -45,9 +51,10 @@ pub returns-clause-joins : goal.returns-clause-joins
 returns-clause-joins c =
     let shelf = c.args.shelf.now in
     let a = c.args.a.now in
-    let roots = c.in_ok-roots.roots.items in
+    let roots = c.as_slice.result.now in
     let are = AreRoots-short shelf a c.args.space c.args.left.now c.args.right.now c.args.short_left.now c.args.short_right.now c.requires.rows
-    c.requires.columns roots c.in_ok-roots.ensures in
+    c.requires.columns roots (found-are shelf a c.args.table.now c.requires.table c.args.space c.args.short_left.now c.args.short_right.now
+    c.roots_at.new.roots.items roots c.as_slice.ensures.value c.in_ok-roots_at.ensures) in
     let known = λ (l r : ℕ) (in_l : Contains c.args.left.now l) (in_r : Contains c.args.right.now r).
     let k : (root : NodeRef) × (root_at shelf a c.args.space l r ≡ Some root) = some-is (root_at shelf a c.args.space l r)
     (c.requires.known l r in_l in_r) in k in
@@ -60,9 +67,10 @@ pub returns-clause-cell : goal.returns-clause-cell
 returns-clause-cell c =
     let shelf = c.args.shelf.now in
     let a = c.args.a.now in
-    let roots = c.in_ok-roots.roots.items in
+    let roots = c.as_slice.result.now in
     let are = AreRoots-short shelf a c.args.space c.args.left.now c.args.right.now c.args.short_left.now c.args.short_right.now c.requires.rows
-    c.requires.columns roots c.in_ok-roots.ensures in
+    c.requires.columns roots (found-are shelf a c.args.table.now c.requires.table c.args.space c.args.short_left.now c.args.short_right.now
+    c.roots_at.new.roots.items roots c.as_slice.ensures.value c.in_ok-roots_at.ensures) in
     let known = λ (l r : ℕ) (in_l : Contains c.args.left.now l) (in_r : Contains c.args.right.now r).
     let k : (root : NodeRef) × (root_at shelf a c.args.space l r ≡ Some root) = some-is (root_at shelf a c.args.space l r)
     (c.requires.known l r in_l in_r) in k in
@@ -70,3 +78,9 @@ returns-clause-cell c =
     IsCell-one a c.args.track c.args.space c.args.left.now c.args.right.now shelf c.join-joined.new.shelf roots are known c.args.numbers.now
     c.join-joined.new.rule c.len.ensures.numbers c.len-2.ensures.numbers
     c.in_ok-made.made c.in_ok-made.ensures.valid c.in_ok-made.ensures.value
+
+pub join-joined-requires-clause-valid : goal.join-joined-requires-clause-valid
+join-joined-requires-clause-valid c =
+    AreRoots-valid c.args.shelf.now c.count.ensures.shelf c.args.a.now c.args.space c.args.short_left.now c.args.short_right.now c.as_slice.result.now
+    (found-are c.args.shelf.now c.args.a.now c.args.table.now c.requires.table c.args.space c.args.short_left.now c.args.short_right.now
+    c.roots_at.new.roots.items c.as_slice.result.now c.as_slice.ensures.value c.in_ok-roots_at.ensures)

@@ -6,6 +6,7 @@ use Rattle.gta_project.specs.Subsets.{subsets}
 use Rattle.gta_core.specs.Auto.{automaton_of}
 use Rattle.gta_project.specs.Building.{AreSpaces}
 use Rattle.gta_project.specs.Growing.{HaveSeen}
+use Rattle.gta_project.proofs.ShelfLemmas.{table_of-kept}
 use Rattle.gta_project.proofs.GrowingLemmas.{Goes-none, subsets-on, subsets-back, auto-on, initial-on, Goes-next, LacksRoom-next, room-less}
 use Rattle.gta_project.proofs.growing.grow.Goals as goal
 
@@ -22,6 +23,11 @@ pub grow_once-requires-clause-auto : goal.grow_once-requires-clause-auto
 grow_once-requires-clause-auto c = auto-on c.args.g.now c.args.a.now c.args.track c.args.initials.now c.args.shelf.now c.loop-before.shelf
     c.count.ensures.shelf c.args.numbers.now.items c.loop-before.numbers.items
     c.loop-before.invariant.goes c.requires.auto
+
+pub grow_once-requires-clause-table : goal.grow_once-requires-clause-table
+grow_once-requires-clause-table c =
+    let goes = c.loop-before.invariant.goes in
+    c.requires.table ∙ table_of-kept c.args.shelf.now c.loop-before.shelf c.count.ensures.shelf goes.keeps goes.tables c.args.a.now
 
 pub grow_once-requires-clause-initials : goal.grow_once-requires-clause-initials
 grow_once-requires-clause-initials c = initial-on c.args.g.now c.args.a.now c.args.track c.args.initials.now c.args.shelf.now c.loop-before.shelf

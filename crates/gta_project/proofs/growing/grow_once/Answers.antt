@@ -5,6 +5,7 @@ use Rattle.gta_project.specs.Subsets.{subsets}
 use Rattle.gta_core.specs.Auto.{automaton_of}
 use Rattle.gta_project.specs.Building.{AreSpaces}
 use Rattle.gta_project.specs.Growing.{HasSeen}
+use Rattle.gta_project.proofs.ShelfLemmas.{table_of-kept}
 use Rattle.gta_project.proofs.PartLemmas.{get-at}
 use Rattle.gta_project.proofs.GrowingLemmas.{Goes-none, HaveSeen-set, subsets-on, subsets-back, auto-on, initial-on, Goes-next, LacksRoom-next}
 use Rattle.gta_project.proofs.growing.grow_once.Goals as goal
@@ -22,6 +23,11 @@ pub grow_space-requires-clause-auto : goal.grow_space-requires-clause-auto
 grow_space-requires-clause-auto c = auto-on c.args.g.now c.args.a.now c.args.track c.args.initials.now c.args.shelf.now c.loop-space.shelf
     c.count.ensures.shelf c.args.numbers.now.items c.loop-space.numbers.items
     c.loop-space.invariant.goes c.requires.auto
+
+pub grow_space-requires-clause-table : goal.grow_space-requires-clause-table
+grow_space-requires-clause-table c =
+    let goes = c.loop-space.invariant.goes in
+    c.requires.table ∙ table_of-kept c.args.shelf.now c.loop-space.shelf c.count.ensures.shelf goes.keeps goes.tables c.args.a.now
 
 pub grow_space-requires-clause-initials : goal.grow_space-requires-clause-initials
 grow_space-requires-clause-initials c = initial-on c.args.g.now c.args.a.now c.args.track c.args.initials.now c.args.shelf.now c.loop-space.shelf

@@ -6,6 +6,7 @@ use Rattle.gta_project.specs.Subsets.{subsets}
 use Rattle.gta_core.specs.Auto.{automaton_of}
 use Rattle.gta_project.specs.Building.{AreSpaces}
 use Rattle.gta_project.specs.Growing.{AreGenerated}
+use Rattle.gta_project.proofs.ShelfLemmas.{table_of-kept}
 use Rattle.gta_project.proofs.GrowingLemmas.{on-ok-always, subsets-on, subsets-back, auto-on, initial-on, Goes-next, LacksRoom-next, LacksRoom-cells}
 use Rattle.gta_project.proofs.growing.grow_space.Goals as goal
 
@@ -30,6 +31,11 @@ pub join_sets-requires-2-clause-auto : goal.join_sets-requires-2-clause-auto
 join_sets-requires-2-clause-auto c = auto-on c.args.g.now c.args.a.now c.args.track c.args.initials.now c.args.shelf.now c.join_sets.new.shelf
     c.count.ensures.shelf c.args.numbers.now.items c.join_sets.new.numbers.items
     c.join_sets.ensures.goes c.requires.auto
+
+pub join_sets-requires-2-clause-table : goal.join_sets-requires-2-clause-table
+join_sets-requires-2-clause-table c =
+    let goes = c.join_sets.ensures.goes in
+    c.requires.table ∙ table_of-kept c.args.shelf.now c.join_sets.new.shelf c.count.ensures.shelf goes.keeps goes.tables c.args.a.now
 
 pub join_sets-requires-2-clause-initials : goal.join_sets-requires-2-clause-initials
 join_sets-requires-2-clause-initials c = initial-on c.args.g.now c.args.a.now c.args.track c.args.initials.now c.args.shelf.now c.join_sets.new.shelf

@@ -7,7 +7,7 @@ use Rattle.gta_project.specs.Subsets.{subsets}
 use Rattle.gta_core.specs.declared.part.Part.{Part}
 use Rattle.gta_core.specs.Auto.{automaton_of}
 use Rattle.gta_project.specs.Building.{AreSpaces, Building, ExceedsSteps, IsPartOf, AreParts, ExtendAll}
-use Rattle.gta_project.proofs.ShelfLemmas.{subsets-kept, auto-kept, initial-kept}
+use Rattle.gta_project.proofs.ShelfLemmas.{subsets-kept, auto-kept, initial-kept, table_of-kept}
 use Rattle.gta_project.proofs.SameLemmas.{ExtendAll-refl, ExtendAll-trans, both-spaces, AreParts-more, AreParts-none}
 use Rattle.gta_project.proofs.projecting.parts_of.Goals as goal
 
@@ -30,6 +30,11 @@ pub part_of-requires-clause-auto : goal.part_of-requires-clause-auto
 part_of-requires-clause-auto c =
     let inv = c.loop-space.invariant in
     auto-kept c.args.shelf.now c.loop-space.shelf c.count.ensures.shelf inv.keeps inv.tables c.args.g.now c.args.a.now c.requires.auto
+
+pub part_of-requires-clause-table : goal.part_of-requires-clause-table
+part_of-requires-clause-table c =
+    let inv = c.loop-space.invariant in
+    c.requires.table ∙ table_of-kept c.args.shelf.now c.loop-space.shelf c.count.ensures.shelf inv.keeps inv.tables c.args.a.now
 
 pub part_of-requires-clause-initials : goal.part_of-requires-clause-initials
 part_of-requires-clause-initials c =

@@ -6,6 +6,7 @@ use Rattle.gta_project.specs.Subsets.{subsets}
 use Rattle.gta_core.specs.Auto.{automaton_of}
 use Rattle.gta_project.specs.Building.{AreSpaces, AreParts}
 use Rattle.gta_project.specs.Growing.{HaveSeen}
+use Rattle.gta_project.proofs.ShelfLemmas.{table_of-kept}
 use Rattle.gta_project.proofs.FinalLemmas.{same-spaces}
 use Rattle.gta_project.proofs.ProjectLemmas.{Building-start, Leaves-building, Leaves-none}
 use Rattle.gta_project.proofs.GrowingLemmas.{to-now, to-first, auto-now, initial-now, Building-goes, Exceeded-goes, room-most, room-less}
@@ -26,6 +27,11 @@ grow-requires-clause-auto c =
     auto-now c.args.g.now c.args.a.now c.args.track c.args.initials.now c.args.shelf.now c.loop-growths.shelf c.count.ensures.shelf
     c.loop-growths.numbers.items
     c.loop-growths.invariant.building c.requires.auto
+
+pub grow-requires-clause-table : goal.grow-requires-clause-table
+grow-requires-clause-table c =
+    let building = c.loop-growths.invariant.building in
+    c.requires.table ∙ table_of-kept c.args.shelf.now c.loop-growths.shelf c.count.ensures.shelf building.keeps building.tables c.args.a.now
 
 pub grow-requires-clause-initials : goal.grow-requires-clause-initials
 grow-requires-clause-initials c =
@@ -53,6 +59,14 @@ parts_of-requires-clause-auto c =
     c.grow.new.shelf c.grow.new.numbers.items c.grow.ensures.goes.building in
     auto-now c.args.g.now c.args.a.now c.args.track c.args.initials.now c.args.shelf.now c.grow.new.shelf c.count.ensures.shelf
     c.grow.new.numbers.items grown c.requires.auto
+
+pub parts_of-requires-clause-table : goal.parts_of-requires-clause-table
+parts_of-requires-clause-table c =
+    let grown = Building-goes c.args.g.now c.args.a.now c.args.track c.args.initials.now c.args.shelf.now c.loop-growths.shelf c.count.ensures.shelf
+    c.loop-growths.numbers.items
+    c.loop-growths.invariant.building
+    c.grow.new.shelf c.grow.new.numbers.items c.grow.ensures.goes.building in
+    c.requires.table ∙ table_of-kept c.args.shelf.now c.grow.new.shelf c.count.ensures.shelf grown.keeps grown.tables c.args.a.now
 
 pub parts_of-requires-clause-initials : goal.parts_of-requires-clause-initials
 parts_of-requires-clause-initials c =

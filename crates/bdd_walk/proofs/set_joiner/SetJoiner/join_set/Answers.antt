@@ -1,5 +1,5 @@
 -- A set is found, or joined.
-use Rattle.std.proofs.Common.{List, ◌∙◌, sym, ap, IfOk, subst}
+use Rattle.std.proofs.Common.{List, ◌∙◌, sym, IfOk, subst}
 use Rattle.labels.specs.Labels.{Label}
 use Rattle.bdd_nodes.specs.declared.node_ref.NodeRef.{NodeRef}
 use Rattle.bdd_walk.specs.Answers.{AnswersOnly}
