@@ -6,6 +6,7 @@ ghost use Rattle.gta_theory.specs.Guides.{Spaces};
 ghost use Rattle.gta_core.specs.Auto.{AutoView, IsAuto};
 ghost use Rattle.gta_keep.specs.Holding.{Holds, HoldsBeside, HaveSum, IsCopyOfKept, IsNotKept, IsKeptCopy, Passes, TakesIn, as_list, beside};
 
+use crate::pairs::places_of;
 use bdd_nodes::Shelf;
 use bdd_walk::NoMemory;
 use gta_core::{Auto, release};
@@ -18,8 +19,11 @@ use ws2s_core::FormulaId;
 /// How many automata are kept at most: on the way to one verdict thousands may be asked for again.
 const MOST_KEPT: usize = 4_096;
 
-/// How many cells the tables of what is kept have together at most, for each node that the shelf may have.
-const CELLS_A_NODE: u64 = 16;
+/// How many places what is kept has together at most, for each node that the shelf may have.
+const PLACES_A_NODE: u64 = 16;
+
+/// How many nodes there are at least where those that nothing needs are looked for.
+const MANY_NODES: u32 = 1 << 17;
 
 /// Automata of formulas that may be asked for again, by the formulas' numbers, at most `MOST_KEPT` of them. Contracts see
 /// the list of them, the last one used first. Each has a table of its own in one shelf, so they are released before they
@@ -27,8 +31,10 @@ const CELLS_A_NODE: u64 = 16;
 #[derive(Drop)]
 pub struct Kept {
     automata: LruCache<FormulaId, Auto>,
-    /// How many cells their tables have together, as far as a `u64` counts them.
-    cells: u64,
+    /// How many places they have together, as far as a `u64` counts them.
+    places: u64,
+    /// How many nodes the shelf had when those that nothing needed were let go of.
+    needed: u32,
 }
 
 impl Model for Kept {
@@ -53,7 +59,8 @@ impl Kept {
         let most = NonZeroUsize::new(MOST_KEPT).unwrap();
         Ok(Kept {
             automata: LruCache::sparse(alloc, most)?,
-            cells: 0,
+            places: 0,
+            needed: 0,
         })
     }
 
@@ -89,7 +96,11 @@ impl Kept {
         ensures passes { (g : Spaces) (shelf : Contents) → Passes g shelf shelf [] (as_list result) self.old self.new }
     {
         let taken = self.automata.pop(&id);
-        self.cells = self.cells.saturating_sub(cells_of(taken.as_ref()));
+        let gone = match &taken {
+            Some(auto) => places_of(auto),
+            None => 0,
+        };
+        self.places = self.places.saturating_sub(gone);
         taken
     }
 
@@ -112,37 +123,37 @@ impl Kept {
         ensures err { OnErr result (self.new ≡ self.old) }
     {
         let gone = put(alloc, id, auto, &mut self.automata, shelf)?;
-        let cells = self.cells.saturating_add(cells_of(Some(auto)));
-        self.cells = cells.saturating_sub(gone);
+        let places = self.places.saturating_add(places_of(auto));
+        self.places = places.saturating_sub(gone);
         self.shrink(id, shelf);
         Ok(())
     }
 
-    /// Lets go of what was used longest ago while the tables of what is kept have too many cells, but not of what is kept for
-    /// the number. Takes no memory.
+    /// Lets go of what was used longest ago while what is kept has too many places, but not of what is kept for the number.
+    /// Takes no memory.
     fn shrink(&mut self, id: FormulaId, shelf: &mut Shelf)
         requires { (g : Spaces) × HoldsBeside g shelf.old [] self.old }
         ensures passes { (g : Spaces) → Passes g shelf.old shelf.new [] [] self.old self.new }
         ensures stays { (auto : AutoView) → Contains self.old (id, auto) → Contains self.new (id, auto) }
     {
-        let most = u64::from(shelf.limit()).saturating_mul(CELLS_A_NODE);
+        let most = u64::from(shelf.limit()).saturating_mul(PLACES_A_NODE);
         while let Some(auto) = self.fall_out(id, most) {
             release(auto, shelf);
         }
     }
 
-    /// Takes out what was used longest ago where the tables have more cells than that, unless it is kept for the number.
+    /// Takes out what was used longest ago where there are more places than that, unless it is kept for the number.
     fn fall_out(&mut self, id: FormulaId, most: u64) -> Option<Auto>
         ensures passes { (g : Spaces) (shelf : Contents) → Passes g shelf shelf [] (as_list result) self.old self.new }
         ensures stays { (auto : AutoView) → Contains self.old (id, auto) → Contains self.new (id, auto) }
         ensures fewer { IsSome result → length self.new < length self.old }
     {
         let (oldest, _) = self.automata.peek_lru()?;
-        if self.cells <= most || *oldest == id {
+        if self.places <= most || *oldest == id {
             return None;
         }
         let (_, out) = self.automata.pop_lru()?;
-        self.cells = self.cells.saturating_sub(cells_of(Some(&out)));
+        self.places = self.places.saturating_sub(places_of(&out));
         Some(out)
     }
 
@@ -155,7 +166,24 @@ impl Kept {
         while let Some((_, auto)) = self.automata.pop_lru() {
             release(auto, shelf);
         }
-        self.cells = 0;
+        self.places = 0;
+    }
+
+    /// Lets go of the nodes that nothing needs where there are many, and at least twice as many as were left the last time. So a
+    /// node is looked at twice on average, and no more than twice those that were needed wait. Takes no memory.
+    pub fn sweep(&mut self, shelf: &mut Shelf)
+        ensures { (g : Spaces) → Passes g shelf.old shelf.new [] [] self.old self.new }
+    {
+        if shelf.count() < self.sweeps_from() {
+            return;
+        }
+        shelf.collect();
+        self.needed = shelf.count();
+    }
+
+    /// With how many nodes those that nothing needs are looked for.
+    fn sweeps_from(&self) -> u32 {
+        self.needed.saturating_mul(2).max(MANY_NODES)
     }
 
     /// Lets go of what is kept and of the nodes that nothing needs. What is left are nodes of the automata that wait: no more
@@ -169,11 +197,12 @@ impl Kept {
     {
         self.release_all(shelf);
         shelf.collect();
+        self.needed = shelf.count();
     }
 }
 
-/// Puts a copy of the automaton first, in the place of what was there for the number, and answers how many cells the table of
-/// what it displaces had: that, or the one that was used longest ago where there are too many. That one is let go of.
+/// Puts a copy of the automaton first, in the place of what was there for the number, and answers how many places what it
+/// displaces had: that, or the one that was used longest ago where there are too many. That one is let go of.
 ///
 /// # Errors
 ///
@@ -195,7 +224,7 @@ fn put(
     let copy = auto.copy(alloc, shelf)?;
     match automata.push(id, copy) {
         Ok(Some((_, out))) => {
-            let gone = cells_of(Some(&out));
+            let gone = places_of(&out);
             release(out, shelf);
             Ok(gone)
         }
@@ -206,15 +235,4 @@ fn put(
             Err(AllocError)
         }
     }
-}
-
-/// How many cells the tables of an automaton have together, as far as a `u64` counts them.
-fn cells_of(auto: Option<&Auto>) -> u64 {
-    let mut cells = 0_u64;
-    if let Some(auto) = auto {
-        for part in auto.parts() {
-            cells = cells.saturating_add(part.cells.len() as u64);
-        }
-    }
-    cells
 }

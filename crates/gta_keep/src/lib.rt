@@ -17,4 +17,4 @@ pub use kept::Kept;
 pub use laws::{
     automata_have_sizes, copies_are_minimal, held_automata_have_room, held_automata_outlive_changes,
 };
-pub use pairs::pairs_of;
+pub use pairs::{pairs_of, places_of};

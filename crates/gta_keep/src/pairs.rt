@@ -1,4 +1,4 @@
-//! How many pairs of child states automata have.
+//! How many pairs of child states automata have, and how many places.
 
 ghost use Rattle.std.specs.Prelude.{◌≤◌, ℕ};
 ghost use Rattle.bdd_nodes.specs.Shelf.{Contents};
@@ -20,4 +20,17 @@ pub fn pairs_of(a: &Auto) -> u64
         pairs = pairs.saturating_add(u64::from(at_left) * u64::from(at_right));
     }
     pairs
+}
+
+/// How many places the automaton has: the numbers that its parts keep, which are their rows, columns and cells. The greatest
+/// number where there are more. When automata are let go of depends on it, and no clause does. Takes no memory.
+pub fn places_of(a: &Auto) -> u64 {
+    let mut places = 0_u64;
+    for part in a.parts() {
+        let classes = (part.rows.len() as u64).saturating_add(part.columns.len() as u64);
+        places = places
+            .saturating_add(classes)
+            .saturating_add(part.cells.len() as u64);
+    }
+    places
 }

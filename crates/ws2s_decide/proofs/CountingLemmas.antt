@@ -1,5 +1,5 @@
 -- On numbers that are no more than the Sizes of automata that wait: one more automaton adds its pairs of child states.
-use Rattle.std.proofs.Common.{◌≡◌, ℕ, zero, suc, ◌+◌, ◌-◌, ◌≤◌, Bool, true, false, if◌then◌else◌, List, [], ◌∷◌, ◌++◌, length, map, All, Some, slice_get, refl, sym, ◌∙◌, ap, subst, arith}
+use Rattle.std.proofs.Common.{◌≡◌, ℕ, zero, suc, ◌+◌, ◌-◌, ◌<◌, ◌≤◌, Bool, true, false, if◌then◌else◌, List, [], ◌∷◌, ◌++◌, length, map, All, Some, slice_get, refl, sym, ◌∙◌, ap, subst, arith}
 use Rattle.std.specs.Prelude.{reverse}
 use Rattle.std.specs.List.{sum_by}
 use Rattle.std.proofs.lemmas.Option.{slice_get_within}
@@ -10,7 +10,8 @@ use Rattle.bdd_nodes.specs.Shelf.{Contents}
 use Rattle.gta_theory.specs.Guides.{Spaces}
 use Rattle.gta_core.specs.Auto.{AutoView}
 use Rattle.gta_core.specs.Sizes.{IsSized}
-use Rattle.ws2s_decide.specs.Counting.{IsInSizes, AreCounted}
+use Rattle.ws2s_decide.specs.declared.waiting.Held.{Held}
+use Rattle.ws2s_decide.specs.Counting.{IsInSizes, ArePast, AreCounted}
 
 -- no automata have no pairs
 pub IsInSizes-none : (autos : List AutoView) → IsInSizes autos 0
@@ -35,6 +36,12 @@ module _ (a : AutoView) (autos : List AutoView) (m n p : ℕ) (of_a : (g : Space
   pub IsInSizes-more : IsInSizes (a ∷ autos) p
   IsInSizes-more g shelf sum have = split g shelf sum have.sized have.are have.each have.is_sum
 
+-- a number below one that is no more
+pub ArePast-below : (autos : List AutoView) (m n : ℕ) → m < n → IsInSizes autos n → ArePast autos m
+ArePast-below autos m n below counted g shelf sum have =
+    let most = counted g shelf sum have in
+    omega (arith, below, most)
+
 -- what stands last in a list
 ends-with : {X : Type 0} (xs : List X) (k : ℕ) (x : X) → length xs ≡ suc k → slice_get xs k ≡ Some x → (front : List X) × (xs ≡ front ++ x ∷ [])
 ends-with [] k x many at = absurd (omega (arith, many))
@@ -47,23 +54,23 @@ ends-with (y ∷ (z ∷ ys)) (suc k) x many at =
 reverse-last : {X : Type 0} (front : List X) (x : X) → reverse (front ++ x ∷ []) ≡ x ∷ reverse front
 reverse-last front x = reverse-append front (x ∷ [])
 
-abbrev waiting : List (AutoView × ℕ) → List AutoView
-waiting held = map (λ one. one.0) (reverse held)
+abbrev waiting : List Held → List AutoView
+waiting held = map (λ one. one.auto) (reverse held)
 
 -- the number beside the last one
-pub IsInSizes-last : (held : List (AutoView × ℕ)) (one : AutoView × ℕ) → slice_get held (length held - 1) ≡ Some one → AreCounted (reverse held) →
-    IsInSizes (waiting held) one.1
+pub IsInSizes-last : (held : List Held) (one : Held) → slice_get held (length held - 1) ≡ Some one → AreCounted (reverse held) →
+    IsInSizes (waiting held) one.pairs
 IsInSizes-last held one at counted =
     let inside = slice_get_within held (length held - 1) one at in
     let (front, is) = ends-with held (length held - 1) one (omega (arith, inside)) at in
-    let same : reverse held ≡ one ∷ reverse front = ap (λ (xs : List (AutoView × ℕ)). reverse xs) is ∙ reverse-last front one in
-    subst (λ (xs : List (AutoView × ℕ)). IsInSizes (map (λ x. x.0) xs) one.1) (sym same)
-    (subst (λ (xs : List (AutoView × ℕ)). AreCounted xs) same counted).0
+    let same : reverse held ≡ one ∷ reverse front = ap (λ (xs : List Held). reverse xs) is ∙ reverse-last front one in
+    subst (λ (xs : List Held). IsInSizes (map (λ x. x.auto) xs) one.pairs) (sym same)
+    (subst (λ (xs : List Held). AreCounted xs) same counted).0
 
 -- one more is counted, where there was memory for it
-pub AreCounted-push : (b : Bool) (held new : List (AutoView × ℕ)) (one : AutoView × ℕ) → new ≡ (if b then held ++ one ∷ [] else held) →
-    IsInSizes (one.0 ∷ waiting held) one.1 → AreCounted (reverse held) → AreCounted (reverse new)
+pub AreCounted-push : (b : Bool) (held new : List Held) (one : Held) → new ≡ (if b then held ++ one ∷ [] else held) →
+    IsInSizes (one.auto ∷ waiting held) one.pairs → AreCounted (reverse held) → AreCounted (reverse new)
 AreCounted-push true held new one is first rest =
-    subst (λ (xs : List (AutoView × ℕ)). AreCounted xs) (sym (ap (λ (xs : List (AutoView × ℕ)). reverse xs) is ∙ reverse-last held one)) (first, rest)
+    subst (λ (xs : List Held). AreCounted xs) (sym (ap (λ (xs : List Held). reverse xs) is ∙ reverse-last held one)) (first, rest)
 AreCounted-push false held new one is first rest =
-    subst (λ (xs : List (AutoView × ℕ)). AreCounted (reverse xs)) (sym is) rest
+    subst (λ (xs : List Held). AreCounted (reverse xs)) (sym is) rest

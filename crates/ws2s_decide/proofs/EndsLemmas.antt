@@ -9,13 +9,14 @@ use Rattle.ws2s_core.specs.declared.formula.Formula.{Formula}
 use Rattle.ws2s_core.specs.declared.node.FormulaId.{FormulaId}
 use Rattle.ws2s_core.specs.Nodes.{formula_at}
 use Rattle.ws2s_decide.specs.declared.task.Task.{Task}
-use Rattle.gta_keep.specs.Holding.{IsMinimalFor, AreMinimalFor, none, more}
+use Rattle.gta_keep.specs.Holding.{IsMinimalFor, AreMinimalFor, Passes, none, more}
 use Rattle.ws2s_theory.specs.Peaks.{HasPeak}
 use Rattle.ws2s_theory.proofs.PeaksLemmas.{HasPeak-unique}
 use Rattle.ws2s_decide.specs.Tasks.{Makes, HasSum}
 use Rattle.ws2s_decide.specs.Going.{Moment, moment, Rests, IsNamedIn, steps_of, Stands, Advances, Follows, NeedsMore, IsGoing, HasMade, EndsWith}
 use Rattle.ws2s_decide.proofs.FitsLemmas.{none-waits}
 use Rattle.ws2s_decide.proofs.StepsLemmas.{formula-at}
+use Rattle.ws2s_decide.proofs.StandsLemmas.{Stands-passed}
 
 -- ---- from the first task to the last
 
@@ -25,6 +26,16 @@ module _ (g : Spaces) (formulas : List Formula) where
       let later = follows stack out stands in
       let on = advances later.stack' out later.stands in
       record { stack' = on.stack'; stands = on.stands; fits = λ n fits. (on.goes).fits n (later.fits n fits) }
+
+  pub Follows-passed : (old : Moment) (shelf new : Contents) (tasks : List Task) (autos : List AutoView) (before after : List (FormulaId × AutoView)) →
+      Passes g shelf new [] [] before after → Follows g formulas old (moment shelf tasks autos before) → Follows g formulas old (moment new tasks autos after)
+  Follows-passed old shelf new tasks autos before after passes follows stack out stands =
+      let later = follows stack out stands in
+      record {
+        stack' = later.stack';
+        stands = Stands-passed g formulas shelf new tasks autos before after passes later.stack' out later.stands;
+        fits = later.fits;
+      }
 
   pub IsGoing-follows : (old new : Moment) → Follows g formulas old new → IsGoing g formulas old → IsGoing g formulas new
   IsGoing-follows old new follows going =

@@ -14,7 +14,7 @@ use Rattle.ws2s_decide.specs.declared.task.Task.{Task}
 use Rattle.gta_keep.specs.Holding.{Holds, IsMinimalFor, AreMinimalFor, kept_autos, beside, HaveSum, HaveSizes}
 use Rattle.ws2s_theory.specs.Peaks.{HasMinimalSize, HasProductSize, HasSubsetSize, HasPeak}
 use Rattle.ws2s_theory.proofs.SizesLemmas.{HasMinimalSize-exists, HasProductSize-exists, HasSubsetSize-exists}
-use Rattle.ws2s_decide.specs.Counting.{IsInSizes}
+use Rattle.ws2s_decide.specs.Counting.{ArePast}
 use Rattle.ws2s_decide.specs.Tasks.{Within, HasSum}
 use Rattle.ws2s_decide.specs.Going.{moment, steps_of, NeedsMore}
 use Rattle.ws2s_decide.proofs.SumsLemmas.{HasSum-exists, HaveSum-stack}
@@ -30,15 +30,15 @@ module _ (g : Spaces) (guide : IsGuide g) (formulas : List Formula) where
     waiting-sum autos others stack s holds = HaveSum-stack g guide shelf sizes autos stack s
         (λ a there. holds.each a (Contains-append_left autos others a there))
 
-    -- those that wait have more pairs of child states than there may be nodes
-    pub needs-past : (tasks : List Task) (autos : List AutoView) (kept : List (FormulaId × AutoView)) (pairs : ℕ) → IsInSizes autos pairs →
-        limit_of shelf < pairs → NeedsMore g formulas (moment shelf tasks autos kept)
-    needs-past tasks autos kept pairs counted past stack out n stands fits =
+    -- those that wait have Sizes above the limit
+    pub needs-past : (tasks : List Task) (autos : List AutoView) (kept : List (FormulaId × AutoView)) (limit : ℕ) → limit ≡ limit_of shelf →
+        ArePast autos limit → NeedsMore g formulas (moment shelf tasks autos kept)
+    needs-past tasks autos kept limit is past stack out n stands fits =
         let sum = HasSum-exists g guide stack in
         let have = waiting-sum autos (kept_autos kept) stack sum.0 (stands.rests).holds stands.minimal sum.1 in
-        let most = counted g shelf sum.0 have in
+        let more = past g shelf sum.0 have in
         let le = fits.waiting sum.0 sum.1 in
-        omega (arith, past, most, le)
+        omega (arith, is, more, le)
 
     -- an atom has no room
     pub needs-atom : (f : Formula) (id : FormulaId) (tasks : List Task) (autos : List AutoView) (kept : List (FormulaId × AutoView)) →

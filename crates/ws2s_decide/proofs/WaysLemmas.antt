@@ -19,7 +19,7 @@ use Rattle.ws2s_decide.specs.declared.verdict.Verdict.{Verdict}
 use Rattle.ws2s_decide.specs.Deciding.{IsVerdict}
 use Rattle.ws2s_decide.specs.Going.{Rests}
 use Rattle.ws2s_decide.proofs.RestsLemmas.{AllKept-extends}
-use Rattle.std.proofs.Common.{length, Result, Ok}
+use Rattle.std.proofs.Common.{length}
 
 -- a verdict on a formula is one on each that is the same
 pub IsVerdict-same : (tracks : List Track) (f g : Formula) (verdict : Verdict) → Same f g → IsVerdict tracks g verdict → IsVerdict tracks f verdict
@@ -80,6 +80,3 @@ Rests-extends g old new shelf automata kept extends rests = record {
 pub there-still : (old new : List Formula) (k : ℕ) (f : Formula) → Extends old new → slice_get old k ≡ Some f → slice_get new k ≡ Some f
 there-still old new k f extends e =
     ap (λ formulas. slice_get formulas k) extends.is ∙ slice_get-front old extends.more k (slice_get_within old k f e) ∙ e
-
-pub Ok-same : {A E : Type 0} (a b : A) → ◌≡◌ {A = Result A E} (Ok a) (Ok b) → a ≡ b
-Ok-same a b e = cc

@@ -1,12 +1,13 @@
 //! The minimal automaton of a formula, task by task.
 
-ghost use Rattle.std.specs.Prelude.{◌≡◌, ◌<◌, ℕ, List, [], ◌∷◌, Some, Err, IfOk, OnOk, OnErr, slice_get};
+ghost use Rattle.std.specs.Prelude.{◌≡◌, ◌<◌, ℕ, List, [], ◌∷◌, Some, Err, IsTrue, IfOk, OnOk, OnErr, slice_get};
 ghost use Rattle.bdd_nodes.specs.Shelf.{limit_of};
 ghost use Rattle.gta_theory.specs.Guides.{IsGuide};
 ghost use Rattle.ws2s_core.specs.declared.formula.Formula.{Formula};
 ghost use Rattle.ws2s_theory.specs.Peaks.{HasPeak};
 ghost use Rattle.ws2s_decide.specs.declared.task.Task.TheVariants as task;
 ghost use Rattle.gta_keep.specs.Holding.{IsMinimalFor};
+ghost use Rattle.ws2s_decide.specs.Counting.{ArePast};
 ghost use Rattle.ws2s_decide.specs.Going.{moment, Rests, IsGoing, Advances, EndsWith, NeedsMore};
 
 use crate::making::{make_conjunction, make_negation, make_quantified};
@@ -22,6 +23,9 @@ use gta_keep::Kept;
 use plain_data::Stack;
 use std::alloc::Global;
 use ws2s_core::{FormulaId, Guide, Interner};
+
+/// How many places the automata that wait may have together, for each node that the shelf may have, where all tasks are tried.
+const PLACES_A_NODE: u64 = 16;
 
 /// What is still to be done, the next task on top, and the automata that wait for it.
 #[derive(Drop)]
@@ -59,8 +63,17 @@ fn step(
     }
 }
 
-/// Does all tasks. As the formula stands a limit is answered as soon as those that wait have more pairs of child states than
-/// there may be nodes.
+/// Whether a limit is answered: the automata that wait have more pairs of child states than there may be nodes. The way to the
+/// end goes on even then, unless they have too many places, so that what waits has a bound.
+fn gives_up(way: Way, automata: &Waiting, limit: u32) -> bool
+    ensures { IsTrue result → ArePast automata.now limit }
+{
+    let limit = u64::from(limit);
+    automata.pairs() > limit
+        && (way.stops_early || automata.places() > limit.saturating_mul(PLACES_A_NODE))
+}
+
+/// Does all tasks, unless the automata that wait become too large for the shelf's limit: then a limit is answered.
 fn run(
     alloc: Global,
     g: &Guide,
@@ -81,9 +94,10 @@ fn run(
 {
     while let Some(task) = machine.tasks.pop() {
         step(alloc, g, interner, task, machine, kept, shelf)?;
-        if way.stops_early && machine.automata.pairs() > u64::from(shelf.limit()) {
+        if gives_up(way, &machine.automata, shelf.limit()) {
             return Err(Stop::Limit);
         }
+        kept.sweep(shelf);
     }
     Ok(())
 }

@@ -12,16 +12,26 @@ ghost use Rattle.ws2s_decide.specs.Going.{Releases};
 use bdd_nodes::Shelf;
 use bdd_walk::NoMemory;
 use gta_core::{Auto, release};
-use gta_keep::pairs_of;
+use gta_keep::{pairs_of, places_of};
 use std::alloc::{AllocError, Global};
 use std::marker::Model;
+
+/// An automaton that waits.
+#[derive(Drop)]
+struct Held {
+    auto: Auto,
+    /// The pairs of child states that it and those before it have together, as far as a `u64` counts them.
+    pairs: u64,
+    /// The places that it and those before it have together, as far as a `u64` counts them.
+    places: u64,
+}
 
 /// A stack of automata. Contracts see the list of them, the last one first. Each has a table of its own in one shelf, so
 /// they are released before they are dropped.
 #[derive(Drop)]
 pub(crate) struct Waiting {
-    /// The last one last, each with the pairs of child states that it and those before it have together.
-    held: Vec<(Auto, u64)>,
+    /// The last one last.
+    held: Vec<Held>,
 }
 
 impl Model for Waiting {
@@ -31,7 +41,7 @@ impl Model for Waiting {
 
     ghost Value = { List AutoView };
 
-    ghost view = { λ waiting. map (λ one. one.0) (reverse waiting.held.items) };
+    ghost view = { λ waiting. map (λ one. one.auto) (reverse waiting.held.items) };
 
     ghost invariant = { λ waiting. AreCounted (reverse waiting.held.items) };
 }
@@ -60,10 +70,15 @@ impl Waiting {
         ensures shelf { OnErr result (IsShelf shelf.new) }
     {
         let pairs = self.pairs().saturating_add(pairs_of(&auto));
-        match self.held.push((auto, pairs)) {
+        let places = self.places().saturating_add(places_of(&auto));
+        match self.held.push(Held {
+            auto,
+            pairs,
+            places,
+        }) {
             Ok(()) => Ok(()),
             Err(refused) => {
-                let (auto, _) = refused.value;
+                let Held { auto, .. } = refused.value;
                 release(auto, shelf);
                 Err(AllocError)
             }
@@ -74,7 +89,7 @@ impl Waiting {
     pub(crate) fn pop(&mut self) -> Option<Auto>
         ensures { MatchOption result ((self.old ≡ []) × (self.new ≡ [])) (λ first. self.old ≡ first ∷ self.new) }
     {
-        let (auto, _) = self.held.pop()?;
+        let Held { auto, .. } = self.held.pop()?;
         Some(auto)
     }
 
@@ -84,7 +99,16 @@ impl Waiting {
         ensures { IsInSizes self.now result }
     {
         match self.held.last() {
-            Some((_, pairs)) => *pairs,
+            Some(last) => last.pairs,
+            None => 0,
+        }
+    }
+
+    /// How many places the automata have together, or the greatest number where there are more. When a formula is given up
+    /// depends on it, and no clause does. Takes no memory.
+    pub(crate) fn places(&self) -> u64 {
+        match self.held.last() {
+            Some(last) => last.places,
             None => 0,
         }
     }

@@ -1,5 +1,5 @@
-//! Two ways to a verdict: by a formula that is easier to decide, and where that is at the limit by the formula
-//! as it stands.
+//! Two ways to a verdict: by a formula that is easier to decide, and where that is at the limit or wants memory by the
+//! formula as it stands.
 
 ghost use Rattle.std.specs.Prelude.{◌≡◌, ◌<◌, ℕ, [], Some, Ok, IfOk, slice_get};
 ghost use Rattle.bdd_nodes.specs.Shelf.{limit_of};
@@ -44,11 +44,12 @@ fn easier(
 }
 
 /// The verdict on the formula with the number. Its Peak alone licenses a limit, so only the second way answers one, as soon
-/// as it is licensed. A formula that is its own easiest one is tried to the end.
+/// as it is licensed. Want of memory on the first way is no answer either: the formula as it stands may need less, or be at
+/// the limit. A formula that is its own easiest one has one way, which goes to the end.
 ///
 /// # Errors
 ///
-/// Want of memory, and what a least tree has no room for.
+/// Want of memory, and what a least tree has no room for, on the last way that is tried.
 pub(crate) fn decide_number(
     alloc: Global,
     g: &Guide,
@@ -80,9 +81,12 @@ pub(crate) fn decide_number(
     if made == id {
         return verdict_of(alloc, g, interner, id, to_the_end, weigh, kept, shelf);
     }
-    let first = verdict_of(alloc, g, interner, made, to_the_end, weigh, kept, shelf)?;
+    let first = verdict_of(alloc, g, interner, made, to_the_end, weigh, kept, shelf);
     match first {
-        Verdict::Limit => verdict_of(alloc, g, interner, id, early, weigh, kept, shelf),
-        found => Ok(found),
+        Ok(Verdict::None) => Ok(Verdict::None),
+        Ok(Verdict::Witness(tree, weight)) => Ok(Verdict::Witness(tree, weight)),
+        Ok(Verdict::Limit) | Err(_) => {
+            verdict_of(alloc, g, interner, id, early, weigh, kept, shelf)
+        }
     }
 }

@@ -1,10 +1,9 @@
-use Rattle.std.proofs.Common.{◌<◌, List, ◌∷◌, sym, ◌∙◌, subst, arith}
-use Rattle.bdd_nodes.specs.Shelf.{limit_of}
+use Rattle.std.proofs.Common.{◌<◌, List, ◌∷◌, sym, ◌∙◌, subst}
 use Rattle.gta_keep.proofs.AutoSizesLemmas.{HaveSizes-shelf}
 use Rattle.ws2s_decide.specs.declared.task.Task.{Task}
 use Rattle.ws2s_decide.specs.Tasks.{steps_left}
 use Rattle.ws2s_decide.specs.Going.{moment, steps_of, IsGoing, Follows}
-use Rattle.ws2s_decide.proofs.EndsLemmas.{IsGoing-follows, Follows-step, NeedsMore-follows, ends}
+use Rattle.ws2s_decide.proofs.EndsLemmas.{IsGoing-follows, Follows-step, Follows-passed, NeedsMore-follows, ends}
 use Rattle.ws2s_decide.proofs.NeedsLemmas.{needs-past}
 use Rattle.ws2s_decide.proofs.machine.run.Goals as goal
 
@@ -30,13 +29,18 @@ loop-task-smaller c =
 pub loop-task-preserved : goal.loop-task-preserved
 loop-task-preserved c =
     let l = c.loop-task in
+    let g = c.args.g.now in
+    let formulas = c.args.interner.now in
     let old = moment c.args.shelf.now c.args.machine.now.tasks c.args.machine.now.automata c.args.kept.now in
+    let new = c.step.new in
+    let passes = c.sweep.ensures g in
     record {
-      follows = Follows-step c.args.g.now c.args.interner.now old (moment l.shelf (c.in-Some.task ∷ c.pop.new.self) l.machine.automata l.kept)
-          (moment c.step.new.shelf c.step.new.machine.tasks c.step.new.machine.automata c.step.new.kept)
-          (subst (λ (tasks : List Task). Follows c.args.g.now c.args.interner.now old (moment l.shelf tasks l.machine.automata l.kept)) c.in-Some.ensures
-          l.invariant.follows) c.in_ok-step.ensures.ok;
-      limit = c.step.ensures.same_limit ∙ l.invariant.limit;
+      follows = Follows-passed g formulas old new.shelf c.sweep.new.shelf new.machine.tasks new.machine.automata new.kept c.sweep.new.self passes
+          (Follows-step g formulas old (moment l.shelf (c.in-Some.task ∷ c.pop.new.self) l.machine.automata l.kept)
+          (moment new.shelf new.machine.tasks new.machine.automata new.kept)
+          (subst (λ (tasks : List Task). Follows g formulas old (moment l.shelf tasks l.machine.automata l.kept)) c.in-Some.ensures
+          l.invariant.follows) c.in_ok-step.ensures.ok);
+      limit = passes.limit ∙ c.step.ensures.same_limit ∙ l.invariant.limit;
     }
 
 pub returns-in_err-step-clause-limit : goal.returns-in_err-step-clause-limit
@@ -56,8 +60,8 @@ returns-clause-ok c =
     (subst (λ (tasks : List Task). Follows c.args.g.now c.args.interner.now old (moment l.shelf tasks l.machine.automata l.kept))
     (c.in_default.ensures.0 ∙ sym c.in_default.ensures.1) l.invariant.follows)
 
-pub returns-then-pairs-from-clause-err : goal.returns-then-pairs-from-clause-err
-returns-then-pairs-from-clause-err c =
+pub returns-then-gives_up-clause-err : goal.returns-then-gives_up-clause-err
+returns-then-gives_up-clause-err c =
     let l = c.loop-task in
     let going = subst (λ (tasks : List Task). IsGoing c.args.g.now c.args.interner.now (moment l.shelf tasks l.machine.automata l.kept)) c.in-Some.ensures
     (IsGoing-follows c.args.g.now c.args.interner.now
@@ -66,8 +70,8 @@ returns-then-pairs-from-clause-err c =
     let on = c.in_ok-step.ensures.ok going.stack going.out going.stands in
     on.stands.rests
 
-pub returns-then-pairs-from-clause-limit : goal.returns-then-pairs-from-clause-limit
-returns-then-pairs-from-clause-limit c = λ stopped.
+pub returns-then-gives_up-clause-limit : goal.returns-then-gives_up-clause-limit
+returns-then-gives_up-clause-limit c = λ stopped.
     let l = c.loop-task in
     let g = c.args.g.now in
     let formulas = c.args.interner.now in
@@ -77,9 +81,8 @@ returns-then-pairs-from-clause-limit c = λ stopped.
     (moment new.shelf new.machine.tasks new.machine.automata new.kept)
     (subst (λ (tasks : List Task). Follows g formulas old (moment l.shelf tasks l.machine.automata l.kept)) c.in-Some.ensures l.invariant.follows)
     c.in_ok-step.ensures.ok in
-    let past : limit_of new.shelf < c.pairs.result =
-    (let more = c.if-pairs-from.true in let limit = c.limit.ensures.value in let from = c.from.ensures in omega (arith, more, limit, from)) in
+    let past = c.gives_up.ensures c.if-gives_up.true in
     NeedsMore-follows g formulas old (moment new.shelf new.machine.tasks new.machine.automata new.kept) follows
     (c.step.ensures.same_limit ∙ l.invariant.limit)
     (needs-past g c.requires.guide formulas new.shelf (HaveSizes-shelf g new.shelf c.limit.ensures.shelf) new.machine.tasks new.machine.automata new.kept
-    c.pairs.result c.pairs.ensures past)
+    c.limit.result c.limit.ensures.value past)
