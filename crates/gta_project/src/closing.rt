@@ -1,15 +1,17 @@
 //! The initial sets: in each space the states that labels with at most the dropped track give.
 
-ghost use Rattle.std.specs.Prelude.{◌≡◌, ◌<◌, ◌++◌, [], ◌∷◌, length, map, IfOk, OnOk, IsTrue, All};
+ghost use Rattle.std.specs.Prelude.{◌≡◌, ◌<◌, ◌++◌, ℕ, [], ◌∷◌, length, map, Contains, IsSome, IfOk, OnOk, IsTrue, All};
 ghost use Rattle.labels.specs.Labels.{empty_label, with_track};
 ghost use Rattle.bdd_nodes.specs.Shelf.{IsValid, state_of, label_of};
 ghost use Rattle.bdd_walk.specs.Asked.{leaves_of};
 ghost use Rattle.gta_theory.specs.Guides.{IsSpace};
-ghost use Rattle.gta_core.specs.Auto.{states_of, initial_of, table_of, automaton_of, IsAuto};
+ghost use Rattle.gta_core.specs.Auto.{states_of, initial_of, table_of, root_at, automaton_of, IsAuto};
 ghost use Rattle.gta_project.specs.Subsets.{AreInitial};
+ghost use Rattle.gta_project.specs.Roots.{AreRoots};
 ghost use Rattle.gta_project.specs.Closing.{set_at, IsNext, AreNext, AreSettled};
 
 use crate::roots::{make_distinct, roots_at};
+use crate::shorts::{classes_in, one_a_class};
 use bdd_nodes::{Label, NodeRef, Shelf};
 use bdd_walk::{NoMemory, StateList, set_of};
 use gta_core::Auto;
@@ -119,14 +121,10 @@ fn next_set(
     requires inside { IsSpace g.now space }
     ensures { IfOk result (IsNext g.now (automaton_of shelf.now a.now) track sets.now space) }
 {
-    // Only for its clause `shelf`.
-    let _ = shelf.count();
     let children = g.children(space).unwrap_or((0, 0));
     let lefts = set_in(sets, children.0);
     let rights = set_in(sets, children.1);
-    let mut roots = Vec::new(alloc);
-    roots_at(a, table, space, lefts, rights, &mut roots)?;
-    make_distinct(&mut roots);
+    let roots = roots_for(alloc, a, table, shelf, space, lefts, rights)?;
     let mut states = Items::new(alloc);
     states.push(initial(a, space))?;
     push_states(&mut states, shelf, roots.as_slice(), &Items::new(alloc))?;
@@ -134,6 +132,39 @@ fn next_set(
     push_states(&mut states, shelf, roots.as_slice(), &set_track)?;
     let set = set_of(alloc, states.as_slice())?;
     Ok(Items::from_vec(set))
+}
+
+/// The roots for a state of each list, each once. They are those for one state of each class.
+fn roots_for(
+    alloc: Global,
+    a: &Auto,
+    table: &[NodeRef],
+    shelf: &Shelf,
+    space: u32,
+    lefts: &[u32],
+    rights: &[u32],
+) -> Result<Vec<NodeRef>, NoMemory>
+    requires table { table.now ≡ table_of shelf.now a.now }
+    requires known { (l r : ℕ) → Contains lefts.now l → Contains rights.now r → IsSome (root_at shelf.now a.now space l r) }
+    ensures roots { IfOk result (λ roots. AreRoots (root_at shelf.now a.now space) lefts.now rights.now roots.items) }
+    ensures valid { IfOk result (λ roots. All (IsValid shelf.now) roots.items) }
+{
+    // Only for its clause `shelf`.
+    let _ = shelf.count();
+    let (rows, columns) = classes_in(a, space);
+    let left = one_a_class(alloc, lefts, rows)?;
+    let right = one_a_class(alloc, rights, columns)?;
+    let mut roots = Vec::new(alloc);
+    roots_at(
+        a,
+        table,
+        space,
+        left.as_slice(),
+        right.as_slice(),
+        &mut roots,
+    )?;
+    make_distinct(&mut roots);
+    Ok(roots)
 }
 
 /// The initial state of a space; 0 for an unknown one.
