@@ -12,7 +12,7 @@ crates/pale_gallery/src/main.rt, from what is stored, and runs nothing:
                  that page or of examples/, where a block `status` with a status from 0 to 4 stands
                  behind it. The tutorial's texts would take a seventh of the time, and are left to
                  tools/check_examples.py
-  texts.bundle   in crates/pale_gallery, which says its form
+  texts/*.bundle in crates/pale_gallery, texts by hand; texts/answers.bundle says their form
 A spelling that `format` writes is there once more, as a text that is spelled as itself.
 
 With --check nothing is written, and the status is 1 where one of the two files isn't what would be
@@ -97,15 +97,17 @@ def page_entries(page):
 
 
 def own_entries():
-    """The entries of texts.bundle."""
-    for part in read(os.path.join(CRATE, "texts.bundle")).split(HEAD)[1:]:
-        head, _, rest = part.partition("\n")
-        text, found, answer = ("\n" + rest).partition(ANSWER)
-        status, _, output = answer.partition("\n")
-        if not found or not re.fullmatch("[0-4]", status):
-            raise Wrong(f"texts.bundle: {head} has no answer")
-        name, *words = head.split()
-        yield Entry(name, words, text[1:], output, int(status))
+    """The entries of the bundles in texts/."""
+    folder = os.path.join(CRATE, "texts")
+    for file in sorted(os.listdir(folder)):
+        for part in read(os.path.join(folder, file)).split(HEAD)[1:]:
+            head, _, rest = part.partition("\n")
+            text, found, answer = ("\n" + rest).partition(ANSWER)
+            status, _, output = answer.partition("\n")
+            if not found or not re.fullmatch("[0-4]", status):
+                raise Wrong(f"texts/{file}: {head} has no answer")
+            name, *words = head.split()
+            yield Entry(name, words, text[1:], output, int(status))
 
 
 def entries():
