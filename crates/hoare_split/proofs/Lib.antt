@@ -19,3 +19,4 @@ pub mod FittingClaimLemmas
 pub mod FittingStatementLemmas
 pub mod FittingLemmas
 pub mod PointLemmas
+pub mod StopLemmas

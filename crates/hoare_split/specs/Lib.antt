@@ -14,3 +14,4 @@ pub mod Weights
 pub mod Following
 pub mod Measures
 pub mod Fitting
+pub mod ProgramTexts

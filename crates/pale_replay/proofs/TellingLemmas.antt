@@ -17,7 +17,7 @@ use Rattle.pale_text.specs.declared.refusal.TextStop.{TextStop}
 use Rattle.pale_types.specs.declared.typed.ProcEntry.{ProcEntry}
 use Rattle.pale_types.specs.TypedPrograms.{TypedProgram}
 use Rattle.hoare_split.specs.Fitting.{FitsProgram, IsShort}
-use Rattle.pale_program.specs.ProgramTexts.{IsReadAs, IsStopOf}
+use Rattle.hoare_split.specs.ProgramTexts.{IsReadAs, IsStopOf}
 use Rattle.pale_replay.specs.declared.answer.Answer.{Answer}
 use Rattle.pale_replay.specs.declared.answer.Replay.{Replay}
 use Rattle.pale_replay.specs.declared.answer.Answer.TheVariants.{StoreRefused}

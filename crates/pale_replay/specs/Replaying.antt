@@ -10,7 +10,7 @@ use Rattle.store_text.specs.Reading.{read_text}
 use Rattle.pale_text.specs.declared.refusal.TextStop.{TextStop}
 use Rattle.pale_types.specs.declared.typed.ProcEntry.{ProcEntry}
 use Rattle.pale_types.specs.TypedPrograms.{TypedProgram}
-use Rattle.pale_program.specs.ProgramTexts.{IsReadAs, IsStopOf}
+use Rattle.hoare_split.specs.ProgramTexts.{IsReadAs, IsStopOf}
 use Rattle.pale_replay.specs.declared.answer.Answer.{Answer}
 use Rattle.pale_replay.specs.declared.answer.Answer.TheVariants.{StoreRefused}
 use Rattle.pale_replay.specs.Parts.{IsCutAs, HasNoCut, IsTripleLine}

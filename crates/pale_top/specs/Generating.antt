@@ -6,7 +6,7 @@ use Rattle.pale_text.specs.declared.refusal.Refusal.{Refusal}
 use Rattle.store_exec.specs.declared.triple.Triple.{Triple}
 use Rattle.pale_types.specs.TypedPrograms.{TypedProgram}
 use Rattle.pale_generator.specs.Generated.{program_text}
-use Rattle.pale_program.specs.ProgramTexts.{IsReadAs, IsRefusedAs}
+use Rattle.hoare_split.specs.ProgramTexts.{IsReadAs, IsRefusedAs}
 use Rattle.pale_modes.specs.declared.status.Status.{Status}
 use Rattle.pale_modes.specs.declared.status.Status.TheVariants.{Text}
 use Rattle.pale_modes.specs.Report.{refused_line, too_long_line}

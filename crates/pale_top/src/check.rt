@@ -16,7 +16,7 @@ use crate::check_parts::{check_fields, check_triples};
 use bdd_nodes::Shelf;
 use pale_io::{Sink, WriteStop, write_all};
 use pale_modes::{Status, refuse};
-use pale_program::{WholeProgram, read_program};
+use hoare_split::{WholeProgram, read_program};
 use program_judge::{Ending, are_functional, judged_ending, stopped_ending, totals_text};
 use std::alloc::Global;
 use ws2s_pass::PassList;

@@ -12,7 +12,7 @@ ghost use Rattle.program_judge.specs.Reports.{ReportsField, ReportsFields, Repor
 
 use bdd_nodes::Shelf;
 use pale_io::{Sink, WriteStop, write_all};
-use pale_program::WholeProgram;
+use hoare_split::WholeProgram;
 use pale_types::Typed;
 use program_judge::{FieldWay, TripleWay, field_report, pointer_fields, triple_report};
 use std::alloc::{AllocError, Global};

@@ -19,7 +19,7 @@ use bdd_nodes::Shelf;
 use pale_generator::gen_program;
 use pale_io::{Sink, WriteStop};
 use pale_modes::{Status, push_number, refuse, say};
-use pale_program::{WholeProgram, read_program};
+use hoare_split::{WholeProgram, read_program};
 use program_judge::{
     Ending, TripleWay, are_functional, invalid_count, judged_ending, limit_count, stopped_ending,
     valid_count,

@@ -15,7 +15,7 @@ use Rattle.pale_types.specs.Programs.{program_fault, typed_program}
 use Rattle.pale_types.specs.declared.typed.ProcEntry.{ProcEntry}
 use Rattle.pale_types.specs.TypedPrograms.{TypedProgram}
 use Rattle.hoare_split.specs.Triples.{triples_of}
-use Rattle.pale_program.specs.ProgramTexts.{IsReadAs}
+use Rattle.hoare_split.specs.ProgramTexts.{IsReadAs}
 use Rattle.triple_judge.specs.Judging.{IsValid}
 use Rattle.whole_run.specs.States.{Fail}
 use Rattle.whole_run.specs.Runs.{WholeRun}

@@ -8,7 +8,7 @@ use Rattle.field_judge.specs.Judging.{HasFieldPeak}
 use Rattle.triple_judge.specs.Judging.{HasTriplePeak}
 use Rattle.pale_types.specs.declared.typed.ProcEntry.{ProcEntry}
 use Rattle.pale_types.specs.TypedPrograms.{TypedProgram}
-use Rattle.pale_program.specs.ProgramTexts.{IsReadAs}
+use Rattle.hoare_split.specs.ProgramTexts.{IsReadAs}
 
 -- every pointer field is functional, and no Peak of a field or of a triple is above the limit
 pub record ArePeaksWithin (limit : ℕ) (program : TypedProgram) (triples : List Triple) : Type 0 where

@@ -4,7 +4,7 @@ use Rattle.store_core.specs.Stores.{StoreMap}
 use Rattle.store_exec.specs.declared.cause.Cause.{Cause}
 use Rattle.store_exec.specs.declared.triple.Triple.{Triple}
 use Rattle.pale_types.specs.TypedPrograms.{TypedProgram}
-use Rattle.pale_program.specs.ProgramTexts.{IsReadAs}
+use Rattle.hoare_split.specs.ProgramTexts.{IsReadAs}
 use Rattle.whole_run.specs.States.{Fail}
 use Rattle.whole_run.specs.Runs.{WholeRun}
 use Rattle.whole_run.specs.Safety.{MeetsEntry}

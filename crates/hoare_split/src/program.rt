@@ -3,9 +3,9 @@
 ghost use Rattle.std.specs.Prelude.{◌<◌, length, IfOk, IfErr, All};
 ghost use Rattle.pale_types.specs.Fitting.{ProgramFits};
 ghost use Rattle.hoare_split.specs.Fitting.{FitsProgram, IsShort};
-ghost use Rattle.pale_program.specs.ProgramTexts.{IsReadAs, IsStopOf};
+ghost use Rattle.hoare_split.specs.ProgramTexts.{IsReadAs, IsStopOf};
 
-use hoare_split::{TripleList, split};
+use crate::{TripleList, split};
 use pale_parse::parse;
 use pale_text::{TextStop, lex};
 use pale_types::{Typed, check_types};

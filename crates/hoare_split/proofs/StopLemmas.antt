@@ -11,7 +11,7 @@ use Rattle.pale_tables.specs.Faults.{IsStop}
 use Rattle.pale_types.specs.Programs.{program_fault, typed_program}
 use Rattle.pale_types.specs.TypedPrograms.{TypedProgram}
 use Rattle.hoare_split.specs.Triples.{split_fault}
-use Rattle.pale_program.specs.ProgramTexts.{IsTextOf, IsStopOf, stray, unparsed, untyped, too_long}
+use Rattle.hoare_split.specs.ProgramTexts.{IsTextOf, IsStopOf, stray, unparsed, untyped, too_long}
 
 -- a `?` hands a stop on
 pub handed_on : {X : Type 0} (text : List ℕ) (r : Result X TextStop) (e : TextStop) → IsErrAnd r (λ y. y ≡ e) → IsStopOf text e → IfErr r (IsStopOf text)
