@@ -21,7 +21,7 @@ use Rattle.routing_expr.proofs.GatheringLemmas.{below_suc, Contains-at, Contains
 use Rattle.routing_expr.proofs.KeyLemmas.{keys-rise, key_of_live}
 use Rattle.graph_meaning.specs.Fields.Forking.{Forks, HasFork}
 use Rattle.graph_meaning.proofs.fields.ForkingLemmas.{live-with}
-use Rattle.store_pointers.specs.Only.{HasTwo}
+use Rattle.witness_store.specs.Only.{HasTwo}
 
 -- ---- two cells of a list
 

@@ -13,7 +13,7 @@ use Rattle.store_core.specs.declared.kind.FieldKind.{FieldKind}
 use Rattle.store_core.specs.declared.kind.FieldKind.TheVariants as field
 use Rattle.store_core.specs.Tables.{TypeEntry, VarEntry, FieldEntry, field_at}
 use Rattle.store_core.specs.Stores.{StoreMap}
-use Rattle.store_pointers.specs.Pointers.{IsPointerField}
+use Rattle.witness_store.specs.Pointers.{IsPointerField}
 use Rattle.store_exec.specs.declared.triple.Triple.{Triple}
 use Rattle.routing_expr.specs.Destinations.{IsPointer}
 use Rattle.routing_expr.specs.WellFormed.{IsFunctional}

@@ -10,7 +10,7 @@ use Rattle.store_core.specs.declared.kind.FieldKind.{FieldKind}
 use Rattle.store_core.specs.declared.kind.FieldKind.TheVariants as field
 use Rattle.store_core.specs.Tables.{TypeEntry, FieldEntry, field_at}
 use Rattle.store_core.proofs.FittingLemmas.{IsSomeAnd-at}
-use Rattle.store_pointers.specs.Pointers.{IsPointerField}
+use Rattle.witness_store.specs.Pointers.{IsPointerField}
 use Rattle.store_exec.specs.declared.triple.Triple.{Triple}
 use Rattle.store_text.specs.StoreText.{store_text_of}
 use Rattle.routing_expr.specs.Destinations.{IsPointer}

@@ -18,7 +18,7 @@ use Rattle.store_core.specs.declared.value.Value.TheVariants as value
 use Rattle.store_core.specs.Tables.{TypeEntry, VarEntry, FieldEntry, IsTypeTable, field_at}
 use Rattle.store_core.specs.Stores.{StoreMap, field_value}
 use Rattle.store_core.proofs.FittingLemmas.{IfSome-from, IsSomeAnd-at}
-use Rattle.store_pointers.specs.Only.{HasTwo}
+use Rattle.witness_store.specs.Only.{HasTwo}
 use Rattle.routing_expr.specs.Destinations.{Dest, IsPointer}
 use Rattle.routing_expr.specs.Searches.{Lists}
 use Rattle.routing_expr.specs.WellFormed.{IsFunctional, IsFirstCell}

@@ -1,7 +1,7 @@
 -- Programs whose fields and triples can all be decided within a limit of decision nodes.
 use Rattle.std.specs.Prelude.{◌≡◌, ◌≤◌, ℕ, List, Contains, Some, slice_get}
 use Rattle.store_core.specs.declared.ids.FieldId.{FieldId}
-use Rattle.store_pointers.specs.Pointers.{IsPointerField}
+use Rattle.witness_store.specs.Pointers.{IsPointerField}
 use Rattle.store_exec.specs.declared.triple.Triple.{Triple}
 use Rattle.witness_store.specs.Alike.{AreFunctional}
 use Rattle.field_judge.specs.Judging.{HasFieldPeak}

@@ -15,7 +15,7 @@ use Rattle.store_core.specs.Tables.{TypeEntry, VarEntry, IsTypeTable}
 use Rattle.store_core.specs.Stores.{StoreMap}
 use Rattle.store_exec.specs.declared.cause.Cause.{Cause}
 use Rattle.store_exec.specs.declared.triple.Triple.{Triple}
-use Rattle.store_pointers.proofs.ExistenceLemmas.{set_store}
+use Rattle.witness_store.proofs.ExistenceLemmas.{set_store}
 use Rattle.routing_expr.proofs.GatheringLemmas.{Contains-none, Contains-here, Contains-there, Contains-cases}
 use Rattle.tree_encode.specs.Tracks.{track_at, variants_from}
 use Rattle.tree_store.specs.Weighing.{AreVariantTracks}

@@ -10,8 +10,8 @@ use Rattle.store_core.specs.Stores.{StoreMap, Fits, field_value}
 use Rattle.store_core.proofs.FittingLemmas.{IfSome-from, IfSome-at}
 use Rattle.routing_expr.specs.Destinations.{Dest, IsOnlyDestination}
 use Rattle.routing_expr.specs.WellFormed.{IsBackbone, IsWellFormed}
-use Rattle.store_pointers.specs.Pointers.{IsPointerField, IsDestinationIfOne, ArePointersSet}
-use Rattle.store_pointers.proofs.ExistenceLemmas.{set_store}
+use Rattle.witness_store.specs.Pointers.{IsPointerField, IsDestinationIfOne, ArePointersSet}
+use Rattle.witness_store.proofs.ExistenceLemmas.{set_store}
 use Rattle.tree_store.specs.Stores.{IsStoreOf}
 use Rattle.witness_store.specs.Alike.{AreFunctional, IsOfWellFormed}
 use Rattle.witness_store.proofs.PointersLemmas.{IsStoreOf-alike}

@@ -15,3 +15,9 @@ pub mod UsesLemmas
 pub mod FunctionalLemmas
 pub mod SamePlaceLemmas
 pub mod PairedLemmas
+pub mod AlikeLemmas
+pub mod OnlyLemmas
+pub mod FindingLemmas
+pub mod KeptLemmas
+pub mod SettingLemmas
+pub mod ExistenceLemmas

@@ -27,10 +27,10 @@ use Rattle.routing_expr.proofs.LiveLemmas.{Leads-live, IsOfType-live}
 use Rattle.routing_expr.proofs.MatchLemmas.{Matches, Walk-match}
 use Rattle.routing_laws.specs.Pairing.{PairsReference, PairsValue, PairsSlot, Pairwise, PairsCell, PairsEntry, ArePaired}
 use Rattle.routing_laws.proofs.DecidedStores.{dest_live}
-use Rattle.store_pointers.specs.Only.{IsOnlyCell}
-use Rattle.store_pointers.specs.Pointers.{IsPointerField, IsDestinationIfOne, ArePointersSet}
-use Rattle.store_pointers.proofs.KeptLemmas.{known}
-use Rattle.store_pointers.proofs.OnlyLemmas.{IsOnlyCell-once}
+use Rattle.witness_store.specs.Only.{IsOnlyCell}
+use Rattle.witness_store.specs.Pointers.{IsPointerField, IsDestinationIfOne, ArePointersSet}
+use Rattle.witness_store.proofs.KeptLemmas.{known}
+use Rattle.witness_store.proofs.OnlyLemmas.{IsOnlyCell-once}
 use Rattle.tree_encode.specs.Tracks.{of_var, track_at}
 use Rattle.tree_encode.proofs.ApartLemmas.{one-position}
 use Rattle.tree_store.specs.Encoding.{NamesCell, IsTreeOf}

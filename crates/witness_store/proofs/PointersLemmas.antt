@@ -13,8 +13,8 @@ use Rattle.routing_expr.specs.WellFormed.{SetHoldsLive}
 use Rattle.tree_encode.specs.Tracks.{TrackUse, of_variant, of_bool, of_var}
 use Rattle.tree_encode.specs.Positions.{IsPlaced}
 use Rattle.tree_store.specs.Encoding.{NamesCell, CellIsOn, RootIsOn, IsOn}
-use Rattle.store_pointers.specs.Pointers.{DoCellsFit, IsSameButPointers}
-use Rattle.store_pointers.proofs.AlikeLemmas.{alike_turned, by_variant, live_alike, var_alike, truth_alike, stands_alike, AreAlike-same}
+use Rattle.witness_store.specs.Pointers.{DoCellsFit, IsSameButPointers}
+use Rattle.witness_store.proofs.AlikeLemmas.{alike_turned, by_variant, live_alike, var_alike, truth_alike, stands_alike, AreAlike-same}
 use Rattle.tree_store.specs.Premises.{SetsHoldLive}
 use Rattle.tree_store.specs.Stores.{IsStoreOf}
 

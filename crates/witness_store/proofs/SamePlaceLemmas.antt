@@ -18,7 +18,7 @@ use Rattle.store_core.proofs.FittingLemmas.{IfSome-at, IsSomeAnd-at, slot_at_val
 use Rattle.routing_expr.specs.Walks.{DataAlone, IsFollowed, Leads}
 use Rattle.routing_expr.specs.WellFormed.{IsBackbone}
 use Rattle.routing_laws.specs.Paths.{LeadsAlong}
-use Rattle.store_pointers.proofs.KeptLemmas.{known}
+use Rattle.witness_store.proofs.KeptLemmas.{known}
 use Rattle.tree_encode.specs.declared.counting.Counted.TheVariants.{Bools}
 use Rattle.tree_encode.specs.Counting.{counts, is_counted, rank, variants_in, bools_in}
 use Rattle.tree_encode.specs.Tracks.{of_bool, track_at, bool_track, slot_of_var, child_number}

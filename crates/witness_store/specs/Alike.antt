@@ -8,7 +8,7 @@ use Rattle.store_core.specs.Stores.{StoreMap}
 use Rattle.routing_expr.specs.WellFormed.{IsWellFormed, IsFunctional}
 use Rattle.tree_encode.specs.Positions.{IsPlaced}
 use Rattle.tree_store.specs.Encoding.{IsAssignmentOf}
-use Rattle.store_pointers.specs.Pointers.{IsPointerField}
+use Rattle.witness_store.specs.Pointers.{IsPointerField}
 
 -- on the first so many tracks the assignments have the same positions
 abbrev pub AreSameBelow : ℕ → Assignment → Assignment → Type 0

@@ -3,3 +3,7 @@ pub mod Finding
 pub mod Reading
 pub mod Results
 pub mod Alike
+pub mod Only
+pub mod Pointers
+pub mod PointerFinding
+pub mod Setting

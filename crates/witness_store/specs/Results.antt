@@ -3,7 +3,7 @@ use Rattle.std.specs.Prelude.{◌≡◌, List}
 use Rattle.gta_theory.specs.Assignments.{Assignment}
 use Rattle.store_core.specs.Tables.{TypeEntry, VarEntry}
 use Rattle.store_core.specs.Stores.{StoreMap}
-use Rattle.store_pointers.specs.Pointers.{IsSameButPointers}
+use Rattle.witness_store.specs.Pointers.{IsSameButPointers}
 use Rattle.tree_store.specs.Decoded.{Standing, AreCells, decoded}
 
 -- the store is the one that is read off the tracks, with null in every pointer field

@@ -4,7 +4,7 @@ ghost use Rattle.std.specs.Prelude.{◌≡◌, IfOk};
 ghost use Rattle.ws2s_core.specs.LabelTrees.{assignment_of};
 ghost use Rattle.tree_store.specs.Shapes.{LaysOut};
 ghost use Rattle.tree_store.specs.Stores.{IsStoreOf};
-ghost use Rattle.store_pointers.specs.Pointers.{ArePointersSet};
+ghost use Rattle.witness_store.specs.Pointers.{ArePointersSet};
 ghost use Rattle.witness_store.specs.Results.{IsReadOff, IsReadOffButPointers};
 
 use crate::cells::{cells_of, numbers_of};
@@ -12,7 +12,7 @@ use crate::fields::bodies_of;
 use crate::variables::variables_of;
 use std::alloc::{AllocError, Global};
 use store_core::Store;
-use store_pointers::set_pointers;
+use crate::set_pointers;
 use tree_encode::Layout;
 use ws2s_core::LabelTree;
 

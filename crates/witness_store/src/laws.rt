@@ -14,7 +14,7 @@ ghost use Rattle.tree_store.specs.Encoding.{IsTreeOf};
 ghost use Rattle.tree_formula.specs.WellEncoded.{well_encoded};
 ghost use Rattle.tree_store.specs.Premises.{OwnersAreThere};
 ghost use Rattle.tree_store.specs.Stores.{IsStoreOf};
-ghost use Rattle.store_pointers.specs.Pointers.{ArePointersSet};
+ghost use Rattle.witness_store.specs.Pointers.{ArePointersSet};
 ghost use Rattle.witness_store.specs.Alike.{AreSameBelow, AreFunctional, IsOfWellFormed, StandAlike};
 
 /// The tree of a store that was read off an assignment has the positions of that assignment on the tracks of the layout.

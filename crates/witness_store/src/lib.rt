@@ -1,15 +1,20 @@
 //! From a tree that lays out a backbone to its store.
 //!
 //! `specs/Orders.antt` says in which order the nodes of a tree are gone through. What the store of an assignment is stands in
-//! `tree_backbone`, and what its pointer fields hold in `store_pointers`.
+//! `tree_backbone`, and what its pointer fields hold in `witness_store`.
 #![tactic(auto)]
 
 mod cells;
 mod decoding;
 mod fields;
+mod finding;
 pub mod laws;
 mod nodes;
+mod pointer_laws;
 mod preorder;
+mod setting;
 mod variables;
 
 pub use decoding::{backbone_of, decode};
+pub use pointer_laws::{pointers_can_be_set, pointers_dont_count};
+pub use setting::set_pointers;

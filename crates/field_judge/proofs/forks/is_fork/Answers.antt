@@ -1,6 +1,6 @@
 use Rattle.std.proofs.Common.{◌∙◌, ap, subst, not}
 use Rattle.std.specs.Prelude.{IsSome}
-use Rattle.store_pointers.proofs.FindingLemmas.{IsSome-map}
+use Rattle.witness_store.proofs.FindingLemmas.{IsSome-map}
 use Rattle.field_judge.proofs.ForksLemmas.{forks-told, none-told}
 use Rattle.field_judge.proofs.forks.is_fork.Goals as goal
 

@@ -1,7 +1,7 @@
 use Rattle.std.proofs.Common.{sym, subst}
 use Rattle.ws2s_core.specs.LabelTrees.{assignment_of}
 use Rattle.store_core.specs.Stores.{Fits}
-use Rattle.store_pointers.specs.Pointers.{IsSameButPointers, DoCellsFit}
+use Rattle.witness_store.specs.Pointers.{IsSameButPointers, DoCellsFit}
 use Rattle.tree_store.specs.Stores.{IsStoreOf}
 use Rattle.tree_store.proofs.StoreLemmas.{IsStoreOf-decoded}
 use Rattle.witness_store.proofs.PointersLemmas.{IsStoreOf-alike}

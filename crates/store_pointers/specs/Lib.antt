@@ -1,4 +1,0 @@
-pub mod Only
-pub mod Pointers
-pub mod Finding
-pub mod Setting
