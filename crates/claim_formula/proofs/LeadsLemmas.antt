@@ -10,7 +10,7 @@ use Rattle.ws2s_forms.specs.Targets.{target}
 use Rattle.graph_view.specs.declared.view.Sym.{Sym}
 use Rattle.graph_view.specs.Sights.{Sight}
 use Rattle.graph_view.specs.Fields.{is_true}
-use Rattle.site_view.specs.Claims.{leads_to, leads_to_true}
+use Rattle.site_list.specs.Claims.{leads_to, leads_to_true}
 use Rattle.claim_formula.specs.Joining.{one_more}
 
 -- a field more, where `left` fields are left behind it

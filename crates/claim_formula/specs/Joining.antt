@@ -17,7 +17,7 @@ use Rattle.graph_view.specs.Syms.{is_in}
 use Rattle.graph_view.specs.Sights.{Sight}
 use Rattle.graph_view.specs.Live.{lives, lives_in, is_live}
 use Rattle.graph_view.specs.Routes.{names, walk}
-use Rattle.site_view.specs.Claims.{base_value, is_value, ex_set}
+use Rattle.site_list.specs.Claims.{base_value, is_value, ex_set}
 
 -- ---- terms
 

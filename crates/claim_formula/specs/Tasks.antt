@@ -5,7 +5,7 @@ use Rattle.store_logic.specs.Postfix.{form_count}
 use Rattle.ws2s_core.specs.declared.formula.Formula.{Formula}
 use Rattle.graph_view.specs.declared.view.Sym.{Sym}
 use Rattle.graph_view.specs.Sights.{Sight}
-use Rattle.site_view.specs.Claims.{assertion}
+use Rattle.site_list.specs.Claims.{assertion}
 use Rattle.claim_formula.specs.declared.whole.Task.{Task}
 use Rattle.claim_formula.specs.declared.whole.Task.TheVariants as task
 use Rattle.claim_formula.specs.Joining.{joined}

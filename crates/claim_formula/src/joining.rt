@@ -2,7 +2,7 @@
 
 ghost use Rattle.std.specs.Prelude.{◌≡◌, IfOk, OnOk};
 ghost use Rattle.graph_view.specs.Sights.{sight_of};
-ghost use Rattle.site_view.specs.Claims as formulas;
+ghost use Rattle.site_list.specs.Claims as formulas;
 ghost use Rattle.plain_data.specs.Stacks.{rest};
 ghost use Rattle.claim_formula.specs.Joining.{joined, last_made};
 

@@ -1,4 +1,4 @@
-//! Assertions as formulas on the tree of a store after heap events, on all its cells or on a region. `site_view` has the formulas.
+//! Assertions as formulas on the tree of a store after heap events, on all its cells or on a region. `site_list` has the formulas.
 #![tactic(auto)]
 
 mod forms;

@@ -2,8 +2,8 @@
 
 ghost use Rattle.std.specs.Prelude.{◌≡◌, reverse, IfOk};
 ghost use Rattle.graph_view.specs.Sights.{sight_of};
-ghost use Rattle.site_view.specs.Claims as formulas;
-ghost use Rattle.site_view.specs.States as states;
+ghost use Rattle.site_list.specs.Claims as formulas;
+ghost use Rattle.site_list.specs.States as states;
 ghost use Rattle.claim_formula.specs.Joining.{is_reached, one_more};
 
 use graph_type::{is_in, is_live, is_true, names, truth};

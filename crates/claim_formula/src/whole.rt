@@ -3,7 +3,7 @@
 ghost use Rattle.std.specs.Prelude.{◌≡◌, ◌+◌, ◌<◌, ◌∷◌, IfOk, OnOk};
 ghost use Rattle.store_logic.specs.Postfix.{form_count};
 ghost use Rattle.graph_view.specs.Sights.{sight_of};
-ghost use Rattle.site_view.specs.Claims.{assertion};
+ghost use Rattle.site_list.specs.Claims.{assertion};
 ghost use Rattle.claim_formula.specs.Tasks.{done, weight_of};
 
 use crate::forms::{member_formula, same_formula, subset_formula, variant_formula, walk_formula};

@@ -20,10 +20,10 @@ use Rattle.graph_view.specs.declared.view.View.{View}
 use Rattle.graph_view.specs.Sights.{sight_of, var_slots}
 use Rattle.graph_view.specs.Syms as syms
 use Rattle.graph_view.specs.Live.{is_dead}
-use Rattle.site_view.specs.States.{Text, State, Got, guard, check, sight, value_of, with_value, happens, is_truth_of}
-use Rattle.site_view.specs.Reading.{check_access, read, read_along}
-use Rattle.site_view.specs.Claims.{assertion}
-use Rattle.site_view.specs.Acts.{made_truth, made_cell, evaluated, write_field, write_along, assigned, freed, asserted}
+use Rattle.site_list.specs.States.{Text, State, Got, guard, check, sight, value_of, with_value, happens, is_truth_of}
+use Rattle.site_list.specs.Reading.{check_access, read, read_along}
+use Rattle.site_list.specs.Claims.{assertion}
+use Rattle.site_list.specs.Acts.{made_truth, made_cell, evaluated, write_field, write_along, assigned, freed, asserted}
 use Rattle.pred_transform.specs.declared.walker.Walker.{Walker}
 use Rattle.pred_transform.specs.Shown.{shown, checked, defining, happening, valued}
 use Rattle.pred_transform.proofs.ShownLemmas.{step-checked, make-made, happening-shown}

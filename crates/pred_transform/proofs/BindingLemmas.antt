@@ -2,7 +2,7 @@
 use Rattle.std.proofs.Common.{◌≡◌, ℕ, ◌+◌, List, [], ◌∷◌, ◌++◌, length, reverse, sym, ap, ◌∙◌}
 use Rattle.std.proofs.lemmas.List.{reverse-append, length-reverse}
 use Rattle.ws2s_core.specs.declared.formula.Formula.{Formula}
-use Rattle.site_view.specs.Triples.{bind}
+use Rattle.site_list.specs.Triples.{bind}
 use Rattle.pred_transform.specs.Free.{bound_once}
 
 -- the last one is bound first

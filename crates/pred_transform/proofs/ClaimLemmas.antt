@@ -10,7 +10,7 @@ use Rattle.ws2s_core.specs.declared.formula.Formula.TheVariants.{And, Not}
 use Rattle.ws2s_forms.specs.Forms.{and_list}
 use Rattle.graph_view.specs.declared.view.View.{View}
 use Rattle.graph_view.specs.Sights.{sight_of}
-use Rattle.site_view.specs.Claims.{claim}
+use Rattle.site_list.specs.Claims.{claim}
 use Rattle.pred_transform.specs.declared.walker.Walker.{Walker}
 use Rattle.pred_transform.specs.Shown.{checked, claims_hold}
 

@@ -25,13 +25,13 @@ use Rattle.ws2s_forms.specs.Forms.{track}
 use Rattle.tree_encode.specs.Tracks.{track_count}
 use Rattle.graph_view.specs.declared.view.Sym.{Sym}
 use Rattle.graph_view.specs.declared.view.Event.{Event}
-use Rattle.site_view.specs.States.{Text, State, guard, both, fails, define, next_track, is_truth_of}
-use Rattle.site_view.specs.Reading.{Told}
-use Rattle.site_view.specs.Conditions.{condition}
-use Rattle.site_view.specs.Acts.{act_rule, made_truth}
-use Rattle.site_view.specs.Cuts.{arrived}
-use Rattle.site_view.specs.Codes as codes
-use Rattle.site_view.specs.Codes.{Going, in_order, with_ways, on_way, merged, with_merged, plain_if, items, other_code, branch, item_rule, tail_rule, code_rule, code}
+use Rattle.site_list.specs.States.{Text, State, guard, both, fails, define, next_track, is_truth_of}
+use Rattle.site_list.specs.Reading.{Told}
+use Rattle.site_list.specs.Conditions.{condition}
+use Rattle.site_list.specs.Acts.{act_rule, made_truth}
+use Rattle.site_list.specs.Cuts.{arrived}
+use Rattle.site_list.specs.Codes as codes
+use Rattle.site_list.specs.Codes.{Going, in_order, with_ways, on_way, merged, with_merged, plain_if, items, other_code, branch, item_rule, tail_rule, code_rule, code}
 use Rattle.pred_transform.specs.declared.walker.Walker.{Walker}
 use Rattle.pred_transform.specs.declared.codes.Fork.{Fork}
 use Rattle.pred_transform.specs.Shown.{shown, with_guard, with_values, with_events, Leads}

@@ -15,9 +15,9 @@ use Rattle.ws2s_forms.specs.Forms.{or, false_at, true_at}
 use Rattle.graph_view.specs.declared.view.Sym.{Sym}
 use Rattle.graph_view.specs.Sights.{sight_of}
 use Rattle.graph_view.specs.Syms.{is_same}
-use Rattle.site_view.specs.States.{Text, State, Got, both, fails, sight}
-use Rattle.site_view.specs.Reading.{check_cell, path_value, operand_value, path_truth, is_of_variant}
-use Rattle.site_view.specs.Conditions.{Telling, told_variant, then_same, told_not, then_and, then_or, cond_rule, condition}
+use Rattle.site_list.specs.States.{Text, State, Got, both, fails, sight}
+use Rattle.site_list.specs.Reading.{check_cell, path_value, operand_value, path_truth, is_of_variant}
+use Rattle.site_list.specs.Conditions.{Telling, told_variant, then_same, told_not, then_and, then_or, cond_rule, condition}
 use Rattle.pred_transform.specs.declared.walker.Walker.{Walker}
 use Rattle.pred_transform.specs.Shown.{shown, Tells}
 use Rattle.pred_transform.proofs.ShownLemmas.{seen-shown}

@@ -16,9 +16,9 @@ use Rattle.graph_view.specs.declared.view.CutCheck.{CutCheck}
 use Rattle.graph_view.specs.declared.view.CutCheck.TheVariants as look
 use Rattle.graph_view.specs.Cuts.{cut_formula}
 use Rattle.graph_view.specs.Sights.{sight_of}
-use Rattle.site_view.specs.States.{State, guard, check, sight, value_of, next_track}
-use Rattle.site_view.specs.Parts.{is_part, escapes}
-use Rattle.site_view.specs.Cuts.{check_store, check_stores, check_claims, with_part, arrived_at_call, arrived}
+use Rattle.site_list.specs.States.{State, guard, check, sight, value_of, next_track}
+use Rattle.site_list.specs.Parts.{is_part, escapes}
+use Rattle.site_list.specs.Cuts.{check_store, check_stores, check_claims, with_part, arrived_at_call, arrived}
 use Rattle.pred_transform.specs.declared.walker.Walker.{Walker}
 use Rattle.pred_transform.specs.Shown.{shown, checked, defining, claims_hold}
 use Rattle.pred_transform.proofs.ShownLemmas.{step-checked, own-shown, defining-shown, sight-shown}

@@ -15,11 +15,11 @@ use Rattle.tree_encode.specs.Tracks.{track_count, var_track}
 use Rattle.tree_formula.specs.WellEncoded.{track_or_first, well_encoded}
 use Rattle.graph_view.specs.declared.view.View.{View}
 use Rattle.graph_view.specs.Sights.{sight_of}
-use Rattle.site_view.specs.States.{Text, Check, State, sight}
-use Rattle.site_view.specs.Claims.{claim}
-use Rattle.site_view.specs.Cuts.{with_part}
-use Rattle.site_view.specs.Triples as triples
-use Rattle.site_view.specs.Triples.{at_start, started, walked, bind, returned_part, start_holds, first_bound, site_formula, site_formula_at}
+use Rattle.site_list.specs.States.{Text, Check, State, sight}
+use Rattle.site_list.specs.Claims.{claim}
+use Rattle.site_list.specs.Cuts.{with_part}
+use Rattle.site_list.specs.Triples as triples
+use Rattle.site_list.specs.Triples.{at_start, started, walked, bind, returned_part, start_holds, first_bound, site_formula, site_formula_at}
 use Rattle.pred_transform.specs.declared.walker.Walker.{Walker}
 use Rattle.pred_transform.specs.Shown.{place_formula, written, shown}
 use Rattle.pred_transform.specs.Starts.{own_values, pointers_stay, site_of_place}

@@ -5,8 +5,8 @@ use Rattle.store_core.specs.Tables.{TypeEntry, VarEntry}
 use Rattle.ws2s_forms.specs.Forms.{track}
 use Rattle.graph_view.specs.declared.view.Sym.{Sym}
 use Rattle.graph_view.specs.declared.view.Sym.TheVariants.{At}
-use Rattle.site_view.specs.States.{State, Got, next_track, define, make}
-use Rattle.site_view.specs.Codes.{Merging, behind, is_sym, is_merged, merged}
+use Rattle.site_list.specs.States.{State, Got, next_track, define, make}
+use Rattle.site_list.specs.Codes.{Merging, behind, is_sym, is_merged, merged}
 use Rattle.pred_transform.specs.declared.walker.Walker.{Walker}
 use Rattle.pred_transform.specs.Shown.{shown, merged_value}
 

@@ -11,8 +11,8 @@ use Rattle.graph_view.specs.declared.view.Sym.{Sym}
 use Rattle.graph_view.specs.Sights.{sight_of}
 use Rattle.graph_view.specs.Syms.{is_null}
 use Rattle.graph_view.specs.Live.{is_dead}
-use Rattle.site_view.specs.States.{Text, State, check, sight}
-use Rattle.site_view.specs.Reading.{lacks, check_cell, check_access}
+use Rattle.site_list.specs.States.{Text, State, check, sight}
+use Rattle.site_list.specs.Reading.{lacks, check_cell, check_access}
 use Rattle.pred_transform.specs.declared.walker.Walker.{Walker}
 use Rattle.pred_transform.specs.Shown.{shown, checked}
 use Rattle.pred_transform.proofs.ShownLemmas.{step-checked}

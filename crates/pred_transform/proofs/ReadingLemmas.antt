@@ -15,8 +15,8 @@ use Rattle.graph_view.specs.declared.view.Sym.TheVariants.{Null, At}
 use Rattle.graph_view.specs.Syms as syms
 use Rattle.graph_view.specs.Sights.{sight_of}
 use Rattle.store_core.specs.declared.ids.VarId.{VarId}
-use Rattle.site_view.specs.States.{Text, State, Got, sight, value_of}
-use Rattle.site_view.specs.Reading.{check_access, is_read, read, read_along, path_value, operand_value, truth_along, truth_at, Told}
+use Rattle.site_list.specs.States.{Text, State, Got, sight, value_of}
+use Rattle.site_list.specs.Reading.{check_access, is_read, read, read_along, path_value, operand_value, truth_along, truth_at, Told}
 use Rattle.pred_transform.specs.declared.walker.Walker.{Walker}
 use Rattle.pred_transform.specs.Shown.{shown, defining}
 use Rattle.pred_transform.proofs.ShownLemmas.{seen-shown, make-made}

@@ -14,7 +14,7 @@ use Rattle.ws2s_forms.specs.Forms.{track}
 use Rattle.tree_encode.specs.Tracks.{track_count}
 use Rattle.graph_view.specs.declared.view.Event.{Event}
 use Rattle.graph_view.specs.Syms as syms
-use Rattle.site_view.specs.States.{Text, Check, State, check, define, sight, make, next_track, happens, guard}
+use Rattle.site_list.specs.States.{Text, Check, State, check, define, sight, make, next_track, happens, guard}
 use Rattle.pred_transform.specs.declared.walker.Walker.{Walker}
 use Rattle.pred_transform.specs.Shown.{place_formula, shown, checked, defining, happening}
 

@@ -1,7 +1,7 @@
 -- What is kept while the ways of an `if` are walked over.
 use Rattle.std.specs.Prelude.{◌≡◌, ℕ, reverse}
 use Rattle.ws2s_forms.specs.Forms.{track}
-use Rattle.site_view.specs.States.{State}
+use Rattle.site_list.specs.States.{State}
 use Rattle.pred_transform.specs.declared.codes.Fork.{Fork}
 
 -- the fork keeps what the state before both ways has, where h is the track of the first way

@@ -10,12 +10,12 @@ use Rattle.ws2s_core.specs.declared.track.Track.{Track}
 use Rattle.ws2s_forms.specs.Forms.{and_list}
 use Rattle.store_exec.specs.declared.triple.Claim.{Claim}
 use Rattle.graph_view.specs.Sights.{Sight}
-use Rattle.site_view.specs.Claims.{claim}
+use Rattle.site_list.specs.Claims.{claim}
 use Rattle.graph_view.specs.declared.view.Sym.{Sym}
 use Rattle.graph_view.specs.declared.view.Event.{Event}
-use Rattle.site_view.specs.States.{Text, Check, State, Got, make}
-use Rattle.site_view.specs.Reading.{Told}
-use Rattle.site_view.specs.Codes.{is_sym, is_merged}
+use Rattle.site_list.specs.States.{Text, Check, State, Got, make}
+use Rattle.site_list.specs.Reading.{Told}
+use Rattle.site_list.specs.Codes.{is_sym, is_merged}
 use Rattle.pred_transform.specs.declared.walker.Walker.{Walker}
 
 -- the place is reached, and its condition holds

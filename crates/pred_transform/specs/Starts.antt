@@ -13,8 +13,8 @@ use Rattle.tree_formula.specs.WellEncoded.{vars_in, track_or_first, well_encoded
 use Rattle.graph_view.specs.declared.view.Sym.{Sym}
 use Rattle.graph_view.specs.declared.view.Sym.TheVariants.{At}
 use Rattle.graph_view.specs.declared.view.View.{View}
-use Rattle.site_view.specs.Parts.{escapes}
-use Rattle.site_view.specs.Triples.{bind, start_holds}
+use Rattle.site_list.specs.Parts.{escapes}
+use Rattle.site_list.specs.Triples.{bind, start_holds}
 
 -- each variable on its own track
 abbrev pub own_values : List TypeEntry → List VarEntry → List Sym

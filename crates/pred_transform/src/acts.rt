@@ -7,8 +7,8 @@ ghost use Rattle.tree_encode.specs.Counting.{is_data_var};
 ghost use Rattle.graph_view.specs.Sights as sights;
 ghost use Rattle.graph_view.specs.Sights.{sight_of};
 ghost use Rattle.ws2s_core.specs.declared.formula.Formula.TheVariants.{Not};
-ghost use Rattle.site_view.specs.Claims as claims;
-ghost use Rattle.site_view.specs.Acts as acts;
+ghost use Rattle.site_list.specs.Claims as claims;
+ghost use Rattle.site_list.specs.Acts as acts;
 ghost use Rattle.pred_transform.specs.Shown.{checked, Leads, Gets, Makes};
 
 use crate::conditions::condition;

@@ -3,7 +3,7 @@
 ghost use Rattle.std.specs.Prelude.{◌≡◌, ◌+◌, ◌<◌, ◌||◌, reverse, IfOk, OnOk};
 ghost use Rattle.ws2s_core.specs.Tracks as tracks;
 ghost use Rattle.ws2s_core.specs.Sizes.{node_count};
-ghost use Rattle.site_view.specs.Triples as triples;
+ghost use Rattle.site_list.specs.Triples as triples;
 ghost use Rattle.pred_transform.specs.Free.{free_in, nodes_in, bound_once};
 
 use plain_data::Stack;

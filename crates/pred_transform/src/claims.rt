@@ -3,8 +3,8 @@
 ghost use Rattle.std.specs.Prelude.{◌≡◌, ◌++◌, map, IfOk, OnOk};
 ghost use Rattle.std.specs.List.{list_any};
 ghost use Rattle.graph_view.specs.Sights.{sight_of};
-ghost use Rattle.site_view.specs.Claims as formulas;
-ghost use Rattle.site_view.specs.Parts as escaping;
+ghost use Rattle.site_list.specs.Claims as formulas;
+ghost use Rattle.site_list.specs.Parts as escaping;
 
 use crate::walker::value_of;
 use claim_formula::assertion_formula;

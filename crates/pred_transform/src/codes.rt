@@ -3,10 +3,10 @@
 ghost use Rattle.std.specs.Prelude.{◌≡◌, ℕ, suc, min, Some, slice_get, IfOk, OnOk};
 ghost use Rattle.std.specs.Option.{option_map_or};
 ghost use Rattle.ws2s_forms.specs.Forms.{track};
-ghost use Rattle.site_view.specs.States as states;
-ghost use Rattle.site_view.specs.Conditions as conditions;
-ghost use Rattle.site_view.specs.Codes as codes;
-ghost use Rattle.site_view.specs.Cuts as arriving;
+ghost use Rattle.site_list.specs.States as states;
+ghost use Rattle.site_list.specs.Conditions as conditions;
+ghost use Rattle.site_list.specs.Codes as codes;
+ghost use Rattle.site_list.specs.Cuts as arriving;
 ghost use Rattle.pred_transform.specs.Shown.{merged_value, shown, with_guard, with_values, with_events, Leads};
 ghost use Rattle.pred_transform.specs.Forks.{IsFork};
 

@@ -1,8 +1,8 @@
 //! Conditions of code, read from the left.
 
 ghost use Rattle.std.specs.Prelude.{◌≡◌, ℕ, IfOk};
-ghost use Rattle.site_view.specs.Conditions as conditions;
-ghost use Rattle.site_view.specs.Reading as readings;
+ghost use Rattle.site_list.specs.Conditions as conditions;
+ghost use Rattle.site_list.specs.Reading as readings;
 ghost use Rattle.pred_transform.specs.Shown.{Tells};
 
 use crate::places::check_cell;

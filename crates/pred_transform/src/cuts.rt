@@ -5,9 +5,9 @@ ghost use Rattle.ws2s_core.specs.declared.formula.Formula.TheVariants.{Not};
 ghost use Rattle.ws2s_forms.specs.Forms.{track};
 ghost use Rattle.graph_view.specs.Cuts.{cut_formula};
 ghost use Rattle.graph_view.specs.Sights.{sight_of};
-ghost use Rattle.site_view.specs.States as states;
-ghost use Rattle.site_view.specs.Parts as escaping;
-ghost use Rattle.site_view.specs.Cuts as cuts;
+ghost use Rattle.site_list.specs.States as states;
+ghost use Rattle.site_list.specs.Parts as escaping;
+ghost use Rattle.site_list.specs.Cuts as cuts;
 ghost use Rattle.pred_transform.specs.Shown.{checked, claims_hold, shown, Leads};
 
 use crate::claims::{claims, escapes};

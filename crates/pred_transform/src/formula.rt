@@ -4,7 +4,7 @@ ghost use Rattle.std.specs.Prelude.{◌≡◌, ◌++◌, [], map, None, IfOk, On
 ghost use Rattle.ws2s_forms.specs.Forms as forms;
 ghost use Rattle.tree_encode.specs.Tracks.{var_track};
 ghost use Rattle.tree_formula.specs.WellEncoded.{track_or_first};
-ghost use Rattle.site_view.specs.Triples as triples;
+ghost use Rattle.site_list.specs.Triples as triples;
 ghost use Rattle.pred_transform.specs.Shown.{shown};
 ghost use Rattle.pred_transform.specs.Starts as starts;
 

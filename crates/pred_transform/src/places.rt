@@ -5,7 +5,7 @@ ghost use Rattle.tree_formula.specs.WellEncoded as encoded;
 ghost use Rattle.graph_view.specs.Syms as syms;
 ghost use Rattle.graph_view.specs.Live as live;
 ghost use Rattle.graph_view.specs.Sights.{sight_of};
-ghost use Rattle.site_view.specs.Reading as reading;
+ghost use Rattle.site_list.specs.Reading as reading;
 ghost use Rattle.pred_transform.specs.Shown.{checked, Follows};
 
 use crate::seeing::lacks;

@@ -1,7 +1,7 @@
 //! Reading of fields: where it can fail, and what stands for what is read.
 
 ghost use Rattle.std.specs.Prelude.{◌≡◌, ℕ, [], IfOk};
-ghost use Rattle.site_view.specs.Reading as reading;
+ghost use Rattle.site_list.specs.Reading as reading;
 ghost use Rattle.pred_transform.specs.Shown.{Gets, Tells};
 
 use crate::places::check_access;

@@ -4,9 +4,9 @@ ghost use Rattle.std.specs.Prelude.{◌≡◌, IfOk};
 ghost use Rattle.ws2s_core.specs.declared.formula.Formula.TheVariants.{And, Not, Root};
 ghost use Rattle.ws2s_forms.specs.Forms as forms;
 ghost use Rattle.graph_view.specs.Sights.{sight_of};
-ghost use Rattle.site_view.specs.Reading as reading;
-ghost use Rattle.site_view.specs.Parts as parts;
-ghost use Rattle.site_view.specs.Codes as codes;
+ghost use Rattle.site_list.specs.Reading as reading;
+ghost use Rattle.site_list.specs.Parts as parts;
+ghost use Rattle.site_list.specs.Codes as codes;
 
 use graph_type::{closes, has, is_in, is_live, is_same, is_true, lives, names};
 use graph_view::{Sym, View};

@@ -5,7 +5,7 @@ ghost use Rattle.ws2s_core.specs.declared.formula.Formula.TheVariants.{And};
 ghost use Rattle.ws2s_forms.specs.Forms.{track};
 ghost use Rattle.tree_encode.specs.Tracks.{track_count};
 ghost use Rattle.graph_view.specs.Syms as syms;
-ghost use Rattle.site_view.specs.States as states;
+ghost use Rattle.site_list.specs.States as states;
 ghost use Rattle.pred_transform.specs.Shown.{defining, happening, valued};
 
 use graph_type::guard;

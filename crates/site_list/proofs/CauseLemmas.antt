@@ -20,9 +20,9 @@ use Rattle.store_exec.specs.declared.code.Tail.TheVariants.{rolls-Cut, rolls-Bra
 use Rattle.store_exec.specs.declared.code.Tail.TheOpen.{Tail-F}
 use Rattle.store_exec.specs.declared.code.Tail.TheFolds.{fold-Tail, fold-roll-Tail, fold-roll-Code}
 use Rattle.store_exec.specs.declared.triple.Cut.{Cut}
-use Rattle.site_view.specs.declared.site.Site.{Site}
-use Rattle.site_view.specs.Sites.{site_at, field_causes, path_causes, cond_causes, place_causes, assign_causes}
-use Rattle.site_view.specs.Sites.{act_causes, cut_sites, item_sites, item_sites_rule, items_sites, code_sites, code_sites_rule, tail_sites_rule}
+use Rattle.site_list.specs.declared.site.Site.{Site}
+use Rattle.site_list.specs.Sites.{site_at, field_causes, path_causes, cond_causes, place_causes, assign_causes}
+use Rattle.site_list.specs.Sites.{act_causes, cut_sites, item_sites, item_sites_rule, items_sites, code_sites, code_sites_rule, tail_sites_rule}
 
 -- ---- places
 

@@ -37,17 +37,17 @@ use Rattle.store_exec.proofs.InductionLemmas.{items-induction, codes-induction}
 use Rattle.tree_formula.specs.WellEncoded.{owner}
 use Rattle.graph_view.specs.declared.view.Sym.{Sym}
 use Rattle.graph_view.specs.declared.view.Sym.TheVariants as sym_is
-use Rattle.site_view.specs.declared.site.Site.{Site}
-use Rattle.site_view.specs.Sites.{site_at, cell_causes, field_causes, path_causes, operand_causes, cond_causes, cond_causes_rule, rhs_causes}
-use Rattle.site_view.specs.Sites.{place_causes, assign_causes, act_causes, escape_causes, cut_sites, item_sites, items_sites, code_sites, sites_of}
-use Rattle.site_view.specs.States.{Text, State, Got, next_track, define, check, guard, both, fails, sight, value_of}
-use Rattle.site_view.specs.Reading.{Told, lacks, check_cell, check_access, read, read_along, operand_value, truth_along, truth_at}
-use Rattle.site_view.specs.Conditions.{Telling, cond_rule, condition}
-use Rattle.site_view.specs.Acts.{evaluated, write_along, act_rule, assigned}
-use Rattle.site_view.specs.Cuts.{check_stores, check_claims, with_part, arrived, arrived_at_call}
-use Rattle.site_view.specs.Codes.{Going, in_order, with_ways, on_way, is_sym, is_merged, merged, plain_if, item_rule, items, tail_rule, code_rule, code}
-use Rattle.site_view.specs.Codes as codes
-use Rattle.site_view.specs.Triples.{site_of, at_start, started, passed}
+use Rattle.site_list.specs.declared.site.Site.{Site}
+use Rattle.site_list.specs.Sites.{site_at, cell_causes, field_causes, path_causes, operand_causes, cond_causes, cond_causes_rule, rhs_causes}
+use Rattle.site_list.specs.Sites.{place_causes, assign_causes, act_causes, escape_causes, cut_sites, item_sites, items_sites, code_sites, sites_of}
+use Rattle.site_list.specs.States.{Text, State, Got, next_track, define, check, guard, both, fails, sight, value_of}
+use Rattle.site_list.specs.Reading.{Told, lacks, check_cell, check_access, read, read_along, operand_value, truth_along, truth_at}
+use Rattle.site_list.specs.Conditions.{Telling, cond_rule, condition}
+use Rattle.site_list.specs.Acts.{evaluated, write_along, act_rule, assigned}
+use Rattle.site_list.specs.Cuts.{check_stores, check_claims, with_part, arrived, arrived_at_call}
+use Rattle.site_list.specs.Codes.{Going, in_order, with_ways, on_way, is_sym, is_merged, merged, plain_if, item_rule, items, tail_rule, code_rule, code}
+use Rattle.site_list.specs.Codes as codes
+use Rattle.site_list.specs.Triples.{site_of, at_start, started, passed}
 use Rattle.site_list.proofs.CauseLemmas.{sites-Do, sites-If, tail_sites, sites-code, sites-Cut, sites-Branch}
 
 -- the sites of the places that were passed

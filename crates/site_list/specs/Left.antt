@@ -5,7 +5,7 @@ use Rattle.store_core.specs.Tables.{TypeEntry}
 use Rattle.store_logic.specs.declared.cond.Cond.{Cond}
 use Rattle.store_logic.specs.PostfixConds.{form_count}
 use Rattle.store_exec.specs.declared.cause.Cause.{Cause}
-use Rattle.site_view.specs.Sites.{cond_causes}
+use Rattle.site_list.specs.Sites.{cond_causes}
 
 -- the causes that can come in those that are left, the first on top
 abbrev pub causes_left : List TypeEntry → List (Bor Cond) → List Cause

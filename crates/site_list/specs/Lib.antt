@@ -1,1 +1,11 @@
 pub mod Left
+pub mod Sites
+pub mod States
+pub mod Reading
+pub mod Conditions
+pub mod Claims
+pub mod Parts
+pub mod Acts
+pub mod Cuts
+pub mod Codes
+pub mod Triples

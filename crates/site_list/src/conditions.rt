@@ -2,12 +2,12 @@
 
 ghost use Rattle.std.specs.Prelude.{◌≡◌, ◌++◌, ◌+◌, ◌<◌, ◌∷◌, map, flat_map, sum_by, OnOk};
 ghost use Rattle.store_logic.specs.PostfixConds.{form_count};
-ghost use Rattle.site_view.specs.Sites.{site_at, cond_causes};
+ghost use Rattle.site_list.specs.Sites.{site_at, cond_causes};
 ghost use Rattle.site_list.specs.Left.{causes_left, forms_left};
 
 use crate::reading::{push_cell, push_operand, push_path};
 use plain_data::Stack;
-use site_view::SiteList;
+use crate::SiteList;
 use std::alloc::{AllocError, Global};
 use store_core::TypeTable;
 use store_logic::Cond;

@@ -3,8 +3,8 @@
 ghost use Rattle.std.specs.Prelude.{◌≡◌, List};
 ghost use Rattle.store_core.specs.Tables.{TypeEntry, VarEntry};
 ghost use Rattle.store_exec.specs.declared.triple.Triple.{Triple};
-ghost use Rattle.site_view.specs.Sites.{sites_of};
-ghost use Rattle.site_view.specs.Triples.{passed};
+ghost use Rattle.site_list.specs.Sites.{sites_of};
+ghost use Rattle.site_list.specs.Triples.{passed};
 
 /// The places that the walk over the code of a triple passes are the triple's sites, so that the number of a site is that of its
 /// formula.

@@ -1,4 +1,4 @@
-//! The places where a triple can fail, in order. `site_view` says which they are.
+//! The places where a triple can fail, in order. `site_list` says which they are.
 #![tactic(auto)]
 
 mod acts;
@@ -8,5 +8,7 @@ mod cuts;
 pub mod laws;
 mod listing;
 mod reading;
+mod site;
 
 pub use listing::sites;
+pub use site::{Site, SiteList};

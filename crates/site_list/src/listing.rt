@@ -1,10 +1,10 @@
 //! The places of a triple.
 
 ghost use Rattle.std.specs.Prelude.{◌≡◌, IfOk};
-ghost use Rattle.site_view.specs.Sites.{sites_of};
+ghost use Rattle.site_list.specs.Sites.{sites_of};
 
 use crate::codes::push_code;
-use site_view::SiteList;
+use crate::SiteList;
 use std::alloc::{AllocError, Global};
 use store_exec::Triple;
 use tree_encode::Layout;

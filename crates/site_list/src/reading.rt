@@ -1,9 +1,9 @@
 //! Where reading and writing of fields can fail.
 
 ghost use Rattle.std.specs.Prelude.{◌≡◌, ◌++◌, ◌∷◌, [], map, OnOk};
-ghost use Rattle.site_view.specs.Sites.{site_at, cell_causes, field_causes, path_causes, operand_causes};
+ghost use Rattle.site_list.specs.Sites.{site_at, cell_causes, field_causes, path_causes, operand_causes};
 
-use site_view::{Site, SiteList};
+use crate::{Site, SiteList};
 use std::alloc::AllocError;
 use store_core::{FieldId, Owner, TypeTable};
 use store_exec::Cause;

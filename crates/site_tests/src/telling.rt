@@ -10,7 +10,7 @@ use pale_text::{TextStop, lex};
 use pale_types::{Typed, check_types};
 use pred_transform::triple_formula;
 use site_list::sites;
-use site_view::SiteList;
+use site_list::SiteList;
 use std::alloc::{AllocError, Global};
 use std::fmt::Write;
 use store_exec::{Cause, Triple};

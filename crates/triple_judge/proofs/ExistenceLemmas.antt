@@ -26,8 +26,8 @@ use Rattle.witness_store.proofs.ListsLemmas.{present}
 use Rattle.witness_store.proofs.VariantsLemmas.{listed-track}
 use Rattle.witness_store.proofs.PointersLemmas.{IsStoreOf-alike}
 use Rattle.witness_store.proofs.FunctionalLemmas.{IsWellFormed-set}
-use Rattle.site_view.specs.Sites.{sites_of}
-use Rattle.site_view.specs.Triples.{site_formula}
+use Rattle.site_list.specs.Sites.{sites_of}
+use Rattle.site_list.specs.Triples.{site_formula}
 use Rattle.triple_meaning.specs.Failing.Satisfying.{IsSatisfiedAt}
 use Rattle.triple_judge.specs.Searching.{IsNowhere}
 use Rattle.triple_judge.specs.Judging.{IsValid, IsLeastFailing}

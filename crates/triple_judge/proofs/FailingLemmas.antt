@@ -34,11 +34,11 @@ use Rattle.graph_meaning.proofs.fields.AssignmentLemmas.{assignment}
 use Rattle.witness_store.specs.Alike.{AreFunctional}
 use Rattle.witness_store.proofs.FunctionalLemmas.{IsWellFormed-set}
 use Rattle.field_judge.proofs.WeighedLemmas.{are-variant_tracks}
-use Rattle.site_view.specs.declared.site.Site.{Site}
+use Rattle.site_list.specs.declared.site.Site.{Site}
 use Rattle.triple_meaning.specs.Sites.Seeing.{IsOver}
-use Rattle.site_view.specs.States.{Check}
-use Rattle.site_view.specs.Sites.{sites_of}
-use Rattle.site_view.specs.Triples.{walked, bind, definitions, start_holds, site_formula_at, first_bound, site_formula}
+use Rattle.site_list.specs.States.{Check}
+use Rattle.site_list.specs.Sites.{sites_of}
+use Rattle.site_list.specs.Triples.{walked, bind, definitions, start_holds, site_formula_at, first_bound, site_formula}
 use Rattle.triple_meaning.specs.Failing.Satisfying.{IsSatisfiedAt, IsFirstSatisfied}
 use Rattle.triple_judge.specs.declared.searching.Found.{Found}
 use Rattle.triple_judge.specs.Searching.{IsNowhere, IsLightest}

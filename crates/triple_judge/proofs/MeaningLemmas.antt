@@ -7,9 +7,9 @@ use Rattle.store_exec.specs.declared.cause.Cause.{Cause}
 use Rattle.store_exec.specs.declared.triple.Triple.{Triple}
 use Rattle.store_exec.specs.Failing.{Meets, Fails}
 use Rattle.witness_store.specs.Alike.{AreFunctional}
-use Rattle.site_view.specs.declared.site.Site.{Site}
-use Rattle.site_view.specs.Sites.{sites_of}
-use Rattle.site_view.specs.Triples.{passed}
+use Rattle.site_list.specs.declared.site.Site.{Site}
+use Rattle.site_list.specs.Sites.{sites_of}
+use Rattle.site_list.specs.Triples.{passed}
 use Rattle.site_list.proofs.WalkLemmas.{walk-passes}
 use Rattle.triple_meaning.specs.Sites.Seeing.{IsOver}
 use Rattle.triple_meaning.specs.Failing.Satisfying.{IsPosed, IsSatisfiedAt, IsFirstSatisfied}

@@ -12,7 +12,7 @@ use Rattle.store_exec.specs.declared.triple.Triple.{Triple}
 use Rattle.store_exec.specs.Failing.{Meets, Fails}
 use Rattle.tree_encode.specs.Spaces.{guide_of}
 use Rattle.tree_store.specs.Stores.{AreNumberedFromOne}
-use Rattle.site_view.specs.Triples.{site_formula}
+use Rattle.site_list.specs.Triples.{site_formula}
 use Rattle.triple_judge.specs.declared.judging.Judged.{Judged}
 use Rattle.triple_judge.specs.declared.judging.Judged.TheVariants as judged
 use Rattle.triple_judge.specs.Spares.{spares_of}

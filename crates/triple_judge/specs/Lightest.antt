@@ -5,8 +5,8 @@ use Rattle.store_core.specs.Tables.{TypeEntry, VarEntry}
 use Rattle.store_exec.specs.declared.triple.Triple.{Triple}
 use Rattle.routing_expr.specs.Gathering.{HasAll}
 use Rattle.field_judge.specs.Weighed.{IsVariantTrack}
-use Rattle.site_view.specs.Sites.{sites_of}
-use Rattle.site_view.specs.Triples.{site_formula}
+use Rattle.site_list.specs.Sites.{sites_of}
+use Rattle.site_list.specs.Triples.{site_formula}
 use Rattle.triple_judge.specs.declared.searching.Found.{Found}
 use Rattle.triple_judge.specs.Searching.{IsLightest}
 

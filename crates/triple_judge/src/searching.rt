@@ -8,7 +8,7 @@ ghost use Rattle.ws2s_core.specs.declared.formula.Formula.{Formula};
 ghost use Rattle.ws2s_decide.specs.declared.verdict.Verdict.{Verdict};
 ghost use Rattle.ws2s_decide.specs.Deciding.{guide_of, HasKept};
 ghost use Rattle.tree_encode.specs.Spaces as spaces;
-ghost use Rattle.site_view.specs.Triples.{site_formula};
+ghost use Rattle.site_list.specs.Triples.{site_formula};
 ghost use Rattle.triple_judge.specs.declared.searching.Searched.{Searched};
 ghost use Rattle.triple_judge.specs.Judging.{ArePeaksWithin};
 ghost use Rattle.triple_judge.specs.Searching as known;

@@ -5,7 +5,7 @@ ghost use Rattle.bdd_nodes.specs.Shelf.{IsShelf, limit_of};
 ghost use Rattle.ws2s_theory.specs.Peaks.{HasPeak};
 ghost use Rattle.ws2s_decide.specs.declared.verdict.Verdict.{Verdict};
 ghost use Rattle.ws2s_decide.specs.Deciding.{IsVerdict, guide_of, HasKept};
-ghost use Rattle.site_view.specs.Triples.{site_formula};
+ghost use Rattle.site_list.specs.Triples.{site_formula};
 ghost use Rattle.triple_judge.specs.Judging.{ArePeaksWithin};
 ghost use Rattle.triple_judge.specs.Searching.{IsVerdictAt};
 

@@ -8,7 +8,7 @@ ghost use Rattle.store_core.specs.Tables.{TypeEntry, VarEntry};
 ghost use Rattle.store_exec.specs.declared.triple.Triple.{Triple};
 ghost use Rattle.store_exec.specs.Fits.{TripleFits};
 ghost use Rattle.tree_encode.specs.Tracks.{track_count};
-ghost use Rattle.site_view.specs.Triples.{walked, bind, definitions};
+ghost use Rattle.site_list.specs.Triples.{walked, bind, definitions};
 ghost use Rattle.triple_meaning.specs.Sites.Seeing.{HasRoom, AreDefined};
 ghost use Rattle.triple_meaning.specs.Tracks.Defining.{AreDefining, IsWithMade};
 

@@ -12,7 +12,7 @@ ghost use Rattle.store_exec.specs.Cuts.{AtCut};
 ghost use Rattle.store_exec.specs.Failing.{Fails};
 ghost use Rattle.store_exec.specs.Fits.{CutFits, TripleFits};
 ghost use Rattle.store_exec.specs.Runs.{RunsCode};
-ghost use Rattle.site_view.specs.Triples.{walked};
+ghost use Rattle.site_list.specs.Triples.{walked};
 ghost use Rattle.triple_meaning.specs.Sites.Places.{NoneComes, ComesFirst};
 ghost use Rattle.triple_meaning.specs.Sites.Seeing.{IsOver, HasRoom, AreDefined};
 ghost use Rattle.triple_meaning.specs.Sites.Doing.{AreAssertionsMeant};

@@ -39,7 +39,7 @@ use Rattle.graph_meaning.specs.Walks.Walking.{WalkAt}
 use Rattle.graph_meaning.specs.Walks.Wells.{ShowsWell}
 use Rattle.graph_meaning.proofs.walks.GroundLemmas.{IsGround}
 use Rattle.graph_meaning.proofs.walks.SeenLemmas.{ground, all_walk-means}
-use Rattle.site_view.specs.Claims.{base_value, is_value}
+use Rattle.site_list.specs.Claims.{base_value, is_value}
 use Rattle.triple_meaning.specs.Claims.Bound.{scope_under, AreBound, TermAt}
 use Rattle.triple_meaning.proofs.claims.BoundLemmas.{agrees-on, here-later, NameStands, base-named}
 use Rattle.triple_meaning.proofs.claims.HereLemmas.{and-here, imp-here, iff-here, some-here, each-here}

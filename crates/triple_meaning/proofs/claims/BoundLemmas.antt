@@ -32,8 +32,8 @@ use Rattle.graph_view.specs.declared.view.View.{View}
 use Rattle.graph_view.specs.After.{Standing, StandsFor, IsRead, IsSymBelow}
 use Rattle.graph_meaning.specs.Live.Meaning.{Agrees, MeansHere}
 use Rattle.graph_meaning.specs.Live.Showing.{Shows}
-use Rattle.site_view.specs.States.{value_of}
-use Rattle.site_view.specs.Claims.{base_value}
+use Rattle.site_list.specs.States.{value_of}
+use Rattle.site_list.specs.Claims.{base_value}
 use Rattle.triple_meaning.specs.Claims.Bound.{scope_under, HasForm, AreBound}
 
 -- ---- options

@@ -27,7 +27,7 @@ use Rattle.graph_view.specs.Sights.{sight_of}
 use Rattle.graph_view.specs.After.{Standing, IsRegion, IsRead, IsRegionBelow}
 use Rattle.graph_meaning.specs.Live.Meaning.{Agrees}
 use Rattle.graph_meaning.specs.Walks.Wells.{ShowsWell}
-use Rattle.site_view.specs.Claims.{assertion, region_on}
+use Rattle.site_list.specs.Claims.{assertion, region_on}
 use Rattle.triple_meaning.specs.Claims.Given.{IsGiven, IsRegionGiven}
 use Rattle.triple_meaning.proofs.claims.MeaningLemmas.{assertion-means, none-bound}
 

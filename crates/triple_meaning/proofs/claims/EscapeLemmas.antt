@@ -39,8 +39,8 @@ use Rattle.graph_meaning.proofs.live.FieldsLemmas.{names-means}
 use Rattle.graph_meaning.proofs.live.SeenLemmas.{seen-sits}
 use Rattle.graph_meaning.proofs.live.TellLemmas.{stands-somewhere}
 use Rattle.graph_meaning.specs.Walks.Wells.{ShowsWell}
-use Rattle.site_view.specs.States.{value_of}
-use Rattle.site_view.specs.Parts.{is_pointer, is_var, is_astray, astray_of, escapes}
+use Rattle.site_list.specs.States.{value_of}
+use Rattle.site_list.specs.Parts.{is_pointer, is_var, is_astray, astray_of, escapes}
 use Rattle.triple_meaning.specs.Claims.Given.{IsGiven}
 use Rattle.triple_meaning.proofs.claims.BoundLemmas.{var-held}
 

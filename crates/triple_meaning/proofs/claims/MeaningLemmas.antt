@@ -22,8 +22,8 @@ use Rattle.graph_view.specs.After.{Standing}
 use Rattle.graph_meaning.specs.Live.Meaning.{Agrees}
 use Rattle.graph_meaning.proofs.live.AgreeingLemmas.{sat-and, sat-not, sat-or}
 use Rattle.graph_meaning.specs.Walks.Wells.{ShowsWell}
-use Rattle.site_view.specs.States.{Text}
-use Rattle.site_view.specs.Claims.{assertion_rule, assertion}
+use Rattle.site_list.specs.States.{Text}
+use Rattle.site_list.specs.Claims.{assertion_rule, assertion}
 use Rattle.triple_meaning.specs.Claims.Bound.{scope_under, AreBound}
 use Rattle.triple_meaning.proofs.claims.BoundLemmas.{none-some, agrees-on, bound-under}
 use Rattle.triple_meaning.proofs.claims.HereLemmas.{sat-imp, sat-iff}

@@ -50,8 +50,8 @@ use Rattle.graph_meaning.proofs.walks.ClosingLemmas.{IsClosed, left-means}
 use Rattle.graph_meaning.proofs.walks.ChainLemmas.{chain-linked}
 use Rattle.graph_meaning.proofs.walks.GroundLemmas.{IsGround, edge-means}
 use Rattle.graph_meaning.proofs.walks.SeenLemmas.{ground, by_data}
-use Rattle.site_view.specs.States.{value_of}
-use Rattle.site_view.specs.Parts.{is_part}
+use Rattle.site_list.specs.States.{value_of}
+use Rattle.site_list.specs.Parts.{is_part}
 use Rattle.triple_meaning.specs.Claims.Given.{HasPart, IsNamedBy, HasNamedPart, NameLive}
 use Rattle.triple_meaning.proofs.claims.BoundLemmas.{var-held}
 use Rattle.triple_meaning.proofs.claims.SetLemmas.{all-in}

@@ -31,7 +31,7 @@ use Rattle.graph_meaning.proofs.live.AgreeingLemmas.{Agrees-itself, Agrees-set, 
 use Rattle.graph_meaning.specs.Walks.Wells.{ShowsWell}
 use Rattle.graph_meaning.proofs.walks.GroundLemmas.{IsGround}
 use Rattle.graph_meaning.proofs.walks.SeenLemmas.{ground}
-use Rattle.site_view.specs.Claims.{ex_set}
+use Rattle.site_list.specs.Claims.{ex_set}
 use Rattle.triple_meaning.specs.Claims.Bound.{HasForm}
 use Rattle.triple_meaning.proofs.claims.SetLemmas.{Covers, set-cells, set-of-cells, covered-typed}
 

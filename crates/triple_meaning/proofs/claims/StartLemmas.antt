@@ -20,9 +20,9 @@ use Rattle.graph_view.specs.After.{Standing}
 use Rattle.graph_meaning.specs.Live.Meaning.{Agrees}
 use Rattle.graph_meaning.proofs.live.AgreeingLemmas.{sat-not}
 use Rattle.graph_meaning.specs.Walks.Wells.{ShowsWell}
-use Rattle.site_view.specs.States.{State}
-use Rattle.site_view.specs.Parts.{escapes}
-use Rattle.site_view.specs.Triples.{at_start, returned_part, pointers_stay, start_holds}
+use Rattle.site_list.specs.States.{State}
+use Rattle.site_list.specs.Parts.{escapes}
+use Rattle.site_list.specs.Triples.{at_start, returned_part, pointers_stay, start_holds}
 use Rattle.triple_meaning.specs.Claims.Given.{IsRegionOf, IsPartGiven}
 use Rattle.triple_meaning.specs.Claims.Stating.{view_of}
 use Rattle.triple_meaning.proofs.claims.EscapeLemmas.{escapes-means}

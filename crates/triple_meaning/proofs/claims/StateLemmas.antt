@@ -29,10 +29,10 @@ use Rattle.graph_view.specs.Sights.{Sight, var_slots, sight_of}
 use Rattle.graph_view.specs.After.{Standing}
 use Rattle.graph_meaning.specs.Live.Meaning.{Agrees}
 use Rattle.graph_meaning.specs.Walks.Wells.{ShowsWell}
-use Rattle.site_view.specs.States.{State, sight, value_of}
-use Rattle.site_view.specs.Claims.{assertion, claim}
-use Rattle.site_view.specs.Parts.{is_part}
-use Rattle.site_view.specs.Cuts.{claims}
+use Rattle.site_list.specs.States.{State, sight, value_of}
+use Rattle.site_list.specs.Claims.{assertion, claim}
+use Rattle.site_list.specs.Parts.{is_part}
+use Rattle.site_list.specs.Cuts.{claims}
 use Rattle.triple_meaning.specs.Claims.Given.{IsGiven, IsRegionGiven, IsRegionOf, IsPartGiven, HasNamedPart}
 use Rattle.triple_meaning.specs.Claims.Stating.{view_of}
 use Rattle.triple_meaning.proofs.claims.BoundLemmas.{some-same, none-some}

@@ -45,7 +45,7 @@ use Rattle.graph_meaning.proofs.live.SeenLemmas.{seen-sits}
 use Rattle.graph_meaning.specs.Walks.Wells.{ShowsWell}
 use Rattle.graph_meaning.proofs.walks.GroundLemmas.{IsGround}
 use Rattle.graph_meaning.proofs.walks.SeenLemmas.{ground, names-told}
-use Rattle.site_view.specs.Claims.{base_value, leads_to, is_value, leads_to_true, is_true_term}
+use Rattle.site_list.specs.Claims.{base_value, leads_to, is_value, leads_to_true, is_true_term}
 use Rattle.triple_meaning.specs.Claims.Bound.{scope_under, AreBound, TermAt}
 use Rattle.triple_meaning.proofs.claims.BoundLemmas.{none-some, agrees-on, NameStands, base-named, form-cell, form-truth}
 use Rattle.triple_meaning.proofs.claims.PathLemmas.{back, back-reverse, along-end, all-reverse, field-from, null-cell, null-true, live-cell, cell-live, true-in, in-true, IsCellField, cells-along, EndsInBool, truth-along}

@@ -14,9 +14,9 @@ use Rattle.store_exec.specs.Failing.{StartHolds, Meets, Fails}
 use Rattle.store_exec.specs.Runs.{RunsCode}
 use Rattle.tree_encode.specs.Tracks.{track_count}
 use Rattle.tree_encode.proofs.TracksLemmas.{mapped}
-use Rattle.site_view.specs.declared.site.Site.{Site}
-use Rattle.site_view.specs.States.{Check}
-use Rattle.site_view.specs.Triples.{walked, first_bound, site_of, passed, site_formula_at}
+use Rattle.site_list.specs.declared.site.Site.{Site}
+use Rattle.site_list.specs.States.{Check}
+use Rattle.site_list.specs.Triples.{walked, first_bound, site_of, passed, site_formula_at}
 use Rattle.triple_meaning.specs.Sites.Places.{Comes, NoneComes, ComesFirst}
 use Rattle.triple_meaning.specs.Sites.Seeing.{IsOver, HasRoom, AreDefined}
 use Rattle.triple_meaning.specs.Sites.Ending.{IsSettled}

@@ -32,8 +32,8 @@ use Rattle.triple_meaning.proofs.claims.BoundLemmas.{var-held}
 use Rattle.triple_meaning.specs.Claims.Stating.{view_of}
 use Rattle.graph_meaning.specs.Walks.Wells.{ShowsWell}
 use Rattle.graph_meaning.proofs.cuts.PairsLemmas.{named-at}
-use Rattle.site_view.specs.States.{value_of}
-use Rattle.site_view.specs.Triples.{at_start}
+use Rattle.site_list.specs.States.{value_of}
+use Rattle.site_list.specs.Triples.{at_start}
 use Rattle.triple_meaning.proofs.sites.LookingLemmas.{layout_of}
 
 -- nothing is on the track of a value of a program variable exactly where it is null or false

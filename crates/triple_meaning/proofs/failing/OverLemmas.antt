@@ -7,7 +7,7 @@ use Rattle.tree_encode.specs.Tracks.{track_count}
 use Rattle.tree_store.proofs.TablesLemmas.{track-few}
 use Rattle.graph_view.specs.After.{Standing}
 use Rattle.graph_meaning.specs.Walks.Wells.{ShowsWell}
-use Rattle.site_view.specs.States.{State}
+use Rattle.site_list.specs.States.{State}
 use Rattle.triple_meaning.specs.Sites.Seeing.{IsOver, Sees}
 use Rattle.triple_meaning.proofs.sites.LookingLemmas.{layout_of, shows_well}
 use Rattle.triple_meaning.specs.Claims.Stating.{view_of}

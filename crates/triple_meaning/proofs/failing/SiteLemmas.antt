@@ -22,8 +22,8 @@ use Rattle.tree_store.proofs.FormulaLemmas.{well_encoded-means}
 use Rattle.tree_store.proofs.HoldersLemmas.{backbone-lays}
 use Rattle.tree_store.proofs.ExistenceLemmas.{store_of_finite}
 use Rattle.witness_store.proofs.FunctionalLemmas.{IsOfWellFormed-store}
-use Rattle.site_view.specs.States.{Check}
-use Rattle.site_view.specs.Triples.{at_start, walked, bind, definitions, start_holds, site_formula_at, first_bound, site_formula}
+use Rattle.site_list.specs.States.{Check}
+use Rattle.site_list.specs.Triples.{at_start, walked, bind, definitions, start_holds, site_formula_at, first_bound, site_formula}
 use Rattle.triple_meaning.specs.Sites.Places.{Comes}
 use Rattle.triple_meaning.specs.Sites.Seeing.{IsOver, HasRoom, AreDefined}
 use Rattle.triple_meaning.proofs.sites.BeginningLemmas.{begins}

@@ -25,10 +25,10 @@ use Rattle.graph_view.specs.declared.view.Event.{Event}
 use Rattle.graph_view.specs.Sights.{Sight, var_slots, sight_of}
 use Rattle.graph_view.specs.After.{Standing}
 use Rattle.graph_meaning.proofs.live.AgreeingLemmas.{Agrees-itself}
-use Rattle.site_view.specs.States.{Text, sight, value_of, next_track}
-use Rattle.site_view.specs.Parts.{is_part}
-use Rattle.site_view.specs.Cuts.{with_part}
-use Rattle.site_view.specs.Triples.{at_start, started, walked, start_holds}
+use Rattle.site_list.specs.States.{Text, sight, value_of, next_track}
+use Rattle.site_list.specs.Parts.{is_part}
+use Rattle.site_list.specs.Cuts.{with_part}
+use Rattle.site_list.specs.Triples.{at_start, started, walked, start_holds}
 use Rattle.triple_meaning.specs.Sites.Seeing.{IsOver, HasRoom, AreDefined, Sees}
 use Rattle.triple_meaning.proofs.sites.PlacesLemmas.{All-left}
 use Rattle.triple_meaning.proofs.sites.LookingLemmas.{layout_of}

@@ -35,8 +35,8 @@ use Rattle.graph_meaning.proofs.live.AgreeingLemmas.{Agrees-bound, IsOnly-bound,
 use Rattle.graph_meaning.proofs.live.SymsLemmas.{is_in-cell}
 use Rattle.graph_meaning.proofs.live.TellLemmas.{stands-somewhere}
 use Rattle.graph_meaning.proofs.live.ReadLemmas.{is-some, is-none, AreFitting, read-fitting, had-field}
-use Rattle.site_view.specs.States.{Text, Check, State, check, sight}
-use Rattle.site_view.specs.Reading.{lacks, check_cell, check_access}
+use Rattle.site_list.specs.States.{Text, Check, State, check, sight}
+use Rattle.site_list.specs.Reading.{lacks, check_cell, check_access}
 use Rattle.triple_meaning.specs.Sites.Places.{Comes, NoneComes, ComesFirst, StopsAs}
 use Rattle.triple_meaning.specs.Sites.Seeing.{Sees, with_more}
 use Rattle.triple_meaning.proofs.sites.PlacesLemmas.{none-none, none-cons, none-append}

@@ -11,8 +11,8 @@ use Rattle.store_logic.specs.FitsCode.{HoldsCell, ActFits}
 use Rattle.store_exec.specs.Runs.{Ending, Does}
 use Rattle.store_exec.specs.Steps.{variable}
 use Rattle.store_exec.specs.Steps as exec
-use Rattle.site_view.specs.States.{State}
-use Rattle.site_view.specs.Acts.{act_rule}
+use Rattle.site_list.specs.States.{State}
+use Rattle.site_list.specs.Acts.{act_rule}
 use Rattle.triple_meaning.specs.Sites.Doing.{Leads}
 use Rattle.triple_meaning.proofs.sites.AssigningLemmas.{EndsBy, assign-leads}
 use Rattle.triple_meaning.proofs.sites.FreeingLemmas.{free-leads}

@@ -10,9 +10,9 @@ use Rattle.store_logic.specs.Fits.{AssertionFits}
 use Rattle.store_exec.specs.declared.cause.Cause.TheVariants as cause
 use Rattle.store_exec.specs.Runs.{Ending, Does}
 use Rattle.graph_view.specs.After.{Standing, IsTaken}
-use Rattle.site_view.specs.States.{Check, State, guard, fails, sight}
-use Rattle.site_view.specs.Claims.{assertion}
-use Rattle.site_view.specs.Acts.{act_rule}
+use Rattle.site_list.specs.States.{Check, State, guard, fails, sight}
+use Rattle.site_list.specs.Claims.{assertion}
+use Rattle.site_list.specs.Acts.{act_rule}
 use Rattle.triple_meaning.specs.Sites.Seeing.{HasRoom, Sees, with_more}
 use Rattle.triple_meaning.specs.Sites.Doing.{Follows, Leads, AreAssertionsMeant}
 use Rattle.triple_meaning.proofs.sites.PlacesLemmas.{none-none, none-cons}

@@ -27,9 +27,9 @@ use Rattle.store_exec.proofs.KeepLemmas.{IsWell, Step-keeps, evaluated-good, pla
 use Rattle.tree_store.proofs.SpotsLemmas.{of-some}
 use Rattle.graph_view.specs.declared.view.Event.TheVariants.{Write}
 use Rattle.graph_view.specs.After.{Standing, StandsForCell, StandsFor, IsSeen, IsTaken, IsGuard, IsSymBelow, IsGuardBelow}
-use Rattle.site_view.specs.States.{Text, Check, State, Got, guard, value_of, with_value, happens}
-use Rattle.site_view.specs.Reading.{read}
-use Rattle.site_view.specs.Acts.{evaluated, write_field, write_along, assigned}
+use Rattle.site_list.specs.States.{Text, Check, State, Got, guard, value_of, with_value, happens}
+use Rattle.site_list.specs.Reading.{read}
+use Rattle.site_list.specs.Acts.{evaluated, write_field, write_along, assigned}
 use Rattle.triple_meaning.specs.Sites.Places.{ComesFirst, StopsAs, Answers}
 use Rattle.triple_meaning.specs.Sites.Seeing.{HasRoom, IsBelow, AreDefined, Sees, with_more}
 use Rattle.triple_meaning.specs.Sites.Doing.{Follows, IsIdle, Leads}

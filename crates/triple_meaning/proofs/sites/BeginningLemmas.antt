@@ -23,7 +23,7 @@ use Rattle.graph_view.specs.Sights.{var_slots}
 use Rattle.graph_view.specs.After.{Standing, IsAt, AreStanding}
 use Rattle.graph_meaning.proofs.fields.BeginningLemmas.{first-shows_well}
 use Rattle.graph_meaning.proofs.fields.StandingLemmas.{standing-sits}
-use Rattle.site_view.specs.Triples.{at_start}
+use Rattle.site_list.specs.Triples.{at_start}
 use Rattle.triple_meaning.specs.Sites.Seeing.{IsOver, Sees}
 use Rattle.triple_meaning.proofs.sites.LookingLemmas.{layout_of}
 

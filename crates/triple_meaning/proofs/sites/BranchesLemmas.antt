@@ -18,9 +18,9 @@ use Rattle.store_exec.specs.Cuts.{AtCut}
 use Rattle.store_exec.specs.Runs.{Ending, Branches}
 use Rattle.store_exec.specs.Runs as runs
 use Rattle.graph_view.specs.After.{Standing, IsTaken, IsGuard, IsGuardBelow}
-use Rattle.site_view.specs.States.{Text, Check, State, next_track, is_truth_of, guard, both, fails}
-use Rattle.site_view.specs.Reading.{Told}
-use Rattle.site_view.specs.Codes.{Going, with_ways, on_way, branch}
+use Rattle.site_list.specs.States.{Text, Check, State, next_track, is_truth_of, guard, both, fails}
+use Rattle.site_list.specs.Reading.{Told}
+use Rattle.site_list.specs.Codes.{Going, with_ways, on_way, branch}
 use Rattle.triple_meaning.specs.Sites.Places.{NoneComes, Answers}
 use Rattle.triple_meaning.specs.Sites.Seeing.{HasRoom, AreDefined, Sees}
 use Rattle.triple_meaning.specs.Sites.Answering.{Tells}

@@ -21,12 +21,12 @@ use Rattle.store_exec.specs.Runs.{Follows, Branches, RunsItems, RunsCode}
 use Rattle.store_exec.proofs.InductionLemmas.{codes-induction}
 use Rattle.store_exec.proofs.CodeLemmas.{code-cut, code-branch}
 use Rattle.store_exec.proofs.CanRunLemmas.{TailFits, code-fits, branch-fits}
-use Rattle.site_view.specs.States.{State, guard}
-use Rattle.site_view.specs.Reading.{Told}
-use Rattle.site_view.specs.Conditions.{condition}
-use Rattle.site_view.specs.Cuts.{arrived}
-use Rattle.site_view.specs.Codes.{Going, items, tail_rule, code_rule, code}
-use Rattle.site_view.specs.Codes as codes
+use Rattle.site_list.specs.States.{State, guard}
+use Rattle.site_list.specs.Reading.{Told}
+use Rattle.site_list.specs.Conditions.{condition}
+use Rattle.site_list.specs.Cuts.{arrived}
+use Rattle.site_list.specs.Codes.{Going, items, tail_rule, code_rule, code}
+use Rattle.site_list.specs.Codes as codes
 use Rattle.triple_meaning.specs.Sites.Doing.{AreAssertionsMeant}
 use Rattle.triple_meaning.specs.Sites.Ending.{ComesAtCut, EndsAs, EndsCode, AreCutsMeant}
 use Rattle.triple_meaning.proofs.sites.PlacesLemmas.{none-none}

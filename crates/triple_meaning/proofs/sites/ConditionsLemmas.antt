@@ -22,9 +22,9 @@ use Rattle.store_exec.specs.Steps.{and_then, made_of, truth_node, truth_of}
 use Rattle.store_exec.specs.Steps as exec
 use Rattle.graph_view.specs.Syms.{is_same}
 use Rattle.graph_view.specs.After.{Standing, StandsFor}
-use Rattle.site_view.specs.States.{Text, State, Got, both, fails}
-use Rattle.site_view.specs.Reading.{Told, operand_value, path_value}
-use Rattle.site_view.specs.Conditions.{Telling, told_not, cond_rule, condition}
+use Rattle.site_list.specs.States.{Text, State, Got, both, fails}
+use Rattle.site_list.specs.Reading.{Told, operand_value, path_value}
+use Rattle.site_list.specs.Conditions.{Telling, told_not, cond_rule, condition}
 use Rattle.triple_meaning.specs.Sites.Places.{Answers}
 use Rattle.triple_meaning.specs.Sites.Seeing.{HasRoom, AreDefined, Sees}
 use Rattle.triple_meaning.specs.Sites.Answering.{Tells, MeansTruth}

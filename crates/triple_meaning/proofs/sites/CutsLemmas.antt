@@ -21,9 +21,9 @@ use Rattle.store_exec.specs.Cuts.{AreMet, Escapes, IsWrong, AtCut}
 use Rattle.graph_view.specs.declared.view.CutCheck.{CutCheck}
 use Rattle.graph_view.specs.declared.view.CutCheck.TheVariants as look
 use Rattle.graph_view.specs.Cuts.{cut_formula}
-use Rattle.site_view.specs.States.{Text, Check, State, next_track, check, guard, fails, sight, value_of}
-use Rattle.site_view.specs.Parts.{is_part, escapes}
-use Rattle.site_view.specs.Cuts.{claims, check_store, check_stores, check_claims, with_part, arrived_at_call, arrived}
+use Rattle.site_list.specs.States.{Text, Check, State, next_track, check, guard, fails, sight, value_of}
+use Rattle.site_list.specs.Parts.{is_part, escapes}
+use Rattle.site_list.specs.Cuts.{claims, check_store, check_stores, check_claims, with_part, arrived_at_call, arrived}
 use Rattle.triple_meaning.specs.Sites.Places.{Comes, NoneComes, ComesFirst}
 use Rattle.triple_meaning.specs.Sites.Seeing.{HasRoom, Sees, with_more}
 use Rattle.triple_meaning.specs.Sites.Ending.{ComesAtCut, EndsAs, EndsCode, AreConditionsTold, AreConditionsMeant, AreClaimsMeant}

@@ -37,10 +37,10 @@ use Rattle.graph_meaning.specs.Live.Standing.{Sits}
 use Rattle.graph_meaning.proofs.live.AgreeingLemmas.{Agrees-itself}
 use Rattle.graph_meaning.proofs.live.SymsLemmas.{guard-means}
 use Rattle.graph_meaning.proofs.live.StandingLemmas.{new-or-old, new-here, old-here, old-not_new}
-use Rattle.site_view.specs.States.{Text, Check, State, Got, next_track, is_truth_of, guard}
-use Rattle.site_view.specs.Reading.{Told, operand_value}
-use Rattle.site_view.specs.Conditions.{condition}
-use Rattle.site_view.specs.Acts.{made_truth, made_cell, evaluated}
+use Rattle.site_list.specs.States.{Text, Check, State, Got, next_track, is_truth_of, guard}
+use Rattle.site_list.specs.Reading.{Told, operand_value}
+use Rattle.site_list.specs.Conditions.{condition}
+use Rattle.site_list.specs.Acts.{made_truth, made_cell, evaluated}
 use Rattle.triple_meaning.specs.Sites.Places.{Answers}
 use Rattle.triple_meaning.specs.Sites.Seeing.{HasRoom, IsBelow, AreDefined, AreSpare, Sees}
 use Rattle.triple_meaning.specs.Sites.Answering.{Means, Reads, Tells}

@@ -6,7 +6,7 @@ use Rattle.ws2s_core.specs.declared.formula.Formula.TheVariants.{And}
 use Rattle.ws2s_core.proofs.SatisfactionLemmas.{WSat-And}
 use Rattle.ws2s_forms.proofs.LawsLemmas.{decided}
 use Rattle.store_exec.specs.declared.cause.Cause.{Cause}
-use Rattle.site_view.specs.States.{Check}
+use Rattle.site_list.specs.States.{Check}
 use Rattle.triple_meaning.specs.Sites.Places.{Comes, NoneComes, ComesFirst}
 use Rattle.triple_meaning.proofs.sites.PlacesLemmas.{none-none, none-cons, first-right}
 

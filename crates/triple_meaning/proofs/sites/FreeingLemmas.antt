@@ -24,8 +24,8 @@ use Rattle.graph_view.specs.Live.{is_dead}
 use Rattle.graph_view.specs.After.{Standing, StandsForCell, StandsFor, IsTaken, IsSymBelow}
 use Rattle.graph_meaning.proofs.live.TellLemmas.{stands-somewhere}
 use Rattle.graph_meaning.proofs.live.ReadLemmas.{is-some, is-none}
-use Rattle.site_view.specs.States.{Check, State, guard, sight, value_of, happens}
-use Rattle.site_view.specs.Acts.{freed}
+use Rattle.site_list.specs.States.{Check, State, guard, sight, value_of, happens}
+use Rattle.site_list.specs.Acts.{freed}
 use Rattle.triple_meaning.specs.Sites.Places.{Comes, NoneComes, ComesFirst, Answers}
 use Rattle.triple_meaning.specs.Sites.Seeing.{HasRoom, IsBelow, Sees, with_more}
 use Rattle.triple_meaning.specs.Sites.Doing.{Leads}

@@ -8,7 +8,7 @@ use Rattle.store_core.specs.Stores.{StoreMap}
 use Rattle.store_exec.specs.declared.fault.Fault.{Fault}
 use Rattle.store_exec.specs.Runs.{Ending}
 use Rattle.graph_view.specs.After.{Standing, IsTaken, IsGuard, IsGuardBelow}
-use Rattle.site_view.specs.States.{Text, Check, State}
+use Rattle.site_list.specs.States.{Text, Check, State}
 use Rattle.triple_meaning.specs.Sites.Places.{NoneComes}
 use Rattle.triple_meaning.specs.Sites.Seeing.{HasRoom, AreDefined, Sees}
 use Rattle.triple_meaning.specs.Sites.Doing.{Follows, IsIdle, Leads}

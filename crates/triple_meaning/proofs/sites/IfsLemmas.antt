@@ -18,9 +18,9 @@ use Rattle.graph_view.specs.declared.view.Sym.TheVariants.{At}
 use Rattle.graph_view.specs.declared.view.Event.{Event}
 use Rattle.graph_view.specs.Syms.{is_same}
 use Rattle.graph_view.specs.After.{Standing, StandsFor, IsSeen, IsTaken, IsGuard, IsGuardBelow, AreEventsBelow}
-use Rattle.site_view.specs.States.{Text, State, next_track, is_truth_of, guard, both, fails}
-use Rattle.site_view.specs.Reading.{Told}
-use Rattle.site_view.specs.Codes.{Going, with_ways, on_way, Merging, merged, plain_if}
+use Rattle.site_list.specs.States.{Text, State, next_track, is_truth_of, guard, both, fails}
+use Rattle.site_list.specs.Reading.{Told}
+use Rattle.site_list.specs.Codes.{Going, with_ways, on_way, Merging, merged, plain_if}
 use Rattle.triple_meaning.specs.Sites.Places.{Answers}
 use Rattle.triple_meaning.specs.Sites.Seeing.{IsOver, HasRoom, IsBelow, AreDefined, AreSpare, Sees, with_more}
 use Rattle.triple_meaning.specs.Sites.Answering.{Tells}

@@ -16,12 +16,12 @@ use Rattle.store_exec.specs.Runs.{Does, ByTruth, RunsItem, RunsItems}
 use Rattle.store_exec.proofs.InductionLemmas.{items-induction}
 use Rattle.store_exec.proofs.RunLemmas.{RunsItem-Do, RunsItem-If}
 use Rattle.store_exec.proofs.GoingLemmas.{ItemFits-Do, ItemFits-If}
-use Rattle.site_view.specs.States.{State, guard}
-use Rattle.site_view.specs.Reading.{Told}
-use Rattle.site_view.specs.Conditions.{condition}
-use Rattle.site_view.specs.Acts.{act_rule}
-use Rattle.site_view.specs.Codes.{Going, in_order, plain_if, item_rule, items}
-use Rattle.site_view.specs.Codes as codes
+use Rattle.site_list.specs.States.{State, guard}
+use Rattle.site_list.specs.Reading.{Told}
+use Rattle.site_list.specs.Conditions.{condition}
+use Rattle.site_list.specs.Acts.{act_rule}
+use Rattle.site_list.specs.Codes.{Going, in_order, plain_if, item_rule, items}
+use Rattle.site_list.specs.Codes as codes
 use Rattle.triple_meaning.specs.Sites.Doing.{Leads, AreAssertionsMeant}
 use Rattle.triple_meaning.proofs.sites.ConditionsLemmas.{condition-means}
 use Rattle.triple_meaning.proofs.sites.ActsLemmas.{leads-by, assignment-leads, freeing-leads}

@@ -40,7 +40,7 @@ use Rattle.graph_meaning.proofs.live.TellLemmas.{NamesPlaced}
 use Rattle.graph_meaning.proofs.live.SeenLemmas.{seen-sits, lives-means, seen-is_live, seen-has, seen-is_dead, seen-is_true}
 use Rattle.graph_meaning.specs.Walks.Wells.{ShowsWell}
 use Rattle.graph_meaning.proofs.walks.SeenLemmas.{names-told, named-placed}
-use Rattle.site_view.specs.States.{State, sight}
+use Rattle.site_list.specs.States.{State, sight}
 use Rattle.triple_meaning.specs.Sites.Seeing.{Sees}
 
 -- the events of a state, the first one first

@@ -17,8 +17,8 @@ use Rattle.graph_view.specs.declared.view.Sym.{Sym}
 use Rattle.graph_view.specs.declared.view.Sym.TheVariants.{Null, At}
 use Rattle.graph_view.specs.Syms.{is_same}
 use Rattle.graph_view.specs.After.{Standing, StandsFor, IsTaken, IsGuard, IsSymBelow}
-use Rattle.site_view.specs.States.{Text, State, next_track, define, is_truth_of}
-use Rattle.site_view.specs.Codes.{is_sym, is_merged, Merging, behind, merged}
+use Rattle.site_list.specs.States.{Text, State, next_track, define, is_truth_of}
+use Rattle.site_list.specs.Codes.{is_sym, is_merged, Merging, behind, merged}
 use Rattle.triple_meaning.specs.Sites.Seeing.{HasRoom, AreDefined, with_more}
 use Rattle.triple_meaning.proofs.sites.PlacesLemmas.{All-left, All-right}
 use Rattle.triple_meaning.proofs.sites.StatesLemmas.{more-none}

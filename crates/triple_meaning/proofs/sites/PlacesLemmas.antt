@@ -5,7 +5,7 @@ use Rattle.std.proofs.lemmas.List.Elements.{All-nil, All-cons, All-append}
 use Rattle.gta_theory.specs.Assignments.{Assignment}
 use Rattle.store_exec.specs.declared.cause.Cause.{Cause}
 use Rattle.store_exec.specs.Steps.{and_then, made_of}
-use Rattle.site_view.specs.States.{Check}
+use Rattle.site_list.specs.States.{Check}
 use Rattle.triple_meaning.specs.Sites.Places.{Comes, NoneComes, ComesFirst, StopsAs, Answers}
 
 pub All-left : {X : Type 0} (P : X → Type 0) (xs ys : List X) → All P (xs ++ ys) → All P xs

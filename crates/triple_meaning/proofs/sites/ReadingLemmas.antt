@@ -48,8 +48,8 @@ use Rattle.graph_meaning.specs.Live.Fields.{FieldNamesAt}
 use Rattle.graph_meaning.proofs.live.AgreeingLemmas.{Agrees-bound, IsOnly-bound, IsOnly-still, member-agreed}
 use Rattle.graph_meaning.proofs.live.ReadLemmas.{is-some}
 use Rattle.graph_meaning.proofs.live.SeenLemmas.{value-fits}
-use Rattle.site_view.specs.States.{Text, State, Got, next_track, define, sight, value_of}
-use Rattle.site_view.specs.Reading.{check_access, is_read, read, read_along, path_value, operand_value}
+use Rattle.site_list.specs.States.{Text, State, Got, next_track, define, sight, value_of}
+use Rattle.site_list.specs.Reading.{check_access, is_read, read, read_along, path_value, operand_value}
 use Rattle.triple_meaning.specs.Sites.Places.{Answers}
 use Rattle.triple_meaning.specs.Sites.Seeing.{HasRoom, AreDefined, Sees, with_more}
 use Rattle.triple_meaning.specs.Sites.Answering.{Reads}

@@ -8,7 +8,7 @@ use Rattle.store_core.specs.Stores.{StoreMap}
 use Rattle.store_exec.specs.declared.cause.Cause.{Cause}
 use Rattle.store_exec.specs.Steps.{and_then, made_of}
 use Rattle.graph_view.specs.After.{Standing}
-use Rattle.site_view.specs.States.{Text, Check, State}
+use Rattle.site_list.specs.States.{Text, Check, State}
 use Rattle.triple_meaning.specs.Sites.Places.{NoneComes, Answers}
 use Rattle.triple_meaning.specs.Sites.Seeing.{HasRoom, IsBelow, AreDefined, Sees, with_more}
 use Rattle.triple_meaning.specs.Sites.Answering.{Means}

@@ -18,10 +18,10 @@ use Rattle.store_exec.specs.Fits.{CodeFits}
 use Rattle.store_exec.specs.Runs.{RunsCode}
 use Rattle.tree_encode.specs.Tracks.{track_count}
 use Rattle.graph_view.specs.After.{Standing, IsTaken}
-use Rattle.site_view.specs.States.{Text, State, next_track, sight, value_of}
-use Rattle.site_view.specs.Parts.{is_part}
-use Rattle.site_view.specs.Cuts.{with_part}
-use Rattle.site_view.specs.Triples.{at_start, started, walked}
+use Rattle.site_list.specs.States.{Text, State, next_track, sight, value_of}
+use Rattle.site_list.specs.Parts.{is_part}
+use Rattle.site_list.specs.Cuts.{with_part}
+use Rattle.site_list.specs.Triples.{at_start, started, walked}
 use Rattle.triple_meaning.specs.Sites.Places.{NoneComes, ComesFirst}
 use Rattle.triple_meaning.specs.Sites.Seeing.{IsOver, HasRoom, AreDefined, Sees}
 use Rattle.triple_meaning.specs.Sites.Doing.{AreAssertionsMeant}

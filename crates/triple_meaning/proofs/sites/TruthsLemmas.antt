@@ -43,9 +43,9 @@ use Rattle.graph_meaning.proofs.live.AgreeingLemmas.{Agrees-bound, IsOnly-bound}
 use Rattle.graph_meaning.proofs.live.LiveLemmas.{same-variant, variant-same}
 use Rattle.graph_meaning.proofs.live.ReadLemmas.{is-some, is-none}
 use Rattle.graph_meaning.proofs.live.FieldsLemmas.{truth-means}
-use Rattle.site_view.specs.States.{Text, Check, State, Got, sight, value_of}
-use Rattle.site_view.specs.Reading.{Told, check_cell, check_access, is_true_of, is_of_variant, read, truth_along, truth_at, path_truth}
-use Rattle.site_view.specs.Conditions.{told_variant}
+use Rattle.site_list.specs.States.{Text, Check, State, Got, sight, value_of}
+use Rattle.site_list.specs.Reading.{Told, check_cell, check_access, is_true_of, is_of_variant, read, truth_along, truth_at, path_truth}
+use Rattle.site_list.specs.Conditions.{told_variant}
 use Rattle.triple_meaning.specs.Sites.Places.{StopsAs, Answers}
 use Rattle.triple_meaning.specs.Sites.Seeing.{Sees}
 use Rattle.triple_meaning.specs.Sites.Answering.{Tells}

@@ -20,11 +20,11 @@ use Rattle.graph_view.specs.Sights.{var_slots}
 use Rattle.graph_view.specs.Syms.{is_null}
 use Rattle.graph_view.specs.Live.{is_dead}
 use Rattle.graph_view.specs.After.{IsSymBelow}
-use Rattle.site_view.specs.States.{State, Got, next_track, is_truth_of, check, guard, fails, sight, value_of, happens}
-use Rattle.site_view.specs.Reading.{Told, lacks, check_cell, read}
-use Rattle.site_view.specs.Conditions.{condition}
-use Rattle.site_view.specs.Claims.{assertion}
-use Rattle.site_view.specs.Acts.{made_truth, made_cell, evaluated, write_field, write_along, assigned, freed, asserted, act_rule}
+use Rattle.site_list.specs.States.{State, Got, next_track, is_truth_of, check, guard, fails, sight, value_of, happens}
+use Rattle.site_list.specs.Reading.{Told, lacks, check_cell, read}
+use Rattle.site_list.specs.Conditions.{condition}
+use Rattle.site_list.specs.Claims.{assertion}
+use Rattle.site_list.specs.Acts.{made_truth, made_cell, evaluated, write_field, write_along, assigned, freed, asserted, act_rule}
 use Rattle.triple_meaning.proofs.tracks.BelowLemmas.{sym-later}
 use Rattle.triple_meaning.proofs.tracks.ValuesLemmas.{truth-defining, slot-defining}
 use Rattle.triple_meaning.proofs.tracks.KeptLemmas.{value-below, IsKept, Keeps, KeepsGot, KeepsTold, keeps-itself, keeps-then, next-later, keeps-made, kept-check, kept-check_cell, by-access, kept-event, kept-value}

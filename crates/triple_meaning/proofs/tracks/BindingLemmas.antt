@@ -13,8 +13,8 @@ use Rattle.ws2s_core.proofs.SatisfactionLemmas.{WSat-And, WSat-Ex2}
 use Rattle.ws2s_core.proofs.TracksLemmas.{WSat-free}
 use Rattle.ws2s_theory.proofs.ContextsLemmas.{IsFinite-replace, WSat-unbound}
 use Rattle.ws2s_forms.specs.Forms.{track}
-use Rattle.site_view.specs.States.{Text}
-use Rattle.site_view.specs.Triples.{bind}
+use Rattle.site_list.specs.States.{Text}
+use Rattle.site_list.specs.Triples.{bind}
 use Rattle.triple_meaning.specs.Tracks.Defining.{IsDefining, AreDefining, IsWithOthers}
 use Rattle.triple_meaning.proofs.tracks.ClearLemmas.{above, below}
 use Rattle.triple_meaning.proofs.tracks.ShortLemmas.{less-or}

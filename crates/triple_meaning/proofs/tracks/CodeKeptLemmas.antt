@@ -27,14 +27,14 @@ use Rattle.graph_view.specs.declared.view.Sym.{Sym}
 use Rattle.graph_view.specs.declared.view.Sym.TheVariants.{At}
 use Rattle.graph_view.specs.Sights.{var_slots}
 use Rattle.graph_view.specs.After.{IsSymBelow}
-use Rattle.site_view.specs.States.{Text, State, next_track, define, is_truth_of, guard, both, fails, sight, value_of}
-use Rattle.site_view.specs.Reading.{Told}
-use Rattle.site_view.specs.Conditions.{condition}
-use Rattle.site_view.specs.Parts.{is_part}
-use Rattle.site_view.specs.Cuts.{check_stores, check_claims, with_part, arrived_at_call, arrived}
-use Rattle.site_view.specs.Acts.{act_rule}
-use Rattle.site_view.specs.Codes.{Going, in_order, with_ways, on_way, is_sym, is_merged, Merging, behind, merged, plain_if, item_rule, items, branch, tail_rule, code_rule, code}
-use Rattle.site_view.specs.Codes as codes
+use Rattle.site_list.specs.States.{Text, State, next_track, define, is_truth_of, guard, both, fails, sight, value_of}
+use Rattle.site_list.specs.Reading.{Told}
+use Rattle.site_list.specs.Conditions.{condition}
+use Rattle.site_list.specs.Parts.{is_part}
+use Rattle.site_list.specs.Cuts.{check_stores, check_claims, with_part, arrived_at_call, arrived}
+use Rattle.site_list.specs.Acts.{act_rule}
+use Rattle.site_list.specs.Codes.{Going, in_order, with_ways, on_way, is_sym, is_merged, Merging, behind, merged, plain_if, item_rule, items, branch, tail_rule, code_rule, code}
+use Rattle.site_list.specs.Codes as codes
 use Rattle.triple_meaning.specs.Tracks.Defining.{IsDefining}
 use Rattle.triple_meaning.proofs.tracks.BelowLemmas.{sym-later, guard-later, syms-later, events-later}
 use Rattle.triple_meaning.proofs.tracks.ValuesLemmas.{IsSteady, steady-more, truth-defining, merged-defining}

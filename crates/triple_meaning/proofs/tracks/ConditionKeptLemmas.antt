@@ -9,9 +9,9 @@ use Rattle.store_logic.specs.declared.cond.Cond.TheFolds.{ind-Cond, map-Cond, fo
 use Rattle.store_logic.specs.Sorts.{Truth, Cell}
 use Rattle.store_logic.specs.FitsCode.{CondFitsNode, CondFits}
 use Rattle.graph_view.specs.Syms.{is_same}
-use Rattle.site_view.specs.States.{Text, State, Got, next_track, both, fails}
-use Rattle.site_view.specs.Reading.{Told, path_value, operand_value}
-use Rattle.site_view.specs.Conditions.{Telling, cond_rule, condition}
+use Rattle.site_list.specs.States.{Text, State, Got, next_track, both, fails}
+use Rattle.site_list.specs.Reading.{Told, path_value, operand_value}
+use Rattle.site_list.specs.Conditions.{Telling, cond_rule, condition}
 use Rattle.triple_meaning.proofs.tracks.ClearLemmas.{clear-true, clear-false, clear-or}
 use Rattle.triple_meaning.proofs.tracks.SightClearLemmas.{clear-is_same}
 use Rattle.triple_meaning.proofs.tracks.BelowLemmas.{sym-later}

@@ -16,8 +16,8 @@ use Rattle.graph_view.specs.declared.view.Sym.{Sym}
 use Rattle.graph_view.specs.declared.view.Sym.TheVariants.{Null}
 use Rattle.graph_view.specs.declared.view.Event.{Event}
 use Rattle.graph_view.specs.After.{IsSymBelow, IsGuardBelow, IsEventBelow, AreEventsBelow}
-use Rattle.site_view.specs.States.{Text, State, Got, next_track, define, make, check, guard, both, fails, sight, value_of, with_value, happens}
-use Rattle.site_view.specs.Reading.{Told, lacks, check_cell, check_access}
+use Rattle.site_list.specs.States.{Text, State, Got, next_track, define, make, check, guard, both, fails, sight, value_of, with_value, happens}
+use Rattle.site_list.specs.Reading.{Told, lacks, check_cell, check_access}
 use Rattle.triple_meaning.specs.Tracks.Defining.{IsDefining, AreDefining}
 use Rattle.triple_meaning.proofs.tracks.ClearLemmas.{clear-And, clear-Not}
 use Rattle.triple_meaning.proofs.tracks.SightClearLemmas.{clear-guard}

@@ -25,7 +25,7 @@ use Rattle.graph_meaning.specs.Live.Meaning.{Agrees, MeansPairs}
 use Rattle.graph_meaning.proofs.live.AgreeingLemmas.{Agrees-itself, Agrees-set, Agrees-bound, IsOnly-bound}
 use Rattle.graph_meaning.proofs.live.SymsLemmas.{on-agreed}
 use Rattle.graph_meaning.proofs.walks.ClosingLemmas.{IsClosed, left-means}
-use Rattle.site_view.specs.Parts.{is_part}
+use Rattle.site_list.specs.Parts.{is_part}
 use Rattle.triple_meaning.specs.Tracks.Defining.{IsDefining}
 use Rattle.triple_meaning.proofs.tracks.ClearLemmas.{above, below, later, clear-Sub, clear-And, clear-imp, clear-all2}
 use Rattle.triple_meaning.proofs.tracks.SightClearLemmas.{IsSightBelow}

@@ -19,8 +19,8 @@ use Rattle.graph_view.specs.Syms.{is_in}
 use Rattle.graph_view.specs.Live.{lives}
 use Rattle.graph_view.specs.Fields.{is_true}
 use Rattle.graph_view.specs.After.{IsSymBelow}
-use Rattle.site_view.specs.States.{Text, State, Got, next_track, make, check, sight, value_of}
-use Rattle.site_view.specs.Reading.{lacks, check_cell, check_access, is_read, read, read_along, path_value, operand_value, is_true_of, truth_along, truth_at, path_truth, is_of_variant}
+use Rattle.site_list.specs.States.{Text, State, Got, next_track, make, check, sight, value_of}
+use Rattle.site_list.specs.Reading.{lacks, check_cell, check_access, is_read, read, read_along, path_value, operand_value, is_true_of, truth_along, truth_at, path_truth, is_of_variant}
 use Rattle.triple_meaning.proofs.tracks.ClearLemmas.{above, later, clear-And, clear-ex1}
 use Rattle.triple_meaning.proofs.tracks.SightClearLemmas.{clear-is_in, clear-truth, IsSightBelow, clear-lives, clear-is_true}
 use Rattle.triple_meaning.proofs.tracks.BelowLemmas.{sym-later, events-later, var-track}

@@ -22,7 +22,7 @@ use Rattle.graph_view.specs.Syms.{is_in}
 use Rattle.graph_view.specs.Routes.{names}
 use Rattle.graph_view.specs.After.{IsSymBelow, AreEventsBelow}
 use Rattle.graph_meaning.proofs.live.AgreeingLemmas.{Agrees-itself, Agrees-bound, IsOnly-bound, IsOnly-still}
-use Rattle.site_view.specs.Reading.{is_read}
+use Rattle.site_list.specs.Reading.{is_read}
 use Rattle.triple_meaning.specs.Tracks.Defining.{IsDefining}
 use Rattle.triple_meaning.proofs.tracks.ClearLemmas.{above, below, later, IsClear, clear-unfree, clear-Sub, clear-And, clear-ex1, clear-all1, clear-iff}
 use Rattle.triple_meaning.proofs.tracks.SightClearLemmas.{clear-is_in, IsSightBelow}

@@ -14,9 +14,9 @@ use Rattle.tree_store.proofs.ListsLemmas.{named-inside}
 use Rattle.tree_store.proofs.TablesLemmas.{number_of_var}
 use Rattle.graph_view.specs.declared.view.Sym.TheVariants.{At}
 use Rattle.graph_view.specs.After.{IsSymBelow}
-use Rattle.site_view.specs.States.{next_track}
-use Rattle.site_view.specs.Cuts.{with_part}
-use Rattle.site_view.specs.Triples.{at_start, started, walked}
+use Rattle.site_list.specs.States.{next_track}
+use Rattle.site_list.specs.Cuts.{with_part}
+use Rattle.site_list.specs.Triples.{at_start, started, walked}
 use Rattle.triple_meaning.proofs.tracks.KeptLemmas.{IsKept}
 use Rattle.triple_meaning.proofs.tracks.CodeKeptLemmas.{part-kept, code-kept}
 

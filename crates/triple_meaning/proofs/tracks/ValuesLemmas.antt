@@ -18,8 +18,8 @@ use Rattle.graph_view.specs.declared.view.Sym.TheVariants.{Null, At}
 use Rattle.graph_view.specs.Syms.{is_same}
 use Rattle.graph_view.specs.After.{IsSymBelow}
 use Rattle.graph_meaning.proofs.live.AgreeingLemmas.{IsOnly-bound}
-use Rattle.site_view.specs.States.{Text, is_truth_of}
-use Rattle.site_view.specs.Codes.{is_merged}
+use Rattle.site_list.specs.States.{Text, is_truth_of}
+use Rattle.site_list.specs.Codes.{is_merged}
 use Rattle.triple_meaning.specs.Tracks.Defining.{IsDefining}
 use Rattle.triple_meaning.proofs.tracks.ClearLemmas.{below, IsClear, clear-unfree, clear-Root, clear-And, clear-Not, clear-or, clear-empty, clear-flag, clear-slot}
 use Rattle.triple_meaning.proofs.tracks.SightClearLemmas.{clear-is_same}

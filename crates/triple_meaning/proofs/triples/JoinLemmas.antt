@@ -33,9 +33,9 @@ use Rattle.graph_meaning.proofs.cuts.DanglingLemmas.{dangles-means}
 use Rattle.graph_meaning.proofs.cuts.SharedLemmas.{shares-means}
 use Rattle.graph_meaning.proofs.cuts.LeakLemmas.{leaks-means}
 use Rattle.graph_meaning.proofs.cuts.WrongLemmas.{wrong-means}
-use Rattle.site_view.specs.States.{State, sight, value_of, next_track}
-use Rattle.site_view.specs.Parts.{is_part, escapes}
-use Rattle.site_view.specs.Cuts.{claims}
+use Rattle.site_list.specs.States.{State, sight, value_of, next_track}
+use Rattle.site_list.specs.Parts.{is_part, escapes}
+use Rattle.site_list.specs.Cuts.{claims}
 use Rattle.triple_meaning.specs.Claims.Given.{IsGiven, IsRegionOf, NameLive}
 use Rattle.triple_meaning.specs.Claims.Stating.{view_of}
 use Rattle.triple_meaning.proofs.claims.EscapeLemmas.{escapes-means}

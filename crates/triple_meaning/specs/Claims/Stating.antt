@@ -2,7 +2,7 @@
 use Rattle.std.specs.Prelude.{List, reverse, None}
 use Rattle.store_core.specs.Tables.{TypeEntry, VarEntry}
 use Rattle.graph_view.specs.declared.view.View.{View}
-use Rattle.site_view.specs.States.{State, next_track}
+use Rattle.site_list.specs.States.{State, next_track}
 
 -- all cells, behind the events of the state
 abbrev pub view_of : List TypeEntry → List VarEntry → State → View

@@ -12,7 +12,7 @@ use Rattle.store_exec.specs.Fits.{TripleFits}
 use Rattle.store_ends.specs.Places.{places_of}
 use Rattle.witness_store.specs.Alike.{AreFunctional}
 use Rattle.triple_meaning.specs.Claims.Given.{IsRegionOf}
-use Rattle.site_view.specs.Triples.{passed, site_formula}
+use Rattle.site_list.specs.Triples.{passed, site_formula}
 use Rattle.triple_meaning.specs.Triples.Parted.{AreParted}
 
 -- every pointer field is functional, the triple fits its tables, each tail of its code names one of its cuts, and each claim is on all

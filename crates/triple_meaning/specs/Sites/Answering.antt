@@ -7,9 +7,9 @@ use Rattle.store_core.specs.declared.value.Value.{Value}
 use Rattle.store_core.specs.Stores.{StoreMap}
 use Rattle.store_exec.specs.declared.cause.Cause.{Cause}
 use Rattle.graph_view.specs.After.{Standing, StandsFor, IsSymBelow}
-use Rattle.site_view.specs.States.{Text, Check, State, Got}
-use Rattle.site_view.specs.Reading.{Told}
-use Rattle.site_view.specs.Conditions.{Telling}
+use Rattle.site_list.specs.States.{Text, Check, State, Got}
+use Rattle.site_list.specs.Reading.{Told}
+use Rattle.site_list.specs.Conditions.{Telling}
 use Rattle.triple_meaning.specs.Sites.Places.{NoneComes, Answers}
 use Rattle.triple_meaning.specs.Sites.Seeing.{HasRoom, IsBelow, AreDefined, Sees, with_more}
 

@@ -11,8 +11,8 @@ use Rattle.store_logic.specs.Satisfaction.{SatAll}
 use Rattle.store_exec.specs.Runs.{Ending}
 use Rattle.graph_view.specs.declared.view.Sym.{Sym}
 use Rattle.graph_view.specs.After.{Standing, IsSeen, IsTaken, IsGuard, IsGuardBelow}
-use Rattle.site_view.specs.States.{Text, Check, State, sight}
-use Rattle.site_view.specs.Claims.{assertion}
+use Rattle.site_list.specs.States.{Text, Check, State, sight}
+use Rattle.site_list.specs.Claims.{assertion}
 use Rattle.triple_meaning.specs.Sites.Places.{NoneComes, ComesFirst}
 use Rattle.triple_meaning.specs.Sites.Seeing.{HasRoom, IsBelow, AreDefined, Sees}
 

@@ -17,9 +17,9 @@ use Rattle.store_exec.specs.Cuts.{AreMet, Escapes, AtCut}
 use Rattle.graph_view.specs.declared.view.CutCheck.TheVariants as look
 use Rattle.graph_view.specs.Cuts.{cut_formula}
 use Rattle.graph_view.specs.After.{Standing, IsTaken, IsGuard, IsGuardBelow}
-use Rattle.site_view.specs.States.{Text, Check, State, sight, value_of}
-use Rattle.site_view.specs.Parts.{is_part, escapes}
-use Rattle.site_view.specs.Cuts.{claims, arrived}
+use Rattle.site_list.specs.States.{Text, Check, State, sight, value_of}
+use Rattle.site_list.specs.Parts.{is_part, escapes}
+use Rattle.site_list.specs.Cuts.{claims, arrived}
 use Rattle.triple_meaning.specs.Sites.Places.{NoneComes, ComesFirst}
 use Rattle.triple_meaning.specs.Sites.Seeing.{HasRoom, AreDefined, Sees}
 

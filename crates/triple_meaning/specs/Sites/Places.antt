@@ -3,7 +3,7 @@ use Rattle.std.specs.Prelude.{◌≡◌, ℕ, List, ◌∷◌, ◌++◌, All, If
 use Rattle.gta_theory.specs.Assignments.{Assignment}
 use Rattle.ws2s_core.specs.Satisfaction.{WSat}
 use Rattle.store_exec.specs.declared.cause.Cause.{Cause}
-use Rattle.site_view.specs.States.{Check}
+use Rattle.site_list.specs.States.{Check}
 
 -- the cause comes at the place: it is reached, and its condition holds
 abbrev pub Comes : ℕ → Assignment → Check → Type 0

@@ -12,7 +12,7 @@ use Rattle.tree_store.specs.Encoding.{IsAssignmentOf}
 use Rattle.ws2s_forms.specs.Places.{slot_of}
 use Rattle.graph_view.specs.Sights.{var_slots}
 use Rattle.graph_view.specs.After.{Standing, IsAt, IsSeen, IsGuard, IsSymBelow, IsGuardBelow, AreEventsBelow}
-use Rattle.site_view.specs.States.{Text, Check, State}
+use Rattle.site_list.specs.States.{Text, Check, State}
 
 -- the assignment is of finite sets, those of the tree of a well-formed store
 pub record IsOver (types : List TypeEntry) (vars : List VarEntry) (a : Assignment) (first : StoreMap) : Type 0 where

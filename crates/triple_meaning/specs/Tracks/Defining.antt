@@ -6,7 +6,7 @@ use Rattle.ws2s_core.specs.Satisfaction.{WSat}
 use Rattle.ws2s_core.specs.Tracks.{IsFree}
 use Rattle.store_core.specs.Tables.{TypeEntry, VarEntry}
 use Rattle.tree_encode.specs.Tracks.{track_count}
-use Rattle.site_view.specs.States.{Text, State}
+use Rattle.site_list.specs.States.{Text, State}
 
 -- no track from this number on, below those that quantifiers bind, is free in the text's formula
 abbrev pub LooksBelow : ℕ → Text → Type 0

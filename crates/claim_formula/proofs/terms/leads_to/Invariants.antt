@@ -1,7 +1,7 @@
 use Rattle.std.proofs.Common.{◌≡◌, ◌+◌, take, reverse, length}
 use Rattle.ws2s_forms.specs.Targets.{target}
 use Rattle.graph_view.specs.Sights.{sight_of}
-use Rattle.site_view.specs.Claims.{leads_to}
+use Rattle.site_list.specs.Claims.{leads_to}
 use Rattle.claim_formula.proofs.terms.leads_to.Given as goal
 
 -- the fields so far lead to the cell before those that are left

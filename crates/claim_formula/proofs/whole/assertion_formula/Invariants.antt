@@ -1,6 +1,6 @@
 use Rattle.std.proofs.Common.{◌≡◌, [], ◌∷◌}
 use Rattle.graph_view.specs.Sights.{sight_of}
-use Rattle.site_view.specs.Claims.{assertion}
+use Rattle.site_list.specs.Claims.{assertion}
 use Rattle.claim_formula.specs.Tasks.{done, weight_of}
 use Rattle.claim_formula.proofs.whole.assertion_formula.Given as goal
 

@@ -1,5 +1,5 @@
 use Rattle.std.proofs.Common.{ap, ◌∙◌}
-use Rattle.site_view.specs.States.{guard, value_of}
+use Rattle.site_list.specs.States.{guard, value_of}
 use Rattle.pred_transform.proofs.ShownLemmas.{guard-shown}
 use Rattle.pred_transform.proofs.ActLemmas.{field-assigned}
 use Rattle.pred_transform.proofs.acts.assign_field.Goals as goal

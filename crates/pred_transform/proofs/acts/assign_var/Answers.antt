@@ -1,4 +1,4 @@
-use Rattle.site_view.specs.Acts.{evaluated}
+use Rattle.site_list.specs.Acts.{evaluated}
 use Rattle.pred_transform.proofs.ActLemmas.{var-assigned}
 use Rattle.pred_transform.proofs.acts.assign_var.Goals as goal
 

@@ -3,7 +3,7 @@ use Rattle.ws2s_core.specs.declared.formula.Formula.{Formula}
 use Rattle.ws2s_core.specs.declared.formula.Formula.TheVariants.{Not}
 use Rattle.graph_view.specs.Sights.{sight_of}
 use Rattle.graph_view.specs.declared.view.View.{View}
-use Rattle.site_view.specs.Claims.{assertion}
+use Rattle.site_list.specs.Claims.{assertion}
 use Rattle.pred_transform.proofs.ActLemmas.{on_ok_then, place-found}
 use Rattle.pred_transform.proofs.acts.check_assertion.Goals as goal
 

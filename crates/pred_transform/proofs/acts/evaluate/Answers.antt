@@ -1,7 +1,7 @@
 use Rattle.store_logic.specs.declared.act.Rhs.TheVariants as rhs
-use Rattle.site_view.specs.States.{guard}
-use Rattle.site_view.specs.Reading.{Told}
-use Rattle.site_view.specs.Conditions.{condition}
+use Rattle.site_list.specs.States.{guard}
+use Rattle.site_list.specs.Reading.{Told}
+use Rattle.site_list.specs.Conditions.{condition}
 use Rattle.pred_transform.proofs.ShownLemmas.{guard-shown}
 use Rattle.pred_transform.proofs.ActLemmas.{evaluated-by}
 use Rattle.pred_transform.proofs.acts.evaluate.Goals as goal

@@ -1,6 +1,6 @@
 use Rattle.std.proofs.Common.{ap, ◌∙◌}
-use Rattle.site_view.specs.States.{value_of}
-use Rattle.site_view.specs.Acts.{freed}
+use Rattle.site_list.specs.States.{value_of}
+use Rattle.site_list.specs.Acts.{freed}
 use Rattle.graph_view.specs.declared.view.Sym.{Sym}
 use Rattle.pred_transform.specs.declared.walker.Walker.{Walker}
 use Rattle.pred_transform.specs.Shown.{shown}

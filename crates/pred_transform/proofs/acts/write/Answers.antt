@@ -1,4 +1,4 @@
-use Rattle.site_view.specs.States.{guard}
+use Rattle.site_list.specs.States.{guard}
 use Rattle.pred_transform.proofs.ShownLemmas.{guard-shown}
 use Rattle.pred_transform.proofs.ActLemmas.{field-written}
 use Rattle.pred_transform.proofs.acts.write.Goals as goal

@@ -1,5 +1,5 @@
 use Rattle.std.proofs.Common.{◌≡◌, reverse, length}
-use Rattle.site_view.specs.Triples.{bind}
+use Rattle.site_list.specs.Triples.{bind}
 use Rattle.pred_transform.proofs.binding.bind.Given as goal
 
 -- what is bound so far, with the rest bound around it, is the whole

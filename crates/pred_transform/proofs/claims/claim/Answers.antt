@@ -1,6 +1,6 @@
 use Rattle.std.proofs.Common.{ap, ◌∙◌}
 use Rattle.graph_view.specs.Sights.{sight_of}
-use Rattle.site_view.specs.Claims.{assertion}
+use Rattle.site_list.specs.Claims.{assertion}
 use Rattle.pred_transform.proofs.claims.claim.Goals as goal
 
 pub returns-clause-value : goal.returns-clause-value

@@ -1,6 +1,6 @@
 use Rattle.std.proofs.Common.{◌≡◌, map, take}
 use Rattle.graph_view.specs.Sights.{sight_of}
-use Rattle.site_view.specs.Claims.{claim}
+use Rattle.site_list.specs.Claims.{claim}
 use Rattle.pred_transform.proofs.claims.claims.Given as goal
 
 abbrev pub invariant-loop-next : goal.invariant-loop-next

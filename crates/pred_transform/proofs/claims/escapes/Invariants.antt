@@ -1,6 +1,6 @@
 use Rattle.std.proofs.Common.{◌≡◌, flat_map}
 use Rattle.tree_formula.specs.WellEncoded.{named, var_id}
-use Rattle.site_view.specs.Parts.{astray_of}
+use Rattle.site_list.specs.Parts.{astray_of}
 use Rattle.pred_transform.proofs.claims.escapes.Given as goal
 
 abbrev pub invariant-loop-index : goal.invariant-loop-index

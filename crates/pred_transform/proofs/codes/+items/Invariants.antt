@@ -1,5 +1,5 @@
 use Rattle.std.proofs.Common.{take}
-use Rattle.site_view.specs.Codes.{items}
+use Rattle.site_list.specs.Codes.{items}
 use Rattle.pred_transform.specs.Shown.{Leads}
 use Rattle.pred_transform.proofs.codes.+items.Given as goal
 

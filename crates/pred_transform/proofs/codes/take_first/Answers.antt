@@ -1,8 +1,8 @@
 use Rattle.std.proofs.Common.{◌∙◌}
-use Rattle.site_view.specs.States.{guard, next_track}
-use Rattle.site_view.specs.Reading.{Told}
-use Rattle.site_view.specs.Conditions.{condition}
-use Rattle.site_view.specs.Codes.{with_ways}
+use Rattle.site_list.specs.States.{guard, next_track}
+use Rattle.site_list.specs.Reading.{Told}
+use Rattle.site_list.specs.Conditions.{condition}
+use Rattle.site_list.specs.Codes.{with_ways}
 use Rattle.pred_transform.proofs.CodeLemmas.{fork-taken}
 use Rattle.pred_transform.proofs.codes.take_first.Goals as goal
 

@@ -1,6 +1,6 @@
-use Rattle.site_view.specs.States.{guard}
-use Rattle.site_view.specs.Reading.{Told}
-use Rattle.site_view.specs.Conditions.{condition}
+use Rattle.site_list.specs.States.{guard}
+use Rattle.site_list.specs.Reading.{Told}
+use Rattle.site_list.specs.Conditions.{condition}
 use Rattle.pred_transform.proofs.ShownLemmas.{guard-shown}
 use Rattle.pred_transform.proofs.codes.ways.Goals as goal
 

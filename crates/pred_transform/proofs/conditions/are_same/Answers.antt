@@ -1,4 +1,4 @@
-use Rattle.site_view.specs.Reading.{operand_value}
+use Rattle.site_list.specs.Reading.{operand_value}
 use Rattle.pred_transform.proofs.ConditionLemmas.{same-told}
 use Rattle.pred_transform.proofs.conditions.are_same.Goals as goal
 

@@ -1,4 +1,4 @@
-use Rattle.site_view.specs.Reading.{path_value}
+use Rattle.site_list.specs.Reading.{path_value}
 use Rattle.pred_transform.proofs.ConditionLemmas.{variant-told}
 use Rattle.pred_transform.proofs.conditions.path_is.Goals as goal
 

@@ -1,9 +1,9 @@
 use Rattle.std.proofs.Common.{Some, ap, ◌∙◌}
 use Rattle.ws2s_core.specs.declared.formula.Formula.TheVariants.{Not}
 use Rattle.graph_view.specs.Sights.{sight_of}
-use Rattle.site_view.specs.States.{next_track}
-use Rattle.site_view.specs.Parts.{escapes}
-use Rattle.site_view.specs.Cuts.{with_part}
+use Rattle.site_list.specs.States.{next_track}
+use Rattle.site_list.specs.Parts.{escapes}
+use Rattle.site_list.specs.Cuts.{with_part}
 use Rattle.pred_transform.specs.Shown.{checked, claims_hold}
 use Rattle.pred_transform.proofs.ShownLemmas.{guard-shown}
 use Rattle.pred_transform.proofs.CutLemmas.{call-arrived}

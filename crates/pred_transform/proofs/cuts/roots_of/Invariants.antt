@@ -1,5 +1,5 @@
 use Rattle.std.proofs.Common.{◌≡◌, map, take}
-use Rattle.site_view.specs.States.{value_of}
+use Rattle.site_list.specs.States.{value_of}
 use Rattle.pred_transform.proofs.cuts.roots_of.Given as goal
 
 abbrev pub invariant-loop-v : goal.invariant-loop-v

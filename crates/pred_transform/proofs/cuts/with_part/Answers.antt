@@ -1,5 +1,5 @@
 use Rattle.std.proofs.Common.{map, ap, ◌∙◌}
-use Rattle.site_view.specs.States.{value_of}
+use Rattle.site_list.specs.States.{value_of}
 use Rattle.pred_transform.proofs.CutLemmas.{part-made}
 use Rattle.pred_transform.proofs.cuts.with_part.Goals as goal
 

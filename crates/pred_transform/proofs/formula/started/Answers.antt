@@ -1,5 +1,5 @@
 use Rattle.std.proofs.Common.{Some, sym, ap, ◌∙◌}
-use Rattle.site_view.specs.Triples.{at_start}
+use Rattle.site_list.specs.Triples.{at_start}
 use Rattle.pred_transform.proofs.FormulaLemmas.{started-returned, started-plain}
 use Rattle.pred_transform.proofs.formula.started.Goals as goal
 

@@ -1,6 +1,6 @@
 use Rattle.std.proofs.Common.{ap, ◌∙◌}
-use Rattle.site_view.specs.Triples.{started}
-use Rattle.site_view.specs.Codes.{code}
+use Rattle.site_list.specs.Triples.{started}
+use Rattle.site_list.specs.Codes.{code}
 use Rattle.pred_transform.specs.Shown.{shown}
 use Rattle.pred_transform.proofs.formula.walk.Goals as goal
 

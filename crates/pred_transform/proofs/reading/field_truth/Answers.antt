@@ -1,4 +1,4 @@
-use Rattle.site_view.specs.Reading.{is_true_of}
+use Rattle.site_list.specs.Reading.{is_true_of}
 use Rattle.pred_transform.proofs.ShownLemmas.{seen-shown}
 use Rattle.std.proofs.Common.{◌∙◌}
 use Rattle.pred_transform.proofs.reading.field_truth.Goals as goal

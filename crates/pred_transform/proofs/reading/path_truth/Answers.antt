@@ -1,5 +1,5 @@
 use Rattle.std.proofs.Common.{length, ap, sym, ◌∙◌}
-use Rattle.site_view.specs.States.{value_of}
+use Rattle.site_list.specs.States.{value_of}
 use Rattle.pred_transform.proofs.ReadingLemmas.{path-told, variable-told}
 use Rattle.pred_transform.proofs.reading.path_truth.Goals as goal
 

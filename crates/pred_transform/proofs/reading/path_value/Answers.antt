@@ -1,5 +1,5 @@
 use Rattle.std.proofs.Common.{ap, ◌∙◌}
-use Rattle.site_view.specs.States.{value_of}
+use Rattle.site_list.specs.States.{value_of}
 use Rattle.pred_transform.proofs.ReadingLemmas.{along-path}
 use Rattle.pred_transform.proofs.reading.path_value.Goals as goal
 

@@ -1,5 +1,5 @@
 use Rattle.std.proofs.Common.{ℕ, take}
-use Rattle.site_view.specs.Reading.{read_along}
+use Rattle.site_list.specs.Reading.{read_along}
 use Rattle.pred_transform.specs.Shown.{Gets}
 use Rattle.pred_transform.proofs.reading.read_along.Given as goal
 

@@ -1,4 +1,4 @@
-use Rattle.site_view.specs.Sites.{rhs_causes}
+use Rattle.site_list.specs.Sites.{rhs_causes}
 use Rattle.site_list.proofs.CauseLemmas.{assign_made}
 use Rattle.site_list.proofs.acts.push_assign.Goals as goal
 

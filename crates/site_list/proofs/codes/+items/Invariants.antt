@@ -1,5 +1,5 @@
 use Rattle.std.proofs.Common.{◌≡◌, ◌++◌, take}
-use Rattle.site_view.specs.Sites.{items_sites}
+use Rattle.site_list.specs.Sites.{items_sites}
 use Rattle.site_list.proofs.codes.+items.Given as goal
 
 -- the sites of the items so far are added

@@ -1,5 +1,5 @@
 use Rattle.std.proofs.Common.{◌≡◌, ◌++◌, map}
-use Rattle.site_view.specs.Sites.{site_at, cond_causes}
+use Rattle.site_list.specs.Sites.{site_at, cond_causes}
 use Rattle.site_list.specs.Left.{causes_left, forms_left}
 use Rattle.site_list.proofs.conditions.push_cond.Given as goal
 

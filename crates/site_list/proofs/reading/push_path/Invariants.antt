@@ -1,5 +1,5 @@
 use Rattle.std.proofs.Common.{◌≡◌, ◌++◌, map, take}
-use Rattle.site_view.specs.Sites.{site_at, path_causes}
+use Rattle.site_list.specs.Sites.{site_at, path_causes}
 use Rattle.site_list.proofs.reading.push_path.Given as goal
 
 -- the sites of the fields so far are added

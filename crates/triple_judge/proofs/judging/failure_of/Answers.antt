@@ -1,8 +1,8 @@
 use Rattle.std.proofs.Common.{◌≡◌, ◌∙◌, List, None, Some, slice_get, sym, ap}
 use Rattle.std.specs.Option.{option_copied}
 use Rattle.witness_store.proofs.ListsLemmas.{present}
-use Rattle.site_view.specs.declared.site.Site.{Site}
-use Rattle.site_view.specs.Sites.{sites_of}
+use Rattle.site_list.specs.declared.site.Site.{Site}
+use Rattle.site_list.specs.Sites.{sites_of}
 use Rattle.triple_judge.proofs.FailingLemmas.{lays-out-found, least-failing}
 use Rattle.triple_judge.proofs.judging.failure_of.Goals as goal
 

@@ -1,7 +1,7 @@
 use Rattle.std.proofs.Common.{ℕ, List, Ok, sym, ap, subst}
 use Rattle.store_core.specs.declared.ids.VariantId.{VariantId}
 use Rattle.tree_encode.specs.Spaces.{guide_of}
-use Rattle.site_view.specs.Triples.{site_formula}
+use Rattle.site_list.specs.Triples.{site_formula}
 use Rattle.triple_judge.specs.declared.searching.Searched.{Searched}
 use Rattle.triple_judge.specs.declared.searching.Searched.TheVariants as searched
 use Rattle.triple_judge.specs.Judging.{ArePeaksWithin}

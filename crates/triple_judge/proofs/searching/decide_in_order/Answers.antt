@@ -1,6 +1,6 @@
 use Rattle.std.proofs.Common.{◌≡◌, ◌∙◌, ℕ, Ok, sym, ap, subst, arith}
 use Rattle.ws2s_decide.specs.declared.verdict.Verdict.{Verdict}
-use Rattle.site_view.specs.Triples.{site_formula}
+use Rattle.site_list.specs.Triples.{site_formula}
 use Rattle.triple_judge.specs.declared.searching.Searched.TheVariants as searched
 use Rattle.triple_judge.specs.Searching.{IsSearched}
 use Rattle.triple_judge.proofs.SearchingLemmas.{going-start, going-next, settled, Ok-same}

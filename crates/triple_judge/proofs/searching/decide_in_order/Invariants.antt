@@ -1,4 +1,4 @@
-use Rattle.site_view.specs.Triples.{site_formula}
+use Rattle.site_list.specs.Triples.{site_formula}
 use Rattle.triple_judge.proofs.SearchingLemmas.{GoesOn}
 use Rattle.triple_judge.proofs.searching.decide_in_order.Given as goal
 

@@ -1,6 +1,6 @@
 use Rattle.std.proofs.Common.{◌∙◌, sym, subst}
 use Rattle.gta_theory.specs.Guides.{Spaces}
-use Rattle.site_view.specs.Triples.{site_formula}
+use Rattle.site_list.specs.Triples.{site_formula}
 use Rattle.triple_judge.specs.Judging.{ArePeaksWithin}
 use Rattle.triple_judge.proofs.searching.decide_sites.Goals as goal
 

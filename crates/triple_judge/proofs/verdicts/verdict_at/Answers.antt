@@ -1,6 +1,6 @@
 use Rattle.std.proofs.Common.{◌∙◌, sym}
 use Rattle.ws2s_decide.specs.Deciding.{guide_of}
-use Rattle.site_view.specs.Triples.{site_formula}
+use Rattle.site_list.specs.Triples.{site_formula}
 use Rattle.triple_judge.proofs.SearchingLemmas.{verdict-of, above-peaks}
 use Rattle.triple_judge.proofs.verdicts.verdict_at.Goals as goal
 

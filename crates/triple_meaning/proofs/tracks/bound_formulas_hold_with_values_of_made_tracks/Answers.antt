@@ -1,5 +1,5 @@
 use Rattle.tree_encode.specs.Tracks.{track_count}
-use Rattle.site_view.specs.Triples.{walked}
+use Rattle.site_list.specs.Triples.{walked}
 use Rattle.triple_meaning.proofs.tracks.TripleLemmas.{walked-kept}
 use Rattle.triple_meaning.proofs.tracks.BindingLemmas.{bound-means}
 use Rattle.triple_meaning.proofs.tracks.bound_formulas_hold_with_values_of_made_tracks.Goals as goal

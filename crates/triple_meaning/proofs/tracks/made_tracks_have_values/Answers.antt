@@ -1,5 +1,5 @@
 use Rattle.tree_encode.specs.Tracks.{track_count}
-use Rattle.site_view.specs.Triples.{walked}
+use Rattle.site_list.specs.Triples.{walked}
 use Rattle.triple_meaning.proofs.tracks.TripleLemmas.{walked-kept}
 use Rattle.triple_meaning.proofs.tracks.BindingLemmas.{values-there}
 use Rattle.triple_meaning.proofs.tracks.made_tracks_have_values.Goals as goal

@@ -18,7 +18,7 @@ use Rattle.graph_view.specs.Sights.{Sight}
 use Rattle.graph_view.specs.Live.{has, is_live, is_dead, lives}
 use Rattle.graph_view.specs.Fields.{is_true}
 use Rattle.graph_view.specs.Routes.{names}
-use Rattle.site_view.specs.States.{Text, State, Got, check, make, sight, value_of}
+use Rattle.site_list.specs.States.{Text, State, Got, check, make, sight, value_of}
 
 -- ---- conditions of places
 

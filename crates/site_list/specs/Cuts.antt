@@ -12,9 +12,9 @@ use Rattle.ws2s_forms.specs.Forms.{track, and_list}
 use Rattle.graph_view.specs.declared.view.CutCheck.{CutCheck}
 use Rattle.graph_view.specs.declared.view.CutCheck.TheVariants as look
 use Rattle.graph_view.specs.Cuts.{cut_formula}
-use Rattle.site_view.specs.States.{Text, State, next_track, define, check, guard, fails, sight, value_of}
-use Rattle.site_view.specs.Claims.{claim}
-use Rattle.site_view.specs.Parts.{is_part, escapes}
+use Rattle.site_list.specs.States.{Text, State, next_track, define, check, guard, fails, sight, value_of}
+use Rattle.site_list.specs.Claims.{claim}
+use Rattle.site_list.specs.Parts.{is_part, escapes}
 
 -- each of the claims
 abbrev pub claims : List TypeEntry → List VarEntry → List Claim → Option Track → State → Text

@@ -13,12 +13,12 @@ use Rattle.ws2s_forms.specs.Forms.{track, and_list, empty_at}
 use Rattle.tree_encode.specs.Tracks.{track_count, var_track}
 use Rattle.tree_formula.specs.WellEncoded.{vars_in, track_or_first, well_encoded}
 use Rattle.graph_view.specs.declared.view.Sym.TheVariants.{At}
-use Rattle.site_view.specs.declared.site.Site.{Site}
-use Rattle.site_view.specs.States.{Text, Check, State, sight}
-use Rattle.site_view.specs.Claims.{claim}
-use Rattle.site_view.specs.Parts.{escapes}
-use Rattle.site_view.specs.Cuts.{with_part}
-use Rattle.site_view.specs.Codes.{code}
+use Rattle.site_list.specs.declared.site.Site.{Site}
+use Rattle.site_list.specs.States.{Text, Check, State, sight}
+use Rattle.site_list.specs.Claims.{claim}
+use Rattle.site_list.specs.Parts.{escapes}
+use Rattle.site_list.specs.Cuts.{with_part}
+use Rattle.site_list.specs.Codes.{code}
 
 -- ---- the walk
 

@@ -14,7 +14,7 @@ use Rattle.graph_view.specs.declared.view.Sym.{Sym}
 use Rattle.graph_view.specs.Syms.{is_in}
 use Rattle.graph_view.specs.Sights.{Sight}
 use Rattle.graph_view.specs.Cuts.{closes}
-use Rattle.site_view.specs.States.{Text, value_of}
+use Rattle.site_list.specs.States.{Text, value_of}
 
 -- the track has what data fields reach from the roots: it is the least set that holds these and that no data field leaves
 abbrev pub is_part : List TypeEntry → Sight → List Sym → ℕ → Text

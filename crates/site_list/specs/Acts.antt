@@ -16,10 +16,10 @@ use Rattle.graph_view.specs.declared.view.Event.TheVariants as event
 use Rattle.graph_view.specs.Sights.{var_slots}
 use Rattle.graph_view.specs.Syms.{is_null}
 use Rattle.graph_view.specs.Live.{is_dead}
-use Rattle.site_view.specs.States.{State, Got, make, is_truth_of, check, guard, fails, sight, value_of, with_value, happens}
-use Rattle.site_view.specs.Reading.{Told, read, check_access, operand_value}
-use Rattle.site_view.specs.Conditions.{condition}
-use Rattle.site_view.specs.Claims.{assertion}
+use Rattle.site_list.specs.States.{State, Got, make, is_truth_of, check, guard, fails, sight, value_of, with_value, happens}
+use Rattle.site_list.specs.Reading.{Told, read, check_access, operand_value}
+use Rattle.site_list.specs.Conditions.{condition}
+use Rattle.site_list.specs.Claims.{assertion}
 
 -- ---- what is assigned
 

@@ -10,8 +10,8 @@ use Rattle.store_logic.specs.declared.cond.Cond.TheFolds.{fold-Cond}
 use Rattle.ws2s_forms.specs.Forms.{false_at, true_at, or}
 use Rattle.graph_view.specs.declared.view.Sym.{Sym}
 use Rattle.graph_view.specs.Syms.{is_same}
-use Rattle.site_view.specs.States.{Text, State, Got, both, fails, sight}
-use Rattle.site_view.specs.Reading.{Told, check_cell, path_value, operand_value, path_truth, is_of_variant}
+use Rattle.site_list.specs.States.{Text, State, Got, both, fails, sight}
+use Rattle.site_list.specs.Reading.{Told, check_cell, path_value, operand_value, path_truth, is_of_variant}
 
 -- how a condition is read: where it is reached, and how far the walk has come
 abbrev pub Telling : Type 0

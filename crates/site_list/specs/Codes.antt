@@ -14,11 +14,11 @@ use Rattle.ws2s_forms.specs.Forms.{track, or, flag}
 use Rattle.graph_view.specs.declared.view.Sym.{Sym}
 use Rattle.graph_view.specs.declared.view.Sym.TheVariants.{Null, At}
 use Rattle.graph_view.specs.Syms.{is_same}
-use Rattle.site_view.specs.States.{Text, State, next_track, define, is_truth_of, guard, both, fails}
-use Rattle.site_view.specs.Reading.{Told}
-use Rattle.site_view.specs.Conditions.{condition}
-use Rattle.site_view.specs.Acts.{act_rule}
-use Rattle.site_view.specs.Cuts.{arrived}
+use Rattle.site_list.specs.States.{Text, State, next_track, define, is_truth_of, guard, both, fails}
+use Rattle.site_list.specs.Reading.{Told}
+use Rattle.site_list.specs.Conditions.{condition}
+use Rattle.site_list.specs.Acts.{act_rule}
+use Rattle.site_list.specs.Cuts.{arrived}
 
 -- how a part of a code leads on
 abbrev pub Going : Type 0

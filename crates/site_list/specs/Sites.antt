@@ -26,7 +26,7 @@ use Rattle.store_exec.specs.declared.code.Code.{Code}
 use Rattle.store_exec.specs.declared.triple.Cut.{Cut}
 use Rattle.store_exec.specs.declared.triple.Triple.{Triple}
 use Rattle.tree_formula.specs.WellEncoded.{owner}
-use Rattle.site_view.specs.declared.site.Site.{Site}
+use Rattle.site_list.specs.declared.site.Site.{Site}
 
 abbrev pub site_at : ℕ → Cause → Site
 site_at line why = record { cause = why; line = line }

@@ -27,7 +27,7 @@ use Rattle.graph_view.specs.Sights.{Sight}
 use Rattle.graph_view.specs.Live.{lives, lives_in, is_live}
 use Rattle.graph_view.specs.Fields.{is_true}
 use Rattle.graph_view.specs.Routes.{names, walk}
-use Rattle.site_view.specs.States.{Text, value_of}
+use Rattle.site_list.specs.States.{Text, value_of}
 
 -- ---- names and terms
 
