@@ -58,3 +58,21 @@ pub mod Stopping
 pub mod Terms
 pub mod Types
 pub mod Words
+mod AssertionForms
+mod AssertionRows
+mod AtomRows
+mod CallRows
+mod ConditionForms
+mod ConditionRows
+mod PlaceFramework
+mod ListLemmas
+mod Meaning
+mod NameRows
+mod ProcedureRows
+mod PlacePrograms
+mod RouteForms
+mod RouteRows
+mod StatementForms
+mod StatementRows
+mod TokenLemmas
+mod TypeRows

@@ -5,3 +5,11 @@ pub mod CanonicalRoutes
 pub mod CanonicalStatements
 pub mod ReadBack
 pub mod Shortest
+pub mod AssertionWords
+pub mod ConditionWords
+pub mod DeclarationWords
+pub mod Example
+pub mod Operands
+pub mod RouteWords
+pub mod StatementWords
+pub mod Words

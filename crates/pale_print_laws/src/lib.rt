@@ -3,8 +3,13 @@
 #![tactic(auto)]
 
 mod laws;
+mod place_laws;
 
 pub use laws::{
     canonical_programs_are_read_back, programs_are_canonical, programs_are_read_back,
     spellings_are_shortest, spellings_need_their_parentheses,
+};
+pub use place_laws::{
+    acts_have_their_operands, nothing_is_left_over, words_of_an_example,
+    words_stand_at_their_places,
 };

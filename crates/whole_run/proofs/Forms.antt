@@ -23,11 +23,11 @@ use Rattle.pale_syntax.specs.declared.tree.assertion.Bracketed.{Bracketed}
 use Rattle.pale_syntax.specs.declared.tree.assertion.Quantifier.{Quantifier}
 use Rattle.pale_syntax.specs.declared.tree.assertion.QuantifierKind.{QuantifierKind}
 use Rattle.pale_syntax.specs.declared.tree.assertion.QuantifierKind.TheVariants as quantifier
-use Rattle.pale_place_laws.specs.Words.{Words, ◌>>◌, placed, unplaced, each, each_behind, separated, sign, sign_at, word_of, word_at, name_words}
-use Rattle.pale_place_laws.specs.Words.{path_words, term_words}
-use Rattle.pale_place_laws.specs.RouteWords.{bool_test, route_node, route_words}
-use Rattle.pale_place_laws.specs.ConditionWords.{condition_node, condition_words}
-use Rattle.pale_place_laws.specs.AssertionWords.{quantifier_word, set_word, quantifier_words, assertion_node, assertion_words, bracketed_words}
+use Rattle.pale_print_laws.specs.Words.{Words, ◌>>◌, placed, unplaced, each, each_behind, separated, sign, sign_at, word_of, word_at, name_words}
+use Rattle.pale_print_laws.specs.Words.{path_words, term_words}
+use Rattle.pale_print_laws.specs.RouteWords.{bool_test, route_node, route_words}
+use Rattle.pale_print_laws.specs.ConditionWords.{condition_node, condition_words}
+use Rattle.pale_print_laws.specs.AssertionWords.{quantifier_word, set_word, quantifier_words, assertion_node, assertion_words, bracketed_words}
 use Rattle.whole_run.proofs.Occurring.{ArePassed, one_passed, each_passed, behind_passed, separated_passed}
 
 -- ---- one after the other

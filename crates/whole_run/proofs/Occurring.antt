@@ -6,7 +6,7 @@ use Rattle.pale_text.specs.declared.token.Mark.{Mark}
 use Rattle.pale_text.specs.declared.token.Token.{Token}
 use Rattle.pale_text.specs.declared.token.TokenKind.{TokenKind}
 use Rattle.pale_text.specs.declared.token.TokenKind.TheVariants as kind
-use Rattle.pale_place_laws.specs.Words.{Word, Words, AreWords, no_words, parenthesis, word, IsAt, each, each_behind, separated}
+use Rattle.pale_print_laws.specs.Words.{Word, Words, AreWords, no_words, parenthesis, word, IsAt, each, each_behind, separated}
 use Rattle.whole_run.proofs.Rising.{IsBefore, Rises, name_at, name_places}
 
 -- ---- among places

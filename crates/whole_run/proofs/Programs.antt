@@ -24,10 +24,10 @@ use Rattle.pale_syntax.specs.declared.tree.declaration.Program.{Program}
 use Rattle.pale_syntax.specs.declared.tree.declaration.TypeDeclaration.{TypeDeclaration}
 use Rattle.pale_syntax.specs.declared.tree.declaration.VariantDeclaration.{VariantDeclaration}
 use Rattle.pale_syntax.specs.declared.tree.names.Name.{Name}
-use Rattle.pale_place_laws.specs.Words.{Word, AreWords, each, typed_words}
-use Rattle.pale_place_laws.specs.DeclarationWords.{field_form_words, field_words, fields_words, variant_words, type_words, predicate_parameter_words}
-use Rattle.pale_place_laws.specs.DeclarationWords.{predicate_words, parameter_words, results_words, logic_parameter_words, logics_words, local_words}
-use Rattle.pale_place_laws.specs.DeclarationWords.{procedure_words, declaration_words, program_words}
+use Rattle.pale_print_laws.specs.Words.{Word, AreWords, each, typed_words}
+use Rattle.pale_print_laws.specs.DeclarationWords.{field_form_words, field_words, fields_words, variant_words, type_words, predicate_parameter_words}
+use Rattle.pale_print_laws.specs.DeclarationWords.{predicate_words, parameter_words, results_words, logic_parameter_words, logics_words, local_words}
+use Rattle.pale_print_laws.specs.DeclarationWords.{procedure_words, declaration_words, program_words}
 use Rattle.pale_types.specs.declared.basis.Basis.{Basis}
 use Rattle.pale_types.specs.declared.typed.ProcEntry.{ProcEntry}
 use Rattle.pale_types.specs.Procedures.{frame_in, typed_procedure}

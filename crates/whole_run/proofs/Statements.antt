@@ -14,11 +14,11 @@ use Rattle.pale_syntax.specs.declared.tree.statement.Statement.TheOpen.{Statemen
 use Rattle.pale_syntax.specs.declared.tree.statement.Statement.TheFolds.{fold-roll-Statement, map-Statement, ind-Statement}
 use Rattle.pale_syntax.specs.declared.tree.statement.Value.{Value}
 use Rattle.pale_syntax.specs.declared.tree.statement.Value.TheVariants as value
-use Rattle.pale_place_laws.specs.Words.{Word, Words, ◌>>◌, each, sign, word_at, name_words}
-use Rattle.pale_place_laws.specs.ConditionWords.{condition_words}
-use Rattle.pale_place_laws.specs.StatementWords.{truth_word, argument_words, new_variant_words, value_words, value_place, clause_words}
-use Rattle.pale_place_laws.specs.StatementWords.{call_result_words, logic_argument_words, given_words}
-use Rattle.pale_place_laws.specs.StatementWords.{block_words, else_words, statement_node, statement_words}
+use Rattle.pale_print_laws.specs.Words.{Word, Words, ◌>>◌, each, sign, word_at, name_words}
+use Rattle.pale_print_laws.specs.ConditionWords.{condition_words}
+use Rattle.pale_print_laws.specs.StatementWords.{truth_word, argument_words, new_variant_words, value_words, value_place, clause_words}
+use Rattle.pale_print_laws.specs.StatementWords.{call_result_words, logic_argument_words, given_words}
+use Rattle.pale_print_laws.specs.StatementWords.{block_words, else_words, statement_node, statement_words}
 use Rattle.pale_types.specs.declared.typed.Stmt.{Stmt, roll-Stmt}
 use Rattle.pale_types.specs.declared.typed.Stmt.TheVariants as stmt
 use Rattle.pale_types.specs.declared.typed.Stmt.TheOpen.{Stmt-F}

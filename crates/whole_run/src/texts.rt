@@ -16,7 +16,7 @@ ghost use Rattle.whole_run.specs.Places.{PlacesAreDistinct};
 ghost use Rattle.whole_run.specs.Safety.{NoTripleFails, MeetsEntry};
 
 use crate::whole_runs_never_fail;
-use pale_place_laws::words_stand_at_their_places;
+use pale_print_laws::words_stand_at_their_places;
 use pale_types::programs_without_fault_fit;
 
 /// Where a text is that of a program, no two cut points of one of its procedures stand at one place.

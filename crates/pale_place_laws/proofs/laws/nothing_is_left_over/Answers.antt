@@ -1,5 +1,0 @@
-use Rattle.pale_place_laws.proofs.Programs.{well_made}
-use Rattle.pale_place_laws.proofs.laws.nothing_is_left_over.Goals as goal
-
-pub returns : goal.returns
-returns c = λ tokens steps tree program. (well_made tokens steps tree program).alone
