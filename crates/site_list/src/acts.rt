@@ -3,9 +3,9 @@
 ghost use Rattle.std.specs.Prelude.{◌≡◌, ◌++◌, map, OnOk};
 ghost use Rattle.site_list.specs.Sites.{site_at, rhs_causes, assign_causes, act_causes};
 
+use crate::SiteList;
 use crate::conditions::push_cond;
 use crate::reading::{push_field, push_operand, push_path, push_site};
-use crate::SiteList;
 use std::alloc::{AllocError, Global};
 use store_core::{FieldId, TypeTable};
 use store_exec::Cause;

@@ -3,10 +3,10 @@
 ghost use Rattle.std.specs.Prelude.{◌≡◌, ◌++◌, OnOk};
 ghost use Rattle.site_list.specs.Sites.{item_sites, items_sites, code_sites};
 
+use crate::SiteList;
 use crate::acts::push_act;
 use crate::conditions::push_cond;
 use crate::cuts::push_cut_at;
-use crate::SiteList;
 use std::alloc::{AllocError, Global};
 use store_core::TypeTable;
 use store_exec::{Code, Cut, Item, Tail};

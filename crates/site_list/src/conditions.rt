@@ -5,9 +5,9 @@ ghost use Rattle.store_logic.specs.PostfixConds.{form_count};
 ghost use Rattle.site_list.specs.Sites.{site_at, cond_causes};
 ghost use Rattle.site_list.specs.Left.{causes_left, forms_left};
 
+use crate::SiteList;
 use crate::reading::{push_cell, push_operand, push_path};
 use plain_data::Stack;
-use crate::SiteList;
 use std::alloc::{AllocError, Global};
 use store_core::TypeTable;
 use store_logic::Cond;

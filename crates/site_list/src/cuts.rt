@@ -4,9 +4,9 @@ ghost use Rattle.std.specs.Prelude.{◌≡◌, ◌++◌, slice_get, [], OnOk};
 ghost use Rattle.std.specs.Option.{option_map_or};
 ghost use Rattle.site_list.specs.Sites.{cut_sites};
 
+use crate::SiteList;
 use crate::reading::push_site;
 use plain_data::at;
-use crate::SiteList;
 use std::alloc::AllocError;
 use store_exec::{Cause, Cut};
 

@@ -3,8 +3,8 @@
 ghost use Rattle.std.specs.Prelude.{◌≡◌, IfOk};
 ghost use Rattle.site_list.specs.Sites.{sites_of};
 
-use crate::codes::push_code;
 use crate::SiteList;
+use crate::codes::push_code;
 use std::alloc::{AllocError, Global};
 use store_exec::Triple;
 use tree_encode::Layout;

@@ -9,10 +9,10 @@ ghost use Rattle.witness_store.specs.Results.{IsReadOff, IsReadOffButPointers};
 
 use crate::cells::{cells_of, numbers_of};
 use crate::fields::bodies_of;
+use crate::set_pointers;
 use crate::variables::variables_of;
 use std::alloc::{AllocError, Global};
 use store_core::Store;
-use crate::set_pointers;
 use tree_encode::Layout;
 use ws2s_core::LabelTree;
 

@@ -1,7 +1,8 @@
-//! From a tree that lays out a backbone to its store.
+//! From a tree that lays out a backbone to its store, and pointer fields that are set to their destinations.
 //!
 //! `specs/Orders.antt` says in which order the nodes of a tree are gone through. What the store of an assignment is stands in
-//! `tree_backbone`, and what its pointer fields hold in `witness_store`.
+//! `tree_store`. `specs/Pointers.antt` says what a pointer field is set to, and what is the same in two stores that differ in
+//! their pointer fields alone.
 #![tactic(auto)]
 
 mod cells;
